@@ -1,0 +1,3 @@
+pub mod HmacLemmas
+pub mod CodeLemmas
+pub mod AcceptedLemmas

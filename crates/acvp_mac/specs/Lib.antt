@@ -1,0 +1,6 @@
+pub mod DigestBytes
+pub mod Hash
+pub mod Hmac
+pub mod Codes
+pub use Rattle.sha2.specs.Sha256
+pub use Rattle.sha2.specs.Sha512
