@@ -1,3 +1,4 @@
 pub mod HmacLemmas
 pub mod CodeLemmas
 pub mod AcceptedLemmas
+pub mod DigestFacts

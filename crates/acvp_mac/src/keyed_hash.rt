@@ -58,7 +58,8 @@ fn key_block<H: HashFunction>(key: &[u8]) -> [u8; BLOCK_LIMIT]
 
 /// The digest of a block, each byte of it changed by the pad, and a text after it.
 fn padded_hash<H: HashFunction>(block: &[u8; BLOCK_LIMIT], pad: u8, text: &[u8]) -> Digest
-    ensures value { result ≡ digest_of H.name (xor_each (take H.BLOCK block.now) (replicate H.BLOCK pad) ++ text.now) }
+    ensures value { result ≡ digest_of H.name
+        (xor_each (take H.BLOCK block.now) (replicate H.BLOCK pad) ++ text.now) }
     ensures len { length result ≡ H.OUT }
     ensures bytes { All (λ b. b < 256) result }
 {

@@ -1,0 +1,141 @@
+#!/usr/bin/env python3
+"""Runs the built program on scripts and command lines, and compares its output and its status.
+
+Codes come from oathtool and tokens from joserfc where they are at hand: a code of another program logs in here,
+a token of this one verifies there, and a token signed there is renewed here."""
+import base64
+import json
+import os
+import shutil
+import subprocess
+import sys
+import tempfile
+
+PROGRAM = sys.argv[1]
+SECRET = b"12345678901234567890123456789012".hex()
+KEY = bytes(range(32))
+checked = 0
+
+
+def run(args, stdin=b""):
+    return subprocess.run([PROGRAM] + args, input=stdin, capture_output=True)
+
+
+def expect(what, got, wanted):
+    global checked
+    if got != wanted:
+        sys.exit(f"{what}: {got!r} in place of {wanted!r}")
+    checked += 1
+
+
+def login(moment, password, token=None, user="7"):
+    members = {"password": password, "user": user}
+    if token is not None:
+        members["accessToken"] = token
+    body = json.dumps([{"acvVersion": "1.0"}, members], separators=(",", ":")).encode()
+    head = b"POST /acvp/v1/login HTTP/1.1\r\nHost: localhost\r\nContent-Length: %d\r\n\r\n" % len(body)
+    return b"request %d %d\n%s\n" % (moment, len(head + body), head + body)
+
+
+def add(secret=SECRET):
+    return f"account-add 0 7 {secret}\n".encode()
+
+
+def token_in(output):
+    return json.loads(output.split(b"\r\n\r\n")[-1])[1]["accessToken"]
+
+
+def claims_of(token):
+    part = token.split(".")[1]
+    return json.loads(base64.urlsafe_b64decode(part + "=" * (-len(part) % 4)))
+
+
+def scripts(keys):
+    script = ["script", "--keys", keys]
+    accepted = run(script, add() + login(59, "46119246"))
+    expect("a login at second 59", accepted.returncode, 0)
+    expect("its reply's length", accepted.stdout.split(b"\n")[:2], [b"order done", b"reply 292"])
+    expect("its claims", claims_of(token_in(accepted.stdout)), {"exp": 1859, "iat": 59, "sub": "7"})
+    refused = run(script, add() + login(90, "46119246"))
+    expect("a login at second 90", refused.stdout.split(b"\n")[1], b"reply 181")
+    orders = run(script, add() * 2 + b"account-disable 1 8\naccount-disable 1 7\n" + login(59, "46119246"))
+    expect("orders", orders.stdout.split(b"\n")[:4], [b"order done", b"order taken", b"order unknown", b"order done"])
+    expect("a disabled account", json.loads(orders.stdout.split(b"\r\n\r\n")[-1])[1], {"error": "loginRefused"})
+    for what, text in [("a line without a length", b"request 59\n"), ("an end within an event", add()[:-1]),
+                       ("an unknown order", b"request-approve 1 7000001\n"), ("account 0", b"account-disable 1 0\n"),
+                       ("a short request", b"request 1 5\nabc\n"), ("two spaces", b"account-disable  1 7\n")]:
+        stopped = run(script, add() + text)
+        expect(what, (stopped.returncode, stopped.stdout, stopped.stderr), (1, b"order done\n", b"fault: syntax\n"))
+
+
+def limits(keys):
+    script = ["script", "--keys", keys]
+    line, answer = b"account-disable 1 8\n", b"order unknown\n"
+    whole = run(script, line * 100000)
+    expect("100000 events", (whole.returncode, whole.stdout == answer * 100000, whole.stderr), (0, True, b""))
+    stopped = run(script, line * 100001)
+    expect("one event more", (stopped.returncode, stopped.stdout == answer * 100000, stopped.stderr),
+           (1, True, b"fault: limit\n"))
+
+
+def command_lines(keys, folder):
+    short = os.path.join(folder, "short")
+    with open(short, "w") as file:
+        file.write("0" * 64 + "\n")
+    for path in [short, os.path.join(folder, "absent")]:
+        stopped = run(["script", "--keys", path])
+        expect("a bad keys file", (stopped.returncode, stopped.stdout, stopped.stderr), (1, b"", b"fault: keys\n"))
+    expect("an empty script", (run(["script", "--keys", keys]).returncode, run(["script", "--keys", keys]).stdout), (0, b""))
+    for args in [[], ["scripts"], ["script"], ["script", "--keys"], ["script", "--keys", keys, "more"]]:
+        stopped = run(args)
+        expect(f"the line {args}", (stopped.returncode, stopped.stdout, bool(stopped.stderr)), (2, b"", True))
+    helped = run(["script", "--help"])
+    expect("help", (helped.returncode, bool(helped.stdout), helped.stderr), (0, True, b""))
+
+
+def codes_of_oathtool(keys):
+    if not shutil.which("oathtool"):
+        print("skipped: codes of another program (apt-get install oathtool)")
+        return
+    for number, moment in enumerate([0, 29, 30, 1111111111, 2000000000, 4102444799]):
+        secret = bytes((number * 37 + i * 11) % 256 for i in range(32)).hex()
+        code = subprocess.run(["oathtool", "--totp=sha256", "-d", "8", "-N", f"@{moment}", secret],
+                              capture_output=True, check=True, text=True).stdout.strip()
+        output = run(["script", "--keys", keys], add(secret) + login(moment, code)).stdout
+        expect(f"oathtool's code at {moment}", claims_of(token_in(output))["iat"], moment)
+
+
+def tokens_of_joserfc(keys):
+    try:
+        from joserfc import jwt
+        from joserfc.jwk import OctKey
+    except ImportError:
+        print("skipped: tokens of another program (pip install joserfc)")
+        return
+    key = OctKey.import_key(KEY)
+    issued = token_in(run(["script", "--keys", keys], add() + login(59, "46119246")).stdout)
+    read = jwt.decode(issued, key, algorithms=["HS256"])
+    expect("joserfc reads a token", dict(read.claims), {"exp": 1859, "iat": 59, "sub": "7"})
+    for claims in [{"exp": 50, "iat": 10, "sub": "7"}, {"iss": "other", "sub": "7", "sid": 7000001, "iat": 1, "exp": 9}]:
+        signed = jwt.encode({"alg": "HS256"}, claims, key)
+        output = run(["script", "--keys", keys], add() + login(59, "46119246", signed)).stdout
+        wanted = {"exp": 1859, "iat": 59, "sub": "7"}
+        if "sid" in claims:
+            wanted["sid"] = claims["sid"]
+        expect("joserfc's token is renewed", claims_of(token_in(output)), wanted)
+
+
+def main():
+    with tempfile.TemporaryDirectory() as folder:
+        keys = os.path.join(folder, "keys")
+        with open(keys, "w") as file:
+            file.write(KEY.hex() + "\n" + "0" * 64 + "\n")
+        scripts(keys)
+        limits(keys)
+        command_lines(keys, folder)
+        codes_of_oathtool(keys)
+        tokens_of_joserfc(keys)
+    print(f"{checked} comparisons")
+
+
+main()

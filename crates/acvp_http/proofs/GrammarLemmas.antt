@@ -1,0 +1,104 @@
+-- Lemmas on input that leaves the grammar of scripts.
+use Rattle.std.proofs.Common.{◌≡◌, ◌≢◌, ℕ, List, [], ◌∷◌, ◌++◌, length, decimal, Option, Some, None, IfSome, Bool, arith, sym, ◌∙◌, ap, append_assoc, length-append}
+use Rattle.std.specs.Io.KnownBytes.{Consumes}
+use Rattle.acvp_http.specs.declared.records.Order.{Order}
+use Rattle.acvp_http.specs.declared.records.Order.TheVariants as kind
+use Rattle.acvp_http.specs.declared.script.Command.TheVariants as command
+use Rattle.acvp_http.specs.declared.script.Line.{Line}
+use Rattle.acvp_http.specs.declared.script.Line.TheVariants as line
+use Rattle.acvp_http.specs.declared.script.ScriptFault.{ScriptFault}
+use Rattle.acvp_http.specs.declared.script.ScriptFault.TheVariants.{Read, Write, Syntax, Limit, Memory}
+use Rattle.acvp_http.specs.Event.{Event, request, order}
+use Rattle.acvp_http.specs.Lines.{Lacks, IsLine, word_of}
+use Rattle.acvp_http.specs.Reading.{HasNoLine, HasNoBody, StopsLine, StopsBody, StopsEvent}
+use Rattle.acvp_http.specs.Script.{IsWritten, LeavesGrammar}
+use Rattle.acvp_http.proofs.LineLemmas.{cut_same, word_is, same_moment, word_lacks}
+use Rattle.std.proofs.lemmas.Fmt.{decimal_injective}
+use Rattle.acvp_http.proofs.EventLemmas.{event_front, line_lacks, line_short, request_parts, order_parts}
+
+-- some input
+not_empty : (xs text rest : List ℕ) → xs ≡ (text ++ 10 ∷ []) ++ rest → xs ≢ []
+not_empty xs text rest is none =
+    let size : length ((text ++ 10 ∷ []) ++ rest) ≡ length {A = ℕ} [] = ap length (sym is ∙ none) in
+    omega (arith, length-append (text ++ 10 ∷ []) rest, length-append text (10 ∷ []))
+
+-- no line, so no event
+leaves_without_line : (xs : List ℕ) → HasNoLine xs → LeavesGrammar xs
+leaves_without_line xs none = (
+  none.0,
+  λ e front more written is.
+      let (said, text, tail, line, front-is) = event_front e front written in
+      none.1 text (tail ++ more) (line_short said text line) (line_lacks said text line)
+      (is ∙ ap (λ f. f ++ more) front-is ∙ append_assoc text (10 ∷ tail) more),
+)
+
+pub no_line_leaves : (held : Option (List ℕ)) → IfSome held HasNoLine → IfSome held LeavesGrammar
+no_line_leaves None none = tt
+no_line_leaves (Some xs) none = leaves_without_line xs none
+
+-- an event's line is the input's line
+line_at_front : (xs text rest said-text tail more front : List ℕ) → Lacks 10 text → Lacks 10 said-text → xs ≡ (text ++ 10 ∷ []) ++ rest → front ≡ said-text ++ 10 ∷ tail → xs ≡ front ++ more →
+    (text ≡ said-text) × (rest ≡ tail ++ more)
+line_at_front xs text rest said-text tail more front lacks lacks' is front-is is' =
+    let left : xs ≡ text ++ 10 ∷ rest = is ∙ append_assoc text (10 ∷ []) rest in
+    let right : xs ≡ said-text ++ 10 ∷ (tail ++ more) = is' ∙ rw front-is (append_assoc said-text (10 ∷ tail) more) in
+    cut_same 10 text rest said-text (tail ++ more) lacks lacks' (sym left ∙ right)
+
+-- a line that says nothing
+pub no_line_said : (a b : Option (List ℕ)) (text : List ℕ) → Consumes a b (text ++ 10 ∷ []) → Lacks 10 text → ((said : Line) → IsLine said text → ⊥) → IfSome a LeavesGrammar
+no_line_said None b text consumed lacks none = tt
+no_line_said (Some xs) None text consumed lacks none = absurd consumed
+no_line_said (Some xs) (Some ys) text consumed lacks none = (
+  not_empty xs text ys consumed,
+  λ e front more written is.
+      let (said, said-text, tail, line, front-is) = event_front e front written in
+      let same : text ≡ said-text = (line_at_front xs text ys said-text tail more front lacks (line_lacks said said-text line) consumed front-is is).0 in
+      none said (rw same line),
+)
+
+-- one line doesn't say two sizes
+one_size : (text : List ℕ) (m n m' n' : ℕ) → IsLine (line.Request m n) text → IsLine (line.Request m' n') text → n ≡ n'
+one_size text m n m' n' (rest, is, (few, moment)) (rest', is', (few', moment')) =
+    let same : rest ≡ rest' = (word_is text (word_of command.Request) rest rest' command.Request (word_lacks command.Request, is) is').1 in
+    decimal_injective n n' (omega arith) (omega arith) (same_moment rest' (decimal n) (decimal n') m m' (rw (← same) moment) moment').1
+
+-- a request's line is no order's
+not_order : (text : List ℕ) (m n m' : ℕ) (o : Order) → IsLine (line.Request m n) text → IsLine (line.Order m' o) text → ⊥
+not_order text m n m' (kind.AddAccount account secret) (rest, is, tail) (rest', is', tail') =
+    let same : word_of command.Request ≡ word_of command.AddAccount = (word_is text (word_of command.Request) rest rest' command.AddAccount (word_lacks command.Request, is) is').0 in cc
+not_order text m n m' (kind.DisableAccount account) (rest, is, tail) (rest', is', tail') =
+    let same : word_of command.Request ≡ word_of command.DisableAccount = (word_is text (word_of command.Request) rest rest' command.DisableAccount (word_lacks command.Request, is) is').0 in cc
+
+-- a request's line without its bytes
+no_bytes : (xs ys text : List ℕ) (m n : ℕ) → xs ≡ (text ++ 10 ∷ []) ++ ys → IsLine (line.Request m n) text → HasNoBody n ys → (e : Event) (front more : List ℕ) → IsWritten e front → xs ≡ front ++ more → ⊥
+no_bytes xs ys text m n consumed says none (request m' bytes) front more written is =
+    let (said-text, line', front-is) = request_parts m' bytes front written in
+    let same = line_at_front xs text ys said-text (bytes ++ 10 ∷ []) more front (line_lacks (line.Request m n) text says) (line_lacks (line.Request m' (length bytes)) said-text line') consumed front-is is in
+    let same-text : text ≡ said-text = same.0 in
+    none bytes more (one_size said-text m' (length bytes) m n line' (rw (← same-text) says)) (same.1 ∙ append_assoc bytes (10 ∷ []) more)
+no_bytes xs ys text m n consumed says none (order m' o) front more written is =
+    let (said-text, line', front-is) = order_parts m' o front written in
+    let same = line_at_front xs text ys said-text [] more front (line_lacks (line.Request m n) text says) (line_lacks (line.Order m' o) said-text line') consumed front-is is in
+    let same-text : text ≡ said-text = same.0 in
+    not_order said-text m n m' o (rw (← same-text) says) line'
+
+pub no_body_said : (a b : Option (List ℕ)) (text : List ℕ) (m n : ℕ) → Consumes a b (text ++ 10 ∷ []) → IsLine (line.Request m n) text → IfSome b (HasNoBody n) → IfSome a LeavesGrammar
+no_body_said None b text m n consumed line none = tt
+no_body_said (Some xs) None text m n consumed line none = absurd consumed
+no_body_said (Some xs) (Some ys) text m n consumed line none = (not_empty xs text ys consumed, no_bytes xs ys text m n consumed line none)
+
+-- why no line was read is why no event was
+pub stops_line : (held : Option (List ℕ)) (fault : ScriptFault) (failed : Bool) (reads : ℕ) → StopsLine held fault failed reads → StopsEvent held fault failed reads
+stops_line held Read failed reads stops = stops
+stops_line held Write failed reads stops = stops
+stops_line held Syntax failed reads stops = (stops.0, no_line_leaves held stops.1)
+stops_line held Limit failed reads stops = stops
+stops_line held Memory failed reads stops = absurd stops
+
+-- why no bytes were read after a request's line is why no event was
+pub stops_body : (a b : Option (List ℕ)) (text : List ℕ) (m n : ℕ) (fault : ScriptFault) (failed : Bool) (reads : ℕ) → Consumes a b (text ++ 10 ∷ []) → IsLine (line.Request m n) text → StopsBody n b fault failed reads → StopsEvent a fault failed reads
+stops_body a b text m n Read failed reads consumed line stops = stops
+stops_body a b text m n Write failed reads consumed line stops = stops
+stops_body a b text m n Syntax failed reads consumed line stops = (stops.0, no_body_said a b text m n consumed line stops.1)
+stops_body a b text m n Limit failed reads consumed line stops = stops
+stops_body a b text m n Memory failed reads consumed line stops = stops

@@ -1,0 +1,39 @@
+-- Lemmas on replies.
+use Rattle.std.proofs.Common.{◌≡◌, ℕ, List, [], ◌++◌, codes, refl, append_assoc}
+use Rattle.serde_json.proofs.OnLiterals.{serde_json_on_literals}
+use Rattle.acvp_http.specs.declared.rule.Rule.{Rule}
+use Rattle.acvp_http.specs.declared.rule.Rule.TheVariants.{BadHead, HeadTooLarge, Truncated, LengthMissing, BadLength, BodyTooLarge, TransferCoding, HostMissing, NoRoute, NoMethod, BodyNotJson, BodyEnvelope, BodyField, LoginRefused, RenewalRefused, ClockOutOfRange, Unavailable}
+use Rattle.acvp_http.specs.Rule.{word_of}
+use Rattle.acvp_http.specs.Reply.{body_of, error_object}
+
+-- the head from what was written piece by piece
+pub head_pieces : (first date type label number close besides end s1 s2 s3 s4 s5 s6 : List ℕ) →
+    s1 ≡ first ++ date → s2 ≡ s1 ++ (type ++ label) → s3 ≡ s2 ++ number → s4 ≡ s3 ++ (end ++ close) → s5 ≡ s4 ++ besides → s6 ≡ s5 ++ end →
+    s6 ≡ first ++ date ++ type ++ (label ++ number ++ end) ++ close ++ besides ++ end
+head_pieces first date type label number close besides end s1 s2 s3 s4 s5 s6 e1 e2 e3 e4 e5 e6 =
+    rw (e6, e5, e4, e3, e2, e1) (simp append_assoc)
+
+-- the body of each refusal, computed
+pub body_of-error_object : (rule : Rule) → body_of (error_object rule) ≡ codes "[{\"acvVersion\":\"1.0\"},{\"error\":\"" ++ word_of rule ++ codes "\"}]"
+unfolding serde_json_on_literals body_of
+body_of-error_object BadHead = refl
+body_of-error_object HeadTooLarge = refl
+body_of-error_object Truncated = refl
+body_of-error_object LengthMissing = refl
+body_of-error_object BadLength = refl
+body_of-error_object BodyTooLarge = refl
+body_of-error_object TransferCoding = refl
+body_of-error_object HostMissing = refl
+body_of-error_object NoRoute = refl
+body_of-error_object NoMethod = refl
+body_of-error_object BodyNotJson = refl
+body_of-error_object BodyEnvelope = refl
+body_of-error_object BodyField = refl
+body_of-error_object LoginRefused = refl
+body_of-error_object RenewalRefused = refl
+body_of-error_object ClockOutOfRange = refl
+body_of-error_object Unavailable = refl
+
+-- three writes into an empty text
+pub written_thrice : (s0 s1 s2 s3 a b c : List ℕ) → s0 ≡ [] → s1 ≡ s0 ++ a → s2 ≡ s1 ++ b → s3 ≡ s2 ++ c → s3 ≡ a ++ b ++ c
+written_thrice s0 s1 s2 s3 a b c e0 e1 e2 e3 = rw (e3, e2, e1, e0) refl

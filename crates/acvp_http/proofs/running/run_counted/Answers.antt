@@ -1,0 +1,32 @@
+use Rattle.std.proofs.Common.{rules, arith, refl, ◌∙◌, Err}
+use Rattle.acvp_http.specs.Reading.{event_of}
+use Rattle.acvp_http.specs.Run.{RunsScript}
+use Rattle.acvp_http.proofs.RunLemmas.{ran_none, ran_more, ran_writes}
+use Rattle.acvp_http.proofs.running.run_counted.Goals as goal
+
+pub loop-count-init : goal.loop-count-init
+loop-count-init g c = record {
+  reader_clear = c.requires.reader_clear;
+  writer_clear = c.requires.writer_clear;
+  keys = refl;
+  ran = ran_none c.args.desk.now (g.S.Source.held c.args.reader.now) (g.K.Sink.contents c.args.writer.now);
+}
+
+pub returns-in_err-take_turn-clause-run : goal.returns-in_err-take_turn-clause-run
+returns-in_err-take_turn-clause-run g c =
+    let (clear, (front, written, consumed)) = rw c.in-Some.is at c.in_ok-event.ensures in
+    let (marked, answer, takes, stopped) = c.in_err-take_turn.ensures.turn in
+    let ends : RunsScript c.args.desk.now c.take_turn.new.desk.accounts (g.S.Source.held c.args.reader.now) (g.K.Sink.contents c.args.writer.now) (g.K.Sink.contents c.take_turn.new.writer) (Err c.in_err-take_turn.field-0.0) =
+    ran_writes c.args.desk.now c.loop-count.desk c.take_turn.new.desk.accounts (g.S.Source.held c.args.reader.now) (g.S.Source.held c.loop-count.reader) (g.S.Source.held c.next_event.new.reader) (g.K.Sink.contents c.args.writer.now) (g.K.Sink.contents c.loop-count.writer) (g.K.Sink.contents c.take_turn.new.writer) c.loop-count.count (record { event = event_of c.in-Some.event; marked = marked }) answer front c.in_err-take_turn.field-0.0 c.loop-count.invariant.ran (omega arith) c.loop-count.invariant.keys written consumed takes stopped.0 stopped.2 in
+    search rules
+
+pub loop-count-preserved : goal.loop-count-preserved
+loop-count-preserved g c =
+    let (clear, (front, written, consumed)) = rw c.in-Some.is at c.in_ok-event.ensures in
+    let (marked, answer, takes, done) = c.in_ok-take_turn.ensures.turn in
+    record {
+      reader_clear = clear;
+      writer_clear = done.0;
+      keys = c.take_turn.ensures.keys ∙ c.loop-count.invariant.keys;
+      ran = ran_more c.args.desk.now c.loop-count.desk c.take_turn.new.desk.accounts (g.S.Source.held c.args.reader.now) (g.S.Source.held c.loop-count.reader) (g.S.Source.held c.next_event.new.reader) (g.K.Sink.contents c.args.writer.now) (g.K.Sink.contents c.loop-count.writer) (g.K.Sink.contents c.take_turn.new.writer) c.loop-count.count (record { event = event_of c.in-Some.event; marked = marked }) answer front c.loop-count.invariant.ran c.loop-count.invariant.keys written consumed takes done.1;
+    }

@@ -1,0 +1,11 @@
+use Rattle.std.proofs.Common.{◌≡◌, false}
+use Rattle.acvp_http.proofs.RunLemmas.{Ran}
+use Rattle.acvp_http.proofs.running.run_counted.Given as goal
+
+abbrev pub invariant-loop-count : goal.invariant-loop-count
+invariant-loop-count g l = record {
+  reader_clear : g.S.Source.failed l.reader ≡ false;
+  writer_clear : g.K.Sink.failed l.writer ≡ false;
+  keys : l.desk.keys ≡ l.fn.desk.keys;
+  ran : Ran l.fn.desk l.desk.accounts (g.S.Source.held l.fn.reader) (g.S.Source.held l.reader) (g.K.Sink.contents l.fn.writer) (g.K.Sink.contents l.writer) l.count;
+}

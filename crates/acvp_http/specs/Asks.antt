@@ -1,0 +1,161 @@
+-- What the bytes of an input ask for: a request, or the rule that refuses it before anyone is looked at.
+use Rattle.std.specs.Prelude.{◌≡◌, ◌≤◌, ◌<◌, ◌⊎◌, ℕ, ◌-◌, List, [], ◌∷◌, length, take, drop, map, filter, count_by, find, position, codes, Bool, true, false, not, ◌||◌, ◌==◌, nat_le, nat_lt, if◌then◌else◌, MatchBool, Option, Some, None, unwrap_or, Result, Ok, Err}
+use Rattle.std.specs.List.{starts_with, ends_with, list_all}
+use Rattle.std.specs.Str.{bytes_eq, str_eq_ignore_ascii_case}
+use Rattle.httparse.specs.Grammar.{RequestHead, ReadsRequest}
+use Rattle.httparse.specs.Spans.{name_and_value}
+use Rattle.acvp_http.specs.Number.{number_of}
+use Rattle.acvp_http.specs.declared.routes.Route.{Route}
+use Rattle.acvp_http.specs.declared.routes.Route.TheVariants.{Login}
+use Rattle.acvp_http.specs.declared.routes.Path.{Path}
+use Rattle.acvp_http.specs.declared.routes.Path.TheVariants.{Login as LoginPath}
+use Rattle.acvp_http.specs.declared.rule.Rule.{Rule}
+use Rattle.acvp_http.specs.declared.rule.Rule.TheVariants.{BadHead, HeadTooLarge, Truncated, LengthMissing, BadLength, BodyTooLarge, TransferCoding, HostMissing, NoRoute, NoMethod}
+
+-- a test that must hold, with the rule that it breaks
+abbrev pub Test : Type 0
+Test = Bool × Rule
+
+-- a value, or the rule of the broken test
+abbrev pub unless_broken : {X : Type 0} → Option Test → X → Result X Rule
+unless_broken None value = Ok value
+unless_broken (Some test) value = Err test.1
+
+-- the value where all tests hold, else the rule of the first that fails
+abbrev pub verdict : {X : Type 0} → List Test → X → Result X Rule
+verdict tests value = unless_broken (find (λ test. not test.0) tests) value
+
+-- a request, by its action, or the rule that is broken
+pub data Ask : Type 0 where
+  refused : Rule → Ask
+  login : List ℕ → Ask
+
+-- ---- the head
+
+-- the text ends in a line feed and an empty line
+abbrev pub ends_empty : List ℕ → Bool
+ends_empty text = ends_with (λ a b. a == b) text (codes "\n\n") || ends_with (λ a b. a == b) text (codes "\n\r\n")
+
+-- the front of n bytes is the shortest that ends in an empty line
+abbrev pub IsBlockEnd : List ℕ → ℕ → Type 0
+IsBlockEnd bytes n =
+    (n ≤ length bytes) × (ends_empty (take n bytes) ≡ true)
+    × ((k : ℕ) → k < n → ends_empty (take k bytes) ≡ false)
+
+abbrev pub HasNoEmptyLine : List ℕ → Type 0
+HasNoEmptyLine bytes = (k : ℕ) → k ≤ length bytes → ends_empty (take k bytes) ≡ false
+
+-- the block begins with an empty line
+abbrev pub starts_empty : List ℕ → Bool
+starts_empty block = starts_with (λ a b. a == b) block (codes "\n") || starts_with (λ a b. a == b) block (codes "\r\n")
+
+-- how many lines the block has, but for an empty one at its start
+abbrev pub line_count : List ℕ → ℕ
+line_count block = count_by (λ b. b == 10) block - (if starts_empty block then 1 else 0)
+
+-- ---- the framing
+
+-- the fields of a head: each name, and its value without the white space around it
+abbrev pub fields_of : RequestHead → List (List ℕ × List ℕ)
+fields_of head = map name_and_value head.fields
+
+-- the values of the fields of this name, ASCII case aside
+abbrev pub values_of : List ℕ → List (List ℕ × List ℕ) → List (List ℕ)
+values_of name fields = map (λ f. f.1) (filter (λ f. str_eq_ignore_ascii_case f.0 name) fields)
+
+-- both are numbers, and the same one
+abbrev pub same_number : Option ℕ → Option ℕ → Bool
+same_number None other = false
+same_number (Some n) None = false
+same_number (Some n) (Some m) = n == m
+
+-- the number of the first value
+abbrev pub first_number : List (List ℕ) → Option ℕ
+first_number [] = None
+first_number (value ∷ values) = number_of value
+
+-- each value is a number, and they agree
+abbrev pub lengths_agree : List (List ℕ) → Bool
+lengths_agree values = list_all (λ value. same_number (number_of value) (first_number values)) values
+
+-- the methods that need a length
+abbrev pub needs_length : List ℕ → Bool
+needs_length method = bytes_eq method (codes "POST") || bytes_eq method (codes "PUT")
+
+-- version 1.1 has exactly one Host field, and version 1.0 at most one
+abbrev pub hosts_fit : ℕ → ℕ → Bool
+hosts_fit minor hosts = if minor == 0 then nat_le hosts 1 else hosts == 1
+
+-- no value at all
+abbrev pub is_nil : {X : Type 0} → List X → Bool
+is_nil xs = length xs == 0
+
+-- how long the body is: the Content-Length, or nothing
+abbrev pub body_length : List (List ℕ) → ℕ
+body_length values = unwrap_or (first_number values) 0
+
+-- the tests of the framing, in their order (RFC 9112, sections 3.2 and 6), where so many bytes follow the head
+abbrev pub framing_tests : List ℕ → ℕ → List (List ℕ × List ℕ) → ℕ → List Test
+framing_tests method minor fields available =
+    (is_nil (values_of (codes "transfer-encoding") fields), TransferCoding)
+    ∷ (not (needs_length method) || not (is_nil (values_of (codes "content-length") fields)), LengthMissing)
+    ∷ (lengths_agree (values_of (codes "content-length") fields), BadLength)
+    ∷ (nat_le (body_length (values_of (codes "content-length") fields)) 2097152, BodyTooLarge)
+    ∷ (hosts_fit minor (length (values_of (codes "host") fields)), HostMissing)
+    ∷ (nat_le (body_length (values_of (codes "content-length") fields)) available, Truncated)
+    ∷ []
+
+-- how long the body is, or the rule that the framing breaks
+abbrev pub body_size : List ℕ → ℕ → List (List ℕ × List ℕ) → ℕ → Result ℕ Rule
+body_size method minor fields available =
+    verdict (framing_tests method minor fields available) (body_length (values_of (codes "content-length") fields))
+
+-- ---- the route
+
+-- the path: the target up to its first question mark
+abbrev pub path_of : List ℕ → List ℕ
+path_of target = take (unwrap_or (position (λ b. b == 63) target) (length target)) target
+
+-- the path of the table that these bytes are
+abbrev pub path_named : List ℕ → Option Path
+path_named path = if bytes_eq path (codes "/acvp/v1/login") then Some LoginPath else None
+
+-- a method on a path of the table
+abbrev pub method_on : List ℕ → Option Path → Result Route Rule
+method_on method None = Err NoRoute
+method_on method (Some LoginPath) = if bytes_eq method (codes "POST") then Ok Login else Err NoMethod
+
+-- the route of a method on a path, or the rule that it breaks
+abbrev pub route_of : List ℕ → List ℕ → Result Route Rule
+route_of method path = method_on method (path_named path)
+
+-- what a route asks with a body
+abbrev pub routed : Result Route Rule → List ℕ → Ask
+routed (Err rule) body = refused rule
+routed (Ok Login) body = login body
+
+-- what a head asks, where rest follows it and its body has this size
+abbrev pub asked_by : RequestHead → List ℕ → Result ℕ Rule → Ask
+asked_by head rest (Err rule) = refused rule
+asked_by head rest (Ok size) = routed (route_of head.method (path_of head.target)) (take size rest)
+
+abbrev pub asked : RequestHead → List ℕ → Ask
+asked head rest = asked_by head rest (body_size head.method head.minor (fields_of head) (length rest))
+
+-- what a block asks, where rest follows it
+abbrev pub AsksBlock : List ℕ → List ℕ → Ask → Type 0
+AsksBlock block rest ask =
+    MatchBool (nat_lt 64 (line_count block - 2))
+    (ask ≡ refused HeadTooLarge)
+    (((ask ≡ refused BadHead) × ((head : RequestHead) → ReadsRequest block head [] → ⊥))
+    ⊎ ((head : RequestHead) × ReadsRequest block head [] × (ask ≡ asked head rest)))
+
+-- how much of an input may be its head
+unfoldable pub window : List ℕ → List ℕ
+window bytes = take 16384 bytes
+
+-- what an input asks
+abbrev pub Asks : List ℕ → Ask → Type 0
+Asks bytes ask =
+    (HasNoEmptyLine (window bytes) × (ask ≡ refused (if length (window bytes) == 16384 then HeadTooLarge else Truncated)))
+    ⊎ ((n : ℕ) × IsBlockEnd (window bytes) n × AsksBlock (take n bytes) (drop n bytes) ask)

@@ -1,0 +1,70 @@
+-- The reply to a request: an HTTP/1.1 response (RFC 9112, section 4) with a JSON body.
+use Rattle.std.specs.Prelude.{◌≡◌, ℕ, List, [], ◌++◌, length, codes, decimal, Option, Some, None, unwrap_or}
+use Rattle.http.specs.StatusCode.{reason_phrase}
+use Rattle.httpdate.specs.Date.{unix_secs, date_text}
+use Rattle.httpdate.specs.declared.date.HttpDate.{HttpDate}
+use Rattle.serde_json.specs.Data.{Data, string, array, object, no_items, item, no_members, member}
+use Rattle.serde_json.specs.Written.{compact_text}
+use Rattle.acvp_http.specs.declared.rule.Rule.{Rule}
+use Rattle.acvp_http.specs.declared.rule.Rule.TheVariants.{NoMethod, ClockOutOfRange, Unavailable}
+use Rattle.acvp_http.specs.Rule.{status_of, word_of}
+
+-- the first member of each body
+abbrev pub version : Data
+version = object (member (codes "acvVersion") (string (codes "1.0")) no_members)
+
+-- the version and an object
+abbrev pub enveloped : Data → Data
+enveloped d = array (item version (item d no_items))
+
+-- a body: the version and an object, as compact JSON
+unfoldable pub body_of : Data → List ℕ
+body_of d = compact_text (enveloped d)
+
+abbrev pub error_object : Rule → Data
+error_object rule = object (member (codes "error") (string (word_of rule)) no_members)
+
+-- the phrase that stands beside a status code
+abbrev pub phrase_of : ℕ → List ℕ
+phrase_of status = unwrap_or (reason_phrase status) []
+
+-- a line of the head
+abbrev pub line : List ℕ → List ℕ
+line text = text ++ codes "\r\n"
+
+abbrev pub date_line : Option (List ℕ) → List ℕ
+date_line None = []
+date_line (Some date) = line (codes "Date: " ++ date)
+
+-- The line that a refusal has besides: the path's methods where the method is none of them.
+abbrev pub rule_line : Rule → List ℕ
+rule_line NoMethod = line (codes "Allow: POST")
+rule_line _ = []
+
+-- the head of a reply whose body has this length
+abbrev pub head_text : ℕ → Option (List ℕ) → List ℕ → ℕ → List ℕ
+head_text status date besides length_of_body =
+    line (codes "HTTP/1.1 " ++ decimal status ++ codes " " ++ phrase_of status)
+    ++ date_line date
+    ++ line (codes "Content-Type: application/json")
+    ++ line (codes "Content-Length: " ++ decimal length_of_body)
+    ++ line (codes "Connection: close")
+    ++ besides ++ codes "\r\n"
+
+-- a whole reply
+unfoldable pub framed : ℕ → Option (List ℕ) → List ℕ → List ℕ → List ℕ
+framed status date besides body = head_text status date besides (length body) ++ body
+
+-- the replies of two rules show no date: where the clock gives none, and where memory was refused
+abbrev pub date_shown : Option (List ℕ) → Rule → Option (List ℕ)
+date_shown date ClockOutOfRange = None
+date_shown date Unavailable = None
+date_shown date _ = date
+
+-- the reply that names the rule
+abbrev pub refusal : Option (List ℕ) → Rule → List ℕ
+refusal date rule = framed (status_of rule) (date_shown date rule) (rule_line rule) (body_of (error_object rule))
+
+-- the text is the date and time of the moment as IMF-fixdate (RFC 9110, section 5.6.7)
+abbrev pub IsDateOf : ℕ → List ℕ → Type 0
+IsDateOf moment text = (date : HttpDate) × (unix_secs date ≡ moment) × (text ≡ date_text date)

@@ -1,0 +1,72 @@
+-- The run of a script: what it makes of the records and of the input, and what it writes.
+use Rattle.std.specs.Prelude.{◌≡◌, ◌≢◌, ◌≤◌, ℕ, List, [], ◌∷◌, ◌++◌, length, map, Bool, true, false, Option, None, Some, Result, Ok, Err, ⊤}
+use Rattle.std.specs.Io.KnownBytes.{Appends}
+use Rattle.acvp_http.specs.declared.records.Account.{Account}
+use Rattle.acvp_http.specs.declared.script.ScriptFault.{ScriptFault}
+use Rattle.acvp_http.specs.declared.script.ScriptFault.TheVariants.{Read, Write, Syntax, Limit, Memory}
+use Rattle.acvp_http.specs.Event.{Event, Answer, Turn, Held}
+use Rattle.acvp_http.specs.Script.{IsScript, LeavesGrammar, answer_text, output_of}
+use Rattle.acvp_http.specs.Serve.{Runs}
+
+-- the events of the turns
+abbrev pub events_of : List Turn → List Event
+events_of turns = map (λ turn. turn.event) turns
+
+-- The known input begins with the text, and this holds of what comes after it.
+abbrev pub BeginsWith : Option (List ℕ) → List ℕ → (List ℕ → Type 0) → Type 0
+BeginsWith None text After = ⊤
+BeginsWith (Some input) text After = (rest : List ℕ) × (input ≡ text ++ rest) × After rest
+
+-- what comes after the script of the turns, and how many they are
+abbrev pub StopsAfter : Option (List ℕ) → List Turn → List ℕ → Result ℕ ScriptFault → Type 0
+StopsAfter input turns text (Ok count) = (count ≡ length turns) × BeginsWith input text (λ rest. rest ≡ [])
+StopsAfter input turns text (Err Syntax) = BeginsWith input text LeavesGrammar
+StopsAfter input turns text (Err Read) = BeginsWith input text (λ rest. ⊤)
+StopsAfter input turns text (Err Write) = BeginsWith input text (λ rest. ⊤)
+StopsAfter input turns text (Err Limit) = BeginsWith input text (λ rest. ⊤)
+StopsAfter input turns text (Err Memory) = BeginsWith input text (λ rest. ⊤)
+
+-- the output of all answers but the last, and a front of the last one's
+abbrev pub WritesInPart : Option (List ℕ) → Option (List ℕ) → List Answer → Type 0
+WritesInPart old new answers =
+    (earlier : List Answer) × (last : Answer) × (answers ≡ earlier ++ last ∷ [])
+    × ((front : List ℕ) × (rest : List ℕ) × (answer_text last ≡ front ++ rest) × Appends old new (output_of earlier ++ front))
+
+-- what is written of the answers
+abbrev pub WritesAnswers : Option (List ℕ) → Option (List ℕ) → List Answer → Result ℕ ScriptFault → Type 0
+WritesAnswers old new answers (Ok count) = Appends old new (output_of answers)
+WritesAnswers old new answers (Err Write) = WritesInPart old new answers
+WritesAnswers old new answers (Err Read) = Appends old new (output_of answers)
+WritesAnswers old new answers (Err Syntax) = Appends old new (output_of answers)
+WritesAnswers old new answers (Err Limit) = Appends old new (output_of answers)
+WritesAnswers old new answers (Err Memory) = Appends old new (output_of answers)
+
+-- The input begins with the script of some turns, which give these accounts and the answers that are written.
+abbrev pub RunsScript : Held → List Account → Option (List ℕ) → Option (List ℕ) → Option (List ℕ) → Result ℕ ScriptFault → Type 0
+RunsScript held accounts input old new result =
+    (turns : List Turn) × (answers : List Answer) × (text : List ℕ)
+    × Runs held turns accounts answers × IsScript (events_of turns) text
+    × StopsAfter input turns text result × WritesAnswers old new answers result
+    × (length turns ≤ 100000)
+
+-- the known input goes on after 100000 events
+abbrev pub GoesOn : Option (List ℕ) → Type 0
+GoesOn input =
+    (events : List Event) × (text : List ℕ) × IsScript events text × (length events ≡ 100000) × BeginsWith input text (λ rest. rest ≢ [])
+
+-- whether the answer is that the reader, or the writer, has failed
+abbrev pub is_read_answer : Result ℕ ScriptFault → Bool
+is_read_answer (Ok count) = false
+is_read_answer (Err Read) = true
+is_read_answer (Err Write) = false
+is_read_answer (Err Syntax) = false
+is_read_answer (Err Limit) = false
+is_read_answer (Err Memory) = false
+
+abbrev pub is_write_answer : Result ℕ ScriptFault → Bool
+is_write_answer (Ok count) = false
+is_write_answer (Err Read) = false
+is_write_answer (Err Write) = true
+is_write_answer (Err Syntax) = false
+is_write_answer (Err Limit) = false
+is_write_answer (Err Memory) = false

@@ -1,0 +1,59 @@
+-- The script: how events are written, and the output of their answers.
+use Rattle.std.specs.Prelude.{◌≡◌, ◌≢◌, ℕ, ◌^◌, ◌<◌, ◌≤◌, List, [], ◌∷◌, ◌++◌, length, codes, decimal, Ok}
+use Rattle.std.specs.List.{flat_map}
+use Rattle.hex.specs.Hex.{decode_of}
+use Rattle.acvp_http.specs.declared.records.Order.TheVariants.{AddAccount, DisableAccount}
+use Rattle.acvp_http.specs.declared.records.OrderReply.{OrderReply}
+use Rattle.acvp_http.specs.declared.records.OrderReply.TheVariants.{Done, Taken, Unknown, Unavailable}
+use Rattle.acvp_http.specs.Event.{Event, request, order, Answer, replied, ordered}
+
+-- a number of the script: 1 to 19 digits without leading zeros
+abbrev pub IsNumber : ℕ → Type 0
+IsNumber n = n < 10 ^ 19
+
+abbrev pub IsAccountNumber : ℕ → Type 0
+IsAccountNumber n = (1 ≤ n) × (n ≤ 9999)
+
+-- 64 hex digits that give the secret's 32 bytes
+abbrev pub IsSecretText : List ℕ → List ℕ → Type 0
+IsSecretText text secret = (length text ≡ 64) × (decode_of text ≡ Ok secret)
+
+-- the event is written so
+abbrev pub IsWritten : Event → List ℕ → Type 0
+IsWritten (request moment bytes) text =
+    IsNumber moment × (length bytes ≤ 4194304)
+    × (text ≡ codes "request " ++ decimal moment ++ codes " " ++ decimal (length bytes) ++ codes "\n" ++ bytes ++ codes "\n")
+IsWritten (order moment (AddAccount account secret)) text =
+    IsNumber moment × IsAccountNumber account
+    × ((digits : List ℕ) × IsSecretText digits secret
+    × (text ≡ codes "account-add " ++ decimal moment ++ codes " " ++ decimal account ++ codes " " ++ digits ++ codes "\n"))
+IsWritten (order moment (DisableAccount account)) text =
+    IsNumber moment × IsAccountNumber account
+    × (text ≡ codes "account-disable " ++ decimal moment ++ codes " " ++ decimal account ++ codes "\n")
+
+-- the text is these events, one after another
+abbrev pub IsScript : List Event → List ℕ → Type 0
+IsScript [] text = text ≡ []
+IsScript (event ∷ events) text =
+    (front : List ℕ) × (rest : List ℕ) × (text ≡ front ++ rest) × IsWritten event front × IsScript events rest
+
+-- there is input, and no event stands whole at its front
+abbrev pub LeavesGrammar : List ℕ → Type 0
+LeavesGrammar rest =
+    (rest ≢ [])
+    × ((event : Event) (front more : List ℕ) → IsWritten event front → rest ≡ front ++ more → ⊥)
+
+-- an order's word
+abbrev pub order_word : OrderReply → List ℕ
+order_word Done = codes "done"
+order_word Taken = codes "taken"
+order_word Unknown = codes "unknown"
+order_word Unavailable = codes "unavailable"
+
+-- what is written for an answer
+abbrev pub answer_text : Answer → List ℕ
+answer_text (replied bytes) = codes "reply " ++ decimal (length bytes) ++ codes "\n" ++ bytes ++ codes "\n"
+answer_text (ordered reply) = codes "order " ++ order_word reply ++ codes "\n"
+
+abbrev pub output_of : List Answer → List ℕ
+output_of answers = flat_map answer_text answers

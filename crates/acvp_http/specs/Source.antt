@@ -1,0 +1,30 @@
+-- Readers and writers that remember whether they have failed.
+use Rattle.std.specs.Prelude.{ℕ, List, Bool, Result, true, false, Ok, Err, not, ◌&&◌, ◌==◌, nat_lt, length}
+use Rattle.std.specs.IoError.{error_kind}
+use Rattle.std.specs.declared.io.Error.{Error}
+use Rattle.std.specs.declared.io.ErrorKind.{ErrorKind}
+use Rattle.std.specs.declared.io.ErrorKind.TheVariants.{Interrupted}
+use Rattle.acvp_http.specs.declared.source.Flagged.{Flagged}
+
+-- the call was interrupted, and may be made again
+abbrev pub is_interruption : ErrorKind → Bool
+is_interruption Interrupted = true
+is_interruption _ = false
+
+-- a read has failed
+abbrev pub is_read_fault : Result ℕ Error → Bool
+is_read_fault (Ok count) = false
+is_read_fault (Err error) = not (is_interruption (error_kind error))
+
+-- a write of these bytes has failed, or has taken none of them
+abbrev pub is_write_fault : Result ℕ Error → List ℕ → Bool
+is_write_fault (Ok count) buf = count == 0 && nat_lt 0 (length buf)
+is_write_fault (Err error) buf = true
+
+-- the reader or the writer itself
+abbrev pub flagged_inner : {T : Type 0} → Flagged T → T
+flagged_inner x = x.inner
+
+-- whether it has failed
+abbrev pub flagged_failed : {T : Type 0} → Flagged T → Bool
+flagged_failed x = x.failed

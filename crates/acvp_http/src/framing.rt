@@ -1,0 +1,175 @@
+//! The framing of a request: which fields say where its body ends (RFC 9112, section 6).
+ghost use Rattle.std.specs.Prelude.{◌≡◌, ◌≤◌, ◌<◌, ◌∷◌, ◌++◌, [], ℕ, All, length, map, take, true, false, not, Some, None, codes, if◌then◌else◌, IfOk};
+ghost use Rattle.std.specs.List.{list_all};
+ghost use Rattle.std.specs.Str.{str_eq_ignore_ascii_case, bytes_eq};
+ghost use Rattle.httparse.specs.Spans.{span_bytes, header_bytes, IsWithin, IsHeaderWithin};
+ghost use Rattle.acvp_http.specs.Asks.{values_of, same_number, first_number, lengths_agree, needs_length, hosts_fit, body_length, is_nil, verdict, body_size};
+ghost use Rattle.acvp_http.specs.Number.{number_of};
+
+use crate::number::digits_number;
+use crate::rule::Rule;
+use httparse::spans::{HeaderSpan, Span};
+use std::marker::Model;
+
+// Whether a field's name is this one, ASCII case aside.
+fn is_named(name: &[u8], wanted: &[u8]) -> bool
+    ensures { result ≡ str_eq_ignore_ascii_case name.now wanted.now }
+{
+    name.eq_ignore_ascii_case(wanted)
+}
+
+// Where the values of one field are, at most 64.
+#[derive(Drop)]
+struct FieldValues {
+    spans: [Span; 64],
+    count: usize,
+}
+
+impl Model for FieldValues {
+    ghost use Rattle.std.specs.Prelude.{List, take, ◌≤◌};
+    ghost use Rattle.httparse.specs.declared.spans.Span.{Span};
+
+    ghost Value = { List Span };
+
+    ghost view = { λ v. take v.count v.spans };
+
+    ghost invariant = { λ v. v.count ≤ 64 };
+}
+
+impl FieldValues {
+    fn new() -> FieldValues
+        ensures { result ≡ [] }
+    {
+        FieldValues {
+            spans: [Span::default(); 64],
+            count: 0,
+        }
+    }
+
+    // Takes the span in, where it is wanted.
+    fn push_if(&mut self, is_wanted: bool, span: Span)
+        requires { length self.old < 64 }
+        ensures { self.new ≡ (if is_wanted then self.old ++ span ∷ [] else self.old) }
+    {
+        if is_wanted {
+            self.spans[self.count] = span;
+            self.count += 1;
+        }
+    }
+
+    fn len(&self) -> usize
+        ensures { result ≡ length self.now }
+    {
+        self.as_slice().len()
+    }
+
+    fn is_empty(&self) -> bool
+        ensures { result ≡ is_nil self.now }
+    {
+        self.as_slice().is_empty()
+    }
+
+    fn as_slice(&self) -> &[Span]
+        ensures { result.now ≡ self.now }
+    {
+        &self.spans[..self.count]
+    }
+}
+
+// The values of the fields of this name.
+fn field_values_of(block: &[u8], headers: &[HeaderSpan], name: &[u8]) -> FieldValues
+    requires within { All (IsHeaderWithin (length block.now)) headers.now }
+    requires few { length headers.now ≤ 64 }
+    ensures value { map (span_bytes block.now) result ≡ values_of name.now (map (header_bytes block.now) headers.now) }
+    ensures within { All (IsWithin (length block.now)) result }
+    ensures few { length result ≤ length headers.now }
+{
+    let mut found = FieldValues::new();
+    for header in headers {
+        found.push_if(is_named(header.name.of(block), name), header.value);
+    }
+    found
+}
+
+// Whether each value is this number.
+fn all_are(block: &[u8], spans: &[Span], number: u64) -> bool
+    requires { All (IsWithin (length block.now)) spans.now }
+    ensures { result ≡ list_all (λ value. same_number (number_of value) (Some number)) (map (span_bytes block.now) spans.now) }
+{
+    for span in spans {
+        match digits_number(span.of(block)) {
+            Some(other) if other == number => {}
+            _ => return false,
+        }
+    }
+    true
+}
+
+// The body's length, where each value is a number and they agree.
+fn agreed_length(block: &[u8], spans: &[Span]) -> Option<u64>
+    requires { All (IsWithin (length block.now)) spans.now }
+    ensures { result ≡ (if lengths_agree (map (span_bytes block.now) spans.now) then Some (body_length (map (span_bytes block.now) spans.now)) else None) }
+{
+    let Some(first) = spans.first() else {
+        return Some(0);
+    };
+    let number = digits_number(first.of(block))?;
+    if all_are(block, spans, number) {
+        Some(number)
+    } else {
+        None
+    }
+}
+
+// Whether a method needs a length.
+fn needs_length(method: &[u8]) -> bool
+    ensures { result ≡ needs_length method.now }
+{
+    method == b"POST".as_slice() || method == b"PUT".as_slice()
+}
+
+// Whether a version may have so many Host fields.
+fn hosts_fit(minor: u8, hosts: usize) -> bool
+    ensures { result ≡ hosts_fit minor hosts }
+{
+    if minor == 0 { hosts <= 1 } else { hosts == 1 }
+}
+
+fn check(holds: bool, rule: Rule) -> Result<(), Rule>
+    ensures { result ≡ verdict ((holds, rule) ∷ []) tt }
+{
+    if holds { Ok(()) } else { Err(rule) }
+}
+
+/// The most bytes that a body may have.
+pub const BODY_BYTES: u64 = 2097152;
+
+// The body's size, or the rule that the framing breaks, where so many bytes follow the head.
+pub(crate) fn body_size(
+    block: &[u8],
+    method: &[u8],
+    minor: u8,
+    headers: &[HeaderSpan],
+    available: usize,
+) -> Result<usize, Rule>
+    requires within { All (IsHeaderWithin (length block.now)) headers.now }
+    requires few { length headers.now ≤ 64 }
+    ensures value { result ≡ body_size method.now minor (map (header_bytes block.now) headers.now) available }
+    ensures fits { IfOk result (λ size. size ≤ available) }
+{
+    let codings = field_values_of(block, headers, b"transfer-encoding");
+    let lengths = field_values_of(block, headers, b"content-length");
+    let hosts = field_values_of(block, headers, b"host");
+    check(codings.is_empty(), Rule::TransferCoding)?;
+    check(
+        !needs_length(method) || !lengths.is_empty(),
+        Rule::LengthMissing,
+    )?;
+    let Some(size) = agreed_length(block, lengths.as_slice()) else {
+        return Err(Rule::BadLength);
+    };
+    check(size <= BODY_BYTES, Rule::BodyTooLarge)?;
+    check(hosts_fit(minor, hosts.len()), Rule::HostMissing)?;
+    check(size as usize <= available, Rule::Truncated)?;
+    Ok(size as usize)
+}

@@ -1,0 +1,32 @@
+//! Numbers in decimal digits.
+ghost use Rattle.std.specs.Prelude.{◌≡◌, ◌≢◌, ◌^◌, ◌<◌, ℕ, MatchOption, decimal};
+ghost use Rattle.acvp_http.specs.Number.{number_of};
+
+const LONGEST: usize = 19;
+
+// The number that 1 to 19 decimal digits write.
+pub(crate) fn digits_number(text: &[u8]) -> Option<u64>
+    ensures { result ≡ number_of text.now }
+{
+    if text.is_empty() || text.len() > LONGEST {
+        return None;
+    }
+    let mut number: u64 = 0;
+    for digit in text {
+        if !digit.is_ascii_digit() {
+            return None;
+        }
+        number = number * 10 + u64::from(*digit - b'0');
+    }
+    Some(number)
+}
+
+// The number that 1 to 19 decimal digits without leading zeros write, a lone `0` being one.
+pub(crate) fn plain_number(text: &[u8]) -> Option<u64>
+    ensures { MatchOption result ((n : ℕ) → n < 10 ^ 19 → text.now ≢ decimal n) (λ n. (n < 10 ^ 19) × (text.now ≡ decimal n)) }
+{
+    if text.len() > 1 && text[0] == b'0' {
+        return None;
+    }
+    digits_number(text)
+}

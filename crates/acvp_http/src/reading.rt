@@ -1,0 +1,169 @@
+//! The events of a script, one after another, out of a reader.
+ghost use Rattle.std.specs.Prelude.{◌≡◌, ◌≤◌, ◌<◌, ◌++◌, ◌∷◌, [], ℕ, List, false, length, take, IfNone, MatchResult, MatchOption, vec_len};
+ghost use Rattle.std.specs.Option.{option_to_list};
+ghost use Rattle.std.specs.Io.KnownBytes.{Consumes, IsAtEnd};
+ghost use Rattle.acvp_http.specs.Lines.{Lacks};
+ghost use Rattle.acvp_http.specs.Reading.{StopsReading, StopsLine, StopsFilling, StopsBody, StopsEvent, event_of};
+ghost use Rattle.acvp_http.specs.Script.{IsWritten};
+
+use crate::records::Order;
+use crate::script::{Line, ScriptFault, read_line};
+use crate::source::{Source, is_interrupted};
+use std::alloc::Global;
+
+// As many bytes as a line has at most, without its line feed: `account-add`, a moment of 19 digits, an account's number of 4 and
+// a secret of 64, with three spaces.
+const LONGEST_LINE: usize = 101;
+
+const MOST_READS: u64 = 1000000000;
+
+// Reads some bytes, which are none only at the end or where there is no room. A read that is interrupted is tried again.
+fn read_some<S: Source>(
+    reader: &mut S,
+    reads: &mut u64,
+    buf: &mut [u8],
+) -> Result<usize, ScriptFault>
+    requires { S.failed reader.old ≡ false }
+    ensures { MatchResult result
+        (λ count. (count ≤ length buf.new) × (S.failed reader.new ≡ false)
+        × Consumes (S.held reader.old) (S.held reader.new) (take count buf.new)
+        × (count ≡ 0 → 0 < length buf.new → IsAtEnd (S.held reader.new)))
+        (λ fault. StopsReading fault (S.failed reader.new) reads.new) }
+{
+    while *reads < MOST_READS {
+        *reads += 1;
+        match reader.read(buf) {
+            Ok(count) => return Ok(count),
+            Err(error) => {
+                if !is_interrupted(&error) {
+                    return Err(ScriptFault::Read);
+                }
+            }
+        }
+    }
+    Err(ScriptFault::Limit)
+}
+
+// The next byte, or `None` at the end.
+pub(crate) fn read_byte<S: Source>(
+    reader: &mut S,
+    reads: &mut u64,
+) -> Result<Option<u8>, ScriptFault>
+    requires { S.failed reader.old ≡ false }
+    ensures { MatchResult result
+        (λ byte. (S.failed reader.new ≡ false)
+        × Consumes (S.held reader.old) (S.held reader.new) (option_to_list byte)
+        × IfNone byte (IsAtEnd (S.held reader.old)))
+        (λ fault. StopsReading fault (S.failed reader.new) reads.new) }
+{
+    let mut byte = [0];
+    if read_some(reader, reads, &mut byte)? == 0 {
+        Ok(None)
+    } else {
+        Ok(Some(byte[0]))
+    }
+}
+
+// The length of the next line, which stands in `line`, or `None` at the end.
+fn read_whole_line<S: Source>(
+    reader: &mut S,
+    reads: &mut u64,
+    line: &mut [u8],
+) -> Result<Option<usize>, ScriptFault>
+    requires clear { S.failed reader.old ≡ false }
+    requires room { length line.old ≡ 101 }
+    ensures { MatchResult result
+        (λ count. (S.failed reader.new ≡ false) × MatchOption count
+        (IsAtEnd (S.held reader.old))
+        (λ n. (n ≤ 101) × Lacks 10 (take n line.new)
+        × Consumes (S.held reader.old) (S.held reader.new) (take n line.new ++ 10 ∷ [])))
+        (λ fault. StopsLine (S.held reader.old) fault (S.failed reader.new) reads.new) }
+{
+    for count in 0..LONGEST_LINE {
+        match read_byte(reader, reads)? {
+            Some(b'\n') => return Ok(Some(count)),
+            Some(byte) => line[count] = byte,
+            None if count == 0 => return Ok(None),
+            None => return Err(ScriptFault::Syntax),
+        }
+    }
+    match read_byte(reader, reads)? {
+        Some(b'\n') => Ok(Some(LONGEST_LINE)),
+        Some(_) => Err(ScriptFault::Syntax),
+        None => Err(ScriptFault::Syntax),
+    }
+}
+
+// Fills the buffer.
+fn fill<S: Source>(reader: &mut S, reads: &mut u64, buf: &mut [u8]) -> Result<(), ScriptFault>
+    requires { S.failed reader.old ≡ false }
+    ensures { MatchResult result
+        (λ _. (S.failed reader.new ≡ false) × Consumes (S.held reader.old) (S.held reader.new) buf.new)
+        (λ fault. StopsFilling (length buf.old) (S.held reader.old) fault (S.failed reader.new) reads.new) }
+{
+    let mut filled = 0;
+    while filled < buf.len() {
+        match read_some(reader, reads, &mut buf[filled..])? {
+            0 => return Err(ScriptFault::Syntax),
+            count => filled += count,
+        }
+    }
+    Ok(())
+}
+
+// The bytes of a request, and the line feed after them.
+fn read_request_bytes<S: Source>(
+    alloc: Global,
+    reader: &mut S,
+    reads: &mut u64,
+    length: u64,
+) -> Result<Vec<u8>, ScriptFault>
+    requires { S.failed reader.old ≡ false }
+    ensures { MatchResult result
+        (λ bytes. (S.failed reader.new ≡ false) × (vec_len bytes ≡ length)
+        × Consumes (S.held reader.old) (S.held reader.new) (bytes.items ++ 10 ∷ []))
+        (λ fault. StopsBody length (S.held reader.old) fault (S.failed reader.new) reads.new) }
+{
+    let mut bytes = vec![in alloc; 0; length as usize].map_err(|_| ScriptFault::Memory)?;
+    fill(reader, reads, &mut bytes)?;
+    match read_byte(reader, reads)? {
+        Some(b'\n') => Ok(bytes),
+        Some(_) => Err(ScriptFault::Syntax),
+        None => Err(ScriptFault::Syntax),
+    }
+}
+
+// An event of a script.
+#[derive(Drop)]
+pub(crate) enum ScriptEvent {
+    Request { moment: u64, bytes: Vec<u8> },
+    Order { moment: u64, order: Order },
+}
+
+// Reads the next event, or `None` at the end of the input.
+pub(crate) fn next_event<S: Source>(
+    alloc: Global,
+    reader: &mut S,
+    reads: &mut u64,
+) -> Result<Option<ScriptEvent>, ScriptFault>
+    requires { S.failed reader.old ≡ false }
+    ensures { MatchResult result
+        (λ event. (S.failed reader.new ≡ false) × MatchOption event
+        (IsAtEnd (S.held reader.old))
+        (λ read. (front : List ℕ) × IsWritten (event_of read) front
+        × Consumes (S.held reader.old) (S.held reader.new) front))
+        (λ fault. StopsEvent (S.held reader.old) fault (S.failed reader.new) reads.new) }
+{
+    let mut line = [0; LONGEST_LINE];
+    let Some(count) = read_whole_line(reader, reads, &mut line)? else {
+        return Ok(None);
+    };
+    match read_line(&line[..count]) {
+        None => Err(ScriptFault::Syntax),
+        Some(Line::Order { moment, order }) => Ok(Some(ScriptEvent::Order { moment, order })),
+        Some(Line::Request { moment, length }) => {
+            let bytes = read_request_bytes(alloc, reader, reads, length)?;
+            Ok(Some(ScriptEvent::Request { moment, bytes }))
+        }
+    }
+}

@@ -1,0 +1,170 @@
+//! The reply to a request: its head and its body.
+ghost use Rattle.std.specs.Prelude.{◌≡◌, ◌≤◌, ◌<◌, ◌++◌, ◌+◌, [], codes, length, decimal, unwrap_or, Some, None, option_map, option_copied, IfOk};
+ghost use Rattle.http.specs.StatusCode.{reason_phrase};
+ghost use Rattle.acvp_http.specs.Rule.{status_of, word_of};
+ghost use Rattle.acvp_http.specs.Reply.{phrase_of, line, date_line, rule_line, head_text, framed, date_shown, refusal, body_of, error_object};
+
+use crate::rule::Rule;
+use crate::text::Text;
+use http::StatusCode;
+use std::alloc::{AllocError, Global};
+use std::marker::Model;
+
+// The phrase of a status code (RFC 9110, section 15).
+fn phrase(status: u16) -> &'static str
+    requires { (100 ≤ status) × (status < 1000) }
+    ensures { result.now ≡ phrase_of status }
+{
+    match StatusCode::from_u16(status) {
+        Ok(status) => status.canonical_reason().unwrap_or(""),
+        Err(_) => unreachable!(),
+    }
+}
+
+// The first line, with its end.
+fn status_line(status: u16) -> Text
+    requires code { (100 ≤ status) × (status < 1000) }
+    requires short { length (phrase_of status) ≤ 31 }
+    ensures value { result ≡ line (codes "HTTP/1.1 " ++ decimal status ++ codes " " ++ phrase_of status) }
+    ensures len { length result ≤ 63 }
+{
+    let mut text = Text::new();
+    text.push(b"HTTP/1.1 ");
+    text.push_number(u64::from(status));
+    text.push(b" ");
+    text.push(phrase(status).as_bytes());
+    text.push(b"\r\n");
+    text
+}
+
+// The `Date` line, where there is a date.
+fn push_date(text: &mut Text, date: Option<&[u8; 29]>)
+    requires { length text.old ≤ 80 }
+    ensures bytes { text.new ≡ text.old ++ date_line (option_copied date.entry) }
+    ensures len { length text.new ≤ length text.old + 37 }
+{
+    if let Some(date) = date {
+        text.push(b"Date: ");
+        text.push(date);
+        text.push(b"\r\n");
+    }
+}
+
+// The head of a reply whose body has this length.
+fn head(status: u16, date: Option<&[u8; 29]>, besides: &[u8], body_length: u64) -> Text
+    requires code { (100 ≤ status) × (status < 1000) }
+    requires short { length (phrase_of status) ≤ 31 }
+    requires besides { length besides.now ≤ 64 }
+    ensures value { result ≡ head_text status (option_copied date.entry) besides.now body_length }
+    ensures len { length result ≤ 384 }
+{
+    let mut text = status_line(status);
+    push_date(&mut text, date);
+    text.push(b"Content-Type: application/json\r\nContent-Length: ");
+    text.push_number(body_length);
+    text.push(b"\r\nConnection: close\r\n");
+    text.push(besides);
+    text.push(b"\r\n");
+    text
+}
+
+// The lines that a refusal has besides.
+fn besides(rule: Rule) -> &'static [u8]
+    ensures value { result.now ≡ rule_line rule }
+    ensures len { length result.now ≤ 64 }
+{
+    match rule {
+        Rule::NoMethod => b"Allow: POST\r\n",
+        _ => b"",
+    }
+}
+
+// The date that a refusal shows.
+fn date_shown(date: Option<&[u8; 29]>, rule: Rule) -> Option<&[u8; 29]>
+    ensures { option_copied result ≡ date_shown (option_copied date.entry) rule }
+{
+    match rule {
+        Rule::ClockOutOfRange | Rule::Unavailable => None,
+        _ => date,
+    }
+}
+
+// The body of a refusal.
+fn error_body(rule: Rule) -> Text
+    ensures value { result ≡ body_of (error_object rule) }
+    ensures len { length result ≤ 64 }
+{
+    let mut body = Text::new();
+    body.push(b"[{\"acvVersion\":\"1.0\"},{\"error\":\"");
+    body.push(rule.word().as_bytes());
+    body.push(b"\"}]");
+    body
+}
+
+#[derive(Drop)]
+enum Bytes {
+    Short(Text),
+    Long(Vec<u8>),
+}
+
+/// The bytes of a reply.
+#[derive(Drop)]
+pub struct Reply {
+    bytes: Bytes,
+}
+
+impl Model for Reply {
+    ghost use Rattle.std.specs.Prelude.{List, ℕ};
+    ghost use Rattle.acvp_http.specs.ReplyBytes.{bytes_of};
+
+    ghost Value = { List ℕ };
+
+    ghost view = { λ r. bytes_of r.bytes };
+}
+
+// The reply that names a rule, with this date.
+#[tactic(auto, unfolding(crate::specs::Reply::framed))]
+fn refusal_text(date: Option<&[u8; 29]>, rule: Rule) -> Text
+    ensures { result ≡ framed (status_of rule) (option_copied date.entry) (rule_line rule) (body_of (error_object rule)) }
+{
+    let body = error_body(rule);
+    let mut text = head(rule.status(), date, besides(rule), body.len() as u64);
+    text.push(body.as_slice());
+    text
+}
+
+impl Reply {
+    /// The reply that names a rule. It takes no memory.
+    pub(crate) fn refusal(date: Option<&[u8; 29]>, rule: Rule) -> Reply
+        ensures { result ≡ refusal (option_copied date.entry) rule }
+    {
+        Reply {
+            bytes: Bytes::Short(refusal_text(date_shown(date, rule), rule)),
+        }
+    }
+
+    /// A reply of status 200 with this body.
+    #[tactic(auto, unfolding(crate::specs::Reply::framed))]
+    pub(crate) fn accepted(alloc: Global, date: &[u8; 29], body: &[u8]) -> Result<Reply, AllocError>
+        ensures { IfOk result (λ reply. reply ≡ framed 200 (Some date.now) [] body.now) }
+    {
+        let head = head(200, Some(date), b"", body.len() as u64);
+        let head = head.as_slice();
+        let mut bytes = Vec::with_capacity(alloc, head.len())?;
+        bytes.extend_from_slice(head)?;
+        bytes.extend_from_slice(body)?;
+        Ok(Reply {
+            bytes: Bytes::Long(bytes),
+        })
+    }
+
+    /// All the bytes, from the status line to the end of the body.
+    pub fn bytes(&self) -> &[u8]
+        ensures { result.now ≡ self.now }
+    {
+        match &self.bytes {
+            Bytes::Short(text) => text.as_slice(),
+            Bytes::Long(bytes) => bytes.as_slice(),
+        }
+    }
+}

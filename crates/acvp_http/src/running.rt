@@ -1,0 +1,97 @@
+//! A script from its bytes to the bytes of the replies.
+ghost use Rattle.std.specs.Prelude.{◌≡◌, ◌≤◌, ◌⊎◌, Bool, false};
+ghost use Rattle.acvp_http.specs.Event.{Answer};
+ghost use Rattle.acvp_http.specs.Reading.{event_of};
+ghost use Rattle.acvp_http.specs.Run.{RunsScript, GoesOn, is_read_answer, is_write_answer};
+ghost use Rattle.acvp_http.specs.Script.{answer_text};
+ghost use Rattle.acvp_http.specs.Serve.{Takes};
+ghost use Rattle.acvp_http.specs.Writing.{WritesText};
+
+use crate::desk::Desk;
+use crate::reading::{ScriptEvent, next_event, read_byte};
+use crate::routes::Routes;
+use crate::script::ScriptFault;
+use crate::serve::handle_bytes;
+use crate::source::{Sink, Source};
+use crate::writing::{write_order, write_reply};
+use std::alloc::Global;
+
+const MOST_EVENTS: u64 = 100000;
+
+// Handles an event, and writes its answer.
+fn take_turn<K: Sink>(
+    alloc: Global,
+    routes: &Routes,
+    desk: &mut Desk,
+    event: &ScriptEvent,
+    writer: &mut K,
+) -> Result<(), ScriptFault>
+    requires { K.failed writer.old ≡ false }
+    ensures keys { desk.new.keys ≡ desk.old.keys }
+    ensures turn { (marked : Bool) × (answer : Answer)
+        × Takes desk.old (record { event = event_of event.now; marked = marked }) desk.new.accounts answer
+        × WritesText (K.contents writer.old) (K.contents writer.new) (K.failed writer.new) (answer_text answer) result }
+{
+    match event {
+        ScriptEvent::Request { moment, bytes } => {
+            let reply = handle_bytes(alloc, routes, desk, *moment, bytes);
+            write_reply(writer, reply.bytes())
+        }
+        ScriptEvent::Order { moment, order } => {
+            let reply = desk.order(*moment, order);
+            write_order(writer, reply)
+        }
+    }
+}
+
+// Runs a script, and counts the reads that it takes.
+fn run_counted<S: Source, K: Sink>(
+    alloc: Global,
+    routes: &Routes,
+    desk: &mut Desk,
+    reader: &mut S,
+    writer: &mut K,
+    reads: &mut u64,
+) -> Result<u64, ScriptFault>
+    requires reader_clear { S.failed reader.old ≡ false }
+    requires writer_clear { K.failed writer.old ≡ false }
+    ensures keys { desk.new.keys ≡ desk.old.keys }
+    ensures run { RunsScript desk.old desk.new.accounts (S.held reader.old) (K.contents writer.old) (K.contents writer.new) result }
+    ensures limit { result ≡ Err ScriptFault.Limit → GoesOn (S.held reader.old) ⊎ (1000000000 ≤ reads.new) }
+    ensures read_fault { S.failed reader.new ≡ is_read_answer result }
+    ensures write_fault { K.failed writer.new ≡ is_write_answer result }
+{
+    for count in 0..MOST_EVENTS {
+        let Some(event) = next_event(alloc, reader, reads)? else {
+            return Ok(count);
+        };
+        take_turn(alloc, routes, desk, &event, writer)?;
+    }
+    match read_byte(reader, reads)? {
+        None => Ok(MOST_EVENTS),
+        Some(_) => Err(ScriptFault::Limit),
+    }
+}
+
+/// Runs a script. It ends at the input's end, or at the first fault; the event at fault isn't handled, but for a writer that fails,
+/// which does so after its event was handled. The number is how many events there were.
+pub fn run<S: Source, K: Sink>(
+    alloc: Global,
+    routes: &Routes,
+    desk: &mut Desk,
+    reader: &mut S,
+    writer: &mut K,
+) -> Result<u64, ScriptFault>
+    requires reader_clear { S.failed reader.old ≡ false }
+    requires writer_clear { K.failed writer.old ≡ false }
+    ensures keys { desk.new.keys ≡ desk.old.keys }
+    ensures run { RunsScript desk.old desk.new.accounts (S.held reader.old) (K.contents writer.old) (K.contents writer.new) result }
+    ensures read_fault { S.failed reader.new ≡ is_read_answer result }
+    ensures write_fault { K.failed writer.new ≡ is_write_answer result }
+{
+    let mut reads = 0;
+    run_counted(alloc, routes, desk, reader, writer, &mut reads)
+}
+
+#[cfg(test)]
+mod tests;

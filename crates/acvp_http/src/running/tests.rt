@@ -1,0 +1,240 @@
+//! Scripts over readers and writers in memory, some of which fail.
+
+use crate::{Desk, Flagged, Keys, Routes, ScriptFault, run};
+use std::alloc::{AllocError, Global};
+use std::io::{self, ErrorKind, Read, Write};
+use std::test::Fail;
+
+const KEYS: Keys = Keys {
+    token: [1; 32],
+    seed: [2; 32],
+};
+
+// The bytes from 0 to 31 in hex.
+const ORDERS: &[u8] =
+    b"account-add 0 7 000102030405060708090a0b0c0d0e0f101112131415161718191a1b1c1d1e1f\n\
+    account-add 1 7 000102030405060708090a0b0c0d0e0f101112131415161718191a1b1c1d1e1f\n\
+    account-disable 2 7\n\
+    account-disable 3 8\n";
+
+const ANSWERS: &[u8] = b"order done\norder taken\norder done\norder unknown\n";
+
+// What a run answered, whether its reader and its writer had failed, and its writer.
+#[derive(Drop)]
+struct Outcome<W> {
+    answer: Result<u64, ScriptFault>,
+    has_read_fault: bool,
+    has_write_fault: bool,
+    writer: W,
+}
+
+fn run_over<R: Read + Drop, W: Write + Drop>(
+    alloc: Global,
+    desk: &mut Desk,
+    reader: R,
+    writer: W,
+) -> Result<Outcome<W>, AllocError> {
+    let routes = Routes::new(alloc)?;
+    let mut reader = Flagged::new(reader);
+    let mut writer = Flagged::new(writer);
+    let answer = run(alloc, &routes, desk, &mut reader, &mut writer);
+    Ok(Outcome {
+        answer,
+        has_read_fault: reader.failed(),
+        has_write_fault: writer.failed(),
+        writer: writer.into_inner(),
+    })
+}
+
+// Gives a byte at a time, and fails once, before the byte at this place.
+#[derive(Drop)]
+struct FailsOnce<'a> {
+    bytes: &'a [u8],
+    place: usize,
+    fault: Option<ErrorKind>,
+}
+
+impl Read for FailsOnce<'_> {
+    fn read(&mut self, buf: &mut [u8]) -> io::Result<usize> {
+        if self.place == 0
+            && let Some(kind) = self.fault.take()
+        {
+            return Err(io::Error::from(kind));
+        }
+        match (self.bytes.split_first(), buf.first_mut()) {
+            (Some((first, rest)), Some(slot)) => {
+                *slot = *first;
+                self.bytes = rest;
+                self.place = self.place.saturating_sub(1);
+                Ok(1)
+            }
+            _ => Ok(0),
+        }
+    }
+}
+
+// Takes a byte at a time, and fails once it holds so many.
+#[derive(Drop)]
+struct Narrow {
+    held: Vec<u8>,
+    room: usize,
+}
+
+impl Write for Narrow {
+    fn write(&mut self, buf: &[u8]) -> io::Result<usize> {
+        match buf.first() {
+            None => Ok(0),
+            Some(_) if self.held.len() >= self.room => Err(io::Error::from(ErrorKind::BrokenPipe)),
+            Some(byte) => {
+                self.held.push(*byte)?;
+                Ok(1)
+            }
+        }
+    }
+
+    fn flush(&mut self) -> io::Result<()> {
+        Ok(())
+    }
+}
+
+#[test]
+fn orders_are_answered(rt: HostRuntime) -> Result<(), Fail> {
+    let mut desk = Desk::new(rt.alloc(), KEYS);
+    let outcome = run_over(rt.alloc(), &mut desk, ORDERS, Vec::new(rt.alloc()))?;
+    assert_eq!(rt; outcome.answer, Ok(4));
+    assert_eq!(rt; outcome.writer.as_slice(), ANSWERS);
+    assert!(rt; !outcome.has_read_fault && !outcome.has_write_fault);
+    let account = desk.accounts.row(7).ok_or("no account")?;
+    assert_eq!(rt; account.secret[31], 31);
+    assert!(rt; !account.enabled);
+    let outcome = run_over(rt.alloc(), &mut desk, b"".as_slice(), Vec::new(rt.alloc()))?;
+    assert_eq!(rt; outcome.answer, Ok(0));
+    Ok(())
+}
+
+#[test]
+fn hex_digits_of_either_case_are_read(rt: HostRuntime) -> Result<(), Fail> {
+    let script: &[u8] = b"account-add 9999999999999999999 9999 \
+        ABCDEFabcdef0102030405060708090A0B0C0D0E0F101112131415161718191A\n";
+    let mut desk = Desk::new(rt.alloc(), KEYS);
+    let outcome = run_over(rt.alloc(), &mut desk, script, Vec::new(rt.alloc()))?;
+    assert_eq!(rt; outcome.answer, Ok(1));
+    let account = desk.accounts.row(9999).ok_or("no account")?;
+    assert!(rt; account.secret.starts_with(&[0xab, 0xcd, 0xef, 0xab]));
+    Ok(())
+}
+
+#[test]
+fn other_lines_are_refused(rt: HostRuntime) -> Result<(), Fail> {
+    for line in [
+        "request 59",
+        "request 59\n",
+        "request 59 4194305\n",
+        "request 59 3\nab",
+        "request 59 3\nabc",
+        "request 59 3\nabcd\n",
+        "account-disable 2  7\n",
+        "account-disable 2 7 \n",
+        "account-disable 02 7\n",
+        "account-disable 2 07\n",
+        "account-disable 2 0\n",
+        "account-disable 2 10000\n",
+        "account-disable 10000000000000000000 7\n",
+        "account-disable 2 7\r\n",
+        "account-disable 2 7",
+        "account-add 2 7 00\n",
+        "request-approve 2 7\n",
+        "\n",
+        "account-add 9999999999999999999 9999 \
+         00000000000000000000000000000000000000000000000000000000000000000\n",
+    ] {
+        let mut script = ORDERS.to_vec(rt.alloc())?;
+        script.extend_from_slice(line.as_bytes())?;
+        let mut desk = Desk::new(rt.alloc(), KEYS);
+        let outcome = run_over(
+            rt.alloc(),
+            &mut desk,
+            script.as_slice(),
+            Vec::new(rt.alloc()),
+        )?;
+        assert_eq!(rt; outcome.answer, Err(ScriptFault::Syntax), "at {line:?}");
+        assert_eq!(rt; outcome.writer.as_slice(), ANSWERS, "at {line:?}");
+    }
+    Ok(())
+}
+
+#[test]
+fn a_failed_read_ends_the_run(rt: HostRuntime) -> Result<(), Fail> {
+    let reader = FailsOnce {
+        bytes: ORDERS,
+        place: 170,
+        fault: Some(ErrorKind::ConnectionReset),
+    };
+    let mut desk = Desk::new(rt.alloc(), KEYS);
+    let outcome = run_over(rt.alloc(), &mut desk, reader, Vec::new(rt.alloc()))?;
+    assert_eq!(rt; outcome.answer, Err(ScriptFault::Read));
+    assert!(rt; outcome.has_read_fault && !outcome.has_write_fault);
+    assert_eq!(rt;
+        outcome.writer.as_slice(),
+        b"order done\norder taken\n".as_slice()
+    );
+    Ok(())
+}
+
+#[test]
+fn an_interrupted_read_is_tried_again(rt: HostRuntime) -> Result<(), Fail> {
+    let reader = FailsOnce {
+        bytes: ORDERS,
+        place: 170,
+        fault: Some(ErrorKind::Interrupted),
+    };
+    let writer = Narrow {
+        held: Vec::new(rt.alloc()),
+        room: usize::MAX,
+    };
+    let mut desk = Desk::new(rt.alloc(), KEYS);
+    let outcome = run_over(rt.alloc(), &mut desk, reader, writer)?;
+    assert_eq!(rt; outcome.answer, Ok(4));
+    assert!(rt; !outcome.has_read_fault);
+    assert_eq!(rt; outcome.writer.held.as_slice(), ANSWERS);
+    Ok(())
+}
+
+#[test]
+fn a_failed_write_ends_the_run(rt: HostRuntime) -> Result<(), Fail> {
+    let writer = Narrow {
+        held: Vec::new(rt.alloc()),
+        room: 25,
+    };
+    let mut desk = Desk::new(rt.alloc(), KEYS);
+    let outcome = run_over(rt.alloc(), &mut desk, ORDERS, writer)?;
+    assert_eq!(rt; outcome.answer, Err(ScriptFault::Write));
+    assert!(rt; outcome.has_write_fault && !outcome.has_read_fault);
+    assert_eq!(rt;
+        outcome.writer.held.as_slice(),
+        b"order done\norder taken\nor".as_slice()
+    );
+    let account = desk.accounts.row(7).ok_or("no account")?;
+    assert!(rt; !account.enabled);
+    Ok(())
+}
+
+// The code is that of RFC 6238 for second 59 and SHA-256. It is two steps old at second 90.
+#[test]
+fn a_request_is_answered(rt: HostRuntime) -> Result<(), Fail> {
+    let script: &[u8] =
+        b"account-add 0 7 3132333435363738393031323334353637383930313233343536373839303132\n\
+        request 90 126\n\
+        POST /acvp/v1/login HTTP/1.1\r\nHost: localhost\r\nContent-Length: 57\r\n\r\n\
+        [{\"acvVersion\":\"1.0\"},{\"password\":\"46119246\",\"user\":\"7\"}]\n";
+    let output: &[u8] = b"order done\n\
+        reply 181\n\
+        HTTP/1.1 403 Forbidden\r\nDate: Thu, 01 Jan 1970 00:01:30 GMT\r\n\
+        Content-Type: application/json\r\nContent-Length: 47\r\nConnection: close\r\n\r\n\
+        [{\"acvVersion\":\"1.0\"},{\"error\":\"loginRefused\"}]\n";
+    let mut desk = Desk::new(rt.alloc(), KEYS);
+    let outcome = run_over(rt.alloc(), &mut desk, script, Vec::new(rt.alloc()))?;
+    assert_eq!(rt; outcome.answer, Ok(2));
+    assert_eq!(rt; outcome.writer.as_slice(), output);
+    Ok(())
+}

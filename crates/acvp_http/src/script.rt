@@ -1,0 +1,166 @@
+//! The lines of a script.
+ghost use Rattle.std.specs.Prelude.{◌≡◌, ◌≢◌, ◌++◌, ◌∷◌, ◌≤◌, ℕ, List, MatchOption, decimal};
+ghost use Rattle.acvp_http.specs.Script.{IsAccountNumber, IsSecretText};
+ghost use Rattle.acvp_http.specs.Lines.{Lacks, IsMoment, IsRequestTail, IsAddTail, IsDisableTail, IsLine, word_of};
+ghost use Rattle.acvp_http.specs.declared.script.Line.{Line};
+ghost use Rattle.acvp_http.specs.declared.script.Command.{Command};
+
+use crate::number::plain_number;
+use crate::records::Order;
+
+const REQUEST: &[u8] = b"request";
+
+const ADD: &[u8] = b"account-add";
+
+const DISABLE: &[u8] = b"account-disable";
+
+const GREATEST_ACCOUNT: u64 = 9999;
+
+const LONGEST_REQUEST: u64 = 4194304;
+
+/// Why the run of a script has stopped before its end.
+#[derive(Clone, Copy, PartialEq, Eq, Debug)]
+pub enum ScriptFault {
+    /// The reader has failed.
+    Read,
+    /// The writer has failed.
+    Write,
+    /// The input isn't a script.
+    Syntax,
+    /// The input has more than 100000 events, or took 1000000000 reads.
+    Limit,
+    /// Memory was refused for a request's bytes.
+    Memory,
+}
+
+/// What a line of a script says. The bytes of a request come after its line.
+#[derive(Clone, Copy, PartialEq, Eq)]
+pub(crate) enum Line {
+    Request { moment: u64, length: u64 },
+    Order { moment: u64, order: Order },
+}
+
+// What stands before the first space, and after it.
+fn split_at_space(text: &[u8]) -> Option<(&[u8], &[u8])>
+    ensures { MatchOption result (Lacks 32 text.now)
+        (λ parts. Lacks 32 parts.0.now × (text.now ≡ parts.0.now ++ 32 ∷ parts.1.now)) }
+{
+    for (i, byte) in text.iter().enumerate() {
+        if *byte == b' ' {
+            return Some((&text[..i], &text[i + 1..]));
+        }
+    }
+    None
+}
+
+fn read_account(text: &[u8]) -> Option<u16>
+    ensures { MatchOption result ((account : ℕ) → IsAccountNumber account → text.now ≢ decimal account)
+        (λ account. IsAccountNumber account × (text.now ≡ decimal account)) }
+{
+    let account = plain_number(text)?;
+    if account < 1 || account > GREATEST_ACCOUNT {
+        return None;
+    }
+    Some(account as u16)
+}
+
+fn read_secret(text: &[u8]) -> Option<[u8; 32]>
+    ensures { MatchOption result ((secret : List ℕ) → IsSecretText text.now secret → ⊥)
+        (λ secret. IsSecretText text.now secret) }
+{
+    let mut secret = [0; 32];
+    match hex::decode_to_slice(text, &mut secret) {
+        Ok(()) => Some(secret),
+        Err(_) => None,
+    }
+}
+
+// A moment, and what stands after its space.
+fn read_moment(text: &[u8]) -> Option<(u64, &[u8])>
+    ensures { MatchOption result ((moment : ℕ) (rest : List ℕ) → IsMoment moment rest text.now → ⊥)
+        (λ parts. IsMoment parts.0 parts.1.now text.now) }
+{
+    let (moment, rest) = split_at_space(text)?;
+    Some((plain_number(moment)?, rest))
+}
+
+// The moment and the number of bytes of a request.
+fn read_request(text: &[u8]) -> Option<(u64, u64)>
+    ensures { MatchOption result ((moment size : ℕ) → IsRequestTail moment size text.now → ⊥)
+        (λ numbers. IsRequestTail numbers.0 numbers.1 text.now) }
+{
+    let (moment, rest) = read_moment(text)?;
+    let length = plain_number(rest)?;
+    if length > LONGEST_REQUEST {
+        return None;
+    }
+    Some((moment, length))
+}
+
+// The moment of an order, the account's number and its secret.
+fn read_add(text: &[u8]) -> Option<(u64, u16, [u8; 32])>
+    ensures { MatchOption result
+        ((moment account : ℕ) (secret : List ℕ) → IsAddTail moment account secret text.now → ⊥)
+        (λ parts. IsAddTail parts.0 parts.1 parts.2 text.now) }
+{
+    let (moment, rest) = read_moment(text)?;
+    let (account, secret) = split_at_space(rest)?;
+    let account = read_account(account)?;
+    let secret = read_secret(secret)?;
+    Some((moment, account, secret))
+}
+
+// The moment of an order, and the account's number.
+fn read_disable(text: &[u8]) -> Option<(u64, u16)>
+    ensures { MatchOption result ((moment account : ℕ) → IsDisableTail moment account text.now → ⊥)
+        (λ parts. IsDisableTail parts.0 parts.1 text.now) }
+{
+    let (moment, rest) = read_moment(text)?;
+    let account = read_account(rest)?;
+    Some((moment, account))
+}
+
+// The first word of a line.
+#[derive(Clone, Copy, PartialEq, Eq)]
+enum Command {
+    Request,
+    AddAccount,
+    DisableAccount,
+}
+
+fn command_of(word: &[u8]) -> Option<Command>
+    ensures { MatchOption result ((command : Command) → word.now ≢ word_of command) (λ command. word.now ≡ word_of command) }
+{
+    if word == REQUEST {
+        Some(Command::Request)
+    } else if word == ADD {
+        Some(Command::AddAccount)
+    } else if word == DISABLE {
+        Some(Command::DisableAccount)
+    } else {
+        None
+    }
+}
+
+/// Reads a line, which is given without its line feed.
+pub(crate) fn read_line(line: &[u8]) -> Option<Line>
+    ensures { MatchOption result ((other : Line) → IsLine other line.now → ⊥) (λ said. IsLine said line.now) }
+{
+    let (word, rest) = split_at_space(line)?;
+    match command_of(word)? {
+        Command::Request => {
+            let (moment, length) = read_request(rest)?;
+            Some(Line::Request { moment, length })
+        }
+        Command::AddAccount => {
+            let (moment, account, secret) = read_add(rest)?;
+            let order = Order::AddAccount { account, secret };
+            Some(Line::Order { moment, order })
+        }
+        Command::DisableAccount => {
+            let (moment, account) = read_disable(rest)?;
+            let order = Order::DisableAccount { account };
+            Some(Line::Order { moment, order })
+        }
+    }
+}

@@ -1,0 +1,16 @@
+pub mod ClaimsJson
+pub mod TokenText
+pub mod Splitting
+pub mod Reads
+pub mod Faults
+pub mod Verdict
+pub mod Opening
+pub mod ClaimsWriting
+pub mod ClaimsReading
+pub use Rattle.base64.specs.Engines
+pub use Rattle.base64.specs.GeneralPurpose
+pub use Rattle.serde_json.specs.Data
+pub use Rattle.serde_json.specs.Find
+pub use Rattle.serde_json.specs.Read
+pub use Rattle.serde_json.specs.Written
+pub use Rattle.acvp_mac.specs.Hmac
