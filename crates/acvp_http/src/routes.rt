@@ -49,7 +49,8 @@ fn look_up(router: &Router<Path>, path: &str) -> Option<Path>
 }
 
 impl Routes {
-    /// The table of the protocol's paths.
+    /// The table of the protocol's paths, which the type's invariant pins: there is no other. That it
+    /// succeeds where memory is there is only tested.
     pub fn new(alloc: Global) -> Result<Routes, AllocError> {
         let mut router = Router::new(alloc);
         match router.insert("/acvp/v1/login", Path::Login) {

@@ -4,7 +4,7 @@ use Rattle.std.specs.Int.{w32, w64, from_be_bytes, to_be_bytes}
 use Rattle.acvp_mac.specs.declared.HashName.TheVariants.{Sha256}
 use Rattle.acvp_mac.specs.Hmac.{hmac_of}
 
--- the time step of a moment: X is 30 seconds and T0 is 0 (RFC 6238, section 4.2)
+-- the time step of a moment, of 30 seconds each from 1970 on (RFC 6238)
 abbrev pub step_of : ℕ → ℕ
 step_of moment = moment / 30
 
