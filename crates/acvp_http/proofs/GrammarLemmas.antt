@@ -1,5 +1,5 @@
 -- Lemmas on input that leaves the grammar of scripts.
-use Rattle.std.proofs.Common.{◌≡◌, ◌≢◌, ℕ, List, [], ◌∷◌, ◌++◌, length, decimal, Option, Some, None, IfSome, Bool, arith, sym, ◌∙◌, ap, append_assoc, length-append}
+use Rattle.std.proofs.Common.{◌≡◌, ◌≢◌, ℕ, List, [], ◌∷◌, ◌++◌, length, decimal, Option, Some, None, IfSome, Bool, arith, sym, ◌∙◌, ap, refl, append_assoc, append-nil, length-append}
 use Rattle.std.specs.Io.KnownBytes.{Consumes}
 use Rattle.acvp_http.specs.declared.records.Order.{Order}
 use Rattle.acvp_http.specs.declared.records.Order.TheVariants as kind
@@ -8,11 +8,12 @@ use Rattle.acvp_http.specs.declared.script.Line.{Line}
 use Rattle.acvp_http.specs.declared.script.Line.TheVariants as line
 use Rattle.acvp_http.specs.declared.script.ScriptFault.{ScriptFault}
 use Rattle.acvp_http.specs.declared.script.ScriptFault.TheVariants.{Read, Write, Syntax, Limit, Memory}
-use Rattle.acvp_http.specs.Event.{Event, request, order}
+use Rattle.acvp_http.specs.Event.{request, order}
 use Rattle.acvp_http.specs.Lines.{Lacks, IsLine, word_of}
-use Rattle.acvp_http.specs.Reading.{HasNoLine, HasNoBody, StopsLine, StopsBody, StopsEvent}
-use Rattle.acvp_http.specs.Script.{IsWritten, LeavesGrammar}
-use Rattle.acvp_http.proofs.LineLemmas.{cut_same, word_is, same_moment, word_lacks}
+use Rattle.acvp_http.specs.Reading.{HasNoLine, HasNoBody, TakesPart, StopsLine, StopsBody, StopsEvent}
+use Rattle.acvp_http.specs.Script.{HasNoEvent, LeavesGrammar}
+use Rattle.acvp_http.proofs.KnownLemmas.{consumes_consumes}
+use Rattle.acvp_http.proofs.LineLemmas.{not_lacks, cut_same, word_is, same_moment, word_lacks}
 use Rattle.std.proofs.lemmas.Fmt.{decimal_injective}
 use Rattle.acvp_http.proofs.EventLemmas.{event_front, line_lacks, line_short, request_parts, order_parts}
 
@@ -21,6 +22,13 @@ not_empty : (xs text rest : List ℕ) → xs ≡ (text ++ 10 ∷ []) ++ rest →
 not_empty xs text rest is none =
     let size : length ((text ++ 10 ∷ []) ++ rest) ≡ length {A = ℕ} [] = ap length (sym is ∙ none) in
     omega (arith, length-append (text ++ 10 ∷ []) rest, length-append text (10 ∷ []))
+
+-- no line feed, so no event
+pub no_event_lacks : (part : List ℕ) → Lacks 10 part → HasNoEvent part
+no_event_lacks part lacks = λ e front more written is.
+    let (said, text, tail, line, front-is) = event_front e front written in
+    let whole : part ≡ text ++ 10 ∷ (tail ++ more) = is ∙ ap (λ f. f ++ more) front-is ∙ append_assoc text (10 ∷ tail) more in
+    not_lacks 10 text (tail ++ more) (rw whole at lacks)
 
 -- no line, so no event
 leaves_without_line : (xs : List ℕ) → HasNoLine xs → LeavesGrammar xs
@@ -44,17 +52,43 @@ line_at_front xs text rest said-text tail more front lacks lacks' is front-is is
     let right : xs ≡ said-text ++ 10 ∷ (tail ++ more) = is' ∙ rw front-is (append_assoc said-text (10 ∷ tail) more) in
     cut_same 10 text rest said-text (tail ++ more) lacks lacks' (sym left ∙ right)
 
--- a line that says nothing
+-- a line that says nothing, so no event
+nothing_said : (xs ys text : List ℕ) → xs ≡ (text ++ 10 ∷ []) ++ ys → Lacks 10 text → ((said : Line) → IsLine said text → ⊥) → HasNoEvent xs
+nothing_said xs ys text consumed lacks none = λ e front more written is.
+    let (said, said-text, tail, line, front-is) = event_front e front written in
+    let same : text ≡ said-text = (line_at_front xs text ys said-text tail more front lacks (line_lacks said said-text line) consumed front-is is).0 in
+    none said (rw same line)
+
 pub no_line_said : (a b : Option (List ℕ)) (text : List ℕ) → Consumes a b (text ++ 10 ∷ []) → Lacks 10 text → ((said : Line) → IsLine said text → ⊥) → IfSome a LeavesGrammar
 no_line_said None b text consumed lacks none = tt
 no_line_said (Some xs) None text consumed lacks none = absurd consumed
-no_line_said (Some xs) (Some ys) text consumed lacks none = (
-  not_empty xs text ys consumed,
-  λ e front more written is.
-      let (said, said-text, tail, line, front-is) = event_front e front written in
-      let same : text ≡ said-text = (line_at_front xs text ys said-text tail more front lacks (line_lacks said said-text line) consumed front-is is).0 in
-      none said (rw same line),
-)
+no_line_said (Some xs) (Some ys) text consumed lacks none = (not_empty xs text ys consumed, nothing_said xs ys text consumed lacks none)
+
+pub nothing_said_alone : (text : List ℕ) → Lacks 10 text → ((said : Line) → IsLine said text → ⊥) → HasNoEvent (text ++ 10 ∷ [])
+nothing_said_alone text lacks none = nothing_said (text ++ 10 ∷ []) [] text (sym (append-nil (text ++ 10 ∷ []))) lacks none
+
+empty_list : (text : List ℕ) → length text ≡ 0 → text ≡ []
+empty_list [] none = refl
+empty_list (x ∷ text) none = absurd (omega arith)
+
+no_gap : (word rest : List ℕ) → [] ≡ word ++ 32 ∷ rest → ⊥
+no_gap word rest is =
+    let size : length {A = ℕ} [] ≡ length (word ++ 32 ∷ rest) = ap length is in
+    omega (arith, length-append word (32 ∷ rest))
+
+-- one byte is no event
+no_line_empty : (said : Line) → IsLine said [] → ⊥
+no_line_empty (line.Request m n) (rest, is, tail) = no_gap (word_of command.Request) rest is
+no_line_empty (line.Order m (kind.AddAccount account secret)) (rest, is, tail) = no_gap (word_of command.AddAccount) rest is
+no_line_empty (line.Order m (kind.DisableAccount account)) (rest, is, tail) = no_gap (word_of command.DisableAccount) rest is
+
+pub no_event_byte : (byte : ℕ) → HasNoEvent (byte ∷ [])
+no_event_byte byte = λ e front more written is.
+    let (said, text, tail, line, front-is) = event_front e front written in
+    let whole : byte ∷ [] ≡ text ++ 10 ∷ (tail ++ more) = is ∙ ap (λ f. f ++ more) front-is ∙ append_assoc text (10 ∷ tail) more in
+    let size : length (byte ∷ []) ≡ length (text ++ 10 ∷ (tail ++ more)) = ap length whole in
+    let empty : length text ≡ 0 = omega (arith, length-append text (10 ∷ (tail ++ more))) in
+    no_line_empty said (rw (empty_list text empty) at line)
 
 -- one line doesn't say two sizes
 one_size : (text : List ℕ) (m n m' n' : ℕ) → IsLine (line.Request m n) text → IsLine (line.Request m' n') text → n ≡ n'
@@ -70,7 +104,7 @@ not_order text m n m' (kind.DisableAccount account) (rest, is, tail) (rest', is'
     let same : word_of command.Request ≡ word_of command.DisableAccount = (word_is text (word_of command.Request) rest rest' command.DisableAccount (word_lacks command.Request, is) is').0 in cc
 
 -- a request's line without its bytes
-no_bytes : (xs ys text : List ℕ) (m n : ℕ) → xs ≡ (text ++ 10 ∷ []) ++ ys → IsLine (line.Request m n) text → HasNoBody n ys → (e : Event) (front more : List ℕ) → IsWritten e front → xs ≡ front ++ more → ⊥
+no_bytes : (xs ys text : List ℕ) (m n : ℕ) → xs ≡ (text ++ 10 ∷ []) ++ ys → IsLine (line.Request m n) text → HasNoBody n ys → HasNoEvent xs
 no_bytes xs ys text m n consumed says none (request m' bytes) front more written is =
     let (said-text, line', front-is) = request_parts m' bytes front written in
     let same = line_at_front xs text ys said-text (bytes ++ 10 ∷ []) more front (line_lacks (line.Request m n) text says) (line_lacks (line.Request m' (length bytes)) said-text line') consumed front-is is in
@@ -87,18 +121,28 @@ no_body_said None b text m n consumed line none = tt
 no_body_said (Some xs) None text m n consumed line none = absurd consumed
 no_body_said (Some xs) (Some ys) text m n consumed line none = (not_empty xs text ys consumed, no_bytes xs ys text m n consumed line none)
 
+pub no_bytes_alone : (text part : List ℕ) (m n : ℕ) → IsLine (line.Request m n) text → HasNoBody n part → HasNoEvent ((text ++ 10 ∷ []) ++ part)
+no_bytes_alone text part m n says none = no_bytes ((text ++ 10 ∷ []) ++ part) part text m n refl says none
+
 -- why no line was read is why no event was
-pub stops_line : (held : Option (List ℕ)) (fault : ScriptFault) (failed : Bool) (reads : ℕ) → StopsLine held fault failed reads → StopsEvent held fault failed reads
-stops_line held Read failed reads stops = stops
-stops_line held Write failed reads stops = stops
-stops_line held Syntax failed reads stops = (stops.0, no_line_leaves held stops.1)
-stops_line held Limit failed reads stops = stops
-stops_line held Memory failed reads stops = absurd stops
+pub stops_line : (a b : Option (List ℕ)) (fault : ScriptFault) (failed : Bool) (reads limit : ℕ) →
+    StopsLine a fault failed reads limit × TakesPart a b (Lacks 10) → StopsEvent a fault failed reads limit × TakesPart a b HasNoEvent
+stops_line a b Read failed reads limit (stops, (part, taken, lacks)) = (stops, (part, taken, no_event_lacks part lacks))
+stops_line a b Write failed reads limit (stops, taken) = absurd stops
+stops_line a b Syntax failed reads limit (stops, (part, taken, lacks)) = ((stops.0, no_line_leaves a stops.1), (part, taken, no_event_lacks part lacks))
+stops_line a b Limit failed reads limit (stops, (part, taken, lacks)) = (stops, (part, taken, no_event_lacks part lacks))
+stops_line a b Memory failed reads limit (stops, taken) = absurd stops
 
 -- why no bytes were read after a request's line is why no event was
-pub stops_body : (a b : Option (List ℕ)) (text : List ℕ) (m n : ℕ) (fault : ScriptFault) (failed : Bool) (reads : ℕ) → Consumes a b (text ++ 10 ∷ []) → IsLine (line.Request m n) text → StopsBody n b fault failed reads → StopsEvent a fault failed reads
-stops_body a b text m n Read failed reads consumed line stops = stops
-stops_body a b text m n Write failed reads consumed line stops = stops
-stops_body a b text m n Syntax failed reads consumed line stops = (stops.0, no_body_said a b text m n consumed line stops.1)
-stops_body a b text m n Limit failed reads consumed line stops = stops
-stops_body a b text m n Memory failed reads consumed line stops = stops
+stops_body_part : (a b c : Option (List ℕ)) (text : List ℕ) (m n : ℕ) → Consumes a b (text ++ 10 ∷ []) → IsLine (line.Request m n) text → TakesPart b c (HasNoBody n) → TakesPart a c HasNoEvent
+stops_body_part a b c text m n consumed says (part, taken, none) =
+    ((text ++ 10 ∷ []) ++ part, consumes_consumes a b c (text ++ 10 ∷ []) part consumed taken, no_bytes_alone text part m n says none)
+
+pub stops_body : (a b c : Option (List ℕ)) (text : List ℕ) (m n : ℕ) (fault : ScriptFault) (failed : Bool) (reads limit : ℕ) → Consumes a b (text ++ 10 ∷ []) → IsLine (line.Request m n) text →
+    StopsBody n b fault failed reads limit × TakesPart b c (HasNoBody n) → StopsEvent a fault failed reads limit × TakesPart a c HasNoEvent
+stops_body a b c text m n Read failed reads limit consumed line (stops, taken) = (stops, stops_body_part a b c text m n consumed line taken)
+stops_body a b c text m n Write failed reads limit consumed line (stops, taken) = absurd stops
+stops_body a b c text m n Syntax failed reads limit consumed line (stops, taken) =
+    ((stops.0, no_body_said a b text m n consumed line stops.1), stops_body_part a b c text m n consumed line taken)
+stops_body a b c text m n Limit failed reads limit consumed line (stops, taken) = (stops, stops_body_part a b c text m n consumed line taken)
+stops_body a b c text m n Memory failed reads limit consumed line (stops, taken) = (stops, stops_body_part a b c text m n consumed line taken)

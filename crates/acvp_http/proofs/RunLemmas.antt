@@ -2,16 +2,16 @@
 use Rattle.std.proofs.Common.{◌≡◌, ◌<◌, ◌+◌, ℕ, List, [], ◌∷◌, ◌++◌, length, Option, None, Some, Err, subst, arith, sym, ◌∙◌, ap, refl, append_assoc, length-append}
 use Rattle.std.proofs.lemmas.List.{append-nil}
 use Rattle.std.specs.Io.KnownBytes.{Appends, Consumes}
-use Rattle.std.specs.Prelude.{⊤}
 use Rattle.acvp_http.specs.declared.records.Account.{Account}
 use Rattle.acvp_http.specs.declared.records.Keys.{Keys}
 use Rattle.acvp_http.specs.declared.script.ScriptFault.{ScriptFault}
 use Rattle.acvp_http.specs.declared.script.ScriptFault.TheVariants.{Write}
 use Rattle.acvp_http.specs.Event.{Event, Answer, Turn, Held}
-use Rattle.acvp_http.specs.Script.{IsScript, IsWritten, answer_text, output_of}
+use Rattle.acvp_http.specs.Script.{IsScript, IsWritten, HasNoEvent, answer_text, output_of}
 use Rattle.acvp_http.specs.Serve.{Runs, Takes, with_accounts}
+use Rattle.acvp_http.specs.Reading.{TakesPart}
 use Rattle.acvp_http.specs.Writing.{AppendsFront}
-use Rattle.acvp_http.specs.Run.{events_of, BeginsWith, RunsScript}
+use Rattle.acvp_http.specs.Run.{events_of, TakesInPart, RunsScript}
 use Rattle.acvp_http.proofs.KnownLemmas.{consumes_consumes, consumes_nothing}
 use Rattle.acvp_http.proofs.WritingLemmas.{appends_appends}
 
@@ -85,24 +85,23 @@ ran_more held now next input left left' old new new' count turn answer front ran
   appended = rw (output_more ran.answers answer) (appends_appends old new new' (output_of ran.answers) (answer_text answer) ran.appended appended);
 }
 
--- the input begins with what was consumed
-pub begins : (input left : Option (List ℕ)) (text : List ℕ) → Consumes input left text → BeginsWith input text (λ rest. ⊤)
-begins None left text consumed = tt
-begins (Some xs) None text consumed = absurd consumed
-begins (Some xs) (Some ys) text consumed = (ys, consumed, tt)
+-- what was taken behind the turns holds no whole event
+pub ran_in_part : (held : Held) (accounts : List Account) (input left left' old new : Option (List ℕ)) (count : ℕ) (ran : Ran held accounts input left old new count) → TakesPart left left' HasNoEvent → TakesInPart input left' ran.text
+ran_in_part held accounts input left left' old new count ran (part, taken, none) =
+    (part, none, consumes_consumes input left left' ran.text part ran.consumed taken)
 
 -- the writer fails in a turn's answer
 pub ran_writes : (held now : Held) (next : List Account) (input left left' old new new' : Option (List ℕ)) (count : ℕ) (turn : Turn) (answer : Answer) (front : List ℕ) (fault : ScriptFault) →
     Ran held now.accounts input left old new count → count < 100000 → now.keys ≡ held.keys → IsWritten turn.event front → Consumes left left' front → Takes now turn next answer → fault ≡ Write → AppendsFront new new' (answer_text answer) →
-    RunsScript held next input old new' (Err fault)
+    RunsScript held next input left' old new' (Err fault)
 ran_writes held now next input left left' old new new' count turn answer front fault ran few same written consumed takes is (start, rest, parts, appended) =
-    let result : RunsScript held next input old new' (Err Write) = (
+    let result : RunsScript held next input left' old new' (Err Write) = (
       ran.turns ++ turn ∷ [],
       ran.answers ++ answer ∷ [],
       ran.text ++ front,
       runs_more held ran.turns now.accounts next ran.answers turn answer ran.runs (takes_again held now turn next answer same takes),
       rw (events_more ran.turns turn) (script_more (events_of ran.turns) ran.text front turn.event ran.script written),
-      begins input left' (ran.text ++ front) (consumes_consumes input left left' ran.text front ran.consumed consumed),
+      consumes_consumes input left left' ran.text front ran.consumed consumed,
       (ran.answers, answer, refl, (start, rest, parts, appends_appends old new new' (output_of ran.answers) start ran.appended appended)),
       omega (arith, length-append ran.turns (turn ∷ []), ran.size),
     ) in

@@ -1,11 +1,11 @@
 -- The run of a script: what it makes of the records and of the input, and what it writes.
-use Rattle.std.specs.Prelude.{◌≡◌, ◌≢◌, ◌≤◌, ℕ, List, [], ◌∷◌, ◌++◌, length, map, Bool, true, false, Option, None, Some, Result, Ok, Err, ⊤}
-use Rattle.std.specs.Io.KnownBytes.{Appends}
+use Rattle.std.specs.Prelude.{◌≡◌, ◌≢◌, ◌≤◌, ℕ, ◌+◌, ◌-◌, ◌^◌, min, List, [], ◌∷◌, ◌++◌, length, map, Bool, true, false, Option, None, Some, Result, Ok, Err, ⊤}
+use Rattle.std.specs.Io.KnownBytes.{Appends, Consumes, IsAtEnd}
 use Rattle.acvp_http.specs.declared.records.Account.{Account}
 use Rattle.acvp_http.specs.declared.script.ScriptFault.{ScriptFault}
 use Rattle.acvp_http.specs.declared.script.ScriptFault.TheVariants.{Read, Write, Syntax, Limit, Memory}
 use Rattle.acvp_http.specs.Event.{Event, Answer, Turn, Held}
-use Rattle.acvp_http.specs.Script.{IsScript, LeavesGrammar, answer_text, output_of}
+use Rattle.acvp_http.specs.Script.{IsScript, HasNoEvent, LeavesGrammar, answer_text, output_of}
 use Rattle.acvp_http.specs.Serve.{Runs}
 
 -- the events of the turns
@@ -17,14 +17,18 @@ abbrev pub BeginsWith : Option (List ℕ) → List ℕ → (List ℕ → Type 0)
 BeginsWith None text After = ⊤
 BeginsWith (Some input) text After = (rest : List ℕ) × (input ≡ text ++ rest) × After rest
 
--- what comes after the script of the turns, and how many they are
-abbrev pub StopsAfter : Option (List ℕ) → List Turn → List ℕ → Result ℕ ScriptFault → Type 0
-StopsAfter input turns text (Ok count) = (count ≡ length turns) × BeginsWith input text (λ rest. rest ≡ [])
-StopsAfter input turns text (Err Syntax) = BeginsWith input text LeavesGrammar
-StopsAfter input turns text (Err Read) = BeginsWith input text (λ rest. ⊤)
-StopsAfter input turns text (Err Write) = BeginsWith input text (λ rest. ⊤)
-StopsAfter input turns text (Err Limit) = BeginsWith input text (λ rest. ⊤)
-StopsAfter input turns text (Err Memory) = BeginsWith input text (λ rest. ⊤)
+-- Behind the text, what was taken of the known input holds no whole event.
+abbrev pub TakesInPart : Option (List ℕ) → Option (List ℕ) → List ℕ → Type 0
+TakesInPart input left text = (part : List ℕ) × HasNoEvent part × Consumes input left (text ++ part)
+
+-- how much of the input was taken by a run whose turns have this script, what comes after the script, and how many turns there are
+abbrev pub StopsAfter : Option (List ℕ) → Option (List ℕ) → List Turn → List ℕ → Result ℕ ScriptFault → Type 0
+StopsAfter input left turns text (Ok count) = (count ≡ length turns) × Consumes input left text × IsAtEnd left
+StopsAfter input left turns text (Err Syntax) = TakesInPart input left text × BeginsWith input text LeavesGrammar
+StopsAfter input left turns text (Err Read) = TakesInPart input left text
+StopsAfter input left turns text (Err Write) = Consumes input left text
+StopsAfter input left turns text (Err Limit) = TakesInPart input left text
+StopsAfter input left turns text (Err Memory) = TakesInPart input left text
 
 -- the output of all answers but the last, and a front of the last one's
 abbrev pub WritesInPart : Option (List ℕ) → Option (List ℕ) → List Answer → Type 0
@@ -41,18 +45,23 @@ WritesAnswers old new answers (Err Syntax) = Appends old new (output_of answers)
 WritesAnswers old new answers (Err Limit) = Appends old new (output_of answers)
 WritesAnswers old new answers (Err Memory) = Appends old new (output_of answers)
 
--- The input begins with the script of some turns, which give these accounts and the answers that are written.
-abbrev pub RunsScript : Held → List Account → Option (List ℕ) → Option (List ℕ) → Option (List ℕ) → Result ℕ ScriptFault → Type 0
-RunsScript held accounts input old new result =
+-- The input begins with the script of some turns, which give these accounts and the answers that are written; `left` is what
+-- was not taken of it.
+abbrev pub RunsScript : Held → List Account → Option (List ℕ) → Option (List ℕ) → Option (List ℕ) → Option (List ℕ) → Result ℕ ScriptFault → Type 0
+RunsScript held accounts input left old new result =
     (turns : List Turn) × (answers : List Answer) × (text : List ℕ)
     × Runs held turns accounts answers × IsScript (events_of turns) text
-    × StopsAfter input turns text result × WritesAnswers old new answers result
+    × StopsAfter input left turns text result × WritesAnswers old new answers result
     × (length turns ≤ 100000)
 
 -- the known input goes on after 100000 events
 abbrev pub GoesOn : Option (List ℕ) → Type 0
 GoesOn input =
     (events : List Event) × (text : List ℕ) × IsScript events text × (length events ≡ 100000) × BeginsWith input text (λ rest. rest ≢ [])
+
+-- The reads between these two counts are a thousand million, or more than are counted.
+abbrev pub ReadsTooOften : ℕ → ℕ → Type 0
+ReadsTooOften before after = min (before + 1000000000) (2 ^ 64 - 1) ≤ after
 
 -- whether the answer is that the reader, or the writer, has failed
 abbrev pub is_read_answer : Result ℕ ScriptFault → Bool

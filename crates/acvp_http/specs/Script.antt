@@ -37,11 +37,13 @@ IsScript [] text = text ≡ []
 IsScript (event ∷ events) text =
     (front : List ℕ) × (rest : List ℕ) × (text ≡ front ++ rest) × IsWritten event front × IsScript events rest
 
+-- no event stands whole at the front of the bytes
+abbrev pub HasNoEvent : List ℕ → Type 0
+HasNoEvent bytes = (event : Event) (front more : List ℕ) → IsWritten event front → bytes ≡ front ++ more → ⊥
+
 -- there is input, and no event stands whole at its front
 abbrev pub LeavesGrammar : List ℕ → Type 0
-LeavesGrammar rest =
-    (rest ≢ [])
-    × ((event : Event) (front more : List ℕ) → IsWritten event front → rest ≡ front ++ more → ⊥)
+LeavesGrammar rest = (rest ≢ []) × HasNoEvent rest
 
 -- an order's word
 abbrev pub order_word : OrderReply → List ℕ

@@ -1,5 +1,5 @@
 -- Readers and writers that remember whether they have failed.
-use Rattle.std.specs.Prelude.{ℕ, List, Bool, Result, true, false, Ok, Err, not, ◌&&◌, ◌==◌, nat_lt, length}
+use Rattle.std.specs.Prelude.{ℕ, ◌+◌, ◌-◌, ◌^◌, min, List, Bool, Result, true, false, Ok, Err, not, ◌&&◌, ◌==◌, nat_lt, length}
 use Rattle.std.specs.IoError.{error_kind}
 use Rattle.std.specs.declared.io.Error.{Error}
 use Rattle.std.specs.declared.io.ErrorKind.{ErrorKind}
@@ -21,6 +21,10 @@ abbrev pub is_write_fault : Result ℕ Error → List ℕ → Bool
 is_write_fault (Ok count) buf = count == 0 && nat_lt 0 (length buf)
 is_write_fault (Err error) buf = true
 
+-- one read more, in a count that stops at the greatest number of 64 bits
+abbrev pub one_more : ℕ → ℕ
+one_more reads = min (reads + 1) (2 ^ 64 - 1)
+
 -- the reader or the writer itself
 abbrev pub flagged_inner : {T : Type 0} → Flagged T → T
 flagged_inner x = x.inner
@@ -28,3 +32,7 @@ flagged_inner x = x.inner
 -- whether it has failed
 abbrev pub flagged_failed : {T : Type 0} → Flagged T → Bool
 flagged_failed x = x.failed
+
+-- how many reads it was asked for, as far as they are counted
+abbrev pub flagged_reads : {T : Type 0} → Flagged T → ℕ
+flagged_reads x = x.reads

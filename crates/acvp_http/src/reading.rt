@@ -3,8 +3,8 @@ ghost use Rattle.std.specs.Prelude.{◌≡◌, ◌≤◌, ◌<◌, ◌++◌, ◌
 ghost use Rattle.std.specs.Option.{option_to_list};
 ghost use Rattle.std.specs.Io.KnownBytes.{Consumes, IsAtEnd};
 ghost use Rattle.acvp_http.specs.Lines.{Lacks};
-ghost use Rattle.acvp_http.specs.Reading.{StopsReading, StopsLine, StopsFilling, StopsBody, StopsEvent, event_of};
-ghost use Rattle.acvp_http.specs.Script.{IsWritten};
+ghost use Rattle.acvp_http.specs.Reading.{TakesPart, StopsReading, StopsLine, StopsFilling, HasNoBody, StopsBody, StopsEvent, event_of};
+ghost use Rattle.acvp_http.specs.Script.{IsWritten, HasNoEvent};
 
 use crate::records::Order;
 use crate::script::{Line, ScriptFault, read_line};
@@ -15,23 +15,18 @@ use std::alloc::Global;
 // a secret of 64, with three spaces.
 const LONGEST_LINE: usize = 101;
 
-const MOST_READS: u64 = 1000000000;
-
-// Reads some bytes, which are none only at the end or where there is no room. A read that is interrupted is tried again.
-fn read_some<S: Source>(
-    reader: &mut S,
-    reads: &mut u64,
-    buf: &mut [u8],
-) -> Result<usize, ScriptFault>
+// Reads some bytes, which are none only at the end or where there is no room. A read that is interrupted is tried again, until the
+// reader was read as often as it may be.
+fn read_some<S: Source>(reader: &mut S, limit: u64, buf: &mut [u8]) -> Result<usize, ScriptFault>
     requires { S.failed reader.old ≡ false }
     ensures { MatchResult result
         (λ count. (count ≤ length buf.new) × (S.failed reader.new ≡ false)
         × Consumes (S.held reader.old) (S.held reader.new) (take count buf.new)
         × (count ≡ 0 → 0 < length buf.new → IsAtEnd (S.held reader.new)))
-        (λ fault. StopsReading fault (S.failed reader.new) reads.new) }
+        (λ fault. StopsReading fault (S.failed reader.new) (S.reads reader.new) limit
+        × Consumes (S.held reader.old) (S.held reader.new) []) }
 {
-    while *reads < MOST_READS {
-        *reads += 1;
+    while reader.reads() < limit {
         match reader.read(buf) {
             Ok(count) => return Ok(count),
             Err(error) => {
@@ -45,19 +40,17 @@ fn read_some<S: Source>(
 }
 
 // The next byte, or `None` at the end.
-pub(crate) fn read_byte<S: Source>(
-    reader: &mut S,
-    reads: &mut u64,
-) -> Result<Option<u8>, ScriptFault>
+pub(crate) fn read_byte<S: Source>(reader: &mut S, limit: u64) -> Result<Option<u8>, ScriptFault>
     requires { S.failed reader.old ≡ false }
     ensures { MatchResult result
         (λ byte. (S.failed reader.new ≡ false)
         × Consumes (S.held reader.old) (S.held reader.new) (option_to_list byte)
-        × IfNone byte (IsAtEnd (S.held reader.old)))
-        (λ fault. StopsReading fault (S.failed reader.new) reads.new) }
+        × IfNone byte (IsAtEnd (S.held reader.new)))
+        (λ fault. StopsReading fault (S.failed reader.new) (S.reads reader.new) limit
+        × Consumes (S.held reader.old) (S.held reader.new) []) }
 {
     let mut byte = [0];
-    if read_some(reader, reads, &mut byte)? == 0 {
+    if read_some(reader, limit, &mut byte)? == 0 {
         Ok(None)
     } else {
         Ok(Some(byte[0]))
@@ -67,27 +60,28 @@ pub(crate) fn read_byte<S: Source>(
 // The length of the next line, which stands in `line`, or `None` at the end.
 fn read_whole_line<S: Source>(
     reader: &mut S,
-    reads: &mut u64,
+    limit: u64,
     line: &mut [u8],
 ) -> Result<Option<usize>, ScriptFault>
     requires clear { S.failed reader.old ≡ false }
     requires room { length line.old ≡ 101 }
     ensures { MatchResult result
         (λ count. (S.failed reader.new ≡ false) × MatchOption count
-        (IsAtEnd (S.held reader.old))
+        (Consumes (S.held reader.old) (S.held reader.new) [] × IsAtEnd (S.held reader.new))
         (λ n. (n ≤ 101) × Lacks 10 (take n line.new)
         × Consumes (S.held reader.old) (S.held reader.new) (take n line.new ++ 10 ∷ [])))
-        (λ fault. StopsLine (S.held reader.old) fault (S.failed reader.new) reads.new) }
+        (λ fault. StopsLine (S.held reader.old) fault (S.failed reader.new) (S.reads reader.new) limit
+        × TakesPart (S.held reader.old) (S.held reader.new) (Lacks 10)) }
 {
     for count in 0..LONGEST_LINE {
-        match read_byte(reader, reads)? {
+        match read_byte(reader, limit)? {
             Some(b'\n') => return Ok(Some(count)),
             Some(byte) => line[count] = byte,
             None if count == 0 => return Ok(None),
             None => return Err(ScriptFault::Syntax),
         }
     }
-    match read_byte(reader, reads)? {
+    match read_byte(reader, limit)? {
         Some(b'\n') => Ok(Some(LONGEST_LINE)),
         Some(_) => Err(ScriptFault::Syntax),
         None => Err(ScriptFault::Syntax),
@@ -95,15 +89,16 @@ fn read_whole_line<S: Source>(
 }
 
 // Fills the buffer.
-fn fill<S: Source>(reader: &mut S, reads: &mut u64, buf: &mut [u8]) -> Result<(), ScriptFault>
+fn fill<S: Source>(reader: &mut S, limit: u64, buf: &mut [u8]) -> Result<(), ScriptFault>
     requires { S.failed reader.old ≡ false }
     ensures { MatchResult result
         (λ _. (S.failed reader.new ≡ false) × Consumes (S.held reader.old) (S.held reader.new) buf.new)
-        (λ fault. StopsFilling (length buf.old) (S.held reader.old) fault (S.failed reader.new) reads.new) }
+        (λ fault. StopsFilling (length buf.old) (S.held reader.old) fault (S.failed reader.new) (S.reads reader.new) limit
+        × TakesPart (S.held reader.old) (S.held reader.new) (λ part. length part < length buf.old)) }
 {
     let mut filled = 0;
     while filled < buf.len() {
-        match read_some(reader, reads, &mut buf[filled..])? {
+        match read_some(reader, limit, &mut buf[filled..])? {
             0 => return Err(ScriptFault::Syntax),
             count => filled += count,
         }
@@ -115,18 +110,19 @@ fn fill<S: Source>(reader: &mut S, reads: &mut u64, buf: &mut [u8]) -> Result<()
 fn read_request_bytes<S: Source>(
     alloc: Global,
     reader: &mut S,
-    reads: &mut u64,
+    limit: u64,
     length: u64,
 ) -> Result<Vec<u8>, ScriptFault>
     requires { S.failed reader.old ≡ false }
     ensures { MatchResult result
         (λ bytes. (S.failed reader.new ≡ false) × (vec_len bytes ≡ length)
         × Consumes (S.held reader.old) (S.held reader.new) (bytes.items ++ 10 ∷ []))
-        (λ fault. StopsBody length (S.held reader.old) fault (S.failed reader.new) reads.new) }
+        (λ fault. StopsBody length (S.held reader.old) fault (S.failed reader.new) (S.reads reader.new) limit
+        × TakesPart (S.held reader.old) (S.held reader.new) (HasNoBody length)) }
 {
     let mut bytes = vec![in alloc; 0; length as usize].map_err(|_| ScriptFault::Memory)?;
-    fill(reader, reads, &mut bytes)?;
-    match read_byte(reader, reads)? {
+    fill(reader, limit, &mut bytes)?;
+    match read_byte(reader, limit)? {
         Some(b'\n') => Ok(bytes),
         Some(_) => Err(ScriptFault::Syntax),
         None => Err(ScriptFault::Syntax),
@@ -144,25 +140,26 @@ pub(crate) enum ScriptEvent {
 pub(crate) fn next_event<S: Source>(
     alloc: Global,
     reader: &mut S,
-    reads: &mut u64,
+    limit: u64,
 ) -> Result<Option<ScriptEvent>, ScriptFault>
     requires { S.failed reader.old ≡ false }
     ensures { MatchResult result
         (λ event. (S.failed reader.new ≡ false) × MatchOption event
-        (IsAtEnd (S.held reader.old))
+        (Consumes (S.held reader.old) (S.held reader.new) [] × IsAtEnd (S.held reader.new))
         (λ read. (front : List ℕ) × IsWritten (event_of read) front
         × Consumes (S.held reader.old) (S.held reader.new) front))
-        (λ fault. StopsEvent (S.held reader.old) fault (S.failed reader.new) reads.new) }
+        (λ fault. StopsEvent (S.held reader.old) fault (S.failed reader.new) (S.reads reader.new) limit
+        × TakesPart (S.held reader.old) (S.held reader.new) HasNoEvent) }
 {
     let mut line = [0; LONGEST_LINE];
-    let Some(count) = read_whole_line(reader, reads, &mut line)? else {
+    let Some(count) = read_whole_line(reader, limit, &mut line)? else {
         return Ok(None);
     };
     match read_line(&line[..count]) {
         None => Err(ScriptFault::Syntax),
         Some(Line::Order { moment, order }) => Ok(Some(ScriptEvent::Order { moment, order })),
         Some(Line::Request { moment, length }) => {
-            let bytes = read_request_bytes(alloc, reader, reads, length)?;
+            let bytes = read_request_bytes(alloc, reader, limit, length)?;
             Ok(Some(ScriptEvent::Request { moment, bytes }))
         }
     }

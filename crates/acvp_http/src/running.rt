@@ -2,7 +2,7 @@
 ghost use Rattle.std.specs.Prelude.{◌≡◌, ◌≤◌, ◌⊎◌, Bool, false};
 ghost use Rattle.acvp_http.specs.Event.{Answer};
 ghost use Rattle.acvp_http.specs.Reading.{event_of};
-ghost use Rattle.acvp_http.specs.Run.{RunsScript, GoesOn, is_read_answer, is_write_answer};
+ghost use Rattle.acvp_http.specs.Run.{RunsScript, GoesOn, ReadsTooOften, is_read_answer, is_write_answer};
 ghost use Rattle.acvp_http.specs.Script.{answer_text};
 ghost use Rattle.acvp_http.specs.Serve.{Takes};
 ghost use Rattle.acvp_http.specs.Writing.{WritesText};
@@ -17,6 +17,8 @@ use crate::writing::{write_order, write_reply};
 use std::alloc::Global;
 
 const MOST_EVENTS: u64 = 100000;
+
+const MOST_READS: u64 = 1000000000;
 
 // Handles an event, and writes its answer.
 fn take_turn<K: Sink>(
@@ -44,35 +46,6 @@ fn take_turn<K: Sink>(
     }
 }
 
-// Runs a script, and counts the reads that it takes.
-fn run_counted<S: Source, K: Sink>(
-    alloc: Global,
-    routes: &Routes,
-    desk: &mut Desk,
-    reader: &mut S,
-    writer: &mut K,
-    reads: &mut u64,
-) -> Result<u64, ScriptFault>
-    requires reader_clear { S.failed reader.old ≡ false }
-    requires writer_clear { K.failed writer.old ≡ false }
-    ensures keys { desk.new.keys ≡ desk.old.keys }
-    ensures run { RunsScript desk.old desk.new.accounts (S.held reader.old) (K.contents writer.old) (K.contents writer.new) result }
-    ensures limit { result ≡ Err ScriptFault.Limit → GoesOn (S.held reader.old) ⊎ (1000000000 ≤ reads.new) }
-    ensures read_fault { S.failed reader.new ≡ is_read_answer result }
-    ensures write_fault { K.failed writer.new ≡ is_write_answer result }
-{
-    for count in 0..MOST_EVENTS {
-        let Some(event) = next_event(alloc, reader, reads)? else {
-            return Ok(count);
-        };
-        take_turn(alloc, routes, desk, &event, writer)?;
-    }
-    match read_byte(reader, reads)? {
-        None => Ok(MOST_EVENTS),
-        Some(_) => Err(ScriptFault::Limit),
-    }
-}
-
 /// Runs a script. It ends at the input's end, or at the first fault; the event at fault isn't handled, but for a writer that fails,
 /// which does so after its event was handled. The number is how many events there were.
 pub fn run<S: Source, K: Sink>(
@@ -85,12 +58,22 @@ pub fn run<S: Source, K: Sink>(
     requires reader_clear { S.failed reader.old ≡ false }
     requires writer_clear { K.failed writer.old ≡ false }
     ensures keys { desk.new.keys ≡ desk.old.keys }
-    ensures run { RunsScript desk.old desk.new.accounts (S.held reader.old) (K.contents writer.old) (K.contents writer.new) result }
+    ensures run { RunsScript desk.old desk.new.accounts (S.held reader.old) (S.held reader.new) (K.contents writer.old) (K.contents writer.new) result }
+    ensures limit { result ≡ Err ScriptFault.Limit → GoesOn (S.held reader.old) ⊎ ReadsTooOften (S.reads reader.old) (S.reads reader.new) }
     ensures read_fault { S.failed reader.new ≡ is_read_answer result }
     ensures write_fault { K.failed writer.new ≡ is_write_answer result }
 {
-    let mut reads = 0;
-    run_counted(alloc, routes, desk, reader, writer, &mut reads)
+    let limit = reader.reads().saturating_add(MOST_READS);
+    for count in 0..MOST_EVENTS {
+        let Some(event) = next_event(alloc, reader, limit)? else {
+            return Ok(count);
+        };
+        take_turn(alloc, routes, desk, &event, writer)?;
+    }
+    match read_byte(reader, limit)? {
+        None => Ok(MOST_EVENTS),
+        Some(_) => Err(ScriptFault::Limit),
+    }
 }
 
 #[cfg(test)]

@@ -1,6 +1,7 @@
 use Rattle.std.proofs.Common.{slice_set, ◌+◌, ◌≡◌, ◌<◌, ◌++◌, ◌∷◌, [], length, take, arith}
 use Rattle.std.proofs.lemmas.List.{length-take, take_more_set}
-use Rattle.acvp_http.proofs.KnownLemmas.{consumes_consumes}
+use Rattle.acvp_http.specs.Lines.{Lacks}
+use Rattle.acvp_http.proofs.KnownLemmas.{consumes_consumes, consumes_no_more}
 use Rattle.acvp_http.proofs.LineLemmas.{lacks_append}
 use Rattle.acvp_http.proofs.ReadingLemmas.{no_line_ended, no_line_long}
 use Rattle.acvp_http.proofs.reading.read_whole_line.Goals as goal
@@ -9,7 +10,9 @@ pub returns-in-None-2 : goal.returns-in-None-2
 returns-in-None-2 g c =
     let none = rw c.in-None-2.is at c.in_ok-read_byte.ensures in
     let some : 0 < length (take c.loop-count.count c.loop-count.line) = omega (arith, length-take c.loop-count.count c.loop-count.line) in
-    (none.0, no_line_ended (g.S.Source.held c.args.reader.now) (g.S.Source.held c.loop-count.reader) (take c.loop-count.count c.loop-count.line) c.loop-count.invariant.consumed c.loop-count.invariant.lacks some none.2)
+    let text = take c.loop-count.count c.loop-count.line in
+    let taken = consumes_no_more (g.S.Source.held c.args.reader.now) (g.S.Source.held c.loop-count.reader) (g.S.Source.held c.read_byte.new.reader) text c.loop-count.invariant.consumed none.1 in
+    ((none.0, no_line_ended (g.S.Source.held c.args.reader.now) (g.S.Source.held c.read_byte.new.reader) text taken c.loop-count.invariant.lacks some none.2), (text, taken, c.loop-count.invariant.lacks))
 
 pub loop-count-preserved : goal.loop-count-preserved
 loop-count-preserved g c =
@@ -42,10 +45,16 @@ returns-in-Some-2 g c =
     let line = rw full at c.loop-count.invariant.consumed in
     let more = consumes_consumes (g.S.Source.held c.args.reader.now) (g.S.Source.held c.loop-count.reader) (g.S.Source.held c.read_byte-2.new.reader) (take 101 c.loop-count.line) (c.in-Some-2.field-0 ∷ []) line byte.1 in
     let long : length (take 101 c.loop-count.line) ≡ 101 = omega (arith, length-take 101 c.loop-count.line) in
-    (byte.0, no_line_long (g.S.Source.held c.args.reader.now) (g.S.Source.held c.read_byte-2.new.reader) (take 101 c.loop-count.line) c.in-Some-2.field-0 more long (rw full at c.loop-count.invariant.lacks) c.in-Some-2.field-0-test.1)
+    let text = take 101 c.loop-count.line in
+    let lacks : Lacks 10 text = rw full at c.loop-count.invariant.lacks in (
+      (byte.0, no_line_long (g.S.Source.held c.args.reader.now) (g.S.Source.held c.read_byte-2.new.reader) text c.in-Some-2.field-0 more long lacks c.in-Some-2.field-0-test.1),
+      (text ++ c.in-Some-2.field-0 ∷ [], more, lacks_append 10 text (c.in-Some-2.field-0 ∷ []) lacks (c.in-Some-2.field-0-test.1, tt)),
+    )
 
 pub returns-in-None-3 : goal.returns-in-None-3
 returns-in-None-3 g c =
     let none = rw c.in-None-3.is at c.in_ok-read_byte-2.ensures in
     let some : 0 < length (take c.loop-count.count c.loop-count.line) = omega (arith, length-take c.loop-count.count c.loop-count.line) in
-    (none.0, no_line_ended (g.S.Source.held c.args.reader.now) (g.S.Source.held c.loop-count.reader) (take c.loop-count.count c.loop-count.line) c.loop-count.invariant.consumed c.loop-count.invariant.lacks some none.2)
+    let text = take c.loop-count.count c.loop-count.line in
+    let taken = consumes_no_more (g.S.Source.held c.args.reader.now) (g.S.Source.held c.loop-count.reader) (g.S.Source.held c.read_byte-2.new.reader) text c.loop-count.invariant.consumed none.1 in
+    ((none.0, no_line_ended (g.S.Source.held c.args.reader.now) (g.S.Source.held c.read_byte-2.new.reader) text taken c.loop-count.invariant.lacks some none.2), (text, taken, c.loop-count.invariant.lacks))
