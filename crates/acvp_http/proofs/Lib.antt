@@ -1,11 +1,9 @@
 pub mod ListLemmas
 pub mod PhraseLemmas
-pub mod NumberLemmas
 pub mod ReplyLemmas
 pub mod HeadLemmas
 pub mod FramingLemmas
 pub mod BodyLemmas
-pub mod PlainLemmas
 pub mod ServeLemmas
 pub mod RouteLemmas
 pub mod LineLemmas

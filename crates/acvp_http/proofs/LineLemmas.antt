@@ -1,9 +1,10 @@
 -- Lemmas on the lines of a script and their words.
-use Rattle.std.proofs.Common.{◌≡◌, ◌≢◌, ◌<◌, ◌^◌, ◌+◌, ℕ, List, [], ◌∷◌, ◌++◌, length, get_or, take, decimal, arith, rules, sym, ◌∙◌, refl}
+use Rattle.std.proofs.Common.{◌≡◌, ◌≢◌, ◌<◌, ◌^◌, ◌+◌, ℕ, List, [], ◌∷◌, ◌++◌, length, get_or, take, decimal, true, arith, rules, sym, ◌∙◌, refl}
 use Rattle.std.proofs.lemmas.List.{take_more}
 use Rattle.std.proofs.lemmas.Fmt.{decimal_injective, digits_decimal}
-use Rattle.std.proofs.lemmas.Str.Parse.{digit_from_value}
-use Rattle.std.specs.Str.Parse.{AllDigits}
+use Rattle.std.proofs.lemmas.Str.Parse.{IsNumeralModel, numerals_by_value, tells_all_ascii_digits, digit_from_value}
+use Rattle.std.specs.Str.{all_ascii_digits}
+use Rattle.std.specs.Str.Parse.{AllDigits, digits_value}
 use Rattle.acvp_http.specs.declared.records.Order.TheVariants as order
 use Rattle.acvp_http.specs.declared.script.Command.{Command}
 use Rattle.acvp_http.specs.declared.script.Command.TheVariants as command
@@ -11,7 +12,10 @@ use Rattle.acvp_http.specs.declared.script.Line.{Line}
 use Rattle.acvp_http.specs.declared.script.Line.TheVariants as line
 use Rattle.acvp_http.specs.Lines.{Lacks, IsMoment, IsRequestTail, IsAddTail, IsDisableTail, IsLine, word_of}
 use Rattle.acvp_http.specs.Script.{IsNumber, IsAccountNumber, IsSecretText}
-use Rattle.acvp_http.proofs.NumberLemmas.{own}
+
+-- the kit's test of digits and the number that they write
+own : IsNumeralModel (λ ds. all_ascii_digits ds ≡ true) (digits_value 10)
+own = numerals_by_value _ tells_all_ascii_digits
 
 -- one number's digits aren't another's
 pub same_number : (text : List ℕ) (m n : ℕ) → m < 10 ^ 19 → text ≡ decimal m → n < 10 ^ 19 → text ≡ decimal n → m ≡ n

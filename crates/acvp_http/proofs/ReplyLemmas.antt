@@ -2,9 +2,10 @@
 use Rattle.std.proofs.Common.{◌≡◌, ℕ, List, [], ◌++◌, codes, refl, append_assoc}
 use Rattle.serde_json.proofs.OnLiterals.{serde_json_on_literals}
 use Rattle.acvp_http.specs.declared.rule.Rule.{Rule}
-use Rattle.acvp_http.specs.declared.rule.Rule.TheVariants.{BadHead, HeadTooLarge, Truncated, LengthMissing, BadLength, BodyTooLarge, TransferCoding, HostMissing, NoRoute, NoMethod, BodyNotJson, BodyEnvelope, BodyField, LoginRefused, RenewalRefused, ClockOutOfRange, Unavailable}
+use Rattle.acvp_http.specs.declared.rule.Rule.TheVariants.{BadHead, HeadTooLarge, Truncated, LengthMissing, BadLength, BodyTooLarge, TransferCoding, HostMissing, NoRoute, NoMethod, BodyNotJson, BodyEnvelope, BodyField, NoReference, LoginRefused, RenewalRefused, ClockOutOfRange, Unavailable}
 use Rattle.acvp_http.specs.Rule.{word_of}
-use Rattle.acvp_http.specs.Reply.{body_of, error_object}
+use Rattle.acvp_json.specs.Written.{body_of}
+use Rattle.acvp_http.specs.Reply.{error_object}
 
 -- the head from what was written piece by piece
 pub head_pieces : (first date type label number close besides end s1 s2 s3 s4 s5 s6 : List ℕ) →
@@ -29,6 +30,7 @@ body_of-error_object NoMethod = refl
 body_of-error_object BodyNotJson = refl
 body_of-error_object BodyEnvelope = refl
 body_of-error_object BodyField = refl
+body_of-error_object NoReference = refl
 body_of-error_object LoginRefused = refl
 body_of-error_object RenewalRefused = refl
 body_of-error_object ClockOutOfRange = refl

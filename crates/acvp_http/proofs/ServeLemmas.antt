@@ -7,15 +7,18 @@ use Rattle.acvp_http.specs.declared.rule.Rule.{Rule}
 use Rattle.acvp_http.specs.declared.rule.Rule.TheVariants.{ClockOutOfRange, Unavailable}
 use Rattle.acvp_http.specs.Asks.{Ask, login, Asks}
 use Rattle.acvp_http.specs.Event.{Held}
+use Rattle.acvp_json.specs.ReplyData.{reply_data}
+use Rattle.acvp_json.specs.Written.{body_of}
+use Rattle.acvp_json.specs.declared.reply_object.ReplyObject.TheVariants.{Login}
 use Rattle.acvp_token.specs.TokenText.{token_text}
 use Rattle.acvp_http.specs.declared.login.Entry.{Entry}
-use Rattle.acvp_http.specs.Login.{login_verdict, token_object, claims_at, after_login}
-use Rattle.acvp_http.specs.Reply.{refusal, framed, body_of, IsDateOf}
+use Rattle.acvp_http.specs.Login.{login_verdict, claims_at, after_login}
+use Rattle.acvp_http.specs.Reply.{refusal, framed, IsDateOf}
 use Rattle.acvp_http.specs.Serve.{ServesRequest, IsMarkedRequest, AskAnswered, LoginTaken, RequestTaken, end_of_moments}
 
 -- a login that passes every test, where the desk's parts are these
 pub taken_entry : (held same : Held) (moment : ℕ) (date body : List ℕ) (entry : Entry) (accounts : List Account) (reply : List ℕ) → held ≡ same → login_verdict same.keys.token same.accounts moment body ≡ Ok (Some entry) →
-    accounts ≡ after_login same.accounts entry → reply ≡ framed 200 (Some date) [] (body_of (token_object (token_text same.keys.token (claims_at entry moment)))) →
+    accounts ≡ after_login same.accounts entry → reply ≡ framed 200 (Some date) [] (body_of (reply_data (Login (token_text same.keys.token (claims_at entry moment))))) →
     LoginTaken held moment date body accounts reply
 taken_entry held same moment date body entry accounts reply parts is changed shown =
     subst (λ (h : Held). LoginTaken h moment date body accounts reply) (sym parts) (inl (rw is (changed, shown)))

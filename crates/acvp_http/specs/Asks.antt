@@ -4,7 +4,7 @@ use Rattle.std.specs.List.{starts_with, ends_with, list_all}
 use Rattle.std.specs.Str.{bytes_eq, str_eq_ignore_ascii_case}
 use Rattle.httparse.specs.Grammar.{RequestHead, ReadsRequest}
 use Rattle.httparse.specs.Spans.{name_and_value}
-use Rattle.acvp_http.specs.Number.{number_of}
+use Rattle.acvp_registry.specs.Number.{number_of}
 use Rattle.acvp_http.specs.declared.routes.Route.{Route}
 use Rattle.acvp_http.specs.declared.routes.Route.TheVariants.{Login}
 use Rattle.acvp_http.specs.declared.routes.Path.{Path}

@@ -1,5 +1,4 @@
 pub mod Records
-pub mod Number
 pub mod Rule
 pub mod Reply
 pub mod Event
@@ -9,7 +8,6 @@ pub mod ReplyBytes
 pub mod Asks
 pub mod Head
 pub mod Login
-pub mod LoginView
 pub mod Paths
 pub mod Source
 pub mod Lines

@@ -1,11 +1,13 @@
 -- A login: what its body says, what it must meet, and what it is answered.
-use Rattle.std.specs.Prelude.{◌≡◌, ◌⊎◌, ℕ, ◌+◌, ◌/◌, List, [], ◌∷◌, ◌++◌, length, codes, Bool, true, false, ◌&&◌, ◌==◌, is_some, if◌then◌else◌, Option, Some, None, option_map, option_and_then, Result, Ok, Err}
-use Rattle.std.specs.Str.{bytes_eq, is_utf8, all_ascii_digits}
+use Rattle.std.specs.Prelude.{◌≡◌, ◌⊎◌, ℕ, ◌+◌, ◌/◌, List, [], ◌∷◌, ◌++◌, length, Bool, true, ◌&&◌, ◌==◌, is_some, if◌then◌else◌, Option, Some, None, option_map, option_and_then, Result, Ok, Err}
+use Rattle.std.specs.Str.{all_ascii_digits}
 use Rattle.std.specs.Str.Parse.{digits_value}
-use Rattle.serde_json.specs.Data.{Data, string, object, Items, no_items, item, no_members, member}
-use Rattle.serde_json.specs.Read.{read}
-use Rattle.serde_json.specs.Find.{get, as_str, as_array, as_object}
-use Rattle.serde_json.specs.Written.{has_float}
+use Rattle.acvp_json.specs.Envelope.{json_of, object_of}
+use Rattle.acvp_json.specs.LoginBody.{login_body_of}
+use Rattle.acvp_json.specs.declared.fault.BodyFault.{BodyFault}
+use Rattle.acvp_json.specs.declared.fault.BodyFault.TheVariants as fault
+use Rattle.acvp_json.specs.declared.login_body.LoginBody.{LoginBody}
+use Rattle.acvp_registry.specs.Number.{plain_of}
 use Rattle.acvp_mac.specs.Codes.{accepted}
 use Rattle.acvp_token.specs.declared.Claims.{Claims}
 use Rattle.acvp_token.specs.declared.TokenFault.{TokenFault}
@@ -14,66 +16,15 @@ use Rattle.acvp_http.specs.declared.login.CodeUse.{CodeUse}
 use Rattle.acvp_http.specs.declared.login.Entry.{Entry}
 use Rattle.acvp_http.specs.declared.records.Account.{Account}
 use Rattle.acvp_http.specs.declared.rule.Rule.{Rule}
-use Rattle.acvp_http.specs.declared.rule.Rule.TheVariants.{BodyNotJson, BodyEnvelope, BodyField, LoginRefused, RenewalRefused, Unavailable}
-use Rattle.acvp_http.specs.Number.{plain_of}
+use Rattle.acvp_http.specs.declared.rule.Rule.TheVariants.{BodyNotJson, BodyEnvelope, BodyField, NoReference, LoginRefused, RenewalRefused, Unavailable}
 use Rattle.acvp_http.specs.Asks.{Test, verdict}
 use Rattle.acvp_http.specs.Records.{row_of, changed, with_step}
 
 -- ---- the body
 
--- the value, unless a number in it is a float
-abbrev pub without_float : Data → Option Data
-without_float d = if has_float d then None else Some d
-
--- the JSON value that the bytes are
-abbrev pub json_of : List ℕ → Option Data
-json_of bytes = if is_utf8 bytes then option_and_then without_float (read bytes) else None
-
--- the text at a name, where there is one
-abbrev pub text_at : List ℕ → Data → Option (List ℕ)
-text_at name d = option_and_then as_str (get name d)
-
-abbrev pub is_text : List ℕ → Option (List ℕ) → Bool
-is_text wanted None = false
-is_text wanted (Some text) = bytes_eq text wanted
-
--- the second of two objects, the first of which names the version
-abbrev pub second_of : Data → Data → Option Data
-second_of first second =
-    if is_text (codes "1.0") (text_at (codes "acvVersion") first) && is_some (as_object second) then Some second else None
-
-abbrev pub envelope_items : Items → Option Data
-envelope_items no_items = None
-envelope_items (item first no_items) = None
-envelope_items (item first (item second no_items)) = second_of first second
-envelope_items (item first (item second (item third more))) = None
-
--- the object that an envelope holds
-abbrev pub envelope_of : Data → Option Data
-envelope_of d = option_and_then envelope_items (as_array d)
-
--- the members of a login's object
-pub record Credentials : Type 0 where
-  pub user : List ℕ
-  pub password : List ℕ
-  pub access : Option (List ℕ)
-
--- a member that is absent or a text
-abbrev pub optional_text : Option Data → Option (Option (List ℕ))
-optional_text None = Some None
-optional_text (Some d) = option_map Some (as_str d)
-
-abbrev pub credentials_of : Data → Option Credentials
-credentials_of d =
-    option_and_then (λ user. option_and_then (λ password. option_map (λ access. record { user = user; password = password; access = access })
-    (optional_text (get (codes "accessToken") d))) (text_at (codes "password") d)) (text_at (codes "user") d)
-
 -- what the bytes of a login's body say
-abbrev pub object_of : List ℕ → Option Data
-object_of body = option_and_then envelope_of (json_of body)
-
-abbrev pub login_of : List ℕ → Option Credentials
-login_of body = option_and_then credentials_of (object_of body)
+abbrev pub login_of : List ℕ → Option LoginBody
+login_of body = option_and_then login_body_of (object_of body)
 
 -- ---- the account and its code
 
@@ -89,7 +40,7 @@ abbrev pub account_of : List Account → List ℕ → Option Account
 account_of accounts user = option_and_then if_enabled (option_and_then (row_of accounts) (plain_of user))
 
 -- the account and the accepted step (RFC 6238) of the credentials
-abbrev pub code_use_of : List Account → ℕ → Credentials → Option CodeUse
+abbrev pub code_use_of : List Account → ℕ → LoginBody → Option CodeUse
 code_use_of accounts moment login =
     option_and_then (λ row. option_and_then (λ code. option_map (λ step. record { account = row.number; step = step })
     (accepted row.secret row.last_step moment code)) (password_of login.password)) (account_of accounts login.user)
@@ -113,7 +64,7 @@ renewed_session key account None = Some None
 renewed_session key account (Some text) = session_of account (reading_of key text)
 
 -- what a login may act on
-abbrev pub entry_of : List ℕ → List Account → ℕ → Credentials → Option Entry
+abbrev pub entry_of : List ℕ → List Account → ℕ → LoginBody → Option Entry
 entry_of key accounts moment login =
     option_and_then (λ used. option_map (λ session. record { account = used.account; step = used.step; session = session })
     (renewed_session key used.account login.access)) (code_use_of accounts moment login)
@@ -127,6 +78,18 @@ body_tests body =
     ∷ (is_some (object_of body), BodyEnvelope)
     ∷ (is_some (login_of body), BodyField)
     ∷ []
+
+-- the rule is that of the first test that the body fails
+abbrev pub FailsBody : List ℕ → Rule → Type 0
+FailsBody body rule = verdict (body_tests body) (login_of body) ≡ Err rule
+
+-- the rule of a body's fault
+abbrev pub rule_of_fault : BodyFault → Rule
+rule_of_fault fault.BodyNotJson = BodyNotJson
+rule_of_fault fault.BodyEnvelope = BodyEnvelope
+rule_of_fault fault.BodyField = BodyField
+rule_of_fault fault.NoReference = NoReference
+rule_of_fault fault.Memory = Unavailable
 
 -- the account and the step of a login whose body reads, and what that login may act on
 abbrev pub code_use_at : List Account → ℕ → List ℕ → Option CodeUse
@@ -159,10 +122,6 @@ token_life = 1800
 -- the claims of a login's new token
 abbrev pub claims_at : Entry → ℕ → Claims
 claims_at entry moment = record { account = entry.account; session = entry.session; issued = moment; expires = moment + token_life }
-
--- the object that shows a token
-abbrev pub token_object : List ℕ → Data
-token_object token = object (member (codes "accessToken") (string token) no_members)
 
 -- the accounts after an accepted login
 abbrev pub after_login : List Account → Entry → List Account

@@ -3,23 +3,11 @@ use Rattle.std.specs.Prelude.{◌≡◌, ℕ, List, [], ◌++◌, length, codes,
 use Rattle.http.specs.StatusCode.{reason_phrase}
 use Rattle.httpdate.specs.Date.{unix_secs, date_text}
 use Rattle.httpdate.specs.declared.date.HttpDate.{HttpDate}
-use Rattle.serde_json.specs.Data.{Data, string, array, object, no_items, item, no_members, member}
-use Rattle.serde_json.specs.Written.{compact_text}
+use Rattle.serde_json.specs.Data.{Data, string, object, no_members, member}
+use Rattle.acvp_json.specs.Written.{body_of}
 use Rattle.acvp_http.specs.declared.rule.Rule.{Rule}
 use Rattle.acvp_http.specs.declared.rule.Rule.TheVariants.{NoMethod, ClockOutOfRange, Unavailable}
 use Rattle.acvp_http.specs.Rule.{status_of, word_of}
-
--- the first member of each body
-abbrev pub version : Data
-version = object (member (codes "acvVersion") (string (codes "1.0")) no_members)
-
--- the version and an object
-abbrev pub enveloped : Data → Data
-enveloped d = array (item version (item d no_items))
-
--- a body: the version and an object, as compact JSON
-unfoldable pub body_of : Data → List ℕ
-body_of d = compact_text (enveloped d)
 
 abbrev pub error_object : Rule → Data
 error_object rule = object (member (codes "error") (string (word_of rule)) no_members)

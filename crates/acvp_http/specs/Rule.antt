@@ -1,7 +1,7 @@
 -- The rules of refusal: their status codes and their words.
 use Rattle.std.specs.Prelude.{ℕ, List, codes}
 use Rattle.acvp_http.specs.declared.rule.Rule.{Rule}
-use Rattle.acvp_http.specs.declared.rule.Rule.TheVariants.{BadHead, HeadTooLarge, Truncated, LengthMissing, BadLength, BodyTooLarge, TransferCoding, HostMissing, NoRoute, NoMethod, BodyNotJson, BodyEnvelope, BodyField, LoginRefused, RenewalRefused, ClockOutOfRange, Unavailable}
+use Rattle.acvp_http.specs.declared.rule.Rule.TheVariants.{BadHead, HeadTooLarge, Truncated, LengthMissing, BadLength, BodyTooLarge, TransferCoding, HostMissing, NoRoute, NoMethod, BodyNotJson, BodyEnvelope, BodyField, NoReference, LoginRefused, RenewalRefused, ClockOutOfRange, Unavailable}
 
 abbrev pub status_of : Rule → ℕ
 status_of BadHead = 400
@@ -17,6 +17,7 @@ status_of NoMethod = 405
 status_of BodyNotJson = 400
 status_of BodyEnvelope = 400
 status_of BodyField = 400
+status_of NoReference = 400
 status_of LoginRefused = 403
 status_of RenewalRefused = 403
 status_of ClockOutOfRange = 503
@@ -36,6 +37,7 @@ word_of NoMethod = codes "noMethod"
 word_of BodyNotJson = codes "bodyNotJson"
 word_of BodyEnvelope = codes "bodyEnvelope"
 word_of BodyField = codes "bodyField"
+word_of NoReference = codes "noReference"
 word_of LoginRefused = codes "loginRefused"
 word_of RenewalRefused = codes "renewalRefused"
 word_of ClockOutOfRange = codes "clockOutOfRange"

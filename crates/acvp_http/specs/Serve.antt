@@ -1,12 +1,15 @@
 -- What an event does to the records, and what it is answered.
 use Rattle.std.specs.Prelude.{◌≡◌, ◌<◌, ◌⊎◌, ℕ, List, [], ◌∷◌, Bool, true, false, nat_lt, MatchBool, Option, Some, None, Result, Ok, Err}
+use Rattle.acvp_json.specs.ReplyData.{reply_data}
+use Rattle.acvp_json.specs.Written.{body_of}
+use Rattle.acvp_json.specs.declared.reply_object.ReplyObject.TheVariants.{Login}
 use Rattle.acvp_token.specs.TokenText.{token_text}
 use Rattle.acvp_http.specs.declared.login.Entry.{Entry}
 use Rattle.acvp_http.specs.declared.rule.Rule.{Rule}
 use Rattle.acvp_http.specs.declared.rule.Rule.TheVariants.{BadHead, HeadTooLarge, Truncated, LengthMissing, BadLength, BodyTooLarge, TransferCoding, HostMissing, ClockOutOfRange, Unavailable as UnavailableRule}
 use Rattle.acvp_http.specs.Asks.{Ask, refused, login, Asks}
-use Rattle.acvp_http.specs.Login.{login_verdict, token_object, claims_at, after_login}
-use Rattle.acvp_http.specs.Reply.{refusal, framed, body_of, IsDateOf}
+use Rattle.acvp_http.specs.Login.{login_verdict, claims_at, after_login}
+use Rattle.acvp_http.specs.Reply.{refusal, framed, IsDateOf}
 use Rattle.acvp_http.specs.declared.records.Account.{Account}
 use Rattle.acvp_http.specs.declared.records.OrderReply.TheVariants.{Unavailable}
 use Rattle.acvp_http.specs.Event.{Event, request, order, Answer, replied, ordered, Turn, Held}
@@ -22,7 +25,7 @@ LoginAnswered held moment date (Err rule) accounts reply = (accounts ≡ held.ac
 LoginAnswered held moment date (Ok None) accounts reply = ⊥
 LoginAnswered held moment date (Ok (Some entry)) accounts reply =
     (accounts ≡ after_login held.accounts entry)
-    × (reply ≡ framed 200 (Some date) [] (body_of (token_object (token_text held.keys.token (claims_at entry moment)))))
+    × (reply ≡ framed 200 (Some date) [] (body_of (reply_data (Login (token_text held.keys.token (claims_at entry moment))))))
 
 -- what is asked is decided, carried out and answered
 abbrev pub AskAnswered : Held → ℕ → List ℕ → Ask → List Account → List ℕ → Type 0

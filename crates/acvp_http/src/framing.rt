@@ -4,10 +4,10 @@ ghost use Rattle.std.specs.List.{list_all};
 ghost use Rattle.std.specs.Str.{str_eq_ignore_ascii_case, bytes_eq};
 ghost use Rattle.httparse.specs.Spans.{span_bytes, header_bytes, IsWithin, IsHeaderWithin};
 ghost use Rattle.acvp_http.specs.Asks.{values_of, same_number, first_number, lengths_agree, needs_length, hosts_fit, body_length, is_nil, verdict, body_size};
-ghost use Rattle.acvp_http.specs.Number.{number_of};
+ghost use Rattle.acvp_registry.specs.Number.{number_of};
 
-use crate::number::digits_number;
 use crate::rule::Rule;
+use acvp_registry::digits_number;
 use httparse::spans::{HeaderSpan, Span};
 use std::marker::Model;
 

@@ -2,13 +2,10 @@
 #![tactic(auto)]
 
 mod ask;
-mod body;
 mod desk;
-mod floats;
 mod framing;
 mod head;
 mod login;
-mod number;
 mod reading;
 mod records;
 mod reply;

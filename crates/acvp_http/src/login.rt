@@ -1,20 +1,19 @@
 //! A login: the account and the step that its code uses, and the token that it is answered.
-ghost use Rattle.std.specs.Prelude.{◌≡◌, ◌⊎◌, ◌++◌, [], ◌<◌, ◌≤◌, ◌^◌, Some, None, option_map, MatchResult, IfOk, length, string_bytes};
-ghost use Rattle.acvp_http.specs.Number.{plain_of};
-ghost use Rattle.acvp_http.specs.Login.{password_of, account_of, code_use_of, is_session_of, renewed_session, login_verdict, IsDecided, token_object, claims_at};
-ghost use Rattle.acvp_http.specs.Reply.{body_of, enveloped, framed};
-ghost use Rattle.serde_json.specs.View.{view};
+ghost use Rattle.std.specs.Prelude.{◌≡◌, ◌⊎◌, [], ◌<◌, Some, None, MatchResult, IfOk};
+ghost use Rattle.acvp_json.specs.ReplyData.{reply_data};
+ghost use Rattle.acvp_json.specs.Written.{body_of};
+ghost use Rattle.acvp_json.specs.declared.reply_object.ReplyObject.TheVariants.{Login};
 ghost use Rattle.acvp_token.specs.TokenText.{token_text};
-ghost use Rattle.acvp_http.specs.LoginView.{said, texts};
+ghost use Rattle.acvp_http.specs.Login.{password_of, account_of, code_use_of, is_session_of, renewed_session, login_of, rule_of_fault, FailsBody, login_verdict, IsDecided, claims_at};
+ghost use Rattle.acvp_http.specs.Reply.{framed};
 
-use crate::body::{Login, credentials_of, envelope_of, parse};
-use crate::number::{digits_number, plain_number};
 use crate::records::{Account, Accounts};
 use crate::reply::Reply;
 use crate::rule::Rule;
+use acvp_json::{BodyFault, LoginBody, ReplyObject, Text, open_envelope, read_login, write_reply};
 use acvp_mac::accepted_step;
+use acvp_registry::{digits_number, plain_number};
 use acvp_token::{Claims, TokenFault, issue, verify_for_renewal};
-use serde_json::{Value, json};
 use std::alloc::{AllocError, Global};
 
 /// How long a token lives, in seconds.
@@ -36,13 +35,6 @@ pub(crate) struct Entry {
     pub session: Option<u64>,
 }
 
-// The number whose plain decimal the text is.
-fn user_number(text: &[u8]) -> Option<u64>
-    ensures { result ≡ plain_of text.now }
-{
-    plain_number(text)
-}
-
 // The number of a one-time code.
 fn password_number(text: &[u8]) -> Option<u32>
     ensures { result ≡ password_of text.now }
@@ -58,17 +50,17 @@ fn password_number(text: &[u8]) -> Option<u32>
 fn account_of(accounts: &Accounts, user: &[u8]) -> Option<Account>
     ensures { result ≡ account_of accounts.now user.now }
 {
-    let number = user_number(user)?;
+    let number = plain_number(user)?;
     let row = accounts.row(number)?;
     if row.enabled { Some(row) } else { None }
 }
 
 // The account and the accepted step of the credentials.
-fn code_use_of(accounts: &Accounts, moment: u64, login: &Login<'_>) -> Option<CodeUse>
-    ensures { result ≡ code_use_of accounts.now moment (said login.now) }
+fn code_use_of(accounts: &Accounts, moment: u64, login: &LoginBody) -> Option<CodeUse>
+    ensures { result ≡ code_use_of accounts.now moment login.now }
 {
-    let row = account_of(accounts, login.user.as_bytes())?;
-    let code = password_number(login.password.as_bytes())?;
+    let row = account_of(accounts, login.user.as_str().as_bytes())?;
+    let code = password_number(login.password.as_str().as_bytes())?;
     let step = accepted_step(&row.secret, row.last_step, moment, code)?;
     Some(CodeUse {
         account: row.number,
@@ -91,19 +83,47 @@ fn renewed_session(
     alloc: Global,
     key: &[u8],
     account: u16,
-    access: Option<&str>,
+    access: &Option<Text>,
 ) -> Result<Option<u64>, Rule>
-    ensures { MatchResult result (λ session. renewed_session key.now account (texts access.entry) ≡ Some session)
-        (λ rule. (rule ≡ Rule.Unavailable) ⊎ ((rule ≡ Rule.RenewalRefused) × (renewed_session key.now account (texts access.entry) ≡ None))) }
+    ensures { MatchResult result (λ session. renewed_session key.now account access.now ≡ Some session)
+        (λ rule. (rule ≡ Rule.Unavailable) ⊎ ((rule ≡ Rule.RenewalRefused) × (renewed_session key.now account access.now ≡ None))) }
 {
     let Some(text) = access else {
         return Ok(None);
     };
-    match verify_for_renewal(alloc, key, text.as_bytes()) {
+    match verify_for_renewal(alloc, key, text.as_str().as_bytes()) {
         Ok(claims) if claims.account != account => Err(Rule::RenewalRefused),
         Ok(claims) if is_session_of(account, claims.session) => Ok(claims.session),
         Err(TokenFault::Memory) => Err(Rule::Unavailable),
         _ => Err(Rule::RenewalRefused),
+    }
+}
+
+// The rule of a body's fault.
+fn rule_of(fault: BodyFault) -> Rule
+    ensures { result ≡ rule_of_fault fault }
+{
+    match fault {
+        BodyFault::BodyNotJson => Rule::BodyNotJson,
+        BodyFault::BodyEnvelope => Rule::BodyEnvelope,
+        BodyFault::BodyField => Rule::BodyField,
+        BodyFault::NoReference => Rule::NoReference,
+        BodyFault::Memory => Rule::Unavailable,
+    }
+}
+
+// What the body of a login says, or the rule of the first of its tests that it fails, or that memory was refused.
+fn login_body(alloc: Global, body: &[u8]) -> Result<LoginBody, Rule>
+    ensures { MatchResult result (λ login. login_of body.now ≡ Some login)
+        (λ rule. (rule ≡ Rule.Unavailable) ⊎ FailsBody body.now rule) }
+{
+    let object = match open_envelope(alloc, body) {
+        Ok(object) => object,
+        Err(fault) => return Err(rule_of(fault)),
+    };
+    match read_login(alloc, &object) {
+        Ok(login) => Ok(login),
+        Err(fault) => Err(rule_of(fault)),
     }
 }
 
@@ -118,38 +138,16 @@ pub(crate) fn decide(
 ) -> Result<Entry, Rule>
     ensures { IsDecided result (login_verdict key.now accounts.now moment body.now) }
 {
-    let value = parse(alloc, body)?;
-    let Some(object) = envelope_of(&value) else {
-        return Err(Rule::BodyEnvelope);
-    };
-    let Some(login) = credentials_of(object) else {
-        return Err(Rule::BodyField);
-    };
+    let login = login_body(alloc, body)?;
     let Some(used) = code_use_of(accounts, moment, &login) else {
         return Err(Rule::LoginRefused);
     };
-    let session = renewed_session(alloc, key, used.account, login.access)?;
+    let session = renewed_session(alloc, key, used.account, &login.access)?;
     Ok(Entry {
         account: used.account,
         step: used.step,
         session,
     })
-}
-
-// The envelope with an object that shows a token.
-fn token_value(alloc: Global, token: String) -> Result<Value, AllocError>
-    ensures { IfOk result (λ value. view value ≡ enveloped (token_object (string_bytes token))) }
-{
-    json!(in alloc; [{"acvVersion": "1.0"}, {"accessToken": token}])
-}
-
-// The body that shows a token.
-#[tactic(auto, unfolding(crate::specs::Reply::body_of))]
-fn token_body(alloc: Global, token: String) -> Result<String, AllocError>
-    ensures { IfOk result (λ text. string_bytes text ≡ body_of (token_object (string_bytes token))) }
-{
-    let value = token_value(alloc, token)?;
-    value.to_string(alloc)
 }
 
 // The reply with an account's new token.
@@ -161,7 +159,7 @@ pub(crate) fn token_reply(
     entry: Entry,
 ) -> Result<Reply, AllocError>
     requires { moment < 4102444800 }
-    ensures { IfOk result (λ reply. reply ≡ framed 200 (Some date.now) [] (body_of (token_object (token_text key.now (claims_at entry moment))))) }
+    ensures { IfOk result (λ reply. reply ≡ framed 200 (Some date.now) [] (body_of (reply_data (Login (token_text key.now (claims_at entry moment)))))) }
 {
     let claims = Claims {
         account: entry.account,
@@ -169,7 +167,7 @@ pub(crate) fn token_reply(
         issued: moment,
         expires: moment + TOKEN_LIFE,
     };
-    let token = issue(alloc, key, &claims)?;
-    let body = token_body(alloc, token)?;
-    Reply::accepted(alloc, date, body.as_bytes())
+    let token = Text::new(issue(alloc, key, &claims)?);
+    let body = write_reply(alloc, &ReplyObject::Login { token })?;
+    Reply::accepted(alloc, date, &body)
 }

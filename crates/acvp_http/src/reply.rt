@@ -2,7 +2,8 @@
 ghost use Rattle.std.specs.Prelude.{◌≡◌, ◌≤◌, ◌<◌, ◌++◌, ◌+◌, [], codes, length, decimal, unwrap_or, Some, None, option_map, option_copied, IfOk};
 ghost use Rattle.http.specs.StatusCode.{reason_phrase};
 ghost use Rattle.acvp_http.specs.Rule.{status_of, word_of};
-ghost use Rattle.acvp_http.specs.Reply.{phrase_of, line, date_line, rule_line, head_text, framed, date_shown, refusal, body_of, error_object};
+ghost use Rattle.acvp_http.specs.Reply.{phrase_of, line, date_line, rule_line, head_text, framed, date_shown, refusal, error_object};
+ghost use Rattle.acvp_json.specs.Written.{body_of};
 
 use crate::rule::Rule;
 use crate::text::Text;

@@ -18,6 +18,7 @@ pub enum Rule {
     BodyNotJson = 31,
     BodyEnvelope = 32,
     BodyField = 33,
+    NoReference = 40,
     LoginRefused = 42,
     RenewalRefused = 43,
     ClockOutOfRange = 44,
@@ -32,7 +33,7 @@ impl Rule {
     {
         match self {
             Rule::BadHead | Rule::Truncated | Rule::BadLength | Rule::HostMissing => 400,
-            Rule::BodyNotJson | Rule::BodyEnvelope | Rule::BodyField => 400,
+            Rule::BodyNotJson | Rule::BodyEnvelope | Rule::BodyField | Rule::NoReference => 400,
             Rule::LoginRefused | Rule::RenewalRefused => 403,
             Rule::NoRoute => 404,
             Rule::NoMethod => 405,
@@ -63,6 +64,7 @@ impl Rule {
             Rule::BodyNotJson => "bodyNotJson",
             Rule::BodyEnvelope => "bodyEnvelope",
             Rule::BodyField => "bodyField",
+            Rule::NoReference => "noReference",
             Rule::LoginRefused => "loginRefused",
             Rule::RenewalRefused => "renewalRefused",
             Rule::ClockOutOfRange => "clockOutOfRange",

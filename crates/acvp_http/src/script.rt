@@ -5,8 +5,8 @@ ghost use Rattle.acvp_http.specs.Lines.{Lacks, IsMoment, IsRequestTail, IsAddTai
 ghost use Rattle.acvp_http.specs.declared.script.Line.{Line};
 ghost use Rattle.acvp_http.specs.declared.script.Command.{Command};
 
-use crate::number::plain_number;
 use crate::records::Order;
+use acvp_registry::plain_number;
 
 const REQUEST: &[u8] = b"request";
 

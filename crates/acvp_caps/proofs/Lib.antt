@@ -1,0 +1,9 @@
+pub mod Ranges
+pub mod Names
+pub mod Steps
+pub mod MembersLemmas
+pub mod DomainLemmas
+pub mod JsonLemmas
+pub mod ReadingLemmas
+pub mod WritingLemmas
+pub mod TestsLemmas

@@ -1,0 +1,37 @@
+-- A capability: an algorithm and the domains of its parameters, all of them lengths in bits.
+use Rattle.std.specs.Prelude.{◌≡◌, ℕ, ◌*◌, ◌%◌, ◌<◌, ◌≤◌, List, length, All, MatchBool}
+use Rattle.std.specs.List.Sorted.{IsStrictlyIncreasing}
+use Rattle.acvp_mac.specs.Hash.{out_of}
+use Rattle.acvp_caps.specs.declared.algorithm.Algorithm.{Algorithm}
+use Rattle.acvp_caps.specs.declared.capability.Domains.{Domains}
+use Rattle.acvp_caps.specs.declared.capability.Domains.TheVariants.{Message, KeyAndMac}
+use Rattle.acvp_caps.specs.Algorithms.{hash_of, is_hmac_of}
+
+pub record CapabilityValue : Type 0 where
+  pub algorithm : Algorithm
+  pub domains : Domains
+
+-- lengths of whole bytes between two limits, at least one, ascending, each once
+pub record AreLengths (low high : ℕ) (lengths : List ℕ) : Type 0 where
+  pub some : 0 < length lengths
+  pub ascending : IsStrictlyIncreasing lengths
+  pub within : All (λ n. (low ≤ n) × (n ≤ high)) lengths
+  pub whole_bytes : All (λ n. n % 8 ≡ 0) lengths
+
+-- the bits of the algorithm's digest
+abbrev pub digest_bits : Algorithm → ℕ
+digest_bits a = 8 * out_of (hash_of a)
+
+-- what a hash function is tested at: messages of 0 to 65536 bits
+abbrev pub AreHashDomains : Domains → Type 0
+AreHashDomains (Message message) = AreLengths 0 65536 message
+AreHashDomains (KeyAndMac key mac) = ⊥
+
+-- what HMAC is tested at: keys of 8 to 524288 bits, and results of 32 bits to those of the digest
+abbrev pub AreHmacDomains : ℕ → Domains → Type 0
+AreHmacDomains bits (Message message) = ⊥
+AreHmacDomains bits (KeyAndMac key mac) = AreLengths 8 524288 key × AreLengths 32 bits mac
+
+-- the domains are those of the algorithm's parameters, and within what it is tested at
+abbrev pub AreDomainsOf : Algorithm → Domains → Type 0
+AreDomainsOf a domains = MatchBool (is_hmac_of a) (AreHmacDomains (digest_bits a) domains) (AreHashDomains domains)

@@ -1,0 +1,202 @@
+//! A capability: an algorithm and the domains of its parameters.
+
+ghost use Rattle.std.specs.Prelude.{◌≡◌, ◌≤◌, ◌*◌, ◌++◌, codes, true, false, Some, Ok, IfOk, string_bytes};
+ghost use Rattle.acvp_mac.specs.Hash.{out_of};
+ghost use Rattle.serde_json.specs.Find.{get};
+ghost use Rattle.serde_json.specs.View.{view};
+ghost use Rattle.acvp_caps.specs.Algorithms.{hash_of, is_hmac_of};
+ghost use Rattle.acvp_caps.specs.Capability.{AreDomainsOf, AreHashDomains, AreHmacDomains, digest_bits};
+ghost use Rattle.acvp_caps.specs.Registered.{capability_tests, capability_at, parameter_tests, domains_at, domain_tests, domain_of, large_data_tests, registered_capability, registered_text};
+ghost use Rattle.acvp_caps.specs.Tests.{IsAnswer, IsReadBy};
+ghost use Rattle.acvp_caps.specs.Written.{IsCapabilityData, IsHashData, IsHmacData};
+
+use crate::CapFault;
+use crate::algorithm::Algorithm;
+use crate::domain::{Domain, read_domain};
+use crate::json::{elements, is_optional_array, is_text, text_at};
+use acvp_mac::HashName;
+use serde_json::{Value, json};
+use std::alloc::{AllocError, Global};
+use std::marker::Model;
+
+/// The most bits of a message.
+const MESSAGE_LIMIT: u64 = 65536;
+
+/// The least bits of a key, and the most.
+const KEY_LIMITS: (u64, u64) = (8, 524288);
+
+/// The least bits of HMAC's result.
+const MAC_LEAST: u64 = 32;
+
+/// The domains of an algorithm's parameters, all of them lengths in bits.
+#[derive(Drop, Debug)]
+pub enum Domains {
+    /// Of a hash function: the length of the message.
+    Message(Domain),
+
+    /// Of HMAC: the length of the key, and that of the result.
+    KeyAndMac { key: Domain, mac: Domain },
+}
+
+/// An algorithm and the domains of its parameters, which lie within what the algorithm is tested
+/// at. It is made by reading a registration, or a capability's text.
+#[derive(Drop, Debug)]
+pub struct Capability {
+    algorithm: Algorithm,
+    domains: Domains,
+}
+
+impl Model for Capability {
+    ghost use Rattle.acvp_caps.specs.Capability.{CapabilityValue, AreDomainsOf};
+
+    ghost Value = { CapabilityValue };
+
+    ghost view = { λ c. record { algorithm = c.algorithm; domains = c.domains } };
+
+    ghost invariant = { λ c. AreDomainsOf c.algorithm c.domains };
+}
+
+impl Capability {
+    /// The algorithm.
+    pub fn algorithm(&self) -> Algorithm
+        ensures { result ≡ self.now.algorithm }
+    {
+        self.algorithm
+    }
+
+    /// The domains of its parameters.
+    pub fn domains(&self) -> &Domains
+        ensures value { result.now ≡ self.now.domains }
+        ensures fit { AreDomainsOf self.now.algorithm self.now.domains }
+    {
+        &self.domains
+    }
+
+    /// The capability as compact JSON, with the items of its domains as they were given.
+    #[tactic(auto, unfolding(crate::specs::Registered::registered_text))]
+    pub fn to_text(&self, alloc: Global) -> Result<String, AllocError>
+        ensures { IfOk result (λ text. registered_text (string_bytes text) ≡ Ok self.now) }
+    {
+        self.to_value(alloc)?.to_string(alloc)
+    }
+
+    /// The capability as a JSON value.
+    fn to_value(&self, alloc: Global) -> Result<Value, AllocError>
+        ensures { IfOk result (λ v. IsCapabilityData self.now (view v)) }
+    {
+        let Capability { algorithm, domains } = self;
+        let name = algorithm.name();
+        match domains {
+            Domains::Message(message) => hash_value(alloc, name, message),
+            Domains::KeyAndMac { key, mac } => hmac_value(alloc, name, key, mac),
+        }
+    }
+
+    /// The capability that a text is, as one of a registration is read. A text that is no JSON is
+    /// refused as `Field`.
+    #[tactic(auto, unfolding(crate::specs::Registered::registered_text))]
+    pub fn from_text(alloc: Global, text: &str) -> Result<Capability, CapFault>
+        ensures { IsAnswer (registered_text text.now) result }
+    {
+        match Value::from_str(alloc, text) {
+            Ok(value) => read_capability(alloc, &value),
+            Err(error) if error.is_memory() => Err(CapFault::Memory),
+            Err(_) => Err(CapFault::Field),
+        }
+    }
+}
+
+/// The value of a capability for a hash function.
+fn hash_value(alloc: Global, name: &str, message: &Domain) -> Result<Value, AllocError>
+    ensures { IfOk result (λ v. IsHashData name.now message.now (view v)) }
+{
+    let message = message.to_value(alloc)?;
+    json!(in alloc; {"algorithm": name, "messageLength": message, "revision": "1.0"})
+}
+
+/// The value of a capability for HMAC.
+fn hmac_value(alloc: Global, name: &str, key: &Domain, mac: &Domain) -> Result<Value, AllocError>
+    ensures { IfOk result (λ v. IsHmacData name.now key.now mac.now (view v)) }
+{
+    let key = key.to_value(alloc)?;
+    let mac = mac.to_value(alloc)?;
+    json!(in alloc; {"algorithm": name, "keyLen": key, "macLen": mac, "revision": "1.0"})
+}
+
+/// The capability that a JSON value is.
+pub(crate) fn read_capability(alloc: Global, value: &Value) -> Result<Capability, CapFault>
+    ensures { IsReadBy (capability_tests (view value.now)) (capability_at (view value.now)) result }
+{
+    let Some(name) = text_at(value, "algorithm") else {
+        return Err(CapFault::Field);
+    };
+    let revision = text_at(value, "revision");
+    if revision.is_none() {
+        return Err(CapFault::Field);
+    }
+    match Algorithm::from_name(name) {
+        Some(algorithm) if is_text(revision, "1.0") => read_parameters(alloc, value, algorithm),
+        _ => Err(CapFault::Unsupported),
+    }
+}
+
+/// The capability of an algorithm that a JSON value is.
+fn read_parameters(
+    alloc: Global,
+    value: &Value,
+    algorithm: Algorithm,
+) -> Result<Capability, CapFault>
+    ensures { IsReadBy (parameter_tests (view value.now) algorithm)
+        (Some (record { algorithm = algorithm; domains = domains_at (view value.now) algorithm })) result }
+{
+    let domains = if algorithm.is_hmac() {
+        read_hmac_domains(alloc, value, digest_bits(algorithm))?
+    } else {
+        read_hash_domains(alloc, value)?
+    };
+    Ok(Capability { algorithm, domains })
+}
+
+/// The domain of a hash function, and no test of large messages.
+fn read_hash_domains(alloc: Global, value: &Value) -> Result<Domains, CapFault>
+    ensures read { IsReadBy (large_data_tests (get (codes "performLargeDataTest") (view value.now))
+        ++ domain_tests 0 65536 (get (codes "messageLength") (view value.now)))
+        (Some (Domains.Message (domain_of (get (codes "messageLength") (view value.now))))) result }
+    ensures fit { IfOk result AreHashDomains }
+{
+    let large = value.get("performLargeDataTest");
+    if !is_optional_array(large) {
+        return Err(CapFault::Field);
+    }
+    if !elements(large).is_empty() {
+        return Err(CapFault::Unsupported);
+    }
+    let message = read_domain(alloc, value.get("messageLength"), 0, MESSAGE_LIMIT)?;
+    Ok(Domains::Message(message))
+}
+
+/// The domains of HMAC, whose result has at most so many bits.
+fn read_hmac_domains(alloc: Global, value: &Value, mac_limit: u64) -> Result<Domains, CapFault>
+    requires { mac_limit ≤ 524288 }
+    ensures read { IsReadBy (domain_tests 8 524288 (get (codes "keyLen") (view value.now))
+        ++ domain_tests 32 mac_limit (get (codes "macLen") (view value.now)))
+        (Some (Domains.KeyAndMac (domain_of (get (codes "keyLen") (view value.now))) (domain_of (get (codes "macLen") (view value.now))))) result }
+    ensures fit { IfOk result (AreHmacDomains mac_limit) }
+{
+    let key = read_domain(alloc, value.get("keyLen"), KEY_LIMITS.0, KEY_LIMITS.1)?;
+    let mac = read_domain(alloc, value.get("macLen"), MAC_LEAST, mac_limit)?;
+    Ok(Domains::KeyAndMac { key, mac })
+}
+
+/// The bits of an algorithm's digest.
+fn digest_bits(algorithm: Algorithm) -> u64
+    ensures value { result ≡ digest_bits algorithm }
+    ensures most { result ≤ 512 }
+{
+    match algorithm.hash() {
+        HashName::Sha224 | HashName::Sha512_224 => 224,
+        HashName::Sha256 | HashName::Sha512_256 => 256,
+        HashName::Sha384 => 384,
+        HashName::Sha512 => 512,
+    }
+}

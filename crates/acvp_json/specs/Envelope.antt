@@ -1,0 +1,41 @@
+-- The envelope that every body has: an array of two objects, the first of which names the version of the protocol.
+use Rattle.std.specs.Prelude.{ℕ, List, [], ◌∷◌, codes, Bool, ◌&&◌, is_some, if◌then◌else◌, Option, Some, None, option_and_then}
+use Rattle.std.specs.Str.{is_utf8}
+use Rattle.serde_json.specs.Data.{Data, Items, no_items, item}
+use Rattle.serde_json.specs.Read.{read}
+use Rattle.serde_json.specs.Find.{as_array, as_object}
+use Rattle.serde_json.specs.Written.{has_float}
+use Rattle.acvp_json.specs.declared.fault.BodyFault.TheVariants.{BodyNotJson, BodyEnvelope}
+use Rattle.acvp_json.specs.Members.{text_at, is_text}
+use Rattle.acvp_json.specs.Tests.{Test}
+
+-- the value, unless a number in it is kept as a float
+abbrev pub without_float : Data → Option Data
+without_float d = if has_float d then None else Some d
+
+-- the JSON value (RFC 8259) that the bytes are
+abbrev pub json_of : List ℕ → Option Data
+json_of bytes = if is_utf8 bytes then option_and_then without_float (read bytes) else None
+
+-- the first names the version, and the second is an object
+abbrev pub is_envelope : Data → Data → Bool
+is_envelope first second = is_text (codes "1.0") (text_at (codes "acvVersion") first) && is_some (as_object second)
+
+-- the second of exactly two items
+abbrev pub envelope_items : Items → Option Data
+envelope_items no_items = None
+envelope_items (item first no_items) = None
+envelope_items (item first (item second no_items)) = if is_envelope first second then Some second else None
+envelope_items (item first (item second (item third more))) = None
+
+-- the object that an envelope holds
+abbrev pub envelope_of : Data → Option Data
+envelope_of d = option_and_then envelope_items (as_array d)
+
+-- the object that a body holds
+abbrev pub object_of : List ℕ → Option Data
+object_of bytes = option_and_then envelope_of (json_of bytes)
+
+-- the tests of a body's envelope, in their order
+abbrev pub envelope_tests : List ℕ → List Test
+envelope_tests bytes = (is_some (json_of bytes), BodyNotJson) ∷ (is_some (object_of bytes), BodyEnvelope) ∷ []

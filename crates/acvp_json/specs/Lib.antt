@@ -1,0 +1,10 @@
+pub mod Tests
+pub mod Members
+pub mod Borrowed
+pub mod Envelope
+pub mod LoginBody
+pub mod Said
+pub mod CertifyBody
+pub mod Time
+pub mod Written
+pub mod ReplyData

@@ -1,0 +1,69 @@
+//! The envelope that every body has: an array of the protocol's version and an object.
+ghost use Rattle.std.specs.Prelude.{◌≡◌, ◌⊎◌, Some, None, option_map, MatchResult};
+ghost use Rattle.serde_json.specs.View.{view};
+ghost use Rattle.acvp_json.specs.Envelope.{json_of, is_envelope, envelope_of, object_of, envelope_tests};
+ghost use Rattle.acvp_json.specs.Members.{is_text};
+ghost use Rattle.acvp_json.specs.Tests.{IsAnswer, verdict};
+
+use crate::fault::BodyFault;
+use crate::floats::has_float;
+use crate::members::text_at;
+use serde_json::Value;
+use std::alloc::Global;
+
+// The JSON value that the bytes are.
+fn parse(alloc: Global, body: &[u8]) -> Result<Value, BodyFault>
+    ensures { MatchResult result (λ value. json_of body.now ≡ Some (view value))
+        (λ fault. (fault ≡ BodyFault.Memory) ⊎ ((fault ≡ BodyFault.BodyNotJson) × (json_of body.now ≡ None))) }
+{
+    match Value::from_slice(alloc, body) {
+        Ok(value) if has_float(&value) => Err(BodyFault::BodyNotJson),
+        Ok(value) => Ok(value),
+        Err(error) if error.is_memory() => Err(BodyFault::Memory),
+        Err(_) => Err(BodyFault::BodyNotJson),
+    }
+}
+
+fn is_text(text: Option<&str>, wanted: &str) -> bool
+    ensures { result ≡ is_text wanted.now (option_map (λ s. s.now) text.entry) }
+{
+    match text {
+        Some(text) => text == wanted,
+        None => false,
+    }
+}
+
+// Whether they are two objects, the first of which names the version.
+fn is_envelope(first: &Value, second: &Value) -> bool
+    ensures { result ≡ is_envelope (view first.now) (view second.now) }
+{
+    is_text(text_at(first, "acvVersion"), "1.0") && second.is_object()
+}
+
+// The object in an envelope.
+fn object_in(value: Value) -> Option<Value>
+    ensures { option_map view result ≡ envelope_of (view value) }
+{
+    let Value::Array(mut items) = value else {
+        return None;
+    };
+    if items.len() != 2 {
+        return None;
+    }
+    if is_envelope(&items[0], &items[1]) {
+        items.pop()
+    } else {
+        None
+    }
+}
+
+/// Reads a body's envelope, and gives the object in it. The faults are BodyNotJson, BodyEnvelope and Memory.
+pub fn open_envelope(alloc: Global, body: &[u8]) -> Result<Value, BodyFault>
+    ensures { IsAnswer result view (verdict (envelope_tests body.now) (object_of body.now)) }
+{
+    let value = parse(alloc, body)?;
+    match object_in(value) {
+        Some(object) => Ok(object),
+        None => Err(BodyFault::BodyEnvelope),
+    }
+}

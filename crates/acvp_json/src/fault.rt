@@ -1,0 +1,16 @@
+//! Why a body isn't read.
+
+/// Why a body isn't read, with the number of its rule of refusal; Memory is none.
+#[derive(Clone, Copy, Debug, PartialEq, Eq)]
+pub enum BodyFault {
+    /// Rule 31: the bytes aren't JSON, or hold a number that is kept as a float.
+    BodyNotJson,
+    /// Rule 32: the JSON value isn't two objects, the first with the version of the protocol.
+    BodyEnvelope,
+    /// Rule 33: a member is missing or isn't of its kind.
+    BodyField,
+    /// Rule 40: a text isn't the URL of an object of the kind that is meant.
+    NoReference,
+    /// Memory was refused.
+    Memory,
+}

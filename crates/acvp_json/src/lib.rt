@@ -1,0 +1,22 @@
+//! Bodies of requests in, and objects of replies out.
+#![tactic(auto)]
+
+mod certify_body;
+mod envelope;
+mod fault;
+mod floats;
+mod login_body;
+mod members;
+mod reply_object;
+#[cfg(test)]
+mod tests;
+mod text;
+mod time;
+
+pub use certify_body::{CertifyBody, read_certify};
+pub use envelope::open_envelope;
+pub use fault::BodyFault;
+pub use login_body::{LoginBody, read_login};
+pub use reply_object::{ReplyObject, write_reply};
+pub use text::Text;
+pub use time::time_text;

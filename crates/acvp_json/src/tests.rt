@@ -1,0 +1,250 @@
+//! Bodies and replies, by the forms that the protocol gives them; the times are those of `date -u`.
+
+use crate::{
+    BodyFault, CertifyBody, LoginBody, ReplyObject, Text, open_envelope, read_certify, read_login,
+    time_text, write_reply,
+};
+use acvp_caps::Algorithm;
+use serde_json::Value;
+use std::alloc::{AllocError, Global};
+use std::test::Fail;
+
+// An envelope around an object's text.
+fn enveloped(alloc: Global, object: &str) -> Result<String, AllocError> {
+    format!(in alloc; "[{{\"acvVersion\":\"1.0\"}},{object}]")
+}
+
+fn fault_of(alloc: Global, body: &[u8]) -> Option<BodyFault> {
+    open_envelope(alloc, body).err()
+}
+
+#[test]
+fn envelopes_are_opened(rt: HostRuntime) -> Result<(), Fail> {
+    let alloc = rt.alloc();
+    for (object, value) in [
+        ("{}", "{}"),
+        (
+            "{\"n\":18446744073709551615}",
+            "{\"n\":18446744073709551615}",
+        ),
+        (
+            "{\"n\":-9223372036854775808}",
+            "{\"n\":-9223372036854775808}",
+        ),
+        ("{\"n\":1,\"n\":2}", "{\"n\":2}"),
+        (" { \"b\" : [ ] , \"a\" : null } ", "{\"a\":null,\"b\":[]}"),
+    ] {
+        match open_envelope(alloc, enveloped(alloc, object)?.as_bytes()) {
+            Ok(read) => assert_eq!(rt; read.to_string(alloc)?.as_str(), value),
+            Err(_) => assert!(rt; false),
+        }
+    }
+    let unknown = b"[{\"acvVersion\":\"1.0\",\"further\":0},{}]";
+    assert_eq!(rt; fault_of(alloc, unknown), None);
+    Ok(())
+}
+
+#[test]
+fn what_is_no_json_is_told_first(rt: HostRuntime) -> Result<(), Fail> {
+    let alloc = rt.alloc();
+    for body in [
+        b"".as_slice(),
+        b"[",
+        b"[{\"acvVersion\":\"1.0\"},{\"n\":\"\xff\"}]",
+        b"[{\"acvVersion\":\"1.0\"},{}] {}",
+        b"[{\"acvVersion\":\"1.1\"},{\"n\":1.5}]",
+        b"[{\"acvVersion\":\"1.0\"},{\"n\":[{\"m\":1.0}]}]",
+        b"[{\"acvVersion\":\"1.0\"},{\"n\":1e2}]",
+        b"[{\"acvVersion\":\"1.0\"},{\"n\":-0}]",
+        b"[{\"acvVersion\":\"1.0\"},{\"n\":18446744073709551616}]",
+        b"[{\"acvVersion\":\"1.0\"},{\"n\":-9223372036854775809}]",
+    ] {
+        assert_eq!(rt; fault_of(alloc, body), Some(BodyFault::BodyNotJson));
+    }
+    Ok(())
+}
+
+#[test]
+fn nesting_ends_at_127(rt: HostRuntime) -> Result<(), Fail> {
+    let alloc = rt.alloc();
+    for (arrays, fault) in [(125, None), (126, Some(BodyFault::BodyNotJson))] {
+        let mut object = String::from_str(alloc, "{\"n\":")?;
+        for _ in 0..arrays {
+            object.push('[')?;
+        }
+        for _ in 0..arrays {
+            object.push(']')?;
+        }
+        object.push('}')?;
+        let body = enveloped(alloc, object.as_str())?;
+        assert_eq!(rt; fault_of(alloc, body.as_bytes()), fault);
+    }
+    Ok(())
+}
+
+#[test]
+fn other_envelopes_are_refused(rt: HostRuntime) -> Result<(), Fail> {
+    let alloc = rt.alloc();
+    for body in [
+        "{\"acvVersion\":\"1.0\"}",
+        "[]",
+        "[{\"acvVersion\":\"1.0\"}]",
+        "[{\"acvVersion\":\"1.1\"},{}]",
+        "[{\"acvVersion\":1},{}]",
+        "[{},{}]",
+        "[\"1.0\",{}]",
+        "[{\"acvVersion\":\"1.0\"},[]]",
+        "[{\"acvVersion\":\"1.0\"},{},{}]",
+    ] {
+        assert_eq!(rt;
+            fault_of(alloc, body.as_bytes()),
+            Some(BodyFault::BodyEnvelope)
+        );
+    }
+    Ok(())
+}
+
+fn login_in(alloc: Global, object: &str) -> Result<LoginBody, BodyFault> {
+    match Value::from_str(alloc, object) {
+        Ok(object) => read_login(alloc, &object),
+        Err(_) => Err(BodyFault::BodyNotJson),
+    }
+}
+
+#[test]
+fn a_login_has_two_texts_and_perhaps_a_token(rt: HostRuntime) -> Result<(), Fail> {
+    let alloc = rt.alloc();
+    for (object, token) in [
+        ("{\"password\":\"46119246\",\"user\":\"7\"}", None),
+        (
+            "{\"accessToken\":\"a.b.c\",\"password\":\"46119246\",\"user\":\"7\"}",
+            Some("a.b.c"),
+        ),
+    ] {
+        match login_in(alloc, object) {
+            Ok(login) => {
+                assert_eq!(rt; login.user.as_str(), "7");
+                assert_eq!(rt; login.password.as_str(), "46119246");
+                assert_eq!(rt; login.access.as_ref().map(|access| access.as_str()), token);
+            }
+            Err(_) => assert!(rt; false),
+        }
+    }
+    for object in [
+        "{\"password\":\"46119246\"}",
+        "{\"user\":\"7\"}",
+        "{\"password\":46119246,\"user\":\"7\"}",
+        "{\"accessToken\":null,\"password\":\"46119246\",\"user\":\"7\"}",
+    ] {
+        assert_eq!(rt; login_in(alloc, object).err(), Some(BodyFault::BodyField));
+    }
+    Ok(())
+}
+
+#[test]
+fn a_certification_names_a_module_and_an_environment(rt: HostRuntime) -> Result<(), Fail> {
+    let alloc = rt.alloc();
+    for (object, read) in [
+        (
+            "{\"moduleUrl\":\"/acvp/v1/modules/7000001\",\"oeUrl\":\"/acvp/v1/oes/7000002\"}",
+            Ok(CertifyBody {
+                module: 7000001,
+                environment: 7000002,
+            }),
+        ),
+        (
+            "{\"moduleUrl\":\"/acvp/v1/modules/7000001\",\"oeUrl\":\"/acvp/v1/oes/07000001\"}",
+            Err(BodyFault::NoReference),
+        ),
+        (
+            "{\"moduleUrl\":\"/acvp/v1/oes/7000001\",\"oeUrl\":\"/acvp/v1/oes/7000001\"}",
+            Err(BodyFault::NoReference),
+        ),
+        (
+            "{\"moduleUrl\":\"/acvp/v1/modules/7000001\"}",
+            Err(BodyFault::BodyField),
+        ),
+        (
+            "{\"moduleUrl\":\"no URL\",\"oeUrl\":7}",
+            Err(BodyFault::BodyField),
+        ),
+    ] {
+        match Value::from_str(alloc, object) {
+            Ok(object) => assert_eq!(rt; read_certify(&object), read),
+            Err(_) => assert!(rt; false),
+        }
+    }
+    Ok(())
+}
+
+#[test]
+fn times_are_those_of_the_civil_calendar(rt: HostRuntime) -> Result<(), Fail> {
+    let alloc = rt.alloc();
+    for (moment, text) in [
+        (0, "1970-01-01T00:00:00Z"),
+        (60, "1970-01-01T00:01:00Z"),
+        (2592060, "1970-01-31T00:01:00Z"),
+        (951782400, "2000-02-29T00:00:00Z"),
+        (4102444799, "2099-12-31T23:59:59Z"),
+        (253402300799, "9999-12-31T23:59:59Z"),
+    ] {
+        assert_eq!(rt; time_text(alloc, moment)?.as_str(), text);
+    }
+    Ok(())
+}
+
+#[test]
+fn a_login_is_answered_by_its_token(rt: HostRuntime) -> Result<(), Fail> {
+    let alloc = rt.alloc();
+    let token = Text::new(String::from_str(alloc, "a.b.c")?);
+    assert_eq!(rt;
+        write_reply(alloc, &ReplyObject::Login { token })?.as_slice(),
+        b"[{\"acvVersion\":\"1.0\"},{\"accessToken\":\"a.b.c\"}]".as_slice()
+    );
+    Ok(())
+}
+
+#[test]
+fn algorithms_have_names_and_numbers(rt: HostRuntime) -> Result<(), Fail> {
+    let alloc = rt.alloc();
+    let algorithm = ReplyObject::ReadAlgorithm {
+        algorithm: Algorithm::Sha2_256,
+    };
+    assert_eq!(rt;
+        write_reply(alloc, &algorithm)?.as_slice(),
+        b"[{\"acvVersion\":\"1.0\"},{\"name\":\"SHA2-256\",\"revision\":\"1.0\",\
+          \"url\":\"/acvp/v1/algorithms/2\"}]"
+            .as_slice()
+    );
+    let names = [
+        "SHA2-224",
+        "SHA2-256",
+        "SHA2-384",
+        "SHA2-512",
+        "SHA2-512/224",
+        "SHA2-512/256",
+        "HMAC-SHA2-224",
+        "HMAC-SHA2-256",
+        "HMAC-SHA2-384",
+        "HMAC-SHA2-512",
+        "HMAC-SHA2-512/224",
+        "HMAC-SHA2-512/256",
+    ];
+    let mut list = String::from_str(alloc, "[{\"acvVersion\":\"1.0\"},{\"algorithms\":[")?;
+    for (i, name) in names.iter().enumerate() {
+        if i > 0 {
+            list.push(',')?;
+        }
+        let number = i + 1;
+        let object = format!(in alloc;
+            "{{\"name\":\"{name}\",\"revision\":\"1.0\",\"url\":\"/acvp/v1/algorithms/{number}\"}}"
+        )?;
+        list.push_str(object.as_str())?;
+    }
+    list.push_str("]}]")?;
+    assert_eq!(rt;
+        write_reply(alloc, &ReplyObject::ListAlgorithms)?.as_slice(),
+        list.as_bytes()
+    );
+    Ok(())
+}

@@ -1,0 +1,254 @@
+-- The conditions of the policy: each a test of the facts, with the rule that is broken where it doesn't hold.
+use Rattle.std.specs.Prelude.{ℕ, ◌+◌, ◌/◌, Bool, true, false, Option, Some, None, ◌==◌, ◌&&◌, not, nat_lt, nat_le, is_some, is_none}
+use Rattle.acvp_token.specs.declared.Claims.{Claims}
+use Rattle.acvp_policy.specs.declared.rule.Rule.{Rule}
+use Rattle.acvp_policy.specs.declared.rule.Rule.TheVariants as rule
+use Rattle.acvp_policy.specs.declared.facts.Facts.{Facts}
+use Rattle.acvp_policy.specs.declared.facts.Token.{Token}
+use Rattle.acvp_policy.specs.declared.facts.Token.TheVariants as token
+use Rattle.acvp_policy.specs.declared.facts.Standing.{Standing}
+use Rattle.acvp_policy.specs.declared.facts.Standing.TheVariants as standing
+use Rattle.acvp_policy.specs.declared.facts.Subject.{Subject}
+use Rattle.acvp_policy.specs.declared.facts.Subject.TheVariants as subject
+use Rattle.acvp_policy.specs.declared.facts.Renewal.{Renewal}
+use Rattle.acvp_policy.specs.declared.facts.Renewal.TheVariants as renewal
+use Rattle.acvp_policy.specs.declared.facts.CertificationStatus.{CertificationStatus}
+use Rattle.acvp_policy.specs.declared.facts.CertificationStatus.TheVariants as status
+use Rattle.acvp_policy.specs.declared.facts.LoginFacts.{LoginFacts}
+use Rattle.acvp_policy.specs.declared.facts.RowSubject.{RowSubject}
+use Rattle.acvp_policy.specs.declared.facts.SessionFacts.{SessionFacts}
+use Rattle.acvp_policy.specs.declared.facts.CertificationFacts.{CertificationFacts}
+use Rattle.acvp_policy.specs.declared.facts.SetFacts.{SetFacts}
+use Rattle.acvp_policy.specs.Resource.{resource_of, session_number}
+
+-- a test that must hold, with the rule that is broken where it doesn't
+abbrev pub Test : Type 0
+Test = Bool × Rule
+
+-- a test of what may not be there: where it isn't, the test fails
+abbrev pub of : {X : Type 0} → Option X → (X → Bool) → Bool
+of None test = false
+of (Some x) test = test x
+
+-- a test of each thing that is there: where none is, it holds
+abbrev pub if_any : {X : Type 0} → Option X → (X → Bool) → Bool
+if_any None test = true
+if_any (Some x) test = test x
+
+-- the account whose number a session's number begins with
+abbrev pub account_of_session : ℕ → ℕ
+account_of_session s = s / 1000000
+
+-- The token (RFC 6750), its signature and its claims: a token fails no test before the one that was found to fail.
+
+abbrev pub is_there : Token → Bool
+is_there token.Missing = false
+is_there _ = true
+
+abbrev pub has_shape : Token → Bool
+has_shape token.Malformed = false
+has_shape t = is_there t
+
+abbrev pub is_signed : Token → Bool
+is_signed token.NotSigned = false
+is_signed t = has_shape t
+
+abbrev pub is_read : Token → Bool
+is_read token.NotRead = false
+is_read t = is_signed t
+
+abbrev pub lasts : Token → Bool
+lasts token.Expired = false
+lasts t = is_read t
+
+-- the claims of a token that passes them all
+abbrev pub claims_of : Token → Option Claims
+claims_of (token.Verified claims) = Some claims
+claims_of _ = None
+
+abbrev pub token_there : Facts → Test
+token_there f = (is_there f.token, rule.TokenMissing)
+
+abbrev pub token_shaped : Facts → Test
+token_shaped f = (has_shape f.token, rule.TokenMalformed)
+
+abbrev pub token_signed : Facts → Test
+token_signed f = (is_signed f.token, rule.TokenSignature)
+
+abbrev pub token_read : Facts → Test
+token_read f = (is_read f.token, rule.TokenClaims)
+
+abbrev pub token_lasts : Facts → Test
+token_lasts f = (lasts f.token, rule.TokenExpired)
+
+-- The account of the claims, and the session that the token is bound to.
+
+abbrev pub is_enabled : Standing → Bool
+is_enabled standing.Absent = false
+is_enabled standing.Disabled = false
+is_enabled standing.Enabled = true
+
+abbrev pub account_enabled : Facts → Test
+account_enabled f = (is_enabled f.standing, rule.AccountRefused)
+
+abbrev pub without_session : Facts → Test
+without_session f = (of (claims_of f.token) (λ c. is_none c.session), rule.AccountTokenNeeded)
+
+abbrev pub with_session : Facts → Test
+with_session f = (of (claims_of f.token) (λ c. is_some c.session), rule.SessionTokenNeeded)
+
+-- claims that are bound to session s, and are of its account
+abbrev pub are_of_session : ℕ → Claims → Bool
+are_of_session s c = of c.session (λ bound. bound == s) && (account_of_session s == c.account)
+
+abbrev pub this_session : Facts → Test
+this_session f =
+    (of (session_number (resource_of f.subject)) (λ s. of (claims_of f.token) (are_of_session s)), rule.OtherSession)
+
+-- What the path names is there, and is of the kind that the action is about.
+
+abbrev pub is_account : Subject → Bool
+is_account subject.Account = true
+is_account _ = false
+
+abbrev pub algorithm_of : Subject → Option ℕ
+algorithm_of (subject.Algorithm number) = Some number
+algorithm_of _ = None
+
+abbrev pub session_found : Subject → Option SessionFacts
+session_found (subject.Session on) = on.found
+session_found _ = None
+
+abbrev pub certification_found : Subject → Option CertificationFacts
+certification_found (subject.Certification on) = on.found
+certification_found _ = None
+
+abbrev pub set_found : Subject → Option SetFacts
+set_found (subject.Set on) = on.found
+set_found _ = None
+
+abbrev pub vendor_of : Subject → Option RowSubject
+vendor_of (subject.Vendor row) = Some row
+vendor_of _ = None
+
+abbrev pub module_of : Subject → Option RowSubject
+module_of (subject.Module row) = Some row
+module_of _ = None
+
+abbrev pub environment_of : Subject → Option RowSubject
+environment_of (subject.Environment row) = Some row
+environment_of _ = None
+
+abbrev pub request_of : Subject → Option RowSubject
+request_of (subject.Request row) = Some row
+request_of _ = None
+
+abbrev pub account_there : Facts → Test
+account_there f = (is_account f.subject, rule.NoResource)
+
+-- the twelve algorithms are numbered from 1
+abbrev pub algorithm_there : Facts → Test
+algorithm_there f = (of (algorithm_of f.subject) (λ n. nat_le 1 n && nat_le n 12), rule.NoResource)
+
+abbrev pub session_there : Facts → Test
+session_there f = (is_some (session_found f.subject), rule.NoResource)
+
+abbrev pub certification_there : Facts → Test
+certification_there f = (is_some (certification_found f.subject), rule.NoResource)
+
+abbrev pub set_there : Facts → Test
+set_there f = (is_some (set_found f.subject), rule.NoResource)
+
+abbrev pub vendor_there : Facts → Test
+vendor_there f = (of (vendor_of f.subject) (λ row. row.found), rule.NoResource)
+
+abbrev pub module_there : Facts → Test
+module_there f = (of (module_of f.subject) (λ row. row.found), rule.NoResource)
+
+abbrev pub environment_there : Facts → Test
+environment_there f = (of (environment_of f.subject) (λ row. row.found), rule.NoResource)
+
+abbrev pub request_there : Facts → Test
+request_there f = (of (request_of f.subject) (λ row. row.found), rule.NoResource)
+
+-- How the session stands.
+
+abbrev pub session_of_certification : Option CertificationFacts → Option SessionFacts
+session_of_certification None = None
+session_of_certification (Some found) = Some found.session
+
+abbrev pub session_of_set : Option SetFacts → Option SessionFacts
+session_of_set None = None
+session_of_set (Some found) = Some found.session
+
+-- the session that was found, whatever the path names of it
+abbrev pub session_of : Subject → Option SessionFacts
+session_of (subject.Session on) = on.found
+session_of (subject.Certification on) = session_of_certification on.found
+session_of (subject.Set on) = session_of_set on.found
+session_of _ = None
+
+-- seconds from a session's creation to its end, and to that of its vector sets
+abbrev pub session_life : ℕ
+session_life = 2592000
+
+abbrev pub set_life : ℕ
+set_life = 604800
+
+-- a session is frozen while its last certification request is initial or approved
+abbrev pub is_frozen : Option CertificationStatus → Bool
+is_frozen None = false
+is_frozen (Some status.Initial) = true
+is_frozen (Some status.Approved) = true
+is_frozen (Some status.Rejected) = false
+
+abbrev pub session_live : Facts → Test
+session_live f = (of (session_of f.subject) (λ x. not x.cancelled), rule.SessionCancelled)
+
+abbrev pub session_lasts : Facts → Test
+session_lasts f = (of (session_of f.subject) (λ x. nat_lt f.moment (x.created + session_life)), rule.SessionExpired)
+
+abbrev pub session_thawed : Facts → Test
+session_thawed f = (of (session_of f.subject) (λ x. not (is_frozen x.certification)), rule.SessionFrozen)
+
+abbrev pub is_sample : Facts → Test
+is_sample f = (of (session_of f.subject) (λ x. x.sample), rule.NotSample)
+
+abbrev pub is_no_sample : Facts → Test
+is_no_sample f = (of (session_of f.subject) (λ x. not x.sample), rule.SampleNotCertifiable)
+
+abbrev pub has_passed : Facts → Test
+has_passed f = (of (certification_found f.subject) (λ x. x.passed), rule.NotPassed)
+
+-- How the vector set stands.
+
+abbrev pub set_live : Facts → Test
+set_live f = (of (set_found f.subject) (λ x. not x.cancelled), rule.SetCancelled)
+
+abbrev pub set_lasts : Facts → Test
+set_lasts f = (of (set_found f.subject) (λ x. nat_lt f.moment (x.session.created + set_life)), rule.SetExpired)
+
+abbrev pub is_unanswered : Facts → Test
+is_unanswered f = (of (set_found f.subject) (λ x. not x.answered), rule.AlreadySubmitted)
+
+abbrev pub is_answered : Facts → Test
+is_answered f = (of (set_found f.subject) (λ x. x.answered), rule.NotSubmitted)
+
+-- A login.
+
+abbrev pub login_of : Subject → Option LoginFacts
+login_of (subject.Login found) = Some found
+login_of _ = None
+
+-- the claims may be given anew to the account: they are its own, and their session too where there is one
+abbrev pub may_renew : ℕ → Renewal → Bool
+may_renew account renewal.Unasked = true
+may_renew account renewal.Unreadable = false
+may_renew account (renewal.Reads c) =
+    (c.account == account) && if_any c.session (λ s. account_of_session s == account)
+
+abbrev pub code_accepted : Facts → Test
+code_accepted f = (of (login_of f.subject) (λ l. of l.user (λ u. u.enabled && is_some u.step)), rule.LoginRefused)
+
+abbrev pub renewal_allowed : Facts → Test
+renewal_allowed f = (of (login_of f.subject) (λ l. of l.user (λ u. may_renew u.account l.renewal)), rule.RenewalRefused)

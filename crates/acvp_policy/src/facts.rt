@@ -1,0 +1,186 @@
+//! What is known when a request is decided.
+
+use acvp_token::Claims;
+
+/// What is known when a request is decided: what was found, and nothing that is still to be looked up.
+/// A login is decided on its findings alone, and leaves `token` and `standing` unread.
+#[derive(Clone, Copy, Debug, PartialEq, Eq)]
+pub struct Facts {
+    /// The moment of the request, in seconds since 1970.
+    pub moment: u64,
+
+    /// What reading the bearer token came to, at this moment.
+    pub token: Token,
+
+    /// How the account of the token's claims stands.
+    pub standing: Standing,
+
+    /// What the request's path names, with what was found there.
+    pub subject: Subject,
+}
+
+/// What reading a bearer token came to: the first of its tests that failed, or its claims.
+#[derive(Clone, Copy, Debug, PartialEq, Eq)]
+pub enum Token {
+    /// There is none.
+    Missing,
+
+    /// It has the shape of no token, or there are two.
+    Malformed,
+
+    /// It isn't signed under the server's key.
+    NotSigned,
+
+    /// Its claims don't say whom it stands for and how long.
+    NotRead,
+
+    /// The moment is its end or past it.
+    Expired,
+
+    /// It is good at the moment.
+    Verified(Claims),
+}
+
+/// How an account stands.
+#[derive(Clone, Copy, Debug, PartialEq, Eq)]
+pub enum Standing {
+    Absent,
+    Disabled,
+    Enabled,
+}
+
+/// What a request's path names, with what was found there: one variant for each kind of resource, so
+/// that only the facts of that kind can be given.
+#[derive(Clone, Copy, Debug, PartialEq, Eq)]
+pub enum Subject {
+    /// The account that logs in.
+    Login(LoginFacts),
+
+    /// The account of the token: its own row, its lists, and what is added to them.
+    Account,
+
+    /// The algorithm of a number.
+    Algorithm(u64),
+
+    /// A session.
+    Session(SessionSubject),
+
+    /// The certification of a session.
+    Certification(CertificationSubject),
+
+    /// A vector set of a session.
+    Set(SetSubject),
+
+    /// A vendor, module or environment, or a request.
+    Vendor(RowSubject),
+    Module(RowSubject),
+    Environment(RowSubject),
+    Request(RowSubject),
+}
+
+/// What a login's body came to.
+#[derive(Clone, Copy, Debug, PartialEq, Eq)]
+pub struct LoginFacts {
+    /// The account whose plain decimal `user` is, where it has a row.
+    pub user: Option<UserFacts>,
+
+    /// The token that is handed in for renewal.
+    pub renewal: Renewal,
+}
+
+/// An account that logs in.
+#[derive(Clone, Copy, Debug, PartialEq, Eq)]
+pub struct UserFacts {
+    pub account: u16,
+    pub enabled: bool,
+
+    /// The accepted step of the one-time code, where there is one.
+    pub step: Option<u64>,
+}
+
+/// The token that a login hands in for renewal.
+#[derive(Clone, Copy, Debug, PartialEq, Eq)]
+pub enum Renewal {
+    /// There is none.
+    Unasked,
+
+    /// It doesn't read as a token of this server.
+    Unreadable,
+
+    /// It reads as these claims, whether it still lasts or not.
+    Reads(Claims),
+}
+
+/// The session that a path names.
+#[derive(Clone, Copy, Debug, PartialEq, Eq)]
+pub struct SessionSubject {
+    pub session: u64,
+    pub found: Option<SessionFacts>,
+}
+
+/// The session that a path names, to be certified.
+#[derive(Clone, Copy, Debug, PartialEq, Eq)]
+pub struct CertificationSubject {
+    pub session: u64,
+    pub found: Option<CertificationFacts>,
+}
+
+/// The vector set that a path names.
+#[derive(Clone, Copy, Debug, PartialEq, Eq)]
+pub struct SetSubject {
+    pub session: u64,
+    pub set: u64,
+
+    /// The session and its set; none where either isn't there, or the set isn't the session's.
+    pub found: Option<SetFacts>,
+}
+
+/// The row that a path names by its number.
+#[derive(Clone, Copy, Debug, PartialEq, Eq)]
+pub struct RowSubject {
+    pub number: u64,
+
+    /// Whether the account of the token has a row of this kind and number.
+    pub found: bool,
+}
+
+/// How a session stands.
+#[derive(Clone, Copy, Debug, PartialEq, Eq)]
+pub struct SessionFacts {
+    pub cancelled: bool,
+
+    /// When it was created, in seconds since 1970.
+    pub created: u64,
+
+    pub sample: bool,
+
+    /// The status of its last certification request, where it has one.
+    pub certification: Option<CertificationStatus>,
+}
+
+/// The status of a certification request.
+#[derive(Clone, Copy, Debug, PartialEq, Eq)]
+pub enum CertificationStatus {
+    Initial,
+    Approved,
+    Rejected,
+}
+
+/// How a session stands that is to be certified.
+#[derive(Clone, Copy, Debug, PartialEq, Eq)]
+pub struct CertificationFacts {
+    pub session: SessionFacts,
+
+    /// Whether the session has a vector set that isn't cancelled, and each such set has the disposition `passed`.
+    pub passed: bool,
+}
+
+/// How a vector set stands, and its session.
+#[derive(Clone, Copy, Debug, PartialEq, Eq)]
+pub struct SetFacts {
+    pub session: SessionFacts,
+    pub cancelled: bool,
+
+    /// Whether answers are kept.
+    pub answered: bool,
+}

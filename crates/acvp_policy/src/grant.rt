@@ -1,0 +1,69 @@
+//! Decisions and the grants that they give.
+
+ghost use Rattle.std.specs.Prelude.{◌≡◌, ◌↔◌, IsTrue, IfOk};
+ghost use Rattle.acvp_policy.specs.Decision.{account_of, decision, granted};
+
+use crate::action::Action;
+use crate::caller::claims_allow;
+use crate::facts::{Facts, Subject, Token};
+use crate::found::resource_allows;
+use crate::resource::Resource;
+use crate::rule::Rule;
+use std::marker::Model;
+
+/// Leave for an account to take an action on a resource. Only `decide` gives one. It can't be copied, and it
+/// must be spent: by `release`, or by the change that it stands for.
+pub struct Grant {
+    action: Action,
+    account: u16,
+    resource: Resource,
+}
+
+impl Model for Grant {
+    ghost use Rattle.acvp_policy.specs.Granted.{Granted};
+
+    ghost Value = { Granted };
+
+    ghost view = { λ g. record { action = g.action; account = g.account; resource = g.resource } };
+}
+
+/// Decides whether an action may be taken: the first rule that is broken, or a grant.
+pub fn decide(action: Action, facts: &Facts) -> Result<Grant, Rule>
+    ensures decision { result ≡ decision action facts.now }
+    ensures grant { IfOk result (λ g. g ≡ granted action facts.now) }
+{
+    claims_allow(action.scope(), facts)?;
+    resource_allows(action, facts)?;
+    Ok(Grant {
+        action,
+        account: acting_account(facts),
+        resource: facts.subject.resource(),
+    })
+}
+
+/// Spends a grant without a change.
+pub fn release(grant: Grant) {
+    let Grant {
+        action: _,
+        account: _,
+        resource: _,
+    } = grant;
+}
+
+/// Whether a grant is for this resource of this account.
+pub fn allows(grant: &Grant, account: u16, resource: Resource) -> bool
+    ensures { IsTrue result ↔ ((grant.now.account ≡ account) × (grant.now.resource ≡ resource)) }
+{
+    grant.account == account && grant.resource == resource
+}
+
+/// The account that acts: a login's user, or else that of the token's claims.
+fn acting_account(facts: &Facts) -> u16
+    ensures { result ≡ account_of facts.now }
+{
+    match (facts.subject, facts.token) {
+        (Subject::Login(login), _) => login.user.map_or(0, |user| user.account),
+        (_, Token::Verified(claims)) => claims.account,
+        _ => 0,
+    }
+}

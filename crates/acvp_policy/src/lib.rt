@@ -1,0 +1,26 @@
+//! Who may do what: the policy of the server, over facts that were found before.
+#![tactic(auto)]
+
+pub use action::{Action, Scope};
+pub use facts::{
+    CertificationFacts, CertificationStatus, CertificationSubject, Facts, LoginFacts, Renewal,
+    RowSubject, SessionFacts, SessionSubject, SetFacts, SetSubject, Standing, Subject, Token,
+    UserFacts,
+};
+pub use grant::{Grant, allows, decide, release};
+pub use isolation::caller_rules_agree;
+pub use resource::Resource;
+pub use rule::Rule;
+
+mod action;
+mod caller;
+mod facts;
+mod found;
+mod grant;
+mod isolation;
+mod resource;
+mod rule;
+mod session;
+mod set;
+#[cfg(test)]
+mod tests;

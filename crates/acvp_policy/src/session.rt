@@ -1,0 +1,88 @@
+//! The rules on a session: how it must stand for each action.
+
+ghost use Rattle.std.specs.Prelude.{◌≡◌, nat_lt, ◌+◌};
+ghost use Rattle.acvp_policy.specs.Decision.{verdict};
+ghost use Rattle.acvp_policy.specs.declared.action.Action.TheVariants as action;
+ghost use Rattle.acvp_policy.specs.Policy.{resource_tests};
+ghost use Rattle.acvp_policy.specs.Conditions.{is_frozen, session_life};
+
+use crate::caller::check;
+use crate::facts::{CertificationStatus, Facts, SessionFacts, Subject};
+use crate::rule::Rule;
+
+/// The seconds from a session's creation to its end.
+const SESSION_SPAN: u64 = 2592000;
+
+/// Whether a session may be read, or its sets listed.
+pub fn session_read_allowed(facts: &Facts) -> Result<(), Rule>
+    ensures { result ≡ verdict (resource_tests action.ReadSession facts.now) tt }
+{
+    let Subject::Session(on) = facts.subject else {
+        return Err(Rule::NoResource);
+    };
+    check(on.found.is_some(), Rule::NoResource)
+}
+
+/// Whether a session's results may be read.
+pub fn session_results_allowed(facts: &Facts) -> Result<(), Rule>
+    ensures { result ≡ verdict (resource_tests action.SessionResults facts.now) tt }
+{
+    let Subject::Session(on) = facts.subject else {
+        return Err(Rule::NoResource);
+    };
+    let Some(session) = on.found else {
+        return Err(Rule::NoResource);
+    };
+    check(!session.cancelled, Rule::SessionCancelled)
+}
+
+/// Whether a session may be cancelled.
+pub fn cancel_session_allowed(facts: &Facts) -> Result<(), Rule>
+    ensures { result ≡ verdict (resource_tests action.CancelSession facts.now) tt }
+{
+    let Subject::Session(on) = facts.subject else {
+        return Err(Rule::NoResource);
+    };
+    let Some(session) = on.found else {
+        return Err(Rule::NoResource);
+    };
+    check(!session.cancelled, Rule::SessionCancelled)?;
+    check(!frozen(session), Rule::SessionFrozen)
+}
+
+/// Whether a session may be sent for certification.
+pub fn certification_allowed(facts: &Facts) -> Result<(), Rule>
+    ensures { result ≡ verdict (resource_tests action.Certify facts.now) tt }
+{
+    let Subject::Certification(on) = facts.subject else {
+        return Err(Rule::NoResource);
+    };
+    let Some(found) = on.found else {
+        return Err(Rule::NoResource);
+    };
+    check(!found.session.cancelled, Rule::SessionCancelled)?;
+    check(
+        session_lasts(found.session, facts.moment),
+        Rule::SessionExpired,
+    )?;
+    check(!frozen(found.session), Rule::SessionFrozen)?;
+    check(!found.session.sample, Rule::SampleNotCertifiable)?;
+    check(found.passed, Rule::NotPassed)
+}
+
+/// Whether the moment is before the session's end; before its creation it is, too.
+pub fn session_lasts(session: SessionFacts, moment: u64) -> bool
+    ensures { result ≡ nat_lt moment (session.created + session_life) }
+{
+    moment.saturating_sub(session.created) < SESSION_SPAN
+}
+
+/// Whether the session's certification is asked for or given.
+pub fn frozen(session: SessionFacts) -> bool
+    ensures { result ≡ is_frozen session.certification }
+{
+    match session.certification {
+        None | Some(CertificationStatus::Rejected) => false,
+        Some(CertificationStatus::Initial | CertificationStatus::Approved) => true,
+    }
+}
