@@ -14,6 +14,11 @@ done
 echo "grant_user: acvp_policy" >>"$room/crates.txt"
 failed=0
 
+if grep -rnw unsafe crates/*/src; then
+    echo "unsafe code can let a grant go unspent"
+    failed=1
+fi
+
 write_user() { # FUNCTION: a crate that spends its grants as it should, with one more function
     cat >"$user/src/lib.rt" <<END
 //! What a caller does with a grant.

@@ -76,6 +76,9 @@ def limits(keys):
     stopped = run(script, line * 100001)
     expect("one event more", (stopped.returncode, stopped.stdout == answer * 100000, stopped.stderr),
            (1, True, b"fault: limit\n"))
+    stopped = run(script, line * 100000 + b"\n")
+    expect("no event behind the last one", (stopped.returncode, stopped.stdout == answer * 100000, stopped.stderr),
+           (1, True, b"fault: limit\n"))
 
 
 def command_lines(keys, folder):

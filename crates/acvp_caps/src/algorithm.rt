@@ -37,22 +37,28 @@ pub enum Algorithm {
     HmacSha2_512_256,
 }
 
+const ALL: [Algorithm; 12] = [
+    Algorithm::Sha2_224,
+    Algorithm::Sha2_256,
+    Algorithm::Sha2_384,
+    Algorithm::Sha2_512,
+    Algorithm::Sha2_512_224,
+    Algorithm::Sha2_512_256,
+    Algorithm::HmacSha2_224,
+    Algorithm::HmacSha2_256,
+    Algorithm::HmacSha2_384,
+    Algorithm::HmacSha2_512,
+    Algorithm::HmacSha2_512_224,
+    Algorithm::HmacSha2_512_256,
+];
+
 impl Algorithm {
-    /// The algorithms in the order of their numbers, of which the first is 1.
-    pub const ALL: [Algorithm; 12] = [
-        Algorithm::Sha2_224,
-        Algorithm::Sha2_256,
-        Algorithm::Sha2_384,
-        Algorithm::Sha2_512,
-        Algorithm::Sha2_512_224,
-        Algorithm::Sha2_512_256,
-        Algorithm::HmacSha2_224,
-        Algorithm::HmacSha2_256,
-        Algorithm::HmacSha2_384,
-        Algorithm::HmacSha2_512,
-        Algorithm::HmacSha2_512_224,
-        Algorithm::HmacSha2_512_256,
-    ];
+    /// The algorithms in the order of their numbers.
+    pub fn all() -> [Algorithm; 12]
+        ensures { result ≡ algorithms }
+    {
+        ALL
+    }
 
     /// The name in registrations, as `HMAC-SHA2-512/256`.
     pub fn name(self) -> &'static str
@@ -137,8 +143,7 @@ impl Algorithm {
 fn algorithm_named(name: &str) -> Option<Algorithm>
     ensures { result ≡ named name.now }
 {
-    Algorithm::ALL
-        .iter()
+    ALL.iter()
         .copied()
         .find(|algorithm| algorithm.name() == name)
 }

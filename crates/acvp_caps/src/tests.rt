@@ -8,7 +8,8 @@ use std::test::Fail;
 
 #[test]
 fn the_algorithms_have_their_names(rt: HostRuntime) {
-    for (name, hash, is_hmac) in [
+    let all = Algorithm::all();
+    for (i, (name, hash, is_hmac)) in [
         ("SHA2-224", HashName::Sha224, false),
         ("SHA2-256", HashName::Sha256, false),
         ("SHA2-384", HashName::Sha384, false),
@@ -21,13 +22,18 @@ fn the_algorithms_have_their_names(rt: HostRuntime) {
         ("HMAC-SHA2-512", HashName::Sha512, true),
         ("HMAC-SHA2-512/224", HashName::Sha512_224, true),
         ("HMAC-SHA2-512/256", HashName::Sha512_256, true),
-    ] {
+    ]
+    .into_iter()
+    .enumerate()
+    {
         let found = Algorithm::from_name(name);
         assert!(rt; found.is_some(), "{name}");
         if let Some(algorithm) = found {
             assert!(rt; algorithm.name() == name, "{name}");
             assert!(rt; algorithm.hash() == hash, "{name}");
             assert!(rt; algorithm.is_hmac() == is_hmac, "{name}");
+            assert!(rt; algorithm.number() == i as u64 + 1, "{name}");
+            assert!(rt; algorithm == all[i], "{name}");
         }
     }
     assert!(rt; Algorithm::from_name("SHA-1").is_none());
@@ -286,6 +292,21 @@ fn the_first_fault_of_a_capability_is_told(rt: HostRuntime) {
         (
             "an empty key, before the absence of a result",
             r#"{"algorithm":"HMAC-SHA2-256","revision":"1.0","keyLen":[0]}"#,
+            CapFault::OutOfRange,
+        ),
+        (
+            "no length of the key, before a bad result",
+            r#"{"algorithm":"HMAC-SHA2-256","revision":"1.0","macLen":[7]}"#,
+            CapFault::Field,
+        ),
+        (
+            "a key of half bytes, before its limits",
+            r#"{"algorithm":"HMAC-SHA2-256","revision":"1.0","keyLen":[524296,12],"macLen":[7]}"#,
+            CapFault::NotByteOriented,
+        ),
+        (
+            "a result too short",
+            r#"{"algorithm":"HMAC-SHA2-256","revision":"1.0","keyLen":[8],"macLen":[24]}"#,
             CapFault::OutOfRange,
         ),
         (

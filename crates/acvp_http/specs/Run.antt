@@ -1,5 +1,5 @@
 -- The run of a script: what it makes of the records and of the input, and what it writes.
-use Rattle.std.specs.Prelude.{◌≡◌, ◌≢◌, ◌≤◌, ℕ, ◌+◌, ◌-◌, ◌^◌, min, List, [], ◌∷◌, ◌++◌, length, map, Bool, true, false, Option, None, Some, Result, Ok, Err, ⊤}
+use Rattle.std.specs.Prelude.{◌≡◌, ◌≢◌, ◌≤◌, ◌<◌, ℕ, ◌+◌, ◌-◌, ◌^◌, min, List, [], ◌∷◌, ◌++◌, length, map, Bool, true, false, Option, None, Some, Result, Ok, Err, ⊤}
 use Rattle.std.specs.Io.KnownBytes.{Appends, Consumes, IsAtEnd}
 use Rattle.acvp_http.specs.declared.records.Account.{Account}
 use Rattle.acvp_http.specs.declared.script.ScriptFault.{ScriptFault}
@@ -17,18 +17,19 @@ abbrev pub BeginsWith : Option (List ℕ) → List ℕ → (List ℕ → Type 0)
 BeginsWith None text After = ⊤
 BeginsWith (Some input) text After = (rest : List ℕ) × (input ≡ text ++ rest) × After rest
 
--- Behind the text, what was taken of the known input holds no whole event.
+-- What was taken of the known input behind the text has no whole event at its front.
 abbrev pub TakesInPart : Option (List ℕ) → Option (List ℕ) → List ℕ → Type 0
 TakesInPart input left text = (part : List ℕ) × HasNoEvent part × Consumes input left (text ++ part)
 
--- how much of the input was taken by a run whose turns have this script, what comes after the script, and how many turns there are
+-- How much of the input was taken by a run whose turns have this script, what comes after the script, and how many turns there
+-- are: after 100000 events nothing is read as an event.
 abbrev pub StopsAfter : Option (List ℕ) → Option (List ℕ) → List Turn → List ℕ → Result ℕ ScriptFault → Type 0
 StopsAfter input left turns text (Ok count) = (count ≡ length turns) × Consumes input left text × IsAtEnd left
-StopsAfter input left turns text (Err Syntax) = TakesInPart input left text × BeginsWith input text LeavesGrammar
+StopsAfter input left turns text (Err Syntax) = (length turns < 100000) × TakesInPart input left text × BeginsWith input text LeavesGrammar
 StopsAfter input left turns text (Err Read) = TakesInPart input left text
 StopsAfter input left turns text (Err Write) = Consumes input left text
 StopsAfter input left turns text (Err Limit) = TakesInPart input left text
-StopsAfter input left turns text (Err Memory) = TakesInPart input left text
+StopsAfter input left turns text (Err Memory) = (length turns < 100000) × TakesInPart input left text
 
 -- the output of all answers but the last, and a front of the last one's
 abbrev pub WritesInPart : Option (List ℕ) → Option (List ℕ) → List Answer → Type 0

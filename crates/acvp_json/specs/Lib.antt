@@ -8,3 +8,10 @@ pub mod CertifyBody
 pub mod Time
 pub mod Written
 pub mod ReplyData
+pub use Rattle.acvp_caps.specs.Algorithms
+pub use Rattle.acvp_registry.specs.Url
+pub use Rattle.jiff.specs.Words
+pub use Rattle.serde_json.specs.Data
+pub use Rattle.serde_json.specs.Find
+pub use Rattle.serde_json.specs.Read
+pub use Rattle.serde_json.specs.View

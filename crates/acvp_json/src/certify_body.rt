@@ -1,8 +1,8 @@
 //! The body of a request for certification.
-ghost use Rattle.std.specs.Prelude.{◌≡◌, ◌⊎◌, Some, None, option_map, MatchOption};
+ghost use Rattle.std.specs.Prelude.{◌≡◌, Ok, Err, Some, MatchResult};
 ghost use Rattle.serde_json.specs.View.{view};
 ghost use Rattle.acvp_json.specs.CertifyBody.{certify_body_of, certify_body_tests};
-ghost use Rattle.acvp_json.specs.Tests.{IsAnswer, verdict};
+ghost use Rattle.acvp_json.specs.Tests.{verdict};
 
 use crate::fault::BodyFault;
 use crate::members::text_at;
@@ -19,7 +19,9 @@ pub struct CertifyBody {
 
 /// Reads the object of a request for certification. The faults are BodyField and then NoReference; it takes no memory.
 pub fn read_certify(object: &Value) -> Result<CertifyBody, BodyFault>
-    ensures { IsAnswer result (λ body. body) (verdict (certify_body_tests (view object.now)) (certify_body_of (view object.now))) }
+    ensures { MatchResult result
+        (λ body. verdict (certify_body_tests (view object.now)) (certify_body_of (view object.now)) ≡ Ok (Some body))
+        (λ fault. verdict (certify_body_tests (view object.now)) (certify_body_of (view object.now)) ≡ Err fault) }
 {
     let (Some(module), Some(environment)) = (text_at(object, "moduleUrl"), text_at(object, "oeUrl"))
     else {

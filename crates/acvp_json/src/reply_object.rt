@@ -40,8 +40,8 @@ fn algorithm_value(alloc: Global, algorithm: Algorithm) -> Result<Value, AllocEr
 fn algorithm_values(alloc: Global) -> Result<Vec<Value>, AllocError>
     ensures { IfOk result (λ values. map view values.items ≡ map algorithm_data algorithms) }
 {
-    let mut values = Vec::with_capacity(alloc, Algorithm::ALL.len())?;
-    for algorithm in Algorithm::ALL {
+    let mut values = Vec::new(alloc);
+    for algorithm in Algorithm::all() {
         values.push(algorithm_value(alloc, algorithm)?)?;
     }
     Ok(values)

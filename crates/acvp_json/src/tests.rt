@@ -52,6 +52,7 @@ fn what_is_no_json_is_told_first(rt: HostRuntime) -> Result<(), Fail> {
         b"[",
         b"[{\"acvVersion\":\"1.0\"},{\"n\":\"\xff\"}]",
         b"[{\"acvVersion\":\"1.0\"},{}] {}",
+        b"[{\"acvVersion\":\"1.0\"},{\"n\":1.5}]",
         b"[{\"acvVersion\":\"1.1\"},{\"n\":1.5}]",
         b"[{\"acvVersion\":\"1.0\"},{\"n\":[{\"m\":1.0}]}]",
         b"[{\"acvVersion\":\"1.0\"},{\"n\":1e2}]",
@@ -123,9 +124,9 @@ fn a_login_has_two_texts_and_perhaps_a_token(rt: HostRuntime) -> Result<(), Fail
     ] {
         match login_in(alloc, object) {
             Ok(login) => {
-                assert_eq!(rt; login.user.as_str(), "7");
-                assert_eq!(rt; login.password.as_str(), "46119246");
                 assert_eq!(rt; login.access.as_ref().map(|access| access.as_str()), token);
+                assert_eq!(rt; login.password.as_str(), "46119246");
+                assert_eq!(rt; login.user.into_string().as_str(), "7");
             }
             Err(_) => assert!(rt; false),
         }

@@ -58,5 +58,5 @@ fn is_bound_to(claims: Claims, resource: Resource) -> bool
     claims.session == Some(session) && session / ACCOUNT_SPAN == claims.account as u64
 }
 
-/// How many session numbers an account has: a session's number begins with its account's.
+/// A session's number divided by this is its account's.
 pub const ACCOUNT_SPAN: u64 = 1_000_000;

@@ -223,7 +223,19 @@ fn session_broken(session: SessionFacts, rule: Rule) -> SessionFacts {
     broken
 }
 
-/// The facts with one condition spoilt, the one whose rule this is, and the others as they are.
+/// A login's findings without a step of its code, or with a token that can't be renewed.
+fn with_login_broken(subject: Subject, rule: Rule) -> Subject {
+    let Subject::Login(mut login) = subject else {
+        return subject;
+    };
+    match (rule, login.user) {
+        (Rule::LoginRefused, Some(user)) => login.user = Some(UserFacts { step: None, ..user }),
+        _ => login.renewal = Renewal::Unreadable,
+    }
+    Subject::Login(login)
+}
+
+/// The facts with one condition spoilt, the one whose rule this is, and those that fall with it.
 fn broken(facts: Facts, rule: Rule) -> Facts {
     let mut broken = facts;
     match rule {
@@ -239,8 +251,9 @@ fn broken(facts: Facts, rule: Rule) -> Facts {
         Rule::NoResource => broken.subject = not_found(facts.subject),
         Rule::SessionExpired => broken.moment = 2592060,
         Rule::SetExpired => broken.moment = 604860,
-        Rule::LoginRefused => broken.subject = on_login(true, None, Renewal::Unasked),
-        Rule::RenewalRefused => broken.subject = on_login(true, Some(2), Renewal::Unreadable),
+        Rule::LoginRefused | Rule::RenewalRefused => {
+            broken.subject = with_login_broken(facts.subject, rule);
+        }
         _ => broken.subject = with_session_broken(facts.subject, rule),
     }
     broken

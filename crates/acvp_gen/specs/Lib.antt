@@ -1,0 +1,2 @@
+pub mod Words
+pub use Rattle.rand_chacha.specs.ChaCha
