@@ -1,2 +1,5 @@
 pub mod MapLemmas
 pub mod AnswerLemmas
+pub mod MonteCarloLemmas
+pub mod TurnLemmas
+pub mod StandardLemmas

@@ -1,5 +1,6 @@
 -- Answers to tests: each a test's number and the texts that answer it.
-use Rattle.std.specs.Prelude.{ℕ, List, map, string_bytes, Vec, String}
+use Rattle.std.specs.Prelude.{ℕ, ◌==◌, List, map, string_bytes, Vec, String, Bool}
+use Rattle.std.specs.List.{list_any}
 use Rattle.std.specs.Global.{Global}
 use Rattle.std.specs.Map.{keys_of}
 use Rattle.std.specs.Ordering.{nat_cmp}
@@ -12,6 +13,10 @@ Answer = ℕ × List (List ℕ)
 -- the answers ascend by their numbers, each of which stands once
 abbrev pub AreAscending : List Answer → Type 0
 AreAscending answers = IsStrictlySortedBy nat_cmp (keys_of answers)
+
+-- whether the test of a number is answered
+abbrev pub is_answered : List Answer → ℕ → Bool
+is_answered answers number = list_any (λ n. n == number) (keys_of answers)
 
 -- the texts that a map keeps, and its entries, as contracts see them
 abbrev pub Texts : Type 0

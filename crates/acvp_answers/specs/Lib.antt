@@ -1,2 +1,9 @@
 pub mod Answer
+pub mod MonteCarlo
+pub mod Standards
 pub mod Verdicts
+pub use Rattle.acvp_gen.specs.Prompt
+pub use Rattle.acvp_gen.specs.Prompts
+pub use Rattle.acvp_mac.specs.Hash
+pub use Rattle.acvp_mac.specs.Hmac
+pub use Rattle.hex.specs.Hex

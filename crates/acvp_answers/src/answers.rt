@@ -4,7 +4,8 @@ ghost use Rattle.std.specs.BTreeMap.{insert_entry};
 ghost use Rattle.std.specs.Ordering.{nat_cmp};
 ghost use Rattle.std.specs.List.{slice_get};
 ghost use Rattle.std.specs.Map.{keys_of};
-ghost use Rattle.acvp_answers.specs.Answer.{AreAscending, shown};
+ghost use Rattle.acvp_answers.specs.Answer.{AreAscending, is_answered, shown};
+ghost use Rattle.acvp_answers.specs.Verdicts.{answer_to};
 
 use std::alloc::{AllocError, Global};
 use std::collections::BTreeMap;
@@ -83,6 +84,23 @@ impl Answers {
         match nth_of(&self.texts, i) {
             Some(entry) => entry,
             None => unreachable!(),
+        }
+    }
+
+    /// Whether the test of a number is answered. It takes no memory.
+    pub fn contains(&self, number: u64) -> bool
+        ensures { result ≡ is_answered self.now number }
+    {
+        self.texts.contains_key(&number)
+    }
+
+    /// The texts that answer the test of a number, where it is answered. It takes no memory.
+    pub fn texts_for(&self, number: u64) -> Option<&[String]>
+        ensures { option_map (λ texts. map string_bytes texts.now) result ≡ answer_to self.now number }
+    {
+        match self.texts.get(&number) {
+            Some(texts) => Some(texts),
+            None => None,
         }
     }
 }

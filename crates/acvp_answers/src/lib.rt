@@ -1,12 +1,17 @@
 //! Answers to the tests of a vector set, and their comparison with the standard's.
 #![tactic(auto)]
 
+mod answering;
 mod answers;
 mod grading;
+mod monte_carlo;
 #[cfg(test)]
 mod tests;
+mod texts;
 mod verdict;
 
+pub use answering::standard;
 pub use answers::Answers;
 pub use grading::{disposition, grade};
+pub use monte_carlo::turn_is_the_standards;
 pub use verdict::{Disposition, Verdict};

@@ -1,6 +1,7 @@
-//! Answers against the standard's; the digest of the empty text is FIPS 180-4's.
+//! Answers against the standard's; the digest of the empty message is as NIST and every other program have it.
 
-use crate::{Answers, Disposition, Verdict, disposition, grade};
+use crate::{Answers, Disposition, Verdict, disposition, grade, standard};
+use acvp_gen::{CapFault, Capability, Prompts, prompts};
 use std::alloc::{AllocError, Global};
 use std::process::Abort;
 use std::test::Fail;
@@ -94,4 +95,161 @@ fn a_failed_test_weighs_more_than_a_missing_one(rt: HostRuntime) {
         assert_eq!(rt; disposition(&verdicts), wanted);
     }
     assert_eq!(rt; disposition(&[]), Disposition::Passed);
+}
+
+const ZERO: [u8; 32] = [0; 32];
+
+const RISING: [u8; 32] = [
+    0, 1, 2, 3, 4, 5, 6, 7, 8, 9, 10, 11, 12, 13, 14, 15, 16, 17, 18, 19, 20, 21, 22, 23, 24, 25,
+    26, 27, 28, 29, 30, 31,
+];
+
+// The standard's answers to the tests of a capability's text.
+fn standard_of(
+    alloc: Global,
+    seed: &[u8; 32],
+    vs: u64,
+    capability: &str,
+) -> Result<Answers, CapFault> {
+    let capability = Capability::from_text(alloc, capability)?;
+    let Ok(prompts) = prompts(alloc, seed, vs, &capability) else {
+        return Err(CapFault::Memory);
+    };
+    standard(alloc, &prompts).map_err(|_| CapFault::Memory)
+}
+
+// The test of a number has so many texts, among them this one at this place.
+fn assert_text(
+    rt: &impl Abort,
+    answers: &Answers,
+    number: u64,
+    count: usize,
+    place: usize,
+    wanted: &str,
+) {
+    let texts = answers.texts_for(number);
+    assert!(rt; texts.is_some());
+    if let Some(texts) = texts {
+        assert_eq!(rt; texts.len(), count);
+        let text = texts.get(place);
+        assert!(rt; text.is_some());
+        if let Some(text) = text {
+            assert_eq!(rt; text.as_str(), wanted);
+        }
+    }
+}
+
+// Digests, HMACs and checkpoints of messages and keys out of OpenSSL's key stream, by Python's hashlib and hmac.
+
+#[test]
+fn digests_and_checkpoints_of_the_standard(rt: HostRuntime) -> Result<(), Fail> {
+    let text =
+        r#"{"algorithm":"SHA2-256","revision":"1.0","messageLength":[{"min":0,"max":1024,"increment":8}]}"#;
+    for (seed, vs, second, last, checkpoints) in [
+        (
+            ZERO,
+            0,
+            "1f184f101c67d585ba00d24cfde36863f747fbab9e84af7760ec771e9b36ca51",
+            "73ba8fcf216b4434f0994846703e424d59a4d4ba1ad13d737a77b34ea758b02a",
+            [
+                "4f4f458b288f35957e2ae6648a2089ff35eccb657586f4ae8320edc8ca324fb8",
+                "4e336c3ff15012853c3512b6f93f610c4ee97aba51456345745d7df142fcc27d",
+                "729d81ff48c6f033324b142e828c1520d8053b1266924e8ae3cdba81771a8054",
+            ],
+        ),
+        (
+            RISING,
+            700000101,
+            "76be8b528d0075f7aae98d6fa57a6d3c83ae480a8469e668d7b0af968995ac71",
+            "d31bd9af86d485c3efe0f4970b197cb79841699f5393d65419d08eb0a1eb8bd1",
+            [
+                "ffe125674375e76ff862f431de458a315fa862f4b86b0ae0d9314f6dbb6e4032",
+                "37b5b4041944dc09d98104b5b21059d56064e70471a14439a726505c27437f72",
+                "0871ddb1b0ceafc94165a4c8fb33a09c9b0a52e15a6d0e030f306f8c42b724aa",
+            ],
+        ),
+    ] {
+        let answers = standard_of(rt.alloc(), &seed, vs, text)?;
+        assert_eq!(rt; answers.len(), 25);
+        assert_text(&rt, &answers, 1, 1, 0, EMPTY);
+        assert_text(&rt, &answers, 2, 1, 0, second);
+        assert_text(&rt, &answers, 24, 1, 0, last);
+        assert_text(&rt, &answers, 25, 100, 0, checkpoints[0]);
+        assert_text(&rt, &answers, 25, 100, 1, checkpoints[1]);
+        assert_text(&rt, &answers, 25, 100, 99, checkpoints[2]);
+        assert!(rt; answers.contains(25));
+        assert!(rt; !answers.contains(26));
+    }
+    Ok(())
+}
+
+#[test]
+fn macs_of_the_standard(rt: HostRuntime) -> Result<(), Fail> {
+    let text =
+        r#"{"algorithm":"HMAC-SHA2-512/256","revision":"1.0","keyLen":[{"min":8,"max":2048,"increment":8}],"macLen":[32,256]}"#;
+    for (seed, vs, short, long, last) in [
+        (
+            ZERO,
+            0,
+            "8227b0a5",
+            "281ba6d7053c427007d4ed897e6e6fb12cc24b8659cecae096a869e86fb41122",
+            "8fc7c74f3350e8fc59468ab5b71acdd8c403e6ffd1ee130408cbbfd40b115b45",
+        ),
+        (
+            RISING,
+            700000101,
+            "e30b2651",
+            "395cd99443e82cf80cae20870883eccb02235c8e36346b5484900f1ce519809c",
+            "0ff33ce5e1acb42e19ee7307f636bc08917fe4888ceaf27d9a6c7842649e862b",
+        ),
+    ] {
+        let answers = standard_of(rt.alloc(), &seed, vs, text)?;
+        assert_eq!(rt; answers.len(), 42);
+        assert_text(&rt, &answers, 1, 1, 0, short);
+        assert_text(&rt, &answers, 4, 1, 0, long);
+        assert_text(&rt, &answers, 42, 1, 0, last);
+    }
+    Ok(())
+}
+
+#[test]
+fn ninety_nine_checkpoints_fail_and_one_too_many_too(rt: HostRuntime) -> Result<(), Fail> {
+    let alloc = rt.alloc();
+    let text =
+        r#"{"algorithm":"SHA2-256","revision":"1.0","messageLength":[{"min":0,"max":1024,"increment":8}]}"#;
+    let standard = standard_of(alloc, &ZERO, 0, text)?;
+    for (count, verdict) in [
+        (0, Verdict::Fail),
+        (99, Verdict::Fail),
+        (100, Verdict::Passed),
+        (101, Verdict::Fail),
+    ] {
+        let mut checkpoints = Vec::new(alloc);
+        let wanted = standard.texts_for(25).ok_or("no test 25")?;
+        for text in wanted.iter().cycle().take(count) {
+            checkpoints.push(String::from_str(alloc, text.as_str())?)?;
+        }
+        let mut given = Answers::new(alloc);
+        given.insert(25, checkpoints)?;
+        let verdicts = grade(alloc, &standard, &given)?;
+        assert_eq!(rt; verdicts.len(), 25);
+        for verdict in verdicts.iter().take(24) {
+            assert_eq!(rt; *verdict, Verdict::Missing);
+        }
+        assert_eq!(rt; verdicts.last(), Some(&verdict));
+    }
+    Ok(())
+}
+
+#[test]
+fn a_right_digest_in_capitals_passes(rt: HostRuntime) -> Result<(), Fail> {
+    let alloc = rt.alloc();
+    let text =
+        r#"{"algorithm":"SHA2-256","revision":"1.0","messageLength":[{"min":0,"max":1024,"increment":8}]}"#;
+    let standard = standard_of(alloc, &ZERO, 0, text)?;
+    let given = answers(alloc, &[(1, EMPTY_IN_CAPITALS, 1)])?;
+    let verdicts = grade(alloc, &standard, &given)?;
+    assert_eq!(rt; verdicts.first(), Some(&Verdict::Passed));
+    assert_eq!(rt; disposition(&verdicts), Disposition::Missing);
+    Ok(())
 }

@@ -1,7 +1,7 @@
 -- A capability: an algorithm and the domains of its parameters, all of them lengths in bits.
 use Rattle.std.specs.Prelude.{◌≡◌, ℕ, ◌*◌, ◌%◌, ◌<◌, ◌≤◌, List, length, All, MatchBool}
 use Rattle.std.specs.List.Sorted.{IsStrictlyIncreasing}
-use Rattle.acvp_mac.specs.Hash.{out_of}
+use Rattle.acvp_mac.specs.Hash.{block_of, out_of}
 use Rattle.acvp_caps.specs.declared.algorithm.Algorithm.{Algorithm}
 use Rattle.acvp_caps.specs.declared.capability.Domains.{Domains}
 use Rattle.acvp_caps.specs.declared.capability.Domains.TheVariants.{Message, KeyAndMac}
@@ -18,7 +18,11 @@ pub record AreLengths (low high : ℕ) (lengths : List ℕ) : Type 0 where
   pub within : All (λ n. (low ≤ n) × (n ≤ high)) lengths
   pub whole_bytes : All (λ n. n % 8 ≡ 0) lengths
 
--- the bits of the algorithm's digest
+-- the bits of a block of the algorithm's hash function
+abbrev pub block_bits : Algorithm → ℕ
+block_bits a = 8 * block_of (hash_of a)
+
+-- the bits of its digest
 abbrev pub digest_bits : Algorithm → ℕ
 digest_bits a = 8 * out_of (hash_of a)
 

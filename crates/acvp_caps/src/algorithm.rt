@@ -1,8 +1,9 @@
 //! The algorithms that are tested.
 
-ghost use Rattle.std.specs.Prelude.{◌≡◌, ◌≢◌, codes, length, None, Some, MatchOption};
+ghost use Rattle.std.specs.Prelude.{◌≡◌, ◌≢◌, ◌≤◌, codes, length, None, Some, MatchOption};
 ghost use Rattle.acvp_mac.specs.declared.HashName.{HashName};
 ghost use Rattle.acvp_caps.specs.declared.algorithm.Algorithm.{Algorithm};
+ghost use Rattle.acvp_caps.specs.Capability.{block_bits, digest_bits};
 ghost use Rattle.acvp_caps.specs.Algorithms.{algorithms, hash_of, is_hmac_of, name_of, named, number_of};
 
 use acvp_mac::HashName;
@@ -119,6 +120,31 @@ impl Algorithm {
             Algorithm::Sha2_512 | Algorithm::HmacSha2_512 => HashName::Sha512,
             Algorithm::Sha2_512_224 | Algorithm::HmacSha2_512_224 => HashName::Sha512_224,
             Algorithm::Sha2_512_256 | Algorithm::HmacSha2_512_256 => HashName::Sha512_256,
+        }
+    }
+
+    /// The bits of a block of the hash function (FIPS 180-4, section 1).
+    pub fn block_bits(self) -> u64
+        ensures { result ≡ block_bits self }
+    {
+        match self.hash() {
+            HashName::Sha224 | HashName::Sha256 => 512,
+            HashName::Sha384 | HashName::Sha512 | HashName::Sha512_224 | HashName::Sha512_256 => {
+                1024
+            }
+        }
+    }
+
+    /// The bits of the hash function's digest (FIPS 180-4, section 1), the most that HMAC gives.
+    pub fn digest_bits(self) -> u64
+        ensures value { result ≡ digest_bits self }
+        ensures most { result ≤ 512 }
+    {
+        match self.hash() {
+            HashName::Sha224 | HashName::Sha512_224 => 224,
+            HashName::Sha256 | HashName::Sha512_256 => 256,
+            HashName::Sha384 => 384,
+            HashName::Sha512 => 512,
         }
     }
 

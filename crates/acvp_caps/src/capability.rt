@@ -1,7 +1,6 @@
 //! A capability: an algorithm and the domains of its parameters.
 
 ghost use Rattle.std.specs.Prelude.{◌≡◌, ◌≤◌, ◌*◌, ◌++◌, codes, true, false, Some, Ok, IfOk, string_bytes};
-ghost use Rattle.acvp_mac.specs.Hash.{out_of};
 ghost use Rattle.serde_json.specs.Find.{get};
 ghost use Rattle.serde_json.specs.View.{view};
 ghost use Rattle.acvp_caps.specs.Algorithms.{hash_of, is_hmac_of};
@@ -14,7 +13,6 @@ use crate::CapFault;
 use crate::algorithm::Algorithm;
 use crate::domain::{Domain, read_domain};
 use crate::json::{elements, is_optional_array, is_text, text_at};
-use acvp_mac::HashName;
 use serde_json::{Value, json};
 use std::alloc::{AllocError, Global};
 use std::marker::Model;
@@ -150,7 +148,7 @@ fn read_parameters(
         (Some (record { algorithm = algorithm; domains = domains_at (view value.now) algorithm })) result }
 {
     let domains = if algorithm.is_hmac() {
-        read_hmac_domains(alloc, value, digest_bits(algorithm))?
+        read_hmac_domains(alloc, value, algorithm.digest_bits())?
     } else {
         read_hash_domains(alloc, value)?
     };
@@ -186,17 +184,4 @@ fn read_hmac_domains(alloc: Global, value: &Value, mac_limit: u64) -> Result<Dom
     let key = read_domain(alloc, value.get("keyLen"), KEY_LIMITS.0, KEY_LIMITS.1)?;
     let mac = read_domain(alloc, value.get("macLen"), MAC_LEAST, mac_limit)?;
     Ok(Domains::KeyAndMac { key, mac })
-}
-
-/// The bits of an algorithm's digest.
-fn digest_bits(algorithm: Algorithm) -> u64
-    ensures value { result ≡ digest_bits algorithm }
-    ensures most { result ≤ 512 }
-{
-    match algorithm.hash() {
-        HashName::Sha224 | HashName::Sha512_224 => 224,
-        HashName::Sha256 | HashName::Sha512_256 => 256,
-        HashName::Sha384 => 384,
-        HashName::Sha512 => 512,
-    }
 }

@@ -4,7 +4,7 @@
 
 pub use algorithm::Algorithm;
 pub use capability::{Capability, Domains};
-pub use domain::Domain;
+pub use domain::{Domain, members_are_exact};
 pub use registration::{Registration, read_registration};
 
 mod algorithm;

@@ -9,19 +9,19 @@ use std::test::Fail;
 #[test]
 fn the_algorithms_have_their_names(rt: HostRuntime) {
     let all = Algorithm::all();
-    for (i, (name, hash, is_hmac)) in [
-        ("SHA2-224", HashName::Sha224, false),
-        ("SHA2-256", HashName::Sha256, false),
-        ("SHA2-384", HashName::Sha384, false),
-        ("SHA2-512", HashName::Sha512, false),
-        ("SHA2-512/224", HashName::Sha512_224, false),
-        ("SHA2-512/256", HashName::Sha512_256, false),
-        ("HMAC-SHA2-224", HashName::Sha224, true),
-        ("HMAC-SHA2-256", HashName::Sha256, true),
-        ("HMAC-SHA2-384", HashName::Sha384, true),
-        ("HMAC-SHA2-512", HashName::Sha512, true),
-        ("HMAC-SHA2-512/224", HashName::Sha512_224, true),
-        ("HMAC-SHA2-512/256", HashName::Sha512_256, true),
+    for (i, (name, hash, block_bits, digest_bits, is_hmac)) in [
+        ("SHA2-224", HashName::Sha224, 512, 224, false),
+        ("SHA2-256", HashName::Sha256, 512, 256, false),
+        ("SHA2-384", HashName::Sha384, 1024, 384, false),
+        ("SHA2-512", HashName::Sha512, 1024, 512, false),
+        ("SHA2-512/224", HashName::Sha512_224, 1024, 224, false),
+        ("SHA2-512/256", HashName::Sha512_256, 1024, 256, false),
+        ("HMAC-SHA2-224", HashName::Sha224, 512, 224, true),
+        ("HMAC-SHA2-256", HashName::Sha256, 512, 256, true),
+        ("HMAC-SHA2-384", HashName::Sha384, 1024, 384, true),
+        ("HMAC-SHA2-512", HashName::Sha512, 1024, 512, true),
+        ("HMAC-SHA2-512/224", HashName::Sha512_224, 1024, 224, true),
+        ("HMAC-SHA2-512/256", HashName::Sha512_256, 1024, 256, true),
     ]
     .into_iter()
     .enumerate()
@@ -31,6 +31,8 @@ fn the_algorithms_have_their_names(rt: HostRuntime) {
         if let Some(algorithm) = found {
             assert!(rt; algorithm.name() == name, "{name}");
             assert!(rt; algorithm.hash() == hash, "{name}");
+            assert!(rt; algorithm.block_bits() == block_bits, "{name}");
+            assert!(rt; algorithm.digest_bits() == digest_bits, "{name}");
             assert!(rt; algorithm.is_hmac() == is_hmac, "{name}");
             assert!(rt; algorithm.number() == i as u64 + 1, "{name}");
             assert!(rt; algorithm == all[i], "{name}");

@@ -1,2 +1,9 @@
 pub mod Words
+pub mod Prompt
+pub mod Choice
+pub mod Prompts
+pub mod Candidates
+pub mod Filling
+pub use Rattle.acvp_caps.specs.Algorithms
+pub use Rattle.acvp_caps.specs.Capability
 pub use Rattle.rand_chacha.specs.ChaCha

@@ -1,8 +1,21 @@
-//! The choice of tests: the words of a generator that a seed and a vector set's number determine.
+//! The choice of tests: the prompts of a vector set, which a seed, the set's number and a capability determine.
 #![tactic(auto)]
 
+mod choice;
+mod filling;
+mod generation;
+mod group;
+mod lengths;
+mod prompt;
+mod shape;
+mod test_case;
 #[cfg(test)]
 mod tests;
 mod words;
 
+pub use acvp_caps::{Algorithm, CapFault, Capability};
+pub use generation::prompts;
+pub use group::{Group, GroupKind, Sizes};
+pub use prompt::Prompts;
+pub use test_case::Test;
 pub use words::word_bytes;

@@ -1,7 +1,18 @@
-//! Words against RFC 8439, appendix A.1, and against OpenSSL's `chacha20` with the counter and the nonce of the same block.
+//! Words and prompts against RFC 8439, appendix A.1, and against OpenSSL's `chacha20` with the counter and the nonce of the same
+//! block, from whose output lengths and bytes were taken by the rules of the choice.
 
-use crate::word_bytes;
+use crate::{Group, GroupKind, Prompts, Sizes, Test, prompts, word_bytes};
+use acvp_caps::{Algorithm, CapFault, Capability};
+use std::alloc::Global;
+use std::process::Abort;
 use std::test::Fail;
+
+const ZERO: [u8; 32] = [0; 32];
+
+const RISING: [u8; 32] = [
+    0, 1, 2, 3, 4, 5, 6, 7, 8, 9, 10, 11, 12, 13, 14, 15, 16, 17, 18, 19, 20, 21, 22, 23, 24, 25,
+    26, 27, 28, 29, 30, 31,
+];
 
 #[test]
 fn a_zero_seed_gives_the_published_key_stream(rt: HostRuntime) -> Result<(), Fail> {
@@ -13,24 +24,468 @@ fn a_zero_seed_gives_the_published_key_stream(rt: HostRuntime) -> Result<(), Fai
         (16, [0x9f, 0x07, 0xe7, 0xbe]),
         (18, [0x98, 0xba, 0x97, 0x7c]),
     ] {
-        assert_eq!(rt; word_bytes(&[0; 32], 0, place), bytes);
+        assert_eq!(rt; word_bytes(&ZERO, 0, place), bytes);
     }
     Ok(())
 }
 
 #[test]
 fn the_seed_and_the_vector_set_choose_the_stream(rt: HostRuntime) -> Result<(), Fail> {
-    let seed = [
-        0, 1, 2, 3, 4, 5, 6, 7, 8, 9, 10, 11, 12, 13, 14, 15, 16, 17, 18, 19, 20, 21, 22, 23, 24,
-        25, 26, 27, 28, 29, 30, 31,
-    ];
     for (place, bytes) in [
         (0, [0x6c, 0x05, 0xe8, 0x98]),
         (3, [0x24, 0x47, 0x68, 0x05]),
         (16, [0x80, 0x29, 0x25, 0xd7]),
         (4294967295, [0xb9, 0x5c, 0xf4, 0xa9]),
     ] {
-        assert_eq!(rt; word_bytes(&seed, 700000101, place), bytes);
+        assert_eq!(rt; word_bytes(&RISING, 700000101, place), bytes);
+    }
+    Ok(())
+}
+
+// The prompts of a capability's text.
+fn prompts_of(
+    alloc: Global,
+    seed: &[u8; 32],
+    vs: u64,
+    capability: &str,
+) -> Result<Prompts, CapFault> {
+    let capability = Capability::from_text(alloc, capability)?;
+    prompts(alloc, seed, vs, &capability).map_err(|_| CapFault::Memory)
+}
+
+fn group_at(prompts: &Prompts, place: usize) -> Result<&Group, Fail> {
+    Ok(prompts.groups().get(place).ok_or("no such group")?)
+}
+
+fn test_at(group: &Group, place: usize) -> Result<&Test, Fail> {
+    Ok(group.tests().get(place).ok_or("no such test")?)
+}
+
+// The group's tests are numbered from this number on, and have messages of so many bits.
+fn assert_lengths(rt: &impl Abort, group: &Group, first: u64, lengths: &[u64]) {
+    assert_eq!(rt; group.kind(), GroupKind::Functional);
+    assert_eq!(rt; group.sizes(), None);
+    assert_eq!(rt; group.tests().len(), lengths.len());
+    let mut number = first;
+    for (test, bits) in group.tests().iter().zip(lengths) {
+        assert_eq!(rt; test.number(), number);
+        assert_eq!(rt; test.bits(), *bits);
+        assert_eq!(rt; test.message().len() as u64, *bits / 8);
+        assert!(rt; test.key().is_empty());
+        number = number.wrapping_add(1);
+    }
+}
+
+#[test]
+fn one_length_is_tested_seventeen_times(rt: HostRuntime) -> Result<(), Fail> {
+    let text = r#"{"algorithm":"SHA2-256","revision":"1.0","messageLength":[8,8]}"#;
+    for (seed, vs, first, last) in [
+        (ZERO, 0, [0x9f, 0x55, 0x98], [0x4b, 0x2d]),
+        (RISING, 700000101, [0x80, 0xa2, 0x05], [0xd8, 0x4a]),
+    ] {
+        let prompts = prompts_of(rt.alloc(), &seed, vs, text)?;
+        assert_eq!(rt; prompts.vs(), vs);
+        assert_eq!(rt; prompts.algorithm(), Algorithm::Sha2_256);
+        assert_eq!(rt; prompts.groups().len(), 1);
+        let group = group_at(&prompts, 0)?;
+        assert_eq!(rt; group.number(), 1);
+        assert_lengths(&rt, group, 1, &[8; 17]);
+        for (place, byte) in first.into_iter().enumerate() {
+            assert_eq!(rt; test_at(group, place)?.message(), [byte].as_slice());
+        }
+        assert_eq!(rt; test_at(group, 15)?.message(), &last[..1]);
+        assert_eq!(rt; test_at(group, 16)?.message(), &last[1..]);
+    }
+    Ok(())
+}
+
+#[test]
+fn edges_draws_and_a_monte_carlo_test_for_short_blocks(rt: HostRuntime) -> Result<(), Fail> {
+    let text =
+        r#"{"algorithm":"SHA2-256","revision":"1.0","messageLength":[{"min":0,"max":1024,"increment":8}]}"#;
+    for (seed, vs, lengths, monte_carlo) in [
+        (
+            ZERO,
+            0,
+            [
+                0, 8, 440, 448, 504, 512, 520, 1024, 288, 480, 144, 976, 592, 816, 232, 304, 776,
+                792, 416, 992, 368, 48, 568, 528,
+            ],
+            [
+                0x34, 0x3c, 0xf2, 0x6c, 0x9f, 0xaf, 0x84, 0x5e, 0x7a, 0x98, 0xcb, 0x1f, 0x2c, 0x93,
+                0x06, 0xe8, 0x20, 0x01, 0x85, 0xd9, 0x5d, 0xe0, 0x59, 0xf8, 0x3a, 0xd1, 0x7c, 0x4b,
+                0x97, 0xf8, 0xc6, 0x2c,
+            ],
+        ),
+        (
+            RISING,
+            700000101,
+            [
+                0, 8, 440, 448, 504, 512, 520, 1024, 544, 904, 624, 96, 760, 1016, 136, 592, 736,
+                376, 808, 208, 968, 472, 296, 400,
+            ],
+            [
+                0xc6, 0x7b, 0x21, 0x96, 0x69, 0xfb, 0x05, 0xa6, 0xee, 0xe6, 0x11, 0x88, 0x46, 0xbd,
+                0x1e, 0x2f, 0xff, 0x45, 0x7d, 0x95, 0xa1, 0xd8, 0x75, 0xc2, 0xe0, 0x96, 0x09, 0xa2,
+                0x20, 0xcb, 0x0e, 0xdc,
+            ],
+        ),
+    ] {
+        let prompts = prompts_of(rt.alloc(), &seed, vs, text)?;
+        assert_eq!(rt; prompts.groups().len(), 2);
+        assert_lengths(&rt, group_at(&prompts, 0)?, 1, &lengths);
+        let group = group_at(&prompts, 1)?;
+        assert_eq!(rt; group.number(), 2);
+        assert_eq!(rt; group.kind(), GroupKind::MonteCarlo);
+        assert_eq!(rt; group.sizes(), None);
+        assert_eq!(rt; group.tests().len(), 1);
+        let test = test_at(group, 0)?;
+        assert_eq!(rt; test.number(), 25);
+        assert_eq!(rt; test.bits(), 256);
+        assert_eq!(rt; test.message(), monte_carlo.as_slice());
+        assert!(rt; test.key().is_empty());
+    }
+    Ok(())
+}
+
+#[test]
+fn edges_draws_and_a_monte_carlo_test_for_long_blocks(rt: HostRuntime) -> Result<(), Fail> {
+    let text =
+        r#"{"algorithm":"SHA2-512","revision":"1.0","messageLength":[{"min":0,"max":2048,"increment":8}]}"#;
+    for (seed, vs, lengths, monte_carlo) in [
+        (
+            ZERO,
+            0,
+            [
+                0, 8, 888, 896, 1016, 1024, 1032, 2048, 1936, 744, 840, 784, 616, 1840, 1192, 728,
+                944, 1456, 1952, 1952, 1888, 1040, 1096, 1312,
+            ],
+            [
+                0x11, 0xc6, 0xe6, 0xa9, 0x30, 0x2c, 0x14, 0x88, 0xf3, 0x69, 0x96, 0xc1, 0x70, 0x36,
+                0x70, 0x78, 0x6c, 0x05, 0x32, 0x4f, 0x99, 0xd9, 0xd2, 0xcd, 0xa1, 0x62, 0x4d, 0xb9,
+                0x5b, 0x8e, 0xab, 0x6f, 0x7e, 0x10, 0xac, 0x5b, 0xc9, 0x85, 0xd6, 0x53, 0x6c, 0xf6,
+                0x67, 0x30, 0x7a, 0x57, 0x7a, 0x25, 0x55, 0x88, 0x8b, 0xd9, 0x30, 0x2c, 0xfe, 0x70,
+                0x4c, 0xf7, 0x2e, 0x59, 0xfd, 0x28, 0xb6, 0xda,
+            ],
+        ),
+        (
+            RISING,
+            700000101,
+            [
+                0, 8, 888, 896, 1016, 1024, 1032, 2048, 1464, 1440, 1480, 512, 1168, 1624, 1040,
+                1344, 136, 1064, 88, 136, 712, 712, 904, 624,
+            ],
+            [
+                0x66, 0x73, 0x8a, 0x5a, 0x58, 0x76, 0x48, 0xbc, 0x6f, 0xf2, 0x9e, 0x83, 0x58, 0xd6,
+                0xea, 0x78, 0x91, 0x9a, 0x13, 0x5b, 0x4c, 0x21, 0x54, 0x1b, 0xa3, 0x85, 0x15, 0x29,
+                0x03, 0x94, 0x3f, 0x6b, 0x70, 0x1c, 0xc2, 0xd0, 0xae, 0x10, 0x31, 0xcd, 0x01, 0x11,
+                0x1d, 0x13, 0xbd, 0x1d, 0x98, 0x67, 0xac, 0x6f, 0x66, 0x5a, 0xa1, 0x5c, 0xd9, 0xc4,
+                0x9b, 0xdb, 0x77, 0xc2, 0x2d, 0x9e, 0xea, 0x3e,
+            ],
+        ),
+    ] {
+        let prompts = prompts_of(rt.alloc(), &seed, vs, text)?;
+        assert_eq!(rt; prompts.groups().len(), 2);
+        assert_lengths(&rt, group_at(&prompts, 0)?, 1, &lengths);
+        let group = group_at(&prompts, 1)?;
+        assert_eq!(rt; group.number(), 2);
+        assert_eq!(rt; group.kind(), GroupKind::MonteCarlo);
+        assert_eq!(rt; group.sizes(), None);
+        assert_eq!(rt; group.tests().len(), 1);
+        let test = test_at(group, 0)?;
+        assert_eq!(rt; test.number(), 25);
+        assert_eq!(rt; test.bits(), 512);
+        assert_eq!(rt; test.message(), monte_carlo.as_slice());
+        assert!(rt; test.key().is_empty());
+    }
+    Ok(())
+}
+
+#[test]
+fn no_monte_carlo_test_where_three_digests_are_no_member(rt: HostRuntime) -> Result<(), Fail> {
+    let text =
+        r#"{"algorithm":"SHA2-384","revision":"1.0","messageLength":[{"min":16,"max":1024,"increment":8}]}"#;
+    for (seed, vs, lengths, last) in [
+        (
+            ZERO,
+            0,
+            [
+                16, 888, 896, 1016, 1024, 808, 64, 760, 256, 192, 608, 576, 944, 376, 176, 552,
+                672, 72, 400, 24, 800,
+            ],
+            [0xb7, 0xaf, 0x82].as_slice(),
+        ),
+        (
+            RISING,
+            700000101,
+            [
+                16, 888, 896, 1016, 1024, 840, 864, 400, 1024, 88, 328, 840, 752, 536, 992, 248,
+                952, 184, 328, 304, 632,
+            ],
+            [
+                0x48, 0xf3, 0xaa, 0x52, 0xf8, 0x4f, 0xf5, 0x6b, 0x8f, 0xf6, 0x06, 0xd3, 0x4b, 0xdd,
+                0x90, 0x63, 0x09, 0x94, 0x91, 0x78, 0x64, 0x13, 0x59, 0xb8, 0xaa, 0x74, 0xcc, 0x4b,
+                0x5e, 0x7d, 0x1f, 0xbe, 0xc6, 0x7b, 0x21, 0x96, 0x69, 0xfb,
+            ]
+            .as_slice(),
+        ),
+    ] {
+        let prompts = prompts_of(rt.alloc(), &seed, vs, text)?;
+        assert_eq!(rt; prompts.groups().len(), 1);
+        let group = group_at(&prompts, 0)?;
+        assert_lengths(&rt, group, 1, &lengths);
+        assert_eq!(rt; test_at(group, 19)?.message(), last);
+    }
+    Ok(())
+}
+
+// The groups are the pairs of these keys' and MACs' bits, each with three tests of messages of 128 bits, numbered in order.
+fn assert_sizes(rt: &impl Abort, prompts: &Prompts, keys: &[u64], macs: &[u64]) {
+    let mut groups = prompts.groups().iter();
+    let mut number = 1u64;
+    for key_bits in keys {
+        for mac_bits in macs {
+            let group = groups.next();
+            assert!(rt; group.is_some());
+            if let Some(group) = group {
+                assert_group(rt, group, number, *key_bits, *mac_bits);
+            }
+            number = number.wrapping_add(3);
+        }
+    }
+    assert!(rt; groups.next().is_none());
+}
+
+fn assert_group(rt: &impl Abort, group: &Group, first: u64, key_bits: u64, mac_bits: u64) {
+    let sizes = Sizes {
+        key_bits,
+        message_bits: 128,
+        mac_bits,
+    };
+    assert_eq!(rt; group.kind(), GroupKind::Functional);
+    assert_eq!(rt; group.number(), first / 3 + 1);
+    assert_eq!(rt; group.sizes(), Some(sizes));
+    assert_eq!(rt; group.key_bits(), Some(key_bits));
+    assert_eq!(rt; group.message_bits(), Some(128));
+    assert_eq!(rt; group.mac_bits(), Some(mac_bits));
+    assert_eq!(rt; group.tests().len(), 3);
+    let mut number = first;
+    for test in group.tests() {
+        assert_eq!(rt; test.number(), number);
+        assert_eq!(rt; test.bits(), 128);
+        assert_eq!(rt; test.message().len(), 16);
+        assert_eq!(rt; test.key().len() as u64, key_bits / 8);
+        number = number.wrapping_add(1);
+    }
+}
+
+#[test]
+fn keys_of_one_mac_length(rt: HostRuntime) -> Result<(), Fail> {
+    let text =
+        r#"{"algorithm":"HMAC-SHA2-256","revision":"1.0","keyLen":[{"min":8,"max":1024,"increment":8}],"macLen":[128]}"#;
+    for (seed, vs, keys, first, last) in [
+        (
+            ZERO,
+            0,
+            [8, 504, 512, 520, 1024, 952, 264],
+            (
+                [0x40],
+                [
+                    0x53, 0x86, 0xbd, 0x28, 0xbd, 0xd2, 0x19, 0xb8, 0xa0, 0x8d, 0xed, 0x1a, 0xa8,
+                    0x36, 0xef, 0xcc,
+                ],
+            ),
+            (
+                [
+                    0x46, 0x3a, 0xc2, 0x62, 0x02, 0xc2, 0xb7, 0x2f, 0x9a, 0x7c, 0xf8, 0x3a, 0x91,
+                    0x7a, 0xd2, 0x61, 0x83, 0xf8, 0xe7, 0x4c, 0xd4, 0x18, 0xe3, 0xb6, 0x34, 0x59,
+                    0xf7, 0xad, 0x59, 0x84, 0x9e, 0xe4, 0x3c,
+                ]
+                .as_slice(),
+                [
+                    0xbb, 0x63, 0xfc, 0xee, 0xc1, 0xab, 0xe8, 0xe9, 0xe0, 0xb6, 0x4b, 0x23, 0x3a,
+                    0x43, 0xaa, 0xc5,
+                ],
+            ),
+        ),
+        (
+            RISING,
+            700000101,
+            [8, 504, 512, 520, 1024, 872, 192],
+            (
+                [0x32],
+                [
+                    0x24, 0x47, 0x68, 0x05, 0xee, 0x95, 0x2d, 0xf5, 0xb7, 0x1f, 0xa5, 0x72, 0x10,
+                    0xef, 0xa9, 0x49,
+                ],
+            ),
+            (
+                [
+                    0x72, 0x56, 0xd7, 0x75, 0x0d, 0x19, 0xce, 0xeb, 0x54, 0x49, 0x56, 0x4f, 0xbd,
+                    0x7f, 0xa2, 0xb0, 0x7c, 0x7c, 0x18, 0x52, 0xdb, 0xad, 0x22, 0xb1,
+                ]
+                .as_slice(),
+                [
+                    0x81, 0xd8, 0x9f, 0xd3, 0x1b, 0xaa, 0xf9, 0x0e, 0x88, 0x66, 0x90, 0xf1, 0x8e,
+                    0x9f, 0xf3, 0x31,
+                ],
+            ),
+        ),
+    ] {
+        let prompts = prompts_of(rt.alloc(), &seed, vs, text)?;
+        assert_eq!(rt; prompts.groups().len(), 7);
+        assert_sizes(&rt, &prompts, &keys, &[128]);
+        let test = test_at(group_at(&prompts, 0)?, 0)?;
+        assert_eq!(rt; test.key(), first.0.as_slice());
+        assert_eq!(rt; test.message(), first.1.as_slice());
+        let test = test_at(group_at(&prompts, 6)?, 2)?;
+        assert_eq!(rt; test.number(), 21);
+        assert_eq!(rt; test.key(), last.0);
+        assert_eq!(rt; test.message(), last.1.as_slice());
+    }
+    Ok(())
+}
+
+#[test]
+fn keys_with_the_least_and_the_greatest_mac_length(rt: HostRuntime) -> Result<(), Fail> {
+    let text =
+        r#"{"algorithm":"HMAC-SHA2-256","revision":"1.0","keyLen":[{"min":8,"max":1024,"increment":8}],"macLen":[32,256]}"#;
+    for (seed, vs, keys, first, last) in [
+        (
+            ZERO,
+            0,
+            [8, 504, 512, 520, 1024, 952, 264],
+            (
+                [0x40],
+                [
+                    0x53, 0x86, 0xbd, 0x28, 0xbd, 0xd2, 0x19, 0xb8, 0xa0, 0x8d, 0xed, 0x1a, 0xa8,
+                    0x36, 0xef, 0xcc,
+                ],
+            ),
+            (
+                [
+                    0x5b, 0x8e, 0xab, 0x6f, 0x7e, 0x10, 0xac, 0x5b, 0xc9, 0x85, 0xd6, 0x53, 0x6c,
+                    0xf6, 0x67, 0x30, 0x7a, 0x57, 0x7a, 0x25, 0x55, 0x88, 0x8b, 0xd9, 0x30, 0x2c,
+                    0xfe, 0x70, 0x4c, 0xf7, 0x2e, 0x59, 0xfd,
+                ]
+                .as_slice(),
+                [
+                    0xea, 0x34, 0x3a, 0x83, 0x53, 0x1a, 0x10, 0xa7, 0x32, 0xd6, 0x5c, 0xe9, 0x3f,
+                    0x52, 0x3a, 0x03,
+                ],
+            ),
+        ),
+        (
+            RISING,
+            700000101,
+            [8, 504, 512, 520, 1024, 872, 192],
+            (
+                [0x32],
+                [
+                    0x24, 0x47, 0x68, 0x05, 0xee, 0x95, 0x2d, 0xf5, 0xb7, 0x1f, 0xa5, 0x72, 0x10,
+                    0xef, 0xa9, 0x49,
+                ],
+            ),
+            (
+                [
+                    0x27, 0xd5, 0xee, 0xd3, 0xe1, 0x2e, 0x59, 0x9e, 0x98, 0x03, 0x1d, 0xb1, 0x4a,
+                    0x3b, 0xaa, 0x8c, 0xa0, 0xf2, 0x02, 0xa6, 0x76, 0x9d, 0xd2, 0x04,
+                ]
+                .as_slice(),
+                [
+                    0x59, 0x1b, 0xe8, 0x3b, 0x50, 0xc4, 0x17, 0xb8, 0x8f, 0x3c, 0xbb, 0x4e, 0x2f,
+                    0x82, 0xf8, 0xe3,
+                ],
+            ),
+        ),
+    ] {
+        let prompts = prompts_of(rt.alloc(), &seed, vs, text)?;
+        assert_eq!(rt; prompts.groups().len(), 14);
+        assert_sizes(&rt, &prompts, &keys, &[32, 256]);
+        let test = test_at(group_at(&prompts, 0)?, 0)?;
+        assert_eq!(rt; test.key(), first.0.as_slice());
+        assert_eq!(rt; test.message(), first.1.as_slice());
+        let test = test_at(group_at(&prompts, 13)?, 2)?;
+        assert_eq!(rt; test.number(), 42);
+        assert_eq!(rt; test.key(), last.0);
+        assert_eq!(rt; test.message(), last.1.as_slice());
+    }
+    Ok(())
+}
+
+#[test]
+fn keys_around_a_long_block(rt: HostRuntime) -> Result<(), Fail> {
+    let text =
+        r#"{"algorithm":"HMAC-SHA2-512/256","revision":"1.0","keyLen":[{"min":8,"max":2048,"increment":8}],"macLen":[{"min":32,"max":256,"increment":8}]}"#;
+    for (seed, vs, keys, first, last) in [
+        (
+            ZERO,
+            0,
+            [8, 1016, 1024, 1032, 2048, 952, 1288],
+            (
+                [0x40],
+                [
+                    0x53, 0x86, 0xbd, 0x28, 0xbd, 0xd2, 0x19, 0xb8, 0xa0, 0x8d, 0xed, 0x1a, 0xa8,
+                    0x36, 0xef, 0xcc,
+                ],
+            ),
+            (
+                [
+                    0x5e, 0x07, 0xf0, 0xc2, 0x24, 0xa7, 0x49, 0xaa, 0x57, 0xf1, 0xf2, 0x96, 0x08,
+                    0x45, 0x70, 0x5d, 0xfa, 0x1d, 0x55, 0x2c, 0x51, 0x4e, 0xde, 0x74, 0x70, 0x0a,
+                    0x3e, 0x74, 0x12, 0x85, 0x23, 0x99, 0xc9, 0xfd, 0x28, 0xb5, 0xca, 0x4d, 0x6b,
+                    0x53, 0x12, 0x8e, 0xe4, 0x73, 0x85, 0x10, 0x85, 0x72, 0xf7, 0xe2, 0xcf, 0xe4,
+                    0x8f, 0x53, 0x0d, 0x65, 0x31, 0x93, 0xe1, 0x2d, 0xe0, 0x5e, 0xc8, 0xea, 0x31,
+                    0xe9, 0xf0, 0x40, 0xb0, 0xe7, 0xf9, 0xfa, 0xeb, 0x4a, 0xe6, 0x92, 0x8e, 0x63,
+                    0x0e, 0xec, 0x7b, 0xb3, 0x3e, 0x21, 0x3c, 0x3b, 0x8d, 0x0f, 0x7b, 0x26, 0x05,
+                    0x0a, 0x7c, 0x1a, 0x3d, 0xaf, 0x7c, 0x81, 0x95, 0x78, 0x14, 0x16, 0x52, 0x91,
+                    0xd7, 0x6e, 0xa6, 0x4e, 0x9c, 0x1d, 0x2a, 0x61, 0xbf, 0x28, 0x08, 0x1e, 0xaf,
+                    0x4c, 0x29, 0xea, 0x55, 0x9d, 0x2e, 0xf5, 0x84, 0xf4, 0xdc, 0x53, 0x46, 0xc5,
+                    0x46, 0x8e, 0xab, 0xa1, 0x67, 0x16, 0xc7, 0x04, 0x0c, 0x9d, 0x39, 0xa4, 0x63,
+                    0x73, 0xef, 0x4c, 0x62, 0x20, 0x27, 0xe6, 0x7c, 0xc9, 0x71, 0xbe, 0x8c, 0xcb,
+                    0x6f, 0x47, 0x29, 0xfc, 0xbd,
+                ]
+                .as_slice(),
+                [
+                    0xa7, 0x6b, 0x81, 0xa3, 0x96, 0xf3, 0xbe, 0xc9, 0x78, 0x3f, 0x0a, 0x25, 0x47,
+                    0xe6, 0x6d, 0xbc,
+                ],
+            ),
+        ),
+        (
+            RISING,
+            700000101,
+            [8, 1016, 1024, 1032, 2048, 872, 192],
+            (
+                [0x32],
+                [
+                    0x24, 0x47, 0x68, 0x05, 0xee, 0x95, 0x2d, 0xf5, 0xb7, 0x1f, 0xa5, 0x72, 0x10,
+                    0xef, 0xa9, 0x49,
+                ],
+            ),
+            (
+                [
+                    0xc3, 0x4e, 0x43, 0x48, 0xac, 0xbc, 0xef, 0x4d, 0xfd, 0x41, 0x38, 0xdf, 0x3d,
+                    0xd7, 0x37, 0x03, 0x71, 0x5d, 0xb3, 0x87, 0x50, 0xdb, 0xe7, 0x3b,
+                ]
+                .as_slice(),
+                [
+                    0xb1, 0x4b, 0x0a, 0x16, 0x4d, 0x79, 0x4c, 0xac, 0x11, 0x9d, 0x9c, 0x7f, 0x19,
+                    0xe1, 0x07, 0xe4,
+                ],
+            ),
+        ),
+    ] {
+        let prompts = prompts_of(rt.alloc(), &seed, vs, text)?;
+        assert_eq!(rt; prompts.groups().len(), 14);
+        assert_sizes(&rt, &prompts, &keys, &[32, 256]);
+        let test = test_at(group_at(&prompts, 0)?, 0)?;
+        assert_eq!(rt; test.key(), first.0.as_slice());
+        assert_eq!(rt; test.message(), first.1.as_slice());
+        let test = test_at(group_at(&prompts, 13)?, 2)?;
+        assert_eq!(rt; test.number(), 42);
+        assert_eq!(rt; test.key(), last.0);
+        assert_eq!(rt; test.message(), last.1.as_slice());
     }
     Ok(())
 }

@@ -2,7 +2,7 @@
 use Rattle.std.specs.Prelude.{◌≤◌, length}
 use Rattle.std.proofs.Common.{lit≤}
 use Rattle.acvp_http.specs.declared.rule.Rule.{Rule}
-use Rattle.acvp_http.specs.declared.rule.Rule.TheVariants.{BadHead, HeadTooLarge, Truncated, LengthMissing, BadLength, BodyTooLarge, TransferCoding, HostMissing, NoRoute, NoMethod, BodyNotJson, BodyEnvelope, BodyField, NoReference, LoginRefused, RenewalRefused, ClockOutOfRange, Unavailable}
+use Rattle.acvp_http.specs.declared.rule.Rule.TheVariants.{BadHead, HeadTooLarge, Truncated, LengthMissing, BadLength, BodyTooLarge, TransferCoding, HostMissing, NoRoute, NoMethod, BodyNotJson, BodyEnvelope, BodyField, UnknownTest, DuplicateTest, SetMismatch, NoReference, LoginRefused, RenewalRefused, ClockOutOfRange, Unavailable}
 use Rattle.acvp_http.specs.Rule.{status_of}
 use Rattle.acvp_http.specs.Reply.{phrase_of}
 
@@ -20,6 +20,9 @@ phrase_of-status_of NoMethod = lit≤ tt
 phrase_of-status_of BodyNotJson = lit≤ tt
 phrase_of-status_of BodyEnvelope = lit≤ tt
 phrase_of-status_of BodyField = lit≤ tt
+phrase_of-status_of UnknownTest = lit≤ tt
+phrase_of-status_of DuplicateTest = lit≤ tt
+phrase_of-status_of SetMismatch = lit≤ tt
 phrase_of-status_of NoReference = lit≤ tt
 phrase_of-status_of LoginRefused = lit≤ tt
 phrase_of-status_of RenewalRefused = lit≤ tt

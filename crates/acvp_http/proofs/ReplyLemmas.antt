@@ -2,7 +2,7 @@
 use Rattle.std.proofs.Common.{◌≡◌, ℕ, List, [], ◌++◌, codes, refl, append_assoc}
 use Rattle.serde_json.proofs.OnLiterals.{serde_json_on_literals}
 use Rattle.acvp_http.specs.declared.rule.Rule.{Rule}
-use Rattle.acvp_http.specs.declared.rule.Rule.TheVariants.{BadHead, HeadTooLarge, Truncated, LengthMissing, BadLength, BodyTooLarge, TransferCoding, HostMissing, NoRoute, NoMethod, BodyNotJson, BodyEnvelope, BodyField, NoReference, LoginRefused, RenewalRefused, ClockOutOfRange, Unavailable}
+use Rattle.acvp_http.specs.declared.rule.Rule.TheVariants.{BadHead, HeadTooLarge, Truncated, LengthMissing, BadLength, BodyTooLarge, TransferCoding, HostMissing, NoRoute, NoMethod, BodyNotJson, BodyEnvelope, BodyField, UnknownTest, DuplicateTest, SetMismatch, NoReference, LoginRefused, RenewalRefused, ClockOutOfRange, Unavailable}
 use Rattle.acvp_http.specs.Rule.{word_of}
 use Rattle.acvp_json.specs.Written.{body_of}
 use Rattle.acvp_http.specs.Reply.{error_object}
@@ -30,6 +30,9 @@ body_of-error_object NoMethod = refl
 body_of-error_object BodyNotJson = refl
 body_of-error_object BodyEnvelope = refl
 body_of-error_object BodyField = refl
+body_of-error_object UnknownTest = refl
+body_of-error_object DuplicateTest = refl
+body_of-error_object SetMismatch = refl
 body_of-error_object NoReference = refl
 body_of-error_object LoginRefused = refl
 body_of-error_object RenewalRefused = refl

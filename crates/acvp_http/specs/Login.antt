@@ -16,7 +16,7 @@ use Rattle.acvp_http.specs.declared.login.CodeUse.{CodeUse}
 use Rattle.acvp_http.specs.declared.login.Entry.{Entry}
 use Rattle.acvp_http.specs.declared.records.Account.{Account}
 use Rattle.acvp_http.specs.declared.rule.Rule.{Rule}
-use Rattle.acvp_http.specs.declared.rule.Rule.TheVariants.{BodyNotJson, BodyEnvelope, BodyField, NoReference, LoginRefused, RenewalRefused, Unavailable}
+use Rattle.acvp_http.specs.declared.rule.Rule.TheVariants.{BodyNotJson, BodyEnvelope, BodyField, UnknownTest, DuplicateTest, SetMismatch, NoReference, LoginRefused, RenewalRefused, Unavailable}
 use Rattle.acvp_http.specs.Asks.{Test, verdict}
 use Rattle.acvp_http.specs.Records.{row_of, changed, with_step}
 
@@ -88,6 +88,9 @@ abbrev pub rule_of_fault : BodyFault → Rule
 rule_of_fault fault.BodyNotJson = BodyNotJson
 rule_of_fault fault.BodyEnvelope = BodyEnvelope
 rule_of_fault fault.BodyField = BodyField
+rule_of_fault fault.UnknownTest = UnknownTest
+rule_of_fault fault.DuplicateTest = DuplicateTest
+rule_of_fault fault.SetMismatch = SetMismatch
 rule_of_fault fault.NoReference = NoReference
 rule_of_fault fault.Memory = Unavailable
 

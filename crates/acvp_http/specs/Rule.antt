@@ -1,7 +1,7 @@
 -- The rules of refusal: their status codes and their words.
 use Rattle.std.specs.Prelude.{ℕ, List, codes}
 use Rattle.acvp_http.specs.declared.rule.Rule.{Rule}
-use Rattle.acvp_http.specs.declared.rule.Rule.TheVariants.{BadHead, HeadTooLarge, Truncated, LengthMissing, BadLength, BodyTooLarge, TransferCoding, HostMissing, NoRoute, NoMethod, BodyNotJson, BodyEnvelope, BodyField, NoReference, LoginRefused, RenewalRefused, ClockOutOfRange, Unavailable}
+use Rattle.acvp_http.specs.declared.rule.Rule.TheVariants.{BadHead, HeadTooLarge, Truncated, LengthMissing, BadLength, BodyTooLarge, TransferCoding, HostMissing, NoRoute, NoMethod, BodyNotJson, BodyEnvelope, BodyField, UnknownTest, DuplicateTest, SetMismatch, NoReference, LoginRefused, RenewalRefused, ClockOutOfRange, Unavailable}
 
 abbrev pub status_of : Rule → ℕ
 status_of BadHead = 400
@@ -17,6 +17,9 @@ status_of NoMethod = 405
 status_of BodyNotJson = 400
 status_of BodyEnvelope = 400
 status_of BodyField = 400
+status_of UnknownTest = 400
+status_of DuplicateTest = 400
+status_of SetMismatch = 400
 status_of NoReference = 400
 status_of LoginRefused = 403
 status_of RenewalRefused = 403
@@ -37,6 +40,9 @@ word_of NoMethod = codes "noMethod"
 word_of BodyNotJson = codes "bodyNotJson"
 word_of BodyEnvelope = codes "bodyEnvelope"
 word_of BodyField = codes "bodyField"
+word_of UnknownTest = codes "unknownTest"
+word_of DuplicateTest = codes "duplicateTest"
+word_of SetMismatch = codes "setMismatch"
 word_of NoReference = codes "noReference"
 word_of LoginRefused = codes "loginRefused"
 word_of RenewalRefused = codes "renewalRefused"

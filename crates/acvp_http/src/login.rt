@@ -107,6 +107,9 @@ fn rule_of(fault: BodyFault) -> Rule
         BodyFault::BodyNotJson => Rule::BodyNotJson,
         BodyFault::BodyEnvelope => Rule::BodyEnvelope,
         BodyFault::BodyField => Rule::BodyField,
+        BodyFault::UnknownTest => Rule::UnknownTest,
+        BodyFault::DuplicateTest => Rule::DuplicateTest,
+        BodyFault::SetMismatch => Rule::SetMismatch,
         BodyFault::NoReference => Rule::NoReference,
         BodyFault::Memory => Rule::Unavailable,
     }

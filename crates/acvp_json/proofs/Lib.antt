@@ -1,1 +1,3 @@
 pub mod EnvelopeLemmas
+pub mod KeptLemmas
+pub mod AnswersLemmas

@@ -8,6 +8,12 @@ pub mod CertifyBody
 pub mod Time
 pub mod Written
 pub mod ReplyData
+pub mod Elements
+pub mod KeptAnswers
+pub mod AnswersBody
+pub mod AnswersReading
+pub use Rattle.acvp_answers.specs.Answer
+pub use Rattle.acvp_gen.specs.Prompt
 pub use Rattle.acvp_caps.specs.Algorithms
 pub use Rattle.acvp_registry.specs.Url
 pub use Rattle.jiff.specs.Words

@@ -1,5 +1,5 @@
 -- The object of each accepted reply.
-use Rattle.std.specs.Prelude.{ℕ, List, ◌++◌, codes, decimal, map}
+use Rattle.std.specs.Prelude.{◌++◌, codes, decimal, map}
 use Rattle.serde_json.specs.Data.{Data, string, array, object, no_members, member}
 use Rattle.serde_json.specs.View.{items_of}
 use Rattle.acvp_caps.specs.declared.algorithm.Algorithm.{Algorithm}

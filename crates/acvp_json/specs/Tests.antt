@@ -1,7 +1,7 @@
 -- The tests of a body: a list in their order, and what they give.
 use Rattle.std.specs.Prelude.{◌≡◌, ◌⊎◌, List, Bool, not, find, Option, Some, None, Result, Ok, Err}
 use Rattle.acvp_json.specs.declared.fault.BodyFault.{BodyFault}
-use Rattle.acvp_json.specs.declared.fault.BodyFault.TheVariants.{Memory}
+use Rattle.acvp_json.specs.declared.fault.BodyFault.TheVariants.{BodyField, Memory}
 
 -- a test that must hold, with the fault that it gives
 abbrev pub Test : Type 0
@@ -19,3 +19,8 @@ verdict tests value = unless_broken (find (λ test. not test.0) tests) value
 abbrev pub IsAnswer : {T X : Type 0} → Result T BodyFault → (T → X) → Result (Option X) BodyFault → Type 0
 IsAnswer (Ok value) shown decision = decision ≡ Ok (Some (shown value))
 IsAnswer (Err fault) shown decision = (fault ≡ Memory) ⊎ (decision ≡ Err fault)
+
+-- for private clauses: what was read, or BodyField where there is nothing to read; or memory was refused
+abbrev pub IsRead : {T X : Type 0} → Result T BodyFault → (T → X) → Option X → Type 0
+IsRead (Ok value) shown read = read ≡ Some (shown value)
+IsRead (Err fault) shown read = (fault ≡ Memory) ⊎ ((fault ≡ BodyField) × (read ≡ None))

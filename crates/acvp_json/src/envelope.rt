@@ -12,7 +12,7 @@ use serde_json::Value;
 use std::alloc::Global;
 
 // The JSON value that the bytes are.
-fn parse(alloc: Global, body: &[u8]) -> Result<Value, BodyFault>
+pub(crate) fn parse(alloc: Global, body: &[u8]) -> Result<Value, BodyFault>
     ensures { MatchResult result (λ value. json_of body.now ≡ Some (view value))
         (λ fault. (fault ≡ BodyFault.Memory) ⊎ ((fault ≡ BodyFault.BodyNotJson) × (json_of body.now ≡ None))) }
 {

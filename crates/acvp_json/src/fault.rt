@@ -9,6 +9,12 @@ pub enum BodyFault {
     BodyEnvelope,
     /// Rule 33: a member is missing or isn't of its kind.
     BodyField,
+    /// Rule 37: an answer is to a test that the vector set doesn't have in that group.
+    UnknownTest,
+    /// Rule 38: a test is answered twice.
+    DuplicateTest,
+    /// Rule 39: the answers are for another vector set, algorithm or revision.
+    SetMismatch,
     /// Rule 40: a text isn't the URL of an object of the kind that is meant.
     NoReference,
     /// Memory was refused.

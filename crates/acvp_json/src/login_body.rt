@@ -8,7 +8,7 @@ ghost use Rattle.acvp_json.specs.Tests.{IsAnswer, verdict};
 
 use crate::fault::BodyFault;
 use crate::members::{optional_text, text_at};
-use crate::text::Text;
+use crate::text::{Text, copied};
 use serde_json::Value;
 use std::alloc::Global;
 
@@ -20,17 +20,7 @@ pub struct LoginBody {
     pub access: Option<Text>,
 }
 
-// A text of its own.
-fn copied(alloc: Global, text: &str) -> Result<Text, BodyFault>
-    ensures { MatchResult result (λ copy. copy ≡ text.now) (λ fault. fault ≡ BodyFault.Memory) }
-{
-    match String::from_str(alloc, text) {
-        Ok(string) => Ok(Text::new(string)),
-        Err(_) => Err(BodyFault::Memory),
-    }
-}
-
-// The same of a text that may be absent.
+// A text of its own, where there is one.
 fn copied_if_any(alloc: Global, text: Option<&str>) -> Result<Option<Text>, BodyFault>
     ensures { MatchResult result (λ copy. copy ≡ texts text.entry) (λ fault. fault ≡ BodyFault.Memory) }
 {

@@ -1,9 +1,11 @@
 //! Bodies and replies, by the forms that the protocol gives them; the times are those of `date -u`.
 
+use crate::answers_body::has_answers_form;
 use crate::{
-    BodyFault, CertifyBody, LoginBody, ReplyObject, Text, open_envelope, read_certify, read_login,
-    time_text, write_reply,
+    BodyFault, CertifyBody, LoginBody, ReplyObject, Text, answers_from_text, answers_to_text,
+    open_envelope, read_certify, read_login, time_text, write_reply,
 };
+use acvp_answers::Answers;
 use acvp_caps::Algorithm;
 use serde_json::Value;
 use std::alloc::{AllocError, Global};
@@ -247,5 +249,139 @@ fn algorithms_have_names_and_numbers(rt: HostRuntime) -> Result<(), Fail> {
         write_reply(alloc, &ReplyObject::ListAlgorithms)?.as_slice(),
         list.as_bytes()
     );
+    Ok(())
+}
+
+#[test]
+fn answers_are_kept_and_read_back(rt: HostRuntime) -> Result<(), Fail> {
+    let alloc = rt.alloc();
+    let mut answers = Answers::new(alloc);
+    assert_eq!(rt; answers_to_text(alloc, &answers)?.as_str(), "[]");
+    assert!(rt; answers.insert(25, Vec::new(alloc))?);
+    let mut texts = Vec::new(alloc);
+    texts.push(String::from_str(alloc, "e3")?)?;
+    assert!(rt; answers.insert(1, texts)?);
+    let text = answers_to_text(alloc, &answers)?;
+    assert_eq!(rt; text.as_str(), "[[1,[\"e3\"]],[25,[]]]");
+    match answers_from_text(alloc, text.as_str()) {
+        Ok(read) => {
+            assert_eq!(rt; read.len(), 2);
+            let (number, texts) = read.entry(0);
+            assert_eq!(rt; number, 1);
+            assert_eq!(rt; texts.len(), 1);
+            assert_eq!(rt; texts[0].as_str(), "e3");
+            let (number, texts) = read.entry(1);
+            assert_eq!(rt; number, 25);
+            assert!(rt; texts.is_empty());
+        }
+        Err(_) => assert!(rt; false),
+    }
+    match answers_from_text(alloc, "[]") {
+        Ok(read) => assert_eq!(rt; read.len(), 0),
+        Err(_) => assert!(rt; false),
+    }
+    Ok(())
+}
+
+#[test]
+fn the_same_text_is_written_again(rt: HostRuntime) -> Result<(), Fail> {
+    let alloc = rt.alloc();
+    for text in [
+        "[[0,[]]]",
+        "[[18446744073709551615,[\"\"]]]",
+        "[[2,[\"a\",\"b\",\"a\"]],[3,[\"\\\"\\\\\\n\u{e9}\"]]]",
+    ] {
+        match answers_from_text(alloc, text) {
+            Ok(read) => assert_eq!(rt; answers_to_text(alloc, &read)?.as_str(), text),
+            Err(_) => assert!(rt; false, "{text}"),
+        }
+    }
+    Ok(())
+}
+
+#[test]
+fn what_answers_are_not_kept_as_is_refused(rt: HostRuntime) -> Result<(), Fail> {
+    let alloc = rt.alloc();
+    for (text, fault) in [
+        ("", BodyFault::BodyNotJson),
+        ("[[1,[\"a\"]]", BodyFault::BodyNotJson),
+        ("[[1,[]]] []", BodyFault::BodyNotJson),
+        ("[[1.5,[]]]", BodyFault::BodyNotJson),
+        ("[[-0,[]]]", BodyFault::BodyNotJson),
+        ("[[18446744073709551616,[]]]", BodyFault::BodyNotJson),
+        ("[[2,[]],[1,[]]]", BodyFault::BodyField),
+        ("[[1,[]],[1,[]]]", BodyFault::BodyField),
+        ("[[-1,[]]]", BodyFault::BodyField),
+        ("[[1,[\"a\",2]]]", BodyFault::BodyField),
+        ("[[\"1\",[]]]", BodyFault::BodyField),
+        ("[[1]]", BodyFault::BodyField),
+        ("[[1,[],[]]]", BodyFault::BodyField),
+        ("[[1,\"a\"]]", BodyFault::BodyField),
+        ("[1]", BodyFault::BodyField),
+        ("[[[],1]]", BodyFault::BodyField),
+        ("{}", BodyFault::BodyField),
+        ("7", BodyFault::BodyField),
+        (" [[1,[]]]", BodyFault::BodyField),
+        ("[[1, []]]", BodyFault::BodyField),
+        ("[[1,[\"\\u0061\"]]]", BodyFault::BodyField),
+    ] {
+        assert_eq!(rt; answers_from_text(alloc, text).err(), Some(fault));
+    }
+    Ok(())
+}
+
+#[test]
+fn bodies_of_answers_have_a_form(rt: HostRuntime) -> Result<(), Fail> {
+    let alloc = rt.alloc();
+    for (object, is_formed) in [
+        ("{\"vsId\":1,\"testGroups\":[]}", true),
+        (
+            "{\"vsId\":0,\"algorithm\":\"SHA2-256\",\"revision\":\"1.0\",\"testGroups\":[\
+             {\"tgId\":1,\"tests\":[{\"tcId\":1,\"md\":\"e3\"},{\"tcId\":2,\"mac\":\"\"},{\"tcId\":3}]},\
+             {\"tgId\":1,\"tests\":[{\"tcId\":3,\"resultsArray\":[{\"md\":\"e3\"},{\"md\":\"\",\"x\":0}]}]},\
+             {\"tgId\":2,\"tests\":[{\"tcId\":4,\"resultsArray\":[]}]},{\"tgId\":3,\"tests\":[]}]}",
+            true,
+        ),
+        ("{\"testGroups\":[]}", false),
+        ("{\"vsId\":-1,\"testGroups\":[]}", false),
+        ("{\"vsId\":\"1\",\"testGroups\":[]}", false),
+        ("{\"vsId\":1}", false),
+        ("{\"vsId\":1,\"testGroups\":{}}", false),
+        ("{\"vsId\":1,\"algorithm\":null,\"testGroups\":[]}", false),
+        ("{\"vsId\":1,\"revision\":1,\"testGroups\":[]}", false),
+        ("{\"vsId\":1,\"testGroups\":[{\"tests\":[]}]}", false),
+        ("{\"vsId\":1,\"testGroups\":[{\"tgId\":1}]}", false),
+        ("{\"vsId\":1,\"testGroups\":[[]]}", false),
+        (
+            "{\"vsId\":1,\"testGroups\":[{\"tgId\":1,\"tests\":[]},{\"tgId\":\"2\",\"tests\":[]}]}",
+            false,
+        ),
+        (
+            "{\"vsId\":1,\"testGroups\":[{\"tgId\":1,\"tests\":[{\"md\":\"e3\"}]}]}",
+            false,
+        ),
+        (
+            "{\"vsId\":1,\"testGroups\":[{\"tgId\":1,\"tests\":[{\"tcId\":1,\"md\":1}]}]}",
+            false,
+        ),
+        (
+            "{\"vsId\":1,\"testGroups\":[{\"tgId\":1,\"tests\":[{\"tcId\":1,\"mac\":null}]}]}",
+            false,
+        ),
+        (
+            "{\"vsId\":1,\"testGroups\":[{\"tgId\":1,\"tests\":[{\"tcId\":1,\"resultsArray\":null}]}]}",
+            false,
+        ),
+        (
+            "{\"vsId\":1,\"testGroups\":[{\"tgId\":1,\"tests\":[{\"tcId\":1,\"resultsArray\":[{}]}]}]}",
+            false,
+        ),
+        ("[]", false),
+    ] {
+        match Value::from_str(alloc, object) {
+            Ok(object) => assert_eq!(rt; has_answers_form(&object), is_formed),
+            Err(_) => assert!(rt; false),
+        }
+    }
     Ok(())
 }

@@ -1,6 +1,8 @@
 //! Text that contracts see as the list of its bytes.
-ghost use Rattle.std.specs.Prelude.{◌≡◌, string_bytes};
+ghost use Rattle.std.specs.Prelude.{◌≡◌, MatchResult, string_bytes};
 
+use crate::fault::BodyFault;
+use std::alloc::Global;
 use std::marker::Model;
 
 /// A text of a body, in UTF-8.
@@ -37,5 +39,15 @@ impl Text {
     {
         let Text { string } = self;
         string
+    }
+}
+
+// A text of its own.
+pub(crate) fn copied(alloc: Global, text: &str) -> Result<Text, BodyFault>
+    ensures { MatchResult result (λ copy. copy ≡ text.now) (λ fault. fault ≡ BodyFault.Memory) }
+{
+    match String::from_str(alloc, text) {
+        Ok(string) => Ok(Text::new(string)),
+        Err(_) => Err(BodyFault::Memory),
     }
 }

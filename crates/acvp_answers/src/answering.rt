@@ -1,0 +1,70 @@
+//! The standard's answers to the tests of a vector set.
+
+ghost use Rattle.std.specs.Prelude.{◌≡◌, ◌≤◌, ◌+◌, ◌*◌, ◌++◌, IfOk, IfSome, length, map, string_bytes};
+ghost use Rattle.std.specs.List.{range_with_len};
+ghost use Rattle.std.specs.Map.{keys_of};
+ghost use Rattle.acvp_mac.specs.Hash.{out_of};
+ghost use Rattle.acvp_answers.specs.Standards as standards;
+
+use crate::answers::Answers;
+use crate::texts::{digest_texts, mac_texts, monte_carlo_texts};
+use acvp_gen::{Group, GroupKind, Prompts, Test};
+use acvp_mac::HashName;
+use std::alloc::{AllocError, Global};
+
+/// The standard's texts for a test of a group.
+fn texts_on(
+    alloc: Global,
+    name: HashName,
+    group: &Group,
+    test: &Test,
+) -> Result<Vec<String>, AllocError>
+    requires { IfSome group.now.sizes (λ s. s.mac_bits ≤ 8 * out_of name) }
+    ensures { IfOk result (λ texts. map string_bytes texts.items ≡ standards.texts_on name group.now.kind group.now.sizes test.now) }
+{
+    match (group.kind(), group.mac_bits()) {
+        (GroupKind::MonteCarlo, _) => monte_carlo_texts(alloc, name, test.message()),
+        (GroupKind::Functional, None) => digest_texts(alloc, name, test.message()),
+        (GroupKind::Functional, Some(bits)) => mac_texts(
+            alloc,
+            name,
+            test.key(),
+            test.message(),
+            (bits / 8) as usize,
+        ),
+    }
+}
+
+/// Adds the standard's answers to the tests of a group, which are numbered after those answered already.
+fn answer_group(
+    alloc: Global,
+    answers: &mut Answers,
+    name: HashName,
+    group: &Group,
+) -> Result<(), AllocError>
+    requires before { keys_of answers.now ≡ range_with_len 1 (length answers.now) }
+    requires next { map (λ t. t.number) group.now.tests ≡ range_with_len (length answers.now + 1) (length group.now.tests) }
+    requires sized { IfSome group.now.sizes (λ s. s.mac_bits ≤ 8 * out_of name) }
+    ensures value { IfOk result (λ _. answers.new ≡ answers.old ++ standards.group_answers name group.now) }
+    ensures before { IfOk result (λ _. keys_of answers.new ≡ range_with_len 1 (length answers.new)) }
+{
+    for test in group.tests() {
+        let texts = texts_on(alloc, name, group, test)?;
+        answers.insert(test.number(), texts)?;
+    }
+    Ok(())
+}
+
+/// The standard's answers to the tests of a vector set: the digest of each message (FIPS 180-4), the leftmost bits of its HMAC
+/// (FIPS 198-1), or a hundred checkpoints (NIST, The Secure Hash Algorithm Validation System, section 6.4), as hex digits in
+/// lower case.
+pub fn standard(alloc: Global, prompts: &Prompts) -> Result<Answers, AllocError>
+    ensures { IfOk result (λ answers. answers ≡ standards.standard_of prompts.now) }
+{
+    let mut answers = Answers::new(alloc);
+    let name = prompts.algorithm().hash();
+    for group in prompts.groups() {
+        answer_group(alloc, &mut answers, name, group)?;
+    }
+    Ok(answers)
+}

@@ -1,0 +1,79 @@
+//! The texts with which the standard answers a single test: bytes as hex digits in lower case.
+ghost use Rattle.std.specs.Prelude.{◌≡◌, ◌≤◌, [], ◌∷◌, IfOk, map, string_bytes};
+ghost use Rattle.hex.specs.Hex.{encode_lower};
+ghost use Rattle.acvp_mac.specs.Hash.{out_of};
+ghost use Rattle.acvp_answers.specs.Standards as standards;
+
+use crate::monte_carlo::turn;
+use acvp_mac::{HashName, hash, hmac};
+use std::alloc::{AllocError, Global};
+
+// How many checkpoints a Monte Carlo test has.
+const TURNS: usize = 100;
+
+// One text, of these bytes.
+fn one_text(alloc: Global, bytes: &[u8]) -> Result<Vec<String>, AllocError>
+    ensures { IfOk result (λ texts. map string_bytes texts.items ≡ encode_lower bytes.now ∷ []) }
+{
+    let mut texts = Vec::with_capacity(alloc, 1)?;
+    texts.push(hex::encode(alloc, bytes)?)?;
+    Ok(texts)
+}
+
+/// The digest of a message (FIPS 180-4): the answer to a functional test of a hash function.
+pub(crate) fn digest_texts(
+    alloc: Global,
+    name: HashName,
+    message: &[u8],
+) -> Result<Vec<String>, AllocError>
+    ensures { IfOk result (λ texts. map string_bytes texts.items ≡ standards.digest_texts name message.now) }
+{
+    one_text(alloc, hash(name, message).as_slice())
+}
+
+/// The leftmost `bytes` bytes of the HMAC of a message (FIPS 198-1): the answer to a test of HMAC.
+pub(crate) fn mac_texts(
+    alloc: Global,
+    name: HashName,
+    key: &[u8],
+    message: &[u8],
+    bytes: usize,
+) -> Result<Vec<String>, AllocError>
+    requires { bytes ≤ out_of name }
+    ensures { IfOk result (λ texts. map string_bytes texts.items ≡ standards.mac_texts name key.now message.now bytes) }
+{
+    one_text(alloc, hmac(name, key, message).leftmost(bytes))
+}
+
+/// The first checkpoints of a Monte Carlo test, one for each turn.
+pub(crate) fn checkpoint_texts(
+    alloc: Global,
+    name: HashName,
+    seed: &[u8],
+    turns: usize,
+) -> Result<Vec<String>, AllocError>
+    ensures { IfOk result (λ texts. map string_bytes texts.items ≡ standards.checkpoint_texts name seed.now turns) }
+{
+    let mut texts = Vec::with_capacity(alloc, turns)?;
+    let mut checkpoint = Vec::from_slice(alloc, seed)?;
+    for _ in 0..turns {
+        checkpoint = turn(alloc, name, &checkpoint)?;
+        let text = hex::encode(alloc, checkpoint.as_slice())?;
+        texts.push(text)?;
+    }
+    Ok(texts)
+}
+
+/// The hundred checkpoints that answer a Monte Carlo test.
+pub(crate) fn monte_carlo_texts(
+    alloc: Global,
+    name: HashName,
+    seed: &[u8],
+) -> Result<Vec<String>, AllocError>
+    ensures { IfOk result (λ texts. map string_bytes texts.items ≡ standards.monte_carlo_texts name seed.now) }
+{
+    checkpoint_texts(alloc, name, seed, TURNS)
+}
+
+#[cfg(test)]
+mod tests;

@@ -1,0 +1,4 @@
+pub mod WordLemmas
+pub mod LengthLemmas
+pub mod ChoiceLemmas
+pub mod FillingLemmas

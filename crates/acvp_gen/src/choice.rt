@@ -1,0 +1,148 @@
+//! Which groups of tests a capability gets.
+
+ghost use Rattle.std.specs.Prelude.{◌≡◌, ◌≤◌, ◌++◌, All, length, map, IfOk};
+ghost use Rattle.std.specs.List.Sorted.{IsStrictlyIncreasing};
+ghost use Rattle.acvp_caps.specs.Capability.{AreLengths, AreDomainsOf};
+ghost use Rattle.acvp_gen.specs.Choice.{hash_test, hash_shape, monte_carlo_shapes, hash_shapes, hmac_shape, hmac_shapes, shapes_on, draws_on};
+ghost use Rattle.acvp_gen.specs.Filling.{AreSmall};
+ghost use Rattle.acvp_gen.specs.Prompts.{IsSized};
+
+use crate::group::{GroupKind, Sizes};
+use crate::lengths::{KEY_DRAWS, MESSAGE_DRAWS, key_lengths, mac_lengths, message_lengths};
+use crate::shape::{Shape, TestShape};
+use acvp_caps::{Algorithm, Domain, Domains};
+use std::alloc::{AllocError, Global};
+
+/// The bits of an HMAC test's message.
+const HMAC_MESSAGE: u64 = 128;
+
+/// How many tests an HMAC group has.
+const HMAC_TESTS: usize = 3;
+
+/// A group of a hash function's tests, by the bits of their messages.
+fn hash_shape(alloc: Global, kind: GroupKind, lengths: &[u64]) -> Result<Shape, AllocError>
+    ensures { IfOk result (λ shape. shape ≡ hash_shape kind lengths.now) }
+{
+    let mut tests = Vec::with_capacity(alloc, lengths.len())?;
+    for length in lengths {
+        tests.push(TestShape {
+            key_bits: 0,
+            message_bits: *length,
+        })?;
+    }
+    Ok(Shape {
+        kind,
+        sizes: None,
+        tests,
+    })
+}
+
+/// The groups of a hash function: the functional tests, and a Monte Carlo test where three times the digest's bits is a member.
+fn hash_shapes(
+    alloc: Global,
+    seed: &[u8; 32],
+    vs: u64,
+    algorithm: Algorithm,
+    members: &Domain,
+) -> Result<Vec<Shape>, AllocError>
+    requires { AreLengths 0 65536 members.now }
+    ensures value { IfOk result (λ shapes. shapes.items ≡ hash_shapes seed.now vs algorithm members.now) }
+    ensures small { IfOk result (λ shapes. AreSmall shapes.items) }
+{
+    let mut shapes = Vec::new(alloc);
+    let lengths = message_lengths(alloc, seed, vs, algorithm, members)?;
+    shapes.push(hash_shape(alloc, GroupKind::Functional, &lengths)?)?;
+    let digest_bits = algorithm.digest_bits();
+    if members.contains(3 * digest_bits) {
+        shapes.push(hash_shape(alloc, GroupKind::MonteCarlo, &[digest_bits])?)?;
+    }
+    Ok(shapes)
+}
+
+/// A group of HMAC's tests, by the bits of their key and of their MAC.
+fn hmac_shape(alloc: Global, key_bits: u64, mac_bits: u64) -> Result<Shape, AllocError>
+    ensures { IfOk result (λ shape. shape ≡ hmac_shape key_bits mac_bits) }
+{
+    let test = TestShape {
+        key_bits,
+        message_bits: HMAC_MESSAGE,
+    };
+    let sizes = Sizes {
+        key_bits,
+        message_bits: HMAC_MESSAGE,
+        mac_bits,
+    };
+    Ok(Shape {
+        kind: GroupKind::Functional,
+        sizes: Some(sizes),
+        tests: vec![in alloc; test; HMAC_TESTS]?,
+    })
+}
+
+/// Appends the groups of a key's length, one for each length of a MAC.
+fn add_hmac_shapes(
+    alloc: Global,
+    shapes: &mut Vec<Shape>,
+    key_bits: u64,
+    macs: &[u64],
+) -> Result<(), AllocError>
+    ensures { IfOk result (λ _. shapes.new.items ≡ shapes.old.items ++ map (hmac_shape key_bits) macs.now) }
+{
+    for mac_bits in macs {
+        shapes.push(hmac_shape(alloc, key_bits, *mac_bits)?)?;
+    }
+    Ok(())
+}
+
+/// The groups of HMAC, one for each pair of a key's length and a MAC's.
+fn hmac_shapes(
+    alloc: Global,
+    seed: &[u8; 32],
+    vs: u64,
+    algorithm: Algorithm,
+    keys: &Domain,
+    macs: &Domain,
+) -> Result<Vec<Shape>, AllocError>
+    requires keys { AreLengths 8 524288 keys.now }
+    requires macs { IsStrictlyIncreasing macs.now }
+    ensures value { IfOk result (λ shapes. shapes.items ≡ hmac_shapes seed.now vs algorithm keys.now macs.now) }
+    ensures small { IfOk result (λ shapes. AreSmall shapes.items) }
+{
+    let mut shapes = Vec::new(alloc);
+    let macs = mac_lengths(alloc, macs)?;
+    for key_bits in &key_lengths(alloc, seed, vs, algorithm, keys)? {
+        add_hmac_shapes(alloc, &mut shapes, *key_bits, &macs)?;
+    }
+    Ok(shapes)
+}
+
+/// The groups of an algorithm and its domains.
+#[tactic(auto, using(crate::proofs::ChoiceLemmas::sized_shapes))]
+pub(crate) fn shapes_on(
+    alloc: Global,
+    seed: &[u8; 32],
+    vs: u64,
+    algorithm: Algorithm,
+    domains: &Domains,
+) -> Result<Vec<Shape>, AllocError>
+    requires { AreDomainsOf algorithm domains.now }
+    ensures value { IfOk result (λ shapes. shapes.items ≡ shapes_on seed.now vs algorithm domains.now) }
+    ensures small { IfOk result (λ shapes. AreSmall shapes.items) }
+    ensures sized { IfOk result (λ shapes. All (λ s. IsSized algorithm s.sizes) shapes.items) }
+{
+    match domains {
+        Domains::Message(members) => hash_shapes(alloc, seed, vs, algorithm, members),
+        Domains::KeyAndMac { key, mac } => hmac_shapes(alloc, seed, vs, algorithm, key, mac),
+    }
+}
+
+/// How many words are drawn before the bytes of the tests begin.
+pub(crate) fn draws_on(domains: &Domains) -> u64
+    ensures value { result ≡ draws_on domains.now }
+    ensures most { result ≤ 16 }
+{
+    match domains {
+        Domains::Message(_) => MESSAGE_DRAWS,
+        Domains::KeyAndMac { .. } => KEY_DRAWS,
+    }
+}

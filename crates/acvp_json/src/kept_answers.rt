@@ -1,0 +1,163 @@
+//! Answers as they are kept: the text `[[number,[text,..]],..]` of JSON.
+ghost use Rattle.std.specs.Prelude.{◌≡◌, ◌⊎◌, ◌↔◌, List, false, Some, IfOk, MatchResult, map, option_map, string_bytes};
+ghost use Rattle.serde_json.specs.View.{view};
+ghost use Rattle.serde_json.specs.Written.{has_float};
+ghost use Rattle.acvp_answers.specs.Answer.{Answer, AreAscending, shown_texts};
+ghost use Rattle.acvp_json.specs.KeptAnswers.{texts_data, answer_data, answers_data, kept_text, texts_of, pair_of, answer_of, is_above, answers_of, is_compact, kept_answers, kept_answers_tests, IsKeptAs};
+ghost use Rattle.acvp_json.specs.Tests.{IsAnswer, IsRead, verdict};
+
+use crate::envelope::parse;
+use crate::fault::BodyFault;
+use crate::text::copied;
+use acvp_answers::Answers;
+use serde_json::{Value, json};
+use std::alloc::{AllocError, Global};
+
+// The array of texts.
+fn texts_value(alloc: Global, texts: &[String]) -> Result<Value, AllocError>
+    ensures { IfOk result (λ value. view value ≡ texts_data (map string_bytes texts.now)) }
+{
+    let mut values = Vec::new(alloc);
+    for text in texts {
+        values.push(Value::try_from_str(alloc, text.as_str())?)?;
+    }
+    Ok(Value::Array(values))
+}
+
+// A test's number and its texts.
+fn answer_value(alloc: Global, number: u64, texts: &[String]) -> Result<Value, AllocError>
+    ensures { IfOk result (λ value. view value ≡ answer_data (number, map string_bytes texts.now)) }
+{
+    let texts = texts_value(alloc, texts)?;
+    json!(in alloc; [number, texts])
+}
+
+// The array of answers.
+fn answers_value(alloc: Global, answers: &Answers) -> Result<Value, AllocError>
+    ensures value { IfOk result (λ value. view value ≡ answers_data answers.now) }
+    ensures ascending { AreAscending answers.now }
+{
+    let mut values = Vec::new(alloc);
+    for i in 0..answers.len() {
+        let (number, texts) = answers.entry(i);
+        values.push(answer_value(alloc, number, texts)?)?;
+    }
+    Ok(Value::Array(values))
+}
+
+/// The answers as compact JSON, ascending by the tests' numbers. It takes time in the square of their count, since each is found
+/// from the front.
+pub fn answers_to_text(alloc: Global, answers: &Answers) -> Result<String, AllocError>
+    ensures text { IfOk result (λ text. string_bytes text ≡ kept_text answers.now) }
+    ensures reads_back { IfOk result (λ text. kept_answers (string_bytes text) ≡ Some answers.now) }
+{
+    answers_value(alloc, answers)?.to_string(alloc)
+}
+
+// The texts of an array of texts.
+fn texts_in(alloc: Global, value: &Value) -> Result<Vec<String>, BodyFault>
+    ensures { IsRead result shown_texts (texts_of (view value.now)) }
+{
+    let Some(items) = value.as_array() else {
+        return Err(BodyFault::BodyField);
+    };
+    let mut texts = Vec::new(alloc);
+    for item in items {
+        let Some(text) = item.as_str() else {
+            return Err(BodyFault::BodyField);
+        };
+        if texts.push(copied(alloc, text)?.into_string()).is_err() {
+            return Err(BodyFault::Memory);
+        }
+    }
+    Ok(texts)
+}
+
+// The first of exactly two elements, a whole number, and the second.
+#[tactic(auto, using(crate::proofs::KeptLemmas::pair_items_other))]
+fn pair_in(value: &Value) -> Option<(u64, &Value)>
+    ensures { option_map (λ pair. (pair.0, view pair.1.now)) result ≡ pair_of (view value.now) }
+{
+    let items = value.as_array()?;
+    if items.len() != 2 {
+        return None;
+    }
+    let number = items[0].as_u64()?;
+    Some((number, &items[1]))
+}
+
+// A test's number and its texts.
+fn answer_in(alloc: Global, value: &Value) -> Result<(u64, Vec<String>), BodyFault>
+    ensures { IsRead result (λ answer. (answer.0, shown_texts answer.1)) (answer_of (view value.now)) }
+{
+    let Some((number, texts)) = pair_in(value) else {
+        return Err(BodyFault::BodyField);
+    };
+    Ok((number, texts_in(alloc, texts)?))
+}
+
+// Whether a number is above the one before it, if any.
+fn is_above(last: Option<u64>, number: u64) -> bool
+    ensures { result ≡ is_above last number }
+{
+    match last {
+        Some(last) => last < number,
+        None => true,
+    }
+}
+
+// The ascending answers that a JSON value is.
+fn answers_in(alloc: Global, value: &Value) -> Result<Answers, BodyFault>
+    ensures { IsRead result (λ answers. answers) (answers_of (view value.now)) }
+{
+    let Some(items) = value.as_array() else {
+        return Err(BodyFault::BodyField);
+    };
+    let mut answers = Answers::new(alloc);
+    let mut last = None;
+    for item in items {
+        let (number, texts) = answer_in(alloc, item)?;
+        if !is_above(last, number) {
+            return Err(BodyFault::BodyField);
+        }
+        match answers.insert(number, texts) {
+            Ok(_) => last = Some(number),
+            Err(_) => return Err(BodyFault::Memory),
+        }
+    }
+    Ok(answers)
+}
+
+// Whether a text is the compact one of its value.
+fn is_compact(alloc: Global, text: &str, value: &Value) -> Result<bool, BodyFault>
+    requires { has_float (view value.now) ≡ false }
+    ensures { MatchResult result (λ is. is ≡ is_compact text.now (view value.now)) (λ fault. fault ≡ BodyFault.Memory) }
+{
+    match value.to_string(alloc) {
+        Ok(compact) => Ok(text == compact.as_str()),
+        Err(_) => Err(BodyFault::Memory),
+    }
+}
+
+// The answers that a text keeps.
+#[tactic(auto, unfolding(crate::specs::KeptAnswers::kept_answers))]
+fn kept_answers(alloc: Global, text: &str) -> Result<Answers, BodyFault>
+    ensures { IsAnswer result (λ answers. answers) (verdict (kept_answers_tests text.now) (kept_answers text.now)) }
+{
+    let value = parse(alloc, text.as_bytes())?;
+    let answers = answers_in(alloc, &value)?;
+    if is_compact(alloc, text, &value)? {
+        Ok(answers)
+    } else {
+        Err(BodyFault::BodyField)
+    }
+}
+
+/// Reads answers from the text that `answers_to_text` gives for them. The faults are BodyNotJson, BodyField for any other JSON, and
+/// Memory.
+pub fn answers_from_text(alloc: Global, text: &str) -> Result<Answers, BodyFault>
+    ensures answer { IsAnswer result (λ answers. answers) (verdict (kept_answers_tests text.now) (kept_answers text.now)) }
+    ensures exact { (answers : List Answer) → (kept_answers text.now ≡ Some answers) ↔ IsKeptAs text.now answers }
+{
+    kept_answers(alloc, text)
+}
