@@ -1,6 +1,6 @@
 -- Lemmas on a body of answers: its tests as one list are what reading its answers one by one finds.
-use Rattle.std.proofs.Common.{◌≡◌, ℕ, List, [], ◌∷◌, ◌++◌, Bool, true, false, nat_eq, cond, ◌||◌, Option, None, Some, option_map, inl, inr, refl, sym, ◌∙◌, ap, subst, arith}
-use Rattle.std.specs.Prelude.{◌⊎◌, find, not, is_some, option_and_then, Result, Ok, Err, MatchBool, Contains}
+use Rattle.std.proofs.Common.{◌≡◌, ℕ, List, [], ◌∷◌, ◌++◌, Bool, true, false, nat_eq, cond, ◌||◌, Option, None, Some, inl, inr, refl, sym, ◌∙◌, ap, arith}
+use Rattle.std.specs.Prelude.{◌⊎◌, find, not, is_some, Result, Ok, Err}
 use Rattle.std.specs.BTreeMap.{insert_entry}
 use Rattle.std.specs.List.{list_any, filter_map}
 use Rattle.std.specs.Map.{keys_of}

@@ -1,3 +1,4 @@
 pub mod EnvelopeLemmas
 pub mod KeptLemmas
+pub mod ReplyLemmas
 pub mod AnswersLemmas

@@ -1,4 +1,4 @@
--- The same reading of answers one by one, over the answers read so far.
+-- For private clauses: the same reading of answers one by one, over the answers read so far.
 use Rattle.std.specs.Prelude.{◌≡◌, ◌⊎◌, List, [], ◌∷◌, Result, Ok, Err}
 use Rattle.std.specs.List.{filter_map}
 use Rattle.std.specs.Map.{keys_of}

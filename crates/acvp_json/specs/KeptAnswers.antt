@@ -84,7 +84,7 @@ kept_answers text = option_and_then (kept_in text) (json_of text)
 abbrev pub kept_answers_tests : List ℕ → List Test
 kept_answers_tests text = (is_some (json_of text), BodyNotJson) ∷ (is_some (kept_answers text), BodyField) ∷ []
 
--- a text keeps these answers: it is their compact text, and they ascend
+-- a text keeps these answers: it is JSON and reads as their value, it is their compact text, and they ascend
 pub record IsKeptAs (text : List ℕ) (answers : List Answer) : Type 0 where
   pub value : json_of text ≡ Some (answers_data answers)
   pub written : text ≡ kept_text answers

@@ -245,8 +245,9 @@ fn read_groups(
 }
 
 /// Reads the answers to a vector set's tests. The faults are BodyField where the object hasn't its form, SetMismatch, and then of the
-/// answers in their order UnknownTest, DuplicateTest, and BodyField where the member of the test's kind is absent. It takes time in
-/// the length of the body: an answer costs a look through the vector set's tests, which are 42 at most.
+/// answers in their order UnknownTest, DuplicateTest, and BodyField where the member of the test's kind is absent; or Memory. It
+/// takes time in the length of the body: an answer costs a look through the vector set's tests, and there are no more answers
+/// than tests before the first fault.
 pub fn read_answers(alloc: Global, object: &Value, prompts: &Prompts) -> Result<Answers, BodyFault>
     ensures { IsAnswer result (λ answers. answers) (verdict (answers_body_tests (view object.now) prompts.now) (Some (answers_body_of (view object.now) prompts.now))) }
 {

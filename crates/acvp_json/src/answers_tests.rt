@@ -1,7 +1,7 @@
-//! Bodies of answers against the prompts of vector sets; digests and checkpoints come from the standard's answers, which
+//! Bodies of answers against the prompts of vector sets. Where a body has right answers, they are the standard's, which
 //! `acvp_answers` tests against other programs.
 
-use crate::{BodyFault, answers_to_text, read_answers};
+use crate::{BodyFault, ReplyObject, answers_to_text, open_envelope, read_answers, write_reply};
 use acvp_answers::{Answers, Disposition, Verdict, disposition, grade, standard};
 use acvp_gen::{CapFault, Capability, Prompts, prompts};
 use serde_json::Value;
@@ -91,6 +91,14 @@ fn the_first_test_that_fails_is_told(rt: HostRuntime) -> Result<(), Fail> {
         (
             r#"{"vsId":700000101,"revision":"2.0","testGroups":[]}"#,
             BodyFault::SetMismatch,
+        ),
+        (
+            r#"{"vsId":700000102,"testGroups":[{"tgId":1,"tests":[{"tcId":99,"md":""}]}]}"#,
+            BodyFault::SetMismatch,
+        ),
+        (
+            r#"{"vsId":700000101,"testGroups":[{"tgId":1,"tests":[{"tcId":1,"md":"a"}]},{"tgId":2,"tests":[{"tcId":1,"md":"a"}]}]}"#,
+            BodyFault::UnknownTest,
         ),
         (
             r#"{"vsId":700000101,"testGroups":[{"tgId":1,"tests":[{"tcId":99,"md":""}]}]}"#,
@@ -242,6 +250,62 @@ fn a_missing_answer_is_told_and_a_wrong_one_weighs_more(rt: HostRuntime) -> Resu
         ),
     ] {
         assert_eq!(rt; outcome(alloc, &prompts, &right, body).ok(), Some(wanted));
+    }
+    Ok(())
+}
+
+// A body with so many of the standard's checkpoints, begun anew behind the last, as the answer to the Monte Carlo test.
+fn checkpoints(alloc: Global, standard: &Answers, count: usize) -> Result<String, AllocError> {
+    let mut body = String::from_str(
+        alloc,
+        r#"{"vsId":700000101,"testGroups":[{"tgId":2,"tests":[{"tcId":25,"resultsArray":["#,
+    )?;
+    let texts = standard.texts_for(25).unwrap_or(&[]);
+    for text in texts.iter().cycle().take(count) {
+        if !body.ends_with("[") {
+            body.push_str(",")?;
+        }
+        let entry = format!(in alloc; r#"{{"md":"{text}"}}"#)?;
+        body.push_str(entry.as_str())?;
+    }
+    body.push_str("]}]}]}")?;
+    Ok(body)
+}
+
+#[test]
+fn a_hundred_checkpoints_pass_and_no_other_number(rt: HostRuntime) -> Result<(), Fail> {
+    let alloc = rt.alloc();
+    let prompts = prompts_of(alloc, HASH)?;
+    let right = standard(alloc, &prompts)?;
+    for (count, verdict) in [
+        (99, Verdict::Fail),
+        (100, Verdict::Passed),
+        (101, Verdict::Fail),
+    ] {
+        let body = checkpoints(alloc, &right, count)?;
+        let read = outcome(alloc, &prompts, &right, body.as_str())?;
+        assert_eq!(rt; read.1, Some(Verdict::Missing));
+        assert_eq!(rt; read.2, Some(verdict));
+    }
+    Ok(())
+}
+
+#[test]
+fn expected_answers_that_are_sent_back_pass(rt: HostRuntime) -> Result<(), Fail> {
+    let alloc = rt.alloc();
+    for capability in [HASH, HMAC] {
+        let prompts = prompts_of(alloc, capability)?;
+        let right = standard(alloc, &prompts)?;
+        let expected = ReplyObject::Expected {
+            prompts: prompts_of(alloc, capability)?,
+            standard: standard(alloc, &prompts)?,
+        };
+        let body = write_reply(alloc, &expected)?;
+        let object = open_envelope(alloc, &body)?;
+        let given = read_answers(alloc, &object, &prompts)?;
+        let verdicts = grade(alloc, &right, &given)?;
+        assert_eq!(rt; verdicts.len(), right.len());
+        assert_eq!(rt; disposition(&verdicts), Disposition::Passed);
     }
     Ok(())
 }

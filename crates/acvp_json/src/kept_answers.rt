@@ -153,8 +153,8 @@ fn kept_answers(alloc: Global, text: &str) -> Result<Answers, BodyFault>
     }
 }
 
-/// Reads answers from the text that `answers_to_text` gives for them. The faults are BodyNotJson, BodyField for any other JSON, and
-/// Memory.
+/// Reads answers from the text that `answers_to_text` gives for them. The faults are BodyNotJson where the text isn't JSON or holds a
+/// number kept as a float, BodyField for any other text, and Memory.
 pub fn answers_from_text(alloc: Global, text: &str) -> Result<Answers, BodyFault>
     ensures answer { IsAnswer result (λ answers. answers) (verdict (kept_answers_tests text.now) (kept_answers text.now)) }
     ensures exact { (answers : List Answer) → (kept_answers text.now ≡ Some answers) ↔ IsKeptAs text.now answers }

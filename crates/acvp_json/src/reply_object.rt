@@ -5,8 +5,13 @@ ghost use Rattle.acvp_caps.specs.Algorithms.{algorithms, number_of};
 ghost use Rattle.acvp_json.specs.Written.{body_of, enveloped};
 ghost use Rattle.acvp_json.specs.ReplyData.{algorithm_data, reply_data};
 
+use crate::expected::expected_value;
+use crate::set_results::{TestResults, set_results_value};
 use crate::text::Text;
+use crate::vector_set::vector_set_value;
+use acvp_answers::{Answers, Disposition};
 use acvp_caps::Algorithm;
+use acvp_gen::Prompts;
 use serde_json::{Value, json};
 use std::alloc::{AllocError, Global};
 
@@ -14,10 +19,30 @@ use std::alloc::{AllocError, Global};
 #[derive(Drop)]
 pub enum ReplyObject {
     /// A new token.
-    Login { token: Text },
+    Login {
+        token: Text,
+    },
     /// All algorithms that can be registered, in the order of their numbers.
     ListAlgorithms,
-    ReadAlgorithm { algorithm: Algorithm },
+    ReadAlgorithm {
+        algorithm: Algorithm,
+    },
+    /// A vector set, and whether its session is a sample.
+    ReadSet {
+        sample: bool,
+        prompts: Prompts,
+    },
+    /// What a vector set of this number and each of its tests come to.
+    SetResults {
+        vs: u64,
+        disposition: Disposition,
+        tests: TestResults,
+    },
+    /// A vector set's tests, and the standard's answers to them.
+    Expected {
+        prompts: Prompts,
+        standard: Answers,
+    },
 }
 
 // The URL of an algorithm.
@@ -63,11 +88,26 @@ fn value_of(alloc: Global, reply: &ReplyObject) -> Result<Value, AllocError>
             let value = algorithm_value(alloc, *algorithm)?;
             json!(in alloc; [{"acvVersion": "1.0"}, value])
         }
+        ReplyObject::ReadSet { sample, prompts } => {
+            let value = vector_set_value(alloc, *sample, prompts)?;
+            json!(in alloc; [{"acvVersion": "1.0"}, value])
+        }
+        ReplyObject::SetResults {
+            vs,
+            disposition,
+            tests,
+        } => {
+            let value = set_results_value(alloc, *vs, *disposition, tests)?;
+            json!(in alloc; [{"acvVersion": "1.0"}, value])
+        }
+        ReplyObject::Expected { prompts, standard } => {
+            let value = expected_value(alloc, prompts, standard)?;
+            json!(in alloc; [{"acvVersion": "1.0"}, value])
+        }
     }
 }
 
 /// The body of a reply: compact JSON, the members of each object in ascending order.
-#[tactic(auto, unfolding(crate::specs::Written::body_of))]
 pub fn write_reply(alloc: Global, reply: &ReplyObject) -> Result<Vec<u8>, AllocError>
     ensures { IfOk result (λ bytes. bytes.items ≡ body_of (reply_data reply.now)) }
 {

@@ -1,4 +1,4 @@
-use Rattle.std.proofs.Common.{◌≡◌, ◌+◌, ◌<◌, ◌∷◌, ◌++◌, ◌∙◌, drop, length, get_or, sym, ap}
+use Rattle.std.proofs.Common.{◌≡◌, ◌+◌, ◌<◌, ◌∷◌, ◌∙◌, drop, length, get_or, sym, ap}
 use Rattle.std.proofs.lemmas.List.{drop_more}
 use Rattle.acvp_answers.specs.Standards.{standard_of}
 use Rattle.acvp_answers.proofs.StandardLemmas.{first_group, one_group_more}

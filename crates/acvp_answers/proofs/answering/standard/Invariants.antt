@@ -1,8 +1,7 @@
 use Rattle.std.proofs.Common.{◌≡◌, ◌+◌, ◌++◌, drop, length, map}
-use Rattle.std.specs.Prelude.{All}
 use Rattle.std.specs.List.{flat_map, range_with_len}
 use Rattle.std.specs.Map.{keys_of}
-use Rattle.acvp_gen.specs.Prompts.{tests_in, IsSized}
+use Rattle.acvp_gen.specs.Prompts.{tests_in}
 use Rattle.acvp_answers.specs.Standards.{group_answers, standard_of}
 use Rattle.acvp_answers.proofs.answering.standard.Given as goal
 

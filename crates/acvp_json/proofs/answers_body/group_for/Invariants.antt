@@ -1,6 +1,6 @@
 use Rattle.std.proofs.Common.{◌≡◌, drop}
 use Rattle.std.specs.Prelude.{find, ◌==◌, ◌&&◌}
-use Rattle.acvp_json.specs.AnswersBody.{Given, group_for, has_test, said_number}
+use Rattle.acvp_json.specs.AnswersBody.{has_test}
 use Rattle.acvp_json.proofs.answers_body.group_for.Given as goal
 
 abbrev pub invariant-loop-set_group : goal.invariant-loop-set_group

@@ -1,4 +1,4 @@
-use Rattle.std.proofs.Common.{rules, ◌≡◌, ◌∙◌, sym}
+use Rattle.std.proofs.Common.{rules, ◌∙◌, sym}
 use Rattle.serde_json.specs.View.{view}
 use Rattle.acvp_json.proofs.AnswersLemmas.{body_read, body_unread}
 use Rattle.acvp_json.proofs.answers_body.read_answers.Goals as goal

@@ -1,4 +1,4 @@
-use Rattle.std.proofs.Common.{◌≡◌, inr, true, ◌∙◌}
+use Rattle.std.proofs.Common.{◌≡◌, inr, true}
 use Rattle.serde_json.specs.View.{view}
 use Rattle.acvp_answers.specs.Answer.{is_answered}
 use Rattle.acvp_json.specs.AnswersBody.{test_of}

@@ -1,4 +1,4 @@
-use Rattle.std.proofs.Common.{◌≡◌, ap, option_map, Some, None, map, string_bytes}
+use Rattle.std.proofs.Common.{◌≡◌, option_map}
 use Rattle.acvp_answers.specs.Verdicts.{answer_to}
 use Rattle.acvp_answers.specs.Answer.{shown_texts}
 use Rattle.acvp_answers.proofs.AnswerLemmas.{answer_read}

@@ -1,0 +1,7 @@
+use Rattle.std.proofs.Common.{◌≡◌, map, take}
+use Rattle.serde_json.specs.View.{view}
+use Rattle.acvp_json.specs.SetResults.{result_data}
+use Rattle.acvp_json.proofs.set_results.result_values.Given as goal
+
+abbrev pub invariant-loop-test : goal.invariant-loop-test
+invariant-loop-test l = map view l.values.items ≡ map result_data (take l.test-index l.tests)
