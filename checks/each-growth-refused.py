@@ -1,86 +1,232 @@
 #!/usr/bin/env python3
 """Runs a script with each growth of memory refused in turn.
 
-Each run answers `fault: memory`, or its output is right but for the events that are answered `unavailable`,
-and the same event sent again is answered as if the first had not been."""
+The right answers are those of the small server below, which is written from the protocol and not from the program.
+With nothing refused every answer is right, and none is `unavailable`. With one growth refused, the event that was
+being handled may be answered `unavailable`, and has then changed nothing: every other answer is right, and so is
+that to the same event where it is sent again. Or the run ends there as `fault: memory`, with the answers to the
+events before it."""
+import base64
+import hashlib
+import hmac
+import json
 import os
 import subprocess
 import sys
 import tempfile
+import time
 
 PROGRAM, SHIM = sys.argv[1:3]
-SECRET = b"12345678901234567890123456789012".hex()
-BODY = b'[{"acvVersion":"1.0"},{"password":"46119246","user":"7"}]'
-REQUEST = b"POST /acvp/v1/login HTTP/1.1\r\nHost: localhost\r\nContent-Length: 57\r\n\r\n" + BODY
-ADD = f"account-add 0 7 {SECRET}\n".encode()
-LOGIN = b"request 59 %d\n%s\n" % (len(REQUEST), REQUEST)
-EVENTS = [("add", ADD)] * 2 + [("login", LOGIN)] * 2
-TOKEN = (b"eyJhbGciOiJIUzI1NiIsInR5cCI6IkpXVCJ9.eyJleHAiOjE4NTksImlhdCI6NTksInN1YiI6IjcifQ."
-         b"-srIBvG7iIbl1lga-mYA-HC8Iyf3j-Tcqx4Vub7FGCI")
+TOKEN_KEY, SEED = bytes(range(32)), bytes(32)
+SECRET = b"12345678901234567890123456789012"
+DAYS = ["Mon", "Tue", "Wed", "Thu", "Fri", "Sat", "Sun"]
+MONTHS = ["Jan", "Feb", "Mar", "Apr", "May", "Jun", "Jul", "Aug", "Sep", "Oct", "Nov", "Dec"]
 
 
-def reply(status, date, body):
-    lines = [b"HTTP/1.1 " + status]
-    lines += [b"Date: " + date] if date else []
-    lines += [b"Content-Type: application/json", b"Content-Length: %d" % len(body), b"Connection: close", b"", body]
-    text = b"\r\n".join(lines)
+def code(step):
+    mac = hmac.new(SECRET, step.to_bytes(8, "big"), hashlib.sha256).digest()
+    at = mac[-1] & 15
+    return "%08d" % ((int.from_bytes(mac[at:at + 4], "big") & 0x7fffffff) % 10**8)
+
+
+def compact(value):
+    return json.dumps(value, separators=(",", ":"), sort_keys=True).encode()
+
+
+def encoded(part):
+    return base64.urlsafe_b64encode(part).rstrip(b"=")
+
+
+def token(issued, session=None, account="7", key=TOKEN_KEY):
+    claims = {"exp": issued + 1800, "iat": issued, "sub": account}
+    if session is not None:
+        claims["sid"] = session
+    signed = encoded(b'{"alg":"HS256","typ":"JWT"}') + b"." + encoded(compact(claims))
+    return (signed + b"." + encoded(hmac.new(key, signed, hashlib.sha256).digest())).decode()
+
+
+def reply(status, phrase, thing, moment=None, besides=b""):
+    body = compact([{"acvVersion": "1.0"}, thing])
+    lines = [b"HTTP/1.1 %d %s" % (status, phrase.encode())]
+    if moment is not None:
+        at = time.gmtime(moment)
+        date = f"{DAYS[at.tm_wday]}, {at.tm_mday:02} {MONTHS[at.tm_mon - 1]}"
+        lines.append(f"Date: {date} {time.strftime('%Y %H:%M:%S', at)} GMT".encode())
+    lines += [b"Content-Type: application/json", b"Content-Length: %d" % len(body), b"Connection: close"]
+    text = b"\r\n".join(lines + [besides + b"\r\n"]) + body
     return b"reply %d\n%s\n" % (len(text), text)
 
 
-DATE = b"Thu, 01 Jan 1970 00:00:59 GMT"
-ACCEPTED = reply(b"200 OK", DATE, b'[{"acvVersion":"1.0"},{"accessToken":"' + TOKEN + b'"}]')
-REFUSED = reply(b"403 Forbidden", DATE, b'[{"acvVersion":"1.0"},{"error":"loginRefused"}]')
-UNAVAILABLE = reply(b"503 Service Unavailable", None, b'[{"acvVersion":"1.0"},{"error":"unavailable"}]')
-assert UNAVAILABLE.startswith(b"reply 153\n"), UNAVAILABLE
+class Event:
+    """An event of a script. Its answer is a function of the accounts, which it changes: each number has whether the
+    account is enabled and the last step that it has used."""
+
+    def __init__(self, what, text, unavailable, answer):
+        self.what, self.text, self.unavailable, self.answer = what, text, unavailable, answer
 
 
-def is_right(output, whole):
-    """Whether the output is that of the events from the first on, all of them where it is whole."""
-    has_account, used = False, False
-    for kind, _ in EVENTS:
-        if not output and not whole:
-            return True
-        if kind == "add":
-            if output.startswith(b"order unavailable\n"):
-                output = output[len(b"order unavailable\n"):]
-                continue
-            right = b"order taken\n" if has_account else b"order done\n"
-            has_account = True
-        else:
-            if output.startswith(UNAVAILABLE):
-                output = output[len(UNAVAILABLE):]
-                continue
-            right = ACCEPTED if has_account and not used else REFUSED
-            used = used or has_account
-        if not output.startswith(right):
-            return False
-        output = output[len(right):]
-    return not output
+def order(what, line, answer):
+    return Event(what, line + b"\n", b"order unavailable\n", lambda accounts: b"order %s\n" % answer(accounts))
+
+
+def add(number):
+    def answer(accounts):
+        if number in accounts:
+            return b"taken"
+        accounts[number] = {"enabled": True, "last": -1}
+        return b"done"
+    return order("add", b"account-add 0 %d %s" % (number, SECRET.hex().encode()), answer)
+
+
+def disable(number):
+    def answer(accounts):
+        if number not in accounts:
+            return b"unknown"
+        accounts[number]["enabled"] = False
+        return b"done"
+    return order("disable", b"account-disable 0 %d" % number, answer)
+
+
+def request(what, moment, text, answer):
+    unavailable = reply(503, "Service Unavailable", {"error": "unavailable"})
+    return Event(what, b"request %d %d\n%s\n" % (moment, len(text), text), unavailable, answer)
+
+
+def refused(what, moment, text, status, phrase, word, besides=b"", dated=True):
+    answer = reply(status, phrase, {"error": word}, moment if dated else None, besides)
+    return request(what, moment, text, lambda accounts: answer)
+
+
+def posting(body, path=b"/acvp/v1/login", method=b"POST"):
+    return b"%s %s HTTP/1.1\r\nHost: localhost\r\nContent-Length: %d\r\n\r\n%s" % (method, path, len(body), body)
+
+
+def login(what, moment, step, access=None, renews=True, session=None, number=7):
+    """A login with the code of a step, which is the moment's own or the one before it."""
+    assert moment // 30 - step in (0, 1)
+    members = {"password": code(step), "user": str(number)}
+    if access is not None:
+        members["accessToken"] = access
+
+    def answer(accounts):
+        account = accounts.get(number, {"enabled": False})
+        if not account["enabled"] or step <= account["last"]:
+            return reply(403, "Forbidden", {"error": "loginRefused"}, moment)
+        if not renews:
+            return reply(403, "Forbidden", {"error": "renewalRefused"}, moment)
+        account["last"] = step
+        return reply(200, "OK", {"accessToken": token(moment, session, str(number))}, moment)
+    return request(what, moment, posting(compact([{"acvVersion": "1.0"}, members])), answer)
+
+
+def refused_body(moment, body, word):
+    return refused("refused body", moment, posting(body), 400, "Bad Request", word)
+
+
+EVENTS = [
+    add(7), add(7), add(8), disable(9),
+    refused_body(59, b'[{"acvVersion":"1.0"},{"password":"46119246","user":"7"}', "bodyNotJson"),
+    refused_body(59, b'[{"acvVersion":"1.0"},{"password":46119246.5,"user":"7"}]', "bodyNotJson"),
+    refused_body(59, b'[{"acvVersion":"1.1"},{"password":"46119246","user":"7"}]', "bodyEnvelope"),
+    refused_body(59, b'[{"acvVersion":"1.0"},{"password":"46119246","user":7}]', "bodyField"),
+    login("login", 59, 1), login("login", 60, 1),
+    login("renewal", 90, 3, token(59)),
+    login("renewal", 100000, 3333, token(59, 7000001), session=7000001),
+    login("refused renewal", 100020, 3334, token(59, 8000001), renews=False),
+    login("refused renewal", 100021, 3334, token(59, key=SEED), renews=False),
+    login("refused renewal", 100022, 3334, token(59, account="8"), renews=False),
+    login("renewal", 100023, 3334, token(100000, 7000001), session=7000001),
+    login("login", 100024, 3334), login("login", 100050, 3335),
+    refused("other path", 90, posting(b"[]", b"/acvp/v1/logins"), 404, "Not Found", "noRoute"),
+    refused("other method", 90, posting(b"[]", method=b"PUT"), 405, "Method Not Allowed", "noMethod",
+            b"Allow: POST\r\n"),
+    refused("head", 90, b"POST /acvp/v1/login HTTP/1.1\r\n", 400, "Bad Request", "truncated"),
+    refused("clock", 4102444800, posting(b"[]"), 503, "Service Unavailable", "clockOutOfRange", dated=False),
+    disable(7), login("login", 100080, 3336), login("login", 100081, 3336, number=8),
+]
+# What no memory can be refused to: the moment and the head are judged before any is asked for.
+NEVER_UNAVAILABLE = {"head", "clock"}
+# What asks for memory, so that the refusals must have met it.
+MET = {"add", "refused body", "login", "renewal", "refused renewal"}
+
+
+def right_answers(events, without=None):
+    """The answers where nothing is refused but, if it is given, the event at this place."""
+    accounts = {}
+    return [e.unavailable if at == without else e.answer(accounts) for at, e in enumerate(events)]
+
+
+def run(events, at, folder):
+    """The program's status, output and errors, and how much of the output was written where the growth was refused."""
+    keys, mark, output = (os.path.join(folder, name) for name in ("keys", "refused", "output"))
+    with open(keys, "w") as file:
+        file.write(f"{TOKEN_KEY.hex()}\n{SEED.hex()}\n")
+    env = {"LD_PRELOAD": SHIM, "REFUSE_AT": str(at), "REFUSED": mark}
+    with open(output, "wb") as file:
+        ran = subprocess.run([PROGRAM, "script", "--keys", keys], input=b"".join(e.text for e in events), stdout=file,
+                             stderr=subprocess.PIPE, env=env, timeout=60)
+    written = None
+    if os.path.exists(mark):
+        with open(mark) as file:
+            written = int(file.read())
+        os.remove(mark)
+    with open(output, "rb") as file:
+        return ran.returncode, file.read(), ran.stderr, written
+
+
+def judge(events, at, folder):
+    """Runs the events with this growth refused, and gives the place of the event that was being handled, or None where
+    the program has no such growth, and whether it was answered as unavailable."""
+    status, output, errors, written = run(events, at, folder)
+    answers = right_answers(events)
+    if written is None:
+        if (status, output, errors) != (0, b"".join(answers), b""):
+            sys.exit(f"with nothing refused: {told(events, answers, status, output, errors)}")
+        return None, False
+    place = next((n for n in range(len(events) + 1) if len(b"".join(answers[:n])) == written), None)
+    if place is None:
+        sys.exit(f"growth {at}, refused within an answer: {told(events, answers, status, output, errors)}")
+    if (status, output, errors) == (1, b"".join(answers[:place]), b"fault: memory\n"):
+        return place, False
+    if (status, output, errors) == (0, b"".join(answers), b""):
+        return place, False
+    if place < len(events) and events[place].what not in NEVER_UNAVAILABLE:
+        answers = right_answers(events, without=place)
+        if (status, output, errors) == (0, b"".join(answers), b""):
+            return place, True
+    sys.exit(f"growth {at}, refused at event {place}: {told(events, answers, status, output, errors)}")
+
+
+def told(events, answers, status, output, errors):
+    """Where an output leaves these answers."""
+    for n, answer in enumerate(answers):
+        if not output.startswith(answer):
+            got = output[:len(answer) + 20]
+            what = f"event {n} ({events[n].what})"
+            return f"{what} is answered {got!r} in place of {answer!r}; status {status}, {errors!r}"
+        output = output[len(answer):]
+    return f"status {status}, {errors!r}, and more output: {output[:200]!r}"
 
 
 def main():
-    stdin = b"".join(text for _, text in EVENTS)
+    met, again = set(), 0
     with tempfile.TemporaryDirectory() as folder:
-        keys, mark = os.path.join(folder, "keys"), os.path.join(folder, "refused")
-        with open(keys, "w") as file:
-            file.write(("0" * 64 + "\n") * 2)
+        judge(EVENTS, 0, folder)
         for at in range(1, 100000):
-            env = {"LD_PRELOAD": SHIM, "REFUSE_AT": str(at), "REFUSED": mark}
-            run = subprocess.run([PROGRAM, "script", "--keys", keys], input=stdin, capture_output=True, env=env)
-            refused = os.path.exists(mark)
-            if refused:
-                os.remove(mark)
-            whole = run.returncode == 0
-            if not whole and not (run.returncode == 1 and run.stderr == b"fault: memory\n"):
-                sys.exit(f"growth {at}: status {run.returncode}, {run.stderr!r}")
-            if not is_right(run.stdout, whole):
-                sys.exit(f"growth {at}: {run.stdout!r}")
-            if not refused:
-                if at < 20:
-                    sys.exit(f"only {at - 1} growths were met: is the shim in place?")
-                print(f"{at - 1} growths, each refused once")
-                return
-    sys.exit("no end of growths")
+            place, is_unavailable = judge(EVENTS, at, folder)
+            if place is None:
+                break
+            if is_unavailable:
+                twice = EVENTS[:place + 1] + EVENTS[place:]
+                if judge(twice, at, folder) != (place, True):
+                    sys.exit(f"growth {at}: event {place} isn't met in the same way where it is sent twice")
+                met.add(EVENTS[place].what)
+                again += 1
+        else:
+            sys.exit("no end of growths")
+    if met < MET or at < 20:
+        sys.exit(f"{at - 1} growths, and none refused to: {', '.join(sorted(MET - met))}. Is the shim in place?")
+    print(f"{at - 1} growths, each refused once; {again} made an event unavailable, answered right when sent again")
 
 
 main()

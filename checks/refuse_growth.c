@@ -1,10 +1,12 @@
-// Stands between the program and malloc: refuses the growth whose number REFUSE_AT gives, and then creates
-// the file REFUSED. Preloaded into the built program by each-growth-refused.sh.
+// Stands between the program and malloc: refuses the growth whose number REFUSE_AT gives, and then writes into the
+// file REFUSED how many bytes of standard output, a file, are written. Preloaded into the built program by
+// each-growth-refused.sh.
 #define _GNU_SOURCE
 #include <dlfcn.h>
 #include <errno.h>
 #include <fcntl.h>
 #include <stddef.h>
+#include <stdio.h>
 #include <stdlib.h>
 #include <unistd.h>
 
@@ -15,8 +17,11 @@ static int is_refused(void) {
     if (at == NULL || ++grown != atol(at)) return 0;
     const char *mark = getenv("REFUSED");
     if (mark != NULL) {
-        int file = open(mark, O_CREAT | O_WRONLY, 0600);
-        if (file >= 0) close(file);
+        int file = open(mark, O_CREAT | O_WRONLY | O_TRUNC, 0600);
+        if (file >= 0) {
+            dprintf(file, "%ld\n", (long)lseek(STDOUT_FILENO, 0, SEEK_CUR));
+            close(file);
+        }
     }
     errno = ENOMEM;
     return 1;

@@ -20,12 +20,17 @@ use Rattle.acvp_answers.specs.declared.verdict.Verdict.{Verdict}
 use Rattle.acvp_answers.proofs.MapLemmas.{keys_same, lookup_same}
 
 -- whether a number is answered
-pub has_number : (m : BTreeMap ℕ Texts) (k : ℕ) → is_some (get nat_cmp m k) ≡ true → Contains (keys_of (shown m.entries)) k
-has_number m k is = rw (keys_same shown_texts m.entries) ((btree_map_contains_key_iff nat_cmp_total exact_unsigned m k).0 is)
+pub has_number : (m : BTreeMap ℕ Texts) (k : ℕ) → is_some (get nat_cmp m k) ≡ true
+    → Contains (keys_of (shown m.entries)) k
+has_number m k is = rw (keys_same shown_texts m.entries)
+    ((btree_map_contains_key_iff nat_cmp_total exact_unsigned m k).0 is)
 
-pub lacks_number : (m : BTreeMap ℕ Texts) (k : ℕ) → is_some (get nat_cmp m k) ≡ false → Contains (keys_of (shown m.entries)) k → ⊥
+pub lacks_number : (m : BTreeMap ℕ Texts) (k : ℕ) → is_some (get nat_cmp m k) ≡ false
+    → Contains (keys_of (shown m.entries)) k → ⊥
 lacks_number m k is has =
-    let some : is_some (get nat_cmp m k) ≡ true = (btree_map_contains_key_iff nat_cmp_total exact_unsigned m k).1 (rw (keys_same shown_texts m.entries) at has) in cc
+    let some : is_some (get nat_cmp m k) ≡ true =
+    (btree_map_contains_key_iff nat_cmp_total exact_unsigned m k).1 (rw (keys_same shown_texts m.entries) at has) in
+    cc
 
 same_number : (a b : ℕ) → nat_eq a b ≡ true → a ≡ b
 same_number a b h = grind (arith, nat_tests)
@@ -34,8 +39,10 @@ itself : (a b : ℕ) → a ≡ b → nat_eq a b ≡ true
 itself a b e = grind (arith, nat_tests)
 
 -- whether a number is answered, as the map tells it
-pub is_answered_by : (m : BTreeMap ℕ Texts) (k : ℕ) (b : Bool) → b ≡ is_some (get nat_cmp m k) → b ≡ is_answered (shown m.entries) k
-is_answered_by m k true is = sym (list_any-from_Any (λ n. nat_eq n k) (keys_of (shown m.entries)) (found (has_number m k (sym is))))
+pub is_answered_by : (m : BTreeMap ℕ Texts) (k : ℕ) (b : Bool) → b ≡ is_some (get nat_cmp m k)
+    → b ≡ is_answered (shown m.entries) k
+is_answered_by m k true is =
+    sym (list_any-from_Any (λ n. nat_eq n k) (keys_of (shown m.entries)) (found (has_number m k (sym is))))
   where
     found : Contains (keys_of (shown m.entries)) k → Any (λ n. nat_eq n k ≡ true) (keys_of (shown m.entries))
     found c = (c.0, k, c.1, c.2, itself k k refl)
@@ -45,36 +52,51 @@ is_answered_by m k false is = told (is_answered (shown m.entries) k) refl
     told false e = refl
     told true e =
         let any = Any-from_list_any (λ n. nat_eq n k) (keys_of (shown m.entries)) e in
-        absurd (lacks_number m k (sym is) (any.0, any.2, get_or_default_zero (keys_of (shown m.entries)) any.0 k any.2 ∙ sym (get_or_default_zero (keys_of (shown m.entries)) any.0 any.1 any.2) ∙ any.3 ∙ same_number any.1 k any.4))
+        absurd (lacks_number m k (sym is) (
+          any.0,
+          any.2,
+          get_or_default_zero (keys_of (shown m.entries)) any.0 k any.2
+              ∙ sym (get_or_default_zero (keys_of (shown m.entries)) any.0 any.1 any.2) ∙ any.3
+              ∙ same_number any.1 k any.4,
+        ))
 
-same_texts : (r : Option (Bor Texts)) → option_map (λ ts. shown_texts ts.now) r ≡ option_map shown_texts (option_copied r)
+same_texts : (r : Option (Bor Texts))
+    → option_map (λ ts. shown_texts ts.now) r ≡ option_map shown_texts (option_copied r)
 same_texts None = refl
 same_texts (Some ts) = refl
 
 -- the texts that are looked up in the map
-pub answer_read : (entries : List (ℕ × Texts)) (given : List Answer) (k : ℕ) (r : Option (Bor Texts)) → shown entries ≡ given → option_copied r ≡ lookup (is_at (nat_cmp k)) entries →
+pub answer_read : (entries : List (ℕ × Texts)) (given : List Answer) (k : ℕ) (r : Option (Bor Texts))
+    → shown entries ≡ given → option_copied r ≡ lookup (is_at (nat_cmp k)) entries →
     option_map (λ ts. shown_texts ts.now) r ≡ answer_to given k
 answer_read entries given k r view found =
-    same_texts r ∙ ap (λ o. option_map shown_texts o) found ∙ sym (lookup_same shown_texts (is_at (nat_cmp k)) entries) ∙ ap (λ answers. answer_to answers k) view
+    same_texts r ∙ ap (λ o. option_map shown_texts o) found ∙ sym (lookup_same shown_texts (is_at (nat_cmp k)) entries)
+    ∙ ap (λ answers. answer_to answers k) view
 
 -- the verdict on one test
-pub graded : (entries : List (ℕ × Texts)) (given : List Answer) (k : ℕ) (w : Texts) (r : Option (Bor Texts)) (d : List (String Global)) (v : Verdict) →
-    shown entries ≡ given → option_copied r ≡ lookup (is_at (nat_cmp k)) entries → d ≡ w.items → v ≡ verdict_on (option_map (λ ts. shown_texts ts.now) r) (map string_bytes d) →
+pub graded : (entries : List (ℕ × Texts)) (given : List Answer) (k : ℕ) (w : Texts) (r : Option (Bor Texts))
+    (d : List (String Global)) (v : Verdict) →
+    shown entries ≡ given → option_copied r ≡ lookup (is_at (nat_cmp k)) entries → d ≡ w.items
+    → v ≡ verdict_on (option_map (λ ts. shown_texts ts.now) r) (map string_bytes d) →
     v ≡ verdict_on (answer_to given k) (shown_texts w)
 graded entries given k w r d v view found items is =
-    let answer : option_map (λ ts. shown_texts ts.now) r ≡ answer_to given k = answer_read entries given k r view found in
+    let answer : option_map (λ ts. shown_texts ts.now) r ≡ answer_to given k =
+    answer_read entries given k r view found in
     is ∙ rw (answer, items) refl
 
 -- one turn more
-pub graded_more : (done total : List Verdict) (iter rest : List (ℕ × Texts)) (k : ℕ) (w : Texts) (v : Verdict) (given : List Answer) →
-    iter ≡ (k, w) ∷ rest → v ≡ verdict_on (answer_to given k) (shown_texts w) → done ++ verdicts_of (shown iter) given ≡ total →
+pub graded_more : (done total : List Verdict) (iter rest : List (ℕ × Texts)) (k : ℕ) (w : Texts) (v : Verdict)
+    (given : List Answer) →
+    iter ≡ (k, w) ∷ rest → v ≡ verdict_on (answer_to given k) (shown_texts w)
+    → done ++ verdicts_of (shown iter) given ≡ total →
     (done ++ v ∷ []) ++ verdicts_of (shown rest) given ≡ total
 graded_more done total iter rest k w v given next is so =
     let so' : done ++ verdicts_of (shown ((k, w) ∷ rest)) given ≡ total = rw next at so in
     append_assoc done (v ∷ []) (verdicts_of (shown rest) given) ∙ rw is so'
 
 -- the answer at a place, an entry further
-pub nth_more : (iter rest : List (ℕ × Texts)) (k : ℕ) (w : Texts) (left : ℕ) (answer : Option Answer) → iter ≡ (k, w) ∷ rest → (left ≡ 0 → ⊥) → slice_get (shown iter) left ≡ answer → slice_get (shown rest) (left - 1) ≡ answer
+pub nth_more : (iter rest : List (ℕ × Texts)) (k : ℕ) (w : Texts) (left : ℕ) (answer : Option Answer) → iter ≡ (k, w)
+    ∷ rest → (left ≡ 0 → ⊥) → slice_get (shown iter) left ≡ answer → slice_get (shown rest) (left - 1) ≡ answer
 nth_more iter rest k w zero answer next some at = absurd (some refl)
 nth_more iter rest k w (suc left) answer next some at =
     let here : slice_get (shown ((k, w) ∷ rest)) (suc left) ≡ answer = rw next at at in

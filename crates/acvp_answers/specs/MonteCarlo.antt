@@ -1,4 +1,5 @@
--- The Monte Carlo test of a hash function, on whole lists (NIST, The Secure Hash Algorithm Validation System, section 6.4).
+-- The Monte Carlo test of a hash function, on whole lists (NIST, The Secure Hash Algorithm Validation System, section
+-- 6.4).
 use Rattle.std.specs.Prelude.{◌≡◌, ℕ, zero, suc, ◌+◌, ◌-◌, ◌<◌, List, [], ◌∷◌, ◌++◌, length, take, drop}
 use Rattle.std.specs.Fn.{iterate}
 use Rattle.std.specs.List.{concat, slice_index_or}
@@ -32,7 +33,8 @@ checkpoints hash seed (suc n) = turn hash seed ∷ checkpoints hash (turn hash s
 abbrev pub member_at : List (List ℕ) → ℕ → List ℕ
 member_at members i = slice_index_or members i []
 
--- the members as the standard has them: the first three are the seed, and each later one is the hash of the three before it, joined
+-- the members as the standard has them: the first three are the seed, and each later one is the hash of the three
+-- before it, joined
 pub record AreMembers (hash : List ℕ → List ℕ) (seed : List ℕ) (members : List (List ℕ)) : Type 0 where
   pub count : length members ≡ 1003
   pub seeds : take 3 members ≡ seed ∷ seed ∷ seed ∷ []

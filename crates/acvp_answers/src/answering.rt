@@ -20,7 +20,8 @@ fn texts_on(
     test: &Test,
 ) -> Result<Vec<String>, AllocError>
     requires { IfSome group.now.sizes (λ s. s.mac_bits ≤ 8 * out_of name) }
-    ensures { IfOk result (λ texts. map string_bytes texts.items ≡ standards.texts_on name group.now.kind group.now.sizes test.now) }
+    ensures { IfOk result (λ texts. map string_bytes texts.items
+        ≡ standards.texts_on name group.now.kind group.now.sizes test.now) }
 {
     match (group.kind(), group.mac_bits()) {
         (GroupKind::MonteCarlo, _) => monte_carlo_texts(alloc, name, test.message()),
@@ -43,7 +44,8 @@ fn answer_group(
     group: &Group,
 ) -> Result<(), AllocError>
     requires before { keys_of answers.now ≡ range_with_len 1 (length answers.now) }
-    requires next { map (λ t. t.number) group.now.tests ≡ range_with_len (length answers.now + 1) (length group.now.tests) }
+    requires next { map (λ t. t.number) group.now.tests ≡ range_with_len (length answers.now + 1)
+        (length group.now.tests) }
     requires sized { IfSome group.now.sizes (λ s. s.mac_bits ≤ 8 * out_of name) }
     ensures value { IfOk result (λ _. answers.new ≡ answers.old ++ standards.group_answers name group.now) }
     ensures before { IfOk result (λ _. keys_of answers.new ≡ range_with_len 1 (length answers.new)) }
@@ -55,9 +57,9 @@ fn answer_group(
     Ok(())
 }
 
-/// The standard's answers to the tests of a vector set: the digest of each message (FIPS 180-4), the leftmost bits of its HMAC
-/// (FIPS 198-1), or a hundred checkpoints (NIST, The Secure Hash Algorithm Validation System, section 6.4), as hex digits in
-/// lower case.
+/// The standard's answers to the tests of a vector set: the digest of each message (FIPS 180-4), the leftmost bits of
+/// its HMAC (FIPS 198-1), or a hundred checkpoints (NIST, The Secure Hash Algorithm Validation System, section 6.4), as
+/// hex digits in lower case.
 pub fn standard(alloc: Global, prompts: &Prompts) -> Result<Answers, AllocError>
     ensures { IfOk result (λ answers. answers ≡ standards.standard_of prompts.now) }
 {

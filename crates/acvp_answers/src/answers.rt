@@ -12,7 +12,7 @@ use std::collections::BTreeMap;
 use std::marker::Model;
 
 /// Answers to tests, ascending by the tests' numbers, each of which stands once.
-#[derive(Drop)]
+#[derive(Clone, Drop)]
 pub struct Answers {
     pub(crate) texts: BTreeMap<u64, Vec<String>>,
 }
@@ -26,7 +26,7 @@ impl Model for Answers {
     ghost view = { λ a. shown a.texts.entries };
 }
 
-// The number and the texts at a place of the map, by its order.
+/// The number and the texts at a place of the map, by its order.
 fn nth_of(kept: &BTreeMap<u64, Vec<String>>, i: usize) -> Option<(u64, &[String])>
     ensures { option_map (λ e. (e.0, map string_bytes e.1.now)) result ≡ slice_get (shown kept.now.entries) i }
 {
@@ -50,12 +50,13 @@ impl Answers {
         }
     }
 
-    /// Adds the answer to a test: `false`, and no change, where one is there already. Nothing changes either where memory is
-    /// refused.
+    /// Adds the answer to a test: `false`, and no change, where one is there already. Nothing changes either where
+    /// memory is refused.
     pub fn insert(&mut self, number: u64, texts: Vec<String>) -> Result<bool, AllocError>
         ensures { MatchResult result
             (λ is_new. MatchBool is_new
-            (¬ Contains (keys_of self.old) number × (self.new ≡ insert_entry nat_cmp self.old number (map string_bytes texts.items)))
+            (¬ Contains (keys_of self.old) number
+            × (self.new ≡ insert_entry nat_cmp self.old number (map string_bytes texts.items)))
             (Contains (keys_of self.old) number × (self.new ≡ self.old)))
             (λ _. self.new ≡ self.old) }
     {

@@ -6,7 +6,7 @@ use crate::answers::Answers;
 use crate::verdict::{self, Verdict};
 use std::alloc::{AllocError, Global};
 
-// Whether the text with its ASCII letters in lower case is this one.
+/// Whether the text with its ASCII letters in lower case is this one.
 fn is_lowered_to(given: &str, wanted: &str) -> bool
     ensures { result ≡ is_lowered_to given.now wanted.now }
 {
@@ -23,7 +23,7 @@ fn is_lowered_to(given: &str, wanted: &str) -> bool
     true
 }
 
-// The same of each text.
+/// The same of each text.
 fn are_lowered_to(given: &[String], wanted: &[String]) -> bool
     ensures { result ≡ are_lowered_to (map string_bytes given.now) (map string_bytes wanted.now) }
 {
@@ -38,9 +38,10 @@ fn are_lowered_to(given: &[String], wanted: &[String]) -> bool
     true
 }
 
-// The verdict on a test.
+/// The verdict on a test.
 fn verdict_on(given: Option<&Vec<String>>, wanted: &[String]) -> Verdict
-    ensures { result ≡ verdict_on (option_map (λ texts. map string_bytes texts.now.items) given.entry) (map string_bytes wanted.now) }
+    ensures { result ≡ verdict_on (option_map (λ texts. map string_bytes texts.now.items) given.entry)
+        (map string_bytes wanted.now) }
 {
     match given {
         None => Verdict::Missing,

@@ -6,10 +6,10 @@ ghost use Rattle.acvp_answers.specs.MonteCarlo.{AreMembers, last_of, members_of,
 use acvp_mac::{HashName, hash};
 use std::alloc::{AllocError, Global};
 
-// How often a turn hashes.
+/// How often a turn hashes.
 const HASHES: usize = 1000;
 
-// The hash of the last three members, joined.
+/// The hash of the last three members, joined.
 fn next_member(alloc: Global, name: HashName, members: &[Vec<u8>]) -> Result<Vec<u8>, AllocError>
     ensures { IfOk result (λ member. member.items ≡ next_of (digest_of name) (map vec_items members.now)) }
 {
@@ -17,7 +17,7 @@ fn next_member(alloc: Global, name: HashName, members: &[Vec<u8>]) -> Result<Vec
     Vec::from_slice(alloc, hash(name, &message).as_slice())
 }
 
-// The seed three times, and so many further members.
+/// The seed three times, and so many further members.
 fn members_from(
     alloc: Global,
     name: HashName,
@@ -36,7 +36,7 @@ fn members_from(
     Ok(members)
 }
 
-// The last of the members.
+/// The last of the members.
 fn last_member(mut members: Vec<Vec<u8>>) -> Vec<u8>
     requires { 0 < length members.items }
     ensures { result.items ≡ last_of (map vec_items members.items) }
@@ -54,8 +54,8 @@ pub(crate) fn turn(alloc: Global, name: HashName, seed: &[u8]) -> Result<Vec<u8>
     Ok(last_member(members_from(alloc, name, seed, HASHES)?))
 }
 
-/// The definition of a turn is what it says: one list is as the standard describes the members that a seed begins, and its
-/// last member is the turn.
+/// The definition of a turn is what it says: one list is as the standard describes the members that a seed begins, and
+/// its last member is the turn.
 pub fn turn_is_the_standards()
     ensures some { (hash : List ℕ → List ℕ) (seed : List ℕ) → (members : List (List ℕ)) × AreMembers hash seed members }
     ensures last { (hash : List ℕ → List ℕ) (seed : List ℕ) (members : List (List ℕ)) →

@@ -8,10 +8,10 @@ use crate::monte_carlo::turn;
 use acvp_mac::{HashName, hash, hmac};
 use std::alloc::{AllocError, Global};
 
-// How many checkpoints a Monte Carlo test has.
+/// How many checkpoints a Monte Carlo test has.
 const TURNS: usize = 100;
 
-// One text, of these bytes.
+/// One text, of these bytes.
 fn one_text(alloc: Global, bytes: &[u8]) -> Result<Vec<String>, AllocError>
     ensures { IfOk result (λ texts. map string_bytes texts.items ≡ encode_lower bytes.now ∷ []) }
 {

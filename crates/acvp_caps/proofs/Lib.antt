@@ -2,8 +2,9 @@ pub mod Ranges
 pub mod Names
 pub mod Steps
 pub mod MembersLemmas
+pub mod SideBySide
 pub mod DomainLemmas
 pub mod JsonLemmas
 pub mod ReadingLemmas
 pub mod WritingLemmas
-pub mod TestsLemmas
+pub use Rattle.acvp_mac.proofs.ConditionLemmas

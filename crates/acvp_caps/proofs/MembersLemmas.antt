@@ -14,7 +14,7 @@ use Rattle.acvp_caps.specs.declared.item.Item.{Item}
 use Rattle.acvp_caps.specs.declared.item.Item.TheVariants.{Single, Range}
 use Rattle.acvp_caps.specs.Items.{has, bound, first, last, is_formed}
 use Rattle.acvp_caps.specs.Members.{is_member, greatest_bound, members}
-use Rattle.acvp_caps.specs.Walk.{AllFormed, AllBounded, IsNext, IsGreatest}
+use Rattle.acvp_caps.specs.Private.Walk.{AllFormed, AllBounded, IsNext, IsGreatest}
 use Rattle.acvp_caps.proofs.Ranges.{range-has, has-range}
 use Rattle.acvp_caps.proofs.Steps.{IsListOf, passes-at, place-below, next-first, next-more}
 
@@ -38,7 +38,8 @@ member-bound : (items : List Item) (n : ℕ) → is_member items n ≡ true → 
 member-bound [] n h = cc
 member-bound (i ∷ is) n h = at (has i n) refl (member-bound is n)
   where
-    at : (b : Bool) → has i n ≡ b → (is_member is n ≡ true → n ≤ greatest_bound is) → n ≤ max (bound i) (greatest_bound is)
+    at : (b : Bool) → has i n ≡ b → (is_member is n ≡ true → n ≤ greatest_bound is)
+        → n ≤ max (bound i) (greatest_bound is)
     at true e rest = omega (arith, has-bound i n e)
     at false e rest = omega (arith, rest (or_cases (has i n) (is_member is n) h e))
 
@@ -46,7 +47,8 @@ any-range : (n a k : ℕ) → list_any (λ m. nat_eq m n) (range_with_len a k) �
 any-range n a zero = grind (arith, nat_tests)
 any-range n a (suc k) = rw (any-range n (a + 1) k) (grind (arith, nat_tests))
 
-filter_step : (px same pn inside out : Bool) → (same ≡ true → pn ≡ px) → out ≡ (pn && inside) → cond px (same || out) out ≡ (pn && (same || inside))
+filter_step : (px same pn inside out : Bool) → (same ≡ true → pn ≡ px) → out ≡ (pn && inside)
+    → cond px (same || out) out ≡ (pn && (same || inside))
 filter_step true true true inside out agree h = refl
 filter_step true true false inside out agree h = absurd (no (agree refl))
   where
@@ -62,19 +64,22 @@ filter_step false true false inside out agree h = h
 filter_step false false true inside out agree h = h
 filter_step false false false inside out agree h = h
 
-any-filter : (p : ℕ → Bool) (n : ℕ) (xs : List ℕ) → list_any (λ m. nat_eq m n) (filter p xs) ≡ (p n && list_any (λ m. nat_eq m n) xs)
+any-filter : (p : ℕ → Bool) (n : ℕ) (xs : List ℕ)
+    → list_any (λ m. nat_eq m n) (filter p xs) ≡ (p n && list_any (λ m. nat_eq m n) xs)
 any-filter p n [] = at (p n)
   where
     at : (b : Bool) → false ≡ (b && false)
     at true = refl
     at false = refl
 any-filter p n (x ∷ xs) =
-    split (p x) ∙ filter_step (p x) (nat_eq x n) (p n) (list_any (λ m. nat_eq m n) xs) (list_any (λ m. nat_eq m n) (filter p xs)) agree (any-filter p n xs)
+    split (p x) ∙ filter_step (p x) (nat_eq x n) (p n) (list_any (λ m. nat_eq m n) xs)
+    (list_any (λ m. nat_eq m n) (filter p xs)) agree (any-filter p n xs)
   where
     agree : nat_eq x n ≡ true → p n ≡ p x
     agree e = ap p (sym (same_number x n e))
 
-    split : (b : Bool) → list_any (λ m. nat_eq m n) (cond b (x ∷ filter p xs) (filter p xs)) ≡ cond b (nat_eq x n || list_any (λ m. nat_eq m n) (filter p xs)) (list_any (λ m. nat_eq m n) (filter p xs))
+    split : (b : Bool) → list_any (λ m. nat_eq m n) (cond b (x ∷ filter p xs) (filter p xs))
+        ≡ cond b (nat_eq x n || list_any (λ m. nat_eq m n) (filter p xs)) (list_any (λ m. nat_eq m n) (filter p xs))
     split true = refl
     split false = refl
 
@@ -90,15 +95,19 @@ range-ascending a n = λ k within.
 pub members-list : (items : List Item) → IsListOf (is_member items) (members items)
 unfolding members
 members-list items = record {
-  ascending = IsStrictlyIncreasing-filter (is_member items) (range_with_len 0 (suc (greatest_bound items))) (range-ascending 0 (suc (greatest_bound items)));
+  ascending = IsStrictlyIncreasing-filter (is_member items) (range_with_len 0 (suc (greatest_bound items)))
+      (range-ascending 0 (suc (greatest_bound items)));
   exact = λ n. any-filter (is_member items) n (range_with_len 0 (suc (greatest_bound items))) ∙ exact n;
 }
   where
-    at : (n : ℕ) (b : Bool) → is_member items n ≡ b → (b && list_any (λ m. nat_eq m n) (range_with_len 0 (suc (greatest_bound items)))) ≡ b
-    at n true e = any-range n 0 (suc (greatest_bound items)) ∙ in_range n (greatest_bound items) (member-bound items n e)
+    at : (n : ℕ) (b : Bool) → is_member items n ≡ b
+        → (b && list_any (λ m. nat_eq m n) (range_with_len 0 (suc (greatest_bound items)))) ≡ b
+    at n true e = any-range n 0 (suc (greatest_bound items))
+        ∙ in_range n (greatest_bound items) (member-bound items n e)
     at n false e = refl
 
-    exact : (n : ℕ) → (is_member items n && list_any (λ m. nat_eq m n) (range_with_len 0 (suc (greatest_bound items)))) ≡ is_member items n
+    exact : (n : ℕ) → (is_member items n && list_any (λ m. nat_eq m n) (range_with_len 0 (suc (greatest_bound items))))
+        ≡ is_member items n
     exact n = at n (is_member items n) refl
 
 -- ---- the last number of an item
@@ -131,10 +140,12 @@ formed-range min max increment h =
     let parts = both (nat_le min max) (nat_le 1 increment) h in
     record { ordered = from_le min max parts.0; rising = from_le 1 increment parts.1 }
 
-range-last : (min max increment : ℕ) → min ≤ max → 1 ≤ increment → has (Range min max increment) (max - (max - min) % increment) ≡ true
+range-last : (min max increment : ℕ) → min ≤ max → 1 ≤ increment
+    → has (Range min max increment) (max - (max - min) % increment) ≡ true
 range-last min max increment ordered rising =
     let left : (max - min) % increment ≤ max - min = mod-le (max - min) increment in
-    let e : max - (max - min) % increment - min ≡ increment * ((max - min) / increment) = omega (arith, mod-add-div (max - min) increment) in
+    let e : max - (max - min) % increment - min ≡ increment * ((max - min) / increment) =
+    omega (arith, mod-add-div (max - min) increment) in
     has-range min max increment (max - (max - min) % increment) (omega arith) (omega arith)
     (ap (λ n. n % increment) e ∙ mul-mod_right increment ((max - min) / increment))
 
@@ -143,17 +154,20 @@ has-last (Single value) h = itself value
 has-last (Range min max increment) h =
     let parts = formed-range min max increment h in range-last min max increment parts.ordered parts.rising
 
-range-below : (min max increment n : ℕ) → 1 ≤ increment → has (Range min max increment) n ≡ true → n ≤ max - (max - min) % increment
+range-below : (min max increment n : ℕ) → 1 ≤ increment → has (Range min max increment) n ≡ true
+    → n ≤ max - (max - min) % increment
 range-below min max increment n rising h =
     let parts = range-has min max increment n h in
     let low = parts.low in
     let high = parts.high in
-    let below : n - min ≤ (max - min) - (max - min) % increment = multiple_below (n - min) (max - min) increment (omega arith) parts.whole (omega arith) in
+    let below : n - min ≤ (max - min) - (max - min) % increment =
+    multiple_below (n - min) (max - min) increment (omega arith) parts.whole (omega arith) in
     omega (arith, mod-le (max - min) increment)
 
 pub has-below_last : (i : Item) (n : ℕ) → is_formed i ≡ true → has i n ≡ true → n ≤ last i
 has-below_last (Single value) n h there = omega (arith, same_number value n there)
-has-below_last (Range min max increment) n h there = range-below min max increment n (formed-range min max increment h).rising there
+has-below_last (Range min max increment) n h there =
+    range-below min max increment n (formed-range min max increment h).rising there
 
 pub has-first : (i : Item) → is_formed i ≡ true → has i (first i) ≡ true
 has-first (Single value) h = itself value
@@ -181,7 +195,8 @@ item-of items n h =
     let any = Any-from_list_any (λ i. has i n) items h in
     record { place = any.0; item = any.1; within = any.2; here = any.3; there = any.4 }
 
-pub member-limit : (items : List Item) (n : ℕ) → AllFormed items → AllBounded items → is_member items n ≡ true → n ≤ 524288
+pub member-limit : (items : List Item) (n : ℕ) → AllFormed items → AllBounded items → is_member items n ≡ true
+    → n ≤ 524288
 member-limit items n formed bounded there =
     let i = item-of items n there in
     let form : is_formed i.item ≡ true = ap is_formed (sym i.here) ∙ formed i.place i.item i.within in
@@ -194,12 +209,14 @@ pub record IsMemberAt (items : List Item) (k n : ℕ) : Type 0 where
   pub place : k ≤ n
   pub limit : n ≤ 524288
 
-pub member-at : (items : List Item) (k n : ℕ) → AllFormed items → AllBounded items → slice_get (members items) k ≡ Some n → IsMemberAt items k n
+pub member-at : (items : List Item) (k n : ℕ) → AllFormed items → AllBounded items
+    → slice_get (members items) k ≡ Some n → IsMemberAt items k n
 member-at items k n formed bounded at =
     let l = members-list items in
     let within : k < length (members items) = slice_get_within (members items) k n at in
     let here : get_or (members items) k 0 ≡ n = get_or_from_slice_get (members items) k n 0 at in
-    let there : is_member items n ≡ true = ap (is_member items) (sym here) ∙ passes-at (is_member items) (members items) l k within in
+    let there : is_member items n ≡ true = ap (is_member items) (sym here)
+    ∙ passes-at (is_member items) (members items) l k within in
     record {
       within = within;
       place = omega (arith, place-below (members items) l.ascending k within);
@@ -219,7 +236,8 @@ slice_get-none xs k h = at (nat_lt k (length xs)) refl
     at false e = grind (arith, nat_tests)
 
 -- there is nothing at a place, and so there are no more members than that
-pub members-end : (items : List Item) (k : ℕ) (o : Option ℕ) → o ≡ slice_get (members items) k → o ≡ None → length (members items) ≤ k
+pub members-end : (items : List Item) (k : ℕ) (o : Option ℕ) → o ≡ slice_get (members items) k → o ≡ None
+    → length (members items) ≤ k
 members-end items k o at none = slice_get-none (members items) k (sym none ∙ at)
 
 pub step-first : (items : List Item) (o : Option ℕ) → IsNext (is_member items) 0 o → o ≡ slice_get (members items) 0
@@ -231,12 +249,14 @@ step-more items k n at o here is next =
     next-more (is_member items) (members items) (members-list items) k n o (sym here ∙ is) next
 
 -- what is left above a member falls with each step
-pub step-smaller : (p : ℕ → Bool) (n : ℕ) (o : Option ℕ) → n ≤ 524288 → IsNext p (n + 1) o → unwrap_or (option_map (λ m. 524289 - m) o) 0 < 524289 - n
+pub step-smaller : (p : ℕ → Bool) (n : ℕ) (o : Option ℕ) → n ≤ 524288 → IsNext p (n + 1) o
+    → unwrap_or (option_map (λ m. 524289 - m) o) 0 < 524289 - n
 step-smaller p n None limit next = omega arith
 step-smaller p n (Some m) limit next = omega (arith, next.from_start)
 
 -- nothing comes after a place with no member
-pub members-past : (items : List Item) (k place : ℕ) → None ≡ slice_get (members items) k → k ≤ place → None ≡ slice_get (members items) place
+pub members-past : (items : List Item) (k place : ℕ) → None ≡ slice_get (members items) k → k ≤ place
+    → None ≡ slice_get (members items) place
 members-past items k place none le =
     let short : length (members items) ≤ k = slice_get-none (members items) k none in
     sym (slice_get_past (members items) place (omega arith))
@@ -250,7 +270,8 @@ or_right true b h = refl
 or_right false b h = h
 
 -- one item more
-pub greatest-more : (xs : List Item) (i : Item) (g : ℕ) → is_formed i ≡ true → IsGreatest xs g → IsGreatest (xs ++ i ∷ []) (max g (last i))
+pub greatest-more : (xs : List Item) (i : Item) (g : ℕ) → is_formed i ≡ true → IsGreatest xs g
+    → IsGreatest (xs ++ i ∷ []) (max g (last i))
 greatest-more xs i g form old = record {
   above = λ m h. above m (is_member xs m) refl (sym (list_any-append (λ j. has j m) xs (i ∷ [])) ∙ h);
   here = here (nat_le g (last i)) refl;
@@ -266,16 +287,19 @@ greatest-more xs i g form old = record {
         one true h = refl
         one false h = h
 
-    here : (b : Bool) → nat_le g (last i) ≡ b → (is_member (xs ++ i ∷ []) (max g (last i)) ≡ true) ⊎ ((xs ++ i ∷ [] ≡ []) × (max g (last i) ≡ 0))
+    here : (b : Bool) → nat_le g (last i) ≡ b → (is_member (xs ++ i ∷ []) (max g (last i)) ≡ true)
+        ⊎ ((xs ++ i ∷ [] ≡ []) × (max g (last i) ≡ 0))
     here true e =
         let most : max g (last i) ≡ last i = grind (arith, nat_tests) in
         inl (ap (is_member (xs ++ i ∷ [])) most ∙ list_any-append (λ j. has j (last i)) xs (i ∷ [])
-        ∙ or_right (is_member xs (last i)) (has i (last i) || false) (or_intro (has i (last i)) false (has-last i form)))
+        ∙ or_right (is_member xs (last i)) (has i (last i) || false)
+        (or_intro (has i (last i)) false (has-last i form)))
     here false e =
         let less : last i < g = grind (arith, nat_tests) in
         let most : max g (last i) ≡ g = omega arith in
         elim old.here [
-          | inl h ↦ inl (ap (is_member (xs ++ i ∷ [])) most ∙ list_any-append (λ j. has j g) xs (i ∷ []) ∙ or_intro (is_member xs g) (has i g || false) h)
+          | inl h ↦ inl (ap (is_member (xs ++ i ∷ [])) most ∙ list_any-append (λ j. has j g) xs (i ∷ [])
+              ∙ or_intro (is_member xs g) (has i g || false) h)
           | inr none ↦ absurd (omega (arith, none.1))
         ]
 

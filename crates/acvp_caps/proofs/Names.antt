@@ -16,7 +16,8 @@ found-cons : {X : Type 0} (p : X → Bool) (x : X) (xs : List X)
 found-cons p x xs rest true e = rw e e
 found-cons p x xs rest false e = rw e rest
 
-pub found : {X : Type 0} (p : X → Bool) (xs : List X) → MatchOption (find p xs) (list_all (λ x. not (p x)) xs ≡ true) (λ x. p x ≡ true)
+pub found : {X : Type 0} (p : X → Bool) (xs : List X)
+    → MatchOption (find p xs) (list_all (λ x. not (p x)) xs ≡ true) (λ x. p x ≡ true)
 found p [] = refl
 found p (x ∷ xs) = found-cons p x xs (found p xs) (p x) refl
 
@@ -42,11 +43,16 @@ pub other_text : (a b : List ℕ) → not (bytes_eq a b) ≡ true → a ≢ b
 other_text a b h = grind (arith, bytes_eq-Decides a b)
 
 -- what the look-up by name says
-pub named-means : (name : List ℕ) → MatchOption (named name) ((a : Algorithm) → name_of a ≢ name) (λ a. name_of a ≡ name)
+pub named-means : (name : List ℕ)
+    → MatchOption (named name) ((a : Algorithm) → name_of a ≢ name) (λ a. name_of a ≡ name)
 unfolding named
-named-means name = at (find (λ a. bytes_eq (name_of a) name) algorithms) (found (λ a. bytes_eq (name_of a) name) algorithms)
+named-means name = at (find (λ a. bytes_eq (name_of a) name) algorithms)
+    (found (λ a. bytes_eq (name_of a) name) algorithms)
   where
-    at : (o : Option Algorithm) → MatchOption o (list_all (λ a. not (bytes_eq (name_of a) name)) algorithms ≡ true) (λ a. bytes_eq (name_of a) name ≡ true)
+    at : (o : Option Algorithm) → MatchOption o (list_all (λ a. not (bytes_eq (name_of a) name)) algorithms ≡ true)
+        (λ a. bytes_eq (name_of a) name ≡ true)
         → MatchOption o ((a : Algorithm) → name_of a ≢ name) (λ a. name_of a ≡ name)
-    at None h = λ a. other_text (name_of a) name (none_passes (λ b. bytes_eq (name_of b) name) (AllPass-from_list_all (λ b. not (bytes_eq (name_of b) name)) algorithms h) a)
+    at None h = λ a. other_text (name_of a) name
+        (none_passes (λ b. bytes_eq (name_of b) name)
+        (AllPass-from_list_all (λ b. not (bytes_eq (name_of b) name)) algorithms h) a)
     at (Some a) h = same_text (name_of a) name h

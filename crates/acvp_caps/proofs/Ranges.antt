@@ -5,7 +5,7 @@ use Rattle.std.proofs.Math.Nat.{mod-add-div, mul-le-mul_left, mul-mod_right}
 use Rattle.std.proofs.lemmas.Bool.Decides.{nat_tests}
 use Rattle.acvp_caps.specs.declared.item.Item.TheVariants.{Range}
 use Rattle.acvp_caps.specs.Items.{has}
-use Rattle.acvp_caps.specs.Walk.{IsLeastFrom}
+use Rattle.acvp_caps.specs.Private.Walk.{IsLeastFrom}
 
 -- what is missing to the next multiple of k
 pub missing_whole : (d k : ℕ) → d % k ≤ k → (d + (k - d % k)) % k ≡ 0
@@ -28,7 +28,8 @@ missing_least d k m h le whole part =
     omega (arith, mod-add-div d k, mod-add-div m k)
 
 -- what a range has
-pub has-range : (min max increment n : ℕ) → min ≤ n → n ≤ max → (n - min) % increment ≡ 0 → has (Range min max increment) n ≡ true
+pub has-range : (min max increment n : ℕ) → min ≤ n → n ≤ max → (n - min) % increment ≡ 0
+    → has (Range min max increment) n ≡ true
 has-range min max increment n low high whole = grind (arith, nat_tests)
 
 pub record IsInRange (min max increment n : ℕ) : Type 0 where
@@ -59,10 +60,13 @@ pub range_step : (min max increment start : ℕ) → min < start → 0 < (start 
 range_step min max increment start above part less fits = record {
   from_start = omega arith;
   passes =
-      let e : start + (increment - (start - min) % increment) - min ≡ (start - min) + (increment - (start - min) % increment) = omega arith in
-      has-range min max increment _ (omega arith) fits (ap (λ n. n % increment) e ∙ missing_whole (start - min) increment less);
+      let e : start + (increment - (start - min) % increment) - min
+      ≡ (start - min) + (increment - (start - min) % increment) = omega arith in
+      has-range min max increment _ (omega arith) fits (ap (λ n. n % increment) e
+      ∙ missing_whole (start - min) increment less);
   below = λ m from there.
       let parts = range-has min max increment m there in
-      let least : (start - min) + (increment - (start - min) % increment) ≤ m - min = missing_least (start - min) increment (m - min) less (omega arith) parts.whole part in
+      let least : (start - min) + (increment - (start - min) % increment) ≤ m - min =
+      missing_least (start - min) increment (m - min) less (omega arith) parts.whole part in
       omega (arith, parts.low, parts.high);
 }

@@ -7,7 +7,7 @@ use Rattle.std.proofs.lemmas.List.Kept.{AllPairs-from_increasing}
 use Rattle.std.proofs.lemmas.List.Folds.{Any-from_list_any, list_any-from_Any}
 use Rattle.std.proofs.lemmas.Option.{slice_get-get_or, slice_get_past, slice_get_within, get_or_from_slice_get}
 use Rattle.std.proofs.lemmas.Bool.Decides.{nat_tests}
-use Rattle.acvp_caps.specs.Walk.{IsLeastFrom, IsNext}
+use Rattle.acvp_caps.specs.Private.Walk.{IsLeastFrom, IsNext}
 
 -- an ascending list of exactly the numbers that pass
 pub record IsListOf (p : ℕ → Bool) (xs : List ℕ) : Type 0 where
@@ -55,10 +55,17 @@ same-next : (p : ℕ → Bool) (xs : List ℕ) → IsListOf p xs → (start k n 
     → IsLeastFrom p start n → Some n ≡ slice_get xs k
 same-next p xs l start k n split next =
     let at = place-of p xs l n next.passes in
-    let not_below : at.place < k → ⊥ = λ less. omega (arith, split.below at.place less at.within, at.number, next.from_start) in
+    let not_below : at.place < k → ⊥ =
+    λ less. omega (arith, split.below at.place less at.within, at.number, next.from_start) in
     let within : k < length xs = omega (arith, not_below, at.within) in
-    let most : n ≤ get_or xs k 0 = next.below (get_or xs k 0) (split.above k (omega arith) within) (passes-at p xs l k within) in
-    let not_above : k < at.place → ⊥ = λ less. omega (arith, rises xs l.ascending k at.place less at.within, at.number, most) in
+    let most : n ≤ get_or xs k 0 =
+    next.below (get_or xs k 0) (split.above k (omega arith) within) (passes-at p xs l k within) in
+    let not_above : k < at.place → ⊥ = λ less. omega (
+      arith,
+      rises xs l.ascending k at.place less at.within,
+      at.number,
+      most,
+    ) in
     let same_place : at.place ≡ k = neither at.place k not_below not_above in
     let same : n ≡ get_or xs k 0 = sym at.number ∙ ap (λ j. get_or xs j 0) same_place in
     ap Some same ∙ sym (slice_get-get_or xs k 0 within)
@@ -66,7 +73,9 @@ same-next p xs l start k n split next =
 no-next : (p : ℕ → Bool) (xs : List ℕ) → IsListOf p xs → (start k : ℕ) → IsSplitAt xs start k
     → ((m : ℕ) → start ≤ m → p m ≡ false) → None ≡ slice_get xs k
 no-next p xs l start k split none =
-    let past : k < length xs → ⊥ = λ within. absurd_bool (p (get_or xs k 0)) (passes-at p xs l k within) (none (get_or xs k 0) (split.above k (omega arith) within)) in
+    let past : k < length xs → ⊥ =
+    λ within. absurd_bool (p (get_or xs k 0)) (passes-at p xs l k within)
+    (none (get_or xs k 0) (split.above k (omega arith) within)) in
     sym (slice_get_past xs k (omega (arith, past)))
   where
     absurd_bool : (b : Bool) → b ≡ true → b ≡ false → ⊥
@@ -88,7 +97,10 @@ up_to xs h k n within here j le false e =
 -- the first step
 pub next-first : (p : ℕ → Bool) (xs : List ℕ) → IsListOf p xs → (o : Option ℕ) → IsNext p 0 o → o ≡ slice_get xs 0
 next-first p xs l o next =
-    next-at p xs l 0 0 o (record { below = λ j less within. absurd (omega arith); above = λ j le within. omega arith }) next
+    next-at p xs l 0 0 o (record {
+      below = λ j less within. absurd (omega arith);
+      above = λ j le within. omega arith;
+    }) next
 
 -- a step from the number at k
 pub next-more : (p : ℕ → Bool) (xs : List ℕ) → IsListOf p xs → (k n : ℕ) (o : Option ℕ) → slice_get xs k ≡ Some n

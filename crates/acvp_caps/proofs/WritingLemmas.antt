@@ -19,7 +19,7 @@ use Rattle.acvp_caps.specs.Json.{elements}
 use Rattle.acvp_caps.specs.Members.{members, all_within}
 use Rattle.acvp_caps.specs.Capability.{AreLengths, AreDomainsOf, AreHashDomains, AreHmacDomains, digest_bits}
 use Rattle.acvp_caps.specs.Registered.{item_of, is_item, items_at, is_domain, domain_of, registered_capability}
-use Rattle.acvp_caps.specs.Written.{item_data, domain_data, IsDomainData, hash_data, hmac_data, IsHashData, IsHmacData, IsCapabilityData}
+use Rattle.acvp_caps.specs.Private.Written.{item_data, domain_data, IsDomainData, hash_data, hmac_data, IsHashData, IsHmacData, IsCapabilityData}
 use Rattle.acvp_caps.proofs.JsonLemmas.{item_list-items_of}
 
 -- ---- a domain
@@ -71,12 +71,14 @@ three a b c e f g = rw (e, f, g) refl
 pub within-test : (low high : ℕ) (xs : List ℕ) → AreLengths low high xs → all_within low high xs ≡ true
 within-test low high xs l = list_all-from_AllPass (λ n. nat_le low n && nat_le n high) xs (λ k d lt.
     let parts = l.within k d lt in
-    two (nat_le low (get_or xs k d)) (nat_le (get_or xs k d) high) (at_least low (get_or xs k d) parts.0) (at_least (get_or xs k d) high parts.1))
+    two (nat_le low (get_or xs k d)) (nat_le (get_or xs k d) high) (at_least low (get_or xs k d) parts.0)
+    (at_least (get_or xs k d) high parts.1))
   where
     two : (a b : Bool) → a ≡ true → b ≡ true → (a && b) ≡ true
     two a b e f = rw (e, f) refl
 
-pub good-domain : (low high : ℕ) (d : Data) (xs : List ℕ) → IsDomainData xs d → AreLengths low high xs → IsGood low high (Some d) xs
+pub good-domain : (low high : ℕ) (d : Data) (xs : List ℕ) → IsDomainData xs d → AreLengths low high xs
+    → IsGood low high (Some d) xs
 good-domain low high d xs w l = subst (λ (e : Data). IsGood low high (Some e) xs) (sym w.written) good
   where
     formed : list_all is_formed w.items ≡ true
@@ -93,10 +95,14 @@ good-domain low high d xs w l = subst (λ (e : Data). IsGood low high (Some e) x
 
     good : IsGood low high (Some (domain_data w.items)) xs
     good = record {
-      form = three (nat_le 1 (length (elements (Some (domain_data w.items))))) (nat_le (length (elements (Some (domain_data w.items)))) 32) (list_all is_item (elements (Some (domain_data w.items))))
-          (at_least 1 _ (omega (arith, count, w.kept.some))) (at_least _ 32 (omega (arith, count, w.kept.most))) (ap (list_all is_item) given ∙ items-are w.items formed);
+      form = three (nat_le 1 (length (elements (Some (domain_data w.items)))))
+          (nat_le (length (elements (Some (domain_data w.items)))) 32)
+          (list_all is_item (elements (Some (domain_data w.items))))
+          (at_least 1 _ (omega (arith, count, w.kept.some))) (at_least _ 32 (omega (arith, count, w.kept.most)))
+          (ap (list_all is_item) given ∙ items-are w.items formed);
       whole = ap (list_all is_byte_oriented) read ∙ w.kept.whole_bytes;
-      within = ap (λ (js : List Item). all_within low high (members js)) read ∙ ap (all_within low high) w.same ∙ within-test low high xs l;
+      within = ap (λ (js : List Item). all_within low high (members js)) read ∙ ap (all_within low high) w.same
+          ∙ within-test low high xs l;
       same = ap members read ∙ w.same;
     }
 
@@ -117,19 +123,23 @@ named-name_of HmacSha2_512 = refl
 named-name_of HmacSha2_512_224 = refl
 named-name_of HmacSha2_512_256 = refl
 
-hash-reads : (a : Algorithm) (name : List ℕ) (given : Data) (xs : List ℕ) → named name ≡ Some a → is_hmac_of a ≡ false → IsGood 0 65536 (Some given) xs
-    → registered_capability (hash_data name given) ≡ Ok (record { algorithm = a; domains = Message xs })
+hash-reads : (a : Algorithm) (name : List ℕ) (given : Data) (xs : List ℕ) → named name ≡ Some a → is_hmac_of a ≡ false
+    → IsGood 0 65536 (Some given) xs
+    → registered_capability (hash_data name given) ≡ Ok (Some (record { algorithm = a; domains = Message xs }))
 hash-reads a name given xs e h good = rw (e, h, good.form, good.whole, good.within, good.same) refl
 
-hmac-reads : (a : Algorithm) (name : List ℕ) (key mac : Data) (xs ys : List ℕ) → named name ≡ Some a → is_hmac_of a ≡ true → IsGood 8 524288 (Some key) xs
+hmac-reads : (a : Algorithm) (name : List ℕ) (key mac : Data) (xs ys : List ℕ) → named name ≡ Some a
+    → is_hmac_of a ≡ true → IsGood 8 524288 (Some key) xs
     → IsGood 32 (digest_bits a) (Some mac) ys
-    → registered_capability (hmac_data name key mac) ≡ Ok (record { algorithm = a; domains = KeyAndMac xs ys })
-hmac-reads a name key mac xs ys e h good fine = rw (e, h, good.form, good.whole, good.within, good.same, fine.form, fine.whole, fine.within, fine.same) refl
+    → registered_capability (hmac_data name key mac) ≡ Ok (Some (record { algorithm = a; domains = KeyAndMac xs ys }))
+hmac-reads a name key mac xs ys e h good fine =
+    rw (e, h, good.form, good.whole, good.within, good.same, fine.form, fine.whole, fine.within, fine.same) refl
 
 -- ---- the value of a capability
 
 hash-fits : (a : Algorithm) (message : List ℕ) (b : Bool) → is_hmac_of a ≡ b
-    → MatchBool b (AreHmacDomains (digest_bits a) (Message message)) (AreHashDomains (Message message)) → (is_hmac_of a ≡ false) × AreLengths 0 65536 message
+    → MatchBool b (AreHmacDomains (digest_bits a) (Message message)) (AreHashDomains (Message message))
+    → (is_hmac_of a ≡ false) × AreLengths 0 65536 message
 hash-fits a message true e h = absurd h
 hash-fits a message false e h = (e, h)
 
@@ -148,26 +158,34 @@ hash-depth name d h = omega arith
 hmac-depth : (name : List ℕ) (d e : Data) → depth d ≤ 2 → depth e ≤ 2 → depth (hmac_data name d e) ≤ 127
 hmac-depth name d e h g = omega arith
 
-pub hash-written : (a : Algorithm) (domains : Domains) (name message : List ℕ) (d : Data) → domains ≡ Message message → name ≡ name_of a
-    → AreDomainsOf a domains → IsHashData name message d → IsCapabilityData (record { algorithm = a; domains = domains }) d
+pub hash-written : (a : Algorithm) (domains : Domains) (name message : List ℕ) (d : Data) → domains ≡ Message message
+    → name ≡ name_of a
+    → AreDomainsOf a domains → IsHashData name message d
+    → IsCapabilityData (record { algorithm = a; domains = domains }) d
 hash-written a domains name message d is named_so fit w =
     let fits = hash-fits a message (is_hmac_of a) refl (subst (λ (e : Domains). AreDomainsOf a e) is fit) in
     let good = good-domain 0 65536 w.given message w.is_message fits.1 in
     record {
-      reads = ap registered_capability w.written ∙ hash-reads a name w.given message (ap named named_so ∙ named-name_of a) fits.0 good
-          ∙ ap (λ (e : Domains). Ok (record { algorithm = a; domains = e })) (sym is);
-      shallow = subst (λ (e : Data). depth e ≤ 127) (sym w.written) (hash-depth name w.given (domain-data-depth message w.given w.is_message));
+      reads = ap registered_capability w.written ∙ hash-reads a name w.given message (ap named named_so
+          ∙ named-name_of a) fits.0 good
+          ∙ ap (λ (e : Domains). Ok (Some (record { algorithm = a; domains = e }))) (sym is);
+      shallow = subst (λ (e : Data). depth e ≤ 127) (sym w.written)
+          (hash-depth name w.given (domain-data-depth message w.given w.is_message));
     }
 
-pub hmac-written : (a : Algorithm) (domains : Domains) (name key mac : List ℕ) (d : Data) → domains ≡ KeyAndMac key mac → name ≡ name_of a
-    → AreDomainsOf a domains → IsHmacData name key mac d → IsCapabilityData (record { algorithm = a; domains = domains }) d
+pub hmac-written : (a : Algorithm) (domains : Domains) (name key mac : List ℕ) (d : Data) → domains ≡ KeyAndMac key mac
+    → name ≡ name_of a
+    → AreDomainsOf a domains → IsHmacData name key mac d
+    → IsCapabilityData (record { algorithm = a; domains = domains }) d
 hmac-written a domains name key mac d is named_so fit w =
     let fits = hmac-fits a key mac (is_hmac_of a) refl (subst (λ (e : Domains). AreDomainsOf a e) is fit) in
     let good = good-domain 8 524288 w.key_given key w.is_key fits.1 in
     let fine = good-domain 32 (digest_bits a) w.mac_given mac w.is_mac fits.2 in
     record {
-      reads = ap registered_capability w.written ∙ hmac-reads a name w.key_given w.mac_given key mac (ap named named_so ∙ named-name_of a) fits.0 good fine
-          ∙ ap (λ (e : Domains). Ok (record { algorithm = a; domains = e })) (sym is);
+      reads = ap registered_capability w.written ∙ hmac-reads a name w.key_given w.mac_given key mac (ap named named_so
+          ∙ named-name_of a) fits.0 good fine
+          ∙ ap (λ (e : Domains). Ok (Some (record { algorithm = a; domains = e }))) (sym is);
       shallow = subst (λ (e : Data). depth e ≤ 127) (sym w.written)
-          (hmac-depth name w.key_given w.mac_given (domain-data-depth key w.key_given w.is_key) (domain-data-depth mac w.mac_given w.is_mac));
+          (hmac-depth name w.key_given w.mac_given (domain-data-depth key w.key_given w.is_key)
+          (domain-data-depth mac w.mac_given w.is_mac));
     }

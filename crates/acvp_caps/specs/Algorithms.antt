@@ -14,19 +14,19 @@ algorithms =
     ∷ []
 
 -- the number by which URLs name the algorithm
-abbrev pub number_of : Algorithm → ℕ
-number_of Sha2_224 = 1
-number_of Sha2_256 = 2
-number_of Sha2_384 = 3
-number_of Sha2_512 = 4
-number_of Sha2_512_224 = 5
-number_of Sha2_512_256 = 6
-number_of HmacSha2_224 = 7
-number_of HmacSha2_256 = 8
-number_of HmacSha2_384 = 9
-number_of HmacSha2_512 = 10
-number_of HmacSha2_512_224 = 11
-number_of HmacSha2_512_256 = 12
+abbrev pub algorithm_number : Algorithm → ℕ
+algorithm_number Sha2_224 = 1
+algorithm_number Sha2_256 = 2
+algorithm_number Sha2_384 = 3
+algorithm_number Sha2_512 = 4
+algorithm_number Sha2_512_224 = 5
+algorithm_number Sha2_512_256 = 6
+algorithm_number HmacSha2_224 = 7
+algorithm_number HmacSha2_256 = 8
+algorithm_number HmacSha2_384 = 9
+algorithm_number HmacSha2_512 = 10
+algorithm_number HmacSha2_512_224 = 11
+algorithm_number HmacSha2_512_256 = 12
 
 -- the hash function
 abbrev pub hash_of : Algorithm → HashName

@@ -1,15 +1,30 @@
 -- A capability: an algorithm and the domains of its parameters, all of them lengths in bits.
-use Rattle.std.specs.Prelude.{◌≡◌, ℕ, ◌*◌, ◌%◌, ◌<◌, ◌≤◌, List, length, All, MatchBool}
+use Rattle.std.specs.Prelude.{◌≡◌, ℕ, ◌*◌, ◌%◌, ◌<◌, ◌≤◌, List, [], ◌∷◌, length, All, Bool, nat_eq, MatchBool}
+use Rattle.std.specs.Cmp.Lexicographic.{pointwise}
 use Rattle.std.specs.List.Sorted.{IsStrictlyIncreasing}
+use Rattle.std.specs.Ordering.{eq_of_both, on}
 use Rattle.acvp_mac.specs.Hash.{block_of, out_of}
 use Rattle.acvp_caps.specs.declared.algorithm.Algorithm.{Algorithm}
 use Rattle.acvp_caps.specs.declared.capability.Domains.{Domains}
 use Rattle.acvp_caps.specs.declared.capability.Domains.TheVariants.{Message, KeyAndMac}
-use Rattle.acvp_caps.specs.Algorithms.{hash_of, is_hmac_of}
+use Rattle.acvp_caps.specs.Algorithms.{algorithm_number, hash_of, is_hmac_of}
 
 pub record CapabilityValue : Type 0 where
   pub algorithm : Algorithm
   pub domains : Domains
+
+-- the members of each parameter's domain
+abbrev pub parameter_lists : Domains → List (List ℕ)
+parameter_lists (Message message) = message ∷ []
+parameter_lists (KeyAndMac key mac) = key ∷ mac ∷ []
+
+-- whether domains are the same
+abbrev pub same_domains : Domains → Domains → Bool
+same_domains = on parameter_lists (pointwise (pointwise nat_eq))
+
+-- whether capabilities are the same
+abbrev pub same_capability : CapabilityValue → CapabilityValue → Bool
+same_capability = eq_of_both (on (λ c. algorithm_number c.algorithm) nat_eq) (on (λ c. c.domains) same_domains)
 
 -- lengths of whole bytes between two limits, at least one, ascending, each once
 pub record AreLengths (low high : ℕ) (lengths : List ℕ) : Type 0 where

@@ -1,15 +1,13 @@
 pub mod Algorithms
 pub mod Items
 pub mod Members
-pub mod Walk
-pub mod DomainItems
-pub mod Tests
 pub mod Json
 pub mod Capability
 pub mod Registration
 pub mod Registered
-pub mod Written
+pub mod Private
 pub use Rattle.acvp_mac.specs.Hash
+pub use Rattle.acvp_mac.specs.Conditions
 pub use Rattle.serde_json.specs.Data
 pub use Rattle.serde_json.specs.Find
 pub use Rattle.serde_json.specs.Read

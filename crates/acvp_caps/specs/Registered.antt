@@ -1,4 +1,4 @@
--- What a registration says: the tests of its JSON value in their order, each with its fault.
+-- What a registration says: the conditions on its JSON value in their order, each with its fault.
 use Rattle.std.specs.Prelude.{ℕ, ◌==◌, ◌&&◌, List, [], ◌∷◌, ◌++◌, length, codes, Bool, false, not, nat_le, if◌then◌else◌, Option, None, Some, is_some, option_map, option_and_then, unwrap_or, Result, Err}
 use Rattle.std.specs.List.{list_all, filter_map, flat_map}
 use Rattle.serde_json.specs.Data.{Data}
@@ -17,7 +17,7 @@ use Rattle.acvp_caps.specs.Members.{members, all_within}
 use Rattle.acvp_caps.specs.Capability.{CapabilityValue, digest_bits}
 use Rattle.acvp_caps.specs.Registration.{RegistrationValue}
 use Rattle.acvp_caps.specs.Json.{whole_number, number_at, text_at, is_text, flag, elements, is_optional_array}
-use Rattle.acvp_caps.specs.Tests.{Test, verdict}
+use Rattle.acvp_mac.specs.Conditions.{Condition, judged}
 
 -- ---- a domain
 
@@ -48,16 +48,16 @@ items_at member = filter_map item_of (elements member)
 abbrev pub is_domain : List Data → Bool
 is_domain given = nat_le 1 (length given) && nat_le (length given) 32 && list_all is_item given
 
--- the tests of lengths that have to lie between two limits
-abbrev pub length_tests : ℕ → ℕ → List Item → List Test
-length_tests low high items =
+-- the conditions of lengths that have to lie between two limits
+abbrev pub length_conditions : ℕ → ℕ → List Item → List (Condition CapFault)
+length_conditions low high items =
     (list_all is_byte_oriented items, NotByteOriented)
     ∷ (all_within low high (members items), OutOfRange)
     ∷ []
 
--- the tests of a domain
-abbrev pub domain_tests : ℕ → ℕ → Option Data → List Test
-domain_tests low high member = (is_domain (elements member), Field) ∷ length_tests low high (items_at member)
+-- the conditions of a domain
+abbrev pub domain_conditions : ℕ → ℕ → Option Data → List (Condition CapFault)
+domain_conditions low high member = (is_domain (elements member), Field) ∷ length_conditions low high (items_at member)
 
 abbrev pub domain_of : Option Data → List ℕ
 domain_of member = members (items_at member)
@@ -68,29 +68,31 @@ abbrev pub algorithm_at : Data → Option Algorithm
 algorithm_at d = option_and_then named (text_at (codes "algorithm") d)
 
 -- no test of large messages is asked for
-abbrev pub large_data_tests : Option Data → List Test
-large_data_tests member =
+abbrev pub large_data_conditions : Option Data → List (Condition CapFault)
+large_data_conditions member =
     (is_optional_array member, Field)
     ∷ (length (elements member) == 0, Unsupported)
     ∷ []
 
--- the tests of an algorithm's parameters
-abbrev pub parameter_tests : Data → Algorithm → List Test
-parameter_tests d a =
+-- the conditions of an algorithm's parameters
+abbrev pub parameter_conditions : Data → Algorithm → List (Condition CapFault)
+parameter_conditions d a =
     if is_hmac_of a
-    then domain_tests 8 524288 (get (codes "keyLen") d) ++ domain_tests 32 (digest_bits a) (get (codes "macLen") d)
-    else large_data_tests (get (codes "performLargeDataTest") d) ++ domain_tests 0 65536 (get (codes "messageLength") d)
+    then domain_conditions 8 524288 (get (codes "keyLen") d)
+    ++ domain_conditions 32 (digest_bits a) (get (codes "macLen") d)
+    else large_data_conditions (get (codes "performLargeDataTest") d)
+    ++ domain_conditions 0 65536 (get (codes "messageLength") d)
 
-abbrev pub algorithm_tests : Data → Option Algorithm → List Test
-algorithm_tests d None = []
-algorithm_tests d (Some a) = parameter_tests d a
+abbrev pub algorithm_conditions : Data → Option Algorithm → List (Condition CapFault)
+algorithm_conditions d None = []
+algorithm_conditions d (Some a) = parameter_conditions d a
 
--- the tests of one capability
-abbrev pub capability_tests : Data → List Test
-capability_tests d =
+-- the conditions of one capability
+abbrev pub capability_conditions : Data → List (Condition CapFault)
+capability_conditions d =
     (is_some (text_at (codes "algorithm") d) && is_some (text_at (codes "revision") d), Field)
     ∷ (is_some (algorithm_at d) && is_text (codes "1.0") (text_at (codes "revision") d), Unsupported)
-    ∷ algorithm_tests d (algorithm_at d)
+    ∷ algorithm_conditions d (algorithm_at d)
 
 abbrev pub domains_at : Data → Algorithm → Domains
 domains_at d a =
@@ -101,16 +103,17 @@ domains_at d a =
 abbrev pub capability_at : Data → Option CapabilityValue
 capability_at d = option_map (λ a. record { algorithm = a; domains = domains_at d a }) (algorithm_at d)
 
--- the capability that a JSON value is, or its first fault
-abbrev pub registered_capability : Data → Result CapabilityValue CapFault
-registered_capability d = verdict (capability_tests d) (capability_at d)
+-- the capability that a JSON value is (there is one wherever every condition holds), or the fault of the first broken
+-- one
+abbrev pub registered_capability : Data → Result (Option CapabilityValue) CapFault
+registered_capability d = judged (capability_conditions d) (capability_at d)
 
-abbrev pub if_json : Option Data → Result CapabilityValue CapFault
+abbrev pub if_json : Option Data → Result (Option CapabilityValue) CapFault
 if_json None = Err Field
 if_json (Some d) = registered_capability d
 
 -- the capability that a JSON text is, or its first fault
-unfoldable pub registered_text : List ℕ → Result CapabilityValue CapFault
+unfoldable pub registered_text : List ℕ → Result (Option CapabilityValue) CapFault
 registered_text text = if_json (read text)
 
 -- ---- a registration
@@ -124,18 +127,21 @@ sample_at d = flag (get (codes "isSample") d)
 abbrev pub encryption_at : Data → Option Bool
 encryption_at d = flag (get (codes "encryptAtRest") d)
 
--- the tests of a registration
-abbrev pub registration_tests : Data → List Test
-registration_tests d =
+-- the conditions of a registration
+abbrev pub registration_conditions : Data → List (Condition CapFault)
+registration_conditions d =
     (nat_le 1 (length (capabilities_at d)) && nat_le (length (capabilities_at d)) 20, Field)
     ∷ (is_some (sample_at d), Field)
     ∷ (is_some (encryption_at d), Field)
     ∷ (not (unwrap_or (encryption_at d) false), Unsupported)
-    ∷ flat_map capability_tests (capabilities_at d)
+    ∷ flat_map capability_conditions (capabilities_at d)
 
 abbrev pub registration_at : Data → RegistrationValue
-registration_at d = record { sample = unwrap_or (sample_at d) false; capabilities = filter_map capability_at (capabilities_at d) }
+registration_at d = record {
+  sample = unwrap_or (sample_at d) false;
+  capabilities = filter_map capability_at (capabilities_at d);
+}
 
 -- the registration that a JSON value is, or its first fault
 unfoldable pub registered : Data → Result RegistrationValue CapFault
-registered d = verdict (registration_tests d) (Some (registration_at d))
+registered d = judged (registration_conditions d) (registration_at d)

@@ -4,7 +4,7 @@ ghost use Rattle.std.specs.Prelude.{◌≡◌, ◌≢◌, ◌≤◌, codes, leng
 ghost use Rattle.acvp_mac.specs.declared.HashName.{HashName};
 ghost use Rattle.acvp_caps.specs.declared.algorithm.Algorithm.{Algorithm};
 ghost use Rattle.acvp_caps.specs.Capability.{block_bits, digest_bits};
-ghost use Rattle.acvp_caps.specs.Algorithms.{algorithms, hash_of, is_hmac_of, name_of, named, number_of};
+ghost use Rattle.acvp_caps.specs.Algorithms.{algorithms, hash_of, is_hmac_of, name_of, named, algorithm_number};
 
 use acvp_mac::HashName;
 
@@ -83,7 +83,7 @@ impl Algorithm {
 
     /// The number, 1 to 12, by which URLs name the algorithm.
     pub fn number(self) -> u64
-        ensures { result ≡ number_of self }
+        ensures { result ≡ algorithm_number self }
     {
         match self {
             Algorithm::Sha2_224 => 1,

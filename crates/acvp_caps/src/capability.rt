@@ -1,13 +1,16 @@
 //! A capability: an algorithm and the domains of its parameters.
 
-ghost use Rattle.std.specs.Prelude.{◌≡◌, ◌≤◌, ◌*◌, ◌++◌, codes, true, false, Some, Ok, IfOk, string_bytes};
+ghost use Rattle.std.specs.Prelude.{◌≡◌, ◌≤◌, ◌↔◌, ◌*◌, ◌++◌, codes, true, false, Some, Ok, IfOk, IsTrue, string_bytes};
 ghost use Rattle.serde_json.specs.Find.{get};
 ghost use Rattle.serde_json.specs.View.{view};
-ghost use Rattle.acvp_caps.specs.Algorithms.{hash_of, is_hmac_of};
-ghost use Rattle.acvp_caps.specs.Capability.{AreDomainsOf, AreHashDomains, AreHmacDomains, digest_bits};
-ghost use Rattle.acvp_caps.specs.Registered.{capability_tests, capability_at, parameter_tests, domains_at, domain_tests, domain_of, large_data_tests, registered_capability, registered_text};
-ghost use Rattle.acvp_caps.specs.Tests.{IsAnswer, IsReadBy};
-ghost use Rattle.acvp_caps.specs.Written.{IsCapabilityData, IsHashData, IsHmacData};
+ghost use Rattle.std.specs.Cmp.{partial_equiv_from_equiv, on_equiv, and_equiv, nat_eq_equiv};
+ghost use Rattle.std.specs.Cmp.Lexicographic.{lists_equiv, nat_list_eq_equiv};
+ghost use Rattle.acvp_caps.specs.Algorithms.{algorithm_number, hash_of, is_hmac_of};
+ghost use Rattle.acvp_caps.specs.Capability.{AreDomainsOf, AreHashDomains, AreHmacDomains, digest_bits, parameter_lists, same_capability, same_domains};
+ghost use Rattle.acvp_caps.specs.Registered.{capability_conditions, capability_at, parameter_conditions, domains_at, domain_conditions, domain_of, large_data_conditions, registered_capability, registered_text};
+ghost use Rattle.acvp_mac.specs.Conditions.{IsJudged};
+ghost use Rattle.acvp_caps.specs.Private.Readings.{IsReadBy};
+ghost use Rattle.acvp_caps.specs.Private.Written.{IsCapabilityData, IsHashData, IsHmacData};
 
 use crate::CapFault;
 use crate::algorithm::Algorithm;
@@ -36,6 +39,53 @@ pub enum Domains {
     KeyAndMac { key: Domain, mac: Domain },
 }
 
+/// The clone keeps the items of the domains as they were given.
+impl Clone for Domains {
+    ghost is_clone = { λ it copy. copy ≡ it };
+
+    fn clone(&self) -> Result<Domains, AllocError> {
+        match self {
+            Domains::Message(message) => {
+                let message = message.clone()?;
+                Ok(Domains::Message(message))
+            }
+            Domains::KeyAndMac { key, mac } => {
+                let key = key.clone()?;
+                let mac = mac.clone()?;
+                Ok(Domains::KeyAndMac { key, mac })
+            }
+        }
+    }
+}
+
+/// Domains of the same parameters are equal where each has the same members.
+impl PartialEq for Domains {
+    ghost eq = { same_domains };
+
+    ghost laws = { partial_equiv_from_equiv (on_equiv parameter_lists (lists_equiv nat_list_eq_equiv)) };
+
+    fn eq(&self, other: &Domains) -> bool
+        ensures value { result ≡ same_domains self.now other.now }
+        ensures same { IsTrue result ↔ (self.now ≡ other.now) }
+    {
+        match (self, other) {
+            (Domains::Message(message), Domains::Message(other)) => message == other,
+            (
+                Domains::KeyAndMac { key, mac },
+                Domains::KeyAndMac {
+                    key: other_key,
+                    mac: other_mac,
+                },
+            ) => key == other_key && mac == other_mac,
+            _ => false,
+        }
+    }
+}
+
+impl Eq for Domains {
+    ghost laws = { on_equiv parameter_lists (lists_equiv nat_list_eq_equiv) };
+}
+
 /// An algorithm and the domains of its parameters, which lie within what the algorithm is tested
 /// at. It is made by reading a registration, or a capability's text.
 #[derive(Drop, Debug)]
@@ -52,6 +102,39 @@ impl Model for Capability {
     ghost view = { λ c. record { algorithm = c.algorithm; domains = c.domains } };
 
     ghost invariant = { λ c. AreDomainsOf c.algorithm c.domains };
+}
+
+/// The clone keeps the items of the domains as they were given.
+impl Clone for Capability {
+    ghost is_clone = { λ it copy. copy ≡ it };
+
+    fn clone(&self) -> Result<Capability, AllocError> {
+        let domains = self.domains.clone()?;
+        Ok(Capability {
+            algorithm: self.algorithm,
+            domains,
+        })
+    }
+}
+
+/// Capabilities for the same algorithm with the same members are equal, whatever items were given.
+impl PartialEq for Capability {
+    ghost eq = { same_capability };
+
+    ghost laws = { partial_equiv_from_equiv (and_equiv (on_equiv (λ c. algorithm_number c.algorithm) nat_eq_equiv)
+        (on_equiv (λ c. parameter_lists c.domains) (lists_equiv nat_list_eq_equiv))) };
+
+    fn eq(&self, other: &Capability) -> bool
+        ensures value { result ≡ same_capability self.now other.now }
+        ensures same { IsTrue result ↔ (self.now ≡ other.now) }
+    {
+        self.algorithm == other.algorithm && self.domains == other.domains
+    }
+}
+
+impl Eq for Capability {
+    ghost laws = { and_equiv (on_equiv (λ c. algorithm_number c.algorithm) nat_eq_equiv)
+        (on_equiv (λ c. parameter_lists c.domains) (lists_equiv nat_list_eq_equiv)) };
 }
 
 impl Capability {
@@ -73,7 +156,7 @@ impl Capability {
     /// The capability as compact JSON, with the items of its domains as they were given.
     #[tactic(auto, unfolding(crate::specs::Registered::registered_text))]
     pub fn to_text(&self, alloc: Global) -> Result<String, AllocError>
-        ensures { IfOk result (λ text. registered_text (string_bytes text) ≡ Ok self.now) }
+        ensures { IfOk result (λ text. registered_text (string_bytes text) ≡ Ok (Some self.now)) }
     {
         self.to_value(alloc)?.to_string(alloc)
     }
@@ -94,7 +177,7 @@ impl Capability {
     /// refused as `Field`.
     #[tactic(auto, unfolding(crate::specs::Registered::registered_text))]
     pub fn from_text(alloc: Global, text: &str) -> Result<Capability, CapFault>
-        ensures { IsAnswer (registered_text text.now) result }
+        ensures { IsJudged CapFault.Memory (λ capability. Some capability) (registered_text text.now) result }
     {
         match Value::from_str(alloc, text) {
             Ok(value) => read_capability(alloc, &value),
@@ -123,7 +206,7 @@ fn hmac_value(alloc: Global, name: &str, key: &Domain, mac: &Domain) -> Result<V
 
 /// The capability that a JSON value is.
 pub(crate) fn read_capability(alloc: Global, value: &Value) -> Result<Capability, CapFault>
-    ensures { IsReadBy (capability_tests (view value.now)) (capability_at (view value.now)) result }
+    ensures { IsReadBy (capability_conditions (view value.now)) (capability_at (view value.now)) result }
 {
     let Some(name) = text_at(value, "algorithm") else {
         return Err(CapFault::Field);
@@ -144,7 +227,7 @@ fn read_parameters(
     value: &Value,
     algorithm: Algorithm,
 ) -> Result<Capability, CapFault>
-    ensures { IsReadBy (parameter_tests (view value.now) algorithm)
+    ensures { IsReadBy (parameter_conditions (view value.now) algorithm)
         (Some (record { algorithm = algorithm; domains = domains_at (view value.now) algorithm })) result }
 {
     let domains = if algorithm.is_hmac() {
@@ -157,8 +240,8 @@ fn read_parameters(
 
 /// The domain of a hash function, and no test of large messages.
 fn read_hash_domains(alloc: Global, value: &Value) -> Result<Domains, CapFault>
-    ensures read { IsReadBy (large_data_tests (get (codes "performLargeDataTest") (view value.now))
-        ++ domain_tests 0 65536 (get (codes "messageLength") (view value.now)))
+    ensures read { IsReadBy (large_data_conditions (get (codes "performLargeDataTest") (view value.now))
+        ++ domain_conditions 0 65536 (get (codes "messageLength") (view value.now)))
         (Some (Domains.Message (domain_of (get (codes "messageLength") (view value.now))))) result }
     ensures fit { IfOk result AreHashDomains }
 {
@@ -176,9 +259,10 @@ fn read_hash_domains(alloc: Global, value: &Value) -> Result<Domains, CapFault>
 /// The domains of HMAC, whose result has at most so many bits.
 fn read_hmac_domains(alloc: Global, value: &Value, mac_limit: u64) -> Result<Domains, CapFault>
     requires { mac_limit ≤ 524288 }
-    ensures read { IsReadBy (domain_tests 8 524288 (get (codes "keyLen") (view value.now))
-        ++ domain_tests 32 mac_limit (get (codes "macLen") (view value.now)))
-        (Some (Domains.KeyAndMac (domain_of (get (codes "keyLen") (view value.now))) (domain_of (get (codes "macLen") (view value.now))))) result }
+    ensures read { IsReadBy (domain_conditions 8 524288 (get (codes "keyLen") (view value.now))
+        ++ domain_conditions 32 mac_limit (get (codes "macLen") (view value.now)))
+        (Some (Domains.KeyAndMac (domain_of (get (codes "keyLen") (view value.now)))
+        (domain_of (get (codes "macLen") (view value.now))))) result }
     ensures fit { IfOk result (AreHmacDomains mac_limit) }
 {
     let key = read_domain(alloc, value.get("keyLen"), KEY_LIMITS.0, KEY_LIMITS.1)?;

@@ -3,20 +3,24 @@
 ghost use Rattle.std.specs.Prelude.{◌≡◌, ◌<◌, ◌≤◌, ◌-◌, ◌↔◌, ◌==◌, ℕ, List, length, true, Some, IsTrue, Contains, All, IfOk, map, option_map};
 ghost use Rattle.std.specs.List.{slice_get, list_any, list_all};
 ghost use Rattle.std.specs.List.Sorted.{IsStrictlyIncreasing};
+ghost use Rattle.std.specs.Cmp.{partial_equiv_from_equiv};
+ghost use Rattle.std.specs.Cmp.Lexicographic.{pointwise, nat_list_eq_equiv};
 ghost use Rattle.serde_json.specs.View.{view};
 ghost use Rattle.acvp_caps.specs.declared.item.Item.{Item};
 ghost use Rattle.acvp_caps.specs.Capability.{AreLengths};
 ghost use Rattle.acvp_caps.specs.Items.{is_byte_oriented, item_within};
 ghost use Rattle.acvp_caps.specs.Members.{members, is_member};
-ghost use Rattle.acvp_caps.specs.Registered.{domain_tests, domain_of, length_tests};
-ghost use Rattle.acvp_caps.specs.Tests.{IsReadBy};
-ghost use Rattle.acvp_caps.specs.Walk.{AllFormed};
-ghost use Rattle.acvp_caps.specs.Written.{item_data, IsDomainData};
+ghost use Rattle.acvp_caps.specs.Registered.{domain_conditions, domain_of, length_conditions};
+ghost use Rattle.acvp_caps.specs.Private.Readings.{IsReadBy};
+ghost use Rattle.acvp_caps.specs.Private.Walk.{AllFormed};
+ghost use Rattle.acvp_caps.specs.Private.Written.{item_data, IsDomainData};
 
 use crate::CapFault;
 use crate::item::{Item, read_items};
 use crate::json::elements;
-use crate::walk::{count_members, greatest_member, has_member, next_member, nth_member};
+use crate::walk::{
+    count_members, greatest_member, has_member, have_same_members, next_member, nth_member,
+};
 use serde_json::Value;
 use std::alloc::{AllocError, Global};
 use std::marker::Model;
@@ -25,7 +29,7 @@ use std::marker::Model;
 const ITEM_LIMIT: usize = 32;
 
 /// The numbers that a parameter may take, at least one: contracts see them as an ascending list in
-/// which each stands once. What is kept is the items that were given, and no call takes memory.
+/// which each stands once. What is kept is the items that were given, and only a clone takes memory.
 #[derive(Drop, Debug)]
 pub struct Domain {
     items: Vec<Item>,
@@ -34,7 +38,7 @@ pub struct Domain {
 impl Model for Domain {
     ghost use Rattle.std.specs.Prelude.{List, ℕ};
     ghost use Rattle.acvp_caps.specs.Members.{members};
-    ghost use Rattle.acvp_caps.specs.DomainItems.{AreDomainItems};
+    ghost use Rattle.acvp_caps.specs.Private.DomainItems.{AreDomainItems};
 
     ghost Value = { List ℕ };
 
@@ -94,6 +98,34 @@ impl Domain {
     }
 }
 
+/// The clone keeps the items that were given.
+impl Clone for Domain {
+    ghost is_clone = { λ it copy. copy ≡ it };
+
+    fn clone(&self) -> Result<Domain, AllocError> {
+        let items = self.items.clone()?;
+        Ok(Domain { items })
+    }
+}
+
+/// Domains with the same members are equal, whatever items were given. The members are walked to.
+impl PartialEq for Domain {
+    ghost eq = { pointwise ◌==◌ };
+
+    ghost laws = { partial_equiv_from_equiv nat_list_eq_equiv };
+
+    fn eq(&self, other: &Domain) -> bool
+        ensures value { result ≡ pointwise ◌==◌ self.now other.now }
+        ensures same { IsTrue result ↔ (self.now ≡ other.now) }
+    {
+        have_same_members(&self.items, &other.items)
+    }
+}
+
+impl Eq for Domain {
+    ghost laws = { nat_list_eq_equiv };
+}
+
 /// The definition of a domain's members is what it says: they ascend, and a number is one of them
 /// exactly if some item has it.
 pub fn members_are_exact()
@@ -110,7 +142,7 @@ pub(crate) fn read_domain(
 ) -> Result<Domain, CapFault>
     requires { high ≤ 524288 }
     ensures read { let given = option_map (λ v. view v.now) member.entry in
-        IsReadBy (domain_tests low high given) (Some (domain_of given)) result }
+        IsReadBy (domain_conditions low high given) (Some (domain_of given)) result }
     ensures fit { IfOk result (AreLengths low high) }
 {
     let values = elements(member);
@@ -128,7 +160,7 @@ fn judged_domain(items: Vec<Item>, low: u64, high: u64) -> Result<Domain, CapFau
     requires some { 1 ≤ length items.items }
     requires most { length items.items ≤ 32 }
     requires limit { high ≤ 524288 }
-    ensures read { IsReadBy (length_tests low high items.items) (Some (members items.items)) result }
+    ensures read { IsReadBy (length_conditions low high items.items) (Some (members items.items)) result }
     ensures fit { IfOk result (AreLengths low high) }
 {
     if !are_byte_oriented(&items) {

@@ -5,8 +5,8 @@ ghost use Rattle.std.specs.List.{list_all, filter_map};
 ghost use Rattle.serde_json.specs.View.{view};
 ghost use Rattle.acvp_caps.specs.Items.{has, first, last, is_formed, is_byte_oriented, item_within};
 ghost use Rattle.acvp_caps.specs.Registered.{item_of, range_of, is_item};
-ghost use Rattle.acvp_caps.specs.Walk.{IsNext, AllFormed};
-ghost use Rattle.acvp_caps.specs.Written.{item_data};
+ghost use Rattle.acvp_caps.specs.Private.Walk.{IsNext, AllFormed};
+ghost use Rattle.acvp_caps.specs.Private.Written.{item_data};
 
 use crate::CapFault;
 use crate::json::number_at;
@@ -172,9 +172,7 @@ pub(crate) fn read_items(alloc: Global, values: &[Value]) -> Result<Vec<Item>, C
         let Some(item) = read_item(value) else {
             return Err(CapFault::Field);
         };
-        if items.push(item).is_err() {
-            return Err(CapFault::Memory);
-        }
+        items.push(item)?;
     }
     Ok(items)
 }

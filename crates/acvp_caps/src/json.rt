@@ -1,4 +1,4 @@
-//! What a JSON value has at a name.
+//! What a JSON value has at a name, as registrations and the other bodies are read.
 
 ghost use Rattle.std.specs.Prelude.{◌≡◌, option_map, map};
 ghost use Rattle.serde_json.specs.Find.{as_array};
@@ -7,15 +7,15 @@ ghost use Rattle.acvp_caps.specs.Json.{number_at, text_at, is_text, flag, array_
 
 use serde_json::Value;
 
-/// The whole number at a name.
-pub(crate) fn number_at(object: &Value, name: &str) -> Option<u64>
+/// The whole number at a name, from 0 on and below 2^64; none where the member is absent or anything else.
+pub fn number_at(object: &Value, name: &str) -> Option<u64>
     ensures { result ≡ number_at name.now (view object.now) }
 {
     object.get(name).and_then(Value::as_u64)
 }
 
-/// The text at a name.
-pub(crate) fn text_at<'a>(object: &'a Value, name: &str) -> Option<&'a str>
+/// The text at a name; none where the member is absent or no text.
+pub fn text_at<'a>(object: &'a Value, name: &str) -> Option<&'a str>
     ensures { option_map (λ s. s.now) result ≡ text_at name.now (view object.now) }
 {
     match object.get(name) {
@@ -25,7 +25,7 @@ pub(crate) fn text_at<'a>(object: &'a Value, name: &str) -> Option<&'a str>
 }
 
 /// Whether a text is there and is this one.
-pub(crate) fn is_text(text: Option<&str>, wanted: &str) -> bool
+pub fn is_text(text: Option<&str>, wanted: &str) -> bool
     ensures { result ≡ is_text wanted.now (option_map (λ s. s.now) text.entry) }
 {
     match text {
@@ -35,7 +35,7 @@ pub(crate) fn is_text(text: Option<&str>, wanted: &str) -> bool
 }
 
 /// The truth value of a member, which is false where the member is absent.
-pub(crate) fn flag(member: Option<&Value>) -> Option<bool>
+pub fn flag(member: Option<&Value>) -> Option<bool>
     ensures { result ≡ flag (option_map (λ v. view v.now) member.entry) }
 {
     match member {
@@ -45,7 +45,7 @@ pub(crate) fn flag(member: Option<&Value>) -> Option<bool>
 }
 
 /// The elements of an array, and none of anything else.
-pub(crate) fn elements(member: Option<&Value>) -> &[Value]
+pub fn elements(member: Option<&Value>) -> &[Value]
     ensures { map view result.now ≡ elements (option_map (λ v. view v.now) member.entry) }
 {
     match member {
@@ -65,7 +65,7 @@ fn array_elements(value: &Value) -> &[Value]
 }
 
 /// Whether a member is absent, or an array.
-pub(crate) fn is_optional_array(member: Option<&Value>) -> bool
+pub fn is_optional_array(member: Option<&Value>) -> bool
     ensures { result ≡ is_optional_array (option_map (λ v. view v.now) member.entry) }
 {
     match member {

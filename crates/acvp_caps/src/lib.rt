@@ -2,16 +2,20 @@
 //! the registrations that claim them.
 #![tactic(auto)]
 
+ghost use Rattle.std.specs.Prelude.{◌≡◌};
+ghost use Rattle.acvp_caps.specs.declared.CapFault.TheVariants.{Memory};
+
 pub use algorithm::Algorithm;
 pub use capability::{Capability, Domains};
 pub use domain::{Domain, members_are_exact};
 pub use registration::{Registration, read_registration};
+use std::alloc::{AllocError, AllocFailed};
 
 mod algorithm;
 mod capability;
 mod domain;
 mod item;
-mod json;
+pub mod json;
 mod registration;
 #[cfg(test)]
 mod tests;
@@ -20,18 +24,34 @@ mod walk;
 /// Why a registration, or one capability, is not read.
 #[derive(Clone, Copy, PartialEq, Eq, Debug)]
 pub enum CapFault {
-    /// A member is absent, or has not the form that it needs.
+    /// 1: a member is absent, or has not the form that it needs. The rule bodyField (33).
     Field,
 
-    /// A length is not a whole number of bytes.
+    /// 2: a length is not a whole number of bytes. The rule notByteOriented (34).
     NotByteOriented,
 
-    /// A length is outside what the algorithm is tested at.
+    /// 3: a length is outside what the algorithm is tested at. The rule lengthOutOfRange (35).
     OutOfRange,
 
-    /// An algorithm, a revision or an option that is not offered.
+    /// 4: an algorithm, a revision or an option that is not offered. The rule unsupported (36).
     Unsupported,
 
-    /// Memory ran out.
+    /// 5: memory was refused. The rule unavailable (45).
     Memory,
+}
+
+impl From<AllocError> for CapFault {
+    ghost from_gives = { λ _ fault. fault ≡ Memory };
+
+    fn from(_: AllocError) -> CapFault {
+        CapFault::Memory
+    }
+}
+
+impl<T: Drop> From<AllocFailed<T>> for CapFault {
+    ghost from_gives = { λ _ fault. fault ≡ Memory };
+
+    fn from(_: AllocFailed<T>) -> CapFault {
+        CapFault::Memory
+    }
 }

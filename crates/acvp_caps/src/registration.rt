@@ -3,8 +3,8 @@
 ghost use Rattle.std.specs.Prelude.{◌≡◌, ◌⊎◌, ◌≤◌, Some, None, length, map, IfOk, IfErr};
 ghost use Rattle.std.specs.List.{filter_map, flat_map};
 ghost use Rattle.serde_json.specs.View.{view};
-ghost use Rattle.acvp_caps.specs.Registered.{capability_tests, capability_at, registered};
-ghost use Rattle.acvp_caps.specs.Tests.{IsAnswer, first_broken};
+ghost use Rattle.acvp_caps.specs.Registered.{capability_conditions, capability_at, registered};
+ghost use Rattle.acvp_mac.specs.Conditions.{IsJudged, first_broken};
 
 use crate::CapFault;
 use crate::capability::{Capability, read_capability};
@@ -69,7 +69,7 @@ impl Registration {
 /// The registration that a JSON value is.
 #[tactic(auto, unfolding(crate::specs::Registered::registered))]
 pub fn read_registration(alloc: Global, value: &Value) -> Result<Registration, CapFault>
-    ensures { IsAnswer (registered (view value.now)) result }
+    ensures { IsJudged CapFault.Memory (λ registration. registration) (registered (view value.now)) result }
 {
     let values = elements(value.get("algorithms"));
     if values.is_empty() || values.len() > CAPABILITY_LIMIT {
@@ -92,18 +92,17 @@ pub fn read_registration(alloc: Global, value: &Value) -> Result<Registration, C
 
 /// The capabilities that JSON values are, where each is one.
 fn read_capabilities(alloc: Global, values: &[Value]) -> Result<Vec<Capability>, CapFault>
-    ensures ok { IfOk result (λ capabilities. (first_broken (flat_map capability_tests (map view values.now)) ≡ None)
+    ensures ok { IfOk result (λ capabilities. (first_broken (flat_map capability_conditions (map view values.now))
+        ≡ None)
         × (capabilities.items ≡ filter_map capability_at (map view values.now))) }
     ensures len { IfOk result (λ capabilities. length capabilities.items ≡ length values.now) }
     ensures err { IfErr result (λ fault. (fault ≡ CapFault.Memory)
-        ⊎ (first_broken (flat_map capability_tests (map view values.now)) ≡ Some fault)) }
+        ⊎ (first_broken (flat_map capability_conditions (map view values.now)) ≡ Some fault)) }
 {
     let mut capabilities = Vec::new(alloc);
     for value in values {
         let capability = read_capability(alloc, value)?;
-        if capabilities.push(capability).is_err() {
-            return Err(CapFault::Memory);
-        }
+        capabilities.push(capability)?;
     }
     Ok(capabilities)
 }

@@ -130,6 +130,50 @@ fn the_widest_domains_are_counted(rt: HostRuntime) -> Result<(), Fail> {
 }
 
 #[test]
+fn capabilities_are_compared_by_their_members(rt: HostRuntime) -> Result<(), Fail> {
+    let range = sha2_256(rt.alloc(), "[{\"min\":0,\"max\":48,\"increment\":16}]")?;
+    let singles = sha2_256(rt.alloc(), "[48,0,16,32,16]")?;
+    assert!(rt; range == singles);
+    assert!(rt; singles == range);
+    assert!(rt; range.clone()? == range);
+    assert!(rt; range.clone()? == singles.clone()?);
+    for other in ["[0,16,32]", "[0,16,32,48,64]", "[0,16,40,48]", "[8]"] {
+        let other = sha2_256(rt.alloc(), other)?;
+        assert!(rt; range != other);
+        assert!(rt; other != range);
+    }
+    let sha2_224 = Capability::from_text(
+        rt.alloc(),
+        r#"{"algorithm":"SHA2-224","revision":"1.0","messageLength":[0,16,32,48]}"#,
+    )?;
+    assert!(rt; sha2_224 != range);
+    assert!(rt; sha2_224.domains() == range.domains());
+
+    let hmac = Capability::from_text(
+        rt.alloc(),
+        r#"{"algorithm":"HMAC-SHA2-256","revision":"1.0","keyLen":[32,64],"macLen":[64]}"#,
+    )?;
+    assert!(rt; hmac.clone()? == hmac);
+    assert!(rt; hmac != range);
+    for (what, text) in [
+        (
+            "another key",
+            r#"{"algorithm":"HMAC-SHA2-256","revision":"1.0","keyLen":[64],"macLen":[64]}"#,
+        ),
+        (
+            "another result",
+            r#"{"algorithm":"HMAC-SHA2-256","revision":"1.0","keyLen":[32,64],"macLen":[32,64]}"#,
+        ),
+    ] {
+        assert!(rt;
+            Capability::from_text(rt.alloc(), text)? != hmac,
+            "at {what}"
+        );
+    }
+    Ok(())
+}
+
+#[test]
 fn a_capability_is_written_and_read_back(rt: HostRuntime) -> Result<(), Fail> {
     for text in [
         "{\"algorithm\":\"SHA2-256\",\"messageLength\":[{\"increment\":8,\"max\":1024,\"min\":0}],\"revision\":\"1.0\"}",

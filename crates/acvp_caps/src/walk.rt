@@ -1,9 +1,9 @@
 //! Steps upwards through the numbers of several items, with no list of them.
 
-ghost use Rattle.std.specs.Prelude.{◌≡◌, ◌<◌, ◌-◌, length, true};
+ghost use Rattle.std.specs.Prelude.{◌≡◌, ◌<◌, ◌-◌, ◌↔◌, length, true, IsTrue};
 ghost use Rattle.std.specs.List.{slice_get};
 ghost use Rattle.acvp_caps.specs.Members.{is_member, members};
-ghost use Rattle.acvp_caps.specs.Walk.{IsNext, IsGreatest, earlier, AllFormed, AllBounded};
+ghost use Rattle.acvp_caps.specs.Private.Walk.{IsNext, IsGreatest, earlier, AllFormed, AllBounded};
 
 use crate::item::Item;
 
@@ -82,4 +82,22 @@ pub(crate) fn count_members(items: &[Item]) -> u64
         next = next_member(items, n + 1);
     }
     count
+}
+
+/// Whether two lists of items have the same members. Both are walked upwards side by side.
+pub(crate) fn have_same_members(a: &[Item], b: &[Item]) -> bool
+    requires formed { AllFormed a.now × AllFormed b.now }
+    requires bounded { AllBounded a.now }
+    ensures { IsTrue result ↔ (members a.now ≡ members b.now) }
+{
+    let mut next = next_member(a, 0);
+    let mut other = next_member(b, 0);
+    while let Some(n) = next {
+        if other != Some(n) {
+            return false;
+        }
+        next = next_member(a, n + 1);
+        other = next_member(b, n + 1);
+    }
+    other.is_none()
 }

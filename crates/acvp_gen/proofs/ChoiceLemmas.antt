@@ -16,24 +16,32 @@ use Rattle.acvp_gen.specs.Choice.{ShapeValue, ends, has, ends_and_edges, drawn, 
 use Rattle.acvp_gen.specs.Choice as choice
 use Rattle.acvp_gen.specs.Words.{word_of}
 use Rattle.acvp_gen.specs.Prompts.{IsSized}
-use Rattle.acvp_gen.specs.Filling.{IsShort, IsSmall, AreSmall}
+use Rattle.acvp_gen.specs.Private.Filling.{IsShort, IsSmall, AreSmall}
 
 -- ---- what holds of each member holds of each length
 
-all_chosen : (P : ℕ → Type 0) (members : List ℕ) → All P members → (n place : ℕ) → slice_get members place ≡ Some n → P n
-all_chosen P members all n place at = subst P (get_or_from_slice_get members place n n at) (all place n (slice_get_within members place n at))
+all_chosen : (P : ℕ → Type 0) (members : List ℕ) → All P members → (n place : ℕ) → slice_get members place ≡ Some n
+    → P n
+all_chosen P members all n place at =
+    subst P (get_or_from_slice_get members place n n at) (all place n (slice_get_within members place n at))
 
-all_read : (P : ℕ → Type 0) (members : List ℕ) (place : ℕ → ℕ) (xs : List ℕ) → All P members → All P (filter_map (λ x. slice_get members (place x)) xs)
+all_read : (P : ℕ → Type 0) (members : List ℕ) (place : ℕ → ℕ) (xs : List ℕ) → All P members
+    → All P (filter_map (λ x. slice_get members (place x)) xs)
 all_read P members place [] all = All-nil P
 all_read P members place (x ∷ xs) all = more (slice_get members (place x)) refl (all_read P members place xs all)
   where
-    more : (o : Option ℕ) → slice_get members (place x) ≡ o → All P (filter_map (λ x. slice_get members (place x)) xs) → All P (filter_map (λ x. slice_get members (place x)) (x ∷ xs))
+    more : (o : Option ℕ) → slice_get members (place x) ≡ o → All P (filter_map (λ x. slice_get members (place x)) xs)
+        → All P (filter_map (λ x. slice_get members (place x)) (x ∷ xs))
     more None is rest = rw is rest
-    more (Some n) is rest = rw is (All-cons P n (filter_map (λ x. slice_get members (place x)) xs) (all_chosen P members all n (place x) is) rest)
+    more (Some n) is rest =
+        rw is (All-cons P n (filter_map (λ x. slice_get members (place x)) xs)
+        (all_chosen P members all n (place x) is) rest)
 
-all_lengths : (P : ℕ → Type 0) (edges members : List ℕ) (seed : List ℕ) (vs draws : ℕ) → All P members → All P (ends_and_edges edges members ++ drawn seed vs draws members)
+all_lengths : (P : ℕ → Type 0) (edges members : List ℕ) (seed : List ℕ) (vs draws : ℕ) → All P members
+    → All P (ends_and_edges edges members ++ drawn seed vs draws members)
 all_lengths P edges members seed vs draws all =
-    All-append P (ends_and_edges edges members) (drawn seed vs draws members) (All-filter (has (ends members ++ edges)) P members all)
+    All-append P (ends_and_edges edges members) (drawn seed vs draws members)
+    (All-filter (has (ends members ++ edges)) P members all)
     (all_read P members (λ place. word_of seed vs place % length members) (range_with_len 0 draws) all)
 
 -- ---- hash functions
@@ -41,7 +49,8 @@ all_lengths P edges members seed vs draws all =
 short_hash_test : (bits : ℕ) → bits ≤ 65536 → IsShort (hash_test bits)
 short_hash_test bits least = record { key = omega arith; message = least }
 
-small_hash_shape : (kind : GroupKind) (lengths : List ℕ) → length lengths ≤ 26 → All (λ n. n ≤ 65536) lengths → IsSmall (hash_shape kind lengths)
+small_hash_shape : (kind : GroupKind) (lengths : List ℕ) → length lengths ≤ 26 → All (λ n. n ≤ 65536) lengths
+    → IsSmall (hash_shape kind lengths)
 small_hash_shape kind lengths few short = record {
   few = omega (arith, length-map lengths hash_test, few);
   short = All-map IsShort hash_test lengths (λ k d within. short_hash_test (get_or lengths k d) (short k d within));
@@ -50,23 +59,32 @@ small_hash_shape kind lengths few short = record {
 one_length : (n : ℕ) → n ≤ 65536 → All (λ n. n ≤ 65536) (n ∷ [])
 one_length n most = All-cons (λ n. n ≤ 65536) n [] most (All-nil (λ n. n ≤ 65536))
 
-pub small_hash_shapes : (seed : List ℕ) (vs : ℕ) (a : Algorithm) (members : List ℕ) → AreLengths 0 65536 members → length (message_lengths seed vs a members) ≤ 26 → digest_bits a ≤ 512 → AreSmall (hash_shapes seed vs a members)
+pub small_hash_shapes : (seed : List ℕ) (vs : ℕ) (a : Algorithm) (members : List ℕ) → AreLengths 0 65536 members
+    → length (message_lengths seed vs a members) ≤ 26 → digest_bits a ≤ 512 → AreSmall (hash_shapes seed vs a members)
 small_hash_shapes seed vs a members fit few short = at (has members (3 * digest_bits a))
   where
     functional : IsSmall (hash_shape Functional (message_lengths seed vs a members))
     functional = small_hash_shape Functional (message_lengths seed vs a members) few
-        (all_lengths (λ n. n ≤ 65536) (choice.message_edges (block_bits a)) members seed vs choice.message_draws (λ k d within. (fit.within k d within).1))
+        (all_lengths (λ n. n ≤ 65536) (choice.message_edges (block_bits a)) members seed vs choice.message_draws
+        (λ k d within. (fit.within k d within).1))
 
     monte_carlo : IsSmall (hash_shape MonteCarlo (digest_bits a ∷ []))
-    monte_carlo = small_hash_shape MonteCarlo (digest_bits a ∷ []) (omega arith) (one_length (digest_bits a) (omega (arith, short)))
+    monte_carlo = small_hash_shape MonteCarlo (digest_bits a
+        ∷ []) (omega arith) (one_length (digest_bits a) (omega (arith, short)))
 
-    at : (b : Bool) → AreSmall (hash_shape Functional (message_lengths seed vs a members) ∷ cond b (hash_shape MonteCarlo (digest_bits a ∷ []) ∷ []) [])
+    at : (b : Bool) → AreSmall (hash_shape Functional (message_lengths seed vs a members)
+        ∷ cond b (hash_shape MonteCarlo (digest_bits a ∷ []) ∷ []) [])
     at true = record {
       few = omega arith;
-      small = All-cons IsSmall (hash_shape Functional (message_lengths seed vs a members)) (hash_shape MonteCarlo (digest_bits a ∷ []) ∷ []) functional
+      small = All-cons IsSmall (hash_shape Functional (message_lengths seed vs a members))
+          (hash_shape MonteCarlo (digest_bits a ∷ []) ∷ []) functional
           (All-cons IsSmall (hash_shape MonteCarlo (digest_bits a ∷ [])) [] monte_carlo (All-nil IsSmall));
     }
-    at false = record { few = omega arith; small = All-cons IsSmall (hash_shape Functional (message_lengths seed vs a members)) [] functional (All-nil IsSmall) }
+    at false = record {
+      few = omega arith;
+      small = All-cons IsSmall (hash_shape Functional (message_lengths seed vs a members)) [] functional
+          (All-nil IsSmall);
+    }
 
 -- ---- HMAC
 
@@ -76,56 +94,84 @@ small_hmac_shape key mac most =
     record {
       few = omega arith;
       short = All-cons IsShort (hmac_test key) (hmac_test key ∷ hmac_test key ∷ []) short
-          (All-cons IsShort (hmac_test key) (hmac_test key ∷ []) short (All-cons IsShort (hmac_test key) [] short (All-nil IsShort)));
+          (All-cons IsShort (hmac_test key) (hmac_test key
+          ∷ []) short (All-cons IsShort (hmac_test key) [] short (All-nil IsShort)));
     }
 
 small_for_key : (key : ℕ) (macs : List ℕ) → key ≤ 524288 → All IsSmall (map (hmac_shape key) macs)
-small_for_key key macs most = All-map IsSmall (hmac_shape key) macs (λ k d within. small_hmac_shape key (get_or macs k d) most)
+small_for_key key macs most =
+    All-map IsSmall (hmac_shape key) macs (λ k d within. small_hmac_shape key (get_or macs k d) most)
 
-all_small : (keys macs : List ℕ) → All (λ n. n ≤ 524288) keys → All IsSmall (flat_map (λ key. map (hmac_shape key) macs) keys)
+all_small : (keys macs : List ℕ) → All (λ n. n ≤ 524288) keys
+    → All IsSmall (flat_map (λ key. map (hmac_shape key) macs) keys)
 all_small [] macs most = All-nil IsSmall
 all_small (key ∷ keys) macs most =
-    All-append IsSmall (map (hmac_shape key) macs) (flat_map (λ key. map (hmac_shape key) macs) keys) (small_for_key key macs (All-head (λ n. n ≤ 524288) key keys most))
+    All-append IsSmall (map (hmac_shape key) macs) (flat_map (λ key. map (hmac_shape key) macs) keys)
+    (small_for_key key macs (All-head (λ n. n ≤ 524288) key keys most))
     (all_small keys macs (All-tail (λ n. n ≤ 524288) key keys most))
 
-few_groups : (keys macs : List ℕ) → length macs ≤ 2 → length (flat_map (λ key. map (hmac_shape key) macs) keys) ≤ 2 * length keys
+few_groups : (keys macs : List ℕ) → length macs ≤ 2
+    → length (flat_map (λ key. map (hmac_shape key) macs) keys) ≤ 2 * length keys
 few_groups [] macs few = omega arith
 few_groups (key ∷ keys) macs few =
-    omega (arith, few_groups keys macs few, length-map macs (hmac_shape key), length-append (map (hmac_shape key) macs) (flat_map (λ key. map (hmac_shape key) macs) keys), few)
+    omega (
+      arith,
+      few_groups keys macs few,
+      length-map macs (hmac_shape key),
+      length-append (map (hmac_shape key) macs) (flat_map (λ key. map (hmac_shape key) macs) keys),
+      few,
+    )
 
-pub small_hmac_shapes : (seed : List ℕ) (vs : ℕ) (a : Algorithm) (keys macs : List ℕ) → AreLengths 8 524288 keys → length (key_lengths seed vs a keys) ≤ 7 → length (mac_lengths macs) ≤ 2 → AreSmall (hmac_shapes seed vs a keys macs)
+pub small_hmac_shapes : (seed : List ℕ) (vs : ℕ) (a : Algorithm) (keys macs : List ℕ) → AreLengths 8 524288 keys
+    → length (key_lengths seed vs a keys) ≤ 7 → length (mac_lengths macs) ≤ 2
+    → AreSmall (hmac_shapes seed vs a keys macs)
 small_hmac_shapes seed vs a keys macs fit few_keys few_macs = record {
   few = omega (arith, few_groups (key_lengths seed vs a keys) (mac_lengths macs) few_macs, few_keys);
   small = all_small (key_lengths seed vs a keys) (mac_lengths macs)
-      (all_lengths (λ n. n ≤ 524288) (choice.key_edges (block_bits a)) keys seed vs choice.key_draws (λ k d within. (fit.within k d within).1));
+      (all_lengths (λ n. n ≤ 524288) (choice.key_edges (block_bits a)) keys seed vs choice.key_draws
+      (λ k d within. (fit.within k d within).1));
 }
 
 -- ---- sizes
 
-sized_for_key : (a : Algorithm) (key : ℕ) (macs : List ℕ) → All (λ n. n ≤ digest_bits a) macs → All (λ s. IsSized a s.sizes) (map (hmac_shape key) macs)
+sized_for_key : (a : Algorithm) (key : ℕ) (macs : List ℕ) → All (λ n. n ≤ digest_bits a) macs
+    → All (λ s. IsSized a s.sizes) (map (hmac_shape key) macs)
 sized_for_key a key macs most = All-map (λ s. IsSized a s.sizes) (hmac_shape key) macs most
 
-sized_for_keys : (a : Algorithm) (keys macs : List ℕ) → All (λ n. n ≤ digest_bits a) macs → All (λ s. IsSized a s.sizes) (flat_map (λ key. map (hmac_shape key) macs) keys)
+sized_for_keys : (a : Algorithm) (keys macs : List ℕ) → All (λ n. n ≤ digest_bits a) macs
+    → All (λ s. IsSized a s.sizes) (flat_map (λ key. map (hmac_shape key) macs) keys)
 sized_for_keys a [] macs most = All-nil (λ s. IsSized a s.sizes)
 sized_for_keys a (key ∷ keys) macs most =
-    All-append (λ s. IsSized a s.sizes) (map (hmac_shape key) macs) (flat_map (λ key. map (hmac_shape key) macs) keys) (sized_for_key a key macs most) (sized_for_keys a keys macs most)
+    All-append (λ s. IsSized a s.sizes) (map (hmac_shape key) macs) (flat_map (λ key. map (hmac_shape key) macs) keys)
+    (sized_for_key a key macs most) (sized_for_keys a keys macs most)
 
-sized_hmac : (seed : List ℕ) (vs : ℕ) (a : Algorithm) (keys macs : List ℕ) → AreLengths 32 (digest_bits a) macs → All (λ s. IsSized a s.sizes) (hmac_shapes seed vs a keys macs)
+sized_hmac : (seed : List ℕ) (vs : ℕ) (a : Algorithm) (keys macs : List ℕ) → AreLengths 32 (digest_bits a) macs
+    → All (λ s. IsSized a s.sizes) (hmac_shapes seed vs a keys macs)
 sized_hmac seed vs a keys macs fit =
-    sized_for_keys a (key_lengths seed vs a keys) (mac_lengths macs) (All-filter (has (ends macs ++ [])) (λ n. n ≤ digest_bits a) macs (λ k d within. (fit.within k d within).1))
+    sized_for_keys a (key_lengths seed vs a keys) (mac_lengths macs)
+    (All-filter (has (ends macs ++ [])) (λ n. n ≤ digest_bits a) macs (λ k d within. (fit.within k d within).1))
 
-sized_hash : (seed : List ℕ) (vs : ℕ) (a : Algorithm) (members : List ℕ) → All (λ s. IsSized a s.sizes) (hash_shapes seed vs a members)
+sized_hash : (seed : List ℕ) (vs : ℕ) (a : Algorithm) (members : List ℕ)
+    → All (λ s. IsSized a s.sizes) (hash_shapes seed vs a members)
 sized_hash seed vs a members = at (has members (3 * digest_bits a))
   where
-    at : (b : Bool) → All (λ s. IsSized a s.sizes) (hash_shape Functional (message_lengths seed vs a members) ∷ cond b (hash_shape MonteCarlo (digest_bits a ∷ []) ∷ []) [])
-    at true = All-cons (λ s. IsSized a s.sizes) (hash_shape Functional (message_lengths seed vs a members)) (hash_shape MonteCarlo (digest_bits a ∷ []) ∷ []) tt
-        (All-cons (λ s. IsSized a s.sizes) (hash_shape MonteCarlo (digest_bits a ∷ [])) [] tt (All-nil (λ s. IsSized a s.sizes)))
-    at false = All-cons (λ s. IsSized a s.sizes) (hash_shape Functional (message_lengths seed vs a members)) [] tt (All-nil (λ s. IsSized a s.sizes))
+    at : (b : Bool) → All (λ s. IsSized a s.sizes) (hash_shape Functional (message_lengths seed vs a members)
+        ∷ cond b (hash_shape MonteCarlo (digest_bits a ∷ []) ∷ []) [])
+    at true = All-cons (λ s. IsSized a s.sizes) (hash_shape Functional (message_lengths seed vs a members))
+        (hash_shape MonteCarlo (digest_bits a ∷ []) ∷ []) tt
+        (All-cons (λ s. IsSized a s.sizes) (hash_shape MonteCarlo (digest_bits a ∷ [])) [] tt
+        (All-nil (λ s. IsSized a s.sizes)))
+    at false = All-cons (λ s. IsSized a s.sizes) (hash_shape Functional (message_lengths seed vs a members)) [] tt
+        (All-nil (λ s. IsSized a s.sizes))
 
-of_hmac : (bits : ℕ) (b : Bool) (keys macs : List ℕ) → MatchBool b (AreHmacDomains bits (KeyAndMac keys macs)) (AreHashDomains (KeyAndMac keys macs)) → AreLengths 32 bits macs
+of_hmac : (bits : ℕ) (b : Bool) (keys macs : List ℕ)
+    → MatchBool b (AreHmacDomains bits (KeyAndMac keys macs)) (AreHashDomains (KeyAndMac keys macs))
+    → AreLengths 32 bits macs
 of_hmac bits true keys macs fit = fit.1
 of_hmac bits false keys macs fit = absurd fit
 
-pub sized_shapes : (seed : List ℕ) (vs : ℕ) (a : Algorithm) (domains : Domains) → AreDomainsOf a domains → All (λ s. IsSized a s.sizes) (shapes_on seed vs a domains)
+pub sized_shapes : (seed : List ℕ) (vs : ℕ) (a : Algorithm) (domains : Domains) → AreDomainsOf a domains
+    → All (λ s. IsSized a s.sizes) (shapes_on seed vs a domains)
 sized_shapes seed vs a (Message members) fit = sized_hash seed vs a members
-sized_shapes seed vs a (KeyAndMac keys macs) fit = sized_hmac seed vs a keys macs (of_hmac (digest_bits a) (is_hmac_of a) keys macs fit)
+sized_shapes seed vs a (KeyAndMac keys macs) fit =
+    sized_hmac seed vs a keys macs (of_hmac (digest_bits a) (is_hmac_of a) keys macs fit)

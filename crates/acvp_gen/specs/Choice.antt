@@ -35,9 +35,11 @@ has numbers n = list_any (λ m. m == n) numbers
 abbrev pub ends_and_edges : List ℕ → List ℕ → List ℕ
 ends_and_edges edges members = filter (has (ends members ++ edges)) members
 
--- so many draws: each takes a word of the stream, and gives the member whose place is the word modulo the members' number
+-- so many draws: each takes a word of the stream, and gives the member whose place is the word modulo the members'
+-- number
 abbrev pub drawn : List ℕ → ℕ → ℕ → List ℕ → List ℕ
-drawn seed vs draws members = filter_map (λ place. slice_get members (word_of seed vs place % length members)) (range_with_len 0 draws)
+drawn seed vs draws members = filter_map (λ place. slice_get members (word_of seed vs place % length members))
+    (range_with_len 0 draws)
 
 -- how many members are drawn: of a hash function's message lengths, and of HMAC's key lengths
 abbrev pub message_draws : ℕ
@@ -46,7 +48,8 @@ message_draws = 16
 abbrev pub key_draws : ℕ
 key_draws = 2
 
--- the edges of messages, by the bits of a block: none and one byte, around where the padding (FIPS 180-4, section 5.1) needs another block, around one block, and two
+-- the edges of messages, by the bits of a block: none and one byte, around where the padding (FIPS 180-4, section 5.1)
+-- needs another block, around one block, and two
 abbrev pub message_edges : ℕ → List ℕ
 message_edges block = if block == 512
     then 0 ∷ 8 ∷ 440 ∷ 448 ∷ 504 ∷ 512 ∷ 520 ∷ 1024 ∷ []
@@ -57,10 +60,12 @@ abbrev pub key_edges : ℕ → List ℕ
 key_edges block = (block - 8) ∷ block ∷ (block + 8) ∷ []
 
 abbrev pub message_lengths : List ℕ → ℕ → Algorithm → List ℕ → List ℕ
-message_lengths seed vs algorithm members = ends_and_edges (message_edges (block_bits algorithm)) members ++ drawn seed vs message_draws members
+message_lengths seed vs algorithm members = ends_and_edges (message_edges (block_bits algorithm)) members
+    ++ drawn seed vs message_draws members
 
 abbrev pub key_lengths : List ℕ → ℕ → Algorithm → List ℕ → List ℕ
-key_lengths seed vs algorithm members = ends_and_edges (key_edges (block_bits algorithm)) members ++ drawn seed vs key_draws members
+key_lengths seed vs algorithm members = ends_and_edges (key_edges (block_bits algorithm)) members
+    ++ drawn seed vs key_draws members
 
 abbrev pub mac_lengths : List ℕ → List ℕ
 mac_lengths members = ends_and_edges [] members
@@ -79,7 +84,8 @@ abbrev pub monte_carlo_shapes : ℕ → List ℕ → List ShapeValue
 monte_carlo_shapes digest members = if has members (3 * digest) then hash_shape MonteCarlo (digest ∷ []) ∷ [] else []
 
 abbrev pub hash_shapes : List ℕ → ℕ → Algorithm → List ℕ → List ShapeValue
-hash_shapes seed vs algorithm members = hash_shape Functional (message_lengths seed vs algorithm members) ∷ monte_carlo_shapes (digest_bits algorithm) members
+hash_shapes seed vs algorithm members = hash_shape Functional (message_lengths seed vs algorithm members)
+    ∷ monte_carlo_shapes (digest_bits algorithm) members
 
 -- the bits of an HMAC test's message
 abbrev pub hmac_message : ℕ
@@ -94,10 +100,16 @@ hmac_sizes key mac = record { key_bits = key; message_bits = hmac_message; mac_b
 
 -- three tests of a pair of a key's length and a MAC's
 abbrev pub hmac_shape : ℕ → ℕ → ShapeValue
-hmac_shape key mac = record { kind = Functional; sizes = Some (hmac_sizes key mac); tests = hmac_test key ∷ hmac_test key ∷ hmac_test key ∷ [] }
+hmac_shape key mac = record {
+  kind = Functional;
+  sizes = Some (hmac_sizes key mac);
+  tests = hmac_test key
+      ∷ hmac_test key ∷ hmac_test key ∷ [];
+}
 
 abbrev pub hmac_shapes : List ℕ → ℕ → Algorithm → List ℕ → List ℕ → List ShapeValue
-hmac_shapes seed vs algorithm keys macs = flat_map (λ key. map (hmac_shape key) (mac_lengths macs)) (key_lengths seed vs algorithm keys)
+hmac_shapes seed vs algorithm keys macs =
+    flat_map (λ key. map (hmac_shape key) (mac_lengths macs)) (key_lengths seed vs algorithm keys)
 
 abbrev pub shapes_on : List ℕ → ℕ → Algorithm → Domains → List ShapeValue
 shapes_on seed vs algorithm (Message members) = hash_shapes seed vs algorithm members

@@ -22,19 +22,26 @@ test_at seed vs number place test = record {
   key = bytes_of seed vs place (test.key_bits / 8);
 }
 
--- A test, by those that come before it: it is numbered after them, and its bytes begin behind the draws and the words of theirs.
+-- A test, by those that come before it: it is numbered after them, and its bytes begin behind the draws and the words
+-- of theirs.
 abbrev pub test_after : List ℕ → ℕ → ℕ → List TestShape → TestShape → TestValue
 test_after seed vs draws before test = test_at seed vs (length before + 1) (draws + sum_by words_of_test before) test
 
 abbrev pub tests_after : List ℕ → ℕ → ℕ → List TestShape → List TestShape → List TestValue
 tests_after seed vs draws before [] = []
-tests_after seed vs draws before (test ∷ tests) = test_after seed vs draws before test ∷ tests_after seed vs draws (before ++ test ∷ []) tests
+tests_after seed vs draws before (test ∷ tests) = test_after seed vs draws before test
+    ∷ tests_after seed vs draws (before ++ test ∷ []) tests
 
 -- the groups from a number on, by the tests that come before them
 abbrev pub groups_after : List ℕ → ℕ → ℕ → List TestShape → ℕ → List ShapeValue → List GroupValue
 groups_after seed vs draws before number [] = []
 groups_after seed vs draws before number (shape ∷ shapes) =
-    record { number = number; kind = shape.kind; sizes = shape.sizes; tests = tests_after seed vs draws before shape.tests }
+    record {
+      number = number;
+      kind = shape.kind;
+      sizes = shape.sizes;
+      tests = tests_after seed vs draws before shape.tests;
+    }
     ∷ groups_after seed vs draws (before ++ shape.tests) (suc number) shapes
 
 -- the prompts of a capability, under a seed and a vector set's number
@@ -42,7 +49,8 @@ abbrev pub prompts_of : List ℕ → ℕ → CapabilityValue → PromptsValue
 prompts_of seed vs capability = record {
   vs = vs;
   algorithm = capability.algorithm;
-  groups = groups_after seed vs (draws_on capability.domains) [] 1 (shapes_on seed vs capability.algorithm capability.domains);
+  groups = groups_after seed vs (draws_on capability.domains) [] 1
+      (shapes_on seed vs capability.algorithm capability.domains);
 }
 
 -- all tests of groups, in their order

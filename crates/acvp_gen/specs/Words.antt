@@ -4,8 +4,8 @@ use Rattle.std.specs.Int.{to_le_bytes, w32}
 use Rattle.std.specs.List.{flat_map, range_with_len}
 use Rattle.rand_chacha.specs.ChaCha.{word_at, key_of}
 
--- the word at a place of the stream: the block function of RFC 8439, section 2.3, under the seed as the key, with a block counter
--- and a stream number of 64 bits each
+-- the word at a place of the stream: the block function of RFC 8439, section 2.3, under the seed as the key, with a
+-- block counter and a stream number of 64 bits each
 abbrev pub word_of : List ℕ → ℕ → ℕ → ℕ
 word_of seed vs place = word_at 10 (key_of seed) vs place
 

@@ -4,7 +4,7 @@ ghost use Rattle.std.specs.Prelude.{◌≡◌, ◌≤◌, ◌++◌, All, length,
 ghost use Rattle.std.specs.List.Sorted.{IsStrictlyIncreasing};
 ghost use Rattle.acvp_caps.specs.Capability.{AreLengths, AreDomainsOf};
 ghost use Rattle.acvp_gen.specs.Choice.{hash_test, hash_shape, monte_carlo_shapes, hash_shapes, hmac_shape, hmac_shapes, shapes_on, draws_on};
-ghost use Rattle.acvp_gen.specs.Filling.{AreSmall};
+ghost use Rattle.acvp_gen.specs.Private.Filling.{AreSmall};
 ghost use Rattle.acvp_gen.specs.Prompts.{IsSized};
 
 use crate::group::{GroupKind, Sizes};
@@ -37,7 +37,8 @@ fn hash_shape(alloc: Global, kind: GroupKind, lengths: &[u64]) -> Result<Shape, 
     })
 }
 
-/// The groups of a hash function: the functional tests, and a Monte Carlo test where three times the digest's bits is a member.
+/// The groups of a hash function: the functional tests, and a Monte Carlo test where three times the digest's bits is a
+/// member.
 fn hash_shapes(
     alloc: Global,
     seed: &[u8; 32],

@@ -4,7 +4,7 @@ ghost use Rattle.std.specs.Prelude.{◌≡◌, ◌≤◌, ◌+◌, ◌*◌, ◌/
 ghost use Rattle.std.specs.List.{sum_by};
 ghost use Rattle.acvp_caps.specs.declared.algorithm.Algorithm.{Algorithm};
 ghost use Rattle.acvp_gen.specs.Prompts.{test_at, words_of_test, groups_after, AreNumbered, IsSized};
-ghost use Rattle.acvp_gen.specs.Filling.{tests_from, groups_from, IsShort, IsSmall, AreSmall};
+ghost use Rattle.acvp_gen.specs.Private.Filling.{tests_from, groups_from, IsShort, IsSmall, AreSmall};
 
 use crate::group::Group;
 use crate::shape::{Shape, TestShape};
@@ -99,7 +99,8 @@ pub(crate) fn groups_from(
     ensures value { IfOk result (λ groups. groups.items ≡ groups_from seed.now vs 1 1 draws shapes.now) }
     ensures after { IfOk result (λ groups. groups.items ≡ groups_after seed.now vs draws [] 1 shapes.now) }
     ensures numbered { IfOk result (λ groups. AreNumbered groups.items) }
-    ensures sized { (a : Algorithm) → All (λ s. IsSized a s.sizes) shapes.now → IfOk result (λ groups. All (λ g. IsSized a g.sizes) groups.items) }
+    ensures sized { (a : Algorithm) → All (λ s. IsSized a s.sizes) shapes.now
+        → IfOk result (λ groups. All (λ g. IsSized a g.sizes) groups.items) }
 {
     let mut groups = Vec::with_capacity(alloc, shapes.len())?;
     let mut group = 1;

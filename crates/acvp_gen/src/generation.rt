@@ -9,8 +9,8 @@ use crate::prompt::Prompts;
 use acvp_caps::Capability;
 use std::alloc::{AllocError, Global};
 
-/// The prompts of the vector set of a number for a capability. The seed and the number choose which members are drawn and every
-/// byte of the tests.
+/// The prompts of the vector set of a number for a capability. The seed and the number choose which members are drawn
+/// and every byte of the tests.
 pub fn prompts(
     alloc: Global,
     seed: &[u8; 32],

@@ -2,7 +2,7 @@
 
 ghost use Rattle.std.specs.Prelude.{◌≡◌, ◌≤◌, ◌+◌, ◌++◌, length, IfOk};
 ghost use Rattle.std.specs.List.Sorted.{IsStrictlyIncreasing};
-ghost use Rattle.acvp_gen.specs.Candidates.{candidates};
+ghost use Rattle.acvp_gen.specs.Private.Candidates.{candidates};
 ghost use Rattle.acvp_gen.specs.Choice.{ends_and_edges, drawn, message_edges, message_lengths, key_lengths, mac_lengths};
 
 use crate::words::word;

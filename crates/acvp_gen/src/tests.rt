@@ -1,5 +1,5 @@
-//! Words and prompts against RFC 8439, appendix A.1, and against OpenSSL's `chacha20` with the counter and the nonce of the same
-//! block, from whose output lengths and bytes were taken by the rules of the choice.
+//! Words and prompts against RFC 8439, appendix A.1, and against OpenSSL's `chacha20` with the counter and the nonce of
+//! the same block, from whose output lengths and bytes were taken by the rules of the choice.
 
 use crate::{Group, GroupKind, Prompts, Sizes, Test, prompts, word_bytes};
 use acvp_caps::{Algorithm, CapFault, Capability};
@@ -239,7 +239,8 @@ fn no_monte_carlo_test_where_three_digests_are_no_member(rt: HostRuntime) -> Res
     Ok(())
 }
 
-// The groups are the pairs of these keys' and MACs' bits, each with three tests of messages of 128 bits, numbered in order.
+// The groups are the pairs of these keys' and MACs' bits, each with three tests of messages of 128 bits, numbered in
+// order.
 fn assert_sizes(rt: &impl Abort, prompts: &Prompts, keys: &[u64], macs: &[u64]) {
     let mut groups = prompts.groups().iter();
     let mut number = 1u64;

@@ -19,8 +19,8 @@ pub(crate) fn word(seed: &[u8; 32], vs: u64, place: u64) -> u32
     words.next_word()
 }
 
-/// The word at a place of the ChaCha20 stream (RFC 8439, section 2.3, with a block counter and a stream number of 64 bits each)
-/// of a vector set's number under the seed: its four bytes, least significant first. It takes no memory.
+/// The word at a place of the ChaCha20 stream (RFC 8439, section 2.3, with a block counter and a stream number of 64
+/// bits each) of a vector set's number under the seed: its four bytes, least significant first. It takes no memory.
 pub fn word_bytes(seed: &[u8; 32], vs: u64, place: u64) -> [u8; 4]
     requires { place < 2 ^ 32 }
     ensures { result ≡ word_bytes_of seed.now vs place }

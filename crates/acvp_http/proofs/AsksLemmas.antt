@@ -3,26 +3,29 @@ use Rattle.std.proofs.Common.{◌≡◌, ◌<◌, ◌⊎◌, ⊎_elim, ℕ, ◌-
 use Rattle.std.specs.Prelude.{nat_lt, MatchBool}
 use Rattle.httparse.specs.Grammar.{RequestHead, ReadsRequest}
 use Rattle.httparse.proofs.GrammarLemmas.{request_unique}
-use Rattle.acvp_http.specs.declared.rule.Rule.TheVariants.{BadHead, HeadTooLarge}
-use Rattle.acvp_http.specs.Asks.{Ask, refused, Asks, AsksBlock, IsBlockEnd, HasNoEmptyLine, ends_empty, asked, window, line_count}
+use Rattle.acvp_policy.specs.declared.rule.Rule.TheVariants.{BadHead, HeadTooLarge}
+use Rattle.acvp_http.specs.Asks.{ParsedRequest, refused, Asks, AsksBlock, IsBlockEnd, HasNoEmptyLine, ends_empty, asked, window, line_count}
 
 -- what the code may say of a block that isn't too long
-abbrev AsksHead : List ℕ → List ℕ → Ask → Type 0
+abbrev AsksHead : List ℕ → List ℕ → ParsedRequest → Type 0
 AsksHead block rest ask =
     ((ask ≡ refused BadHead) × ((head : RequestHead) → ReadsRequest block head [] → ⊥))
     ⊎ ((head : RequestHead) × ReadsRequest block head [] × (ask ≡ asked head rest))
 
-head_unique : (block rest : List ℕ) (a b : Ask) → AsksHead block rest a → AsksHead block rest b → a ≡ b
+head_unique : (block rest : List ℕ) (a b : ParsedRequest) → AsksHead block rest a → AsksHead block rest b → a ≡ b
 head_unique block rest a b x y =
     ⊎_elim (λ p. ⊎_elim (λ q. p.0 ∙ sym q.0) (λ q. absurd (p.1 q.0 q.1)) y)
     (λ p. ⊎_elim (λ q. absurd (q.1 p.0 p.1))
-    (λ q. p.2 ∙ (ap (λ (head : RequestHead). asked head rest) (request_unique block p.0 q.0 [] [] p.1 q.1).0 ∙ sym q.2)) y) x
+    (λ q. p.2 ∙ (ap (λ (head : RequestHead). asked head rest) (request_unique block p.0 q.0 [] [] p.1 q.1).0
+    ∙ sym q.2)) y) x
 
-block_unique_by : (block rest : List ℕ) (a b : Ask) (long : Bool) → MatchBool long (a ≡ refused HeadTooLarge) (AsksHead block rest a) → MatchBool long (b ≡ refused HeadTooLarge) (AsksHead block rest b) → a ≡ b
+block_unique_by : (block rest : List ℕ) (a b : ParsedRequest) (long : Bool)
+    → MatchBool long (a ≡ refused HeadTooLarge) (AsksHead block rest a)
+    → MatchBool long (b ≡ refused HeadTooLarge) (AsksHead block rest b) → a ≡ b
 block_unique_by block rest a b true x y = x ∙ sym y
 block_unique_by block rest a b false x y = head_unique block rest a b x y
 
-block_unique : (block rest : List ℕ) (a b : Ask) → AsksBlock block rest a → AsksBlock block rest b → a ≡ b
+block_unique : (block rest : List ℕ) (a b : ParsedRequest) → AsksBlock block rest a → AsksBlock block rest b → a ≡ b
 block_unique block rest a b x y = block_unique_by block rest a b (nat_lt 64 (line_count block - 2)) x y
 
 -- a text that is the shortest to end in an empty line has one length
@@ -45,9 +48,10 @@ end_or_none bytes n none x =
     cc
 
 -- no bytes ask for two things
-pub asks-unique : (bytes : List ℕ) (a b : Ask) → Asks bytes a → Asks bytes b → a ≡ b
+pub asks-unique : (bytes : List ℕ) (a b : ParsedRequest) → Asks bytes a → Asks bytes b → a ≡ b
 asks-unique bytes a b x y =
     ⊎_elim (λ p. ⊎_elim (λ q. p.1 ∙ sym q.1) (λ q. absurd (end_or_none (window bytes) q.0 p.0 q.1)) y)
     (λ p. ⊎_elim (λ q. absurd (end_or_none (window bytes) p.0 q.0 p.1))
     (λ q. let same : q.0 ≡ p.0 = end_unique (window bytes) q.0 p.0 q.1 p.1 in
-    block_unique (take p.0 bytes) (drop p.0 bytes) a b p.2 (subst (λ (n : ℕ). AsksBlock (take n bytes) (drop n bytes) b) same q.2)) y) x
+    block_unique (take p.0 bytes) (drop p.0 bytes) a b p.2
+    (subst (λ (n : ℕ). AsksBlock (take n bytes) (drop n bytes) b) same q.2)) y) x

@@ -10,15 +10,17 @@ use Rattle.acvp_http.specs.declared.script.Command.TheVariants as command
 use Rattle.acvp_http.specs.declared.script.Line.{Line}
 use Rattle.acvp_http.specs.declared.script.Line.TheVariants as line
 use Rattle.acvp_http.specs.Event.{Event, request, order}
-use Rattle.acvp_http.specs.Lines.{Lacks, IsMoment, IsLine, word_of}
+use Rattle.acvp_http.specs.Private.Lines.{Lacks, IsMoment, IsLine, command_word}
 use Rattle.acvp_http.specs.Script.{IsSecretText, IsWritten}
 use Rattle.acvp_http.proofs.LineLemmas.{lacks_append, decimal_lacks}
 
 -- texts grouped otherwise
-regroup_request : (d e b : List ℕ) → ((((d ++ 32 ∷ []) ++ e) ++ 10 ∷ []) ++ b) ++ 10 ∷ [] ≡ (d ++ 32 ∷ e) ++ 10 ∷ (b ++ 10 ∷ [])
+regroup_request : (d e b : List ℕ) → ((((d ++ 32 ∷ []) ++ e) ++ 10 ∷ []) ++ b) ++ 10 ∷ [] ≡ (d ++ 32 ∷ e) ++ 10
+    ∷ (b ++ 10 ∷ [])
 regroup_request d e b = simp append_assoc
 
-regroup_add : (d e h : List ℕ) → (((((d ++ 32 ∷ []) ++ e) ++ 32 ∷ []) ++ h) ++ 10 ∷ []) ≡ (d ++ 32 ∷ (e ++ 32 ∷ h)) ++ 10 ∷ []
+regroup_add : (d e h : List ℕ) → (((((d ++ 32 ∷ []) ++ e) ++ 32 ∷ []) ++ h) ++ 10 ∷ []) ≡ (d ++ 32 ∷ (e ++ 32 ∷ h))
+    ++ 10 ∷ []
 regroup_add d e h = simp append_assoc
 
 regroup_disable : (d e : List ℕ) → (((d ++ 32 ∷ []) ++ e) ++ 10 ∷ []) ≡ (d ++ 32 ∷ e) ++ 10 ∷ []
@@ -48,9 +50,15 @@ order_parts m (kind.DisableAccount account) front (number, named, is) = (
 )
 
 -- a request's line, its bytes and their line feeds are the request, written
-pub request_written : (m n : ℕ) (bytes text : List ℕ) → length bytes ≡ n → IsLine (line.Request m n) text → IsWritten (request m bytes) ((text ++ 10 ∷ []) ++ (bytes ++ 10 ∷ []))
-request_written m n bytes text size (rest, is, (few, (number, is'))) =
-    (number, rw size few, rw (is, is', ← size) (append_assoc (codes "request" ++ 32 ∷ (decimal m ++ 32 ∷ decimal (length bytes))) (10 ∷ []) (bytes ++ 10 ∷ []) ∙ sym (ap (λ rest. codes "request " ++ rest) (regroup_request (decimal m) (decimal (length bytes)) bytes))))
+pub request_written : (m n : ℕ) (bytes text : List ℕ) → length bytes ≡ n → IsLine (line.Request m n) text
+    → IsWritten (request m bytes) ((text ++ 10 ∷ []) ++ (bytes ++ 10 ∷ []))
+request_written m n bytes text size (rest, is, (few, (number, is'))) = (
+  number,
+  rw size few,
+  rw (is, is', ← size) (append_assoc (codes "request" ++ 32 ∷ (decimal m ++ 32 ∷ decimal (length bytes))) (10
+      ∷ []) (bytes ++ 10 ∷ [])
+      ∙ sym (ap (λ rest. codes "request " ++ rest) (regroup_request (decimal m) (decimal (length bytes)) bytes))),
+)
 
 -- hex digits are no line feeds
 lacks_all : (c : ℕ) (xs : List ℕ) → ((k : ℕ) → k < length xs → get_or xs k 0 ≢ c) → Lacks c xs
@@ -67,24 +75,31 @@ secret_lacks digits secret hex =
 
 moment_lacks : (m : ℕ) (rest text : List ℕ) → IsMoment m rest text → Lacks 10 rest → Lacks 10 text
 moment_lacks m rest text is lacks =
-    rw is.1 (lacks_append 10 (decimal m) (32 ∷ rest) (decimal_lacks 10 m (omega arith) is.0) ((λ same. omega arith), lacks))
+    rw is.1 (lacks_append 10 (decimal m) (32 ∷ rest) (decimal_lacks 10 m (omega arith) is.0) (
+      (λ same. omega arith),
+      lacks,
+    ))
 
-word_lacks_ten : (w : Command) → Lacks 10 (word_of w)
+word_lacks_ten : (w : Command) → Lacks 10 (command_word w)
 word_lacks_ten command.Request = search rules
 word_lacks_ten command.AddAccount = search rules
 word_lacks_ten command.DisableAccount = search rules
 
-after_word_lacks : (w : Command) (rest text : List ℕ) → text ≡ word_of w ++ 32 ∷ rest → Lacks 10 rest → Lacks 10 text
-after_word_lacks w rest text is lacks = rw is (lacks_append 10 (word_of w) (32 ∷ rest) (word_lacks_ten w) ((λ same. omega arith), lacks))
+after_word_lacks : (w : Command) (rest text : List ℕ) → text ≡ command_word w ++ 32 ∷ rest → Lacks 10 rest
+    → Lacks 10 text
+after_word_lacks w rest text is lacks =
+    rw is (lacks_append 10 (command_word w) (32 ∷ rest) (word_lacks_ten w) ((λ same. omega arith), lacks))
 
 -- a line has no line feed
 pub line_lacks : (said : Line) (text : List ℕ) → IsLine said text → Lacks 10 text
 line_lacks (line.Request m n) text (rest, is, (few, moment)) =
-    after_word_lacks command.Request rest text is (moment_lacks m (decimal n) rest moment (decimal_lacks 10 n (omega arith) (omega arith)))
+    after_word_lacks command.Request rest text is
+    (moment_lacks m (decimal n) rest moment (decimal_lacks 10 n (omega arith) (omega arith)))
 line_lacks (line.Order m (kind.AddAccount account secret)) text (rest, is, (named, (digits, hex, moment))) =
     after_word_lacks command.AddAccount rest text is
     (moment_lacks m (decimal account ++ 32 ∷ digits) rest moment
-    (lacks_append 10 (decimal account) (32 ∷ digits) (decimal_lacks 10 account (omega arith) (omega (arith, named))) ((λ same. omega arith), secret_lacks digits secret hex)))
+    (lacks_append 10 (decimal account) (32 ∷ digits) (decimal_lacks 10 account (omega arith) (omega (arith, named)))
+    ((λ same. omega arith), secret_lacks digits secret hex)))
 line_lacks (line.Order m (kind.DisableAccount account)) text (rest, is, (named, moment)) =
     after_word_lacks command.DisableAccount rest text is
     (moment_lacks m (decimal account) rest moment (decimal_lacks 10 account (omega arith) (omega (arith, named))))
@@ -101,16 +116,19 @@ line_short (line.Request m n) text (rest, is, (few, moment)) =
     let tail = length_moment m (decimal n) rest moment in
     rw is (omega arith)
 line_short (line.Order m (kind.AddAccount account secret)) text (rest, is, (named, (digits, hex, moment))) =
-    let low : length (decimal account) ≤ 4 = length-decimal-le 4 account (omega arith) (omega (arith, named)) (omega (arith, named)) in
+    let low : length (decimal account) ≤ 4 =
+    length-decimal-le 4 account (omega arith) (omega (arith, named)) (omega (arith, named)) in
     let tail = length_moment m (decimal account ++ 32 ∷ digits) rest moment in
     rw is (omega (arith, length-append (decimal account) (32 ∷ digits), hex.0))
 line_short (line.Order m (kind.DisableAccount account)) text (rest, is, (named, moment)) =
-    let low : length (decimal account) ≤ 4 = length-decimal-le 4 account (omega arith) (omega (arith, named)) (omega (arith, named)) in
+    let low : length (decimal account) ≤ 4 =
+    length-decimal-le 4 account (omega arith) (omega (arith, named)) (omega (arith, named)) in
     let tail = length_moment m (decimal account) rest moment in
     rw is (omega arith)
 
 -- an event's text begins with its line
-pub event_front : (e : Event) (front : List ℕ) → IsWritten e front → (said : Line) × (text : List ℕ) × (tail : List ℕ) × IsLine said text × (front ≡ text ++ 10 ∷ tail)
+pub event_front : (e : Event) (front : List ℕ) → IsWritten e front → (said : Line) × (text : List ℕ) × (tail : List ℕ)
+    × IsLine said text × (front ≡ text ++ 10 ∷ tail)
 event_front (request m bytes) front written =
     let parts = request_parts m bytes front written in
     (line.Request m (length bytes), parts.0, bytes ++ 10 ∷ [], parts.1, parts.2)

@@ -15,3 +15,4 @@ pub mod WritingLemmas
 pub mod TurnLemmas
 pub mod RunLemmas
 pub mod AsksLemmas
+pub mod AccountLemmas

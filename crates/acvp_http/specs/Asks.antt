@@ -4,31 +4,19 @@ use Rattle.std.specs.List.{starts_with, ends_with, list_all}
 use Rattle.std.specs.Str.{bytes_eq, str_eq_ignore_ascii_case}
 use Rattle.httparse.specs.Grammar.{RequestHead, ReadsRequest}
 use Rattle.httparse.specs.Spans.{name_and_value}
-use Rattle.acvp_registry.specs.Number.{number_of}
+use Rattle.acvp_mac.specs.Conditions.{Condition, judged}
+use Rattle.acvp_registry.specs.Number.{digits_number_of}
 use Rattle.acvp_http.specs.declared.routes.Route.{Route}
 use Rattle.acvp_http.specs.declared.routes.Route.TheVariants.{Login}
 use Rattle.acvp_http.specs.declared.routes.Path.{Path}
 use Rattle.acvp_http.specs.declared.routes.Path.TheVariants.{Login as LoginPath}
-use Rattle.acvp_http.specs.declared.rule.Rule.{Rule}
-use Rattle.acvp_http.specs.declared.rule.Rule.TheVariants.{BadHead, HeadTooLarge, Truncated, LengthMissing, BadLength, BodyTooLarge, TransferCoding, HostMissing, NoRoute, NoMethod}
+use Rattle.acvp_policy.specs.declared.rule.Rule.{Rule}
+use Rattle.acvp_policy.specs.declared.rule.Rule.TheVariants.{BadHead, HeadTooLarge, Truncated, LengthMissing, BadLength, BodyTooLarge, TransferCoding, HostMissing, NoRoute, NoMethod}
 
--- a test that must hold, with the rule that it breaks
-abbrev pub Test : Type 0
-Test = Bool × Rule
-
--- a value, or the rule of the broken test
-abbrev pub unless_broken : {X : Type 0} → Option Test → X → Result X Rule
-unless_broken None value = Ok value
-unless_broken (Some test) value = Err test.1
-
--- the value where all tests hold, else the rule of the first that fails
-abbrev pub verdict : {X : Type 0} → List Test → X → Result X Rule
-verdict tests value = unless_broken (find (λ test. not test.0) tests) value
-
--- a request, by its action, or the rule that is broken
-pub data Ask : Type 0 where
-  refused : Rule → Ask
-  login : List ℕ → Ask
+-- what the bytes of an input are read as: the rule that refuses them, or a login and the bytes of its body
+pub data ParsedRequest : Type 0 where
+  refused : Rule → ParsedRequest
+  login : List ℕ → ParsedRequest
 
 -- ---- the head
 
@@ -72,11 +60,11 @@ same_number (Some n) (Some m) = n == m
 -- the number of the first value
 abbrev pub first_number : List (List ℕ) → Option ℕ
 first_number [] = None
-first_number (value ∷ values) = number_of value
+first_number (value ∷ values) = digits_number_of value
 
 -- each value is a number, and they agree
 abbrev pub lengths_agree : List (List ℕ) → Bool
-lengths_agree values = list_all (λ value. same_number (number_of value) (first_number values)) values
+lengths_agree values = list_all (λ value. same_number (digits_number_of value) (first_number values)) values
 
 -- the methods that need a length
 abbrev pub needs_length : List ℕ → Bool
@@ -94,9 +82,9 @@ is_nil xs = length xs == 0
 abbrev pub body_length : List (List ℕ) → ℕ
 body_length values = unwrap_or (first_number values) 0
 
--- the tests of the framing, in their order (RFC 9112, sections 3.2 and 6), where so many bytes follow the head
-abbrev pub framing_tests : List ℕ → ℕ → List (List ℕ × List ℕ) → ℕ → List Test
-framing_tests method minor fields available =
+-- the conditions on the framing, in their order (RFC 9112, sections 3.2 and 6), where so many bytes follow the head
+abbrev pub framing_conditions : List ℕ → ℕ → List (List ℕ × List ℕ) → ℕ → List (Condition Rule)
+framing_conditions method minor fields available =
     (is_nil (values_of (codes "transfer-encoding") fields), TransferCoding)
     ∷ (not (needs_length method) || not (is_nil (values_of (codes "content-length") fields)), LengthMissing)
     ∷ (lengths_agree (values_of (codes "content-length") fields), BadLength)
@@ -108,7 +96,7 @@ framing_tests method minor fields available =
 -- how long the body is, or the rule that the framing breaks
 abbrev pub body_size : List ℕ → ℕ → List (List ℕ × List ℕ) → ℕ → Result ℕ Rule
 body_size method minor fields available =
-    verdict (framing_tests method minor fields available) (body_length (values_of (codes "content-length") fields))
+    judged (framing_conditions method minor fields available) (body_length (values_of (codes "content-length") fields))
 
 -- ---- the route
 
@@ -130,32 +118,33 @@ abbrev pub route_of : List ℕ → List ℕ → Result Route Rule
 route_of method path = method_on method (path_named path)
 
 -- what a route asks with a body
-abbrev pub routed : Result Route Rule → List ℕ → Ask
+abbrev pub routed : Result Route Rule → List ℕ → ParsedRequest
 routed (Err rule) body = refused rule
 routed (Ok Login) body = login body
 
 -- what a head asks, where rest follows it and its body has this size
-abbrev pub asked_by : RequestHead → List ℕ → Result ℕ Rule → Ask
+abbrev pub asked_by : RequestHead → List ℕ → Result ℕ Rule → ParsedRequest
 asked_by head rest (Err rule) = refused rule
 asked_by head rest (Ok size) = routed (route_of head.method (path_of head.target)) (take size rest)
 
-abbrev pub asked : RequestHead → List ℕ → Ask
+abbrev pub asked : RequestHead → List ℕ → ParsedRequest
 asked head rest = asked_by head rest (body_size head.method head.minor (fields_of head) (length rest))
 
 -- what a block asks, where rest follows it
-abbrev pub AsksBlock : List ℕ → List ℕ → Ask → Type 0
-AsksBlock block rest ask =
+abbrev pub AsksBlock : List ℕ → List ℕ → ParsedRequest → Type 0
+AsksBlock block rest parsed =
     MatchBool (nat_lt 64 (line_count block - 2))
-    (ask ≡ refused HeadTooLarge)
-    (((ask ≡ refused BadHead) × ((head : RequestHead) → ReadsRequest block head [] → ⊥))
-    ⊎ ((head : RequestHead) × ReadsRequest block head [] × (ask ≡ asked head rest)))
+    (parsed ≡ refused HeadTooLarge)
+    (((parsed ≡ refused BadHead) × ((head : RequestHead) → ReadsRequest block head [] → ⊥))
+    ⊎ ((head : RequestHead) × ReadsRequest block head [] × (parsed ≡ asked head rest)))
 
 -- how much of an input may be its head
 unfoldable pub window : List ℕ → List ℕ
 window bytes = take 16384 bytes
 
 -- what an input asks
-abbrev pub Asks : List ℕ → Ask → Type 0
-Asks bytes ask =
-    (HasNoEmptyLine (window bytes) × (ask ≡ refused (if length (window bytes) == 16384 then HeadTooLarge else Truncated)))
-    ⊎ ((n : ℕ) × IsBlockEnd (window bytes) n × AsksBlock (take n bytes) (drop n bytes) ask)
+abbrev pub Asks : List ℕ → ParsedRequest → Type 0
+Asks bytes parsed =
+    (HasNoEmptyLine (window bytes)
+    × (parsed ≡ refused (if length (window bytes) == 16384 then HeadTooLarge else Truncated)))
+    ⊎ ((n : ℕ) × IsBlockEnd (window bytes) n × AsksBlock (take n bytes) (drop n bytes) parsed)

@@ -2,22 +2,23 @@
 use Rattle.std.specs.Prelude.{◌≡◌, ◌⊎◌, ℕ, ◌+◌, ◌/◌, List, [], ◌∷◌, ◌++◌, length, Bool, true, ◌&&◌, ◌==◌, is_some, if◌then◌else◌, Option, Some, None, option_map, option_and_then, Result, Ok, Err}
 use Rattle.std.specs.Str.{all_ascii_digits}
 use Rattle.std.specs.Str.Parse.{digits_value}
-use Rattle.acvp_json.specs.Envelope.{json_of, object_of}
+use Rattle.acvp_json.specs.Envelope.{body_json, object_of}
 use Rattle.acvp_json.specs.LoginBody.{login_body_of}
 use Rattle.acvp_json.specs.declared.fault.BodyFault.{BodyFault}
 use Rattle.acvp_json.specs.declared.fault.BodyFault.TheVariants as fault
 use Rattle.acvp_json.specs.declared.login_body.LoginBody.{LoginBody}
-use Rattle.acvp_registry.specs.Number.{plain_of}
+use Rattle.acvp_registry.specs.Number.{plain_number_of}
 use Rattle.acvp_mac.specs.Codes.{accepted}
 use Rattle.acvp_token.specs.declared.Claims.{Claims}
 use Rattle.acvp_token.specs.declared.TokenFault.{TokenFault}
+use Rattle.acvp_token.specs.SessionNumber.{account_of_session}
 use Rattle.acvp_token.specs.Verdict.{reading_of}
 use Rattle.acvp_http.specs.declared.login.CodeUse.{CodeUse}
-use Rattle.acvp_http.specs.declared.login.Entry.{Entry}
+use Rattle.acvp_http.specs.declared.login.AcceptedLogin.{AcceptedLogin}
 use Rattle.acvp_http.specs.declared.records.Account.{Account}
-use Rattle.acvp_http.specs.declared.rule.Rule.{Rule}
-use Rattle.acvp_http.specs.declared.rule.Rule.TheVariants.{BodyNotJson, BodyEnvelope, BodyField, UnknownTest, DuplicateTest, SetMismatch, NoReference, LoginRefused, RenewalRefused, Unavailable}
-use Rattle.acvp_http.specs.Asks.{Test, verdict}
+use Rattle.acvp_policy.specs.declared.rule.Rule.{Rule}
+use Rattle.acvp_policy.specs.declared.rule.Rule.TheVariants.{BodyNotJson, BodyEnvelope, BodyField, UnknownTest, DuplicateTest, SetMismatch, NoReference, LoginRefused, RenewalRefused, Unavailable}
+use Rattle.acvp_mac.specs.Conditions.{Condition, judged}
 use Rattle.acvp_http.specs.Records.{row_of, changed, with_step}
 
 -- ---- the body
@@ -37,7 +38,7 @@ if_enabled row = if row.enabled then Some row else None
 
 -- the enabled account whose number the user is
 abbrev pub account_of : List Account → List ℕ → Option Account
-account_of accounts user = option_and_then if_enabled (option_and_then (row_of accounts) (plain_of user))
+account_of accounts user = option_and_then if_enabled (option_and_then (row_of accounts) (plain_number_of user))
 
 -- the account and the accepted step (RFC 6238) of the credentials
 abbrev pub code_use_of : List Account → ℕ → LoginBody → Option CodeUse
@@ -50,12 +51,13 @@ code_use_of accounts moment login =
 -- a token's session, where it has one, is of the account
 abbrev pub is_session_of : ℕ → Option ℕ → Bool
 is_session_of account None = true
-is_session_of account (Some session) = session / 1000000 == account
+is_session_of account (Some session) = account_of_session session == account
 
 -- the session of a token of this account
 abbrev pub session_of : ℕ → Result Claims TokenFault → Option (Option ℕ)
 session_of account (Err fault) = None
-session_of account (Ok claims) = if (claims.account == account) && is_session_of account claims.session then Some claims.session else None
+session_of account (Ok claims) = if (claims.account == account) && is_session_of account claims.session
+    then Some claims.session else None
 
 -- The session that the new token gets: that of the token that is renewed, or none where no token is. A token
 -- that has expired may be renewed.
@@ -64,24 +66,28 @@ renewed_session key account None = Some None
 renewed_session key account (Some text) = session_of account (reading_of key text)
 
 -- what a login may act on
-abbrev pub entry_of : List ℕ → List Account → ℕ → LoginBody → Option Entry
-entry_of key accounts moment login =
-    option_and_then (λ used. option_map (λ session. record { account = used.account; step = used.step; session = session })
-    (renewed_session key used.account login.access)) (code_use_of accounts moment login)
+abbrev pub accepted_login_of : List ℕ → List Account → ℕ → LoginBody → Option AcceptedLogin
+accepted_login_of key accounts moment login =
+    option_and_then (λ used. option_map (λ session. record {
+      account = used.account;
+      step = used.step;
+      session = session;
+    })
+    (renewed_session key used.account login.access_token)) (code_use_of accounts moment login)
 
 -- ---- the decision
 
 -- the tests of a login's body, in their order
-abbrev pub body_tests : List ℕ → List Test
-body_tests body =
-    (is_some (json_of body), BodyNotJson)
+abbrev pub body_conditions : List ℕ → List (Condition Rule)
+body_conditions body =
+    (is_some (body_json body), BodyNotJson)
     ∷ (is_some (object_of body), BodyEnvelope)
     ∷ (is_some (login_of body), BodyField)
     ∷ []
 
 -- the rule is that of the first test that the body fails
 abbrev pub FailsBody : List ℕ → Rule → Type 0
-FailsBody body rule = verdict (body_tests body) (login_of body) ≡ Err rule
+FailsBody body rule = judged (body_conditions body) (login_of body) ≡ Err rule
 
 -- the rule of a body's fault
 abbrev pub rule_of_fault : BodyFault → Rule
@@ -98,23 +104,24 @@ rule_of_fault fault.Memory = Unavailable
 abbrev pub code_use_at : List Account → ℕ → List ℕ → Option CodeUse
 code_use_at accounts moment body = option_and_then (code_use_of accounts moment) (login_of body)
 
-abbrev pub entry_at : List ℕ → List Account → ℕ → List ℕ → Option Entry
-entry_at key accounts moment body = option_and_then (entry_of key accounts moment) (login_of body)
+abbrev pub accepted_login_at : List ℕ → List Account → ℕ → List ℕ → Option AcceptedLogin
+accepted_login_at key accounts moment body = option_and_then (accepted_login_of key accounts moment) (login_of body)
 
 -- the tests of a login, in their order
-abbrev pub login_tests : List ℕ → List Account → ℕ → List ℕ → List Test
-login_tests key accounts moment body =
-    body_tests body
+abbrev pub login_conditions : List ℕ → List Account → ℕ → List ℕ → List (Condition Rule)
+login_conditions key accounts moment body =
+    body_conditions body
     ++ (is_some (code_use_at accounts moment body), LoginRefused)
-    ∷ (is_some (entry_at key accounts moment body), RenewalRefused)
+    ∷ (is_some (accepted_login_at key accounts moment body), RenewalRefused)
     ∷ []
 
 -- the entry of a login that passes every test, or the rule of the first that it fails
-abbrev pub login_verdict : List ℕ → List Account → ℕ → List ℕ → Result (Option Entry) Rule
-login_verdict key accounts moment body = verdict (login_tests key accounts moment body) (entry_at key accounts moment body)
+abbrev pub login_decision : List ℕ → List Account → ℕ → List ℕ → Result (Option AcceptedLogin) Rule
+login_decision key accounts moment body =
+    judged (login_conditions key accounts moment body) (accepted_login_at key accounts moment body)
 
 -- the code's answer is that verdict, or that memory was refused
-abbrev pub IsDecided : Result Entry Rule → Result (Option Entry) Rule → Type 0
+abbrev pub IsDecided : Result AcceptedLogin Rule → Result (Option AcceptedLogin) Rule → Type 0
 IsDecided (Ok entry) decision = decision ≡ Ok (Some entry)
 IsDecided (Err rule) decision = (rule ≡ Unavailable) ⊎ (decision ≡ Err rule)
 
@@ -123,9 +130,14 @@ abbrev pub token_life : ℕ
 token_life = 1800
 
 -- the claims of a login's new token
-abbrev pub claims_at : Entry → ℕ → Claims
-claims_at entry moment = record { account = entry.account; session = entry.session; issued = moment; expires = moment + token_life }
+abbrev pub claims_at : AcceptedLogin → ℕ → Claims
+claims_at entry moment = record {
+  account = entry.account;
+  session = entry.session;
+  issued = moment;
+  expires = moment + token_life;
+}
 
 -- the accounts after an accepted login
-abbrev pub after_login : List Account → Entry → List Account
+abbrev pub after_login : List Account → AcceptedLogin → List Account
 after_login accounts entry = changed entry.account (with_step entry.step) accounts

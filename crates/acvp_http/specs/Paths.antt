@@ -6,4 +6,12 @@ use Rattle.acvp_http.specs.declared.routes.Path.{Path}
 use Rattle.acvp_http.specs.declared.routes.Path.TheVariants.{Login}
 
 abbrev pub table : RowsOf (RouteOf Path)
-table = (codes "/acvp/v1/login", record { pattern = codes "/acvp/v1/login"; text = codes "/acvp/v1/login"; names = []; value = Login }) ∷ []
+table = (
+  codes "/acvp/v1/login",
+  record {
+    pattern = codes "/acvp/v1/login";
+    text = codes "/acvp/v1/login";
+    names = [];
+    value = Login;
+  },
+) ∷ []

@@ -1,17 +1,30 @@
 -- The records and how orders change them.
-use Rattle.std.specs.Prelude.{ℕ, List, [], ◌∷◌, ◌++◌, Bool, true, false, Option, Some, None, is_some, if◌then◌else◌, ◌==◌, find, map, ◌≡◌, ◌⊎◌}
+use Rattle.std.specs.Prelude.{ℕ, List, [], ◌∷◌, ◌++◌, Bool, true, false, Option, Some, None, is_some, if◌then◌else◌, ◌==◌, ◌≤◌, find, map, All, ◌≡◌, ◌⊎◌}
 use Rattle.acvp_http.specs.declared.records.Account.{Account}
 use Rattle.acvp_http.specs.declared.records.Order.{Order}
 use Rattle.acvp_http.specs.declared.records.Order.TheVariants.{AddAccount, DisableAccount}
 use Rattle.acvp_http.specs.declared.records.OrderReply.{OrderReply}
 use Rattle.acvp_http.specs.declared.records.OrderReply.TheVariants.{Done, Taken, Unknown, Unavailable}
 
+-- an account's number is 1 to 9999
+abbrev pub IsAccountNumber : ℕ → Type 0
+IsAccountNumber n = (1 ≤ n) × (n ≤ 9999)
+
+-- the accounts of a state: each has such a number
+abbrev pub AreAccounts : List Account → Type 0
+AreAccounts accounts = All (λ row. IsAccountNumber row.number) accounts
+
+-- an order that the operator may give: it names such a number
+abbrev pub IsOrder : Order → Type 0
+IsOrder (AddAccount number secret) = IsAccountNumber number
+IsOrder (DisableAccount number) = IsAccountNumber number
+
 -- the account of a number
 abbrev pub row_of : List Account → ℕ → Option Account
 row_of accounts number = find (λ row. row.number == number) accounts
 
-abbrev pub is_there : List Account → ℕ → Bool
-is_there accounts number = is_some (row_of accounts number)
+abbrev pub has_account : List Account → ℕ → Bool
+has_account accounts number = is_some (row_of accounts number)
 
 -- the accounts, with f of each one of this number
 abbrev pub changed : ℕ → (Account → Account) → List Account → List Account
@@ -29,13 +42,15 @@ new_account number secret = record { number = number; secret = secret; enabled =
 
 -- what an order is answered over these accounts
 abbrev pub order_reply : List Account → Order → OrderReply
-order_reply accounts (AddAccount number secret) = if is_there accounts number then Taken else Done
-order_reply accounts (DisableAccount number) = if is_there accounts number then Done else Unknown
+order_reply accounts (AddAccount number secret) = if has_account accounts number then Taken else Done
+order_reply accounts (DisableAccount number) = if has_account accounts number then Done else Unknown
 
 -- the accounts after an order
 abbrev pub after_order : List Account → Order → List Account
-after_order accounts (AddAccount number secret) = if is_there accounts number then accounts else accounts ++ new_account number secret ∷ []
-after_order accounts (DisableAccount number) = if is_there accounts number then changed number disabled accounts else accounts
+after_order accounts (AddAccount number secret) = if has_account accounts number then accounts
+    else accounts ++ new_account number secret ∷ []
+after_order accounts (DisableAccount number) = if has_account accounts number then changed number disabled accounts
+    else accounts
 
 -- the order is carried out and answered, or it is unavailable and changes nothing
 abbrev pub OrderAnswered : List Account → Order → List Account → OrderReply → Type 0

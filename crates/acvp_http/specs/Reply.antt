@@ -5,12 +5,12 @@ use Rattle.httpdate.specs.Date.{unix_secs, date_text}
 use Rattle.httpdate.specs.declared.date.HttpDate.{HttpDate}
 use Rattle.serde_json.specs.Data.{Data, string, object, no_members, member}
 use Rattle.acvp_json.specs.Written.{body_of}
-use Rattle.acvp_http.specs.declared.rule.Rule.{Rule}
-use Rattle.acvp_http.specs.declared.rule.Rule.TheVariants.{NoMethod, ClockOutOfRange, Unavailable}
-use Rattle.acvp_http.specs.Rule.{status_of, word_of}
+use Rattle.acvp_policy.specs.declared.rule.Rule.{Rule}
+use Rattle.acvp_policy.specs.declared.rule.Rule.TheVariants.{NoMethod, ClockOutOfRange, Unavailable}
+use Rattle.acvp_policy.specs.Rule.{rule_status, rule_word}
 
 abbrev pub error_object : Rule → Data
-error_object rule = object (member (codes "error") (string (word_of rule)) no_members)
+error_object rule = object (member (codes "error") (string (rule_word rule)) no_members)
 
 -- the phrase that stands beside a status code
 abbrev pub phrase_of : ℕ → List ℕ
@@ -24,24 +24,24 @@ abbrev pub date_line : Option (List ℕ) → List ℕ
 date_line None = []
 date_line (Some date) = line (codes "Date: " ++ date)
 
--- The line that a refusal has besides: the path's methods where the method is none of them.
+-- the field that a refusal has beside those of every reply: the path's methods where the method is none of them
 abbrev pub rule_line : Rule → List ℕ
 rule_line NoMethod = line (codes "Allow: POST")
 rule_line _ = []
 
 -- the head of a reply whose body has this length
 abbrev pub head_text : ℕ → Option (List ℕ) → List ℕ → ℕ → List ℕ
-head_text status date besides length_of_body =
+head_text status date extra_fields length_of_body =
     line (codes "HTTP/1.1 " ++ decimal status ++ codes " " ++ phrase_of status)
     ++ date_line date
     ++ line (codes "Content-Type: application/json")
     ++ line (codes "Content-Length: " ++ decimal length_of_body)
     ++ line (codes "Connection: close")
-    ++ besides ++ codes "\r\n"
+    ++ extra_fields ++ codes "\r\n"
 
 -- a whole reply
 unfoldable pub framed : ℕ → Option (List ℕ) → List ℕ → List ℕ → List ℕ
-framed status date besides body = head_text status date besides (length body) ++ body
+framed status date extra_fields body = head_text status date extra_fields (length body) ++ body
 
 -- the replies of two rules show no date: where the clock gives none, and where memory was refused
 abbrev pub date_shown : Option (List ℕ) → Rule → Option (List ℕ)
@@ -51,7 +51,7 @@ date_shown date _ = date
 
 -- the reply that names the rule
 abbrev pub refusal : Option (List ℕ) → Rule → List ℕ
-refusal date rule = framed (status_of rule) (date_shown date rule) (rule_line rule) (body_of (error_object rule))
+refusal date rule = framed (rule_status rule) (date_shown date rule) (rule_line rule) (body_of (error_object rule))
 
 -- the text is the date and time of the moment as IMF-fixdate (RFC 9110, section 5.6.7)
 abbrev pub IsDateOf : ℕ → List ℕ → Type 0

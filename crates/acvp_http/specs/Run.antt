@@ -1,10 +1,10 @@
 -- The run of a script: what it makes of the records and of the input, and what it writes.
-use Rattle.std.specs.Prelude.{◌≡◌, ◌≢◌, ◌≤◌, ◌<◌, ℕ, ◌+◌, ◌-◌, ◌^◌, min, List, [], ◌∷◌, ◌++◌, length, map, Bool, true, false, Option, None, Some, Result, Ok, Err, ⊤}
+use Rattle.std.specs.Prelude.{◌≡◌, ◌≢◌, ◌⊎◌, ◌≤◌, ◌<◌, ℕ, ◌+◌, ◌-◌, ◌^◌, min, List, [], ◌∷◌, ◌++◌, length, map, Bool, true, false, Option, None, Some, Result, Ok, Err, ⊤}
 use Rattle.std.specs.Io.KnownBytes.{Appends, Consumes, IsAtEnd}
 use Rattle.acvp_http.specs.declared.records.Account.{Account}
 use Rattle.acvp_http.specs.declared.script.ScriptFault.{ScriptFault}
 use Rattle.acvp_http.specs.declared.script.ScriptFault.TheVariants.{Read, Write, Syntax, Limit, Memory}
-use Rattle.acvp_http.specs.Event.{Event, Answer, Turn, Held}
+use Rattle.acvp_http.specs.Event.{Event, Answer, Turn, DeskState}
 use Rattle.acvp_http.specs.Script.{IsScript, HasNoEvent, LeavesGrammar, answer_text, output_of}
 use Rattle.acvp_http.specs.Serve.{Runs}
 
@@ -21,21 +21,36 @@ BeginsWith (Some input) text After = (rest : List ℕ) × (input ≡ text ++ res
 abbrev pub TakesInPart : Option (List ℕ) → Option (List ℕ) → List ℕ → Type 0
 TakesInPart input left text = (part : List ℕ) × HasNoEvent part × Consumes input left (text ++ part)
 
--- How much of the input was taken by a run whose turns have this script, what comes after the script, and how many turns there
--- are: after 100000 events nothing is read as an event.
-abbrev pub StopsAfter : Option (List ℕ) → Option (List ℕ) → List Turn → List ℕ → Result ℕ ScriptFault → Type 0
-StopsAfter input left turns text (Ok count) = (count ≡ length turns) × Consumes input left text × IsAtEnd left
-StopsAfter input left turns text (Err Syntax) = (length turns < 100000) × TakesInPart input left text × BeginsWith input text LeavesGrammar
-StopsAfter input left turns text (Err Read) = TakesInPart input left text
-StopsAfter input left turns text (Err Write) = Consumes input left text
-StopsAfter input left turns text (Err Limit) = TakesInPart input left text
-StopsAfter input left turns text (Err Memory) = (length turns < 100000) × TakesInPart input left text
+-- The reads between these two counts are a thousand million, or more than are counted.
+abbrev pub ReadsTooOften : ℕ → ℕ → Type 0
+ReadsTooOften before after = min (before + 1000000000) (2 ^ 64 - 1) ≤ after
+
+-- The two reasons for Limit: there were 100000 turns, and the known input goes on after their script; or the reads were
+-- too many.
+abbrev pub ReachesLimit : Option (List ℕ) → ℕ → ℕ → List Turn → List ℕ → Type 0
+ReachesLimit input before after turns text =
+    ((length turns ≡ 100000) × BeginsWith input text (λ rest. rest ≢ [])) ⊎ ReadsTooOften before after
+
+-- How much of the input was taken by a run whose turns have this script, what comes after the script, and how many
+-- turns there are: after 100000 events nothing is read as an event. The reader was read so often before the run and
+-- after it.
+abbrev pub StopsAfter : Option (List ℕ) → Option (List ℕ) → ℕ → ℕ → List Turn → List ℕ → Result ℕ ScriptFault → Type 0
+StopsAfter input left before after turns text (Ok count) = (count ≡ length turns) × Consumes input left text
+    × IsAtEnd left
+StopsAfter input left before after turns text (Err Syntax) =
+    (length turns < 100000) × TakesInPart input left text × BeginsWith input text LeavesGrammar
+StopsAfter input left before after turns text (Err Read) = TakesInPart input left text
+StopsAfter input left before after turns text (Err Write) = Consumes input left text
+StopsAfter input left before after turns text (Err Limit) = TakesInPart input left text
+    × ReachesLimit input before after turns text
+StopsAfter input left before after turns text (Err Memory) = (length turns < 100000) × TakesInPart input left text
 
 -- the output of all answers but the last, and a front of the last one's
 abbrev pub WritesInPart : Option (List ℕ) → Option (List ℕ) → List Answer → Type 0
 WritesInPart old new answers =
     (earlier : List Answer) × (last : Answer) × (answers ≡ earlier ++ last ∷ [])
-    × ((front : List ℕ) × (rest : List ℕ) × (answer_text last ≡ front ++ rest) × Appends old new (output_of earlier ++ front))
+    × ((front : List ℕ) × (rest : List ℕ) × (answer_text last ≡ front ++ rest)
+    × Appends old new (output_of earlier ++ front))
 
 -- what is written of the answers
 abbrev pub WritesAnswers : Option (List ℕ) → Option (List ℕ) → List Answer → Result ℕ ScriptFault → Type 0
@@ -46,23 +61,15 @@ WritesAnswers old new answers (Err Syntax) = Appends old new (output_of answers)
 WritesAnswers old new answers (Err Limit) = Appends old new (output_of answers)
 WritesAnswers old new answers (Err Memory) = Appends old new (output_of answers)
 
--- The input begins with the script of some turns, which give these accounts and the answers that are written; `left` is what
--- was not taken of it.
-abbrev pub RunsScript : Held → List Account → Option (List ℕ) → Option (List ℕ) → Option (List ℕ) → Option (List ℕ) → Result ℕ ScriptFault → Type 0
-RunsScript held accounts input left old new result =
+-- The input begins with the script of some turns, which give these accounts and the answers that are written; `left` is
+-- what was not taken of it, and the reader was read so often before the run and after it.
+abbrev pub RunsScript : DeskState → List Account → Option (List ℕ) → Option (List ℕ) → ℕ → ℕ → Option (List ℕ)
+    → Option (List ℕ) → Result ℕ ScriptFault → Type 0
+RunsScript desk accounts input left before after old new result =
     (turns : List Turn) × (answers : List Answer) × (text : List ℕ)
-    × Runs held turns accounts answers × IsScript (events_of turns) text
-    × StopsAfter input left turns text result × WritesAnswers old new answers result
+    × Runs desk turns accounts answers × IsScript (events_of turns) text
+    × StopsAfter input left before after turns text result × WritesAnswers old new answers result
     × (length turns ≤ 100000)
-
--- the known input goes on after 100000 events
-abbrev pub GoesOn : Option (List ℕ) → Type 0
-GoesOn input =
-    (events : List Event) × (text : List ℕ) × IsScript events text × (length events ≡ 100000) × BeginsWith input text (λ rest. rest ≢ [])
-
--- The reads between these two counts are a thousand million, or more than are counted.
-abbrev pub ReadsTooOften : ℕ → ℕ → Type 0
-ReadsTooOften before after = min (before + 1000000000) (2 ^ 64 - 1) ≤ after
 
 -- whether the answer is that the reader, or the writer, has failed
 abbrev pub is_read_answer : Result ℕ ScriptFault → Bool

@@ -5,14 +5,12 @@ use Rattle.hex.specs.Hex.{decode_of}
 use Rattle.acvp_http.specs.declared.records.Order.TheVariants.{AddAccount, DisableAccount}
 use Rattle.acvp_http.specs.declared.records.OrderReply.{OrderReply}
 use Rattle.acvp_http.specs.declared.records.OrderReply.TheVariants.{Done, Taken, Unknown, Unavailable}
+use Rattle.acvp_http.specs.Records.{IsAccountNumber}
 use Rattle.acvp_http.specs.Event.{Event, request, order, Answer, replied, ordered}
 
 -- a number of the script: 1 to 19 digits without leading zeros
 abbrev pub IsNumber : ℕ → Type 0
 IsNumber n = n < 10 ^ 19
-
-abbrev pub IsAccountNumber : ℕ → Type 0
-IsAccountNumber n = (1 ≤ n) × (n ≤ 9999)
 
 -- 64 hex digits that give the secret's 32 bytes
 abbrev pub IsSecretText : List ℕ → List ℕ → Type 0
@@ -22,11 +20,13 @@ IsSecretText text secret = (length text ≡ 64) × (decode_of text ≡ Ok secret
 abbrev pub IsWritten : Event → List ℕ → Type 0
 IsWritten (request moment bytes) text =
     IsNumber moment × (length bytes ≤ 4194304)
-    × (text ≡ codes "request " ++ decimal moment ++ codes " " ++ decimal (length bytes) ++ codes "\n" ++ bytes ++ codes "\n")
+    × (text ≡ codes "request " ++ decimal moment ++ codes " " ++ decimal (length bytes) ++ codes "\n" ++ bytes
+    ++ codes "\n")
 IsWritten (order moment (AddAccount account secret)) text =
     IsNumber moment × IsAccountNumber account
     × ((digits : List ℕ) × IsSecretText digits secret
-    × (text ≡ codes "account-add " ++ decimal moment ++ codes " " ++ decimal account ++ codes " " ++ digits ++ codes "\n"))
+    × (text ≡ codes "account-add " ++ decimal moment ++ codes " " ++ decimal account ++ codes " " ++ digits
+    ++ codes "\n"))
 IsWritten (order moment (DisableAccount account)) text =
     IsNumber moment × IsAccountNumber account
     × (text ≡ codes "account-disable " ++ decimal moment ++ codes " " ++ decimal account ++ codes "\n")

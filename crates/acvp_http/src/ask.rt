@@ -1,22 +1,25 @@
 //! What the bytes of an input ask for.
 ghost use Rattle.std.specs.Prelude.{List, ◌≡◌, ◌≤◌, ◌<◌, ◌-◌, ℕ, take, drop, length, true, false, ◌==◌, nat_lt, position};
-ghost use Rattle.acvp_http.specs.Asks.{Ask, Asks, AsksBlock, path_of, window};
-ghost use Rattle.acvp_http.specs.Head.{ask_of};
+ghost use Rattle.acvp_http.specs.Asks.{ParsedRequest, Asks, AsksBlock, path_of, window};
+ghost use Rattle.acvp_http.specs.Private.Head.{parsed_of};
 
 use crate::framing::body_size;
 use crate::head::{HEAD_BYTES, block_end, line_count, whole_head};
 use crate::routes::{Route, Routes};
-use crate::rule::Rule;
+use acvp_policy::Rule;
 use httparse::spans::EMPTY_HEADER_SPAN;
 
-// Where the first question mark is.
+/// The most fields that a head may have.
+const MOST_FIELDS: usize = 64;
+
+/// Where the first question mark is.
 fn question_mark(target: &[u8]) -> Option<usize>
     ensures { result ≡ position (λ b. b == 63) target.now }
 {
     target.iter().position(|b| *b == b'?')
 }
 
-// The path: the target up to its first question mark.
+/// The path: the target up to its first question mark.
 fn path_of(target: &[u8]) -> &[u8]
     ensures { result.now ≡ path_of target.now }
 {
@@ -26,14 +29,14 @@ fn path_of(target: &[u8]) -> &[u8]
     }
 }
 
-// What a block asks, where rest follows it: a login with this body, or the rule that is broken.
-fn ask_block<'a>(routes: &Routes, block: &[u8], rest: &'a [u8]) -> Result<&'a [u8], Rule>
-    ensures { AsksBlock block.now rest.now (ask_of result) }
+/// What a block asks, where rest follows it: a login with this body, or the rule that is broken.
+fn parse_block<'a>(routes: &Routes, block: &[u8], rest: &'a [u8]) -> Result<&'a [u8], Rule>
+    ensures { AsksBlock block.now rest.now (parsed_of result) }
 {
-    if line_count(block) > 66 {
+    if line_count(block) > MOST_FIELDS + 2 {
         return Err(Rule::HeadTooLarge);
     }
-    let mut headers = [EMPTY_HEADER_SPAN; 64];
+    let mut headers = [EMPTY_HEADER_SPAN; MOST_FIELDS];
     let Some(spans) = whole_head(block, &mut headers) else {
         return Err(Rule::BadHead);
     };
@@ -45,7 +48,7 @@ fn ask_block<'a>(routes: &Routes, block: &[u8], rest: &'a [u8]) -> Result<&'a [u
     }
 }
 
-// As much of an input as may be its head.
+/// As much of an input as may be its head.
 fn window_of(bytes: &[u8]) -> &[u8]
     ensures value { result.now ≡ window bytes.now }
     ensures within { length result.now ≤ length bytes.now }
@@ -59,11 +62,11 @@ fn window_of(bytes: &[u8]) -> &[u8]
 
 /// What an input asks: a login with this body, or the rule that is broken before anyone is looked at.
 pub(crate) fn ask<'a>(routes: &Routes, bytes: &'a [u8]) -> Result<&'a [u8], Rule>
-    ensures { Asks bytes.now (ask_of result) }
+    ensures { Asks bytes.now (parsed_of result) }
 {
     let window = window_of(bytes);
     match block_end(window) {
-        Some(end) => ask_block(routes, &bytes[..end], &bytes[end..]),
+        Some(end) => parse_block(routes, &bytes[..end], &bytes[end..]),
         None if window.len() == HEAD_BYTES => Err(Rule::HeadTooLarge),
         None => Err(Rule::Truncated),
     }
@@ -71,5 +74,5 @@ pub(crate) fn ask<'a>(routes: &Routes, bytes: &'a [u8]) -> Result<&'a [u8], Rule
 
 /// The definition of what an input asks gives one answer: no bytes ask for two things.
 pub fn asks_one_thing()
-    ensures { (bytes : List ℕ) (first second : Ask) → Asks bytes first → Asks bytes second → first ≡ second }
+    ensures { (bytes : List ℕ) (first second : ParsedRequest) → Asks bytes first → Asks bytes second → first ≡ second }
 {}

@@ -1,12 +1,12 @@
 //! The desk: the server's keys and its records.
 ghost use Rattle.std.specs.Prelude.{◌≡◌, ◌<◌, ◌⊎◌, [], None, Some};
 ghost use Rattle.acvp_http.specs.Serve.{end_of_moments, LoginTaken};
-ghost use Rattle.acvp_http.specs.Records.{OrderAnswered};
+ghost use Rattle.acvp_http.specs.Records.{AreAccounts, IsOrder, OrderAnswered};
 
 use crate::login::{decide, token_reply};
 use crate::records::{Accounts, Keys, Order, OrderReply};
 use crate::reply::Reply;
-use crate::rule::Rule;
+use acvp_policy::Rule;
 use std::alloc::Global;
 use std::marker::Model;
 
@@ -18,9 +18,9 @@ pub struct Desk {
 }
 
 impl Model for Desk {
-    ghost use Rattle.acvp_http.specs.Event.{Held};
+    ghost use Rattle.acvp_http.specs.Event.{DeskState};
 
-    ghost Value = { Held };
+    ghost Value = { DeskState };
 
     ghost view = { λ d. record { keys = d.keys; accounts = d.accounts } };
 }
@@ -37,7 +37,7 @@ impl Desk {
         }
     }
 
-    // Answers a login whose bytes were asked at this moment.
+    /// Answers a login whose bytes were asked at this moment.
     pub(crate) fn log_in(
         &mut self,
         alloc: Global,
@@ -64,8 +64,10 @@ impl Desk {
 
     /// Carries an operator's order out. The moment isn't used.
     pub fn order(&mut self, moment: u64, order: &Order) -> OrderReply
+        requires { IsOrder order.now }
         ensures keys { self.new.keys ≡ self.old.keys }
         ensures answered { OrderAnswered self.old.accounts order.now self.new.accounts result }
+        ensures accounts { AreAccounts self.new.accounts }
     {
         let _ = moment;
         self.accounts.order(order)

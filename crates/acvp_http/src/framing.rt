@@ -1,24 +1,25 @@
 //! The framing of a request: which fields say where its body ends (RFC 9112, section 6).
-ghost use Rattle.std.specs.Prelude.{◌≡◌, ◌≤◌, ◌<◌, ◌∷◌, ◌++◌, [], ℕ, All, length, map, take, true, false, not, Some, None, codes, if◌then◌else◌, IfOk};
+ghost use Rattle.std.specs.Prelude.{◌≡◌, ◌≤◌, ◌<◌, ◌∷◌, ◌++◌, [], ℕ, All, length, map, take, drop, true, false, not, ◌||◌, Some, None, codes, nat_le, if◌then◌else◌, IfOk};
 ghost use Rattle.std.specs.List.{list_all};
 ghost use Rattle.std.specs.Str.{str_eq_ignore_ascii_case, bytes_eq};
 ghost use Rattle.httparse.specs.Spans.{span_bytes, header_bytes, IsWithin, IsHeaderWithin};
-ghost use Rattle.acvp_http.specs.Asks.{values_of, same_number, first_number, lengths_agree, needs_length, hosts_fit, body_length, is_nil, verdict, body_size};
-ghost use Rattle.acvp_registry.specs.Number.{number_of};
+ghost use Rattle.acvp_http.specs.Asks.{values_of, same_number, first_number, lengths_agree, needs_length, hosts_fit, body_length, is_nil, framing_conditions, body_size};
+ghost use Rattle.acvp_mac.specs.Conditions.{judged};
+ghost use Rattle.acvp_registry.specs.Number.{digits_number_of};
 
-use crate::rule::Rule;
+use acvp_policy::Rule;
 use acvp_registry::digits_number;
 use httparse::spans::{HeaderSpan, Span};
 use std::marker::Model;
 
-// Whether a field's name is this one, ASCII case aside.
+/// Whether a field's name is this one, ASCII case aside.
 fn is_named(name: &[u8], wanted: &[u8]) -> bool
     ensures { result ≡ str_eq_ignore_ascii_case name.now wanted.now }
 {
     name.eq_ignore_ascii_case(wanted)
 }
 
-// Where the values of one field are, at most 64.
+/// Where the values of one field are, at most 64.
 #[derive(Drop)]
 struct FieldValues {
     spans: [Span; 64],
@@ -46,7 +47,7 @@ impl FieldValues {
         }
     }
 
-    // Takes the span in, where it is wanted.
+    /// Takes the span in, where it is wanted.
     fn push_if(&mut self, is_wanted: bool, span: Span)
         requires { length self.old < 64 }
         ensures { self.new ≡ (if is_wanted then self.old ++ span ∷ [] else self.old) }
@@ -76,7 +77,7 @@ impl FieldValues {
     }
 }
 
-// The values of the fields of this name.
+/// The values of the fields of this name.
 fn field_values_of(block: &[u8], headers: &[HeaderSpan], name: &[u8]) -> FieldValues
     requires within { All (IsHeaderWithin (length block.now)) headers.now }
     requires few { length headers.now ≤ 64 }
@@ -91,10 +92,11 @@ fn field_values_of(block: &[u8], headers: &[HeaderSpan], name: &[u8]) -> FieldVa
     found
 }
 
-// Whether each value is this number.
+/// Whether each value is this number.
 fn all_are(block: &[u8], spans: &[Span], number: u64) -> bool
     requires { All (IsWithin (length block.now)) spans.now }
-    ensures { result ≡ list_all (λ value. same_number (number_of value) (Some number)) (map (span_bytes block.now) spans.now) }
+    ensures { result ≡ list_all (λ value. same_number (digits_number_of value) (Some number))
+        (map (span_bytes block.now) spans.now) }
 {
     for span in spans {
         match digits_number(span.of(block)) {
@@ -105,10 +107,11 @@ fn all_are(block: &[u8], spans: &[Span], number: u64) -> bool
     true
 }
 
-// The body's length, where each value is a number and they agree.
+/// The body's length, where each value is a number and they agree.
 fn agreed_length(block: &[u8], spans: &[Span]) -> Option<u64>
     requires { All (IsWithin (length block.now)) spans.now }
-    ensures { result ≡ (if lengths_agree (map (span_bytes block.now) spans.now) then Some (body_length (map (span_bytes block.now) spans.now)) else None) }
+    ensures { result ≡ (if lengths_agree (map (span_bytes block.now) spans.now)
+        then Some (body_length (map (span_bytes block.now) spans.now)) else None) }
 {
     let Some(first) = spans.first() else {
         return Some(0);
@@ -121,14 +124,21 @@ fn agreed_length(block: &[u8], spans: &[Span]) -> Option<u64>
     }
 }
 
-// Whether a method needs a length.
+/// Whether a method needs a length.
 fn needs_length(method: &[u8]) -> bool
     ensures { result ≡ needs_length method.now }
 {
     method == b"POST".as_slice() || method == b"PUT".as_slice()
 }
 
-// Whether a version may have so many Host fields.
+/// Whether a length is there, or the method needs none.
+fn is_told(method: &[u8], lengths: &FieldValues) -> bool
+    ensures { result ≡ (not (needs_length method.now) || not (is_nil lengths.now)) }
+{
+    !needs_length(method) || !lengths.is_empty()
+}
+
+/// Whether a version may have so many Host fields.
 fn hosts_fit(minor: u8, hosts: usize) -> bool
     ensures { result ≡ hosts_fit minor hosts }
 {
@@ -136,7 +146,7 @@ fn hosts_fit(minor: u8, hosts: usize) -> bool
 }
 
 fn check(holds: bool, rule: Rule) -> Result<(), Rule>
-    ensures { result ≡ verdict ((holds, rule) ∷ []) tt }
+    ensures { result ≡ judged ((holds, rule) ∷ []) tt }
 {
     if holds { Ok(()) } else { Err(rule) }
 }
@@ -144,7 +154,7 @@ fn check(holds: bool, rule: Rule) -> Result<(), Rule>
 /// The most bytes that a body may have.
 pub const BODY_BYTES: u64 = 2097152;
 
-// The body's size, or the rule that the framing breaks, where so many bytes follow the head.
+/// The body's size, or the rule that the framing breaks, where so many bytes follow the head.
 pub(crate) fn body_size(
     block: &[u8],
     method: &[u8],
@@ -158,18 +168,45 @@ pub(crate) fn body_size(
     ensures fits { IfOk result (λ size. size ≤ available) }
 {
     let codings = field_values_of(block, headers, b"transfer-encoding");
+    check(codings.is_empty(), Rule::TransferCoding)?;
+    told_size(block, method, minor, headers, available)
+}
+
+/// The same where there is no transfer coding.
+fn told_size(
+    block: &[u8],
+    method: &[u8],
+    minor: u8,
+    headers: &[HeaderSpan],
+    available: usize,
+) -> Result<usize, Rule>
+    requires within { All (IsHeaderWithin (length block.now)) headers.now }
+    requires few { length headers.now ≤ 64 }
+    ensures value { let fields = map (header_bytes block.now) headers.now in
+        result ≡ judged (drop 1 (framing_conditions method.now minor fields available))
+        (body_length (values_of (codes "content-length") fields)) }
+    ensures fits { IfOk result (λ size. size ≤ available) }
+{
     let lengths = field_values_of(block, headers, b"content-length");
     let hosts = field_values_of(block, headers, b"host");
-    check(codings.is_empty(), Rule::TransferCoding)?;
-    check(
-        !needs_length(method) || !lengths.is_empty(),
-        Rule::LengthMissing,
-    )?;
+    check(is_told(method, &lengths), Rule::LengthMissing)?;
     let Some(size) = agreed_length(block, lengths.as_slice()) else {
         return Err(Rule::BadLength);
     };
+    fitting_size(size, minor, hosts.len(), available)
+}
+
+/// The body's size, where its length was told: it may be so long, the version may have so many Host fields, and so many
+/// bytes follow the head.
+fn fitting_size(size: u64, minor: u8, hosts: usize, available: usize) -> Result<usize, Rule>
+    ensures value { result ≡ judged ((nat_le size 2097152, Rule.BodyTooLarge)
+        ∷ (hosts_fit minor hosts, Rule.HostMissing)
+        ∷ (nat_le size available, Rule.Truncated)
+        ∷ []) size }
+    ensures fits { IfOk result (λ size. size ≤ available) }
+{
     check(size <= BODY_BYTES, Rule::BodyTooLarge)?;
-    check(hosts_fit(minor, hosts.len()), Rule::HostMissing)?;
+    check(hosts_fit(minor, hosts), Rule::HostMissing)?;
     check(size as usize <= available, Rule::Truncated)?;
     Ok(size as usize)
 }

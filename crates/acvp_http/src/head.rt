@@ -1,7 +1,7 @@
 //! The head of a request: where it ends, and whether it is one.
 ghost use Rattle.std.specs.Prelude.{◌≡◌, ◌≤◌, ◌<◌, ◌-◌, ℕ, take, drop, length, true, false, ◌==◌, MatchOption, if◌then◌else◌, count_by, IfSome};
 ghost use Rattle.acvp_http.specs.Asks.{ends_empty, IsBlockEnd, HasNoEmptyLine, starts_empty, line_count};
-ghost use Rattle.acvp_http.specs.Head.{IsNoHead, IsWholeHead};
+ghost use Rattle.acvp_http.specs.Private.Head.{IsNoHead, IsWholeHead};
 
 use httparse::Status;
 use httparse::spans::{EMPTY_HEADER_SPAN, HeaderSpan, RequestSpans, parse_request};
@@ -9,14 +9,14 @@ use httparse::spans::{EMPTY_HEADER_SPAN, HeaderSpan, RequestSpans, parse_request
 /// The most bytes that a head may have, with its empty line.
 pub const HEAD_BYTES: usize = 16384;
 
-// Whether the text ends in a line feed and an empty line.
+/// Whether the text ends in a line feed and an empty line.
 fn ends_with_empty_line(text: &[u8]) -> bool
     ensures { result ≡ ends_empty text.now }
 {
     text.ends_with(b"\n\n") || text.ends_with(b"\n\r\n")
 }
 
-// Where the first empty line ends.
+/// Where the first empty line ends.
 pub(crate) fn block_end(window: &[u8]) -> Option<usize>
     ensures { MatchOption result (HasNoEmptyLine window.now) (IsBlockEnd window.now) }
 {
@@ -28,7 +28,7 @@ pub(crate) fn block_end(window: &[u8]) -> Option<usize>
     None
 }
 
-// How many lines the block has, but for an empty one at its start.
+/// How many lines the block has, but for an empty one at its start.
 pub(crate) fn line_count(block: &[u8]) -> usize
     ensures { result ≡ line_count block.now }
 {
@@ -40,7 +40,7 @@ pub(crate) fn line_count(block: &[u8]) -> usize
     }
 }
 
-// The spans of a block's head, where the whole block is one.
+/// The spans of a block's head, where the whole block is one.
 pub(crate) fn whole_head(block: &[u8], headers: &mut [HeaderSpan; 64]) -> Option<RequestSpans>
     requires { line_count block.now ≤ 66 }
     ensures { MatchOption result (IsNoHead block.now) (IsWholeHead block.now headers.new) }

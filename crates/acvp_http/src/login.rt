@@ -4,16 +4,17 @@ ghost use Rattle.acvp_json.specs.ReplyData.{reply_data};
 ghost use Rattle.acvp_json.specs.Written.{body_of};
 ghost use Rattle.acvp_json.specs.declared.reply_object.ReplyObject.TheVariants.{Login};
 ghost use Rattle.acvp_token.specs.TokenText.{token_text};
-ghost use Rattle.acvp_http.specs.Login.{password_of, account_of, code_use_of, is_session_of, renewed_session, login_of, rule_of_fault, FailsBody, login_verdict, IsDecided, claims_at};
+ghost use Rattle.acvp_http.specs.Login.{password_of, account_of, code_use_of, is_session_of, renewed_session, login_of, rule_of_fault, FailsBody, login_decision, IsDecided, claims_at};
 ghost use Rattle.acvp_http.specs.Reply.{framed};
+ghost use Rattle.acvp_http.specs.Serve.{end_of_moments};
 
 use crate::records::{Account, Accounts};
 use crate::reply::Reply;
-use crate::rule::Rule;
 use acvp_json::{BodyFault, LoginBody, ReplyObject, Text, open_envelope, read_login, write_reply};
 use acvp_mac::accepted_step;
+use acvp_policy::Rule;
 use acvp_registry::{digits_number, plain_number};
-use acvp_token::{Claims, TokenFault, issue, verify_for_renewal};
+use acvp_token::{Claims, TokenFault, account_of_session, issue, verify_for_renewal};
 use std::alloc::{AllocError, Global};
 
 /// How long a token lives, in seconds.
@@ -29,13 +30,13 @@ pub(crate) struct CodeUse {
 /// What a login may act on: its account's number, the step that its code uses, and the session of the token
 /// that it renews.
 #[derive(Clone, Copy, PartialEq, Eq)]
-pub(crate) struct Entry {
+pub(crate) struct AcceptedLogin {
     pub account: u16,
     pub step: u64,
     pub session: Option<u64>,
 }
 
-// The number of a one-time code.
+/// The number of a one-time code.
 fn password_number(text: &[u8]) -> Option<u32>
     ensures { result ≡ password_of text.now }
 {
@@ -46,7 +47,7 @@ fn password_number(text: &[u8]) -> Option<u32>
     Some(number as u32)
 }
 
-// The enabled account whose number the user is.
+/// The enabled account whose number the user is.
 fn account_of(accounts: &Accounts, user: &[u8]) -> Option<Account>
     ensures { result ≡ account_of accounts.now user.now }
 {
@@ -55,7 +56,7 @@ fn account_of(accounts: &Accounts, user: &[u8]) -> Option<Account>
     if row.enabled { Some(row) } else { None }
 }
 
-// The account and the accepted step of the credentials.
+/// The account and the accepted step of the credentials.
 fn code_use_of(accounts: &Accounts, moment: u64, login: &LoginBody) -> Option<CodeUse>
     ensures { result ≡ code_use_of accounts.now moment login.now }
 {
@@ -68,27 +69,28 @@ fn code_use_of(accounts: &Accounts, moment: u64, login: &LoginBody) -> Option<Co
     })
 }
 
-// Whether a token's session, where it has one, is of the account.
+/// Whether a token's session, where it has one, is of the account.
 fn is_session_of(account: u16, session: Option<u64>) -> bool
     ensures { result ≡ is_session_of account session }
 {
     match session {
-        Some(session) => session / 1000000 == u64::from(account),
+        Some(session) => account_of_session(session) == u64::from(account),
         None => true,
     }
 }
 
-// The session of the token that is renewed, or why it isn't.
+/// The session of the token that is renewed, or why it isn't.
 fn renewed_session(
     alloc: Global,
     key: &[u8],
     account: u16,
-    access: &Option<Text>,
+    access_token: &Option<Text>,
 ) -> Result<Option<u64>, Rule>
-    ensures { MatchResult result (λ session. renewed_session key.now account access.now ≡ Some session)
-        (λ rule. (rule ≡ Rule.Unavailable) ⊎ ((rule ≡ Rule.RenewalRefused) × (renewed_session key.now account access.now ≡ None))) }
+    ensures { MatchResult result (λ session. renewed_session key.now account access_token.now ≡ Some session)
+        (λ rule. (rule ≡ Rule.Unavailable)
+        ⊎ ((rule ≡ Rule.RenewalRefused) × (renewed_session key.now account access_token.now ≡ None))) }
 {
-    let Some(text) = access else {
+    let Some(text) = access_token else {
         return Ok(None);
     };
     match verify_for_renewal(alloc, key, text.as_str().as_bytes()) {
@@ -99,7 +101,7 @@ fn renewed_session(
     }
 }
 
-// The rule of a body's fault.
+/// The rule of a body's fault.
 fn rule_of(fault: BodyFault) -> Rule
     ensures { result ≡ rule_of_fault fault }
 {
@@ -115,7 +117,7 @@ fn rule_of(fault: BodyFault) -> Rule
     }
 }
 
-// What the body of a login says, or the rule of the first of its tests that it fails, or that memory was refused.
+/// What the body of a login says, or the rule of the first of its tests that it fails, or that memory was refused.
 fn login_body(alloc: Global, body: &[u8]) -> Result<LoginBody, Rule>
     ensures { MatchResult result (λ login. login_of body.now ≡ Some login)
         (λ rule. (rule ≡ Rule.Unavailable) ⊎ FailsBody body.now rule) }
@@ -130,39 +132,41 @@ fn login_body(alloc: Global, body: &[u8]) -> Result<LoginBody, Rule>
     }
 }
 
-// The entry of a login that passes every test, or the rule of the first that it fails, or that memory
-// was refused.
+/// The entry of a login that passes every test, or the rule of the first that it fails, or that memory
+/// was refused.
 pub(crate) fn decide(
     alloc: Global,
     key: &[u8],
     accounts: &Accounts,
     moment: u64,
     body: &[u8],
-) -> Result<Entry, Rule>
-    ensures { IsDecided result (login_verdict key.now accounts.now moment body.now) }
+) -> Result<AcceptedLogin, Rule>
+    ensures { IsDecided result (login_decision key.now accounts.now moment body.now) }
 {
     let login = login_body(alloc, body)?;
     let Some(used) = code_use_of(accounts, moment, &login) else {
         return Err(Rule::LoginRefused);
     };
-    let session = renewed_session(alloc, key, used.account, &login.access)?;
-    Ok(Entry {
+    let session = renewed_session(alloc, key, used.account, &login.access_token)?;
+    Ok(AcceptedLogin {
         account: used.account,
         step: used.step,
         session,
     })
 }
 
-// The reply with an account's new token.
+/// The reply with an account's new token.
 pub(crate) fn token_reply(
     alloc: Global,
     key: &[u8; 32],
     date: &[u8; 29],
     moment: u64,
-    entry: Entry,
+    entry: AcceptedLogin,
 ) -> Result<Reply, AllocError>
-    requires { moment < 4102444800 }
-    ensures { IfOk result (λ reply. reply ≡ framed 200 (Some date.now) [] (body_of (reply_data (Login (token_text key.now (claims_at entry moment)))))) }
+    requires { moment < end_of_moments }
+    ensures { IfOk result
+        (λ reply. reply ≡ framed 200 (Some date.now) []
+        (body_of (reply_data (Login (token_text key.now (claims_at entry moment)))))) }
 {
     let claims = Claims {
         account: entry.account,

@@ -2,8 +2,8 @@
 ghost use Rattle.std.specs.Prelude.{◌≡◌, ◌≤◌, ◌<◌, ◌++◌, ◌∷◌, [], ℕ, List, false, length, take, IfNone, MatchResult, MatchOption, vec_len};
 ghost use Rattle.std.specs.Option.{option_to_list};
 ghost use Rattle.std.specs.Io.KnownBytes.{Consumes, IsAtEnd};
-ghost use Rattle.acvp_http.specs.Lines.{Lacks};
-ghost use Rattle.acvp_http.specs.Reading.{TakesPart, StopsReading, StopsLine, StopsFilling, HasNoBody, StopsBody, StopsEvent, event_of};
+ghost use Rattle.acvp_http.specs.Private.Lines.{Lacks};
+ghost use Rattle.acvp_http.specs.Private.Reading.{TakesPart, StopsReading, StopsLine, StopsFilling, HasNoBody, StopsBody, StopsEvent, event_of};
 ghost use Rattle.acvp_http.specs.Script.{IsWritten, HasNoEvent};
 
 use crate::records::Order;
@@ -11,12 +11,12 @@ use crate::script::{Line, ScriptFault, read_line};
 use crate::source::{Source, is_interrupted};
 use std::alloc::Global;
 
-// As many bytes as a line has at most, without its line feed: `account-add`, a moment of 19 digits, an account's number of 4 and
-// a secret of 64, with three spaces.
+/// As many bytes as a line has at most, without its line feed: `account-add`, a moment of 19 digits, an account's
+/// number of 4 and a secret of 64, with three spaces.
 const LONGEST_LINE: usize = 101;
 
-// Reads some bytes, which are none only at the end or where there is no room. A read that is interrupted is tried again, until the
-// reader was read as often as it may be.
+/// Reads some bytes, which are none only at the end or where there is no room. A read that is interrupted is tried
+/// again, until the reader was read as often as it may be.
 fn read_some<S: Source>(reader: &mut S, limit: u64, buf: &mut [u8]) -> Result<usize, ScriptFault>
     requires { S.failed reader.old ≡ false }
     ensures { MatchResult result
@@ -39,7 +39,7 @@ fn read_some<S: Source>(reader: &mut S, limit: u64, buf: &mut [u8]) -> Result<us
     Err(ScriptFault::Limit)
 }
 
-// The next byte, or `None` at the end.
+/// The next byte, or `None` at the end.
 pub(crate) fn read_byte<S: Source>(reader: &mut S, limit: u64) -> Result<Option<u8>, ScriptFault>
     requires { S.failed reader.old ≡ false }
     ensures { MatchResult result
@@ -57,7 +57,7 @@ pub(crate) fn read_byte<S: Source>(reader: &mut S, limit: u64) -> Result<Option<
     }
 }
 
-// The length of the next line, which stands in `line`, or `None` at the end.
+/// The length of the next line, which stands in `line`, or `None` at the end.
 fn read_whole_line<S: Source>(
     reader: &mut S,
     limit: u64,
@@ -88,12 +88,13 @@ fn read_whole_line<S: Source>(
     }
 }
 
-// Fills the buffer.
+/// Fills the buffer.
 fn fill<S: Source>(reader: &mut S, limit: u64, buf: &mut [u8]) -> Result<(), ScriptFault>
     requires { S.failed reader.old ≡ false }
     ensures { MatchResult result
         (λ _. (S.failed reader.new ≡ false) × Consumes (S.held reader.old) (S.held reader.new) buf.new)
-        (λ fault. StopsFilling (length buf.old) (S.held reader.old) fault (S.failed reader.new) (S.reads reader.new) limit
+        (λ fault. StopsFilling (length buf.old) (S.held reader.old) fault (S.failed reader.new)
+        (S.reads reader.new) limit
         × TakesPart (S.held reader.old) (S.held reader.new) (λ part. length part < length buf.old)) }
 {
     let mut filled = 0;
@@ -106,7 +107,7 @@ fn fill<S: Source>(reader: &mut S, limit: u64, buf: &mut [u8]) -> Result<(), Scr
     Ok(())
 }
 
-// The bytes of a request, and the line feed after them.
+/// The bytes of a request, and the line feed after them.
 fn read_request_bytes<S: Source>(
     alloc: Global,
     reader: &mut S,
@@ -129,14 +130,14 @@ fn read_request_bytes<S: Source>(
     }
 }
 
-// An event of a script.
+/// An event of a script.
 #[derive(Drop)]
 pub(crate) enum ScriptEvent {
     Request { moment: u64, bytes: Vec<u8> },
     Order { moment: u64, order: Order },
 }
 
-// Reads the next event, or `None` at the end of the input.
+/// Reads the next event, or `None` at the end of the input.
 pub(crate) fn next_event<S: Source>(
     alloc: Global,
     reader: &mut S,

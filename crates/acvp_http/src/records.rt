@@ -1,6 +1,6 @@
 //! The records that the server keeps, and the operator's orders on them.
 ghost use Rattle.std.specs.Prelude.{◌≡◌, ◌++◌, [], ◌∷◌, None, OnOk, OnErr, true, is_some, find, option_copied, ◌==◌, if◌then◌else◌};
-ghost use Rattle.acvp_http.specs.Records.{row_of, changed, disabled, with_step, OrderAnswered};
+ghost use Rattle.acvp_http.specs.Records.{row_of, changed, disabled, with_step, AreAccounts, IsOrder, OrderAnswered};
 
 use std::alloc::{AllocError, Global};
 use std::marker::Model;
@@ -40,7 +40,7 @@ pub enum OrderReply {
     Unavailable,
 }
 
-/// The accounts in the order in which they were added.
+/// The accounts in the order in which they were added, each of a number from 1 to 9999.
 #[derive(Drop)]
 pub struct Accounts {
     rows: Vec<Account>,
@@ -49,13 +49,16 @@ pub struct Accounts {
 impl Model for Accounts {
     ghost use Rattle.std.specs.Prelude.{List};
     ghost use Rattle.acvp_http.specs.declared.records.Account.{Account};
+    ghost use Rattle.acvp_http.specs.Records.{AreAccounts};
 
     ghost Value = { List Account };
 
     ghost view = { λ a. a.rows.items };
+
+    ghost invariant = { λ a. AreAccounts a.rows.items };
 }
 
-// The first row of this number.
+/// The first row of this number.
 fn row_in(rows: &[Account], number: u64) -> Option<Account>
     ensures { result ≡ row_of rows.now number }
 {
@@ -67,7 +70,7 @@ fn row_in(rows: &[Account], number: u64) -> Option<Account>
     None
 }
 
-// The row, disabled where it has this number.
+/// The row, disabled where it has this number.
 fn disable_at(row: Account, number: u16) -> Account
     ensures { result ≡ (if row.number == number then disabled row else row) }
 {
@@ -81,7 +84,7 @@ fn disable_at(row: Account, number: u16) -> Account
     }
 }
 
-// Disables the rows of this number.
+/// Disables the rows of this number.
 fn disable_in(rows: &mut [Account], number: u16)
     ensures { rows.new ≡ changed number disabled rows.old }
 {
@@ -90,7 +93,7 @@ fn disable_in(rows: &mut [Account], number: u16)
     }
 }
 
-// The row, with this last step where it has this number.
+/// The row, with this last step where it has this number.
 fn use_step_at(row: Account, number: u16, step: u64) -> Account
     ensures { result ≡ (if row.number == number then with_step step row else row) }
 {
@@ -104,7 +107,7 @@ fn use_step_at(row: Account, number: u16, step: u64) -> Account
     }
 }
 
-// Notes the step in the rows of this number.
+/// Notes the step in the rows of this number.
 fn use_step_in(rows: &mut [Account], number: u16, step: u64)
     ensures { rows.new ≡ changed number (with_step step) rows.old }
 {
@@ -138,7 +141,9 @@ impl Accounts {
 
     /// Carries an order out.
     pub fn order(&mut self, order: &Order) -> OrderReply
-        ensures { OrderAnswered self.old order.now self.new result }
+        requires { IsOrder order.now }
+        ensures answered { OrderAnswered self.old order.now self.new result }
+        ensures accounts { AreAccounts self.new }
     {
         match *order {
             Order::AddAccount { account, secret } => {

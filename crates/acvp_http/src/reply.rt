@@ -1,17 +1,17 @@
 //! The reply to a request: its head and its body.
 ghost use Rattle.std.specs.Prelude.{◌≡◌, ◌≤◌, ◌<◌, ◌++◌, ◌+◌, [], codes, length, decimal, unwrap_or, Some, None, option_map, option_copied, IfOk};
 ghost use Rattle.http.specs.StatusCode.{reason_phrase};
-ghost use Rattle.acvp_http.specs.Rule.{status_of, word_of};
+ghost use Rattle.acvp_policy.specs.Rule.{rule_status, rule_word};
 ghost use Rattle.acvp_http.specs.Reply.{phrase_of, line, date_line, rule_line, head_text, framed, date_shown, refusal, error_object};
 ghost use Rattle.acvp_json.specs.Written.{body_of};
 
-use crate::rule::Rule;
 use crate::text::Text;
+use acvp_policy::Rule;
 use http::StatusCode;
 use std::alloc::{AllocError, Global};
 use std::marker::Model;
 
-// The phrase of a status code (RFC 9110, section 15).
+/// The phrase of a status code (RFC 9110, section 15).
 fn phrase(status: u16) -> &'static str
     requires { (100 ≤ status) × (status < 1000) }
     ensures { result.now ≡ phrase_of status }
@@ -22,7 +22,7 @@ fn phrase(status: u16) -> &'static str
     }
 }
 
-// The first line, with its end.
+/// The first line, with its end.
 fn status_line(status: u16) -> Text
     requires code { (100 ≤ status) × (status < 1000) }
     requires short { length (phrase_of status) ≤ 31 }
@@ -38,7 +38,7 @@ fn status_line(status: u16) -> Text
     text
 }
 
-// The `Date` line, where there is a date.
+/// The `Date` line, where there is a date.
 fn push_date(text: &mut Text, date: Option<&[u8; 29]>)
     requires { length text.old ≤ 80 }
     ensures bytes { text.new ≡ text.old ++ date_line (option_copied date.entry) }
@@ -51,12 +51,12 @@ fn push_date(text: &mut Text, date: Option<&[u8; 29]>)
     }
 }
 
-// The head of a reply whose body has this length.
-fn head(status: u16, date: Option<&[u8; 29]>, besides: &[u8], body_length: u64) -> Text
+/// The head of a reply whose body has this length.
+fn head(status: u16, date: Option<&[u8; 29]>, extra_fields: &[u8], body_length: u64) -> Text
     requires code { (100 ≤ status) × (status < 1000) }
     requires short { length (phrase_of status) ≤ 31 }
-    requires besides { length besides.now ≤ 64 }
-    ensures value { result ≡ head_text status (option_copied date.entry) besides.now body_length }
+    requires extra_fields { length extra_fields.now ≤ 64 }
+    ensures value { result ≡ head_text status (option_copied date.entry) extra_fields.now body_length }
     ensures len { length result ≤ 384 }
 {
     let mut text = status_line(status);
@@ -64,13 +64,13 @@ fn head(status: u16, date: Option<&[u8; 29]>, besides: &[u8], body_length: u64) 
     text.push(b"Content-Type: application/json\r\nContent-Length: ");
     text.push_number(body_length);
     text.push(b"\r\nConnection: close\r\n");
-    text.push(besides);
+    text.push(extra_fields);
     text.push(b"\r\n");
     text
 }
 
-// The lines that a refusal has besides.
-fn besides(rule: Rule) -> &'static [u8]
+/// The fields that a refusal has beside those of every reply.
+fn extra_fields(rule: Rule) -> &'static [u8]
     ensures value { result.now ≡ rule_line rule }
     ensures len { length result.now ≤ 64 }
 {
@@ -80,7 +80,7 @@ fn besides(rule: Rule) -> &'static [u8]
     }
 }
 
-// The date that a refusal shows.
+/// The date that a refusal shows.
 fn date_shown(date: Option<&[u8; 29]>, rule: Rule) -> Option<&[u8; 29]>
     ensures { option_copied result ≡ date_shown (option_copied date.entry) rule }
 {
@@ -90,7 +90,7 @@ fn date_shown(date: Option<&[u8; 29]>, rule: Rule) -> Option<&[u8; 29]>
     }
 }
 
-// The body of a refusal.
+/// The body of a refusal.
 fn error_body(rule: Rule) -> Text
     ensures value { result ≡ body_of (error_object rule) }
     ensures len { length result ≤ 64 }
@@ -116,20 +116,21 @@ pub struct Reply {
 
 impl Model for Reply {
     ghost use Rattle.std.specs.Prelude.{List, ℕ};
-    ghost use Rattle.acvp_http.specs.ReplyBytes.{bytes_of};
+    ghost use Rattle.acvp_http.specs.Private.ReplyBytes.{bytes_of};
 
     ghost Value = { List ℕ };
 
     ghost view = { λ r. bytes_of r.bytes };
 }
 
-// The reply that names a rule, with this date.
+/// The reply that names a rule, with this date.
 #[tactic(auto, unfolding(crate::specs::Reply::framed))]
 fn refusal_text(date: Option<&[u8; 29]>, rule: Rule) -> Text
-    ensures { result ≡ framed (status_of rule) (option_copied date.entry) (rule_line rule) (body_of (error_object rule)) }
+    ensures { result ≡ framed (rule_status rule) (option_copied date.entry) (rule_line rule)
+        (body_of (error_object rule)) }
 {
     let body = error_body(rule);
-    let mut text = head(rule.status(), date, besides(rule), body.len() as u64);
+    let mut text = head(rule.status(), date, extra_fields(rule), body.len() as u64);
     text.push(body.as_slice());
     text
 }

@@ -3,7 +3,7 @@ ghost use Rattle.std.specs.Prelude.{◌≡◌, IfOk, Some, None, option_map};
 ghost use Rattle.matchit.specs.Seek.{first};
 ghost use Rattle.acvp_http.specs.Asks.{route_of, path_named};
 
-use crate::rule::Rule;
+use acvp_policy::Rule;
 use matchit::Router;
 use std::alloc::{AllocError, Global};
 use std::marker::Model;
@@ -38,7 +38,7 @@ impl Model for Routes {
     ghost invariant = { λ a. a.router ≡ table };
 }
 
-// What the router has for a path.
+/// What the router has for a path.
 fn look_up(router: &Router<Path>, path: &str) -> Option<Path>
     ensures { result ≡ option_map (λ route. route.value) (first router.now path.now) }
 {
@@ -59,7 +59,7 @@ impl Routes {
         }
     }
 
-    // The path of the table that these bytes are.
+    /// The path of the table that these bytes are.
     fn path(&self, path: &[u8]) -> Option<Path>
         ensures { result ≡ path_named path.now }
     {

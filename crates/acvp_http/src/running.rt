@@ -1,11 +1,11 @@
 //! A script from its bytes to the bytes of the replies.
-ghost use Rattle.std.specs.Prelude.{◌≡◌, ◌≤◌, ◌⊎◌, Bool, false};
-ghost use Rattle.acvp_http.specs.Event.{Answer};
-ghost use Rattle.acvp_http.specs.Reading.{event_of};
-ghost use Rattle.acvp_http.specs.Run.{RunsScript, GoesOn, ReadsTooOften, is_read_answer, is_write_answer};
+ghost use Rattle.std.specs.Prelude.{◌≡◌, Bool, false};
+ghost use Rattle.acvp_http.specs.Event.{Answer, CanHappen};
+ghost use Rattle.acvp_http.specs.Private.Reading.{event_of};
+ghost use Rattle.acvp_http.specs.Run.{RunsScript, is_read_answer, is_write_answer};
 ghost use Rattle.acvp_http.specs.Script.{answer_text};
 ghost use Rattle.acvp_http.specs.Serve.{Takes};
-ghost use Rattle.acvp_http.specs.Writing.{WritesText};
+ghost use Rattle.acvp_http.specs.Private.Writing.{WritesText};
 
 use crate::desk::Desk;
 use crate::reading::{ScriptEvent, next_event, read_byte};
@@ -20,7 +20,7 @@ const MOST_EVENTS: u64 = 100000;
 
 const MOST_READS: u64 = 1000000000;
 
-// Handles an event, and writes its answer.
+/// Handles an event, and writes its answer.
 fn take_turn<K: Sink>(
     alloc: Global,
     routes: &Routes,
@@ -28,10 +28,11 @@ fn take_turn<K: Sink>(
     event: &ScriptEvent,
     writer: &mut K,
 ) -> Result<(), ScriptFault>
-    requires { K.failed writer.old ≡ false }
+    requires clear { K.failed writer.old ≡ false }
+    requires event { CanHappen (event_of event.now) }
     ensures keys { desk.new.keys ≡ desk.old.keys }
-    ensures turn { (marked : Bool) × (answer : Answer)
-        × Takes desk.old (record { event = event_of event.now; marked = marked }) desk.new.accounts answer
+    ensures turn { (unavailable : Bool) × (answer : Answer)
+        × Takes desk.old (record { event = event_of event.now; unavailable = unavailable }) desk.new.accounts answer
         × WritesText (K.contents writer.old) (K.contents writer.new) (K.failed writer.new) (answer_text answer) result }
 {
     match event {
@@ -46,8 +47,8 @@ fn take_turn<K: Sink>(
     }
 }
 
-/// Runs a script. It ends at the input's end, or at the first fault; the event at fault isn't handled, but for a writer that fails,
-/// which does so after its event was handled. The number is how many events there were.
+/// Runs a script. It ends at the input's end, or at the first fault; the event at fault isn't handled, but for a writer
+/// that fails, which does so after its event was handled. The number is how many events there were.
 pub fn run<S: Source, K: Sink>(
     alloc: Global,
     routes: &Routes,
@@ -58,8 +59,9 @@ pub fn run<S: Source, K: Sink>(
     requires reader_clear { S.failed reader.old ≡ false }
     requires writer_clear { K.failed writer.old ≡ false }
     ensures keys { desk.new.keys ≡ desk.old.keys }
-    ensures run { RunsScript desk.old desk.new.accounts (S.held reader.old) (S.held reader.new) (K.contents writer.old) (K.contents writer.new) result }
-    ensures limit { result ≡ Err ScriptFault.Limit → GoesOn (S.held reader.old) ⊎ ReadsTooOften (S.reads reader.old) (S.reads reader.new) }
+    ensures run { RunsScript desk.old desk.new.accounts (S.held reader.old) (S.held reader.new) (S.reads reader.old)
+        (S.reads reader.new)
+        (K.contents writer.old) (K.contents writer.new) result }
     ensures read_fault { S.failed reader.new ≡ is_read_answer result }
     ensures write_fault { K.failed writer.new ≡ is_write_answer result }
 {

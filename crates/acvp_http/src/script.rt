@@ -1,7 +1,8 @@
 //! The lines of a script.
 ghost use Rattle.std.specs.Prelude.{◌≡◌, ◌≢◌, ◌++◌, ◌∷◌, ◌≤◌, ℕ, List, MatchOption, decimal};
-ghost use Rattle.acvp_http.specs.Script.{IsAccountNumber, IsSecretText};
-ghost use Rattle.acvp_http.specs.Lines.{Lacks, IsMoment, IsRequestTail, IsAddTail, IsDisableTail, IsLine, word_of};
+ghost use Rattle.acvp_http.specs.Script.{IsSecretText};
+ghost use Rattle.acvp_http.specs.Records.{IsAccountNumber};
+ghost use Rattle.acvp_http.specs.Private.Lines.{Lacks, IsMoment, IsRequestTail, IsAddTail, IsDisableTail, IsLine, command_word};
 ghost use Rattle.acvp_http.specs.declared.script.Line.{Line};
 ghost use Rattle.acvp_http.specs.declared.script.Command.{Command};
 
@@ -40,7 +41,7 @@ pub(crate) enum Line {
     Order { moment: u64, order: Order },
 }
 
-// What stands before the first space, and after it.
+/// What stands before the first space, and after it.
 fn split_at_space(text: &[u8]) -> Option<(&[u8], &[u8])>
     ensures { MatchOption result (Lacks 32 text.now)
         (λ parts. Lacks 32 parts.0.now × (text.now ≡ parts.0.now ++ 32 ∷ parts.1.now)) }
@@ -75,7 +76,7 @@ fn read_secret(text: &[u8]) -> Option<[u8; 32]>
     }
 }
 
-// A moment, and what stands after its space.
+/// A moment, and what stands after its space.
 fn read_moment(text: &[u8]) -> Option<(u64, &[u8])>
     ensures { MatchOption result ((moment : ℕ) (rest : List ℕ) → IsMoment moment rest text.now → ⊥)
         (λ parts. IsMoment parts.0 parts.1.now text.now) }
@@ -84,7 +85,7 @@ fn read_moment(text: &[u8]) -> Option<(u64, &[u8])>
     Some((plain_number(moment)?, rest))
 }
 
-// The moment and the number of bytes of a request.
+/// The moment and the number of bytes of a request.
 fn read_request(text: &[u8]) -> Option<(u64, u64)>
     ensures { MatchOption result ((moment size : ℕ) → IsRequestTail moment size text.now → ⊥)
         (λ numbers. IsRequestTail numbers.0 numbers.1 text.now) }
@@ -97,7 +98,7 @@ fn read_request(text: &[u8]) -> Option<(u64, u64)>
     Some((moment, length))
 }
 
-// The moment of an order, the account's number and its secret.
+/// The moment of an order, the account's number and its secret.
 fn read_add(text: &[u8]) -> Option<(u64, u16, [u8; 32])>
     ensures { MatchOption result
         ((moment account : ℕ) (secret : List ℕ) → IsAddTail moment account secret text.now → ⊥)
@@ -110,7 +111,7 @@ fn read_add(text: &[u8]) -> Option<(u64, u16, [u8; 32])>
     Some((moment, account, secret))
 }
 
-// The moment of an order, and the account's number.
+/// The moment of an order, and the account's number.
 fn read_disable(text: &[u8]) -> Option<(u64, u16)>
     ensures { MatchOption result ((moment account : ℕ) → IsDisableTail moment account text.now → ⊥)
         (λ parts. IsDisableTail parts.0 parts.1 text.now) }
@@ -120,7 +121,7 @@ fn read_disable(text: &[u8]) -> Option<(u64, u16)>
     Some((moment, account))
 }
 
-// The first word of a line.
+/// The first word of a line.
 #[derive(Clone, Copy, PartialEq, Eq)]
 enum Command {
     Request,
@@ -129,7 +130,8 @@ enum Command {
 }
 
 fn command_of(word: &[u8]) -> Option<Command>
-    ensures { MatchOption result ((command : Command) → word.now ≢ word_of command) (λ command. word.now ≡ word_of command) }
+    ensures { MatchOption result ((command : Command) → word.now ≢ command_word command)
+        (λ command. word.now ≡ command_word command) }
 {
     if word == REQUEST {
         Some(Command::Request)

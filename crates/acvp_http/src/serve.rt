@@ -8,14 +8,14 @@ use crate::ask::ask;
 use crate::desk::Desk;
 use crate::reply::Reply;
 use crate::routes::Routes;
-use crate::rule::Rule;
+use acvp_policy::Rule;
 use httpdate::HttpDate;
 use std::alloc::Global;
 
 /// The first moment that is no longer served: the year 2100, in seconds since 1970.
 pub const END_OF_MOMENTS: u64 = 4102444800;
 
-// The date and time of a moment, as the `Date` field shows it.
+/// The date and time of a moment, as the `Date` field shows it.
 fn date_of(moment: u64) -> [u8; 29]
     requires { moment < end_of_moments }
     ensures { IsDateOf moment result }

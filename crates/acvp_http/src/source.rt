@@ -9,13 +9,13 @@ use std::io::{self, ErrorKind, Read, Write};
 
 /// What is read. A read that fails otherwise than by `Interrupted` is a fault.
 pub trait Source {
-    // The bytes that reads will give from here on, where they are known.
+    /// The bytes that reads will give from here on, where they are known.
     ghost held: { Self → Option (List ℕ) };
 
-    // Whether a read has failed.
+    /// Whether a read has failed.
     ghost failed: { Self → Bool };
 
-    // How many reads were asked for, as far as they are counted.
+    /// How many reads were asked for, as far as they are counted.
     ghost reads: { Self → ℕ };
 
     /// Reads some of the bytes, as `std::io::Read` does.
@@ -32,10 +32,10 @@ pub trait Source {
 
 /// What is written to. An error, and a write of some bytes that takes none of them, is a fault.
 pub trait Sink {
-    // The bytes that are written, where they are known.
+    /// The bytes that are written, where they are known.
     ghost contents: { Self → Option (List ℕ) };
 
-    // Whether a write has failed.
+    /// Whether a write has failed.
     ghost failed: { Self → Bool };
 
     /// Writes some of the bytes, as `std::io::Write` does.

@@ -42,7 +42,7 @@ impl Text {
         self.len
     }
 
-    // Writes one byte at the end.
+    /// Writes one byte at the end.
     fn push_byte(&mut self, byte: u8)
         requires { length self.old < 512 }
         ensures bytes { self.new ≡ self.old ++ byte ∷ [] }

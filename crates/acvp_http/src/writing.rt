@@ -2,14 +2,14 @@
 ghost use Rattle.std.specs.Prelude.{◌≡◌, ◌≤◌, ◌++◌, codes, decimal, false};
 ghost use Rattle.acvp_http.specs.Event.{replied, ordered};
 ghost use Rattle.acvp_http.specs.Script.{answer_text};
-ghost use Rattle.acvp_http.specs.Writing.{WritesText};
+ghost use Rattle.acvp_http.specs.Private.Writing.{WritesText};
 
 use crate::records::OrderReply;
 use crate::script::ScriptFault;
 use crate::source::Sink;
 use crate::text::Text;
 
-// Writes all of the bytes.
+/// Writes all of the bytes.
 fn write_all<K: Sink>(writer: &mut K, bytes: &[u8]) -> Result<(), ScriptFault>
     requires { K.failed writer.old ≡ false }
     ensures { WritesText (K.contents writer.old) (K.contents writer.new) (K.failed writer.new) bytes.now result }
@@ -34,7 +34,7 @@ fn write_both<K: Sink>(writer: &mut K, first: &[u8], second: &[u8]) -> Result<()
     write_all(writer, second)
 }
 
-// The line in front of a reply of this length.
+/// The line in front of a reply of this length.
 fn reply_line(size: u64) -> Text
     ensures { result ≡ codes "reply " ++ decimal size ++ codes "\n" }
 {
@@ -48,7 +48,8 @@ fn reply_line(size: u64) -> Text
 /// Writes a reply to a request.
 pub(crate) fn write_reply<K: Sink>(writer: &mut K, reply: &[u8]) -> Result<(), ScriptFault>
     requires { K.failed writer.old ≡ false }
-    ensures { WritesText (K.contents writer.old) (K.contents writer.new) (K.failed writer.new) (answer_text (replied reply.now)) result }
+    ensures { WritesText (K.contents writer.old) (K.contents writer.new) (K.failed writer.new)
+        (answer_text (replied reply.now)) result }
 {
     let line = reply_line(reply.len() as u64);
     write_both(writer, line.as_slice(), reply)?;
@@ -69,7 +70,8 @@ fn order_text(reply: OrderReply) -> &'static [u8]
 /// Writes the reply to an order.
 pub(crate) fn write_order<K: Sink>(writer: &mut K, reply: OrderReply) -> Result<(), ScriptFault>
     requires { K.failed writer.old ≡ false }
-    ensures { WritesText (K.contents writer.old) (K.contents writer.new) (K.failed writer.new) (answer_text (ordered reply)) result }
+    ensures { WritesText (K.contents writer.old) (K.contents writer.new) (K.failed writer.new)
+        (answer_text (ordered reply)) result }
 {
     write_all(writer, order_text(reply))
 }

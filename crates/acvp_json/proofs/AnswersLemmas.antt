@@ -17,37 +17,28 @@ use Rattle.acvp_gen.specs.Prompt.{GroupValue, PromptsValue}
 use Rattle.acvp_answers.specs.Answer.{Answer, is_answered}
 use Rattle.acvp_json.specs.declared.fault.BodyFault.{BodyFault}
 use Rattle.acvp_json.specs.declared.fault.BodyFault.TheVariants.{UnknownTest, DuplicateTest, BodyField, Memory}
-use Rattle.acvp_json.specs.AnswersBody.{Given, given_in_group, given_in_groups, given_in, has_answers_form, is_for_set, answers_body_tests, answers_body_of, test_of, group_for, texts_given, given_tests, all_given_tests, answer_given, placed}
-use Rattle.acvp_json.specs.AnswersReading.{after_given, after_all, and_then_all}
-use Rattle.acvp_json.specs.Tests.{Test, unless_broken, verdict}
+use Rattle.acvp_json.specs.AnswersBody.{Given, given_in_group, given_in_groups, given_in, has_answers_form, is_for_set, answers_body_conditions, answers_body_of, test_of, group_for, texts_given, given_conditions, all_given_conditions, answer_given, placed}
+use Rattle.acvp_json.specs.Private.AnswersReading.{after_given, after_all, and_then_all}
+use Rattle.acvp_caps.specs.Conditions.{Condition, first_broken, judged, unless}
+use Rattle.acvp_caps.proofs.ConditionLemmas.{after, front}
 
 -- ---- one after another
 
-pub all_of_both : (prompts : PromptsValue) (answers : List Answer) (given more : List Given) → after_all prompts answers (given ++ more) ≡ and_then_all (λ before. after_all prompts before more) (after_all prompts answers given)
+pub all_of_both : (prompts : PromptsValue) (answers : List Answer) (given more : List Given)
+    → after_all prompts answers (given ++ more) ≡ and_then_all (λ before. after_all prompts before more)
+    (after_all prompts answers given)
 all_of_both prompts answers [] more = refl
-all_of_both prompts answers (g ∷ given) more = first (λ before. all_of_both prompts before given more) (after_given prompts answers g)
+all_of_both prompts answers (g ∷ given) more =
+    first (λ before. all_of_both prompts before given more) (after_given prompts answers g)
   where
-    first : ((before : List Answer) → after_all prompts before (given ++ more) ≡ and_then_all (λ before. after_all prompts before more) (after_all prompts before given)) → (r : Result (List Answer) BodyFault) → and_then_all (λ before. after_all prompts before (given ++ more)) r ≡ and_then_all (λ before. after_all prompts before more) (and_then_all (λ before. after_all prompts before given) r)
+    first : ((before : List Answer)
+        → after_all prompts before (given ++ more) ≡ and_then_all (λ before. after_all prompts before more)
+        (after_all prompts before given)) → (r : Result (List Answer) BodyFault)
+        → and_then_all (λ before. after_all prompts before (given ++ more)) r
+        ≡ and_then_all (λ before. after_all prompts before more)
+        (and_then_all (λ before. after_all prompts before given) r)
     first later (Ok before) = later before
     first later (Err fault) = refl
-
--- ---- tests in two parts
-
-find_both : (ts us : List Test) → find (λ t. not t.0) ts ≡ None → find (λ t. not t.0) (ts ++ us) ≡ find (λ t. not t.0) us
-find_both [] us none = refl
-find_both (t ∷ ts) us none = at (λ none. find_both ts us none) t.0 none
-  where
-    at : (find (λ t. not t.0) ts ≡ None → find (λ t. not t.0) (ts ++ us) ≡ find (λ t. not t.0) us) → (b : Bool) → cond (not b) (Some t) (find (λ t. not t.0) ts) ≡ None → cond (not b) (Some t) (find (λ t. not t.0) (ts ++ us)) ≡ find (λ t. not t.0) us
-    at later true none = later none
-    at later false none = cc
-
-find_first : (ts us : List Test) (t : Test) → find (λ t. not t.0) ts ≡ Some t → find (λ t. not t.0) (ts ++ us) ≡ Some t
-find_first [] us u found = cc
-find_first (t ∷ ts) us u found = at (λ found. find_first ts us u found) t.0 found
-  where
-    at : (find (λ t. not t.0) ts ≡ Some u → find (λ t. not t.0) (ts ++ us) ≡ Some u) → (b : Bool) → cond (not b) (Some t) (find (λ t. not t.0) ts) ≡ Some u → cond (not b) (Some t) (find (λ t. not t.0) (ts ++ us)) ≡ Some u
-    at later true found = later found
-    at later false found = found
 
 -- ---- the numbers of the answers before
 
@@ -57,7 +48,9 @@ same_number a b h = grind (arith, nat_tests)
 equal_numbers : (a b : ℕ) → nat_cmp a b ≡ Equal → a ≡ b
 equal_numbers a b is = ranked a b Equal (sym is)
 
-one_key_more : (es : List Answer) (n m : ℕ) (v : List (List ℕ)) → list_any (λ k. nat_eq k m) (keys_of (insert_entry nat_cmp es n v)) ≡ (list_any (λ k. nat_eq k m) (keys_of es) || nat_eq n m)
+one_key_more : (es : List Answer) (n m : ℕ) (v : List (List ℕ))
+    → list_any (λ k. nat_eq k m) (keys_of (insert_entry nat_cmp es n v)) ≡ (list_any (λ k. nat_eq k m) (keys_of es)
+    || nat_eq n m)
 one_key_more [] n m v = at (nat_eq n m)
   where
     at : (b : Bool) → (b || false) ≡ (false || b)
@@ -82,16 +75,22 @@ one_key_more (e ∷ es) n m v = at (nat_cmp n e.0) refl (one_key_more es n m v)
     greater true b c d is = refl
     greater false b c d is = is
 
-    at : (o : Ordering) → nat_cmp n e.0 ≡ o → list_any (λ k. nat_eq k m) (keys_of (insert_entry nat_cmp es n v)) ≡ (list_any (λ k. nat_eq k m) (keys_of es) || nat_eq n m) →
-        list_any (λ k. nat_eq k m) (keys_of (match_ordering o ((n, v) ∷ e ∷ es) ((e.0, v) ∷ es) (e ∷ insert_entry nat_cmp es n v))) ≡ ((nat_eq e.0 m || list_any (λ k. nat_eq k m) (keys_of es)) || nat_eq n m)
+    at : (o : Ordering) → nat_cmp n e.0 ≡ o → list_any (λ k. nat_eq k m) (keys_of (insert_entry nat_cmp es n v))
+        ≡ (list_any (λ k. nat_eq k m) (keys_of es) || nat_eq n m) →
+        list_any (λ k. nat_eq k m)
+        (keys_of (match_ordering o ((n, v) ∷ e ∷ es) ((e.0, v) ∷ es) (e ∷ insert_entry nat_cmp es n v)))
+        ≡ ((nat_eq e.0 m || list_any (λ k. nat_eq k m) (keys_of es)) || nat_eq n m)
     at Less is more = less (nat_eq n m) (nat_eq e.0 m) (list_any (λ k. nat_eq k m) (keys_of es))
     at Equal is more =
         let same : n ≡ e.0 = equal_numbers n e.0 is in
         rw same (equal (nat_eq e.0 m) (list_any (λ k. nat_eq k m) (keys_of es)))
-    at Greater is more = greater (nat_eq e.0 m) (list_any (λ k. nat_eq k m) (keys_of es)) (list_any (λ k. nat_eq k m) (keys_of (insert_entry nat_cmp es n v))) (nat_eq n m) more
+    at Greater is more = greater (nat_eq e.0 m) (list_any (λ k. nat_eq k m) (keys_of es))
+        (list_any (λ k. nat_eq k m) (keys_of (insert_entry nat_cmp es n v))) (nat_eq n m) more
 
-one_before_more : (before : List ℕ) (n m : ℕ) → list_any (λ k. nat_eq k m) (before ++ n ∷ []) ≡ (list_any (λ k. nat_eq k m) before || nat_eq n m)
-one_before_more before n m = list_any-append (λ k. nat_eq k m) before (n ∷ []) ∙ at (list_any (λ k. nat_eq k m) before) (nat_eq n m)
+one_before_more : (before : List ℕ) (n m : ℕ)
+    → list_any (λ k. nat_eq k m) (before ++ n ∷ []) ≡ (list_any (λ k. nat_eq k m) before || nat_eq n m)
+one_before_more before n m = list_any-append (λ k. nat_eq k m) before (n ∷ [])
+    ∙ at (list_any (λ k. nat_eq k m) before) (nat_eq n m)
   where
     at : (a b : Bool) → (a || (b || false)) ≡ (a || b)
     at true b = refl
@@ -101,17 +100,22 @@ one_before_more before n m = list_any-append (λ k. nat_eq k m) before (n ∷ []
 -- ---- one answer
 
 -- an answer to a test that was answered before
-pub given_twice : (prompts : PromptsValue) (answers : List Answer) (given : Given) (group : GroupValue) → Some group ≡ group_for prompts given → true ≡ is_answered answers (test_of given) → after_given prompts answers given ≡ Err DuplicateTest
-given_twice prompts answers given group found before = at (is_some (group_for prompts given)) (ap (λ o. is_some o) (sym found)) (is_answered answers (test_of given)) (sym before)
+pub given_twice : (prompts : PromptsValue) (answers : List Answer) (given : Given) (group : GroupValue)
+    → Some group ≡ group_for prompts given → true ≡ is_answered answers (test_of given)
+    → after_given prompts answers given ≡ Err DuplicateTest
+given_twice prompts answers given group found before =
+    at (is_some (group_for prompts given)) (ap (λ o. is_some o) (sym found)) (is_answered answers (test_of given))
+    (sym before)
   where
     at : (a : Bool) → a ≡ true → (b : Bool) → b ≡ true →
-        verdict ((a, UnknownTest) ∷ (not b, DuplicateTest) ∷ (is_some (texts_given prompts given), BodyField) ∷ []) (placed answers (filter_map (answer_given prompts) (given ∷ []))) ≡ Err DuplicateTest
+        judged ((a, UnknownTest) ∷ (not b, DuplicateTest) ∷ (is_some (texts_given prompts given), BodyField)
+        ∷ []) (placed answers (filter_map (answer_given prompts) (given ∷ []))) ≡ Err DuplicateTest
     at true is true is' = refl
     at true is false is' = cc
     at false is b is' = cc
 
--- where all tests of an answer hold it has its texts, and else the fault is told
-holds_last : (a b c : Bool) (f g h : BodyFault) → find (λ (t : Test). not t.0) ((a, f) ∷ (b, g) ∷ (c, h) ∷ []) ≡ None → c ≡ true
+-- where all conditions on an answer hold it has its texts, and else the fault is told
+holds_last : (a b c : Bool) (f g h : BodyFault) → first_broken ((a, f) ∷ (b, g) ∷ (c, h) ∷ []) ≡ None → c ≡ true
 holds_last true true true f g h none = refl
 holds_last true true false f g h none = cc
 holds_last true false c f g h none = cc
@@ -119,62 +123,99 @@ holds_last false b c f g h none = cc
 
 -- the answers after one more
 placed_more : (prompts : PromptsValue) (answers : List Answer) (given : Given) (more : List Given) →
-    placed answers (filter_map (answer_given prompts) (given ∷ more)) ≡ placed (placed answers (filter_map (answer_given prompts) (given ∷ []))) (filter_map (answer_given prompts) more)
+    placed answers (filter_map (answer_given prompts) (given ∷ more))
+    ≡ placed (placed answers (filter_map (answer_given prompts) (given ∷ [])))
+    (filter_map (answer_given prompts) more)
 placed_more prompts answers given more = at (answer_given prompts given) refl
   where
     at : (o : Option Answer) → answer_given prompts given ≡ o →
-        placed answers (filter_map (answer_given prompts) (given ∷ more)) ≡ placed (placed answers (filter_map (answer_given prompts) (given ∷ []))) (filter_map (answer_given prompts) more)
+        placed answers (filter_map (answer_given prompts) (given ∷ more))
+        ≡ placed (placed answers (filter_map (answer_given prompts) (given ∷ [])))
+        (filter_map (answer_given prompts) more)
     at None is = rw is refl
     at (Some a) is = rw is refl
 
 -- the numbers after one more that has its texts
-same_numbers : (prompts : PromptsValue) (answers : List Answer) (before : List ℕ) (given : Given) → ((m : ℕ) → list_any (λ k. nat_eq k m) before ≡ list_any (λ k. nat_eq k m) (keys_of answers)) → is_some (texts_given prompts given) ≡ true →
-    (m : ℕ) → list_any (λ k. nat_eq k m) (before ++ test_of given ∷ []) ≡ list_any (λ k. nat_eq k m) (keys_of (placed answers (filter_map (answer_given prompts) (given ∷ []))))
+same_numbers : (prompts : PromptsValue) (answers : List Answer) (before : List ℕ) (given : Given)
+    → ((m : ℕ) → list_any (λ k. nat_eq k m) before ≡ list_any (λ k. nat_eq k m) (keys_of answers))
+    → is_some (texts_given prompts given) ≡ true →
+    (m : ℕ) → list_any (λ k. nat_eq k m) (before ++ test_of given ∷ []) ≡ list_any (λ k. nat_eq k m)
+    (keys_of (placed answers (filter_map (answer_given prompts) (given ∷ []))))
 same_numbers prompts answers before given same there m = at (texts_given prompts given) refl there
   where
     at : (o : Option (List (List ℕ))) → texts_given prompts given ≡ o → is_some o ≡ true →
-        list_any (λ k. nat_eq k m) (before ++ test_of given ∷ []) ≡ list_any (λ k. nat_eq k m) (keys_of (placed answers (filter_map (answer_given prompts) (given ∷ []))))
+        list_any (λ k. nat_eq k m) (before ++ test_of given ∷ []) ≡ list_any (λ k. nat_eq k m)
+        (keys_of (placed answers (filter_map (answer_given prompts) (given ∷ []))))
     at None is there = cc
-    at (Some texts) is there = one_before_more before (test_of given) m ∙ rw (same m) (sym (rw is (one_key_more answers (test_of given) m texts)))
+    at (Some texts) is there = one_before_more before (test_of given) m
+        ∙ rw (same m) (sym (rw is (one_key_more answers (test_of given) m texts)))
 
 -- the tests of one answer speak of the numbers before it alone
-same_given_tests : (prompts : PromptsValue) (before keys : List ℕ) (given : Given) → ((m : ℕ) → list_any (λ k. nat_eq k m) before ≡ list_any (λ k. nat_eq k m) keys) → given_tests prompts before given ≡ given_tests prompts keys given
-same_given_tests prompts before keys given same = rw (same (test_of given)) refl
+same_given_conditions : (prompts : PromptsValue) (before keys : List ℕ) (given : Given)
+    → ((m : ℕ) → list_any (λ k. nat_eq k m) before ≡ list_any (λ k. nat_eq k m) keys)
+    → given_conditions prompts before given ≡ given_conditions prompts keys given
+same_given_conditions prompts before keys given same = rw (same (test_of given)) refl
 
 -- the tests of all answers as one list
-pub one_list : (prompts : PromptsValue) (given : List Given) (before : List ℕ) (answers : List Answer) → ((m : ℕ) → list_any (λ k. nat_eq k m) before ≡ list_any (λ k. nat_eq k m) (keys_of answers)) →
-    verdict (all_given_tests prompts before given) (placed answers (filter_map (answer_given prompts) given)) ≡ after_all prompts answers given
+pub one_list : (prompts : PromptsValue) (given : List Given) (before : List ℕ) (answers : List Answer)
+    → ((m : ℕ) → list_any (λ k. nat_eq k m) before ≡ list_any (λ k. nat_eq k m) (keys_of answers)) →
+    judged (all_given_conditions prompts before given) (placed answers (filter_map (answer_given prompts) given))
+    ≡ after_all prompts answers given
 one_list prompts [] before answers same = refl
 one_list prompts (g ∷ more) before answers same =
-    let rest = all_given_tests prompts (before ++ test_of g ∷ []) more in
-    ap (λ ts. verdict (ts ++ rest) (placed answers (filter_map (answer_given prompts) (g ∷ more)))) (same_given_tests prompts before (keys_of answers) g same)
-    ∙ ap (λ v. verdict (given_tests prompts (keys_of answers) g ++ rest) v) (placed_more prompts answers g more)
-    ∙ first (find (λ t. not t.0) (given_tests prompts (keys_of answers) g)) refl
-    (λ there. one_list prompts more (before ++ test_of g ∷ []) (placed answers (filter_map (answer_given prompts) (g ∷ []))) (same_numbers prompts answers before g same there))
+    let rest = all_given_conditions prompts (before ++ test_of g ∷ []) more in
+    ap (λ ts. judged (ts ++ rest) (placed answers (filter_map (answer_given prompts) (g ∷ more))))
+    (same_given_conditions prompts before (keys_of answers) g same)
+    ∙ ap (λ v. judged (given_conditions prompts (keys_of answers) g ++ rest) v) (placed_more prompts answers g more)
+    ∙ first (first_broken (given_conditions prompts (keys_of answers) g)) refl
+    (λ there. one_list prompts more (before ++ test_of g
+    ∷ []) (placed answers (filter_map (answer_given prompts) (g ∷ [])))
+    (same_numbers prompts answers before g same there))
   where
-    first : (o : Option Test) → find (λ t. not t.0) (given_tests prompts (keys_of answers) g) ≡ o →
+    first : (o : Option BodyFault) → first_broken (given_conditions prompts (keys_of answers) g) ≡ o →
         (is_some (texts_given prompts g) ≡ true →
-        verdict (all_given_tests prompts (before ++ test_of g ∷ []) more) (placed (placed answers (filter_map (answer_given prompts) (g ∷ []))) (filter_map (answer_given prompts) more)) ≡ after_all prompts (placed answers (filter_map (answer_given prompts) (g ∷ []))) more) →
-        verdict (given_tests prompts (keys_of answers) g ++ all_given_tests prompts (before ++ test_of g ∷ []) more) (placed (placed answers (filter_map (answer_given prompts) (g ∷ []))) (filter_map (answer_given prompts) more))
+        judged (all_given_conditions prompts (before ++ test_of g ∷ []) more)
+        (placed (placed answers (filter_map (answer_given prompts) (g ∷ [])))
+        (filter_map (answer_given prompts) more))
+        ≡ after_all prompts (placed answers (filter_map (answer_given prompts) (g ∷ []))) more) →
+        judged (given_conditions prompts (keys_of answers) g ++ all_given_conditions prompts (before ++ test_of g
+        ∷ []) more) (placed (placed answers (filter_map (answer_given prompts) (g ∷ [])))
+        (filter_map (answer_given prompts) more))
         ≡ and_then_all (λ before. after_all prompts before more) (after_given prompts answers g)
     first None is later =
-        let there : is_some (texts_given prompts g) ≡ true = holds_last (is_some (group_for prompts g)) (not (list_any (λ n. nat_eq n (test_of g)) (keys_of answers))) (is_some (texts_given prompts g)) UnknownTest DuplicateTest BodyField is in
-        let both = find_both (given_tests prompts (keys_of answers) g) (all_given_tests prompts (before ++ test_of g ∷ []) more) is in
+        let there : is_some (texts_given prompts g) ≡ true =
+        holds_last (is_some (group_for prompts g)) (not (list_any (λ n. nat_eq n (test_of g)) (keys_of answers)))
+        (is_some (texts_given prompts g)) UnknownTest DuplicateTest BodyField is in
+        let both = after (given_conditions prompts (keys_of answers) g)
+        (all_given_conditions prompts (before ++ test_of g ∷ []) more) is in
         rw (both, is) (later there)
-    first (Some t) is later = rw (find_first (given_tests prompts (keys_of answers) g) (all_given_tests prompts (before ++ test_of g ∷ []) more) t is, is) refl
+    first (Some fault) is later =
+        rw (
+          front (given_conditions prompts (keys_of answers) g) (all_given_conditions prompts (before ++ test_of g
+              ∷ []) more) fault is,
+          is,
+        ) refl
 
 -- ---- groups
 
-pub groups_go_on : (prompts : PromptsValue) (answers new : List Answer) (v : Value) (vs here : List Value) (total : Result (List Answer) BodyFault) → here ≡ v ∷ vs →
-    after_all prompts answers (given_in_group (view v)) ≡ Ok new → after_all prompts answers (given_in_groups (items_view here)) ≡ total → after_all prompts new (given_in_groups (items_view vs)) ≡ total
+pub groups_go_on : (prompts : PromptsValue) (answers new : List Answer) (v : Value) (vs here : List Value)
+    (total : Result (List Answer) BodyFault) → here ≡ v ∷ vs →
+    after_all prompts answers (given_in_group (view v)) ≡ Ok new
+    → after_all prompts answers (given_in_groups (items_view here)) ≡ total
+    → after_all prompts new (given_in_groups (items_view vs)) ≡ total
 groups_go_on prompts answers new v vs here total next read so =
-    let so' : after_all prompts answers (given_in_group (view v) ++ given_in_groups (items_view vs)) ≡ total = rw next at so in
-    let both : after_all prompts answers (given_in_group (view v) ++ given_in_groups (items_view vs)) ≡ after_all prompts new (given_in_groups (items_view vs)) =
-    all_of_both prompts answers (given_in_group (view v)) (given_in_groups (items_view vs)) ∙ ap (λ r. and_then_all (λ before. after_all prompts before (given_in_groups (items_view vs))) r) read in
+    let so' : after_all prompts answers (given_in_group (view v) ++ given_in_groups (items_view vs)) ≡ total =
+    rw next at so in
+    let both : after_all prompts answers (given_in_group (view v) ++ given_in_groups (items_view vs))
+    ≡ after_all prompts new (given_in_groups (items_view vs)) =
+    all_of_both prompts answers (given_in_group (view v)) (given_in_groups (items_view vs))
+    ∙ ap (λ r. and_then_all (λ before. after_all prompts before (given_in_groups (items_view vs))) r) read in
     sym both ∙ so'
 
-pub groups_end : (prompts : PromptsValue) (answers : List Answer) (v : Value) (vs here : List Value) (total : Result (List Answer) BodyFault) (fault : BodyFault) → here ≡ v ∷ vs →
-    (fault ≡ Memory) ⊎ (after_all prompts answers (given_in_group (view v)) ≡ Err fault) → after_all prompts answers (given_in_groups (items_view here)) ≡ total → (fault ≡ Memory) ⊎ (total ≡ Err fault)
+pub groups_end : (prompts : PromptsValue) (answers : List Answer) (v : Value) (vs here : List Value)
+    (total : Result (List Answer) BodyFault) (fault : BodyFault) → here ≡ v ∷ vs →
+    (fault ≡ Memory) ⊎ (after_all prompts answers (given_in_group (view v)) ≡ Err fault)
+    → after_all prompts answers (given_in_groups (items_view here)) ≡ total → (fault ≡ Memory) ⊎ (total ≡ Err fault)
 groups_end prompts answers v vs here total fault next read so = elim read [
   | inl memory ↦ inl memory
   | inr stopped ↦ inr (told stopped)
@@ -182,9 +223,11 @@ groups_end prompts answers v vs here total fault next read so = elim read [
   where
     told : after_all prompts answers (given_in_group (view v)) ≡ Err fault → total ≡ Err fault
     told stopped =
-        let so' : after_all prompts answers (given_in_group (view v) ++ given_in_groups (items_view vs)) ≡ total = rw next at so in
+        let so' : after_all prompts answers (given_in_group (view v) ++ given_in_groups (items_view vs)) ≡ total =
+        rw next at so in
         let both : after_all prompts answers (given_in_group (view v) ++ given_in_groups (items_view vs)) ≡ Err fault =
-        all_of_both prompts answers (given_in_group (view v)) (given_in_groups (items_view vs)) ∙ ap (λ r. and_then_all (λ before. after_all prompts before (given_in_groups (items_view vs))) r) stopped in
+        all_of_both prompts answers (given_in_group (view v)) (given_in_groups (items_view vs))
+        ∙ ap (λ r. and_then_all (λ before. after_all prompts before (given_in_groups (items_view vs))) r) stopped in
         sym so' ∙ both
 
 -- ---- the whole body
@@ -193,22 +236,29 @@ abbrev as_some : Result (List Answer) BodyFault → Result (Option (List Answer)
 as_some (Ok answers) = Ok (Some answers)
 as_some (Err fault) = Err fault
 
-verdict_some : (ts : List Test) (answers : List Answer) → verdict ts (Some answers) ≡ as_some (verdict ts answers)
-verdict_some ts answers = at (find (λ (t : Test). not t.0) ts)
+judged_some : (ts : List (Condition BodyFault)) (answers : List Answer)
+    → judged ts (Some answers) ≡ as_some (judged ts answers)
+judged_some ts answers = at (first_broken ts)
   where
-    at : (o : Option Test) → unless_broken o (Some answers) ≡ as_some (unless_broken o answers)
+    at : (o : Option BodyFault) → unless o (Some answers) ≡ as_some (unless o answers)
     at None = refl
-    at (Some t) = refl
+    at (Some fault) = refl
 
-whole_body : (d : Data) (prompts : PromptsValue) → has_answers_form d ≡ true → is_for_set d prompts ≡ true → verdict (answers_body_tests d prompts) (Some (answers_body_of d prompts)) ≡ as_some (after_all prompts [] (given_in d))
-whole_body d prompts form set = rw (form, set) (verdict_some (all_given_tests prompts [] (given_in d)) (answers_body_of d prompts) ∙ ap as_some (one_list prompts (given_in d) [] [] (λ m. refl)))
+whole_body : (d : Data) (prompts : PromptsValue) → has_answers_form d ≡ true → is_for_set d prompts ≡ true
+    → judged (answers_body_conditions d prompts) (Some (answers_body_of d prompts))
+    ≡ as_some (after_all prompts [] (given_in d))
+whole_body d prompts form set =
+    rw (form, set) (judged_some (all_given_conditions prompts [] (given_in d)) (answers_body_of d prompts)
+    ∙ ap as_some (one_list prompts (given_in d) [] [] (λ m. refl)))
 
-pub body_read : (d : Data) (prompts : PromptsValue) (answers : List Answer) → has_answers_form d ≡ true → is_for_set d prompts ≡ true → after_all prompts [] (given_in d) ≡ Ok answers →
-    verdict (answers_body_tests d prompts) (Some (answers_body_of d prompts)) ≡ Ok (Some answers)
+pub body_read : (d : Data) (prompts : PromptsValue) (answers : List Answer) → has_answers_form d ≡ true
+    → is_for_set d prompts ≡ true → after_all prompts [] (given_in d) ≡ Ok answers →
+    judged (answers_body_conditions d prompts) (Some (answers_body_of d prompts)) ≡ Ok (Some answers)
 body_read d prompts answers form set read = whole_body d prompts form set ∙ ap as_some read
 
-pub body_unread : (d : Data) (prompts : PromptsValue) (fault : BodyFault) → has_answers_form d ≡ true → is_for_set d prompts ≡ true → (fault ≡ Memory) ⊎ (after_all prompts [] (given_in d) ≡ Err fault) →
-    (fault ≡ Memory) ⊎ (verdict (answers_body_tests d prompts) (Some (answers_body_of d prompts)) ≡ Err fault)
+pub body_unread : (d : Data) (prompts : PromptsValue) (fault : BodyFault) → has_answers_form d ≡ true
+    → is_for_set d prompts ≡ true → (fault ≡ Memory) ⊎ (after_all prompts [] (given_in d) ≡ Err fault) →
+    (fault ≡ Memory) ⊎ (judged (answers_body_conditions d prompts) (Some (answers_body_of d prompts)) ≡ Err fault)
 body_unread d prompts fault form set unread = elim unread [
   | inl memory ↦ inl memory
   | inr stopped ↦ inr (whole_body d prompts form set ∙ ap as_some stopped)

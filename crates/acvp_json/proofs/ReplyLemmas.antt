@@ -16,7 +16,8 @@ use Rattle.acvp_json.specs.SetResults.{result_data}
 use Rattle.acvp_json.specs.VectorSet.{hash_test_data, mac_test_data, group_under, group_data}
 use Rattle.acvp_json.specs.Written.{enveloped}
 
-items-no_float : {X : Type 0} (f : X → Data) → ((x : X) → has_float (f x) ≡ false) → (xs : List X) → items_have_float (items_of (map f xs)) ≡ false
+items-no_float : {X : Type 0} (f : X → Data) → ((x : X) → has_float (f x) ≡ false) → (xs : List X)
+    → items_have_float (items_of (map f xs)) ≡ false
 items-no_float f plain [] = refl
 items-no_float f plain (x ∷ xs) = rw (plain x, items-no_float f plain xs) refl
 
@@ -24,19 +25,24 @@ group-no_float : (sizes : Option Sizes) (group : GroupValue) → has_float (grou
 group-no_float None group = rw (items-no_float hash_test_data (λ t. refl) group.tests) refl
 group-no_float (Some sizes) group = rw (items-no_float mac_test_data (λ t. refl) group.tests) refl
 
-answer-no_float : (kind : GroupKind) (sizes : Option Sizes) (texts : List (List ℕ)) (n : ℕ) → has_float (expected_answer kind sizes texts n) ≡ false
+answer-no_float : (kind : GroupKind) (sizes : Option Sizes) (texts : List (List ℕ)) (n : ℕ)
+    → has_float (expected_answer kind sizes texts n) ≡ false
 answer-no_float MonteCarlo sizes texts n = rw (items-no_float digest_data (λ t. refl) texts) refl
 answer-no_float Functional None texts n = refl
 answer-no_float Functional (Some sizes) texts n = refl
 
 expected-no_float : (standard : List Answer) (group : GroupValue) → has_float (expected_group standard group) ≡ false
 expected-no_float standard group =
-    rw (items-no_float (expected_test standard group) (λ t. answer-no_float group.kind group.sizes _ t.number) group.tests) refl
+    rw (items-no_float (expected_test standard group)
+    (λ t. answer-no_float group.kind group.sizes _ t.number) group.tests) refl
 
 pub reply-no_float : (reply : ReplyObject) → has_float (enveloped (reply_data reply)) ≡ false
+unfolding reply_data
 reply-no_float (Login token) = refl
 reply-no_float ListAlgorithms = refl
 reply-no_float (ReadAlgorithm algorithm) = refl
-reply-no_float (ReadSet sample prompts) = rw (items-no_float group_data (λ g. group-no_float g.sizes g) prompts.groups) refl
+reply-no_float (ReadSet sample prompts) =
+    rw (items-no_float group_data (λ g. group-no_float g.sizes g) prompts.groups) refl
 reply-no_float (SetResults vs disposition tests) = rw (items-no_float result_data (λ t. refl) tests) refl
-reply-no_float (Expected prompts standard) = rw (items-no_float (expected_group standard) (λ g. expected-no_float standard g) prompts.groups) refl
+reply-no_float (Expected prompts standard) =
+    rw (items-no_float (expected_group standard) (λ g. expected-no_float standard g) prompts.groups) refl

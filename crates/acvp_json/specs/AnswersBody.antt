@@ -11,10 +11,11 @@ use Rattle.acvp_gen.specs.declared.group.GroupKind.TheVariants.{Functional, Mont
 use Rattle.acvp_gen.specs.declared.group.Sizes.{Sizes}
 use Rattle.acvp_gen.specs.Prompt.{GroupValue, PromptsValue}
 use Rattle.acvp_answers.specs.Answer.{Answer}
+use Rattle.acvp_json.specs.declared.fault.BodyFault.{BodyFault}
 use Rattle.acvp_json.specs.declared.fault.BodyFault.TheVariants.{BodyField, UnknownTest, DuplicateTest, SetMismatch}
 use Rattle.acvp_json.specs.Elements.{each, is_array_of}
 use Rattle.acvp_json.specs.Members.{number_at, text_at, is_text, is_optional_text}
-use Rattle.acvp_json.specs.Tests.{Test}
+use Rattle.acvp_caps.specs.Conditions.{Condition}
 
 -- an entry of a Monte Carlo test's results: an object with a text `md`
 abbrev pub is_result : Data → Bool
@@ -103,7 +104,8 @@ one_text name d = option_map (λ text. text ∷ []) (text_at name d)
 
 -- the checkpoints of a Monte Carlo test
 abbrev pub checkpoints_in : Data → Option (List (List ℕ))
-checkpoints_in d = option_and_then (each (text_at (codes "md"))) (option_and_then as_array (get (codes "resultsArray") d))
+checkpoints_in d = option_and_then (each (text_at (codes "md")))
+    (option_and_then as_array (get (codes "resultsArray") d))
 
 -- the texts of an answer to a test of a group, by the member of its kind
 abbrev pub texts_by_kind : GroupKind → Option Sizes → Data → Option (List (List ℕ))
@@ -112,23 +114,28 @@ texts_by_kind Functional None d = one_text (codes "md") d
 texts_by_kind Functional (Some sizes) d = one_text (codes "mac") d
 
 abbrev pub texts_given : PromptsValue → Given → Option (List (List ℕ))
-texts_given prompts given = option_and_then (λ group. texts_by_kind group.kind group.sizes given.object) (group_for prompts given)
+texts_given prompts given = option_and_then (λ group. texts_by_kind group.kind group.sizes given.object)
+    (group_for prompts given)
 
--- the tests of an answer, where these numbers came before it: its test is the vector set's, wasn't answered before, and has the member of its kind
-abbrev pub given_tests : PromptsValue → List ℕ → Given → List Test
-given_tests prompts before given =
+-- the conditions of an answer, where these numbers came before it: its test is the vector set's, wasn't answered
+-- before, and has the member of its kind
+abbrev pub given_conditions : PromptsValue → List ℕ → Given → List (Condition BodyFault)
+given_conditions prompts before given =
     (is_some (group_for prompts given), UnknownTest)
     ∷ (not (list_any (λ n. n == test_of given) before), DuplicateTest)
     ∷ (is_some (texts_given prompts given), BodyField)
     ∷ []
 
-abbrev pub all_given_tests : PromptsValue → List ℕ → List Given → List Test
-all_given_tests prompts before [] = []
-all_given_tests prompts before (given ∷ more) = given_tests prompts before given ++ all_given_tests prompts (before ++ test_of given ∷ []) more
+abbrev pub all_given_conditions : PromptsValue → List ℕ → List Given → List (Condition BodyFault)
+all_given_conditions prompts before [] = []
+all_given_conditions prompts before (given ∷ more) = given_conditions prompts before given
+    ++ all_given_conditions prompts (before ++ test_of given ∷ []) more
 
--- the tests of a body of answers, in their order: its form, its vector set, and then each answer in the order of the body
-abbrev pub answers_body_tests : Data → PromptsValue → List Test
-answers_body_tests d prompts = (has_answers_form d, BodyField) ∷ (is_for_set d prompts, SetMismatch) ∷ all_given_tests prompts [] (given_in d)
+-- the conditions of a body of answers, in their order: its form, its vector set, and then each answer in the order of
+-- the body
+abbrev pub answers_body_conditions : Data → PromptsValue → List (Condition BodyFault)
+answers_body_conditions d prompts = (has_answers_form d, BodyField) ∷ (is_for_set d prompts, SetMismatch)
+    ∷ all_given_conditions prompts [] (given_in d)
 
 -- an answer, where it has its texts
 abbrev pub answer_given : PromptsValue → Given → Option Answer

@@ -5,17 +5,18 @@ use Rattle.serde_json.specs.Data.{Data, Items, no_items, item}
 use Rattle.serde_json.specs.Read.{read}
 use Rattle.serde_json.specs.Find.{as_array, as_object}
 use Rattle.serde_json.specs.Written.{has_float}
+use Rattle.acvp_json.specs.declared.fault.BodyFault.{BodyFault}
 use Rattle.acvp_json.specs.declared.fault.BodyFault.TheVariants.{BodyNotJson, BodyEnvelope}
 use Rattle.acvp_json.specs.Members.{text_at, is_text}
-use Rattle.acvp_json.specs.Tests.{Test}
+use Rattle.acvp_caps.specs.Conditions.{Condition}
 
 -- the value, unless a number in it is kept as a float
 abbrev pub without_float : Data → Option Data
 without_float d = if has_float d then None else Some d
 
 -- the JSON value (RFC 8259) that the bytes are
-abbrev pub json_of : List ℕ → Option Data
-json_of bytes = if is_utf8 bytes then option_and_then without_float (read bytes) else None
+abbrev pub body_json : List ℕ → Option Data
+body_json bytes = if is_utf8 bytes then option_and_then without_float (read bytes) else None
 
 -- the first names the version, and the second is an object
 abbrev pub is_envelope : Data → Data → Bool
@@ -34,8 +35,8 @@ envelope_of d = option_and_then envelope_items (as_array d)
 
 -- the object that a body holds
 abbrev pub object_of : List ℕ → Option Data
-object_of bytes = option_and_then envelope_of (json_of bytes)
+object_of bytes = option_and_then envelope_of (body_json bytes)
 
--- the tests of a body's envelope, in their order
-abbrev pub envelope_tests : List ℕ → List Test
-envelope_tests bytes = (is_some (json_of bytes), BodyNotJson) ∷ (is_some (object_of bytes), BodyEnvelope) ∷ []
+-- the conditions of a body's envelope, in their order
+abbrev pub envelope_conditions : List ℕ → List (Condition BodyFault)
+envelope_conditions bytes = (is_some (body_json bytes), BodyNotJson) ∷ (is_some (object_of bytes), BodyEnvelope) ∷ []

@@ -8,10 +8,11 @@ use Rattle.serde_json.specs.View.{items_of}
 use Rattle.serde_json.specs.Written.{compact_text}
 use Rattle.acvp_caps.specs.Json.{whole_number}
 use Rattle.acvp_answers.specs.Answer.{Answer, AreAscending}
+use Rattle.acvp_json.specs.declared.fault.BodyFault.{BodyFault}
 use Rattle.acvp_json.specs.declared.fault.BodyFault.TheVariants.{BodyNotJson, BodyField}
 use Rattle.acvp_json.specs.Elements.{each}
-use Rattle.acvp_json.specs.Envelope.{json_of}
-use Rattle.acvp_json.specs.Tests.{Test}
+use Rattle.acvp_json.specs.Envelope.{body_json}
+use Rattle.acvp_caps.specs.Conditions.{Condition}
 
 -- ---- as they are written
 
@@ -78,14 +79,14 @@ kept_in text d = if is_compact text d then answers_of d else None
 
 -- the answers that a text keeps
 unfoldable pub kept_answers : List ℕ → Option (List Answer)
-kept_answers text = option_and_then (kept_in text) (json_of text)
+kept_answers text = option_and_then (kept_in text) (body_json text)
 
--- the tests of a text that keeps answers, in their order
-abbrev pub kept_answers_tests : List ℕ → List Test
-kept_answers_tests text = (is_some (json_of text), BodyNotJson) ∷ (is_some (kept_answers text), BodyField) ∷ []
+-- the conditions of a text that keeps answers, in their order
+abbrev pub kept_answers_conditions : List ℕ → List (Condition BodyFault)
+kept_answers_conditions text = (is_some (body_json text), BodyNotJson) ∷ (is_some (kept_answers text), BodyField) ∷ []
 
 -- a text keeps these answers: it is JSON and reads as their value, it is their compact text, and they ascend
 pub record IsKeptAs (text : List ℕ) (answers : List Answer) : Type 0 where
-  pub value : json_of text ≡ Some (answers_data answers)
+  pub value : body_json text ≡ Some (answers_data answers)
   pub written : text ≡ kept_text answers
   pub ascending : AreAscending answers

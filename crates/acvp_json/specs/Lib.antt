@@ -1,9 +1,6 @@
-pub mod Tests
 pub mod Members
-pub mod Borrowed
 pub mod Envelope
 pub mod LoginBody
-pub mod Said
 pub mod CertifyBody
 pub mod Time
 pub mod Written
@@ -15,10 +12,12 @@ pub mod Expected
 pub mod Elements
 pub mod KeptAnswers
 pub mod AnswersBody
-pub mod AnswersReading
+pub mod Private
 pub use Rattle.acvp_answers.specs.Answer
 pub use Rattle.acvp_answers.specs.Verdicts
 pub use Rattle.acvp_caps.specs.Algorithms
+pub use Rattle.acvp_caps.specs.Json
+pub use Rattle.acvp_caps.specs.Conditions
 pub use Rattle.acvp_gen.specs.Prompt
 pub use Rattle.acvp_registry.specs.Url
 pub use Rattle.hex.specs.Hex

@@ -2,27 +2,29 @@
 ghost use Rattle.std.specs.Prelude.{◌≡◌, Some, option_map};
 ghost use Rattle.serde_json.specs.View.{view};
 ghost use Rattle.acvp_answers.specs.Answer.{shown_texts};
-ghost use Rattle.acvp_json.specs.AnswersBody.{is_result, are_results, is_test, is_group, has_answers_form, is_text_or_absent, is_for_set, has_test, group_for, one_text, checkpoints_in, texts_by_kind, given_in_group, given_in, answers_body_tests, answers_body_of};
-ghost use Rattle.acvp_json.specs.AnswersReading.{after_given, after_all, LeadsTo};
+ghost use Rattle.acvp_json.specs.AnswersBody.{is_result, are_results, is_test, is_group, has_answers_form, is_text_or_absent, is_for_set, has_test, group_for, one_text, checkpoints_in, texts_by_kind, given_in_group, given_in, answers_body_conditions, answers_body_of};
+ghost use Rattle.acvp_json.specs.Private.AnswersReading.{after_given, after_all, LeadsTo};
 ghost use Rattle.acvp_json.specs.Elements.{is_array_of};
-ghost use Rattle.acvp_json.specs.Tests.{IsAnswer, IsRead, verdict};
+ghost use Rattle.acvp_caps.specs.Conditions.{IsJudged, judged};
+ghost use Rattle.acvp_json.specs.Private.Readings.{IsRead};
 
 use crate::fault::BodyFault;
-use crate::members::{elements, is_optional_text, number_at, text_at};
+use crate::members::{elements, is_optional_text};
 use crate::text::copied;
 use acvp_answers::Answers;
+use acvp_caps::json::{number_at, text_at};
 use acvp_gen::{Group, GroupKind, Prompts};
 use serde_json::Value;
 use std::alloc::Global;
 
-// Whether it is an entry of a Monte Carlo test's results.
+/// Whether it is an entry of a Monte Carlo test's results.
 fn is_result(value: &Value) -> bool
     ensures { result ≡ is_result (view value.now) }
 {
     text_at(value, "md").is_some()
 }
 
-// Whether a member is absent, or a Monte Carlo test's results.
+/// Whether a member is absent, or a Monte Carlo test's results.
 fn are_results(member: Option<&Value>) -> bool
     ensures { result ≡ are_results (option_map (λ v. view v.now) member.entry) }
 {
@@ -40,7 +42,7 @@ fn are_results(member: Option<&Value>) -> bool
     true
 }
 
-// Whether it is the answer to a test.
+/// Whether it is the answer to a test.
 fn is_test(value: &Value) -> bool
     ensures { result ≡ is_test (view value.now) }
 {
@@ -50,7 +52,7 @@ fn is_test(value: &Value) -> bool
         && are_results(value.get("resultsArray"))
 }
 
-// Whether a member is an array of answers to tests.
+/// Whether a member is an array of answers to tests.
 fn are_tests(member: Option<&Value>) -> bool
     ensures { result ≡ is_array_of is_test (option_map (λ v. view v.now) member.entry) }
 {
@@ -65,14 +67,14 @@ fn are_tests(member: Option<&Value>) -> bool
     true
 }
 
-// Whether it is a group of them.
+/// Whether it is a group of them.
 fn is_group(value: &Value) -> bool
     ensures { result ≡ is_group (view value.now) }
 {
     number_at(value, "tgId").is_some() && are_tests(value.get("tests"))
 }
 
-// Whether a member is an array of groups.
+/// Whether a member is an array of groups.
 fn are_groups(member: Option<&Value>) -> bool
     ensures { result ≡ is_array_of is_group (option_map (λ v. view v.now) member.entry) }
 {
@@ -97,7 +99,7 @@ pub(crate) fn has_answers_form(object: &Value) -> bool
         && are_groups(object.get("testGroups"))
 }
 
-// Whether a member is absent, or this text.
+/// Whether a member is absent, or this text.
 fn is_text_or_absent(member: Option<&Value>, wanted: &str) -> bool
     ensures { result ≡ is_text_or_absent wanted.now (option_map (λ v. view v.now) member.entry) }
 {
@@ -110,7 +112,7 @@ fn is_text_or_absent(member: Option<&Value>, wanted: &str) -> bool
     }
 }
 
-// Whether a body is for this vector set, and names no other algorithm or revision.
+/// Whether a body is for this vector set, and names no other algorithm or revision.
 fn is_for_set(object: &Value, prompts: &Prompts) -> bool
     ensures { result ≡ is_for_set (view object.now) prompts.now }
 {
@@ -119,16 +121,17 @@ fn is_for_set(object: &Value, prompts: &Prompts) -> bool
         && is_text_or_absent(object.get("revision"), "1.0")
 }
 
-// Whether a group has the test of a number.
+/// Whether a group has the test of a number.
 fn has_test(number: u64, group: &Group) -> bool
     ensures { result ≡ has_test number group.now }
 {
     group.tests().iter().any(|test| test.number() == number)
 }
 
-// The vector set's group of a number, where it has the test that the object answers.
+/// The vector set's group of a number, where it has the test that the object answers.
 fn group_for<'a>(prompts: &'a Prompts, group: u64, object: &Value) -> Option<&'a Group>
-    ensures { option_map (λ g. g.now) result ≡ group_for prompts.now (record { group = group; object = view object.now }) }
+    ensures { option_map (λ g. g.now) result
+        ≡ group_for prompts.now (record { group = group; object = view object.now }) }
 {
     let number = number_at(object, "tcId").unwrap_or(0);
     for set_group in prompts.groups() {
@@ -139,7 +142,7 @@ fn group_for<'a>(prompts: &'a Prompts, group: u64, object: &Value) -> Option<&'a
     None
 }
 
-// The one text at a name.
+/// The one text at a name.
 fn one_text(alloc: Global, object: &Value, name: &str) -> Result<Vec<String>, BodyFault>
     ensures { IsRead result shown_texts (one_text name.now (view object.now)) }
 {
@@ -147,13 +150,11 @@ fn one_text(alloc: Global, object: &Value, name: &str) -> Result<Vec<String>, Bo
         return Err(BodyFault::BodyField);
     };
     let mut texts = Vec::new(alloc);
-    if texts.push(copied(alloc, text)?.into_string()).is_err() {
-        return Err(BodyFault::Memory);
-    }
+    texts.push(copied(alloc, text)?.into_string())?;
     Ok(texts)
 }
 
-// The checkpoints of a Monte Carlo test.
+/// The checkpoints of a Monte Carlo test.
 fn checkpoints_in(alloc: Global, object: &Value) -> Result<Vec<String>, BodyFault>
     ensures { IsRead result shown_texts (checkpoints_in (view object.now)) }
 {
@@ -165,14 +166,12 @@ fn checkpoints_in(alloc: Global, object: &Value) -> Result<Vec<String>, BodyFaul
         let Some(text) = text_at(result, "md") else {
             return Err(BodyFault::BodyField);
         };
-        if texts.push(copied(alloc, text)?.into_string()).is_err() {
-            return Err(BodyFault::Memory);
-        }
+        texts.push(copied(alloc, text)?.into_string())?;
     }
     Ok(texts)
 }
 
-// The texts of an answer to a test of a group, by the member of its kind.
+/// The texts of an answer to a test of a group, by the member of its kind.
 fn texts_by_kind(alloc: Global, group: &Group, object: &Value) -> Result<Vec<String>, BodyFault>
     ensures { IsRead result shown_texts (texts_by_kind group.now.kind group.now.sizes (view object.now)) }
 {
@@ -183,7 +182,7 @@ fn texts_by_kind(alloc: Global, group: &Group, object: &Value) -> Result<Vec<Str
     }
 }
 
-// Adds an answer that stands in a group.
+/// Adds an answer that stands in a group.
 fn read_given(
     alloc: Global,
     answers: &mut Answers,
@@ -191,7 +190,8 @@ fn read_given(
     group: u64,
     object: &Value,
 ) -> Result<(), BodyFault>
-    ensures { LeadsTo result answers.new (after_given prompts.now answers.old (record { group = group; object = view object.now })) }
+    ensures { LeadsTo result answers.new
+        (after_given prompts.now answers.old (record { group = group; object = view object.now })) }
 {
     let Some(set_group) = group_for(prompts, group, object) else {
         return Err(BodyFault::UnknownTest);
@@ -201,13 +201,11 @@ fn read_given(
         return Err(BodyFault::DuplicateTest);
     }
     let texts = texts_by_kind(alloc, set_group, object)?;
-    match answers.insert(number, texts) {
-        Ok(_) => Ok(()),
-        Err(_) => Err(BodyFault::Memory),
-    }
+    answers.insert(number, texts)?;
+    Ok(())
 }
 
-// Adds the answers of a group.
+/// Adds the answers of a group.
 fn read_group(
     alloc: Global,
     answers: &mut Answers,
@@ -226,7 +224,7 @@ fn read_group(
     Ok(())
 }
 
-// Adds the answers of all groups.
+/// Adds the answers of all groups.
 fn read_groups(
     alloc: Global,
     answers: &mut Answers,
@@ -244,12 +242,14 @@ fn read_groups(
     Ok(())
 }
 
-/// Reads the answers to a vector set's tests. The faults are BodyField where the object hasn't its form, SetMismatch, and then of the
-/// answers in their order UnknownTest, DuplicateTest, and BodyField where the member of the test's kind is absent; or Memory. It
-/// takes time in the length of the body: an answer costs a look through the vector set's tests, and there are no more answers
-/// than tests before the first fault.
+/// Reads the answers to a vector set's tests. The faults are BodyField where the object hasn't its form, SetMismatch,
+/// and then of the answers in their order UnknownTest, DuplicateTest, and BodyField where the member of the test's kind
+/// is absent; or Memory. It takes time in the length of the body: an answer costs a look through the vector set's
+/// tests, and there are no more answers than tests before the first fault.
 pub fn read_answers(alloc: Global, object: &Value, prompts: &Prompts) -> Result<Answers, BodyFault>
-    ensures { IsAnswer result (λ answers. answers) (verdict (answers_body_tests (view object.now) prompts.now) (Some (answers_body_of (view object.now) prompts.now))) }
+    ensures { IsJudged BodyFault.Memory (λ answers. Some answers)
+        (judged (answers_body_conditions (view object.now) prompts.now)
+        (Some (answers_body_of (view object.now) prompts.now))) result }
 {
     if !has_answers_form(object) {
         return Err(BodyFault::BodyField);

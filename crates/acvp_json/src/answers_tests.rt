@@ -15,13 +15,13 @@ const HASH: &str =
 const HMAC: &str =
     r#"{"algorithm":"HMAC-SHA2-256","revision":"1.0","keyLen":[8],"macLen":[32,256]}"#;
 
-// The prompts of the first vector set of account 7's first session, for a capability's text.
+/// The prompts of the first vector set of account 7's first session, for a capability's text.
 fn prompts_of(alloc: Global, capability: &str) -> Result<Prompts, CapFault> {
     let capability = Capability::from_text(alloc, capability)?;
     prompts(alloc, &[0; 32], 700000101, &capability).map_err(|_| CapFault::Memory)
 }
 
-// The text of the answers that a body gives, or why it isn't read.
+/// The text of the answers that a body gives, or why it isn't read.
 fn read_text(alloc: Global, prompts: &Prompts, body: &str) -> Result<String, BodyFault> {
     let Ok(object) = Value::from_str(alloc, body) else {
         return Err(BodyFault::BodyNotJson);
@@ -148,7 +148,7 @@ fn the_first_test_that_fails_is_told(rt: HostRuntime) -> Result<(), Fail> {
     Ok(())
 }
 
-// A body with the standard's answers to tests 1 to 24 of the hash function, from a number on, where one may be wrong.
+/// A body with the standard's answers to tests 1 to 24 of the hash function, from a number on, where one may be wrong.
 fn digests_from(
     alloc: Global,
     standard: &Answers,
@@ -172,7 +172,7 @@ fn digests_from(
     Ok(body)
 }
 
-// What the answers of a body come to, and the verdicts on the first and the last test.
+/// What the answers of a body come to, and the verdicts on the first and the last test.
 fn outcome(
     alloc: Global,
     prompts: &Prompts,
@@ -254,7 +254,8 @@ fn a_missing_answer_is_told_and_a_wrong_one_weighs_more(rt: HostRuntime) -> Resu
     Ok(())
 }
 
-// A body with so many of the standard's checkpoints, begun anew behind the last, as the answer to the Monte Carlo test.
+/// A body with so many of the standard's checkpoints, begun anew behind the last, as the answer to the Monte Carlo
+/// test.
 fn checkpoints(alloc: Global, standard: &Answers, count: usize) -> Result<String, AllocError> {
     let mut body = String::from_str(
         alloc,

@@ -1,11 +1,11 @@
 //! The body of a request for certification.
 ghost use Rattle.std.specs.Prelude.{◌≡◌, Ok, Err, Some, MatchResult};
 ghost use Rattle.serde_json.specs.View.{view};
-ghost use Rattle.acvp_json.specs.CertifyBody.{certify_body_of, certify_body_tests};
-ghost use Rattle.acvp_json.specs.Tests.{verdict};
+ghost use Rattle.acvp_json.specs.CertifyBody.{certify_body_of, certify_body_conditions};
+ghost use Rattle.acvp_caps.specs.Conditions.{judged};
 
 use crate::fault::BodyFault;
-use crate::members::text_at;
+use acvp_caps::json::text_at;
 use acvp_registry::{Kind, url_number};
 use serde_json::Value;
 
@@ -20,8 +20,9 @@ pub struct CertifyBody {
 /// Reads the object of a request for certification. The faults are BodyField and then NoReference; it takes no memory.
 pub fn read_certify(object: &Value) -> Result<CertifyBody, BodyFault>
     ensures { MatchResult result
-        (λ body. verdict (certify_body_tests (view object.now)) (certify_body_of (view object.now)) ≡ Ok (Some body))
-        (λ fault. verdict (certify_body_tests (view object.now)) (certify_body_of (view object.now)) ≡ Err fault) }
+        (λ body. judged (certify_body_conditions (view object.now)) (certify_body_of (view object.now))
+        ≡ Ok (Some body))
+        (λ fault. judged (certify_body_conditions (view object.now)) (certify_body_of (view object.now)) ≡ Err fault) }
 {
     let (Some(module), Some(environment)) = (text_at(object, "moduleUrl"), text_at(object, "oeUrl"))
     else {

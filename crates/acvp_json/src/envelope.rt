@@ -1,20 +1,19 @@
 //! The envelope that every body has: an array of the protocol's version and an object.
 ghost use Rattle.std.specs.Prelude.{◌≡◌, ◌⊎◌, Some, None, option_map, MatchResult};
 ghost use Rattle.serde_json.specs.View.{view};
-ghost use Rattle.acvp_json.specs.Envelope.{json_of, is_envelope, envelope_of, object_of, envelope_tests};
-ghost use Rattle.acvp_json.specs.Members.{is_text};
-ghost use Rattle.acvp_json.specs.Tests.{IsAnswer, verdict};
+ghost use Rattle.acvp_json.specs.Envelope.{body_json, is_envelope, envelope_of, object_of, envelope_conditions};
+ghost use Rattle.acvp_caps.specs.Conditions.{IsJudged, judged};
 
 use crate::fault::BodyFault;
 use crate::floats::has_float;
-use crate::members::text_at;
+use acvp_caps::json::{is_text, text_at};
 use serde_json::Value;
 use std::alloc::Global;
 
-// The JSON value that the bytes are.
+/// The JSON value that the bytes are.
 pub(crate) fn parse(alloc: Global, body: &[u8]) -> Result<Value, BodyFault>
-    ensures { MatchResult result (λ value. json_of body.now ≡ Some (view value))
-        (λ fault. (fault ≡ BodyFault.Memory) ⊎ ((fault ≡ BodyFault.BodyNotJson) × (json_of body.now ≡ None))) }
+    ensures { MatchResult result (λ value. body_json body.now ≡ Some (view value))
+        (λ fault. (fault ≡ BodyFault.Memory) ⊎ ((fault ≡ BodyFault.BodyNotJson) × (body_json body.now ≡ None))) }
 {
     match Value::from_slice(alloc, body) {
         Ok(value) if has_float(&value) => Err(BodyFault::BodyNotJson),
@@ -24,23 +23,14 @@ pub(crate) fn parse(alloc: Global, body: &[u8]) -> Result<Value, BodyFault>
     }
 }
 
-fn is_text(text: Option<&str>, wanted: &str) -> bool
-    ensures { result ≡ is_text wanted.now (option_map (λ s. s.now) text.entry) }
-{
-    match text {
-        Some(text) => text == wanted,
-        None => false,
-    }
-}
-
-// Whether they are two objects, the first of which names the version.
+/// Whether they are two objects, the first of which names the version.
 fn is_envelope(first: &Value, second: &Value) -> bool
     ensures { result ≡ is_envelope (view first.now) (view second.now) }
 {
     is_text(text_at(first, "acvVersion"), "1.0") && second.is_object()
 }
 
-// The object in an envelope.
+/// The object in an envelope.
 fn object_in(value: Value) -> Option<Value>
     ensures { option_map view result ≡ envelope_of (view value) }
 {
@@ -59,7 +49,8 @@ fn object_in(value: Value) -> Option<Value>
 
 /// Reads a body's envelope, and gives the object in it. The faults are BodyNotJson, BodyEnvelope and Memory.
 pub fn open_envelope(alloc: Global, body: &[u8]) -> Result<Value, BodyFault>
-    ensures { IsAnswer result view (verdict (envelope_tests body.now) (object_of body.now)) }
+    ensures { IsJudged BodyFault.Memory (λ value. Some (view value))
+        (judged (envelope_conditions body.now) (object_of body.now)) result }
 {
     let value = parse(alloc, body)?;
     match object_in(value) {

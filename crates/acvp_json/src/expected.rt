@@ -8,7 +8,7 @@ use acvp_gen::{Group, GroupKind, Prompts, Sizes, Test};
 use serde_json::{Value, json};
 use std::alloc::{AllocError, Global};
 
-// The texts that answer the test of a number, of which there may be none.
+/// The texts that answer the test of a number, of which there may be none.
 fn texts_at(standard: &Answers, number: u64) -> &[String]
     ensures { map string_bytes result.now ≡ texts_at standard.now number }
 {
@@ -18,7 +18,7 @@ fn texts_at(standard: &Answers, number: u64) -> &[String]
     }
 }
 
-// The first of some texts, empty where there is none.
+/// The first of some texts, empty where there is none.
 fn first_text(texts: &[String]) -> &str
     ensures { result.now ≡ first_text (map string_bytes texts.now) }
 {
@@ -28,28 +28,28 @@ fn first_text(texts: &[String]) -> &str
     }
 }
 
-// A functional test of a hash function.
+/// A functional test of a hash function.
 fn expected_digest(alloc: Global, texts: &[String], number: u64) -> Result<Value, AllocError>
     ensures { IfOk result (λ value. view value ≡ expected_digest (map string_bytes texts.now) number) }
 {
     json!(in alloc; {"md": first_text(texts), "tcId": number})
 }
 
-// A test of HMAC.
+/// A test of HMAC.
 fn expected_mac(alloc: Global, texts: &[String], number: u64) -> Result<Value, AllocError>
     ensures { IfOk result (λ value. view value ≡ expected_mac (map string_bytes texts.now) number) }
 {
     json!(in alloc; {"mac": first_text(texts), "tcId": number})
 }
 
-// A digest.
+/// A digest.
 fn digest_value(alloc: Global, text: &str) -> Result<Value, AllocError>
     ensures { IfOk result (λ value. view value ≡ digest_data text.now) }
 {
     json!(in alloc; {"md": text})
 }
 
-// Digests.
+/// Digests.
 fn digest_values(alloc: Global, texts: &[String]) -> Result<Vec<Value>, AllocError>
     ensures { IfOk result (λ values. map view values.items ≡ map digest_data (map string_bytes texts.now)) }
 {
@@ -60,7 +60,7 @@ fn digest_values(alloc: Global, texts: &[String]) -> Result<Vec<Value>, AllocErr
     Ok(values)
 }
 
-// A Monte Carlo test: each checkpoint.
+/// A Monte Carlo test: each checkpoint.
 fn expected_checkpoints(alloc: Global, texts: &[String], number: u64) -> Result<Value, AllocError>
     ensures { IfOk result (λ value. view value ≡ expected_checkpoints (map string_bytes texts.now) number) }
 {
@@ -68,7 +68,7 @@ fn expected_checkpoints(alloc: Global, texts: &[String], number: u64) -> Result<
     json!(in alloc; {"resultsArray": checkpoints, "tcId": number})
 }
 
-// A test of a group of this kind and these sizes.
+/// A test of a group of this kind and these sizes.
 fn expected_answer(
     alloc: Global,
     kind: GroupKind,
@@ -85,7 +85,7 @@ fn expected_answer(
     }
 }
 
-// A test of a group.
+/// A test of a group.
 fn expected_test(
     alloc: Global,
     standard: &Answers,
@@ -98,13 +98,14 @@ fn expected_test(
     expected_answer(alloc, group.kind(), group.sizes(), texts, test.number())
 }
 
-// The tests of a group.
+/// The tests of a group.
 fn expected_tests(
     alloc: Global,
     standard: &Answers,
     group: &Group,
 ) -> Result<Vec<Value>, AllocError>
-    ensures { IfOk result (λ values. map view values.items ≡ map (expected_test standard.now group.now) group.now.tests) }
+    ensures { IfOk result (λ values. map view values.items
+        ≡ map (expected_test standard.now group.now) group.now.tests) }
 {
     let mut values = Vec::new(alloc);
     for test in group.tests() {
@@ -113,7 +114,7 @@ fn expected_tests(
     Ok(values)
 }
 
-// A group.
+/// A group.
 fn expected_group(alloc: Global, standard: &Answers, group: &Group) -> Result<Value, AllocError>
     ensures { IfOk result (λ value. view value ≡ expected_group standard.now group.now) }
 {
@@ -121,7 +122,7 @@ fn expected_group(alloc: Global, standard: &Answers, group: &Group) -> Result<Va
     json!(in alloc; {"tests": tests, "tgId": group.number()})
 }
 
-// The groups of a vector set.
+/// The groups of a vector set.
 fn expected_groups(
     alloc: Global,
     standard: &Answers,

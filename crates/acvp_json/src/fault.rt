@@ -1,4 +1,8 @@
 //! Why a body isn't read.
+ghost use Rattle.std.specs.Prelude.{◌≡◌};
+ghost use Rattle.acvp_json.specs.declared.fault.BodyFault.TheVariants.{Memory};
+
+use std::alloc::{AllocError, AllocFailed};
 
 /// Why a body isn't read, with the number of its rule of refusal; Memory is none.
 #[derive(Clone, Copy, Debug, PartialEq, Eq)]
@@ -17,6 +21,22 @@ pub enum BodyFault {
     SetMismatch,
     /// Rule 40: a text isn't the URL of an object of the kind that is meant.
     NoReference,
-    /// Memory was refused.
+    /// Memory was refused. Rule 45, unavailable.
     Memory,
+}
+
+impl From<AllocError> for BodyFault {
+    ghost from_gives = { λ _ fault. fault ≡ Memory };
+
+    fn from(_: AllocError) -> BodyFault {
+        BodyFault::Memory
+    }
+}
+
+impl<T: Drop> From<AllocFailed<T>> for BodyFault {
+    ghost from_gives = { λ _ fault. fault ≡ Memory };
+
+    fn from(_: AllocFailed<T>) -> BodyFault {
+        BodyFault::Memory
+    }
 }

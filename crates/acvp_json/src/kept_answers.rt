@@ -3,8 +3,9 @@ ghost use Rattle.std.specs.Prelude.{◌≡◌, ◌⊎◌, ◌↔◌, List, false
 ghost use Rattle.serde_json.specs.View.{view};
 ghost use Rattle.serde_json.specs.Written.{has_float};
 ghost use Rattle.acvp_answers.specs.Answer.{Answer, AreAscending, shown_texts};
-ghost use Rattle.acvp_json.specs.KeptAnswers.{texts_data, answer_data, answers_data, kept_text, texts_of, pair_of, answer_of, is_above, answers_of, is_compact, kept_answers, kept_answers_tests, IsKeptAs};
-ghost use Rattle.acvp_json.specs.Tests.{IsAnswer, IsRead, verdict};
+ghost use Rattle.acvp_json.specs.KeptAnswers.{texts_data, answer_data, answers_data, kept_text, texts_of, pair_of, answer_of, is_above, answers_of, is_compact, kept_answers, kept_answers_conditions, IsKeptAs};
+ghost use Rattle.acvp_caps.specs.Conditions.{IsJudged, judged};
+ghost use Rattle.acvp_json.specs.Private.Readings.{IsRead};
 
 use crate::envelope::parse;
 use crate::fault::BodyFault;
@@ -13,7 +14,7 @@ use acvp_answers::Answers;
 use serde_json::{Value, json};
 use std::alloc::{AllocError, Global};
 
-// The array of texts.
+/// The array of texts.
 fn texts_value(alloc: Global, texts: &[String]) -> Result<Value, AllocError>
     ensures { IfOk result (λ value. view value ≡ texts_data (map string_bytes texts.now)) }
 {
@@ -24,7 +25,7 @@ fn texts_value(alloc: Global, texts: &[String]) -> Result<Value, AllocError>
     Ok(Value::Array(values))
 }
 
-// A test's number and its texts.
+/// A test's number and its texts.
 fn answer_value(alloc: Global, number: u64, texts: &[String]) -> Result<Value, AllocError>
     ensures { IfOk result (λ value. view value ≡ answer_data (number, map string_bytes texts.now)) }
 {
@@ -32,7 +33,7 @@ fn answer_value(alloc: Global, number: u64, texts: &[String]) -> Result<Value, A
     json!(in alloc; [number, texts])
 }
 
-// The array of answers.
+/// The array of answers.
 fn answers_value(alloc: Global, answers: &Answers) -> Result<Value, AllocError>
     ensures value { IfOk result (λ value. view value ≡ answers_data answers.now) }
     ensures ascending { AreAscending answers.now }
@@ -45,8 +46,8 @@ fn answers_value(alloc: Global, answers: &Answers) -> Result<Value, AllocError>
     Ok(Value::Array(values))
 }
 
-/// The answers as compact JSON, ascending by the tests' numbers. It takes time in the square of their count, since each is found
-/// from the front.
+/// The answers as compact JSON, ascending by the tests' numbers. It takes time in the square of their count, since each
+/// is found from the front.
 pub fn answers_to_text(alloc: Global, answers: &Answers) -> Result<String, AllocError>
     ensures text { IfOk result (λ text. string_bytes text ≡ kept_text answers.now) }
     ensures reads_back { IfOk result (λ text. kept_answers (string_bytes text) ≡ Some answers.now) }
@@ -54,7 +55,7 @@ pub fn answers_to_text(alloc: Global, answers: &Answers) -> Result<String, Alloc
     answers_value(alloc, answers)?.to_string(alloc)
 }
 
-// The texts of an array of texts.
+/// The texts of an array of texts.
 fn texts_in(alloc: Global, value: &Value) -> Result<Vec<String>, BodyFault>
     ensures { IsRead result shown_texts (texts_of (view value.now)) }
 {
@@ -66,14 +67,12 @@ fn texts_in(alloc: Global, value: &Value) -> Result<Vec<String>, BodyFault>
         let Some(text) = item.as_str() else {
             return Err(BodyFault::BodyField);
         };
-        if texts.push(copied(alloc, text)?.into_string()).is_err() {
-            return Err(BodyFault::Memory);
-        }
+        texts.push(copied(alloc, text)?.into_string())?;
     }
     Ok(texts)
 }
 
-// The first of exactly two elements, a whole number, and the second.
+/// The first of exactly two elements, a whole number, and the second.
 #[tactic(auto, using(crate::proofs::KeptLemmas::pair_items_other))]
 fn pair_in(value: &Value) -> Option<(u64, &Value)>
     ensures { option_map (λ pair. (pair.0, view pair.1.now)) result ≡ pair_of (view value.now) }
@@ -86,7 +85,7 @@ fn pair_in(value: &Value) -> Option<(u64, &Value)>
     Some((number, &items[1]))
 }
 
-// A test's number and its texts.
+/// A test's number and its texts.
 fn answer_in(alloc: Global, value: &Value) -> Result<(u64, Vec<String>), BodyFault>
     ensures { IsRead result (λ answer. (answer.0, shown_texts answer.1)) (answer_of (view value.now)) }
 {
@@ -96,7 +95,7 @@ fn answer_in(alloc: Global, value: &Value) -> Result<(u64, Vec<String>), BodyFau
     Ok((number, texts_in(alloc, texts)?))
 }
 
-// Whether a number is above the one before it, if any.
+/// Whether a number is above the one before it, if any.
 fn is_above(last: Option<u64>, number: u64) -> bool
     ensures { result ≡ is_above last number }
 {
@@ -106,7 +105,7 @@ fn is_above(last: Option<u64>, number: u64) -> bool
     }
 }
 
-// The ascending answers that a JSON value is.
+/// The ascending answers that a JSON value is.
 fn answers_in(alloc: Global, value: &Value) -> Result<Answers, BodyFault>
     ensures { IsRead result (λ answers. answers) (answers_of (view value.now)) }
 {
@@ -120,29 +119,26 @@ fn answers_in(alloc: Global, value: &Value) -> Result<Answers, BodyFault>
         if !is_above(last, number) {
             return Err(BodyFault::BodyField);
         }
-        match answers.insert(number, texts) {
-            Ok(_) => last = Some(number),
-            Err(_) => return Err(BodyFault::Memory),
-        }
+        answers.insert(number, texts)?;
+        last = Some(number);
     }
     Ok(answers)
 }
 
-// Whether a text is the compact one of its value.
-fn is_compact(alloc: Global, text: &str, value: &Value) -> Result<bool, BodyFault>
+/// Whether a text is the compact one of its value.
+fn is_compact(alloc: Global, text: &str, value: &Value) -> Result<bool, AllocError>
     requires { has_float (view value.now) ≡ false }
-    ensures { MatchResult result (λ is. is ≡ is_compact text.now (view value.now)) (λ fault. fault ≡ BodyFault.Memory) }
+    ensures { IfOk result (λ is. is ≡ is_compact text.now (view value.now)) }
 {
-    match value.to_string(alloc) {
-        Ok(compact) => Ok(text == compact.as_str()),
-        Err(_) => Err(BodyFault::Memory),
-    }
+    let compact = value.to_string(alloc)?;
+    Ok(text == compact.as_str())
 }
 
-// The answers that a text keeps.
+/// The answers that a text keeps.
 #[tactic(auto, unfolding(crate::specs::KeptAnswers::kept_answers))]
 fn kept_answers(alloc: Global, text: &str) -> Result<Answers, BodyFault>
-    ensures { IsAnswer result (λ answers. answers) (verdict (kept_answers_tests text.now) (kept_answers text.now)) }
+    ensures { IsJudged BodyFault.Memory (λ answers. Some answers)
+        (judged (kept_answers_conditions text.now) (kept_answers text.now)) result }
 {
     let value = parse(alloc, text.as_bytes())?;
     let answers = answers_in(alloc, &value)?;
@@ -153,10 +149,11 @@ fn kept_answers(alloc: Global, text: &str) -> Result<Answers, BodyFault>
     }
 }
 
-/// Reads answers from the text that `answers_to_text` gives for them. The faults are BodyNotJson where the text isn't JSON or holds a
-/// number kept as a float, BodyField for any other text, and Memory.
+/// Reads answers from the text that `answers_to_text` gives for them. The faults are BodyNotJson where the text isn't
+/// JSON or holds a number kept as a float, BodyField for any other text, and Memory.
 pub fn answers_from_text(alloc: Global, text: &str) -> Result<Answers, BodyFault>
-    ensures answer { IsAnswer result (λ answers. answers) (verdict (kept_answers_tests text.now) (kept_answers text.now)) }
+    ensures answer { IsJudged BodyFault.Memory (λ answers. Some answers)
+        (judged (kept_answers_conditions text.now) (kept_answers text.now)) result }
     ensures exact { (answers : List Answer) → (kept_answers text.now ≡ Some answers) ↔ IsKeptAs text.now answers }
 {
     kept_answers(alloc, text)

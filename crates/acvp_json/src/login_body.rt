@@ -1,28 +1,29 @@
 //! The body of a login.
-ghost use Rattle.std.specs.Prelude.{◌≡◌, ◌⊎◌, Some, None, option_map, MatchResult};
+ghost use Rattle.std.specs.Prelude.{◌≡◌, ◌⊎◌, Some, None, option_map, IfOk};
 ghost use Rattle.serde_json.specs.View.{view};
-ghost use Rattle.acvp_json.specs.Borrowed.{texts};
-ghost use Rattle.acvp_json.specs.LoginBody.{login_body_of, login_body_tests};
-ghost use Rattle.acvp_json.specs.Said.{login_said};
-ghost use Rattle.acvp_json.specs.Tests.{IsAnswer, verdict};
+ghost use Rattle.acvp_json.specs.Private.Borrowed.{texts};
+ghost use Rattle.acvp_json.specs.LoginBody.{login_body_of, login_body_conditions};
+ghost use Rattle.acvp_json.specs.Private.Said.{login_said};
+ghost use Rattle.acvp_caps.specs.Conditions.{IsJudged, judged};
 
 use crate::fault::BodyFault;
-use crate::members::{optional_text, text_at};
+use crate::members::optional_text;
 use crate::text::{Text, copied};
+use acvp_caps::json::text_at;
 use serde_json::Value;
-use std::alloc::Global;
+use std::alloc::{AllocError, Global};
 
 /// What a login says: the account's number as text, the one-time code, and the token that it renews, if any.
 #[derive(Drop)]
 pub struct LoginBody {
     pub user: Text,
     pub password: Text,
-    pub access: Option<Text>,
+    pub access_token: Option<Text>,
 }
 
-// A text of its own, where there is one.
-fn copied_if_any(alloc: Global, text: Option<&str>) -> Result<Option<Text>, BodyFault>
-    ensures { MatchResult result (λ copy. copy ≡ texts text.entry) (λ fault. fault ≡ BodyFault.Memory) }
+/// A text of its own, where there is one.
+fn copied_if_any(alloc: Global, text: Option<&str>) -> Result<Option<Text>, AllocError>
+    ensures { IfOk result (λ copy. copy ≡ texts text.entry) }
 {
     match text {
         Some(text) => Ok(Some(copied(alloc, text)?)),
@@ -30,12 +31,12 @@ fn copied_if_any(alloc: Global, text: Option<&str>) -> Result<Option<Text>, Body
     }
 }
 
-// The members of a login, still in the object.
+/// The members of a login, still in the object.
 #[derive(Clone, Copy)]
 struct Said<'a> {
     user: &'a str,
     password: &'a str,
-    access: Option<&'a str>,
+    access_token: Option<&'a str>,
 }
 
 fn said_in(object: &Value) -> Option<Said<'_>>
@@ -43,17 +44,18 @@ fn said_in(object: &Value) -> Option<Said<'_>>
 {
     let user = text_at(object, "user")?;
     let password = text_at(object, "password")?;
-    let access = optional_text(object.get("accessToken"))?;
+    let access_token = optional_text(object.get("accessToken"))?;
     Some(Said {
         user,
         password,
-        access,
+        access_token,
     })
 }
 
 /// Reads the object of a login. The faults are BodyField and Memory.
 pub fn read_login(alloc: Global, object: &Value) -> Result<LoginBody, BodyFault>
-    ensures { IsAnswer result (λ body. body) (verdict (login_body_tests (view object.now)) (login_body_of (view object.now))) }
+    ensures { IsJudged BodyFault.Memory (λ body. Some body)
+        (judged (login_body_conditions (view object.now)) (login_body_of (view object.now))) result }
 {
     let Some(said) = said_in(object) else {
         return Err(BodyFault::BodyField);
@@ -61,6 +63,6 @@ pub fn read_login(alloc: Global, object: &Value) -> Result<LoginBody, BodyFault>
     Ok(LoginBody {
         user: copied(alloc, said.user)?,
         password: copied(alloc, said.password)?,
-        access: copied_if_any(alloc, said.access)?,
+        access_token: copied_if_any(alloc, said.access_token)?,
     })
 }

@@ -1,5 +1,5 @@
-//! Vector sets, results and expected answers as they are written. Messages and keys are OpenSSL's `chacha20` of the seed, read by
-//! the rules of the choice of tests, and digests and HMACs are those of Python's `hashlib` and `hmac`.
+//! Vector sets, results and expected answers as they are written. Messages and keys are OpenSSL's `chacha20` of the
+//! seed, read by the rules of the choice of tests, and digests and HMACs are those of Python's `hashlib` and `hmac`.
 
 use crate::{ReplyObject, TestResult, TestResults, write_reply};
 use acvp_answers::{Answers, Disposition, Verdict, standard};
@@ -73,12 +73,12 @@ const HMAC_EXPECTED: &str =
     \"tcId\":7},{\"mac\":\"3e2c49b8\",\"tcId\":8},{\"mac\":\"3e0789d4\",\"tcId\":9}],\
     \"tgId\":3}],\"vsId\":0}]";
 
-// How the vector set of `MONTE_CARLO` ends.
+/// How the vector set of `MONTE_CARLO` ends.
 const MONTE_CARLO_SET: &str = "\"tgId\":1},{\"testType\":\"MCT\",\"tests\":[{\"len\":256,\
     \"msg\":\"2568657b686d7214382a1a00903017dda969878442ba5afff6613f553cbb233c\",\"tcId\":19}],\
     \"tgId\":2}],\"vsId\":0}]";
 
-// What stands before the second checkpoint, and how the whole ends.
+/// What stands before the second checkpoint, and how the whole ends.
 const FIRST_CHECKPOINT: &str = "\"tgId\":1},\
     {\"tests\":[{\"resultsArray\":[{\"md\":\"bb57d4d8c247e5622b1d2b9e7f9c35cac02549aa4bfbb348e2269d1eaa19c48f\"},\
     {\"md\":\"";
@@ -87,13 +87,13 @@ const LAST_CHECKPOINT: &str =
     ",{\"md\":\"51127556a9e1e79c11084298bd5d01a86bd7d9b84ffe236d606a193c8dbeedc2\"}],\
     \"tcId\":19}],\"tgId\":2}],\"vsId\":0}]";
 
-// The prompts of vector set 0 under a seed of zeros.
+/// The prompts of vector set 0 under a seed of zeros.
 fn prompts_of(alloc: Global, capability: &str) -> Result<Prompts, CapFault> {
     let capability = Capability::from_text(alloc, capability)?;
     prompts(alloc, &[0; 32], 0, &capability).map_err(|_| CapFault::Memory)
 }
 
-// The text of a reply.
+/// The text of a reply.
 fn text_of(alloc: Global, reply: &ReplyObject) -> Result<String, Fail> {
     Ok(String::from_utf8(write_reply(alloc, reply)?).map_err(|_| "no UTF-8")?)
 }
@@ -157,7 +157,7 @@ fn a_hundred_expected_checkpoints(rt: HostRuntime) -> Result<(), Fail> {
     Ok(())
 }
 
-// Where no test is answered, each digest and HMAC is the empty text, and there are no checkpoints.
+/// Where no test is answered, each digest and HMAC is the empty text, and there are no checkpoints.
 #[test]
 fn expected_answers_that_are_not_there(rt: HostRuntime) -> Result<(), Fail> {
     let alloc = rt.alloc();
@@ -177,7 +177,7 @@ fn expected_answers_that_are_not_there(rt: HostRuntime) -> Result<(), Fail> {
     Ok(())
 }
 
-// Results of tests of these numbers.
+/// Results of tests of these numbers.
 fn results(alloc: Global, tests: &[(u64, Verdict)]) -> Result<TestResults, AllocError> {
     let mut results = Vec::new(alloc);
     for (number, verdict) in tests {

@@ -55,7 +55,7 @@ impl TestResults {
     }
 }
 
-// The word for what an answer comes to.
+/// The word for what an answer comes to.
 fn verdict_word(verdict: Verdict) -> &'static str
     ensures { result.now ≡ verdict_word verdict }
 {
@@ -66,7 +66,7 @@ fn verdict_word(verdict: Verdict) -> &'static str
     }
 }
 
-// The word for what a vector set comes to.
+/// The word for what a vector set comes to.
 fn disposition_word(disposition: Disposition) -> &'static str
     ensures { result.now ≡ disposition_word disposition }
 {
@@ -79,14 +79,14 @@ fn disposition_word(disposition: Disposition) -> &'static str
     }
 }
 
-// The result of a test.
+/// The result of a test.
 fn result_value(alloc: Global, test: TestResult) -> Result<Value, AllocError>
     ensures { IfOk result (λ value. view value ≡ result_data test) }
 {
     json!(in alloc; {"result": verdict_word(test.verdict), "tcId": test.number})
 }
 
-// The results of tests.
+/// The results of tests.
 fn result_values(alloc: Global, tests: &[TestResult]) -> Result<Vec<Value>, AllocError>
     ensures { IfOk result (λ values. map view values.items ≡ map result_data tests.now) }
 {

@@ -11,7 +11,7 @@ use serde_json::Value;
 use std::alloc::{AllocError, Global};
 use std::test::Fail;
 
-// An envelope around an object's text.
+/// An envelope around an object's text.
 fn enveloped(alloc: Global, object: &str) -> Result<String, AllocError> {
     format!(in alloc; "[{{\"acvVersion\":\"1.0\"}},{object}]")
 }
@@ -126,7 +126,13 @@ fn a_login_has_two_texts_and_perhaps_a_token(rt: HostRuntime) -> Result<(), Fail
     ] {
         match login_in(alloc, object) {
             Ok(login) => {
-                assert_eq!(rt; login.access.as_ref().map(|access| access.as_str()), token);
+                assert_eq!(rt;
+                    login
+                        .access_token
+                        .as_ref()
+                        .map(|access_token| access_token.as_str()),
+                    token
+                );
                 assert_eq!(rt; login.password.as_str(), "46119246");
                 assert_eq!(rt; login.user.into_string().as_str(), "7");
             }

@@ -1,8 +1,7 @@
 //! Text that contracts see as the list of its bytes.
-ghost use Rattle.std.specs.Prelude.{◌≡◌, MatchResult, string_bytes};
+ghost use Rattle.std.specs.Prelude.{◌≡◌, IfOk, string_bytes};
 
-use crate::fault::BodyFault;
-use std::alloc::Global;
+use std::alloc::{AllocError, Global};
 use std::marker::Model;
 
 /// A text of a body, in UTF-8.
@@ -42,12 +41,9 @@ impl Text {
     }
 }
 
-// A text of its own.
-pub(crate) fn copied(alloc: Global, text: &str) -> Result<Text, BodyFault>
-    ensures { MatchResult result (λ copy. copy ≡ text.now) (λ fault. fault ≡ BodyFault.Memory) }
+/// A text of its own.
+pub(crate) fn copied(alloc: Global, text: &str) -> Result<Text, AllocError>
+    ensures { IfOk result (λ copy. copy ≡ text.now) }
 {
-    match String::from_str(alloc, text) {
-        Ok(string) => Ok(Text::new(string)),
-        Err(_) => Err(BodyFault::Memory),
-    }
+    Ok(Text::new(String::from_str(alloc, text)?))
 }

@@ -7,7 +7,7 @@ use jiff::tz::Offset;
 use jiff::{SignedDuration, Timestamp};
 use std::alloc::{AllocError, Global};
 
-// The civil date and time of a moment in UTC.
+/// The civil date and time of a moment in UTC.
 fn civil_time(moment: u64) -> DateTime
     requires { moment < 253402300800 }
     ensures { IsCivilTimeOf moment result }
@@ -19,8 +19,8 @@ fn civil_time(moment: u64) -> DateTime
     }
 }
 
-/// The text `YYYY-MM-DDTHH:MM:SSZ` of a moment in seconds since 1970, in UTC (RFC 3339, section 5.6). The moment is before the
-/// year 10000.
+/// The text `YYYY-MM-DDTHH:MM:SSZ` of a moment in seconds since 1970, in UTC (RFC 3339, section 5.6). The moment is
+/// before the year 10000.
 pub fn time_text(alloc: Global, moment: u64) -> Result<String, AllocError>
     requires { moment < 253402300800 }
     ensures { IfOk result (λ text. IsTimeOf moment (string_bytes text)) }

@@ -7,7 +7,7 @@ use acvp_gen::{Group, GroupKind, Prompts, Sizes, Test};
 use serde_json::{Value, json};
 use std::alloc::{AllocError, Global};
 
-// The word for what the tests of a group ask for.
+/// The word for what the tests of a group ask for.
 fn type_word(kind: GroupKind) -> &'static str
     ensures { result.now ≡ type_word kind }
 {
@@ -17,7 +17,7 @@ fn type_word(kind: GroupKind) -> &'static str
     }
 }
 
-// A test of a hash function.
+/// A test of a hash function.
 fn hash_test_value(alloc: Global, test: &Test) -> Result<Value, AllocError>
     ensures { IfOk result (λ value. view value ≡ hash_test_data test.now) }
 {
@@ -25,7 +25,7 @@ fn hash_test_value(alloc: Global, test: &Test) -> Result<Value, AllocError>
     json!(in alloc; {"len": test.bits(), "msg": message, "tcId": test.number()})
 }
 
-// A test of HMAC.
+/// A test of HMAC.
 fn mac_test_value(alloc: Global, test: &Test) -> Result<Value, AllocError>
     ensures { IfOk result (λ value. view value ≡ mac_test_data test.now) }
 {
@@ -34,7 +34,7 @@ fn mac_test_value(alloc: Global, test: &Test) -> Result<Value, AllocError>
     json!(in alloc; {"key": key, "msg": message, "tcId": test.number()})
 }
 
-// Tests of a hash function.
+/// Tests of a hash function.
 fn hash_test_values(alloc: Global, tests: &[Test]) -> Result<Vec<Value>, AllocError>
     ensures { IfOk result (λ values. map view values.items ≡ map hash_test_data tests.now) }
 {
@@ -45,7 +45,7 @@ fn hash_test_values(alloc: Global, tests: &[Test]) -> Result<Vec<Value>, AllocEr
     Ok(values)
 }
 
-// Tests of HMAC.
+/// Tests of HMAC.
 fn mac_test_values(alloc: Global, tests: &[Test]) -> Result<Vec<Value>, AllocError>
     ensures { IfOk result (λ values. map view values.items ≡ map mac_test_data tests.now) }
 {
@@ -56,7 +56,7 @@ fn mac_test_values(alloc: Global, tests: &[Test]) -> Result<Vec<Value>, AllocErr
     Ok(values)
 }
 
-// A group of a hash function.
+/// A group of a hash function.
 fn hash_group_value(alloc: Global, group: &Group) -> Result<Value, AllocError>
     ensures { IfOk result (λ value. view value ≡ hash_group_data group.now) }
 {
@@ -64,7 +64,7 @@ fn hash_group_value(alloc: Global, group: &Group) -> Result<Value, AllocError>
     json!(in alloc; {"testType": type_word(group.kind()), "tests": tests, "tgId": group.number()})
 }
 
-// A group of HMAC.
+/// A group of HMAC.
 fn mac_group_value(alloc: Global, sizes: Sizes, group: &Group) -> Result<Value, AllocError>
     ensures { IfOk result (λ value. view value ≡ mac_group_data sizes group.now) }
 {
@@ -79,7 +79,7 @@ fn mac_group_value(alloc: Global, sizes: Sizes, group: &Group) -> Result<Value, 
     })
 }
 
-// A group: one of HMAC has sizes.
+/// A group: one of HMAC has sizes.
 fn group_value(alloc: Global, group: &Group) -> Result<Value, AllocError>
     ensures { IfOk result (λ value. view value ≡ group_data group.now) }
 {
@@ -89,7 +89,7 @@ fn group_value(alloc: Global, group: &Group) -> Result<Value, AllocError>
     }
 }
 
-// The groups of a vector set.
+/// The groups of a vector set.
 fn group_values(alloc: Global, groups: &[Group]) -> Result<Vec<Value>, AllocError>
     ensures { IfOk result (λ values. map view values.items ≡ map group_data groups.now) }
 {

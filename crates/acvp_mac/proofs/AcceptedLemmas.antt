@@ -30,14 +30,19 @@ true-three false b c h = cc
 pub acceptable-test : (secret : List ℕ) (last : Option ℕ) (moment code s : ℕ) →
     IsAcceptable secret last moment code s → is_acceptable secret last moment code s ≡ true
 acceptable-test secret last moment code s h =
-    three-true _ _ _ (recent-test s (step_of moment) h.recent) (unused-test last s h.unused) (rw h.right (grind (arith, nat_tests)))
+    three-true _ _ _ (recent-test s (step_of moment) h.recent) (unused-test last s h.unused)
+    (rw h.right (grind (arith, nat_tests)))
 
 -- a step that passes the test is acceptable
 pub test-acceptable : (secret : List ℕ) (last : Option ℕ) (moment code s : ℕ) →
     is_acceptable secret last moment code s ≡ true → IsAcceptable secret last moment code s
 test-acceptable secret last moment code s h =
     let parts = true-three _ _ _ h in
-    record { recent = test-recent s (step_of moment) parts.0; unused = test-unused last s parts.1; right = grind (arith, nat_tests, parts.2) }
+    record {
+      recent = test-recent s (step_of moment) parts.0;
+      unused = test-unused last s parts.1;
+      right = grind (arith, nat_tests, parts.2);
+    }
 
 le-recent : (s now : ℕ) → (s ≡ now) ⊎ (s + 1 ≡ now) → s ≤ now
 le-recent s now (inl e) = omega arith

@@ -8,7 +8,8 @@ use Rattle.acvp_mac.specs.Hash.{digest_of, block_of}
 use Rattle.acvp_mac.specs.Hmac.{xor_each, block_key}
 
 -- the front of a list whose bytes were each changed by the pad
-pub take-map-xor : (n pad : ℕ) (xs : List ℕ) → n ≤ length xs → take n (map (λ b. bit_xor b pad) xs) ≡ xor_each (take n xs) (replicate n pad)
+pub take-map-xor : (n pad : ℕ) (xs : List ℕ) → n ≤ length xs
+    → take n (map (λ b. bit_xor b pad) xs) ≡ xor_each (take n xs) (replicate n pad)
 take-map-xor zero pad xs h = refl
 take-map-xor (suc n) pad [] h = absurd (omega arith)
 take-map-xor (suc n) pad (x ∷ xs) h = ap (λ ys. bit_xor x pad ∷ ys) (take-map-xor n pad xs (omega arith))

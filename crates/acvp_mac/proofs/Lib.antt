@@ -2,3 +2,4 @@ pub mod HmacLemmas
 pub mod CodeLemmas
 pub mod AcceptedLemmas
 pub mod DigestFacts
+pub mod ConditionLemmas

@@ -16,7 +16,7 @@ impl Model for Digest {
 
     ghost Value = { List ℕ };
 
-    ghost use Rattle.acvp_mac.specs.DigestBytes.{shown_bytes, IsZeroFilled, from_shown, from_shown-shown_bytes};
+    ghost use Rattle.acvp_mac.specs.Private.DigestBytes.{shown_bytes, IsZeroFilled, from_shown, from_shown-shown_bytes};
 
     ghost view = { shown_bytes };
 

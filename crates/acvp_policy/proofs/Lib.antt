@@ -1,2 +1,2 @@
-pub mod Verdicts
+pub mod Refusals
 pub mod CallerRules

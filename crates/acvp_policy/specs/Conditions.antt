@@ -1,5 +1,8 @@
 -- The conditions of the policy: each a test of the facts, with the rule that is broken where it doesn't hold.
-use Rattle.std.specs.Prelude.{ℕ, ◌+◌, ◌/◌, Bool, true, false, Option, Some, None, ◌==◌, ◌&&◌, not, nat_lt, nat_le, is_some, is_none}
+use Rattle.std.specs.Prelude.{ℕ, ◌+◌, Bool, true, false, ◌==◌, ◌&&◌, not, nat_lt, nat_le}
+use Rattle.std.specs.Prelude.{Option, Some, None, is_some, is_none}
+use Rattle.acvp_token.specs.Conditions.{Condition}
+use Rattle.acvp_token.specs.SessionNumber.{account_of_session}
 use Rattle.acvp_token.specs.declared.Claims.{Claims}
 use Rattle.acvp_policy.specs.declared.rule.Rule.{Rule}
 use Rattle.acvp_policy.specs.declared.rule.Rule.TheVariants as rule
@@ -21,23 +24,15 @@ use Rattle.acvp_policy.specs.declared.facts.CertificationFacts.{CertificationFac
 use Rattle.acvp_policy.specs.declared.facts.SetFacts.{SetFacts}
 use Rattle.acvp_policy.specs.Resource.{resource_of, session_number}
 
--- a test that must hold, with the rule that is broken where it doesn't
-abbrev pub Test : Type 0
-Test = Bool × Rule
+-- it is there, and the test holds of it
+abbrev pub is_some_and : {X : Type 0} → Option X → (X → Bool) → Bool
+is_some_and None test = false
+is_some_and (Some x) test = test x
 
--- a test of what may not be there: where it isn't, the test fails
-abbrev pub of : {X : Type 0} → Option X → (X → Bool) → Bool
-of None test = false
-of (Some x) test = test x
-
--- a test of each thing that is there: where none is, it holds
-abbrev pub if_any : {X : Type 0} → Option X → (X → Bool) → Bool
-if_any None test = true
-if_any (Some x) test = test x
-
--- the account whose number a session's number begins with
-abbrev pub account_of_session : ℕ → ℕ
-account_of_session s = s / 1000000
+-- it isn't there, or the test holds of it
+abbrev pub is_none_or : {X : Type 0} → Option X → (X → Bool) → Bool
+is_none_or None test = true
+is_none_or (Some x) test = test x
 
 -- The token (RFC 6750), its signature and its claims: a token fails no test before the one that was found to fail.
 
@@ -66,19 +61,19 @@ abbrev pub claims_of : Token → Option Claims
 claims_of (token.Verified claims) = Some claims
 claims_of _ = None
 
-abbrev pub token_there : Facts → Test
+abbrev pub token_there : Facts → Condition Rule
 token_there f = (is_there f.token, rule.TokenMissing)
 
-abbrev pub token_shaped : Facts → Test
+abbrev pub token_shaped : Facts → Condition Rule
 token_shaped f = (has_shape f.token, rule.TokenMalformed)
 
-abbrev pub token_signed : Facts → Test
+abbrev pub token_signed : Facts → Condition Rule
 token_signed f = (is_signed f.token, rule.TokenSignature)
 
-abbrev pub token_read : Facts → Test
+abbrev pub token_read : Facts → Condition Rule
 token_read f = (is_read f.token, rule.TokenClaims)
 
-abbrev pub token_lasts : Facts → Test
+abbrev pub token_lasts : Facts → Condition Rule
 token_lasts f = (lasts f.token, rule.TokenExpired)
 
 -- The account of the claims, and the session that the token is bound to.
@@ -88,22 +83,23 @@ is_enabled standing.Absent = false
 is_enabled standing.Disabled = false
 is_enabled standing.Enabled = true
 
-abbrev pub account_enabled : Facts → Test
+abbrev pub account_enabled : Facts → Condition Rule
 account_enabled f = (is_enabled f.standing, rule.AccountRefused)
 
-abbrev pub without_session : Facts → Test
-without_session f = (of (claims_of f.token) (λ c. is_none c.session), rule.AccountTokenNeeded)
+abbrev pub without_session : Facts → Condition Rule
+without_session f = (is_some_and (claims_of f.token) (λ c. is_none c.session), rule.AccountTokenNeeded)
 
-abbrev pub with_session : Facts → Test
-with_session f = (of (claims_of f.token) (λ c. is_some c.session), rule.SessionTokenNeeded)
+abbrev pub with_session : Facts → Condition Rule
+with_session f = (is_some_and (claims_of f.token) (λ c. is_some c.session), rule.SessionTokenNeeded)
 
 -- claims that are bound to session s, and are of its account
 abbrev pub are_of_session : ℕ → Claims → Bool
-are_of_session s c = of c.session (λ bound. bound == s) && (account_of_session s == c.account)
+are_of_session s c = is_some_and c.session (λ bound. bound == s) && (account_of_session s == c.account)
 
-abbrev pub this_session : Facts → Test
+abbrev pub this_session : Facts → Condition Rule
 this_session f =
-    (of (session_number (resource_of f.subject)) (λ s. of (claims_of f.token) (are_of_session s)), rule.OtherSession)
+    let of_session = λ (s : ℕ). is_some_and (claims_of f.token) (are_of_session s) in
+    (is_some_and (session_number (resource_of f.subject)) of_session, rule.OtherSession)
 
 -- What the path names is there, and is of the kind that the action is about.
 
@@ -143,33 +139,33 @@ abbrev pub request_of : Subject → Option RowSubject
 request_of (subject.Request row) = Some row
 request_of _ = None
 
-abbrev pub account_there : Facts → Test
+abbrev pub account_there : Facts → Condition Rule
 account_there f = (is_account f.subject, rule.NoResource)
 
 -- the twelve algorithms are numbered from 1
-abbrev pub algorithm_there : Facts → Test
-algorithm_there f = (of (algorithm_of f.subject) (λ n. nat_le 1 n && nat_le n 12), rule.NoResource)
+abbrev pub algorithm_there : Facts → Condition Rule
+algorithm_there f = (is_some_and (algorithm_of f.subject) (λ n. nat_le 1 n && nat_le n 12), rule.NoResource)
 
-abbrev pub session_there : Facts → Test
+abbrev pub session_there : Facts → Condition Rule
 session_there f = (is_some (session_found f.subject), rule.NoResource)
 
-abbrev pub certification_there : Facts → Test
+abbrev pub certification_there : Facts → Condition Rule
 certification_there f = (is_some (certification_found f.subject), rule.NoResource)
 
-abbrev pub set_there : Facts → Test
+abbrev pub set_there : Facts → Condition Rule
 set_there f = (is_some (set_found f.subject), rule.NoResource)
 
-abbrev pub vendor_there : Facts → Test
-vendor_there f = (of (vendor_of f.subject) (λ row. row.found), rule.NoResource)
+abbrev pub vendor_there : Facts → Condition Rule
+vendor_there f = (is_some_and (vendor_of f.subject) (λ row. row.found), rule.NoResource)
 
-abbrev pub module_there : Facts → Test
-module_there f = (of (module_of f.subject) (λ row. row.found), rule.NoResource)
+abbrev pub module_there : Facts → Condition Rule
+module_there f = (is_some_and (module_of f.subject) (λ row. row.found), rule.NoResource)
 
-abbrev pub environment_there : Facts → Test
-environment_there f = (of (environment_of f.subject) (λ row. row.found), rule.NoResource)
+abbrev pub environment_there : Facts → Condition Rule
+environment_there f = (is_some_and (environment_of f.subject) (λ row. row.found), rule.NoResource)
 
-abbrev pub request_there : Facts → Test
-request_there f = (of (request_of f.subject) (λ row. row.found), rule.NoResource)
+abbrev pub request_there : Facts → Condition Rule
+request_there f = (is_some_and (request_of f.subject) (λ row. row.found), rule.NoResource)
 
 -- How the session stands.
 
@@ -202,37 +198,38 @@ is_frozen (Some status.Initial) = true
 is_frozen (Some status.Approved) = true
 is_frozen (Some status.Rejected) = false
 
-abbrev pub session_live : Facts → Test
-session_live f = (of (session_of f.subject) (λ x. not x.cancelled), rule.SessionCancelled)
+abbrev pub session_live : Facts → Condition Rule
+session_live f = (is_some_and (session_of f.subject) (λ x. not x.cancelled), rule.SessionCancelled)
 
-abbrev pub session_lasts : Facts → Test
-session_lasts f = (of (session_of f.subject) (λ x. nat_lt f.moment (x.created + session_life)), rule.SessionExpired)
+abbrev pub session_lasts : Facts → Condition Rule
+session_lasts f =
+    (is_some_and (session_of f.subject) (λ x. nat_lt f.moment (x.created + session_life)), rule.SessionExpired)
 
-abbrev pub session_thawed : Facts → Test
-session_thawed f = (of (session_of f.subject) (λ x. not (is_frozen x.certification)), rule.SessionFrozen)
+abbrev pub session_thawed : Facts → Condition Rule
+session_thawed f = (is_some_and (session_of f.subject) (λ x. not (is_frozen x.certification)), rule.SessionFrozen)
 
-abbrev pub is_sample : Facts → Test
-is_sample f = (of (session_of f.subject) (λ x. x.sample), rule.NotSample)
+abbrev pub is_sample : Facts → Condition Rule
+is_sample f = (is_some_and (session_of f.subject) (λ x. x.sample), rule.NotSample)
 
-abbrev pub is_no_sample : Facts → Test
-is_no_sample f = (of (session_of f.subject) (λ x. not x.sample), rule.SampleNotCertifiable)
+abbrev pub is_no_sample : Facts → Condition Rule
+is_no_sample f = (is_some_and (session_of f.subject) (λ x. not x.sample), rule.SampleNotCertifiable)
 
-abbrev pub has_passed : Facts → Test
-has_passed f = (of (certification_found f.subject) (λ x. x.passed), rule.NotPassed)
+abbrev pub has_passed : Facts → Condition Rule
+has_passed f = (is_some_and (certification_found f.subject) (λ x. x.passed), rule.NotPassed)
 
 -- How the vector set stands.
 
-abbrev pub set_live : Facts → Test
-set_live f = (of (set_found f.subject) (λ x. not x.cancelled), rule.SetCancelled)
+abbrev pub set_live : Facts → Condition Rule
+set_live f = (is_some_and (set_found f.subject) (λ x. not x.cancelled), rule.SetCancelled)
 
-abbrev pub set_lasts : Facts → Test
-set_lasts f = (of (set_found f.subject) (λ x. nat_lt f.moment (x.session.created + set_life)), rule.SetExpired)
+abbrev pub set_lasts : Facts → Condition Rule
+set_lasts f = (is_some_and (set_found f.subject) (λ x. nat_lt f.moment (x.session.created + set_life)), rule.SetExpired)
 
-abbrev pub is_unanswered : Facts → Test
-is_unanswered f = (of (set_found f.subject) (λ x. not x.answered), rule.AlreadySubmitted)
+abbrev pub is_unanswered : Facts → Condition Rule
+is_unanswered f = (is_some_and (set_found f.subject) (λ x. not x.answered), rule.AlreadySubmitted)
 
-abbrev pub is_answered : Facts → Test
-is_answered f = (of (set_found f.subject) (λ x. x.answered), rule.NotSubmitted)
+abbrev pub is_answered : Facts → Condition Rule
+is_answered f = (is_some_and (set_found f.subject) (λ x. x.answered), rule.NotSubmitted)
 
 -- A login.
 
@@ -245,10 +242,12 @@ abbrev pub may_renew : ℕ → Renewal → Bool
 may_renew account renewal.Unasked = true
 may_renew account renewal.Unreadable = false
 may_renew account (renewal.Reads c) =
-    (c.account == account) && if_any c.session (λ s. account_of_session s == account)
+    (c.account == account) && is_none_or c.session (λ s. account_of_session s == account)
 
-abbrev pub code_accepted : Facts → Test
-code_accepted f = (of (login_of f.subject) (λ l. of l.user (λ u. u.enabled && is_some u.step)), rule.LoginRefused)
+abbrev pub code_accepted : Facts → Condition Rule
+code_accepted f =
+    (is_some_and (login_of f.subject) (λ l. is_some_and l.user (λ u. u.enabled && is_some u.step)), rule.LoginRefused)
 
-abbrev pub renewal_allowed : Facts → Test
-renewal_allowed f = (of (login_of f.subject) (λ l. of l.user (λ u. may_renew u.account l.renewal)), rule.RenewalRefused)
+abbrev pub renewal_allowed : Facts → Condition Rule
+renewal_allowed f =
+    (is_some_and (login_of f.subject) (λ l. is_some_and l.user (λ u. may_renew u.account l.renewal)), rule.RenewalRefused)

@@ -1,23 +1,16 @@
--- What is decided: the rule of the first test that fails, or the grant.
-use Rattle.std.specs.Prelude.{ℕ, List, Option, Some, None, Result, Ok, Err, find, not}
+-- What is decided: the rule of the first condition that doesn't hold, or the grant.
+use Rattle.std.specs.Prelude.{ℕ, Option, Some, None, Result}
+use Rattle.acvp_token.specs.Conditions.{judged}
 use Rattle.acvp_token.specs.declared.Claims.{Claims}
 use Rattle.acvp_policy.specs.declared.rule.Rule.{Rule}
 use Rattle.acvp_policy.specs.declared.action.Action.{Action}
 use Rattle.acvp_policy.specs.declared.facts.Facts.{Facts}
 use Rattle.acvp_policy.specs.declared.facts.LoginFacts.{LoginFacts}
 use Rattle.acvp_policy.specs.declared.facts.UserFacts.{UserFacts}
-use Rattle.acvp_policy.specs.Conditions.{Test, claims_of, login_of}
+use Rattle.acvp_policy.specs.Conditions.{claims_of, login_of}
 use Rattle.acvp_policy.specs.Resource.{resource_of}
 use Rattle.acvp_policy.specs.Policy.{policy}
 use Rattle.acvp_policy.specs.Granted.{Granted}
-
-abbrev pub unless_broken : {X : Type 0} → Option Test → X → Result X Rule
-unless_broken None x = Ok x
-unless_broken (Some test) x = Err test.1
-
--- the rule of the first test that fails, or the value where none does
-abbrev pub verdict : {X : Type 0} → List Test → X → Result X Rule
-verdict tests x = unless_broken (find (λ test. not test.0) tests) x
 
 abbrev pub account_of_user : Option UserFacts → ℕ
 account_of_user None = 0
@@ -36,8 +29,8 @@ acting_account (Some l) f = account_of_user l.user
 abbrev pub account_of : Facts → ℕ
 account_of f = acting_account (login_of f.subject) f
 
-abbrev pub granted : Action → Facts → Granted
+unfoldable pub granted : Action → Facts → Granted
 granted action f = record { action = action; account = account_of f; resource = resource_of f.subject }
 
-abbrev pub decision : Action → Facts → Result Granted Rule
-decision action f = verdict (policy action f) (granted action f)
+unfoldable pub decision : Action → Facts → Result Granted Rule
+decision action f = judged (policy action f) (granted action f)

@@ -1,27 +1,27 @@
 //! The rules on a caller: the token, its account, and the session that it is bound to.
 
 ghost use Rattle.std.specs.Prelude.{◌≡◌, [], ◌∷◌};
-ghost use Rattle.acvp_policy.specs.Decision.{verdict};
-ghost use Rattle.acvp_policy.specs.Policy.{claims_tests};
-ghost use Rattle.acvp_policy.specs.Conditions.{are_of_session, of};
+ghost use Rattle.acvp_token.specs.Conditions.{judged};
+ghost use Rattle.acvp_policy.specs.Policy.{claims_conditions};
+ghost use Rattle.acvp_policy.specs.Conditions.{are_of_session, is_some_and};
 ghost use Rattle.acvp_policy.specs.Resource.{session_number};
 
 use crate::action::Scope;
 use crate::facts::{Facts, Standing, Token};
 use crate::resource::Resource;
 use crate::rule::Rule;
-use acvp_token::Claims;
+use acvp_token::{Claims, account_of_session};
 
 /// Whether a condition holds, or else its rule.
 pub fn check(holds: bool, rule: Rule) -> Result<(), Rule>
-    ensures { result ≡ verdict ((holds, rule) ∷ []) tt }
+    ensures { result ≡ judged ((holds, rule) ∷ []) tt }
 {
     if holds { Ok(()) } else { Err(rule) }
 }
 
 /// Whether the caller may ask for actions of this scope.
 pub fn claims_allow(scope: Scope, facts: &Facts) -> Result<(), Rule>
-    ensures { result ≡ verdict (claims_tests scope facts.now) tt }
+    ensures { result ≡ judged (claims_conditions scope facts.now) tt }
 {
     if scope == Scope::Login {
         return Ok(());
@@ -50,13 +50,10 @@ pub fn claims_allow(scope: Scope, facts: &Facts) -> Result<(), Rule>
 
 /// Whether claims are bound to the session of a resource, and are of the account that has it.
 fn is_bound_to(claims: Claims, resource: Resource) -> bool
-    ensures { result ≡ of (session_number resource) (λ s. are_of_session s claims) }
+    ensures { result ≡ is_some_and (session_number resource) (λ s. are_of_session s claims) }
 {
     let (Resource::Session(session) | Resource::Set(session, _)) = resource else {
         return false;
     };
-    claims.session == Some(session) && session / ACCOUNT_SPAN == claims.account as u64
+    claims.session == Some(session) && account_of_session(session) == claims.account as u64
 }
-
-/// A session's number divided by this is its account's.
-pub const ACCOUNT_SPAN: u64 = 1_000_000;

@@ -1,12 +1,12 @@
 //! The rules on what a path names, and on the findings of a login.
 
 ghost use Rattle.std.specs.Prelude.{◌≡◌, [], ◌∷◌};
-ghost use Rattle.acvp_policy.specs.Decision.{verdict};
-ghost use Rattle.acvp_policy.specs.Policy.{resource_tests};
+ghost use Rattle.acvp_token.specs.Conditions.{judged};
+ghost use Rattle.acvp_policy.specs.Policy.{resource_conditions};
 ghost use Rattle.acvp_policy.specs.Conditions.{may_renew};
 
 use crate::action::Action;
-use crate::caller::{ACCOUNT_SPAN, check};
+use crate::caller::check;
 use crate::facts::{Facts, Renewal, Subject};
 use crate::rule::Rule;
 use crate::session::{
@@ -16,14 +16,18 @@ use crate::set::{
     cancel_set_allowed, expected_allowed, resubmission_allowed, set_read_allowed,
     set_results_allowed, submission_allowed,
 };
+use acvp_token::account_of_session;
 
 /// Whether the action may be taken on what its path names, as it was found.
 pub fn resource_allows(action: Action, facts: &Facts) -> Result<(), Rule>
-    ensures { result ≡ verdict (resource_tests action facts.now) tt }
+    ensures { result ≡ judged (resource_conditions action facts.now) tt }
 {
     match action {
         Action::Login => login_allowed(facts),
-        Action::ReadAlgorithm => there(matches!(facts.subject, Subject::Algorithm(1..=12))),
+        Action::ReadAlgorithm => resource_found(matches!(
+            facts.subject,
+            Subject::Algorithm(1..=12)
+        )),
         Action::ReadSession | Action::ListSets => session_read_allowed(facts),
         Action::Certify => certification_allowed(facts),
         Action::CancelSession => cancel_session_allowed(facts),
@@ -34,26 +38,32 @@ pub fn resource_allows(action: Action, facts: &Facts) -> Result<(), Rule>
         Action::Submit => submission_allowed(facts),
         Action::Resubmit => resubmission_allowed(facts),
         Action::Expected => expected_allowed(facts),
-        Action::ReadVendor => there(matches!(facts.subject, Subject::Vendor(row) if row.found)),
-        Action::ReadModule => there(matches!(facts.subject, Subject::Module(row) if row.found)),
-        Action::ReadEnvironment => there(
+        Action::ReadVendor => resource_found(
+            matches!(facts.subject, Subject::Vendor(row) if row.found),
+        ),
+        Action::ReadModule => resource_found(
+            matches!(facts.subject, Subject::Module(row) if row.found),
+        ),
+        Action::ReadEnvironment => resource_found(
             matches!(facts.subject, Subject::Environment(row) if row.found),
         ),
-        Action::ReadRequest => there(matches!(facts.subject, Subject::Request(row) if row.found)),
-        _ => there(facts.subject == Subject::Account),
+        Action::ReadRequest => resource_found(
+            matches!(facts.subject, Subject::Request(row) if row.found),
+        ),
+        _ => resource_found(facts.subject == Subject::Account),
     }
 }
 
 /// Whether what the path names is there, and is of the kind that the action is about.
-fn there(found: bool) -> Result<(), Rule>
-    ensures { result ≡ verdict ((found, Rule.NoResource) ∷ []) tt }
+fn resource_found(found: bool) -> Result<(), Rule>
+    ensures { result ≡ judged ((found, Rule.NoResource) ∷ []) tt }
 {
     check(found, Rule::NoResource)
 }
 
 /// Whether an account may log in with what was found of its code and of the token that it hands in.
 fn login_allowed(facts: &Facts) -> Result<(), Rule>
-    ensures { result ≡ verdict (resource_tests Action.Login facts.now) tt }
+    ensures { result ≡ judged (resource_conditions Action.Login facts.now) tt }
 {
     let Subject::Login(login) = facts.subject else {
         return Err(Rule::LoginRefused);
@@ -76,7 +86,7 @@ fn renews(account: u16, renewal: Renewal) -> bool
             claims.account == account
                 && match claims.session {
                     None => true,
-                    Some(session) => session / ACCOUNT_SPAN == account as u64,
+                    Some(session) => account_of_session(session) == account as u64,
                 }
         }
     }

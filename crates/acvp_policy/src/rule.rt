@@ -1,7 +1,7 @@
 //! The numbered rules of refusal, with their status and their word.
 
 ghost use Rattle.std.specs.Prelude.{◌≡◌, ◌≤◌, ◌<◌, length};
-ghost use Rattle.acvp_policy.specs.Rule.{number_of, status_of, word_of};
+ghost use Rattle.acvp_policy.specs.Rule.{rule_number, rule_status, rule_word};
 
 /// Why a request is refused. The number is the rule's name for clients and operators.
 #[derive(Clone, Copy, Debug, PartialEq, Eq)]
@@ -148,7 +148,7 @@ pub enum Rule {
 impl Rule {
     /// The number of the rule, from 1 to 46.
     pub fn number(self) -> u8
-        ensures value { result ≡ number_of self }
+        ensures value { result ≡ rule_number self }
         ensures range { (1 ≤ result) × (result ≤ 46) }
     {
         self as u8
@@ -156,7 +156,7 @@ impl Rule {
 
     /// The status code of the refusal (RFC 9110, section 15).
     pub fn status(self) -> u16
-        ensures value { result ≡ status_of self }
+        ensures value { result ≡ rule_status self }
         ensures range { (100 ≤ result) × (result < 1000) }
     {
         match self {
@@ -209,7 +209,7 @@ impl Rule {
 
     /// The word that stands in the reply's `error`.
     pub fn word(self) -> &'static str
-        ensures value { result.now ≡ word_of self }
+        ensures value { result.now ≡ rule_word self }
         ensures short { length result.now ≤ 20 }
     {
         match self {

@@ -1,9 +1,9 @@
 //! The rules on a session: how it must stand for each action.
 
 ghost use Rattle.std.specs.Prelude.{◌≡◌, nat_lt, ◌+◌};
-ghost use Rattle.acvp_policy.specs.Decision.{verdict};
+ghost use Rattle.acvp_token.specs.Conditions.{judged};
 ghost use Rattle.acvp_policy.specs.declared.action.Action.TheVariants as action;
-ghost use Rattle.acvp_policy.specs.Policy.{resource_tests};
+ghost use Rattle.acvp_policy.specs.Policy.{resource_conditions};
 ghost use Rattle.acvp_policy.specs.Conditions.{is_frozen, session_life};
 
 use crate::caller::check;
@@ -11,11 +11,11 @@ use crate::facts::{CertificationStatus, Facts, SessionFacts, Subject};
 use crate::rule::Rule;
 
 /// The seconds from a session's creation to its end.
-const SESSION_SPAN: u64 = 2592000;
+pub const SESSION_LIFE: u64 = 2_592_000;
 
 /// Whether a session may be read, or its sets listed.
 pub fn session_read_allowed(facts: &Facts) -> Result<(), Rule>
-    ensures { result ≡ verdict (resource_tests action.ReadSession facts.now) tt }
+    ensures { result ≡ judged (resource_conditions action.ReadSession facts.now) tt }
 {
     let Subject::Session(on) = facts.subject else {
         return Err(Rule::NoResource);
@@ -25,7 +25,7 @@ pub fn session_read_allowed(facts: &Facts) -> Result<(), Rule>
 
 /// Whether a session's results may be read.
 pub fn session_results_allowed(facts: &Facts) -> Result<(), Rule>
-    ensures { result ≡ verdict (resource_tests action.SessionResults facts.now) tt }
+    ensures { result ≡ judged (resource_conditions action.SessionResults facts.now) tt }
 {
     let Subject::Session(on) = facts.subject else {
         return Err(Rule::NoResource);
@@ -38,7 +38,7 @@ pub fn session_results_allowed(facts: &Facts) -> Result<(), Rule>
 
 /// Whether a session may be cancelled.
 pub fn cancel_session_allowed(facts: &Facts) -> Result<(), Rule>
-    ensures { result ≡ verdict (resource_tests action.CancelSession facts.now) tt }
+    ensures { result ≡ judged (resource_conditions action.CancelSession facts.now) tt }
 {
     let Subject::Session(on) = facts.subject else {
         return Err(Rule::NoResource);
@@ -52,7 +52,7 @@ pub fn cancel_session_allowed(facts: &Facts) -> Result<(), Rule>
 
 /// Whether a session may be sent for certification.
 pub fn certification_allowed(facts: &Facts) -> Result<(), Rule>
-    ensures { result ≡ verdict (resource_tests action.Certify facts.now) tt }
+    ensures { result ≡ judged (resource_conditions action.Certify facts.now) tt }
 {
     let Subject::Certification(on) = facts.subject else {
         return Err(Rule::NoResource);
@@ -74,7 +74,7 @@ pub fn certification_allowed(facts: &Facts) -> Result<(), Rule>
 pub fn session_lasts(session: SessionFacts, moment: u64) -> bool
     ensures { result ≡ nat_lt moment (session.created + session_life) }
 {
-    moment.saturating_sub(session.created) < SESSION_SPAN
+    moment.saturating_sub(session.created) < SESSION_LIFE
 }
 
 /// Whether the session's certification is asked for or given.

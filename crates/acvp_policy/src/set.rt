@@ -1,9 +1,9 @@
 //! The rules on a vector set: how it and its session must stand for each action.
 
 ghost use Rattle.std.specs.Prelude.{◌≡◌, [], ◌∷◌, nat_lt, ◌+◌, not};
-ghost use Rattle.acvp_policy.specs.Decision.{verdict};
+ghost use Rattle.acvp_token.specs.Conditions.{judged};
 ghost use Rattle.acvp_policy.specs.declared.action.Action.TheVariants as action;
-ghost use Rattle.acvp_policy.specs.Policy.{resource_tests};
+ghost use Rattle.acvp_policy.specs.Policy.{resource_conditions};
 ghost use Rattle.acvp_policy.specs.Conditions.{set_found, is_frozen, session_life, set_life};
 
 use crate::caller::check;
@@ -12,7 +12,7 @@ use crate::rule::Rule;
 use crate::session::{frozen, session_lasts};
 
 /// The seconds from a session's creation to the end of its vector sets.
-const SET_SPAN: u64 = 604800;
+pub const SET_LIFE: u64 = 604_800;
 
 /// The set that the path names, where it is there.
 fn found_set(subject: Subject) -> Option<SetFacts>
@@ -26,7 +26,7 @@ fn found_set(subject: Subject) -> Option<SetFacts>
 
 /// Whether a vector set may be read.
 pub fn set_read_allowed(facts: &Facts) -> Result<(), Rule>
-    ensures { result ≡ verdict (resource_tests action.ReadSet facts.now) tt }
+    ensures { result ≡ judged (resource_conditions action.ReadSet facts.now) tt }
 {
     let Some(set) = found_set(facts.subject) else {
         return Err(Rule::NoResource);
@@ -42,7 +42,7 @@ pub fn set_read_allowed(facts: &Facts) -> Result<(), Rule>
 
 /// Whether a vector set may be cancelled.
 pub fn cancel_set_allowed(facts: &Facts) -> Result<(), Rule>
-    ensures { result ≡ verdict (resource_tests action.CancelSet facts.now) tt }
+    ensures { result ≡ judged (resource_conditions action.CancelSet facts.now) tt }
 {
     let Some(set) = found_set(facts.subject) else {
         return Err(Rule::NoResource);
@@ -54,7 +54,7 @@ pub fn cancel_set_allowed(facts: &Facts) -> Result<(), Rule>
 
 /// Whether a vector set's results may be read.
 pub fn set_results_allowed(facts: &Facts) -> Result<(), Rule>
-    ensures { result ≡ verdict (resource_tests action.SetResults facts.now) tt }
+    ensures { result ≡ judged (resource_conditions action.SetResults facts.now) tt }
 {
     let Some(set) = found_set(facts.subject) else {
         return Err(Rule::NoResource);
@@ -65,7 +65,7 @@ pub fn set_results_allowed(facts: &Facts) -> Result<(), Rule>
 
 /// Whether a vector set's expected answers may be read.
 pub fn expected_allowed(facts: &Facts) -> Result<(), Rule>
-    ensures { result ≡ verdict (resource_tests action.Expected facts.now) tt }
+    ensures { result ≡ judged (resource_conditions action.Expected facts.now) tt }
 {
     let Some(set) = found_set(facts.subject) else {
         return Err(Rule::NoResource);
@@ -77,7 +77,7 @@ pub fn expected_allowed(facts: &Facts) -> Result<(), Rule>
 
 /// Whether answers may be sent for the first time.
 pub fn submission_allowed(facts: &Facts) -> Result<(), Rule>
-    ensures { result ≡ verdict (resource_tests action.Submit facts.now) tt }
+    ensures { result ≡ judged (resource_conditions action.Submit facts.now) tt }
 {
     let Some(set) = found_set(facts.subject) else {
         return Err(Rule::NoResource);
@@ -87,7 +87,7 @@ pub fn submission_allowed(facts: &Facts) -> Result<(), Rule>
 
 /// Whether answers may be sent in the place of earlier ones.
 pub fn resubmission_allowed(facts: &Facts) -> Result<(), Rule>
-    ensures { result ≡ verdict (resource_tests action.Resubmit facts.now) tt }
+    ensures { result ≡ judged (resource_conditions action.Resubmit facts.now) tt }
 {
     let Some(set) = found_set(facts.subject) else {
         return Err(Rule::NoResource);
@@ -95,9 +95,10 @@ pub fn resubmission_allowed(facts: &Facts) -> Result<(), Rule>
     answers_allowed(set, facts.moment, set.answered, Rule::NotSubmitted)
 }
 
-/// Whether a set and its session are open for answers, and these are in turn, or else the rule that says that they aren't.
+/// Whether a set and its session are open for answers, and these are in turn, or else the rule that says why they
+/// aren't.
 fn answers_allowed(set: SetFacts, moment: u64, in_turn: bool, otherwise: Rule) -> Result<(), Rule>
-    ensures { result ≡ verdict ((not set.session.cancelled, Rule.SessionCancelled)
+    ensures { result ≡ judged ((not set.session.cancelled, Rule.SessionCancelled)
         ∷ (nat_lt moment (set.session.created + session_life), Rule.SessionExpired)
         ∷ (not (is_frozen set.session.certification), Rule.SessionFrozen)
         ∷ (not set.cancelled, Rule.SetCancelled)
@@ -117,5 +118,5 @@ fn answers_allowed(set: SetFacts, moment: u64, in_turn: bool, otherwise: Rule) -
 fn set_lasts(set: SetFacts, moment: u64) -> bool
     ensures { result ≡ nat_lt moment (set.session.created + set_life) }
 {
-    moment.saturating_sub(set.session.created) < SET_SPAN
+    moment.saturating_sub(set.session.created) < SET_LIFE
 }

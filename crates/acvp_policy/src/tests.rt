@@ -1,5 +1,7 @@
 //! The policy against the protocol's table of actions and rules, and against worked requests.
 
+use crate::session::SESSION_LIFE;
+use crate::set::SET_LIFE;
 use crate::{
     Action, CertificationFacts, CertificationStatus, CertificationSubject, Facts, LoginFacts,
     Renewal, Resource, RowSubject, Rule, SessionFacts, SessionSubject, SetFacts, SetSubject,
@@ -8,13 +10,29 @@ use crate::{
 use acvp_token::Claims;
 use std::process::Abort;
 
+/// The account of the token.
 const ACCOUNT: u16 = 7;
 
+/// A session of the account.
 const SESSION: u64 = 7000001;
 
+/// A vector set of the session.
 const SET: u64 = 700000101;
 
+/// Another session of the account.
+const OTHER_SESSION: u64 = 7000002;
+
+/// Another account.
+const FOREIGN_ACCOUNT: u16 = 9;
+
+/// A session of the other account.
+const FOREIGN_SESSION: u64 = 9000001;
+
+/// When the session was created.
 const CREATED: u64 = 60;
+
+/// A moment while the session and its sets last.
+const MOMENT: u64 = 1000;
 
 /// The rule that is answered, or none where there is a grant.
 fn refusal(action: Action, facts: &Facts) -> Option<Rule> {
@@ -27,10 +45,12 @@ fn refusal(action: Action, facts: &Facts) -> Option<Rule> {
     }
 }
 
+/// A good token with these claims.
 fn token_of(account: u16, session: Option<u64>) -> Token {
     Token::Verified(claims_of(account, session))
 }
 
+/// Claims of an account that may be bound to a session.
 fn claims_of(account: u16, session: Option<u64>) -> Claims {
     Claims {
         account,
@@ -40,6 +60,7 @@ fn claims_of(account: u16, session: Option<u64>) -> Claims {
     }
 }
 
+/// A session on which every condition holds but that it is a sample.
 fn open_session() -> SessionFacts {
     SessionFacts {
         cancelled: false,
@@ -49,6 +70,7 @@ fn open_session() -> SessionFacts {
     }
 }
 
+/// A path that names the session, which stands so.
 fn on_session(session: SessionFacts) -> Subject {
     Subject::Session(SessionSubject {
         session: SESSION,
@@ -56,6 +78,7 @@ fn on_session(session: SessionFacts) -> Subject {
     })
 }
 
+/// A path that names the session to be certified.
 fn on_certification(session: SessionFacts, passed: bool) -> Subject {
     Subject::Certification(CertificationSubject {
         session: SESSION,
@@ -63,6 +86,7 @@ fn on_certification(session: SessionFacts, passed: bool) -> Subject {
     })
 }
 
+/// A path that names the vector set, which has answers or none.
 fn on_set(session: SessionFacts, answered: bool) -> Subject {
     Subject::Set(SetSubject {
         session: SESSION,
@@ -75,6 +99,7 @@ fn on_set(session: SessionFacts, answered: bool) -> Subject {
     })
 }
 
+/// A login to the account.
 fn on_login(enabled: bool, step: Option<u64>, renewal: Renewal) -> Subject {
     Subject::Login(LoginFacts {
         user: Some(UserFacts {
@@ -86,6 +111,7 @@ fn on_login(enabled: bool, step: Option<u64>, renewal: Renewal) -> Subject {
     })
 }
 
+/// A row that was found.
 const fn row() -> RowSubject {
     RowSubject {
         number: SESSION,
@@ -129,7 +155,7 @@ fn good_subject(action: Action) -> Subject {
 /// Facts on which every test of the action holds, with a token that is bound to a session or not.
 fn good_facts(action: Action, bound: Option<u64>) -> Facts {
     Facts {
-        moment: 1000,
+        moment: MOMENT,
         token: token_of(ACCOUNT, bound),
         standing: Standing::Enabled,
         subject: good_subject(action),
@@ -211,6 +237,7 @@ fn with_session_broken(subject: Subject, rule: Rule) -> Subject {
     }
 }
 
+/// The session spoilt, so that the rule is broken.
 fn session_broken(session: SessionFacts, rule: Rule) -> SessionFacts {
     let mut broken = session;
     match rule {
@@ -247,10 +274,10 @@ fn broken(facts: Facts, rule: Rule) -> Facts {
         Rule::AccountRefused => broken.standing = Standing::Disabled,
         Rule::AccountTokenNeeded => broken.token = token_of(ACCOUNT, Some(SESSION)),
         Rule::SessionTokenNeeded => broken.token = token_of(ACCOUNT, None),
-        Rule::OtherSession => broken.token = token_of(ACCOUNT, Some(7000002)),
+        Rule::OtherSession => broken.token = token_of(ACCOUNT, Some(OTHER_SESSION)),
         Rule::NoResource => broken.subject = not_found(facts.subject),
-        Rule::SessionExpired => broken.moment = 2592060,
-        Rule::SetExpired => broken.moment = 604860,
+        Rule::SessionExpired => broken.moment = CREATED + SESSION_LIFE,
+        Rule::SetExpired => broken.moment = CREATED + SET_LIFE,
         Rule::LoginRefused | Rule::RenewalRefused => {
             broken.subject = with_login_broken(facts.subject, rule);
         }
@@ -295,7 +322,19 @@ fn rule_at(front: &[u8], back: &[u8], place: usize) -> Option<Rule> {
     back.get(place - front.len()).copied().map(rule_of)
 }
 
-/// Each rule alone is answered, and so is each where the next is broken too.
+/// The rules next to one another that can't be broken by two facts, since one fact decides both: a token comes to one
+/// outcome, a token that is bound to no session is bound to no other, and what isn't there isn't cancelled.
+const DECIDED_BY_ONE_FACT: &[(u8, u8)] = &[
+    (11, 12),
+    (12, 13),
+    (13, 14),
+    (14, 15),
+    (18, 19),
+    (20, 21),
+];
+
+/// Each rule alone is answered, and so is each where the next is broken too. Where one fact decides both, the next one
+/// can't be broken beside it: the facts are then those on which the rule alone is broken.
 fn answers_the_first(
     rt: &impl Abort,
     action: Action,
@@ -309,33 +348,41 @@ fn answers_the_first(
         let Some(rule) = rule_at(front, back, place) else {
             return;
         };
-        assert_eq!(rt;
-            refusal(action, &broken(good, rule)),
-            Some(rule),
-            "{action:?} {rule:?}"
-        );
+        let alone = broken(good, rule);
+        assert_eq!(rt; refusal(action, &alone), Some(rule), "{action:?} {rule:?}");
         if let Some(next) = rule_at(front, back, place + 1) {
             let both = broken(broken(good, next), rule);
+            let by_one_fact = DECIDED_BY_ONE_FACT.contains(&(rule.number(), next.number()));
             assert_eq!(rt;
-                refusal(action, &both),
-                Some(rule),
-                "{action:?} {rule:?} before {next:?}"
+                both == alone,
+                by_one_fact,
+                "{action:?} {rule:?} beside {next:?}"
             );
+            if !by_one_fact {
+                assert_eq!(rt;
+                    refusal(action, &both),
+                    Some(rule),
+                    "{action:?} {rule:?} before {next:?}"
+                );
+            }
         }
     }
 }
 
-/// The rules of an action's table on the caller, by what the action asks of the token.
+/// The rules on the caller of a login, of which no token is asked.
 const LOGIN: &[u8] = &[];
 
+/// The rules on the caller where any good token will do.
 const READ: &[u8] = &[11, 12, 13, 14, 15, 16];
 
+/// The rules on the caller where the token must be bound to no session.
 const CHANGE: &[u8] = &[11, 12, 13, 14, 15, 16, 17];
 
+/// The rules on the caller where the token must be bound to the session of the path.
 const SESSION_OF_TOKEN: &[u8] = &[11, 12, 13, 14, 15, 16, 18, 19];
 
-// The table of the protocol: what each action asks of the token, and its rules on what the path names. Where an
-// account's own lists and rows are meant, rule 20 is broken by facts on something else.
+/// The table of the protocol: what each action asks of the token, and its rules on what the path names. Where an
+/// account's own lists and rows are meant, rule 20 is broken by facts on something else.
 #[test]
 fn each_action_has_its_rules_in_their_order(rt: HostRuntime) {
     let table: [(Action, Option<u64>, &[u8], &[u8]); 28] = [
@@ -418,15 +465,17 @@ fn each_action_has_its_rules_in_their_order(rt: HostRuntime) {
     }
 }
 
+/// Facts on an enabled account.
 fn session_facts(token: Token, subject: Subject) -> Facts {
     Facts {
-        moment: 1000,
+        moment: MOMENT,
         token,
         standing: Standing::Enabled,
         subject,
     }
 }
 
+/// A path that names a session that was not found.
 fn absent_session(session: u64) -> Subject {
     Subject::Session(SessionSubject {
         session,
@@ -436,18 +485,18 @@ fn absent_session(session: u64) -> Subject {
 
 #[test]
 fn foreign_sessions_are_refused_whether_they_are_there_or_not(rt: HostRuntime) {
-    let foreign = token_of(ACCOUNT, Some(9000001));
+    let foreign = token_of(ACCOUNT, Some(FOREIGN_SESSION));
     let there = Subject::Session(SessionSubject {
-        session: 9000001,
+        session: FOREIGN_SESSION,
         found: Some(open_session()),
     });
     for (token, subject, rule) in [
         (foreign, there, Rule::OtherSession),
-        (foreign, absent_session(9000001), Rule::OtherSession),
+        (foreign, absent_session(FOREIGN_SESSION), Rule::OtherSession),
         (foreign, on_session(open_session()), Rule::OtherSession),
         (
-            token_of(ACCOUNT, Some(7000002)),
-            absent_session(7000002),
+            token_of(ACCOUNT, Some(OTHER_SESSION)),
+            absent_session(OTHER_SESSION),
             Rule::NoResource,
         ),
         (
@@ -520,23 +569,30 @@ fn expected_answers_and_certificates_of_samples(rt: HostRuntime) {
 
 #[test]
 fn lives_end_at_their_last_second(rt: HostRuntime) {
+    assert_eq!(rt; SESSION_LIFE, 30 * 24 * 60 * 60);
+    assert_eq!(rt; SET_LIFE, 7 * 24 * 60 * 60);
     let bound = token_of(ACCOUNT, Some(SESSION));
     let late = SessionFacts {
         created: u64::MAX,
         ..open_session()
     };
     for (action, subject, moment, rule) in [
-        (Action::Submit, on_set(open_session(), false), 604859, None),
         (
             Action::Submit,
             on_set(open_session(), false),
-            604860,
+            CREATED + SET_LIFE - 1,
+            None,
+        ),
+        (
+            Action::Submit,
+            on_set(open_session(), false),
+            CREATED + SET_LIFE,
             Some(Rule::SetExpired),
         ),
         (
             Action::Submit,
             on_set(open_session(), false),
-            2592060,
+            CREATED + SESSION_LIFE,
             Some(Rule::SessionExpired),
         ),
         (Action::Submit, on_set(open_session(), false), 0, None),
@@ -544,13 +600,13 @@ fn lives_end_at_their_last_second(rt: HostRuntime) {
         (
             Action::Certify,
             on_certification(open_session(), true),
-            2592059,
+            CREATED + SESSION_LIFE - 1,
             None,
         ),
         (
             Action::Certify,
             on_certification(open_session(), true),
-            2592060,
+            CREATED + SESSION_LIFE,
             Some(Rule::SessionExpired),
         ),
         (Action::Certify, on_certification(late, true), 0, None),
@@ -602,20 +658,25 @@ fn logins_take_their_own_tokens_alone(rt: HostRuntime) {
         (
             true,
             Some(1),
-            Renewal::Reads(claims_of(7, Some(7000001))),
+            Renewal::Reads(claims_of(ACCOUNT, Some(SESSION))),
             None,
         ),
-        (true, Some(1), Renewal::Reads(claims_of(7, None)), None),
         (
             true,
             Some(1),
-            Renewal::Reads(claims_of(9, None)),
+            Renewal::Reads(claims_of(ACCOUNT, None)),
+            None,
+        ),
+        (
+            true,
+            Some(1),
+            Renewal::Reads(claims_of(FOREIGN_ACCOUNT, None)),
             Some(Rule::RenewalRefused),
         ),
         (
             true,
             Some(1),
-            Renewal::Reads(claims_of(7, Some(9000001))),
+            Renewal::Reads(claims_of(ACCOUNT, Some(FOREIGN_SESSION))),
             Some(Rule::RenewalRefused),
         ),
     ] {
@@ -648,9 +709,9 @@ fn grants_are_for_one_resource_of_one_account(rt: HostRuntime) {
     ] {
         match decide(action, &facts) {
             Ok(grant) => {
-                assert!(rt; allows(&grant, 7, resource));
-                assert!(rt; !allows(&grant, 9, resource));
-                assert!(rt; !allows(&grant, 7, Resource::Set(SESSION, SET + 1)));
+                assert!(rt; allows(&grant, ACCOUNT, resource));
+                assert!(rt; !allows(&grant, FOREIGN_ACCOUNT, resource));
+                assert!(rt; !allows(&grant, ACCOUNT, Resource::Set(SESSION, SET + 1)));
                 release(grant);
             }
             Err(rule) => assert_eq!(rt; Some(rule), None),

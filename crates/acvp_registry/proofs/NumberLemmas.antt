@@ -9,7 +9,7 @@ use Rattle.std.specs.Int.{IsInRange}
 use Rattle.std.specs.Char.{is_ascii_digit, digit_value}
 use Rattle.std.specs.Str.{all_ascii_digits}
 use Rattle.std.specs.Str.Parse.{AllDigits, digits_value}
-use Rattle.acvp_registry.specs.Number.{number_of, is_number_text}
+use Rattle.acvp_registry.specs.Number.{digits_number_of, is_number_text}
 
 -- the kit's test of digits and the number that they write
 pub own : IsNumeralModel (λ ds. all_ascii_digits ds ≡ true) (digits_value 10)
@@ -26,31 +26,37 @@ pub digit_value_in_range : (c : ℕ) → IsInRange 48 57 c → digit_value c ≡
 digit_value_in_range c h = grind (arith, nat_tests)
 
 -- a text with a byte that is no digit
-pub not_all_digits : (text : List ℕ) (i : ℕ) → i < length text → is_ascii_digit (get_or text i 0) ≡ false → all_ascii_digits text ≡ false
+pub not_all_digits : (text : List ℕ) (i : ℕ) → i < length text → is_ascii_digit (get_or text i 0) ≡ false
+    → all_ascii_digits text ≡ false
 not_all_digits text i low other =
-    let cases : (b : Bool) → all_ascii_digits text ≡ b → all_ascii_digits text ≡ false = λ b. elim b as (λ b. all_ascii_digits text ≡ b → all_ascii_digits text ≡ false) [
+    let cases : (b : Bool) → all_ascii_digits text ≡ b → all_ascii_digits text ≡ false =
+    λ b. elim b as (λ b. all_ascii_digits text ≡ b → all_ascii_digits text ≡ false) [
       | true ↦ λ h. absurd (not_in_range _ other (digit_at text i (own.to text h) low))
       | false ↦ λ h. h
     ] in cases (all_ascii_digits text) refl
 
 -- a text that is no number
-pub number_of_other : (text : List ℕ) (i : ℕ) → i < length text → is_ascii_digit (get_or text i 0) ≡ false → None ≡ number_of text
+pub number_of_other : (text : List ℕ) (i : ℕ) → i < length text → is_ascii_digit (get_or text i 0) ≡ false
+    → None ≡ digits_number_of text
 number_of_other text i low other =
     let bad : all_ascii_digits text ≡ false = not_all_digits text i low other in
     rw bad (grind (arith, nat_tests))
 
-pub number_of_digits : (text : List ℕ) → 1 ≤ length text → length text ≤ 19 → AllDigits 10 text → Some (digits_value 10 text) ≡ number_of text
+pub number_of_digits : (text : List ℕ) → 1 ≤ length text → length text ≤ 19 → AllDigits 10 text
+    → Some (digits_value 10 text) ≡ digits_number_of text
 number_of_digits text low high digits =
     let good : all_ascii_digits text ≡ true = own.from text digits in
     rw good (grind (arith, nat_tests))
 
 -- 18 digits and one more stay below 2^64
-pub room : (text : List ℕ) (i : ℕ) → i < 19 → i < length text → AllDigits 10 (take i text) → digits_value 10 (take i text) < 10 ^ 18
+pub room : (text : List ℕ) (i : ℕ) → i < 19 → i < length text → AllDigits 10 (take i text)
+    → digits_value 10 (take i text) < 10 ^ 18
 room text i few low digits =
     digits_value_short own (take i text) 18 (own.from (take i text) digits) (omega (arith, length-take i text))
 
 -- the step of the loop that reads digits
-pub digits_step : (text : List ℕ) (i n : ℕ) → i < length text → AllDigits 10 (take i text) → n ≡ digits_value 10 (take i text) → is_ascii_digit (get_or text i 0) ≡ true →
+pub digits_step : (text : List ℕ) (i n : ℕ) → i < length text → AllDigits 10 (take i text)
+    → n ≡ digits_value 10 (take i text) → is_ascii_digit (get_or text i 0) ≡ true →
     AllDigits 10 (take (i + 1) text) × (n * 10 + (get_or text i 0 - 48) ≡ digits_value 10 (take (i + 1) text))
 digits_step text i n low digits value digit =
     let within : IsInRange 48 57 (get_or text i 0) = digit_in_range _ digit in
@@ -82,26 +88,31 @@ decimal_is_number_text n small =
     rw digits (grind (arith, nat_tests))
 
 -- the parts of the test of a number's text
-pub number_text_parts : (text : List ℕ) → is_number_text text ≡ true → (1 ≤ length text) × (length text ≤ 19) × (all_ascii_digits text ≡ true)
+pub number_text_parts : (text : List ℕ) → is_number_text text ≡ true → (1 ≤ length text) × (length text ≤ 19)
+    × (all_ascii_digits text ≡ true)
 number_text_parts text h = grind (arith, nat_tests)
 
-pub number_of_none : (text : List ℕ) → is_number_text text ≡ false → number_of text ≡ None
+pub number_of_none : (text : List ℕ) → is_number_text text ≡ false → digits_number_of text ≡ None
 number_of_none text h = rw h
 
-pub number_of_some : (text : List ℕ) → is_number_text text ≡ true → number_of text ≡ Some (digits_value 10 text)
+pub number_of_some : (text : List ℕ) → is_number_text text ≡ true → digits_number_of text ≡ Some (digits_value 10 text)
 number_of_some text h = rw h
 
 -- what digits write, where they have no leading zero
-pub plain_is : (text : List ℕ) (r : Option ℕ) → (1 < length text → get_or text 0 0 ≢ 48) → r ≡ number_of text →
+pub plain_is : (text : List ℕ) (r : Option ℕ) → (1 < length text → get_or text 0 0 ≢ 48) → r ≡ digits_number_of text →
     MatchOption r ((n : ℕ) → n < 10 ^ 19 → text ≢ decimal n) (λ n. (n < 10 ^ 19) × (text ≡ decimal n))
 plain_is text r plain is =
-    let goal : Option ℕ → Type 0 = λ r. MatchOption r ((n : ℕ) → n < 10 ^ 19 → text ≢ decimal n) (λ n. (n < 10 ^ 19) × (text ≡ decimal n)) in
-    let cases : (b : Bool) → is_number_text text ≡ b → goal (number_of text) = λ b. elim b as (λ b. is_number_text text ≡ b → goal (number_of text)) [
+    let goal : Option ℕ → Type 0 = λ r. MatchOption r ((n : ℕ) → n < 10 ^ 19 → text ≢ decimal n) (λ n. (n < 10 ^ 19)
+    × (text ≡ decimal n)) in
+    let cases : (b : Bool) → is_number_text text ≡ b → goal (digits_number_of text) =
+    λ b. elim b as (λ b. is_number_text text ≡ b → goal (digits_number_of text)) [
       | true ↦ λ h.
           let parts = number_text_parts text h in
           let small : digits_value 10 text < 10 ^ 19 = digits_value_short own text 19 parts.2 parts.1 in
-          let lone : get_or text 0 0 ≡ 48 → length text ≡ 1 = λ zero. let short : 1 < length text → ⊥ = λ long. plain long zero in omega (arith, parts.0) in
-          let back : decimal (digits_value 10 text) ≡ text = decimal-digits_value own text parts.2 parts.0 lone (omega arith) in
+          let lone : get_or text 0 0 ≡ 48 → length text ≡ 1 = λ zero. let short : 1 < length text → ⊥ =
+          λ long. plain long zero in omega (arith, parts.0) in
+          let back : decimal (digits_value 10 text) ≡ text =
+          decimal-digits_value own text parts.2 parts.0 lone (omega arith) in
           rw (number_of_some text h) (small, sym back)
       | false ↦ λ h. rw (number_of_none text h) (λ n small e.
           let whole : is_number_text text ≡ true = rw e (decimal_is_number_text n small) in cc)

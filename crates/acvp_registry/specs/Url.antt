@@ -3,7 +3,7 @@ use Rattle.std.specs.Prelude.{◌≡◌, ◌<◌, ◌^◌, ℕ, List, ◌++◌, 
 use Rattle.std.specs.Str.{bytes_eq}
 use Rattle.acvp_registry.specs.declared.kind.Kind.{Kind}
 use Rattle.acvp_registry.specs.declared.kind.Kind.TheVariants.{Vendor, Module, Environment, Certification}
-use Rattle.acvp_registry.specs.Number.{plain_of}
+use Rattle.acvp_registry.specs.Number.{plain_number_of}
 
 -- what stands before the number in the URLs of a kind, where it has any
 abbrev pub place_of : Kind → Option (List ℕ)
@@ -14,7 +14,8 @@ place_of Certification = None
 
 -- The text is the URL of the object of this kind and number: the kind's place, and the number in at most 19 digits.
 abbrev pub IsUrl : Kind → ℕ → List ℕ → Type 0
-IsUrl kind number text = (place : List ℕ) × (place_of kind ≡ Some place) × (number < 10 ^ 19) × (text ≡ place ++ decimal number)
+IsUrl kind number text = (place : List ℕ) × (place_of kind ≡ Some place) × (number < 10 ^ 19)
+    × (text ≡ place ++ decimal number)
 
 -- what stands after the place, where the text begins with it
 abbrev pub behind : List ℕ → List ℕ → Option (List ℕ)
@@ -22,4 +23,4 @@ behind text place = if bytes_eq (take (length place) text) place then Some (drop
 
 -- the same as a value: the number behind the kind's place
 abbrev pub url_number_of : Kind → List ℕ → Option ℕ
-url_number_of kind text = option_and_then plain_of (option_and_then (behind text) (place_of kind))
+url_number_of kind text = option_and_then plain_number_of (option_and_then (behind text) (place_of kind))

@@ -1,12 +1,12 @@
 //! Numbers in decimal digits.
 ghost use Rattle.std.specs.Prelude.{◌≡◌, ◌≢◌, ◌^◌, ◌<◌, ℕ, IfSome, MatchOption, length, decimal};
-ghost use Rattle.acvp_registry.specs.Number.{number_of, plain_of};
+ghost use Rattle.acvp_registry.specs.Number.{digits_number_of, plain_number_of};
 
 const LONGEST: usize = 19;
 
 /// The number that 1 to 19 decimal digits write, leading zeros among them.
 pub fn digits_number(text: &[u8]) -> Option<u64>
-    ensures value { result ≡ number_of text.now }
+    ensures value { result ≡ digits_number_of text.now }
     ensures size { IfSome result (λ number. number < 10 ^ length text.now) }
 {
     if text.is_empty() || text.len() > LONGEST {
@@ -24,8 +24,9 @@ pub fn digits_number(text: &[u8]) -> Option<u64>
 
 /// The number that 1 to 19 decimal digits without leading zeros write, a lone `0` being one.
 pub fn plain_number(text: &[u8]) -> Option<u64>
-    ensures written { MatchOption result ((n : ℕ) → n < 10 ^ 19 → text.now ≢ decimal n) (λ n. (n < 10 ^ 19) × (text.now ≡ decimal n)) }
-    ensures value { result ≡ plain_of text.now }
+    ensures written { MatchOption result ((n : ℕ) → n < 10 ^ 19 → text.now ≢ decimal n) (λ n. (n < 10 ^ 19)
+        × (text.now ≡ decimal n)) }
+    ensures value { result ≡ plain_number_of text.now }
 {
     if text.len() > 1 && text[0] == b'0' {
         return None;

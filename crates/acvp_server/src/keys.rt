@@ -8,7 +8,7 @@ use hex::FromHex;
 use std::fs;
 use std::rt::Files;
 
-// The 32 bytes that a line of 64 hex digits and a line feed gives.
+/// The 32 bytes that a line of 64 hex digits and a line feed gives.
 fn read_line(line: &[u8]) -> Option<[u8; 32]>
     ensures { MatchOption result ((bytes : List ℕ) → IsLine line.now bytes → ⊥) (IsLine line.now) }
 {
@@ -20,7 +20,8 @@ fn read_line(line: &[u8]) -> Option<[u8; 32]>
 
 /// The keys that the text of a keys file gives.
 pub(crate) fn read_keys(text: &[u8]) -> Option<Keys>
-    ensures { MatchOption result ((token seed : List ℕ) → IsKeysText text.now token seed → ⊥) (λ keys. IsKeysText text.now keys.token keys.seed) }
+    ensures { MatchOption result ((token seed : List ℕ) → IsKeysText text.now token seed
+        → ⊥) (λ keys. IsKeysText text.now keys.token keys.seed) }
 {
     if text.len() != 130 {
         return None;

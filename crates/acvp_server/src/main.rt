@@ -13,7 +13,7 @@ use clap::{ArgMatches, Error};
 use std::process::ExitCode;
 use std::rt::{Env, Files};
 
-// Runs the subcommand that the command line names.
+/// Runs the subcommand that the command line names.
 fn subcommand<R: Files + Input + Print + AllocGlobal>(
     rt: &R,
     matches: &ArgMatches<'_>,
@@ -24,7 +24,7 @@ fn subcommand<R: Files + Input + Print + AllocGlobal>(
     }
 }
 
-// Prints what the command line's reading gave in place of a command: a refusal, or help that was asked for.
+/// Prints what the command line's reading gave in place of a command: a refusal, or help that was asked for.
 fn refused<R: Print + Eprint>(rt: &R, error: &Error) -> ExitCode {
     match error.print(rt) {
         Ok(()) => ExitCode::from(error.exit_code() as u8),
@@ -32,7 +32,7 @@ fn refused<R: Print + Eprint>(rt: &R, error: &Error) -> ExitCode {
     }
 }
 
-// Prints a fault's word.
+/// Prints a fault's word.
 fn failed(rt: &impl Eprint, fault: Fault) -> ExitCode {
     match eprintln!(rt; "fault: {fault}") {
         Ok(()) | Err(_) => ExitCode::FAILURE,

@@ -1,5 +1,6 @@
 -- A text gives one answer: what it reads as by decoding is whatever the definitions allow.
-use Rattle.std.proofs.Common.{◌≡◌, ◌≢◌, ℕ, ◌<◌, ◌≤◌, List, Bool, true, false, nat_lt, Option, None, Some, option_map, decimal, Result, Ok, Err, MatchOption, refl, sym, ap, ◌∙◌, arith}
+use Rattle.std.proofs.Common.{◌≡◌, ◌≢◌, ℕ, ◌<◌, ◌≤◌, List, Bool, true, false, nat_lt, Option, None, Some, option_map}
+use Rattle.std.proofs.Common.{decimal, Result, Ok, Err, MatchOption, refl, sym, ap, ◌∙◌, arith}
 use Rattle.std.specs.Str.{bytes_eq}
 use Rattle.std.proofs.lemmas.Bool.Decides.{nat_tests}
 use Rattle.std.proofs.lemmas.Fmt.{decimal_injective}
@@ -11,7 +12,8 @@ use Rattle.acvp_token.specs.declared.TokenFault.TheVariants.{Malformed, Signatur
 use Rattle.acvp_token.specs.TokenText.{signature_of}
 use Rattle.acvp_token.specs.Reads.{GivesClaims, IsClaimsText, Reads}
 use Rattle.acvp_token.specs.Faults.{IsMalformed, IsReading, IsVerdict}
-use Rattle.acvp_token.specs.Verdict.{Parts, parts_of, claims_of, reading_signed, reading_parts, reading_of, verdict_of, IsUnlessMemory}
+use Rattle.acvp_token.specs.Verdict.{Parts, parts_of, claims_of, reading_signed, reading_parts, reading_of, verdict_of}
+use Rattle.acvp_token.specs.Verdict.{IsUnlessMemory}
 use Rattle.acvp_token.proofs.Shapes.{shape-unique}
 use Rattle.acvp_token.proofs.Readings.{json-unique}
 use Rattle.acvp_token.proofs.Verdicts.{IsShapeOf, parts_of-is, claims_of-is}
@@ -19,13 +21,15 @@ use Rattle.acvp_token.proofs.Verdicts.{IsShapeOf, parts_of-is, claims_of-is}
 -- ---- a text gives at most one claims
 
 made : ℕ → Option ℕ → ℕ → ℕ → Claims
-made account session issued expires = record { account = account; session = session; issued = issued; expires = expires }
+made account session issued expires =
+    record { account = account; session = session; issued = issued; expires = expires }
 
 made-again : (c : Claims) → made c.account c.session c.issued c.expires ≡ c
 unfolding made
 made-again c = refl
 
-same-session : (a b : Option ℕ) → option_map (λ n. number (unsigned n)) a ≡ option_map (λ n. number (unsigned n)) b → a ≡ b
+same-session : (a b : Option ℕ) → option_map (λ n. number (unsigned n)) a ≡ option_map (λ n. number (unsigned n)) b →
+    a ≡ b
 same-session None None e = refl
 same-session None (Some n) e = cc
 same-session (Some m) None e = cc
@@ -60,17 +64,20 @@ reads-unique key text a b p q =
 -- ---- what is read is what is worked out
 
 claims-agree : (bytes : List ℕ) (o : Option Claims) (c : Claims) →
-    MatchOption o ((d : Claims) → ¬ IsClaimsText bytes d) (IsClaimsText bytes) → IsClaimsText bytes c → reading_signed true o ≡ Ok c
+    MatchOption o ((d : Claims) → ¬ IsClaimsText bytes d) (IsClaimsText bytes) → IsClaimsText bytes c →
+    reading_signed true o ≡ Ok c
 claims-agree bytes None c h p = absurd (h c p)
 claims-agree bytes (Some d) c h p = ap (λ (x : Claims). Ok x) (claims-unique bytes d c h p)
 
 claims-missing : (bytes : List ℕ) (o : Option Claims) →
-    MatchOption o ((d : Claims) → ¬ IsClaimsText bytes d) (IsClaimsText bytes) → ((c : Claims) → ¬ IsClaimsText bytes c) →
+    MatchOption o ((d : Claims) → ¬ IsClaimsText bytes d) (IsClaimsText bytes) →
+    ((c : Claims) → ¬ IsClaimsText bytes c) →
     reading_signed true o ≡ Err NoClaims
 claims-missing bytes None h none = refl
 claims-missing bytes (Some d) h none = absurd (none d h)
 
-signed-test : (key : List ℕ) (parts : Parts) (h p s : List ℕ) → (parts.header ≡ h) × (parts.payload ≡ p) × (parts.signature ≡ s) →
+signed-test : (key : List ℕ) (parts : Parts) (h p s : List ℕ) →
+    (parts.header ≡ h) × (parts.payload ≡ p) × (parts.signature ≡ s) →
     s ≡ signature_of key h p → bytes_eq parts.signature (signature_of key parts.header parts.payload) ≡ true
 signed-test key parts h p s same e =
     let signed : parts.signature ≡ signature_of key parts.header parts.payload = rw (same.0, same.1, same.2) e in
@@ -80,7 +87,8 @@ test-false : (b : Bool) → (b ≡ true → ⊥) → b ≡ false
 test-false true h = absurd (h refl)
 test-false false h = refl
 
-forged-test : (key : List ℕ) (parts : Parts) (h p s : List ℕ) → (parts.header ≡ h) × (parts.payload ≡ p) × (parts.signature ≡ s) →
+forged-test : (key : List ℕ) (parts : Parts) (h p s : List ℕ) →
+    (parts.header ≡ h) × (parts.payload ≡ p) × (parts.signature ≡ s) →
     s ≢ signature_of key h p → bytes_eq parts.signature (signature_of key parts.header parts.payload) ≡ false
 forged-test key parts h p s same other =
     test-false (bytes_eq parts.signature (signature_of key parts.header parts.payload))
@@ -97,22 +105,23 @@ parts-agree key text None malformed (Err NoClaims) unclaimed = absurd (malformed
 parts-agree key text None malformed (Err Expired) none = absurd none
 parts-agree key text None malformed (Err Memory) none = tt
 parts-agree key text (Some parts) shape (Ok claims) reads =
-    let same = shape-unique text parts.header parts.payload parts.signature reads.header reads.payload reads.signature shape reads.shape in
+    let same = shape-unique text parts.header parts.payload parts.signature _ _ _ shape reads.shape in
     rw (signed-test key parts reads.header reads.payload reads.signature same reads.signed)
     (claims-agree parts.payload (claims_of parts.payload) claims (claims_of-is parts.payload) (rw same.1 reads.content))
 parts-agree key text (Some parts) shape (Err Malformed) malformed = absurd (malformed _ _ _ shape)
 parts-agree key text (Some parts) shape (Err Signature) forged =
-    let same = shape-unique text parts.header parts.payload parts.signature forged.header forged.payload forged.signature shape forged.shape in
+    let same = shape-unique text parts.header parts.payload parts.signature _ _ _ shape forged.shape in
     rw (forged-test key parts forged.header forged.payload forged.signature same forged.unsigned) refl
 parts-agree key text (Some parts) shape (Err NoClaims) unclaimed =
-    let same = shape-unique text parts.header parts.payload parts.signature unclaimed.header unclaimed.payload unclaimed.signature shape unclaimed.shape in
+    let same = shape-unique text parts.header parts.payload parts.signature _ _ _ shape unclaimed.shape in
     rw (signed-test key parts unclaimed.header unclaimed.payload unclaimed.signature same unclaimed.signed)
     (claims-missing parts.payload (claims_of parts.payload) (claims_of-is parts.payload) (rw same.1 unclaimed.nothing))
 parts-agree key text (Some parts) shape (Err Expired) none = absurd none
 parts-agree key text (Some parts) shape (Err Memory) none = tt
 
 -- what a text is read as is what is worked out, unless memory ran out
-pub reading-agrees : (key text : List ℕ) (r : Result Claims TokenFault) → IsReading key text r → IsUnlessMemory (reading_of key text) r
+pub reading-agrees : (key text : List ℕ) (r : Result Claims TokenFault) → IsReading key text r →
+    IsUnlessMemory (reading_of key text) r
 unfolding reading_of
 reading-agrees key text r h = parts-agree key text (parts_of text) (parts_of-is text) r h
 

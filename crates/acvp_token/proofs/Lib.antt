@@ -4,3 +4,4 @@ pub mod Readings
 pub mod Verdicts
 pub mod Agreement
 pub mod RoundTrip
+pub use Rattle.acvp_mac.proofs.ConditionLemmas

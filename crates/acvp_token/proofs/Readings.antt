@@ -1,5 +1,7 @@
 -- A text that is decoded step by step is read as the definitions by encoding say.
-use Rattle.std.proofs.Common.{◌≡◌, ◌≢◌, ℕ, zero, suc, ◌<◌, List, [], ◌∷◌, ◌++◌, get_or, Bool, true, false, nat_eq, nat_lt, cond, ◌&&◌, Option, None, Some, option_map, option_and_then, Result, Ok, Err, MatchOption, refl, sym, ap, ◌∙◌, arith}
+use Rattle.std.proofs.Common.{◌≡◌, ◌≢◌, ℕ, zero, suc, ◌<◌, List, [], ◌∷◌, ◌++◌, get_or, Bool, true, false, nat_eq}
+use Rattle.std.proofs.Common.{nat_lt, cond, ◌&&◌, Option, None, Some, option_map, option_and_then, Result, Ok, Err}
+use Rattle.std.proofs.Common.{MatchOption, refl, sym, ap, ◌∙◌, arith}
 use Rattle.std.specs.List.{list_all}
 use Rattle.std.specs.Result.{result_ok}
 use Rattle.std.specs.Str.{bytes_eq, is_utf8, IsUtf8}
@@ -13,10 +15,10 @@ use Rattle.base64.proofs.EngineFacts.{decode_of-encode_of}
 use Rattle.serde_json.specs.Data.{Data}
 use Rattle.serde_json.specs.Read.{read}
 use Rattle.acvp_token.specs.TokenText.{encoded}
-use Rattle.acvp_token.specs.Splitting.{HasNoDot}
+use Rattle.acvp_token.specs.Private.Splitting.{HasNoDot}
 use Rattle.acvp_token.specs.Reads.{IsJson}
-use Rattle.acvp_token.specs.Opening.{IsNoEncoding}
-use Rattle.acvp_token.specs.Verdict.{split_dot, if_encoding, decoded, json_of}
+use Rattle.acvp_token.specs.Private.Opening.{IsNoEncoding}
+use Rattle.acvp_token.specs.Verdict.{split_dot, if_encoding, decoded, part_value}
 use Rattle.acvp_token.proofs.Dots.{no_dot-nil, no_dot-cons, no_dot-head, no_dot-tail}
 
 -- ---- steps that may give nothing
@@ -62,7 +64,8 @@ is_no_dot x h = grind (arith, nat_tests)
 pub split_dot-is : (text : List ℕ) → MatchOption (split_dot text) (HasNoDot text) (IsCut text)
 split_dot-is [] = no_dot-nil
 split_dot-is (x ∷ xs) =
-    test-is (HasNoDot (x ∷ xs)) (IsCut (x ∷ xs)) (nat_eq x 46) (Some ([], xs)) (option_map (λ p. (x ∷ p.0, p.1)) (split_dot xs))
+    test-is (HasNoDot (x ∷ xs)) (IsCut (x ∷ xs)) (nat_eq x 46) (Some ([], xs))
+    (option_map (λ p. (x ∷ p.0, p.1)) (split_dot xs))
     (λ h. let cut : IsCut (x ∷ xs) ([], xs) = (ap (λ (y : ℕ). y ∷ xs) (is_dot x h), no_dot-nil) in cut)
     (λ h. cons-is x xs (split_dot xs) (is_no_dot x h) (split_dot-is xs))
 
@@ -95,7 +98,8 @@ bytes-from_test (x ∷ xs) h =
 pub test-from_bytes : (bytes : List ℕ) → IsBytes bytes → list_all (λ b. nat_lt b 256) bytes ≡ true
 test-from_bytes [] h = refl
 test-from_bytes (x ∷ xs) h =
-    both-true (nat_lt x 256) (list_all (λ b. nat_lt b 256) xs) (test-from_below x (h zero)) (test-from_bytes xs (λ i. h (suc i)))
+    both-true (nat_lt x 256) (list_all (λ b. nat_lt b 256) xs) (test-from_below x (h zero))
+    (test-from_bytes xs (λ i. h (suc i)))
 
 -- the part is the encoding of these bytes
 abbrev pub IsDecoded : List ℕ → List ℕ → Type 0
@@ -123,7 +127,8 @@ pub decoded-is : (part : List ℕ) → MatchOption (decoded part) (IsNoEncoding 
 unfolding decoded encoded
 decoded-is part =
     if_encoding-is part (decode_of url_safe_no_pad part)
-    (λ bytes is_bytes same. ap (decode_of url_safe_no_pad) same ∙ decode_of-encode_of url_safe_no_pad bytes refl is_bytes)
+    (λ bytes is_bytes same. ap (decode_of url_safe_no_pad)
+    same ∙ decode_of-encode_of url_safe_no_pad bytes refl is_bytes)
 
 -- ---- JSON texts
 
@@ -132,9 +137,9 @@ json-none : (bytes : List ℕ) (o : Option Data) → read bytes ≡ o → IsUtf8
 json-none bytes None e utf8 = λ d json. let r = json.reads in cc
 json-none bytes (Some d) e utf8 = record { utf8 = utf8; reads = e }
 
-pub json_of-is : (bytes : List ℕ) → MatchOption (json_of bytes) ((d : Data) → ¬ IsJson bytes d) (IsJson bytes)
-unfolding json_of
-json_of-is bytes =
+pub part_value-is : (bytes : List ℕ) → MatchOption (part_value bytes) ((d : Data) → ¬ IsJson bytes d) (IsJson bytes)
+unfolding part_value
+part_value-is bytes =
     test-is ((d : Data) → ¬ IsJson bytes d) (IsJson bytes) (is_utf8 bytes) (read bytes) None
     (λ t. json-none bytes (read bytes) refl (IsUtf8-from_is_utf8 bytes t))
     (λ t. λ d json. let s = is_utf8-from_IsUtf8 bytes json.utf8 in cc)

@@ -1,5 +1,8 @@
 -- An issued token reads as the claims that it was issued for.
-use Rattle.std.proofs.Common.{◌≡◌, ℕ, zero, suc, ◌+◌, ◌*◌, ◌/◌, ◌%◌, ◌^◌, ◌<◌, ◌≤◌, List, [], ◌∷◌, ◌++◌, Bool, true, false, nat_lt, ◌&&◌, length, length-append, get_or, Option, None, Some, option_and_then, IfSome, Result, Ok, Err, IfOk, OnOk, String, string_bytes, Global, codes, decimal, refl, sym, ap, ◌∙◌, arith, append-nil}
+use Rattle.std.proofs.Common.{◌≡◌, ℕ, zero, suc, ◌+◌, ◌*◌, ◌/◌, ◌%◌, ◌^◌, ◌<◌, ◌≤◌, List, [], ◌∷◌, ◌++◌, Bool, true}
+use Rattle.std.proofs.Common.{false, nat_lt, ◌&&◌, length, length-append, get_or, Option, None, Some, IfSome, Result}
+use Rattle.std.proofs.Common.{Ok, Err, IfOk, OnOk, String, string_bytes, Global, codes, decimal, refl, sym, ap, ◌∙◌}
+use Rattle.std.proofs.Common.{arith, append-nil}
 use Rattle.std.proofs.lemmas.Fmt.{decimal_by_steps, length-decimal-le, IsAscii-decimal}
 use Rattle.std.proofs.lemmas.Grind.{flat_map-append}
 use Rattle.std.proofs.lemmas.Str.{IsUtf8-from_ascii, IsUtf8-string_bytes, IsAscii-append}
@@ -29,13 +32,15 @@ use Rattle.acvp_mac.proofs.DigestFacts.{length-hmac_of, bytes-hmac_of}
 use Rattle.acvp_token.specs.declared.Claims.{Claims}
 use Rattle.acvp_token.specs.ClaimsJson.{claims_data, claims_text}
 use Rattle.acvp_token.specs.TokenText.{encoded, issued_header, signature_of, token_of, token_text}
-use Rattle.acvp_token.specs.ClaimsWriting.{IsClaimsWritten}
+use Rattle.acvp_token.specs.Private.ClaimsWriting.{IsClaimsWritten}
 use Rattle.acvp_token.specs.Reads.{IsJson, IsHeader, GivesClaims, Reads}
 use Rattle.acvp_token.proofs.Readings.{bytes-from_test}
 
 -- ---- the length of the claims
 
-text-append : (xs ys : List ℕ) → length (compact_text (string (xs ++ ys))) + 2 ≡ length (compact_text (string xs)) + length (compact_text (string ys))
+text-append : (xs ys : List ℕ) →
+    length (compact_text (string (xs ++ ys))) + 2 ≡ length (compact_text (string xs)) + length
+    (compact_text (string ys))
 text-append xs ys = simp (flat_map-append, length-append) (omega arith)
 
 digit-text : (n : ℕ) → n < 10 → length (compact_text (string ((48 + n) ∷ []))) ≡ 3
@@ -73,9 +78,12 @@ subject-length : (n : ℕ) → n < 2 ^ 64 → length (compact_text (string (deci
 subject-length n h = omega (arith, decimal-text n h, number-length n h)
 
 -- the claims of a token with a session, and of one without
-session-length : (account session issued expires : ℕ) → account < 2 ^ 64 → session < 2 ^ 64 → issued < 2 ^ 64 → expires < 2 ^ 64 →
-    length (compact_text (object (member (codes "exp") (number (unsigned expires)) (member (codes "iat") (number (unsigned issued))
-    (member (codes "sid") (number (unsigned session)) (member (codes "sub") (string (decimal account)) no_members)))))) ≤ 120
+session-length : (account session issued expires : ℕ) → account < 2 ^ 64 → session < 2 ^ 64 → issued < 2 ^ 64 →
+    expires < 2 ^ 64 →
+    length (compact_text (object (member (codes "exp") (number (unsigned expires))
+    (member (codes "iat") (number (unsigned issued))
+    (member (codes "sid") (number (unsigned session)) (member (codes "sub") (string (decimal account)) no_members))))))
+    ≤ 120
 unfolding serde_json_on_literals
 session-length account session issued expires a s i e =
     let subject = simp length-append at (subject-length account a) in
@@ -85,7 +93,8 @@ session-length account session issued expires a s i e =
     simp length-append (omega arith)
 
 account-length : (account issued expires : ℕ) → account < 2 ^ 64 → issued < 2 ^ 64 → expires < 2 ^ 64 →
-    length (compact_text (object (member (codes "exp") (number (unsigned expires)) (member (codes "iat") (number (unsigned issued))
+    length (compact_text (object (member (codes "exp") (number (unsigned expires))
+    (member (codes "iat") (number (unsigned issued))
     (member (codes "sub") (string (decimal account)) no_members))))) ≤ 120
 unfolding serde_json_on_literals
 account-length account issued expires a i e =
@@ -104,7 +113,8 @@ claims-short account (Some session) issued expires a s i e = session-length acco
 -- ---- the parts of an issued token
 
 header_data : Data
-header_data = object (member (codes "alg") (string (codes "HS256")) (member (codes "typ") (string (codes "JWT")) no_members))
+header_data =
+    object (member (codes "alg") (string (codes "HS256")) (member (codes "typ") (string (codes "JWT")) no_members))
 
 below-from_test : (x : ℕ) → nat_lt x 128 ≡ true → x < 128
 below-from_test x h = grind (arith, nat_tests)
@@ -141,9 +151,27 @@ gives-data : (account : ℕ) (session : Option ℕ) (issued expires : ℕ) → 1
     let claims : Claims = record { account = account; session = session; issued = issued; expires = expires } in
     GivesClaims (claims_data claims) claims
 gives-data account None issued expires least greatest =
-    record { subject = refl; least = least; greatest = greatest; issued = refl; expires = refl; session = refl; no_start = refl; no_audience = refl }
+    record {
+      subject = refl;
+      least = least;
+      greatest = greatest;
+      issued = refl;
+      expires = refl;
+      session = refl;
+      no_start = refl;
+      no_audience = refl;
+    }
 gives-data account (Some n) issued expires least greatest =
-    record { subject = refl; least = least; greatest = greatest; issued = refl; expires = refl; session = refl; no_start = refl; no_audience = refl }
+    record {
+      subject = refl;
+      least = least;
+      greatest = greatest;
+      issued = refl;
+      expires = refl;
+      session = refl;
+      no_start = refl;
+      no_audience = refl;
+    }
 
 encoded-length : (bytes : List ℕ) (n : ℕ) → length bytes ≤ n → length (encoded bytes) ≤ (4 * n + 2) / 3
 unfolding encoded
@@ -190,7 +218,8 @@ reads-token_text key c least greatest short json bytes =
 -- ---- the text of the claims, as it is written
 
 no-float : (account : ℕ) (session : Option ℕ) (issued expires : ℕ) →
-    has_float (claims_data (record { account = account; session = session; issued = issued; expires = expires })) ≡ false
+    has_float (claims_data (record { account = account; session = session; issued = issued; expires = expires }))
+    ≡ false
 no-float account None issued expires = refl
 no-float account (Some n) issued expires = refl
 
@@ -215,7 +244,8 @@ claims-written (Ok s) c d is text reads short =
 -- ---- the whole token
 
 -- a token over the text of the claims is the issued one
-pub issued-text : (r : Result (String Global) AllocError) (key payload : List ℕ) (c : Claims) → IsClaimsWritten payload c →
+pub issued-text : (r : Result (String Global) AllocError) (key payload : List ℕ) (c : Claims) →
+    IsClaimsWritten payload c →
     IfOk r (λ t. string_bytes t ≡ token_of issued_header payload (signature_of key issued_header payload)) →
     IfOk r (λ t. string_bytes t ≡ token_text key c)
 unfolding token_text
@@ -223,7 +253,8 @@ issued-text (Err e) key payload c written text = tt
 issued-text (Ok t) key payload c written text = rw (text, written.value) refl
 
 -- and it reads as the claims
-pub issued-reads : (r : Result (String Global) AllocError) (key payload : List ℕ) (c : Claims) → IsClaimsWritten payload c →
+pub issued-reads : (r : Result (String Global) AllocError) (key payload : List ℕ) (c : Claims) →
+    IsClaimsWritten payload c →
     IfOk r (λ t. string_bytes t ≡ token_text key c) → OnOk r (IsBytes payload) → 1 ≤ c.account → c.account ≤ 9999 →
     IfOk r (λ t. Reads key (string_bytes t) c)
 issued-reads (Err e) key payload c written text bytes least greatest = tt
@@ -255,7 +286,8 @@ escaped-ascii =
     (λ n h. digit-ascii n h)
     (λ n ds h e.
     let low : n % 10 < 10 = omega arith in
-    let joined : escape (ds ++ (48 + n % 10) ∷ []) ≡ escape ds ++ escape ((48 + n % 10) ∷ []) = simp flat_map-append refl in
+    let joined : escape (ds ++ (48 + n % 10) ∷ []) ≡ escape ds ++ escape ((48 + n % 10) ∷ []) =
+    simp flat_map-append refl in
     rw joined (IsAscii-append (escape ds) (escape ((48 + n % 10) ∷ [])) e (digit-ascii (n % 10) low)))
 
 text-ascii : (n : ℕ) → n < 2 ^ 64 → IsAscii (quoted (decimal n))
@@ -263,16 +295,25 @@ text-ascii n h =
     ascii-cons 34 (escape (decimal n) ++ 34 ∷ []) (omega arith)
     (IsAscii-append (escape (decimal n)) (34 ∷ []) (escaped-ascii n h) (ascii-from_test (34 ∷ []) refl))
 
-member-ascii : (k text rest : List ℕ) → IsAscii (quoted k) → IsAscii text → IsAscii rest → IsAscii (quoted k ++ 58 ∷ (text ++ rest))
+member-ascii : (k text rest : List ℕ) → IsAscii (quoted k) → IsAscii text → IsAscii rest →
+    IsAscii (quoted k ++ 58 ∷ (text ++ rest))
 member-ascii k text rest a b c =
-    IsAscii-append (quoted k) (58 ∷ (text ++ rest)) a (ascii-cons 58 (text ++ rest) (omega arith) (IsAscii-append text rest b c))
+    IsAscii-append (quoted k) (58 ∷ (text ++ rest)) a
+    (ascii-cons 58 (text ++ rest) (omega arith) (IsAscii-append text rest b c))
 
 name-ascii : (k : List ℕ) → list_all (λ b. nat_lt b 128) (quoted k) ≡ true → IsAscii (quoted k)
 name-ascii k t = ascii-from_test (quoted k) t
 
-names : IsAscii (quoted (codes "exp")) × IsAscii (quoted (codes "iat")) × IsAscii (quoted (codes "sid")) × IsAscii (quoted (codes "sub"))
+names : IsAscii (quoted (codes "exp")) × IsAscii (quoted (codes "iat")) × IsAscii (quoted (codes "sid")) × IsAscii
+    (quoted (codes "sub"))
 unfolding serde_json_on_literals
-names = (name-ascii (codes "exp") refl, name-ascii (codes "iat") refl, name-ascii (codes "sid") refl, name-ascii (codes "sub") refl)
+names = (
+  name-ascii (codes "exp") refl,
+  name-ascii (codes "iat") refl,
+  name-ascii (codes "sid") refl,
+  name-ascii
+      (codes "sub") refl,
+)
 
 -- each member of the claims with what comes after it
 abbrev sub_member : ℕ → List ℕ
@@ -288,19 +329,28 @@ abbrev exp_member : ℕ → List ℕ → List ℕ
 exp_member n rest = quoted (codes "exp") ++ 58 ∷ (decimal n ++ 44 ∷ rest)
 
 sub-ascii : (n : ℕ) → n < 2 ^ 64 → IsAscii (sub_member n)
-sub-ascii n h = member-ascii (codes "sub") (quoted (decimal n)) (125 ∷ []) names.3 (text-ascii n h) (ascii-from_test (125 ∷ []) refl)
+sub-ascii n h =
+    member-ascii (codes "sub") (quoted (decimal n)) (125 ∷ []) names.3 (text-ascii n h)
+    (ascii-from_test (125 ∷ []) refl)
 
 sid-ascii : (n : ℕ) (rest : List ℕ) → n < 2 ^ 64 → IsAscii rest → IsAscii (sid_member n rest)
-sid-ascii n rest h more = member-ascii (codes "sid") (decimal n) (44 ∷ rest) names.2 (IsAscii-decimal n h) (ascii-cons 44 rest (omega arith) more)
+sid-ascii n rest h more =
+    member-ascii (codes "sid") (decimal n) (44 ∷ rest) names.2 (IsAscii-decimal n h)
+    (ascii-cons 44 rest (omega arith) more)
 
 iat-ascii : (n : ℕ) (rest : List ℕ) → n < 2 ^ 64 → IsAscii rest → IsAscii (iat_member n rest)
-iat-ascii n rest h more = member-ascii (codes "iat") (decimal n) (44 ∷ rest) names.1 (IsAscii-decimal n h) (ascii-cons 44 rest (omega arith) more)
+iat-ascii n rest h more =
+    member-ascii (codes "iat") (decimal n) (44 ∷ rest) names.1 (IsAscii-decimal n h)
+    (ascii-cons 44 rest (omega arith) more)
 
 exp-ascii : (n : ℕ) (rest : List ℕ) → n < 2 ^ 64 → IsAscii rest → IsAscii (exp_member n rest)
-exp-ascii n rest h more = member-ascii (codes "exp") (decimal n) (44 ∷ rest) names.0 (IsAscii-decimal n h) (ascii-cons 44 rest (omega arith) more)
+exp-ascii n rest h more =
+    member-ascii (codes "exp") (decimal n) (44 ∷ rest) names.0 (IsAscii-decimal n h)
+    (ascii-cons 44 rest (omega arith) more)
 
 made_claims : ℕ → Option ℕ → ℕ → ℕ → Claims
-made_claims account session issued expires = record { account = account; session = session; issued = issued; expires = expires }
+made_claims account session issued expires =
+    record { account = account; session = session; issued = issued; expires = expires }
 
 claims-ascii : (account : ℕ) (session : Option ℕ) (issued expires : ℕ) →
     account < 2 ^ 64 → IfSome session (λ n. n < 2 ^ 64) → issued < 2 ^ 64 → expires < 2 ^ 64 →
@@ -308,7 +358,8 @@ claims-ascii : (account : ℕ) (session : Option ℕ) (issued expires : ℕ) →
 unfolding made_claims
 claims-ascii account None issued expires a s i e =
     ascii-cons 123 (exp_member expires (iat_member issued (sub_member account))) (omega arith)
-    (exp-ascii expires (iat_member issued (sub_member account)) e (iat-ascii issued (sub_member account) i (sub-ascii account a)))
+    (exp-ascii expires (iat_member issued (sub_member account)) e
+    (iat-ascii issued (sub_member account) i (sub-ascii account a)))
 claims-ascii account (Some n) issued expires a s i e =
     ascii-cons 123 (exp_member expires (iat_member issued (sid_member n (sub_member account)))) (omega arith)
     (exp-ascii expires (iat_member issued (sid_member n (sub_member account))) e
@@ -319,7 +370,8 @@ claims-numbers : (account : ℕ) (session : Option ℕ) (issued expires : ℕ) �
     HasNumbers (outline (claims_data (made_claims account session issued expires)))
 unfolding made_claims
 claims-numbers account None issued expires s i e = (IsNumber-decimal expires e, (IsNumber-decimal issued i, (tt, tt)))
-claims-numbers account (Some n) issued expires s i e = (IsNumber-decimal expires e, (IsNumber-decimal issued i, (IsNumber-decimal n s, (tt, tt))))
+claims-numbers account (Some n) issued expires s i e =
+    (IsNumber-decimal expires e, (IsNumber-decimal issued i, (IsNumber-decimal n s, (tt, tt))))
 
 claims-converted : (account : ℕ) (session : Option ℕ) (issued expires : ℕ) →
     IfSome session (λ n. n < 2 ^ 64) → issued < 2 ^ 64 → expires < 2 ^ 64 →
@@ -327,7 +379,8 @@ claims-converted : (account : ℕ) (session : Option ℕ) (issued expires : ℕ)
     of_json (outline d) ≡ Some d
 unfolding made_claims serde_json_on_literals
 claims-converted account None issued expires s i e = rw (number_of-decimal expires e, number_of-decimal issued i) refl
-claims-converted account (Some n) issued expires s i e = rw (number_of-decimal expires e, number_of-decimal issued i, number_of-decimal n s) refl
+claims-converted account (Some n) issued expires s i e =
+    rw (number_of-decimal expires e, number_of-decimal issued i, number_of-decimal n s) refl
 
 claims-shallow : (account : ℕ) (session : Option ℕ) (issued expires : ℕ) →
     tree_depth (outline (claims_data (made_claims account session issued expires))) ≤ 127
@@ -336,7 +389,8 @@ claims-shallow account None issued expires = omega arith
 claims-shallow account (Some n) issued expires = omega arith
 
 -- what is printed for a tree of a low depth is read as the value that the tree gives
-read-print : (tree : Json) (d : Data) → HasNumbers tree → tree_depth tree ≤ 127 → of_json tree ≡ Some d → read (print (json_tokens tree)) ≡ Some d
+read-print : (tree : Json) (d : Data) → HasNumbers tree → tree_depth tree ≤ 127 → of_json tree ≡ Some d →
+    read (print (json_tokens tree)) ≡ Some d
 read-print tree d numbers flat converted =
     let lexed : tokens (print (json_tokens tree)) ≡ json_tokens tree ++ [] =
     tokens-print (json_tokens tree) (ArePrintable-json_tokens tree numbers) ∙ sym (append-nil (json_tokens tree)) in
@@ -350,7 +404,8 @@ claims-reads : (account : ℕ) (session : Option ℕ) (issued expires : ℕ) →
 claims-reads account session issued expires s i e =
     let d = claims_data (made_claims account session issued expires) in
     ap read (sym (print-outline d))
-    ∙ read-print (outline d) d (claims-numbers account session issued expires s i e) (claims-shallow account session issued expires)
+    ∙ read-print (outline d) d (claims-numbers account session issued expires s i e)
+    (claims-shallow account session issued expires)
     (claims-converted account session issued expires s i e)
 
 claims-json : (account : ℕ) (session : Option ℕ) (issued expires : ℕ) →
@@ -361,7 +416,8 @@ unfolding made_claims
 claims-json account session issued expires a s i e =
     let d = claims_data (made_claims account session issued expires) in
     record {
-      utf8 = IsUtf8-from_ascii (claims_text (made_claims account session issued expires)) (claims-ascii account session issued expires a s i e);
+      utf8 = IsUtf8-from_ascii (claims_text (made_claims account session issued expires))
+          (claims-ascii account session issued expires a s i e);
       reads = claims-reads account session issued expires s i e;
     }
 

@@ -12,12 +12,12 @@ use Rattle.acvp_mac.specs.Hmac.{hmac_of}
 use Rattle.acvp_token.specs.declared.Claims.{Claims}
 use Rattle.acvp_token.specs.declared.TokenFault.{TokenFault}
 use Rattle.acvp_token.specs.declared.TokenFault.TheVariants.{Malformed, Signature, Claims as NoClaims, Expired, Memory}
-use Rattle.acvp_token.specs.Splitting.{IsSplit}
+use Rattle.acvp_token.specs.Private.Splitting.{IsSplit}
 use Rattle.acvp_token.specs.TokenText.{encoded}
 use Rattle.acvp_token.specs.Reads.{HasShape, IsClaimsText}
 use Rattle.acvp_token.specs.Faults.{IsMalformed, IsReading}
-use Rattle.acvp_token.specs.Opening.{IsMalformedFor, IsNoEncoding, IsHeaderText, HasOpened}
-use Rattle.acvp_token.specs.ClaimsReading.{IsNoClaimsText}
+use Rattle.acvp_token.specs.Private.Opening.{IsMalformedFor, IsNoEncoding, IsHeaderText, HasOpened}
+use Rattle.acvp_token.specs.Private.ClaimsReading.{IsNoClaimsText}
 use Rattle.acvp_token.proofs.Dots.{encoded-no_dot, split-same}
 
 -- bytes are known from their encoding
@@ -102,7 +102,8 @@ reading-of_claims key text signed payload signature (Err Expired) opened e conte
 reading-of_claims key text signed payload signature (Err Memory) opened e content none = none
 
 -- an input that does not decode decodes to no bytes
-pub decoded-or-failed : (engine : GeneralPurpose) (part bytes : List ℕ) (fault : DecodeAllocError) (why : DecodeError) → fault ≡ Failed why →
+pub decoded-or-failed : (engine : GeneralPurpose) (part bytes : List ℕ) (fault : DecodeAllocError) (why : DecodeError) →
+    fault ≡ Failed why →
     IsDecodeFailure engine part fault → decode_of engine part ≡ Ok bytes → ⊥
 decoded-or-failed engine part bytes fault why e failed decoded =
     let refused : decode_of engine part ≡ Err why = rw e at failed in

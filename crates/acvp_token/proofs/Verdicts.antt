@@ -1,5 +1,7 @@
 -- What a text reads as by decoding is what it reads as by the definitions.
-use Rattle.std.proofs.Common.{◌≡◌, ◌≢◌, ℕ, zero, suc, ◌<◌, ◌≤◌, List, ◌∷◌, ◌++◌, length, true, false, nat_lt, ◌||◌, Option, None, Some, option_map, option_and_then, is_some, is_none, codes, decimal, MatchOption, refl, sym, ap, ◌∙◌, arith}
+use Rattle.std.proofs.Common.{◌≡◌, ◌≢◌, ℕ, zero, suc, ◌<◌, ◌≤◌, List, ◌∷◌, ◌++◌, length, true, false, nat_lt, ◌||◌}
+use Rattle.std.proofs.Common.{Option, None, Some, option_map, option_and_then, is_some, is_none, codes, decimal}
+use Rattle.std.proofs.Common.{MatchOption, refl, sym, ap, ◌∙◌, arith}
 use Rattle.std.specs.Str.{bytes_eq}
 use Rattle.std.proofs.lemmas.Bool.Decides.{nat_tests}
 use Rattle.std.proofs.lemmas.Slice.Eq.{bytes_eq-Decides}
@@ -7,17 +9,21 @@ use Rattle.serde_json.specs.Data.{unsigned, negative, float, Data, null, boolean
 use Rattle.serde_json.specs.Find.{get, as_str, as_number, as_u64}
 use Rattle.acvp_token.specs.declared.Claims.{Claims}
 use Rattle.acvp_token.specs.TokenText.{encoded}
-use Rattle.acvp_token.specs.Splitting.{HasNoDot, IsSplit}
+use Rattle.acvp_token.specs.Private.Splitting.{HasNoDot, IsSplit}
 use Rattle.acvp_token.specs.Reads.{IsJson, IsHeader, HasShape, GivesClaims, IsClaimsText}
 use Rattle.acvp_token.specs.Faults.{IsMalformed}
-use Rattle.acvp_token.specs.Opening.{IsNoEncoding, IsHeaderText}
-use Rattle.acvp_token.specs.ClaimsReading.{IsAccount, IsSession}
-use Rattle.acvp_token.specs.Verdict.{split_dot, decoded, json_of, is_text, header_passes, Parts, if_header, decoded_parts, parts_of, account_up_to, account_in, number_in, session_value, session_in, claims_in, claims_of}
+use Rattle.acvp_token.specs.Private.Opening.{IsNoEncoding, IsHeaderText}
+use Rattle.acvp_token.specs.Private.ClaimsReading.{IsAccount, IsSession}
+use Rattle.acvp_token.specs.Verdict.{split_dot, decoded, part_value, is_member_text, header_passes, Parts, if_header}
+use Rattle.acvp_token.specs.Verdict.{decoded_parts, parts_of, account_up_to, account_in, number_in, session_value}
+use Rattle.acvp_token.specs.Verdict.{session_in, claims_in, claims_of}
 use Rattle.acvp_token.proofs.Dots.{split-parts, split-unique, encoded-no_dot, parts-from_right}
 use Rattle.acvp_token.proofs.Shapes.{malformed-header, malformed-claims, malformed-signature, malformed-text}
-use Rattle.acvp_token.proofs.Readings.{bind-is, test-is, both, IsCut, split_dot-is, dot-there, IsDecoded, decoded-is, json_of-is, json-unique}
+use Rattle.acvp_token.proofs.Readings.{bind-is, test-is, both, IsCut, split_dot-is, dot-there, IsDecoded, decoded-is}
+use Rattle.acvp_token.proofs.Readings.{part_value-is, json-unique}
 
-match-weaker : {A : Type 0} (N M : Type 0) (P Q : A → Type 0) (o : Option A) → MatchOption o N P → (N → M) → ((a : A) → P a → Q a) →
+match-weaker : {A : Type 0} (N M : Type 0) (P Q : A → Type 0) (o : Option A) → MatchOption o N P → (N → M) →
+    ((a : A) → P a → Q a) →
     MatchOption o M Q
 match-weaker N M P Q None h f g = f h
 match-weaker N M P Q (Some a) h f g = g a h
@@ -89,10 +95,13 @@ account_up_to-is text (suc n) =
     test-is none (IsAccountText text (suc n)) (bytes_eq text (decimal (suc n))) (Some (suc n)) (account_up_to text n)
     (λ t. ((bytes_eq-Decides text (decimal (suc n))).0 t, omega arith, omega arith))
     (λ t.
-    match-weaker ((m : ℕ) → ¬ IsAccountText text n m) none (IsAccountText text n) (IsAccountText text (suc n)) (account_up_to text n)
+    match-weaker ((m : ℕ) → ¬ IsAccountText text n m) none (IsAccountText text n) (IsAccountText text (suc n))
+    (account_up_to text n)
     (account_up_to-is text n)
     (λ below m h.
-    let other : m ≢ suc n = λ e. let s : bytes_eq text (decimal (suc n)) ≡ true = (bytes_eq-Decides text (decimal (suc n))).1 (h.0 ∙ ap decimal e) in cc in
+    let other : m ≢ suc n =
+    λ e. let s : bytes_eq text (decimal (suc n)) ≡ true = (bytes_eq-Decides text (decimal (suc n))).1
+    (h.0 ∙ ap decimal e) in cc in
     below m (h.0, h.1, omega (arith, h.2, other)))
     (λ m h. (h.0, h.1, omega (arith, h.2))))
 
@@ -100,11 +109,13 @@ account_in-is : (d : Data) → MatchOption (account_in d) ((n : ℕ) → ¬ IsAc
 unfolding account_in
 account_in-is d =
     let sub = get (codes "sub") d in
-    bind-is ((s : List ℕ) → ¬ IsStringAt sub s) ((n : ℕ) → ¬ IsAccount d n) (IsStringAt sub) (IsAccount d) (option_and_then as_str sub) (λ text. account_up_to text 9999)
+    bind-is ((s : List ℕ) → ¬ IsStringAt sub s) ((n : ℕ) → ¬ IsAccount d n) (IsStringAt sub) (IsAccount d)
+    (option_and_then as_str sub) (λ text. account_up_to text 9999)
     (as_str-is sub)
     (λ none n h. none (decimal n) h.subject)
     (λ text is.
-    match-weaker ((m : ℕ) → ¬ IsAccountText text 9999 m) ((n : ℕ) → ¬ IsAccount d n) (IsAccountText text 9999) (IsAccount d) (account_up_to text 9999)
+    match-weaker ((m : ℕ) → ¬ IsAccountText text 9999 m) ((n : ℕ) → ¬ IsAccount d n) (IsAccountText text 9999)
+    (IsAccount d) (account_up_to text 9999)
     (account_up_to-is text 9999)
     (λ none n h.
     let both : Some (string text) ≡ Some (string (decimal n)) = sym is ∙ h.subject in
@@ -138,10 +149,12 @@ claims_in-is d =
     bind-is ((n : ℕ) → ¬ IsAccount d n) none (IsAccount d) (GivesClaims d) (account_in d) _ (account_in-is d)
     (λ h c g. h c.account (record { subject = g.subject; least = g.least; greatest = g.greatest }))
     (λ account is_account.
-    bind-is ((n : ℕ) → ¬ IsNumberAt iat n) none (IsNumberAt iat) (GivesClaims d) (number_in (codes "iat") d) _ (number_in-is (codes "iat") d)
+    bind-is ((n : ℕ) → ¬ IsNumberAt iat n) none (IsNumberAt iat) (GivesClaims d) (number_in (codes "iat") d) _
+    (number_in-is (codes "iat") d)
     (λ h c g. h c.issued g.issued)
     (λ issued is_issued.
-    bind-is ((n : ℕ) → ¬ IsNumberAt exp n) none (IsNumberAt exp) (GivesClaims d) (number_in (codes "exp") d) _ (number_in-is (codes "exp") d)
+    bind-is ((n : ℕ) → ¬ IsNumberAt exp n) none (IsNumberAt exp) (GivesClaims d) (number_in (codes "exp") d) _
+    (number_in-is (codes "exp") d)
     (λ h c g. h c.expires g.expires)
     (λ expires is_expires.
     bind-is ((s : Option ℕ) → ¬ IsSession d s) none (IsSession d) (GivesClaims d) (session_in d) _ (session_in-is d)
@@ -157,14 +170,17 @@ claims_in-is d =
       no_audience = absent.1;
     })))))
 
-pub claims_of-is : (bytes : List ℕ) → MatchOption (claims_of bytes) ((c : Claims) → ¬ IsClaimsText bytes c) (IsClaimsText bytes)
+pub claims_of-is : (bytes : List ℕ) →
+    MatchOption (claims_of bytes) ((c : Claims) → ¬ IsClaimsText bytes c) (IsClaimsText bytes)
 unfolding claims_of
 claims_of-is bytes =
     let none = (c : Claims) → ¬ IsClaimsText bytes c in
-    bind-is ((d : Data) → ¬ IsJson bytes d) none (IsJson bytes) (IsClaimsText bytes) (json_of bytes) claims_in (json_of-is bytes)
+    bind-is ((d : Data) → ¬ IsJson bytes d) none (IsJson bytes) (IsClaimsText bytes) (part_value bytes) claims_in
+    (part_value-is bytes)
     (λ h c t. h t.value t.json)
     (λ d json.
-    match-weaker ((c : Claims) → ¬ GivesClaims d c) none (GivesClaims d) (IsClaimsText bytes) (claims_in d) (claims_in-is d)
+    match-weaker ((c : Claims) → ¬ GivesClaims d c) none (GivesClaims d) (IsClaimsText bytes) (claims_in d)
+    (claims_in-is d)
     (λ h c t.
     let same : t.value ≡ d = json-unique bytes t.value d t.json json in
     h c (rw same at t.gives))
@@ -181,9 +197,9 @@ text-of (Some (string t)) s e = let same : t ≡ s = cc in ap (λ (x : List ℕ)
 text-of (Some (array ds)) s e = cc
 text-of (Some (object ms)) s e = cc
 
-is_text-true : (wanted : List ℕ) (o : Option (List ℕ)) → is_text wanted o ≡ true → o ≡ Some wanted
-is_text-true wanted None h = cc
-is_text-true wanted (Some s) h = ap (λ (x : List ℕ). Some x) ((bytes_eq-Decides s wanted).0 h)
+is_member_text-true : (wanted : List ℕ) (o : Option (List ℕ)) → is_member_text wanted o ≡ true → o ≡ Some wanted
+is_member_text-true wanted None h = cc
+is_member_text-true wanted (Some s) h = ap (λ (x : List ℕ). Some x) ((bytes_eq-Decides s wanted).0 h)
 
 is_none-true : {A : Type 0} (o : Option A) → is_none o ≡ true → o ≡ None
 is_none-true None h = refl
@@ -193,9 +209,10 @@ header-from_test : (d : Data) → header_passes d ≡ true → IsHeader d
 unfolding header_passes
 header-from_test d h =
     let alg = get (codes "alg") d in
-    let parts = both (is_text (codes "HS256") (option_and_then as_str alg)) (is_none (get (codes "crit") d)) h in
+    let parts = both (is_member_text (codes "HS256") (option_and_then as_str alg)) (is_none (get (codes "crit") d)) h in
     record {
-      algorithm = text-of alg (codes "HS256") (is_text-true (codes "HS256") (option_and_then as_str alg) parts.0);
+      algorithm = text-of alg (codes "HS256")
+          (is_member_text-true (codes "HS256") (option_and_then as_str alg) parts.0);
       nothing_critical = is_none-true (get (codes "crit") d) parts.1;
     }
 
@@ -210,10 +227,12 @@ AreParts h p s parts = (parts.header ≡ h) × (parts.payload ≡ p) × (parts.s
 
 if_header-is : (h p s : List ℕ) → MatchOption (if_header h p s) (¬ IsHeaderText h) (AreParts h p s)
 if_header-is h p s =
-    bind-is ((d : Data) → ¬ IsJson h d) (¬ IsHeaderText h) (IsJson h) (AreParts h p s) (json_of h) _ (json_of-is h)
+    bind-is ((d : Data) → ¬ IsJson h d) (¬ IsHeaderText h) (IsJson h) (AreParts h p s) (part_value h) _
+    (part_value-is h)
     (λ none t. none t.0 t.1)
     (λ d json.
-    test-is (¬ IsHeaderText h) (AreParts h p s) (header_passes d) (Some (record { header = h; payload = p; signature = s })) None
+    test-is (¬ IsHeaderText h) (AreParts h p s) (header_passes d)
+    (Some (record { header = h; payload = p; signature = s })) None
     (λ t. (refl, refl, refl, (d, json, header-from_test d t)))
     (λ t found.
     let same : found.0 ≡ d = json-unique h found.0 d found.1 json in
@@ -239,20 +258,25 @@ shape-of_parts text a b r h p s parts short split first second third are =
 decoded_parts-is : (text a b r : List ℕ) → length text ≤ 1024 → IsSplit text a b r →
     MatchOption (decoded_parts a b r) (IsMalformed text) (IsShapeOf text)
 decoded_parts-is text a b r short split =
-    bind-is (IsNoEncoding a) (IsMalformed text) (IsDecoded a) (IsShapeOf text) (decoded a) _ (decoded-is a) (malformed-header text a b r split)
+    bind-is (IsNoEncoding a) (IsMalformed text) (IsDecoded a) (IsShapeOf text) (decoded a) _ (decoded-is a)
+    (malformed-header text a b r split)
     (λ h first.
-    bind-is (IsNoEncoding b) (IsMalformed text) (IsDecoded b) (IsShapeOf text) (decoded b) _ (decoded-is b) (malformed-claims text a b r split)
+    bind-is (IsNoEncoding b) (IsMalformed text) (IsDecoded b) (IsShapeOf text) (decoded b) _ (decoded-is b)
+    (malformed-claims text a b r split)
     (λ p second.
-    bind-is (IsNoEncoding r) (IsMalformed text) (IsDecoded r) (IsShapeOf text) (decoded r) _ (decoded-is r) (malformed-signature text a b r split)
+    bind-is (IsNoEncoding r) (IsMalformed text) (IsDecoded r) (IsShapeOf text) (decoded r) _ (decoded-is r)
+    (malformed-signature text a b r split)
     (λ s third.
-    match-weaker (¬ IsHeaderText h) (IsMalformed text) (AreParts h p s) (IsShapeOf text) (if_header h p s) (if_header-is h p s)
+    match-weaker (¬ IsHeaderText h) (IsMalformed text) (AreParts h p s) (IsShapeOf text) (if_header h p s)
+    (if_header-is h p s)
     (malformed-text text a b r h split first.0 first.1)
     (λ parts are. shape-of_parts text a b r h p s parts short split first second third are))))
 
 no-dot-malformed : (text : List ℕ) → HasNoDot text → IsMalformed text
 no-dot-malformed text none =
     λ h c s shape.
-    let cut : text ≡ encoded h ++ 46 ∷ (encoded c ++ 46 ∷ encoded s) = shape.whole ∙ parts-from_right (encoded h) (encoded c) (encoded s) in
+    let cut : text ≡ encoded h ++ 46 ∷ (encoded c ++ 46 ∷ encoded s) =
+    shape.whole ∙ parts-from_right (encoded h) (encoded c) (encoded s) in
     dot-there (encoded h) _ (rw cut at none)
 
 one-dot-malformed : (text a rest : List ℕ) → text ≡ a ++ 46 ∷ rest → HasNoDot a → HasNoDot rest → IsMalformed text
@@ -260,7 +284,8 @@ one-dot-malformed text a rest e first none =
     λ h c s shape.
     let cut : a ++ 46 ∷ rest ≡ encoded h ++ 46 ∷ (encoded c ++ 46 ∷ encoded s) =
     sym e ∙ shape.whole ∙ parts-from_right (encoded h) (encoded c) (encoded s) in
-    let same : rest ≡ encoded c ++ 46 ∷ encoded s = (split-unique a (encoded h) rest _ first (encoded-no_dot h) cut).1 in
+    let same : rest ≡ encoded c ++ 46 ∷ encoded s =
+    (split-unique a (encoded h) rest _ first (encoded-no_dot h) cut).1 in
     dot-there (encoded c) _ (rw same at none)
 
 above-from_test : (n : ℕ) → nat_lt 1024 n ≡ true → 1024 < n
@@ -276,9 +301,11 @@ parts_of-is text =
     (λ t h c s shape. omega (arith, above-from_test (length text) t, shape.short))
     (λ t.
     let short = within-from_test (length text) t in
-    bind-is (HasNoDot text) (IsMalformed text) (IsCut text) (IsShapeOf text) (split_dot text) _ (split_dot-is text) (no-dot-malformed text)
+    bind-is (HasNoDot text) (IsMalformed text) (IsCut text) (IsShapeOf text) (split_dot text) _ (split_dot-is text)
+    (no-dot-malformed text)
     (λ first cut.
-    bind-is (HasNoDot first.1) (IsMalformed text) (IsCut first.1) (IsShapeOf text) (split_dot first.1) _ (split_dot-is first.1)
+    bind-is (HasNoDot first.1) (IsMalformed text) (IsCut first.1) (IsShapeOf text) (split_dot first.1) _
+    (split_dot-is first.1)
     (one-dot-malformed text first.0 first.1 cut.0 cut.1)
     (λ second cut_again.
     decoded_parts-is text first.0 second.0 second.1 short

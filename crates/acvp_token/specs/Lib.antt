@@ -1,12 +1,10 @@
 pub mod ClaimsJson
 pub mod TokenText
-pub mod Splitting
 pub mod Reads
 pub mod Faults
 pub mod Verdict
-pub mod Opening
-pub mod ClaimsWriting
-pub mod ClaimsReading
+pub mod SessionNumber
+pub mod Private
 pub use Rattle.base64.specs.Engines
 pub use Rattle.base64.specs.GeneralPurpose
 pub use Rattle.serde_json.specs.Data
@@ -14,3 +12,4 @@ pub use Rattle.serde_json.specs.Find
 pub use Rattle.serde_json.specs.Read
 pub use Rattle.serde_json.specs.Written
 pub use Rattle.acvp_mac.specs.Hmac
+pub use Rattle.acvp_mac.specs.Conditions

@@ -1,6 +1,8 @@
 -- What a text reads as, worked out as a value. `Reads` and `Faults` say which texts are tokens by
 -- what they encode; here a text is decoded, and the contracts say that the two agree.
-use Rattle.std.specs.Prelude.{◌≡◌, ℕ, zero, suc, List, [], ◌∷◌, Bool, true, false, ◌==◌, ◌&&◌, ◌||◌, nat_lt, if◌then◌else◌, Option, None, Some, option_map, option_and_then, is_some, is_none, codes, decimal, length, Result, Ok, Err}
+use Rattle.std.specs.Prelude.{◌≡◌, ℕ, zero, suc, List, [], ◌∷◌, Bool, true, false, ◌==◌, ◌&&◌, ◌||◌, nat_lt}
+use Rattle.std.specs.Prelude.{if◌then◌else◌, Option, None, Some, option_map, option_and_then, is_some, is_none, codes}
+use Rattle.std.specs.Prelude.{decimal, length, Result, Ok, Err}
 use Rattle.std.specs.List.{list_all}
 use Rattle.std.specs.Result.{result_ok}
 use Rattle.std.specs.Str.{bytes_eq, is_utf8}
@@ -28,19 +30,19 @@ if_encoding part bytes =
 unfoldable pub decoded : List ℕ → Option (List ℕ)
 decoded part = option_and_then (if_encoding part) (result_ok (decode_of url_safe_no_pad part))
 
--- the value of a JSON text
-unfoldable pub json_of : List ℕ → Option Data
-json_of bytes = if is_utf8 bytes then read bytes else None
+-- the JSON value of a part of a token
+unfoldable pub part_value : List ℕ → Option Data
+part_value bytes = if is_utf8 bytes then read bytes else None
 
--- whether a text is there and is this one
-abbrev pub is_text : List ℕ → Option (List ℕ) → Bool
-is_text wanted None = false
-is_text wanted (Some s) = bytes_eq s wanted
+-- whether the text of a member is there and is this one
+abbrev pub is_member_text : List ℕ → Option (List ℕ) → Bool
+is_member_text wanted None = false
+is_member_text wanted (Some s) = bytes_eq s wanted
 
 -- whether a header asks for HMAC-SHA-256 and for no extension
 unfoldable pub header_passes : Data → Bool
 header_passes d =
-    is_text (codes "HS256") (option_and_then as_str (get (codes "alg") d)) && is_none (get (codes "crit") d)
+    is_member_text (codes "HS256") (option_and_then as_str (get (codes "alg") d)) && is_none (get (codes "crit") d)
 
 -- the parts of a token
 pub record Parts : Type 0 where
@@ -52,7 +54,7 @@ pub record Parts : Type 0 where
 abbrev pub if_header : List ℕ → List ℕ → List ℕ → Option Parts
 if_header header payload signature =
     option_and_then (λ d. if header_passes d
-    then Some (record { header = header; payload = payload; signature = signature }) else None) (json_of header)
+    then Some (record { header = header; payload = payload; signature = signature }) else None) (part_value header)
 
 -- the parts of which these are the encodings
 abbrev pub decoded_parts : List ℕ → List ℕ → List ℕ → Option Parts
@@ -103,7 +105,7 @@ claims_in d =
 
 -- the claims of a JSON text
 unfoldable pub claims_of : List ℕ → Option Claims
-claims_of bytes = option_and_then claims_in (json_of bytes)
+claims_of bytes = option_and_then claims_in (part_value bytes)
 
 -- what is read of the claims of a token, by whether it is signed
 abbrev pub reading_signed : Bool → Option Claims → Result Claims TokenFault

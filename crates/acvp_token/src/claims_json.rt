@@ -1,12 +1,14 @@
 //! The claims of a token as a JSON object, written and read.
 
-ghost use Rattle.std.specs.Prelude.{◌≡◌, ◌≢◌, ◌≤◌, ℕ, codes, decimal, string_bytes, Some, IfOk, IfErr, MatchOption, Option, option_map, OnOk, length};
+ghost use Rattle.std.specs.Prelude.{◌≡◌, ◌≢◌, ◌≤◌, ℕ, codes, decimal, string_bytes, Some, None, IfOk, IfErr};
+ghost use Rattle.std.specs.Prelude.{MatchOption, Option};
 ghost use Rattle.serde_json.specs.Data.{number, unsigned, string};
 ghost use Rattle.serde_json.specs.Find.{get};
 ghost use Rattle.serde_json.specs.View.{view};
 ghost use Rattle.acvp_token.specs.ClaimsJson.{claims_data, claims_text};
-ghost use Rattle.acvp_token.specs.ClaimsWriting.{IsClaimsWritten};
-ghost use Rattle.acvp_token.specs.ClaimsReading.{IsAccount, IsNoAccount, IsSession, IsNoSession, GivesNoClaims, IsNoClaimsText, IsNoSubject};
+ghost use Rattle.acvp_token.specs.Private.ClaimsWriting.{IsClaimsWritten};
+ghost use Rattle.acvp_token.specs.Private.ClaimsReading.{IsAccount, IsNoAccount, IsSession, IsNoSession, GivesNoClaims};
+ghost use Rattle.acvp_token.specs.Private.ClaimsReading.{IsNoClaimsText, IsNoSubject};
 ghost use Rattle.acvp_token.specs.Reads.{GivesClaims, IsClaimsText};
 
 use crate::{Claims, TokenFault};
@@ -25,18 +27,43 @@ pub(crate) fn claims_text(alloc: Global, claims: Claims) -> Result<String, Alloc
 
 /// The claims as a JSON value.
 fn claims_value(alloc: Global, claims: Claims) -> Result<Value, AllocError>
-    ensures value { IfOk result (λ v. view v ≡ claims_data claims) }
-    ensures short { OnOk result (length (claims_text claims) ≤ 120) }
+    ensures { IfOk result (λ v. view v ≡ claims_data claims) }
 {
-    let subject = claims.account.to_string(alloc)?;
     let issued = claims.issued;
     let expires = claims.expires;
     match claims.session {
-        Some(session) => {
-            json!(in alloc; {"exp": expires, "iat": issued, "sid": session, "sub": subject})
-        }
-        None => json!(in alloc; {"exp": expires, "iat": issued, "sub": subject}),
+        Some(session) => session_claims(alloc, claims.account, session, issued, expires),
+        None => account_claims(alloc, claims.account, issued, expires),
     }
+}
+
+/// The claims of a token that is bound to a session, as a JSON value.
+fn session_claims(
+    alloc: Global,
+    account: u16,
+    session: u64,
+    issued: u64,
+    expires: u64,
+) -> Result<Value, AllocError>
+    ensures { IfOk result (λ v. view v
+        ≡ claims_data (record { account = account; session = Some session; issued = issued; expires = expires })) }
+{
+    let subject = account.to_string(alloc)?;
+    json!(in alloc; {"exp": expires, "iat": issued, "sid": session, "sub": subject})
+}
+
+/// The claims of a token that is bound to no session, as a JSON value.
+fn account_claims(
+    alloc: Global,
+    account: u16,
+    issued: u64,
+    expires: u64,
+) -> Result<Value, AllocError>
+    ensures { IfOk result (λ v. view v
+        ≡ claims_data (record { account = account; session = None; issued = issued; expires = expires })) }
+{
+    let subject = account.to_string(alloc)?;
+    json!(in alloc; {"exp": expires, "iat": issued, "sub": subject})
 }
 
 /// The claims of a JSON text.
@@ -59,8 +86,8 @@ fn claims_of(alloc: Global, value: &Value) -> Result<Claims, TokenFault>
     if value.get("nbf").is_some() || value.get("aud").is_some() {
         return Err(TokenFault::Claims);
     }
-    let issued = number_at(value, "iat").ok_or(TokenFault::Claims)?;
-    let expires = number_at(value, "exp").ok_or(TokenFault::Claims)?;
+    let issued = whole_number_in(value, "iat").ok_or(TokenFault::Claims)?;
+    let expires = whole_number_in(value, "exp").ok_or(TokenFault::Claims)?;
     let session = session_of(value).ok_or(TokenFault::Claims)?;
     let account = account_of(alloc, value)?;
     Ok(Claims {
@@ -72,7 +99,7 @@ fn claims_of(alloc: Global, value: &Value) -> Result<Claims, TokenFault>
 }
 
 /// The whole number below 2^64 in a member.
-fn number_at(value: &Value, name: &str) -> Option<u64>
+fn whole_number_in(value: &Value, name: &str) -> Option<u64>
     ensures { MatchOption result
         ((n : ℕ) → get name.now (view value.now) ≢ Some (number (unsigned n)))
         (λ n. get name.now (view value.now) ≡ Some (number (unsigned n))) }
@@ -111,9 +138,7 @@ fn read_account(alloc: Global, text: &str) -> Result<u16, TokenFault>
     let Ok(account) = text.parse::<u16>() else {
         return Err(TokenFault::Claims);
     };
-    let Ok(plain) = account.to_string(alloc) else {
-        return Err(TokenFault::Memory);
-    };
+    let plain = account.to_string(alloc)?;
     if plain.as_str() == text && account >= 1 && account <= ACCOUNT_LIMIT {
         Ok(account)
     } else {

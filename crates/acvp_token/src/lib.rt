@@ -3,15 +3,19 @@
 #![tactic(auto)]
 
 pub use issuing::{issue, issued_reads_back};
+pub use session_number::account_of_session;
 pub use verifying::{reads_one_way, verify, verify_for_renewal};
 
 mod claims_json;
 mod issuing;
 mod opening;
+mod session_number;
 mod splitting;
 #[cfg(test)]
 mod tests;
 mod verifying;
+
+use std::alloc::AllocError;
 
 /// What a token says: whom it stands for, and how long.
 #[derive(Clone, Copy, PartialEq, Eq, Debug)]
@@ -29,22 +33,34 @@ pub struct Claims {
     pub expires: u64,
 }
 
-/// Why a text is refused as a token, in the order of the tests.
+/// Why a text is refused as a token, in the order of the tests, each with the rule by which such a bearer token is
+/// refused.
 #[derive(Clone, Copy, PartialEq, Eq, Debug)]
 pub enum TokenFault {
-    /// The text has the shape of no token: it is too long, its parts do not decode, or its header
-    /// does not ask for HMAC-SHA-256 alone.
+    /// The first test, rule 12 `tokenMalformed`: the text has the shape of no token. It is too long, its parts do not
+    /// decode, or its header does not ask for HMAC-SHA-256 alone.
     Malformed,
 
-    /// The signature is not that of the key.
+    /// The second test, rule 13 `tokenSignature`: the signature is not that of the key.
     Signature,
 
-    /// The claims do not say whom the token stands for and how long.
+    /// The third test, rule 14 `tokenClaims`: the claims do not say whom the token stands for and how long.
     Claims,
 
-    /// The moment is the end of the token or past it.
+    /// The fourth test, rule 15 `tokenExpired`: the moment is the end of the token or past it.
     Expired,
 
-    /// Memory ran out.
+    /// The fifth fault, rule 45 `unavailable`: memory ran out, at any of the tests.
     Memory,
+}
+
+impl From<AllocError> for TokenFault {
+    ghost use Rattle.std.specs.Prelude.{◌≡◌};
+    ghost use Rattle.acvp_token.specs.declared.TokenFault.TheVariants.{Memory};
+
+    ghost from_gives = { λ _ fault. fault ≡ Memory };
+
+    fn from(_refused: AllocError) -> TokenFault {
+        TokenFault::Memory
+    }
 }

@@ -3,7 +3,7 @@
 ghost use Rattle.std.specs.Prelude.{◌≡◌, ℕ, List, IfOk, IfErr, OnOk};
 ghost use Rattle.base64.specs.GeneralPurpose.{IsBytes};
 ghost use Rattle.acvp_token.specs.TokenText.{encoded};
-ghost use Rattle.acvp_token.specs.Opening.{IsUndecoded, IsNoHeader, IsHeaderText, HasOpened, IsUnopened};
+ghost use Rattle.acvp_token.specs.Private.Opening.{IsUndecoded, IsNoHeader, IsHeaderText, HasOpened, IsUnopened};
 
 use crate::TokenFault;
 use crate::splitting::split_parts;

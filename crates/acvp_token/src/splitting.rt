@@ -1,7 +1,7 @@
 //! A token's text is taken apart at its dots.
 
 ghost use Rattle.std.specs.Prelude.{◌≡◌, ◌++◌, ◌∷◌, codes, MatchOption};
-ghost use Rattle.acvp_token.specs.Splitting.{HasNoDot, IsSplit, IsUnsplit};
+ghost use Rattle.acvp_token.specs.Private.Splitting.{HasNoDot, IsSplit, IsUnsplit};
 
 /// The parts of a token's text.
 #[derive(Clone, Copy)]

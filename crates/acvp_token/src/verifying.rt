@@ -40,5 +40,6 @@ pub fn verify_for_renewal(alloc: Global, key: &[u8], text: &[u8]) -> Result<Clai
 
 /// The definition of what a text reads as gives one answer: under a key, no text reads as two claims.
 pub fn reads_one_way()
-    ensures { (key text : List ℕ) (first second : Claims) → Reads key text first → Reads key text second → first ≡ second }
+    ensures { (key text : List ℕ) (first second : Claims) → Reads key text first → Reads key text second
+        → first ≡ second }
 {}

@@ -10,7 +10,7 @@ const KEYS: Keys = Keys {
     seed: [2; 32],
 };
 
-// The bytes from 0 to 31 in hex.
+/// The bytes from 0 to 31 in hex.
 const ORDERS: &[u8] =
     b"account-add 0 7 000102030405060708090a0b0c0d0e0f101112131415161718191a1b1c1d1e1f\n\
     account-add 1 7 000102030405060708090a0b0c0d0e0f101112131415161718191a1b1c1d1e1f\n\
@@ -19,7 +19,7 @@ const ORDERS: &[u8] =
 
 const ANSWERS: &[u8] = b"order done\norder taken\norder done\norder unknown\n";
 
-// What a run answered, whether its reader and its writer had failed, and its writer.
+/// What a run answered, whether its reader and its writer had failed, and its writer.
 #[derive(Drop)]
 struct Outcome<W> {
     answer: Result<u64, ScriptFault>,
@@ -46,7 +46,7 @@ fn run_over<R: Read + Drop, W: Write + Drop>(
     })
 }
 
-// Gives a byte at a time, and fails once, before the byte at this place.
+/// Gives a byte at a time, and fails once, before the byte at this place.
 #[derive(Drop)]
 struct FailsOnce<'a> {
     bytes: &'a [u8],
@@ -73,7 +73,7 @@ impl Read for FailsOnce<'_> {
     }
 }
 
-// Takes a byte at a time, and fails once it holds so many.
+/// Takes a byte at a time, and fails once it holds so many.
 #[derive(Drop)]
 struct Narrow {
     held: Vec<u8>,
@@ -219,7 +219,7 @@ fn a_failed_write_ends_the_run(rt: HostRuntime) -> Result<(), Fail> {
     Ok(())
 }
 
-// The code is that of RFC 6238 for second 59 and SHA-256. It is two steps old at second 90.
+/// The code is that of RFC 6238 for second 59 and SHA-256. It is two steps old at second 90.
 #[test]
 fn a_request_is_answered(rt: HostRuntime) -> Result<(), Fail> {
     let script: &[u8] =

@@ -9,4 +9,5 @@ abbrev pub invariant-loop-group : goal.invariant-loop-group
 invariant-loop-group l =
     (l.answers ++ flat_map (group_answers l.name) (drop l.group-index l.prompts.groups) ≡ standard_of l.prompts)
     × (keys_of l.answers ≡ range_with_len 1 (length l.answers))
-    × (map (λ t. t.number) (tests_in (drop l.group-index l.prompts.groups)) ≡ range_with_len (length l.answers + 1) (length (tests_in (drop l.group-index l.prompts.groups))))
+    × (map (λ t. t.number) (tests_in (drop l.group-index l.prompts.groups)) ≡ range_with_len (length l.answers + 1)
+    (length (tests_in (drop l.group-index l.prompts.groups))))

@@ -8,13 +8,17 @@ use Rattle.acvp_answers.proofs.texts.checkpoint_texts.Goals as goal
 
 pub loop-preserved : goal.loop-preserved
 loop-preserved c =
-    let checkpoint : c.in_ok-checkpoint-2.checkpoint.items ≡ turn (digest_of c.args.name) c.loop.checkpoint.items = rw c.deref.ensures.value at c.in_ok-checkpoint-2.ensures in
-    let text : string_bytes c.in_ok-text.text ≡ encode_lower c.in_ok-checkpoint-2.checkpoint.items = rw c.as_slice.ensures.value at c.in_ok-text.ensures in
+    let checkpoint : c.in_ok-checkpoint-2.checkpoint.items ≡ turn (digest_of c.args.name) c.loop.checkpoint.items =
+    rw c.deref.ensures.value at c.in_ok-checkpoint-2.ensures in
+    let text : string_bytes c.in_ok-text.text ≡ encode_lower c.in_ok-checkpoint-2.checkpoint.items =
+    rw c.as_slice.ensures.value at c.in_ok-text.ensures in
     rw c.in_ok-push.ensures.items
-    (written_more (digest_of c.args.name) c.loop.checkpoint.items c.args.turns c.loop.counter c.loop.texts.items c.in_ok-text.text c.in_ok-checkpoint-2.checkpoint.items
+    (written_more (digest_of c.args.name) c.loop.checkpoint.items c.args.turns c.loop.counter c.loop.texts.items
+    c.in_ok-text.text c.in_ok-checkpoint-2.checkpoint.items
     (checkpoint_texts c.args.name c.args.seed.now c.args.turns) c.loop-test.true c.loop.invariant checkpoint text)
 
 pub returns : goal.returns
 returns c =
-    written_all (digest_of c.args.name) c.loop.checkpoint.items c.args.turns c.loop.counter (map string_bytes c.loop.texts.items)
+    written_all (digest_of c.args.name) c.loop.checkpoint.items c.args.turns c.loop.counter
+    (map string_bytes c.loop.texts.items)
     (checkpoint_texts c.args.name c.args.seed.now c.args.turns) c.loop-test.false c.loop.invariant

@@ -7,5 +7,6 @@ use Rattle.acvp_answers.proofs.texts.checkpoint_texts.Given as goal
 
 abbrev pub invariant-loop : goal.invariant-loop
 invariant-loop l =
-    map string_bytes l.texts.items ++ map encode_lower (checkpoints (digest_of l.name) l.checkpoint.items (l.turns - l.counter))
+    map string_bytes l.texts.items
+    ++ map encode_lower (checkpoints (digest_of l.name) l.checkpoint.items (l.turns - l.counter))
     ≡ checkpoint_texts l.name l.seed l.turns

@@ -9,7 +9,8 @@ pub returns-in_default-clause-err : goal.returns-in_default-clause-err
 returns-in_default-clause-err c =
     inr (
       refl,
-      list_all-fails is_item view c.args.values.now c.loop-value.value-index c.value-item.result c.loop-value-test.true c.value-item.is
+      list_all-fails is_item view c.args.values.now c.loop-value.value-index c.value-item.result c.loop-value-test.true
+          c.value-item.is
           (ap is_some (sym c.read_item.ensures ∙ c.in_default.is)),
     )
 
@@ -17,11 +18,14 @@ pub loop-value-preserved : goal.loop-value-preserved
 loop-value-preserved c =
     let read = sym c.read_item.ensures ∙ c.in-Some.is in
     record {
-      read = kept-more item_of view c.args.values.now c.loop-value.value-index c.value-item.result c.loop-value.items.items c.push.new.self.items c.in-Some.item _
-          c.loop-value-test.true c.value-item.is c.loop-value.invariant.read read c.if-is_err.ensures.negation c.push.ensures.items;
+      read = kept-more item_of view c.args.values.now c.loop-value.value-index c.value-item.result
+          c.loop-value.items.items c.push.new.self.items c.in-Some.item
+          c.loop-value-test.true c.value-item.is c.loop-value.invariant.read read c.in_ok-push.ensures.items;
       count = search rules;
-      all = all-more c.args.values.now c.loop-value.value-index c.value-item.result c.in-Some.item c.loop-value-test.true c.value-item.is c.loop-value.invariant.all read;
+      all = all-more c.args.values.now c.loop-value.value-index c.value-item.result c.in-Some.item
+          c.loop-value-test.true c.value-item.is c.loop-value.invariant.all read;
     }
 
 pub returns-clause-formed : goal.returns-clause-formed
-returns-clause-formed c = rw c.loop-value.invariant.read (formed-items (map view (take c.loop-value.value-index c.args.values.now)))
+returns-clause-formed c =
+    rw c.loop-value.invariant.read (formed-items (map view (take c.loop-value.value-index c.args.values.now)))

@@ -5,4 +5,5 @@ use Rattle.acvp_caps.proofs.json.array_elements.Goals as goal
 
 pub returns-in-Some : goal.returns-in-Some
 returns-in-Some c =
-    rw c.as_slice.ensures.value (array_list-view c.in-Some.values.now.items (as_array (view c.args.value.now)) c.in-Some.ensures)
+    rw c.as_slice.ensures.value
+    (array_list-view c.in-Some.values.now.items (as_array (view c.args.value.now)) c.in-Some.ensures)

@@ -1,6 +1,6 @@
 use Rattle.std.proofs.Common.{take}
 use Rattle.acvp_caps.specs.Members.{is_member}
-use Rattle.acvp_caps.specs.Walk.{IsNext}
+use Rattle.acvp_caps.specs.Private.Walk.{IsNext}
 use Rattle.acvp_caps.proofs.walk.next_member.Given as goal
 
 abbrev pub invariant-loop-item : goal.invariant-loop-item

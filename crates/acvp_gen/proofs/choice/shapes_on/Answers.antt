@@ -6,5 +6,8 @@ use Rattle.acvp_gen.proofs.choice.shapes_on.Goals as goal
 
 pub returns-in-KeyAndMac-clause-sized : goal.returns-in-KeyAndMac-clause-sized
 returns-in-KeyAndMac-clause-sized c =
-    let fit : AreDomainsOf c.args.algorithm (KeyAndMac c.in-KeyAndMac.key c.in-KeyAndMac.mac) = rw c.in-KeyAndMac.is at c.requires in
-    IfOk-weaker c.hmac_shapes.result _ _ (λ shapes is. rw is (sized_shapes c.args.seed.now c.args.vs c.args.algorithm (KeyAndMac c.in-KeyAndMac.key c.in-KeyAndMac.mac) fit)) c.hmac_shapes.ensures.value
+    let fit : AreDomainsOf c.args.algorithm (KeyAndMac c.in-KeyAndMac.key c.in-KeyAndMac.mac) =
+    rw c.in-KeyAndMac.is at c.requires in
+    IfOk-weaker c.hmac_shapes.result _ _
+    (λ shapes is. rw is (sized_shapes c.args.seed.now c.args.vs c.args.algorithm
+    (KeyAndMac c.in-KeyAndMac.key c.in-KeyAndMac.mac) fit)) c.hmac_shapes.ensures.value

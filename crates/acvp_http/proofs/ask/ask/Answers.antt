@@ -11,11 +11,16 @@ other_length text same n is other =
     grind (arith, nat_tests)
 
 pub returns-in-Some : goal.returns-in-Some
-returns-in-Some c = inr (c.in-Some.end, rw c.window_of-window.ensures.value at c.in-Some.ensures, rw (take_rest c.args.bytes.now c.in-Some.end) at c.ask_block.ensures)
+returns-in-Some c = inr (
+  c.in-Some.end,
+  rw c.window_of-window.ensures.value at c.in-Some.ensures,
+  rw (take_rest c.args.bytes.now c.in-Some.end) at c.parse_block.ensures,
+)
 
 pub returns-in-None-2 : goal.returns-in-None-2
 returns-in-None-2 c =
     inl (
       rw c.window_of-window.ensures.value at c.in-None-2.ensures,
-      rw (other_length c.window_of-window.result.now (window c.args.bytes.now) 16384 c.window_of-window.ensures.value c.if-window-eq-HEAD_BYTES.false) refl,
+      rw (other_length c.window_of-window.result.now
+          (window c.args.bytes.now) 16384 c.window_of-window.ensures.value c.if-window-eq-HEAD_BYTES.false) refl,
     )

@@ -6,7 +6,9 @@ use Rattle.acvp_http.proofs.framing.field_values_of.Given as goal
 
 abbrev pub invariant-loop-header : goal.invariant-loop-header
 invariant-loop-header l = record {
-  found : map (span_bytes l.block) l.found ++ values_of l.name (map (header_bytes l.block) (drop l.header-index l.headers)) ≡ values_of l.name (map (header_bytes l.block) l.headers);
+  found : map (span_bytes l.block) l.found
+      ++ values_of l.name (map (header_bytes l.block) (drop l.header-index l.headers))
+      ≡ values_of l.name (map (header_bytes l.block) l.headers);
   within : All (IsWithin (length l.block)) l.found;
   few : length l.found ≤ l.header-index;
 }

@@ -6,9 +6,15 @@ use Rattle.acvp_http.proofs.reading.fill.Goals as goal
 pub loop-filled-preserved : goal.loop-filled-preserved
 loop-filled-preserved g c =
     let read = c.in_ok-count.ensures in
-    let more = filled_more c.loop-filled.filled (length c.loop-filled.buf - c.loop-filled.filled) c.in_ok-count.count c.loop-filled.buf c.read_some.new.buf c.loop-filled.invariant.low read.0 in
+    let more = filled_more c.loop-filled.filled
+    (length c.loop-filled.buf - c.loop-filled.filled) c.in_ok-count.count c.loop-filled.buf c.read_some.new.buf
+    c.loop-filled.invariant.low read.0 in
     record {
       clear = read.1;
-      low = filled_low c.loop-filled.filled (length c.loop-filled.buf - c.loop-filled.filled) c.in_ok-count.count c.loop-filled.buf c.read_some.new.buf c.loop-filled.invariant.low read.0;
-      consumed = rw more (consumes_consumes (g.S.Source.held c.args.reader.now) (g.S.Source.held c.loop-filled.reader) (g.S.Source.held c.read_some.new.reader) (take c.loop-filled.filled c.loop-filled.buf) (take c.in_ok-count.count c.read_some.new.buf) c.loop-filled.invariant.consumed read.2);
+      low = filled_low c.loop-filled.filled
+          (length c.loop-filled.buf - c.loop-filled.filled) c.in_ok-count.count c.loop-filled.buf c.read_some.new.buf
+          c.loop-filled.invariant.low read.0;
+      consumed = rw more (consumes_consumes (g.S.Source.held c.args.reader.now) (g.S.Source.held c.loop-filled.reader)
+          (g.S.Source.held c.read_some.new.reader) (take c.loop-filled.filled c.loop-filled.buf)
+          (take c.in_ok-count.count c.read_some.new.buf) c.loop-filled.invariant.consumed read.2);
     }

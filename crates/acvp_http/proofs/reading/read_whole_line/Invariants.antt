@@ -1,6 +1,6 @@
 use Rattle.std.proofs.Common.{◌≡◌, false, take}
 use Rattle.std.specs.Io.KnownBytes.{Consumes}
-use Rattle.acvp_http.specs.Lines.{Lacks}
+use Rattle.acvp_http.specs.Private.Lines.{Lacks}
 use Rattle.acvp_http.proofs.reading.read_whole_line.Given as goal
 
 abbrev pub invariant-loop-count : goal.invariant-loop-count

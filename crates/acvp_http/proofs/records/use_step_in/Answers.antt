@@ -5,4 +5,6 @@ use Rattle.acvp_http.proofs.records.use_step_in.Goals as goal
 
 pub loop-row-preserved : goal.loop-row-preserved
 loop-row-preserved c =
-    map_over_step (λ row. if row.number == c.args.number then with_step c.args.step row else row) c.args.rows.now c.loop-row.rows c.loop-row.row-index _ _ c.loop-row-test.true (omega arith) c.loop-row.invariant c.use_step_at.ensures
+    map_over_step (λ row. if row.number == c.args.number then with_step c.args.step row
+    else row) c.args.rows.now c.loop-row.rows c.loop-row.row-index _ _ c.loop-row-test.true
+    (omega arith) c.loop-row.invariant c.use_step_at.ensures

@@ -3,7 +3,8 @@ use Rattle.acvp_http.proofs.script.read_line.Goals as goal
 
 pub returns-in_err-command_of : goal.returns-in_err-command_of
 returns-in_err-command_of c = rw c.from_residual-in_err-command_of.ensures
-    (no_line_word c.args.line.now c.in_ok-word.word.now c.in_ok-word.rest.now c.in_ok-word.ensures c.in_err-command_of.ensures)
+    (no_line_word c.args.line.now c.in_ok-word.word.now c.in_ok-word.rest.now c.in_ok-word.ensures
+    c.in_err-command_of.ensures)
 
 pub returns-in_err-moment-in-AddAccount : goal.returns-in_err-moment-in-AddAccount
 returns-in_err-moment-in-AddAccount c = rw c.from_residual-in_err-moment-in-AddAccount.ensures

@@ -7,5 +7,6 @@ use Rattle.acvp_json.proofs.answers_body.checkpoints_in.Given as goal
 
 abbrev pub invariant-loop-result : goal.invariant-loop-result
 invariant-loop-result l =
-    option_map (λ more. map string_bytes l.texts.items ++ more) (each (text_at (codes "md")) (items_view (drop l.result-index l.result-items)))
+    option_map (λ more. map string_bytes l.texts.items ++ more)
+    (each (text_at (codes "md")) (items_view (drop l.result-index l.result-items)))
     ≡ each (text_at (codes "md")) (items_view l.result-items)

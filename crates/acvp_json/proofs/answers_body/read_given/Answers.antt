@@ -7,5 +7,10 @@ use Rattle.acvp_json.proofs.answers_body.read_given.Goals as goal
 
 pub returns-then-contains : goal.returns-then-contains
 returns-then-contains c =
-    let before : true ≡ is_answered c.args.answers.now (test_of (record { group = c.args.group; object = view c.args.object.now })) = rw (← c.number_at.ensures, ← c.unwrap_or-number.ensures) c.if-contains.ensures in
-    inr (given_twice c.args.prompts.now c.args.answers.now (record { group = c.args.group; object = view c.args.object.now }) c.in-Some.set_group.now c.in-Some.ensures before)
+    let before : true ≡ is_answered c.args.answers.now
+    (test_of (record { group = c.args.group; object = view c.args.object.now })) =
+    rw (← c.number_at.ensures, ← c.unwrap_or-number.ensures) c.if-contains.ensures in
+    inr (given_twice c.args.prompts.now c.args.answers.now (record {
+      group = c.args.group;
+      object = view c.args.object.now;
+    }) c.in-Some.set_group.now c.in-Some.ensures before)

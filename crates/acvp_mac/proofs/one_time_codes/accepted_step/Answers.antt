@@ -5,7 +5,8 @@ use Rattle.acvp_mac.proofs.one_time_codes.accepted_step.Goals as goal
 
 pub returns-then-totp-code-clause-value : goal.returns-then-totp-code-clause-value
 returns-then-totp-code-clause-value c =
-    accepted-unique c.args.secret.now c.args.last c.args.moment c.args.code (Some c.step_of-current.result) (search rules)
+    accepted-unique c.args.secret.now c.args.last c.args.moment c.args.code (Some c.step_of-current.result)
+    (search rules)
 
 pub returns-in_err-earlier-clause-value : goal.returns-in_err-earlier-clause-value
 returns-in_err-earlier-clause-value c =
@@ -14,7 +15,8 @@ returns-in_err-earlier-clause-value c =
 
 pub returns-then-totp-code-2-clause-value : goal.returns-then-totp-code-2-clause-value
 returns-then-totp-code-2-clause-value c =
-    accepted-unique c.args.secret.now c.args.last c.args.moment c.args.code (Some c.in_ok-earlier.earlier) (search rules)
+    accepted-unique c.args.secret.now c.args.last c.args.moment c.args.code (Some c.in_ok-earlier.earlier)
+    (search rules)
 
 pub returns-clause-value : goal.returns-clause-value
 returns-clause-value c =

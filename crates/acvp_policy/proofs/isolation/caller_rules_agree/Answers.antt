@@ -2,12 +2,14 @@
 use Rattle.std.proofs.Common.{sym}
 use Rattle.acvp_policy.specs.declared.facts.Facts.{Facts}
 use Rattle.acvp_policy.specs.Callers.{AgreeOnCaller}
-use Rattle.acvp_policy.proofs.CallerRules.{caller_rule_kept}
+use Rattle.acvp_policy.proofs.CallerRules.{caller_rule-kept}
 use Rattle.acvp_policy.proofs.isolation.caller_rules_agree.Goals as goal
 
 turned : (one other : Facts) → AgreeOnCaller one other → AgreeOnCaller other one
 turned one other same = record { token = sym same.token; standing = sym same.standing; numbers = sym same.numbers }
 
 pub returns : goal.returns
-returns c = λ action one other rule same on_caller.
-    (caller_rule_kept action one other rule same on_caller, caller_rule_kept action other one rule (turned one other same) on_caller)
+returns c = λ action one other rule same on_caller. (
+  caller_rule-kept action one other rule same on_caller,
+  caller_rule-kept action other one rule (turned one other same) on_caller,
+)

@@ -6,7 +6,8 @@ use Rattle.acvp_token.proofs.claims_json.read_account.Goals as goal
 pub returns-in_default-clause-err : goal.returns-in_default-clause-err
 returns-in_default-clause-err c =
     λ n least greatest e.
-    c.in_default.not-Ok n (parse-decimal 16 n c.args.text.now c.parse.result (omega arith) (omega arith) e c.parse.ensures.value.0)
+    c.in_default.not-Ok n (parse-decimal 16 n c.args.text.now c.parse.result (omega arith) (omega arith)
+    e c.parse.ensures.value.0)
 
 pub returns-clause-err : goal.returns-clause-err
 returns-clause-err c =
@@ -15,7 +16,7 @@ returns-clause-err c =
     parse-decimal 16 n c.args.text.now c.parse.result (omega arith) (omega arith) e c.parse.ensures.value.0 in
     let same : c.in-Ok.account ≡ n = cc in
     let written : c.as_str.result.now ≡ c.args.text.now =
-    c.as_str.ensures.value ∙ c.in-Ok-to_string.ensures.ok ∙ ap decimal same ∙ sym e in
+    c.as_str.ensures.value ∙ c.in_ok-plain.ensures.ok ∙ ap decimal same ∙ sym e in
     let equal : c.eq.result ≡ true =
     c.eq.ensures ∙ (bytes_eq-Decides c.as_str.result.now c.args.text.now).1 written in
     elim c.else-eq.either [

@@ -13,4 +13,6 @@ unfolding encoded
 returns-in-Err-DecodeError-clause-err c =
     λ bytes is_bytes e.
     let decodes = (c.decode.ensures.strict (refl, refl) bytes is_bytes).1 e in
-    decoded-or-failed url_safe_no_pad c.args.part.now bytes c.in-Err-DecodeError.field-0 c.in-Err-DecodeError.field-0-0 c.in-Err-DecodeError.field-0-is c.in-Err-DecodeError.ensures.err decodes
+    let failed = c.in-Err-DecodeError in
+    decoded-or-failed url_safe_no_pad c.args.part.now bytes failed.field-0 failed.field-0-0 failed.field-0-is
+    failed.ensures.err decodes

@@ -1,6 +1,7 @@
 -- Each part that does not decode, and each header that is refused, leaves no token that the text is.
 use Rattle.std.proofs.lemmas.Result.{err_from_is_err_and}
-use Rattle.acvp_token.proofs.Shapes.{malformed-for, malformed-header, malformed-claims, malformed-signature, malformed-text}
+use Rattle.acvp_token.proofs.Shapes.{malformed-for, malformed-header, malformed-claims, malformed-signature}
+use Rattle.acvp_token.proofs.Shapes.{malformed-text}
 use Rattle.acvp_token.proofs.opening.open_token.Goals as goal
 
 pub returns-in_err-header-clause-err : goal.returns-in_err-header-clause-err
@@ -23,7 +24,8 @@ returns-in_err-signature-clause-err c =
 
 pub returns-in_err-check_header-clause-err : goal.returns-in_err-check_header-clause-err
 returns-in_err-check_header-clause-err c =
-    let p = err_from_is_err_and c.from_residual-in_err-check_header.result c.from_residual-in_err-check_header.ensures.1 in
+    let p =
+    err_from_is_err_and c.from_residual-in_err-check_header.result c.from_residual-in_err-check_header.ensures.1 in
     let split = c.in-Some.ensures.0 in
     let header = c.in_ok-header.ensures in
     let refused = rw c.deref.ensures.value at c.in_err-check_header.ensures.err in

@@ -3,4 +3,5 @@ use Rattle.acvp_answers.proofs.MapLemmas.{keys_same}
 use Rattle.acvp_answers.proofs.answers.Answers.len.Goals as goal
 
 pub returns-clause-ascending : goal.returns-clause-ascending
-returns-clause-ascending c = rw (← c.self.view_is, keys_same shown_texts c.self.inside.texts.entries) c.len.ensures.ordered
+returns-clause-ascending c =
+    rw (← c.self.view_is, keys_same shown_texts c.self.inside.texts.entries) c.len.ensures.ordered

@@ -1,0 +1,5 @@
+-- Words of private clauses and of the types' invariants: no public clause speaks in them.
+pub mod Walk
+pub mod DomainItems
+pub mod Written
+pub mod Readings

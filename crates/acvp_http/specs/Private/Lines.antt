@@ -1,0 +1,52 @@
+-- The lines of a script, without their line feeds.
+use Rattle.std.specs.Prelude.{◌≡◌, ◌≢◌, ◌≤◌, ℕ, List, [], ◌∷◌, ◌++◌, codes, decimal, ⊤}
+use Rattle.acvp_http.specs.declared.records.Order.{Order}
+use Rattle.acvp_http.specs.declared.records.Order.TheVariants.{AddAccount, DisableAccount}
+use Rattle.acvp_http.specs.declared.script.Line.{Line}
+use Rattle.acvp_http.specs.declared.script.Line.TheVariants as line
+use Rattle.acvp_http.specs.declared.script.Command.{Command}
+use Rattle.acvp_http.specs.declared.script.Command.TheVariants as command
+use Rattle.acvp_http.specs.Script.{IsNumber, IsSecretText}
+use Rattle.acvp_http.specs.Records.{IsAccountNumber}
+
+-- no byte of the text is this one
+abbrev pub Lacks : ℕ → List ℕ → Type 0
+Lacks c [] = ⊤
+Lacks c (byte ∷ bytes) = (byte ≢ c) × Lacks c bytes
+
+-- a moment, a space and the rest
+abbrev pub IsMoment : ℕ → List ℕ → List ℕ → Type 0
+IsMoment moment rest text = IsNumber moment × (text ≡ decimal moment ++ 32 ∷ rest)
+
+-- a moment and a number of bytes
+abbrev pub IsRequestTail : ℕ → ℕ → List ℕ → Type 0
+IsRequestTail moment size text = (size ≤ 4194304) × IsMoment moment (decimal size) text
+
+-- a moment, an account's number and its secret
+abbrev pub IsAddTail : ℕ → ℕ → List ℕ → List ℕ → Type 0
+IsAddTail moment account secret text =
+    IsAccountNumber account
+    × ((digits : List ℕ) × IsSecretText digits secret × IsMoment moment (decimal account ++ 32 ∷ digits) text)
+
+-- a moment and an account's number
+abbrev pub IsDisableTail : ℕ → ℕ → List ℕ → Type 0
+IsDisableTail moment account text = IsAccountNumber account × IsMoment moment (decimal account) text
+
+-- the command's word
+abbrev pub command_word : Command → List ℕ
+command_word command.Request = codes "request"
+command_word command.AddAccount = codes "account-add"
+command_word command.DisableAccount = codes "account-disable"
+
+-- the order's word, and then the rest of its line
+abbrev pub IsOrderLine : ℕ → Order → List ℕ → Type 0
+IsOrderLine moment (AddAccount account secret) text =
+    (rest : List ℕ) × (text ≡ command_word command.AddAccount ++ 32 ∷ rest) × IsAddTail moment account secret rest
+IsOrderLine moment (DisableAccount account) text =
+    (rest : List ℕ) × (text ≡ command_word command.DisableAccount ++ 32 ∷ rest) × IsDisableTail moment account rest
+
+-- what the line says
+abbrev pub IsLine : Line → List ℕ → Type 0
+IsLine (line.Request moment size) text =
+    (rest : List ℕ) × (text ≡ command_word command.Request ++ 32 ∷ rest) × IsRequestTail moment size rest
+IsLine (line.Order moment order) text = IsOrderLine moment order text

@@ -1,0 +1,5 @@
+-- Words of private clauses: no public clause speaks in them.
+pub mod Readings
+pub mod Borrowed
+pub mod Said
+pub mod AnswersReading
