@@ -224,7 +224,7 @@ def main():
                 again += 1
         else:
             sys.exit("no end of growths")
-    if met < MET or at < 20:
+    if not MET <= met or at < 20:
         sys.exit(f"{at - 1} growths, and none refused to: {', '.join(sorted(MET - met))}. Is the shim in place?")
     print(f"{at - 1} growths, each refused once; {again} made an event unavailable, answered right when sent again")
 

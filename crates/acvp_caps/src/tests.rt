@@ -137,6 +137,9 @@ fn capabilities_are_compared_by_their_members(rt: HostRuntime) -> Result<(), Fai
     assert!(rt; singles == range);
     assert!(rt; range.clone()? == range);
     assert!(rt; range.clone()? == singles.clone()?);
+    let written = singles.to_text(rt.alloc())?;
+    assert!(rt; singles.clone()?.to_text(rt.alloc())?.as_str() == written.as_str());
+    assert!(rt; range.to_text(rt.alloc())?.as_str() != written.as_str());
     for other in ["[0,16,32]", "[0,16,32,48,64]", "[0,16,40,48]", "[8]"] {
         let other = sha2_256(rt.alloc(), other)?;
         assert!(rt; range != other);
@@ -155,6 +158,7 @@ fn capabilities_are_compared_by_their_members(rt: HostRuntime) -> Result<(), Fai
     )?;
     assert!(rt; hmac.clone()? == hmac);
     assert!(rt; hmac != range);
+    assert!(rt; hmac.domains() != range.domains());
     for (what, text) in [
         (
             "another key",

@@ -11,7 +11,8 @@ use Rattle.acvp_http.specs.declared.records.Account.{Account}
 use Rattle.acvp_policy.specs.declared.rule.Rule.{Rule}
 use Rattle.acvp_policy.specs.declared.rule.Rule.TheVariants as rule
 use Rattle.acvp_mac.specs.Conditions.{Condition, judged}
-use Rattle.acvp_http.specs.Login.{login_of, rule_of_fault, FailsBody, code_use_at, accepted_login_at, login_decision}
+use Rattle.acvp_http.specs.Login.{login_of, code_use_at, accepted_login_at, login_decision}
+use Rattle.acvp_http.specs.Private.LoginRules.{rule_of_fault, FailsBody}
 
 envelope_broken : (a b c : Bool) (o : Option Data) (x : Option LoginBody) (f : BodyFault)
     → judged ((a, fault.BodyNotJson) ∷ (b, fault.BodyEnvelope) ∷ []) o ≡ Err f →

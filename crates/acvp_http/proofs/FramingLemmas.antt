@@ -88,16 +88,20 @@ pub told_is : {S : Type 0} (show : S → List ℕ) (spans hosts : List S) (metho
     (fields : List (List ℕ × List ℕ)) (told : Bool) (x : Unit {0})
     → map show spans ≡ values_of (codes "content-length") fields → map show hosts ≡ values_of (codes "host") fields
     → told ≡ (not (needs_length method) || not (is_nil spans)) → judged ((told, LengthMissing) ∷ []) tt ≡ Ok x
-    → cond (lengths_agree (map show spans)) (Some (body_length (map show spans))) None ≡ Some size → count ≡ length hosts
-    → judged ((nat_le size 2097152, BodyTooLarge) ∷ (hosts_fit minor count, HostMissing) ∷ (nat_le size available, Truncated) ∷ []) size
-    ≡ judged (drop 1 (framing_conditions method minor fields available)) (body_length (values_of (codes "content-length") fields))
+    → cond (lengths_agree (map show spans)) (Some (body_length (map show spans))) None ≡ Some size
+    → count ≡ length hosts
+    → judged ((nat_le size 2097152, BodyTooLarge) ∷ (hosts_fit minor count, HostMissing)
+    ∷ (nat_le size available, Truncated) ∷ []) size
+    ≡ judged (drop 1 (framing_conditions method minor fields available))
+    (body_length (values_of (codes "content-length") fields))
 told_is show spans hosts method minor available size count fields told x lens names is ok agreed many =
     let values = values_of (codes "content-length") fields in
     let none : is_nil spans ≡ is_nil values = ap (λ n. n == 0) (sym (length-map spans show) ∙ ap length lens) in
     let here : (not (needs_length method) || not (is_nil values)) ≡ true =
     sym (is ∙ ap (λ b. not (needs_length method) || not b) none) ∙ held told LengthMissing x ok in
     let both = some_if (lengths_agree values) (body_length values) size (rw lens at agreed) in
-    let count_is : count ≡ length (values_of (codes "host") fields) = many ∙ sym (length-map hosts show) ∙ ap length names in
+    let count_is : count ≡ length (values_of (codes "host") fields) = many ∙ sym (length-map hosts show)
+    ∙ ap length names in
     let n = body_length values in
     rw (both.1, count_is)
     (later_decide (not (needs_length method) || not (is_nil values)) (lengths_agree values) (nat_le n 2097152)

@@ -7,7 +7,8 @@ use Rattle.acvp_http.specs.declared.records.Keys.{Keys}
 use Rattle.acvp_http.specs.declared.script.ScriptFault.{ScriptFault}
 use Rattle.acvp_http.specs.declared.script.ScriptFault.TheVariants.{Write}
 use Rattle.acvp_http.specs.declared.records.Order.TheVariants.{AddAccount, DisableAccount}
-use Rattle.acvp_http.specs.Event.{Event, request, order, CanHappen, Answer, Turn, DeskState}
+use Rattle.acvp_http.specs.Event.{Event, request, order, Answer, Turn, DeskState}
+use Rattle.acvp_http.specs.Private.Turns.{CanHappen}
 use Rattle.acvp_http.specs.Script.{IsScript, IsWritten, HasNoEvent, answer_text, output_of}
 use Rattle.acvp_http.specs.Serve.{Runs, Takes, with_accounts}
 use Rattle.acvp_http.specs.Private.Reading.{TakesPart}

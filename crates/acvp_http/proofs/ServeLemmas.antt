@@ -14,17 +14,18 @@ use Rattle.acvp_token.specs.TokenText.{token_text}
 use Rattle.acvp_http.specs.declared.login.AcceptedLogin.{AcceptedLogin}
 use Rattle.acvp_http.specs.Login.{login_decision, claims_at, after_login}
 use Rattle.acvp_http.specs.Reply.{refusal, framed, IsDateOf}
-use Rattle.acvp_http.specs.Serve.{ServesRequest, IsUnavailableRequest, RequestAnswered, LoginTaken, RequestTaken, end_of_moments}
+use Rattle.acvp_http.specs.Serve.{ServesRequest, IsUnavailableRequest, RequestAnswered, RequestTaken, end_of_moments}
+use Rattle.acvp_http.specs.Private.Turns.{LoginTaken}
 
 -- a login that passes every test, where the desk's parts are these
-pub taken_accepted : (held same : DeskState) (moment : ℕ) (date body : List ℕ) (entry : AcceptedLogin)
+pub taken_accepted : (held same : DeskState) (moment : ℕ) (date body : List ℕ) (accepted_login : AcceptedLogin)
     (accounts : List Account) (reply : List ℕ) → held ≡ same → login_decision same.keys.token same.accounts moment body
-    ≡ Ok (Some entry) →
-    accounts ≡ after_login same.accounts entry
+    ≡ Ok (Some accepted_login) →
+    accounts ≡ after_login same.accounts accepted_login
     → reply ≡ framed 200 (Some date) []
-    (body_of (reply_data (Login (token_text same.keys.token (claims_at entry moment))))) →
+    (body_of (reply_data (Login (token_text same.keys.token (claims_at accepted_login moment))))) →
     LoginTaken held moment date body accounts reply
-taken_accepted held same moment date body entry accounts reply parts is changed shown =
+taken_accepted held same moment date body accepted_login accounts reply parts is changed shown =
     subst (λ (h : DeskState). LoginTaken h moment date body accounts reply) (sym parts) (inl (rw is (changed, shown)))
 
 -- a login that fails a test, or to which memory was refused

@@ -82,13 +82,17 @@ is_nil xs = length xs == 0
 abbrev pub body_length : List (List ℕ) → ℕ
 body_length values = unwrap_or (first_number values) 0
 
+-- the most bytes of a body
+abbrev pub body_limit : ℕ
+body_limit = 2097152
+
 -- the conditions on the framing, in their order (RFC 9112, sections 3.2 and 6), where so many bytes follow the head
 abbrev pub framing_conditions : List ℕ → ℕ → List (List ℕ × List ℕ) → ℕ → List (Condition Rule)
 framing_conditions method minor fields available =
     (is_nil (values_of (codes "transfer-encoding") fields), TransferCoding)
     ∷ (not (needs_length method) || not (is_nil (values_of (codes "content-length") fields)), LengthMissing)
     ∷ (lengths_agree (values_of (codes "content-length") fields), BadLength)
-    ∷ (nat_le (body_length (values_of (codes "content-length") fields)) 2097152, BodyTooLarge)
+    ∷ (nat_le (body_length (values_of (codes "content-length") fields)) body_limit, BodyTooLarge)
     ∷ (hosts_fit minor (length (values_of (codes "host") fields)), HostMissing)
     ∷ (nat_le (body_length (values_of (codes "content-length") fields)) available, Truncated)
     ∷ []
@@ -138,13 +142,17 @@ AsksBlock block rest parsed =
     (((parsed ≡ refused BadHead) × ((head : RequestHead) → ReadsRequest block head [] → ⊥))
     ⊎ ((head : RequestHead) × ReadsRequest block head [] × (parsed ≡ asked head rest)))
 
+-- the most bytes of a head
+abbrev pub head_limit : ℕ
+head_limit = 16384
+
 -- how much of an input may be its head
 unfoldable pub window : List ℕ → List ℕ
-window bytes = take 16384 bytes
+window bytes = take head_limit bytes
 
 -- what an input asks
 abbrev pub Asks : List ℕ → ParsedRequest → Type 0
 Asks bytes parsed =
     (HasNoEmptyLine (window bytes)
-    × (parsed ≡ refused (if length (window bytes) == 16384 then HeadTooLarge else Truncated)))
+    × (parsed ≡ refused (if length (window bytes) == head_limit then HeadTooLarge else Truncated)))
     ⊎ ((n : ℕ) × IsBlockEnd (window bytes) n × AsksBlock (take n bytes) (drop n bytes) parsed)

@@ -1,20 +1,14 @@
 -- What happens to the server, and what is answered.
-use Rattle.std.specs.Prelude.{ℕ, List, Bool, ⊤}
+use Rattle.std.specs.Prelude.{ℕ, List, Bool}
 use Rattle.acvp_http.specs.declared.records.Keys.{Keys}
 use Rattle.acvp_http.specs.declared.records.Account.{Account}
 use Rattle.acvp_http.specs.declared.records.Order.{Order}
 use Rattle.acvp_http.specs.declared.records.OrderReply.{OrderReply}
-use Rattle.acvp_http.specs.Records.{IsOrder}
 
 -- a request's bytes or an operator's order, at a moment in seconds since 1970
 pub data Event : Type 0 where
   request : ℕ → List ℕ → Event
   order : ℕ → Order → Event
-
--- any bytes may come as a request, but an order names an account that can be
-abbrev pub CanHappen : Event → Type 0
-CanHappen (request moment bytes) = ⊤
-CanHappen (order moment o) = IsOrder o
 
 -- the bytes of a reply, or the reply to an order
 pub data Answer : Type 0 where

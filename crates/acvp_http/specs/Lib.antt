@@ -5,7 +5,6 @@ pub mod Serve
 pub mod Script
 pub mod Asks
 pub mod Login
-pub mod Paths
 pub mod Source
 pub mod Run
 pub mod Private

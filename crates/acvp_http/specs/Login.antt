@@ -1,11 +1,9 @@
 -- A login: what its body says, what it must meet, and what it is answered.
-use Rattle.std.specs.Prelude.{◌≡◌, ◌⊎◌, ℕ, ◌+◌, ◌/◌, List, [], ◌∷◌, ◌++◌, length, Bool, true, ◌&&◌, ◌==◌, is_some, if◌then◌else◌, Option, Some, None, option_map, option_and_then, Result, Ok, Err}
+use Rattle.std.specs.Prelude.{ℕ, ◌+◌, List, [], ◌∷◌, ◌++◌, length, Bool, true, ◌&&◌, ◌==◌, is_some, if◌then◌else◌, Option, Some, None, option_map, option_and_then, Result, Ok, Err}
 use Rattle.std.specs.Str.{all_ascii_digits}
 use Rattle.std.specs.Str.Parse.{digits_value}
 use Rattle.acvp_json.specs.Envelope.{body_json, object_of}
 use Rattle.acvp_json.specs.LoginBody.{login_body_of}
-use Rattle.acvp_json.specs.declared.fault.BodyFault.{BodyFault}
-use Rattle.acvp_json.specs.declared.fault.BodyFault.TheVariants as fault
 use Rattle.acvp_json.specs.declared.login_body.LoginBody.{LoginBody}
 use Rattle.acvp_registry.specs.Number.{plain_number_of}
 use Rattle.acvp_mac.specs.Codes.{accepted}
@@ -17,7 +15,7 @@ use Rattle.acvp_http.specs.declared.login.CodeUse.{CodeUse}
 use Rattle.acvp_http.specs.declared.login.AcceptedLogin.{AcceptedLogin}
 use Rattle.acvp_http.specs.declared.records.Account.{Account}
 use Rattle.acvp_policy.specs.declared.rule.Rule.{Rule}
-use Rattle.acvp_policy.specs.declared.rule.Rule.TheVariants.{BodyNotJson, BodyEnvelope, BodyField, UnknownTest, DuplicateTest, SetMismatch, NoReference, LoginRefused, RenewalRefused, Unavailable}
+use Rattle.acvp_policy.specs.declared.rule.Rule.TheVariants.{BodyNotJson, BodyEnvelope, BodyField, LoginRefused, RenewalRefused}
 use Rattle.acvp_mac.specs.Conditions.{Condition, judged}
 use Rattle.acvp_http.specs.Records.{row_of, changed, with_step}
 
@@ -77,28 +75,13 @@ accepted_login_of key accounts moment login =
 
 -- ---- the decision
 
--- the tests of a login's body, in their order
+-- the conditions on a login's body, in their order
 abbrev pub body_conditions : List ℕ → List (Condition Rule)
 body_conditions body =
     (is_some (body_json body), BodyNotJson)
     ∷ (is_some (object_of body), BodyEnvelope)
     ∷ (is_some (login_of body), BodyField)
     ∷ []
-
--- the rule is that of the first test that the body fails
-abbrev pub FailsBody : List ℕ → Rule → Type 0
-FailsBody body rule = judged (body_conditions body) (login_of body) ≡ Err rule
-
--- the rule of a body's fault
-abbrev pub rule_of_fault : BodyFault → Rule
-rule_of_fault fault.BodyNotJson = BodyNotJson
-rule_of_fault fault.BodyEnvelope = BodyEnvelope
-rule_of_fault fault.BodyField = BodyField
-rule_of_fault fault.UnknownTest = UnknownTest
-rule_of_fault fault.DuplicateTest = DuplicateTest
-rule_of_fault fault.SetMismatch = SetMismatch
-rule_of_fault fault.NoReference = NoReference
-rule_of_fault fault.Memory = Unavailable
 
 -- the account and the step of a login whose body reads, and what that login may act on
 abbrev pub code_use_at : List Account → ℕ → List ℕ → Option CodeUse
@@ -107,7 +90,7 @@ code_use_at accounts moment body = option_and_then (code_use_of accounts moment)
 abbrev pub accepted_login_at : List ℕ → List Account → ℕ → List ℕ → Option AcceptedLogin
 accepted_login_at key accounts moment body = option_and_then (accepted_login_of key accounts moment) (login_of body)
 
--- the tests of a login, in their order
+-- the conditions on a login, in their order
 abbrev pub login_conditions : List ℕ → List Account → ℕ → List ℕ → List (Condition Rule)
 login_conditions key accounts moment body =
     body_conditions body
@@ -115,15 +98,10 @@ login_conditions key accounts moment body =
     ∷ (is_some (accepted_login_at key accounts moment body), RenewalRefused)
     ∷ []
 
--- the entry of a login that passes every test, or the rule of the first that it fails
+-- what a login that breaks no condition may act on, or the rule of the first that it breaks
 abbrev pub login_decision : List ℕ → List Account → ℕ → List ℕ → Result (Option AcceptedLogin) Rule
 login_decision key accounts moment body =
     judged (login_conditions key accounts moment body) (accepted_login_at key accounts moment body)
-
--- the code's answer is that verdict, or that memory was refused
-abbrev pub IsDecided : Result AcceptedLogin Rule → Result (Option AcceptedLogin) Rule → Type 0
-IsDecided (Ok entry) decision = decision ≡ Ok (Some entry)
-IsDecided (Err rule) decision = (rule ≡ Unavailable) ⊎ (decision ≡ Err rule)
 
 -- how long a token lives, in seconds
 abbrev pub token_life : ℕ
@@ -131,13 +109,13 @@ token_life = 1800
 
 -- the claims of a login's new token
 abbrev pub claims_at : AcceptedLogin → ℕ → Claims
-claims_at entry moment = record {
-  account = entry.account;
-  session = entry.session;
+claims_at accepted_login moment = record {
+  account = accepted_login.account;
+  session = accepted_login.session;
   issued = moment;
   expires = moment + token_life;
 }
 
 -- the accounts after an accepted login
 abbrev pub after_login : List Account → AcceptedLogin → List Account
-after_login accounts entry = changed entry.account (with_step entry.step) accounts
+after_login accounts accepted_login = changed accepted_login.account (with_step accepted_login.step) accounts

@@ -6,7 +6,7 @@ use Rattle.httpdate.specs.declared.date.HttpDate.{HttpDate}
 use Rattle.serde_json.specs.Data.{Data, string, object, no_members, member}
 use Rattle.acvp_json.specs.Written.{body_of}
 use Rattle.acvp_policy.specs.declared.rule.Rule.{Rule}
-use Rattle.acvp_policy.specs.declared.rule.Rule.TheVariants.{NoMethod, ClockOutOfRange, Unavailable}
+use Rattle.acvp_policy.specs.declared.rule.Rule.TheVariants.{NoMethod, TokenMissing, TokenMalformed, TokenSignature, TokenClaims, TokenExpired, ClockOutOfRange, Unavailable}
 use Rattle.acvp_policy.specs.Rule.{rule_status, rule_word}
 
 abbrev pub error_object : Rule → Data
@@ -24,9 +24,15 @@ abbrev pub date_line : Option (List ℕ) → List ℕ
 date_line None = []
 date_line (Some date) = line (codes "Date: " ++ date)
 
--- the field that a refusal has beside those of every reply: the path's methods where the method is none of them
+-- the field that a refusal has beside those of every reply: the path's methods where the method is none of them, and with
+-- status 401 how to authenticate (RFC 9110, section 11.6.1; RFC 6750)
 abbrev pub rule_line : Rule → List ℕ
 rule_line NoMethod = line (codes "Allow: POST")
+rule_line TokenMissing = line (codes "WWW-Authenticate: Bearer")
+rule_line TokenMalformed = line (codes "WWW-Authenticate: Bearer")
+rule_line TokenSignature = line (codes "WWW-Authenticate: Bearer")
+rule_line TokenClaims = line (codes "WWW-Authenticate: Bearer")
+rule_line TokenExpired = line (codes "WWW-Authenticate: Bearer")
 rule_line _ = []
 
 -- the head of a reply whose body has this length

@@ -21,15 +21,22 @@ BeginsWith (Some input) text After = (rest : List ℕ) × (input ≡ text ++ res
 abbrev pub TakesInPart : Option (List ℕ) → Option (List ℕ) → List ℕ → Type 0
 TakesInPart input left text = (part : List ℕ) × HasNoEvent part × Consumes input left (text ++ part)
 
--- The reads between these two counts are a thousand million, or more than are counted.
+-- the most events of a run, and the most reads
+abbrev pub most_events : ℕ
+most_events = 100000
+
+abbrev pub most_reads : ℕ
+most_reads = 1000000000
+
+-- The reads between these two counts are as many as there may be, or more than are counted.
 abbrev pub ReadsTooOften : ℕ → ℕ → Type 0
-ReadsTooOften before after = min (before + 1000000000) (2 ^ 64 - 1) ≤ after
+ReadsTooOften before after = min (before + most_reads) (2 ^ 64 - 1) ≤ after
 
 -- The two reasons for Limit: there were 100000 turns, and the known input goes on after their script; or the reads were
 -- too many.
 abbrev pub ReachesLimit : Option (List ℕ) → ℕ → ℕ → List Turn → List ℕ → Type 0
 ReachesLimit input before after turns text =
-    ((length turns ≡ 100000) × BeginsWith input text (λ rest. rest ≢ [])) ⊎ ReadsTooOften before after
+    ((length turns ≡ most_events) × BeginsWith input text (λ rest. rest ≢ [])) ⊎ ReadsTooOften before after
 
 -- How much of the input was taken by a run whose turns have this script, what comes after the script, and how many
 -- turns there are: after 100000 events nothing is read as an event. The reader was read so often before the run and
@@ -38,12 +45,12 @@ abbrev pub StopsAfter : Option (List ℕ) → Option (List ℕ) → ℕ → ℕ 
 StopsAfter input left before after turns text (Ok count) = (count ≡ length turns) × Consumes input left text
     × IsAtEnd left
 StopsAfter input left before after turns text (Err Syntax) =
-    (length turns < 100000) × TakesInPart input left text × BeginsWith input text LeavesGrammar
+    (length turns < most_events) × TakesInPart input left text × BeginsWith input text LeavesGrammar
 StopsAfter input left before after turns text (Err Read) = TakesInPart input left text
 StopsAfter input left before after turns text (Err Write) = Consumes input left text
 StopsAfter input left before after turns text (Err Limit) = TakesInPart input left text
     × ReachesLimit input before after turns text
-StopsAfter input left before after turns text (Err Memory) = (length turns < 100000) × TakesInPart input left text
+StopsAfter input left before after turns text (Err Memory) = (length turns < most_events) × TakesInPart input left text
 
 -- the output of all answers but the last, and a front of the last one's
 abbrev pub WritesInPart : Option (List ℕ) → Option (List ℕ) → List Answer → Type 0
@@ -69,7 +76,7 @@ RunsScript desk accounts input left before after old new result =
     (turns : List Turn) × (answers : List Answer) × (text : List ℕ)
     × Runs desk turns accounts answers × IsScript (events_of turns) text
     × StopsAfter input left before after turns text result × WritesAnswers old new answers result
-    × (length turns ≤ 100000)
+    × (length turns ≤ most_events)
 
 -- whether the answer is that the reader, or the writer, has failed
 abbrev pub is_read_answer : Result ℕ ScriptFault → Bool

@@ -16,10 +16,14 @@ IsNumber n = n < 10 ^ 19
 abbrev pub IsSecretText : List ℕ → List ℕ → Type 0
 IsSecretText text secret = (length text ≡ 64) × (decode_of text ≡ Ok secret)
 
+-- the most bytes of a request in a script
+abbrev pub longest_request : ℕ
+longest_request = 4194304
+
 -- the event is written so
 abbrev pub IsWritten : Event → List ℕ → Type 0
 IsWritten (request moment bytes) text =
-    IsNumber moment × (length bytes ≤ 4194304)
+    IsNumber moment × (length bytes ≤ longest_request)
     × (text ≡ codes "request " ++ decimal moment ++ codes " " ++ decimal (length bytes) ++ codes "\n" ++ bytes
     ++ codes "\n")
 IsWritten (order moment (AddAccount account secret)) text =

@@ -24,10 +24,10 @@ abbrev pub LoginAnswered : DeskState → ℕ → List ℕ → Result (Option Acc
 LoginAnswered desk moment date (Err rule) accounts reply = (accounts ≡ desk.accounts)
     × (reply ≡ refusal (Some date) rule)
 LoginAnswered desk moment date (Ok None) accounts reply = ⊥
-LoginAnswered desk moment date (Ok (Some entry)) accounts reply =
-    (accounts ≡ after_login desk.accounts entry)
+LoginAnswered desk moment date (Ok (Some accepted_login)) accounts reply =
+    (accounts ≡ after_login desk.accounts accepted_login)
     × (reply ≡ framed 200 (Some date) []
-    (body_of (reply_data (Login (token_text desk.keys.token (claims_at entry moment))))))
+    (body_of (reply_data (Login (token_text desk.keys.token (claims_at accepted_login moment))))))
 
 -- what is asked is decided, carried out and answered
 abbrev pub RequestAnswered : DeskState → ℕ → List ℕ → ParsedRequest → List Account → List ℕ → Type 0
@@ -96,12 +96,6 @@ Runs desk [] accounts (answer ∷ answers) = ⊥
 Runs desk (turn ∷ turns) accounts [] = ⊥
 Runs desk (turn ∷ turns) accounts (answer ∷ answers) =
     (next : List Account) × Takes desk turn next answer × Runs (with_accounts desk next) turns accounts answers
-
--- a login is answered, or memory was refused to it
-abbrev pub LoginTaken : DeskState → ℕ → List ℕ → List ℕ → List Account → List ℕ → Type 0
-LoginTaken desk moment date body accounts reply =
-    LoginAnswered desk moment date (login_decision desk.keys.token desk.accounts moment body) accounts reply
-    ⊎ ((accounts ≡ desk.accounts) × (reply ≡ refusal None UnavailableRule))
 
 -- a request is served, or it is unavailable
 abbrev pub RequestTaken : DeskState → ℕ → List ℕ → List Account → List ℕ → Type 0

@@ -1,6 +1,7 @@
 //! The desk: the server's keys and its records.
 ghost use Rattle.std.specs.Prelude.{◌≡◌, ◌<◌, ◌⊎◌, [], None, Some};
-ghost use Rattle.acvp_http.specs.Serve.{end_of_moments, LoginTaken};
+ghost use Rattle.acvp_http.specs.Serve.{end_of_moments};
+ghost use Rattle.acvp_http.specs.Private.Turns.{LoginTaken};
 ghost use Rattle.acvp_http.specs.Records.{AreAccounts, IsOrder, OrderAnswered};
 
 use crate::login::{decide, token_reply};
@@ -49,13 +50,13 @@ impl Desk {
         ensures keys { self.new.keys ≡ self.old.keys }
         ensures taken { LoginTaken self.old moment date.now body.now self.new.accounts result }
     {
-        let entry = match decide(alloc, &self.keys.token, &self.accounts, moment, body) {
-            Ok(entry) => entry,
+        let login = match decide(alloc, &self.keys.token, &self.accounts, moment, body) {
+            Ok(login) => login,
             Err(rule) => return Reply::refusal(Some(date), rule),
         };
-        match token_reply(alloc, &self.keys.token, date, moment, entry) {
+        match token_reply(alloc, &self.keys.token, date, moment, login) {
             Ok(reply) => {
-                self.accounts.use_step(entry.account, entry.step);
+                self.accounts.use_step(login.account, login.step);
                 reply
             }
             Err(_) => Reply::refusal(None, Rule::Unavailable),

@@ -3,7 +3,7 @@ ghost use Rattle.std.specs.Prelude.{◌≡◌, ◌≤◌, ◌<◌, ◌∷◌, �
 ghost use Rattle.std.specs.List.{list_all};
 ghost use Rattle.std.specs.Str.{str_eq_ignore_ascii_case, bytes_eq};
 ghost use Rattle.httparse.specs.Spans.{span_bytes, header_bytes, IsWithin, IsHeaderWithin};
-ghost use Rattle.acvp_http.specs.Asks.{values_of, same_number, first_number, lengths_agree, needs_length, hosts_fit, body_length, is_nil, framing_conditions, body_size};
+ghost use Rattle.acvp_http.specs.Asks.{values_of, same_number, first_number, lengths_agree, needs_length, hosts_fit, body_length, is_nil, framing_conditions, body_limit, body_size};
 ghost use Rattle.acvp_mac.specs.Conditions.{judged};
 ghost use Rattle.acvp_registry.specs.Number.{digits_number_of};
 
@@ -199,7 +199,7 @@ fn told_size(
 /// The body's size, where its length was told: it may be so long, the version may have so many Host fields, and so many
 /// bytes follow the head.
 fn fitting_size(size: u64, minor: u8, hosts: usize, available: usize) -> Result<usize, Rule>
-    ensures value { result ≡ judged ((nat_le size 2097152, Rule.BodyTooLarge)
+    ensures value { result ≡ judged ((nat_le size body_limit, Rule.BodyTooLarge)
         ∷ (hosts_fit minor hosts, Rule.HostMissing)
         ∷ (nat_le size available, Rule.Truncated)
         ∷ []) size }

@@ -4,7 +4,9 @@ ghost use Rattle.acvp_json.specs.ReplyData.{reply_data};
 ghost use Rattle.acvp_json.specs.Written.{body_of};
 ghost use Rattle.acvp_json.specs.declared.reply_object.ReplyObject.TheVariants.{Login};
 ghost use Rattle.acvp_token.specs.TokenText.{token_text};
-ghost use Rattle.acvp_http.specs.Login.{password_of, account_of, code_use_of, is_session_of, renewed_session, login_of, rule_of_fault, FailsBody, login_decision, IsDecided, claims_at};
+ghost use Rattle.acvp_http.specs.Login.{password_of, account_of, code_use_of, is_session_of, renewed_session, login_of, login_decision, claims_at};
+ghost use Rattle.acvp_http.specs.Private.LoginRules.{rule_of_fault, FailsBody};
+ghost use Rattle.acvp_mac.specs.Conditions.{IsJudged};
 ghost use Rattle.acvp_http.specs.Reply.{framed};
 ghost use Rattle.acvp_http.specs.Serve.{end_of_moments};
 
@@ -117,7 +119,7 @@ fn rule_of(fault: BodyFault) -> Rule
     }
 }
 
-/// What the body of a login says, or the rule of the first of its tests that it fails, or that memory was refused.
+/// What the body of a login says, or the rule of the first condition that it breaks, or that memory was refused.
 fn login_body(alloc: Global, body: &[u8]) -> Result<LoginBody, Rule>
     ensures { MatchResult result (λ login. login_of body.now ≡ Some login)
         (λ rule. (rule ≡ Rule.Unavailable) ⊎ FailsBody body.now rule) }
@@ -132,7 +134,7 @@ fn login_body(alloc: Global, body: &[u8]) -> Result<LoginBody, Rule>
     }
 }
 
-/// The entry of a login that passes every test, or the rule of the first that it fails, or that memory
+/// What a login that breaks no condition may act on, or the rule of the first that it breaks, or that memory
 /// was refused.
 pub(crate) fn decide(
     alloc: Global,
@@ -141,7 +143,7 @@ pub(crate) fn decide(
     moment: u64,
     body: &[u8],
 ) -> Result<AcceptedLogin, Rule>
-    ensures { IsDecided result (login_decision key.now accounts.now moment body.now) }
+    ensures { IsJudged Rule.Unavailable (λ login. Some login) (login_decision key.now accounts.now moment body.now) result }
 {
     let login = login_body(alloc, body)?;
     let Some(used) = code_use_of(accounts, moment, &login) else {
@@ -161,16 +163,16 @@ pub(crate) fn token_reply(
     key: &[u8; 32],
     date: &[u8; 29],
     moment: u64,
-    entry: AcceptedLogin,
+    accepted_login: AcceptedLogin,
 ) -> Result<Reply, AllocError>
     requires { moment < end_of_moments }
     ensures { IfOk result
         (λ reply. reply ≡ framed 200 (Some date.now) []
-        (body_of (reply_data (Login (token_text key.now (claims_at entry moment)))))) }
+        (body_of (reply_data (Login (token_text key.now (claims_at accepted_login moment)))))) }
 {
     let claims = Claims {
-        account: entry.account,
-        session: entry.session,
+        account: accepted_login.account,
+        session: accepted_login.session,
         issued: moment,
         expires: moment + TOKEN_LIFE,
     };

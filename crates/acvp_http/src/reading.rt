@@ -121,7 +121,7 @@ fn read_request_bytes<S: Source>(
         (λ fault. StopsBody length (S.held reader.old) fault (S.failed reader.new) (S.reads reader.new) limit
         × TakesPart (S.held reader.old) (S.held reader.new) (HasNoBody length)) }
 {
-    let mut bytes = vec![in alloc; 0; length as usize].map_err(|_| ScriptFault::Memory)?;
+    let mut bytes = vec![in alloc; 0; length as usize]?;
     fill(reader, limit, &mut bytes)?;
     match read_byte(reader, limit)? {
         Some(b'\n') => Ok(bytes),

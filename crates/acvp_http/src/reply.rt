@@ -69,6 +69,9 @@ fn head(status: u16, date: Option<&[u8; 29]>, extra_fields: &[u8], body_length: 
     text
 }
 
+/// The field of a reply with status 401.
+const AUTHENTICATE: &[u8] = b"WWW-Authenticate: Bearer\r\n";
+
 /// The fields that a refusal has beside those of every reply.
 fn extra_fields(rule: Rule) -> &'static [u8]
     ensures value { result.now ≡ rule_line rule }
@@ -76,6 +79,8 @@ fn extra_fields(rule: Rule) -> &'static [u8]
 {
     match rule {
         Rule::NoMethod => b"Allow: POST\r\n",
+        Rule::TokenMissing | Rule::TokenMalformed | Rule::TokenSignature => AUTHENTICATE,
+        Rule::TokenClaims | Rule::TokenExpired => AUTHENTICATE,
         _ => b"",
     }
 }

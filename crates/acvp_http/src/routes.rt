@@ -29,7 +29,7 @@ pub struct Routes {
 
 impl Model for Routes {
     ghost use Rattle.std.specs.Prelude.{Bool, true, ◌≡◌};
-    ghost use Rattle.acvp_http.specs.Paths.{table};
+    ghost use Rattle.acvp_http.specs.Private.Paths.{table};
 
     ghost Value = { Bool };
 

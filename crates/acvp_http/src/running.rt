@@ -1,6 +1,7 @@
 //! A script from its bytes to the bytes of the replies.
 ghost use Rattle.std.specs.Prelude.{◌≡◌, Bool, false};
-ghost use Rattle.acvp_http.specs.Event.{Answer, CanHappen};
+ghost use Rattle.acvp_http.specs.Event.{Answer};
+ghost use Rattle.acvp_http.specs.Private.Turns.{CanHappen};
 ghost use Rattle.acvp_http.specs.Private.Reading.{event_of};
 ghost use Rattle.acvp_http.specs.Run.{RunsScript, is_read_answer, is_write_answer};
 ghost use Rattle.acvp_http.specs.Script.{answer_text};

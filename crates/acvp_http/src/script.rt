@@ -5,9 +5,11 @@ ghost use Rattle.acvp_http.specs.Records.{IsAccountNumber};
 ghost use Rattle.acvp_http.specs.Private.Lines.{Lacks, IsMoment, IsRequestTail, IsAddTail, IsDisableTail, IsLine, command_word};
 ghost use Rattle.acvp_http.specs.declared.script.Line.{Line};
 ghost use Rattle.acvp_http.specs.declared.script.Command.{Command};
+ghost use Rattle.acvp_http.specs.declared.script.ScriptFault.TheVariants.{Memory};
 
 use crate::records::Order;
 use acvp_registry::plain_number;
+use std::alloc::AllocError;
 
 const REQUEST: &[u8] = b"request";
 
@@ -19,19 +21,28 @@ const GREATEST_ACCOUNT: u64 = 9999;
 
 const LONGEST_REQUEST: u64 = 4194304;
 
-/// Why the run of a script has stopped before its end.
+/// Why the run of a script has stopped before its end. None of them is a rule of refusal: the program prints each as
+/// `fault: ` and its word.
 #[derive(Clone, Copy, PartialEq, Eq, Debug)]
 pub enum ScriptFault {
-    /// The reader has failed.
+    /// 1: the reader has failed.
     Read,
-    /// The writer has failed.
+    /// 2: the writer has failed.
     Write,
-    /// The input isn't a script.
+    /// 3: the input isn't a script.
     Syntax,
-    /// The input has more than 100000 events, or took 1000000000 reads.
+    /// 4: the input has more than 100000 events, or took 1000000000 reads.
     Limit,
-    /// Memory was refused for a request's bytes.
+    /// 5: memory was refused for a request's bytes.
     Memory,
+}
+
+impl From<AllocError> for ScriptFault {
+    ghost from_gives = { λ _ fault. fault ≡ Memory };
+
+    fn from(_: AllocError) -> ScriptFault {
+        ScriptFault::Memory
+    }
 }
 
 /// What a line of a script says. The bytes of a request come after its line.

@@ -4,9 +4,9 @@ ghost use Rattle.acvp_http.specs.Event.{request, replied};
 ghost use Rattle.acvp_http.specs.Reply.{IsDateOf};
 ghost use Rattle.acvp_http.specs.Serve.{end_of_moments, Takes, RequestTaken};
 
-use crate::ask::ask;
 use crate::desk::Desk;
 use crate::reply::Reply;
+use crate::request::parse_request;
 use crate::routes::Routes;
 use acvp_policy::Rule;
 use httpdate::HttpDate;
@@ -42,7 +42,7 @@ pub fn handle_bytes(
         return Reply::refusal(None, Rule::ClockOutOfRange);
     }
     let date = date_of(moment);
-    match ask(routes, bytes) {
+    match parse_request(routes, bytes) {
         Ok(body) => desk.log_in(alloc, moment, &date, body),
         Err(rule) => Reply::refusal(Some(&date), rule),
     }

@@ -9,7 +9,7 @@ use Rattle.acvp_json.specs.declared.fault.BodyFault.TheVariants.{Memory}
 use Rattle.acvp_json.specs.AnswersBody.{Given, given_conditions, answer_given, placed}
 use Rattle.acvp_caps.specs.Conditions.{judged}
 
--- the answers after one that is given, or the fault of the first of its tests that fails
+-- the answers after one that is given, or the fault of the first condition that it breaks
 abbrev pub after_given : PromptsValue → List Answer → Given → Result (List Answer) BodyFault
 after_given prompts answers given =
     judged (given_conditions prompts (keys_of answers) given)

@@ -7,7 +7,7 @@ returns-in-Ok-token_reply-clause-taken c =
     taken_accepted c.args.self.now (record {
       keys = c.self.inside.keys;
       accounts = c.self.inside.accounts;
-    }) c.args.moment c.args.date.now c.args.body.now c.in-Ok.entry
+    }) c.args.moment c.args.date.now c.args.body.now c.in-Ok.login
     c.use_step.new.self c.in-Ok-token_reply.reply
     (sym c.self.view_is) c.in-Ok.ensures c.use_step.ensures c.in-Ok-token_reply.ensures
 

@@ -2,7 +2,7 @@ use Rattle.std.proofs.Common.{inl, inr, ap, ◌≡◌, ◌==◌, ◌∙◌, ℕ,
 use Rattle.std.proofs.lemmas.List.{take_rest}
 use Rattle.std.proofs.lemmas.Bool.Decides.{nat_tests}
 use Rattle.acvp_http.specs.Asks.{window}
-use Rattle.acvp_http.proofs.ask.ask.Goals as goal
+use Rattle.acvp_http.proofs.request.parse_request.Goals as goal
 
 -- a text of another length than n
 other_length : (text same : List ℕ) (n : ℕ) → text ≡ same → (length text ≡ n → ⊥) → (length same == n) ≡ false

@@ -61,7 +61,7 @@ fn window_of(bytes: &[u8]) -> &[u8]
 }
 
 /// What an input asks: a login with this body, or the rule that is broken before anyone is looked at.
-pub(crate) fn ask<'a>(routes: &Routes, bytes: &'a [u8]) -> Result<&'a [u8], Rule>
+pub(crate) fn parse_request<'a>(routes: &Routes, bytes: &'a [u8]) -> Result<&'a [u8], Rule>
     ensures { Asks bytes.now (parsed_of result) }
 {
     let window = window_of(bytes);

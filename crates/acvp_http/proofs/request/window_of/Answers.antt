@@ -1,7 +1,7 @@
 use Rattle.std.proofs.Common.{sym, arith, refl}
 use Rattle.std.proofs.lemmas.List.{length-take-le, take_all}
 use Rattle.acvp_http.specs.Asks.{window}
-use Rattle.acvp_http.proofs.ask.window_of.Goals as goal
+use Rattle.acvp_http.proofs.request.window_of.Goals as goal
 
 pub slice_bounds-result-end : goal.slice_bounds-result-end
 slice_bounds-result-end c = sym (length-take-le 16384 c.args.bytes.now (omega arith))
