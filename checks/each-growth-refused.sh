@@ -1,5 +1,5 @@
 #!/usr/bin/env bash
-# Builds the program and runs a script with each growth of its memory refused in turn.
+# Runs a script by the proved program with each growth of its memory refused in turn.
 set -eu
 cd "$(dirname "$0")/.."
 for tool in cc python3; do

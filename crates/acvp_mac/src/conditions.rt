@@ -1,4 +1,4 @@
-//! Laws on conditions in their order (`specs/Conditions.antt`), which every crate's refusals are stated by.
+//! Laws on conditions in their order (`specs/Conditions.antt`), by which the crates above state their refusals.
 ghost use Rattle.std.specs.Prelude.{◌≡◌, List, ◌++◌, map, option_map};
 ghost use Rattle.std.specs.Option.{option_or};
 ghost use Rattle.acvp_mac.specs.Conditions.{Condition, first_broken, with_fault};
