@@ -3,3 +3,4 @@ pub mod AnswerLemmas
 pub mod MonteCarloLemmas
 pub mod TurnLemmas
 pub mod StandardLemmas
+pub mod VerdictTextLemmas

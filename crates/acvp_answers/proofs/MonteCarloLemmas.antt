@@ -1,66 +1,47 @@
--- Lemmas on the members of a turn, kept as byte vectors.
-use Rattle.std.proofs.Common.{◌≡◌, ℕ, zero, suc, ◌+◌, ◌-◌, ◌<◌, ◌≤◌, List, [], ◌∷◌, ◌++◌, length, take, drop, map, string_bytes, String, refl, append_assoc, ap, sym, ◌∙◌, arith, length-append, length-drop}
+-- Lemmas on the members of a turn, of which the last three are kept, and on checkpoints.
+use Rattle.std.proofs.Common.{◌≡◌, ℕ, zero, suc, ◌+◌, ◌-◌, ◌<◌, ◌≤◌, List, [], ◌∷◌, ◌++◌, length, map, string_bytes, String, refl, append_assoc, ap, sym, ◌∙◌, arith, length-append}
 use Rattle.std.specs.Fn.{iterate}
-use Rattle.std.specs.List.{concat, flat_map, drop-map}
-use Rattle.std.specs.Prelude.{Vec, vec_items}
 use Rattle.std.specs.Global.{Global}
-use Rattle.std.proofs.lemmas.List.{length-map, map-append, take_all, append-nil}
+use Rattle.std.specs.List.{concat}
+use Rattle.std.proofs.Math.Seq.{drop-append_seam}
+use Rattle.std.proofs.lemmas.List.{map-append, append-nil, get_or-append-add}
 use Rattle.hex.specs.Hex.{encode_lower}
-use Rattle.acvp_answers.specs.MonteCarlo.{next_of, extended, members_of, turn, checkpoints}
-
--- byte vectors
-abbrev pub Members : Type 0
-Members = List (Vec ℕ Global)
+use Rattle.acvp_answers.specs.MonteCarlo.{next_of, extended, last_of, turn, checkpoints}
+use Rattle.acvp_answers.specs.Private.Ending.{EndsIn}
 
 pub iterate-suc : {A : Type 0} (h : A → A) (n : ℕ) (x : A) → iterate h (suc n) x ≡ h (iterate h n x)
 iterate-suc h zero x = refl
 iterate-suc h (suc n) x = iterate-suc h n (h x)
 
+-- the hash of the last three members, joined
+pub next_of_ends : (hash : List ℕ → List ℕ) (members : List (List ℕ)) (a b c : List ℕ) → EndsIn members a b c
+    → next_of hash members ≡ hash (a ++ b ++ c)
+next_of_ends hash members a b c ends =
+    let front = ends.0 in
+    let place : length (front ++ a ∷ b ∷ c ∷ []) - 3 ≡ length front =
+    omega (arith, length-append front (a ∷ b ∷ c ∷ [])) in
+    let joined : concat (a ∷ b ∷ c ∷ []) ≡ a ++ b ++ c =
+    ap (λ end. a ++ (b ++ end)) (append-nil c) ∙ sym (append_assoc a b c) in
+    rw (ends.1, place, drop-append_seam front (a ∷ b ∷ c ∷ [])) (ap (λ bytes. hash bytes) joined)
+
 -- one member more
-pub members_of-more : (hash : List ℕ → List ℕ) (seed : List ℕ) (n : ℕ)
-    → members_of hash seed (n + 1) ≡ extended hash (members_of hash seed n)
-unfolding members_of
-members_of-more hash seed n =
-    let next : n + 1 ≡ suc n = omega arith in
-    rw next (iterate-suc (extended hash) n (seed ∷ seed ∷ seed ∷ []))
+pub ends_more : (hash : List ℕ → List ℕ) (members : List (List ℕ)) (a b c : List ℕ) → EndsIn members a b c
+    → EndsIn (extended hash members) b c (hash (a ++ b ++ c))
+ends_more hash members a b c ends =
+    let next = next_of_ends hash members a b c ends in
+    let whole : extended hash members ≡ (ends.0 ++ a ∷ []) ++ b ∷ c ∷ hash (a ++ b ++ c) ∷ [] =
+    ap (λ x. members ++ x ∷ []) next ∙ ap (λ ms. ms ++ hash (a ++ b ++ c) ∷ []) ends.1
+    ∙ append_assoc ends.0 (a ∷ b ∷ c ∷ []) (hash (a ++ b ++ c) ∷ [])
+    ∙ sym (append_assoc ends.0 (a ∷ []) (b ∷ c ∷ hash (a ++ b ++ c) ∷ [])) in
+    (ends.0 ++ a ∷ [], whole)
 
--- there are some
-pub members_of-some : (hash : List ℕ → List ℕ) (seed : List ℕ) (n : ℕ) → 0 < length (members_of hash seed n)
-unfolding members_of
-members_of-some hash seed zero = omega arith
-members_of-some hash seed (suc n) =
-    let more = iterate-suc (extended hash) n (seed ∷ seed ∷ seed ∷ []) in
-    rw more (omega (
-      arith,
-      length-append (iterate (extended hash) n (seed ∷ seed ∷ seed ∷ []))
-          (next_of hash (iterate (extended hash) n (seed ∷ seed ∷ seed ∷ [])) ∷ []),
-    ))
-
-pub joined : (ms : Members) → flat_map vec_items ms ≡ concat (map vec_items ms)
-joined [] = refl
-joined (m ∷ ms) = ap (λ bytes. m.items ++ bytes) (joined ms)
-
--- the last three members, joined
-pub joined_last : (ms : Members) (start : ℕ) → start ≡ length ms - 3 →
-    flat_map vec_items (take (length ms - start) (drop start ms))
-    ≡ concat (drop (length (map vec_items ms) - 3) (map vec_items ms))
-joined_last ms start is =
-    let whole : take (length ms - start) (drop start ms) ≡ drop start ms =
-    take_all (length ms - start) (drop start ms) (omega (arith, length-drop start ms)) in
-    rw whole (joined (drop start ms) ∙ rw (length-map ms vec_items, ← is, drop-map vec_items start ms) refl)
-
--- the members kept, and one more
-pub kept_more : (hash : List ℕ → List ℕ) (seed : List ℕ) (n : ℕ) (ms : Members) (m : Vec ℕ Global)
-    → map vec_items ms ≡ members_of hash seed n → m.items ≡ next_of hash (map vec_items ms) →
-    map vec_items (ms ++ m ∷ []) ≡ members_of hash seed (n + 1)
-kept_more hash seed n ms m kept next =
-    map-append vec_items ms (m ∷ []) ∙ ap (λ item. map vec_items ms ++ item ∷ []) next
-    ∙ ap (λ members. extended hash members) kept ∙ sym (members_of-more hash seed n)
-
--- members are kept
-pub kept_some : (hash : List ℕ → List ℕ) (seed : List ℕ) (n : ℕ) (ms : Members)
-    → map vec_items ms ≡ members_of hash seed n → 0 < length ms
-kept_some hash seed n ms kept = omega (arith, members_of-some hash seed n, ap length kept, length-map ms vec_items)
+-- the last one
+pub last_of_ends : (members : List (List ℕ)) (a b c : List ℕ) → EndsIn members a b c → c ≡ last_of members
+last_of_ends members a b c ends =
+    let front = ends.0 in
+    let place : length (front ++ a ∷ b ∷ c ∷ []) - 1 ≡ length front + 2 =
+    omega (arith, length-append front (a ∷ b ∷ c ∷ [])) in
+    rw (ends.1, place) (sym (get_or-append-add front (a ∷ b ∷ c ∷ []) 2 []))
 
 -- the checkpoints written, and one more
 pub written_more : (hash : List ℕ → List ℕ) (seed : List ℕ) (turns i : ℕ) (texts : List (String Global))

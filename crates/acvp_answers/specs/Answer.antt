@@ -1,6 +1,6 @@
 -- Answers to tests: each a test's number and the texts that answer it.
-use Rattle.std.specs.Prelude.{ℕ, ◌==◌, List, map, string_bytes, Vec, String, Bool}
-use Rattle.std.specs.List.{list_any}
+use Rattle.std.specs.Prelude.{◌≡◌, ℕ, ◌==◌, List, length, map, string_bytes, Vec, String, Bool}
+use Rattle.std.specs.List.{list_any, range_with_len}
 use Rattle.std.specs.Global.{Global}
 use Rattle.std.specs.Map.{keys_of}
 use Rattle.std.specs.Ordering.{nat_cmp}
@@ -13,6 +13,10 @@ Answer = ℕ × List (List ℕ)
 -- the answers ascend by their numbers, each of which stands once
 abbrev pub AreAscending : List Answer → Type 0
 AreAscending answers = IsStrictlySortedBy nat_cmp (keys_of answers)
+
+-- the answers are numbered from 1 on without gaps, so that a place tells its test's number
+abbrev pub AreWithoutGaps : List Answer → Type 0
+AreWithoutGaps answers = keys_of answers ≡ range_with_len 1 (length answers)
 
 -- whether the test of a number is answered
 abbrev pub is_answered : List Answer → ℕ → Bool

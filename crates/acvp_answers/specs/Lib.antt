@@ -2,6 +2,8 @@ pub mod Answer
 pub mod MonteCarlo
 pub mod Standards
 pub mod Verdicts
+pub mod VerdictText
+pub mod Private
 pub use Rattle.acvp_gen.specs.Prompt
 pub use Rattle.acvp_gen.specs.Prompts
 pub use Rattle.acvp_mac.specs.Hash

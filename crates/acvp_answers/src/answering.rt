@@ -2,8 +2,8 @@
 
 ghost use Rattle.std.specs.Prelude.{◌≡◌, ◌≤◌, ◌+◌, ◌*◌, ◌++◌, IfOk, IfSome, length, map, string_bytes};
 ghost use Rattle.std.specs.List.{range_with_len};
-ghost use Rattle.std.specs.Map.{keys_of};
 ghost use Rattle.acvp_mac.specs.Hash.{out_of};
+ghost use Rattle.acvp_answers.specs.Answer.{AreWithoutGaps};
 ghost use Rattle.acvp_answers.specs.Standards as standards;
 
 use crate::answers::Answers;
@@ -43,12 +43,12 @@ fn answer_group(
     name: HashName,
     group: &Group,
 ) -> Result<(), AllocError>
-    requires before { keys_of answers.now ≡ range_with_len 1 (length answers.now) }
+    requires before { AreWithoutGaps answers.now }
     requires next { map (λ t. t.number) group.now.tests ≡ range_with_len (length answers.now + 1)
         (length group.now.tests) }
     requires sized { IfSome group.now.sizes (λ s. s.mac_bits ≤ 8 * out_of name) }
     ensures value { IfOk result (λ _. answers.new ≡ answers.old ++ standards.group_answers name group.now) }
-    ensures before { IfOk result (λ _. keys_of answers.new ≡ range_with_len 1 (length answers.new)) }
+    ensures before { IfOk result (λ _. AreWithoutGaps answers.new) }
 {
     for test in group.tests() {
         let texts = texts_on(alloc, name, group, test)?;
@@ -61,7 +61,8 @@ fn answer_group(
 /// its HMAC (FIPS 198-1), or a hundred checkpoints (NIST, The Secure Hash Algorithm Validation System, section 6.4), as
 /// hex digits in lower case.
 pub fn standard(alloc: Global, prompts: &Prompts) -> Result<Answers, AllocError>
-    ensures { IfOk result (λ answers. answers ≡ standards.standard_of prompts.now) }
+    ensures value { IfOk result (λ answers. answers ≡ standards.standard_of prompts.now) }
+    ensures numbered { IfOk result AreWithoutGaps }
 {
     let mut answers = Answers::new(alloc);
     let name = prompts.algorithm().hash();

@@ -1,5 +1,5 @@
 //! The comparison of answers with the standard's.
-ghost use Rattle.std.specs.Prelude.{◌≡◌, IfOk, map, option_map, string_bytes};
+ghost use Rattle.std.specs.Prelude.{◌≡◌, IfOk, length, map, option_map, string_bytes};
 ghost use Rattle.acvp_answers.specs.Verdicts.{is_lowered_to, are_lowered_to, verdict_on, verdicts_of, disposition_of};
 
 use crate::answers::Answers;
@@ -52,7 +52,8 @@ fn verdict_on(given: Option<&Vec<String>>, wanted: &[String]) -> Verdict
 
 /// The verdicts on the tests that the standard answers, in the order of their numbers.
 pub fn grade(alloc: Global, standard: &Answers, given: &Answers) -> Result<Vec<Verdict>, AllocError>
-    ensures { IfOk result (λ verdicts. verdicts.items ≡ verdicts_of standard.now given.now) }
+    ensures value { IfOk result (λ verdicts. verdicts.items ≡ verdicts_of standard.now given.now) }
+    ensures count { IfOk result (λ verdicts. length verdicts.items ≡ length standard.now) }
 {
     let mut verdicts = Vec::with_capacity(alloc, standard.len())?;
     for (number, wanted) in standard.texts.iter() {

@@ -9,9 +9,13 @@ mod monte_carlo;
 mod tests;
 mod texts;
 mod verdict;
+mod verdict_text;
 
 pub use answering::standard;
 pub use answers::Answers;
 pub use grading::{disposition, grade};
 pub use monte_carlo::turn_is_the_standards;
 pub use verdict::{Disposition, Verdict};
+pub use verdict_text::{
+    TextFault, verdict_texts_read_one_way, verdicts_from_text, verdicts_to_text,
+};

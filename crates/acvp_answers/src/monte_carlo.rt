@@ -1,57 +1,53 @@
 //! The Monte Carlo test of a hash function (NIST, The Secure Hash Algorithm Validation System, section 6.4).
-ghost use Rattle.std.specs.Prelude.{◌≡◌, ℕ, ◌<◌, IfOk, List, length, map, vec_items};
+ghost use Rattle.std.specs.Prelude.{◌≡◌, ℕ, ◌++◌, List};
+ghost use Rattle.std.specs.Fn.{iterate};
 ghost use Rattle.acvp_mac.specs.Hash.{digest_of};
-ghost use Rattle.acvp_answers.specs.MonteCarlo.{AreMembers, last_of, members_of, next_of, turn as turn_of};
+ghost use Rattle.acvp_answers.specs.MonteCarlo.{AreMembers, extended, last_of, turn as turn_of};
+ghost use Rattle.acvp_answers.specs.Private.Ending.{EndsIn};
 
-use acvp_mac::{HashName, hash};
-use std::alloc::{AllocError, Global};
+use acvp_mac::{Digest, HashName, hash_pieces};
 
 /// How often a turn hashes.
 const HASHES: usize = 1000;
 
-/// The hash of the last three members, joined.
-fn next_member(alloc: Global, name: HashName, members: &[Vec<u8>]) -> Result<Vec<u8>, AllocError>
-    ensures { IfOk result (λ member. member.items ≡ next_of (digest_of name) (map vec_items members.now)) }
+/// The hash of three members, joined.
+fn next_member(name: HashName, first: &[u8], second: &[u8], third: &[u8]) -> Digest
+    ensures { result ≡ digest_of name (first.now ++ second.now ++ third.now) }
 {
-    let message = members[members.len().saturating_sub(3)..].concat(alloc)?;
-    Vec::from_slice(alloc, hash(name, &message).as_slice())
+    hash_pieces(name, &[first, second, third])
 }
 
-/// The seed three times, and so many further members.
-fn members_from(
-    alloc: Global,
+/// The member so many places after three others: of the members, the last three are all that is kept.
+fn later_member(
     name: HashName,
-    seed: &[u8],
-    further: usize,
-) -> Result<Vec<Vec<u8>>, AllocError>
-    ensures { IfOk result (λ members. map vec_items members.items ≡ members_of (digest_of name) seed.now further) }
+    first: Digest,
+    second: Digest,
+    third: Digest,
+    places: usize,
+) -> Digest
+    ensures { (members : List (List ℕ)) → EndsIn members first second third
+        → result ≡ last_of (iterate (extended (digest_of name)) places members) }
 {
-    let mut members = Vec::new(alloc);
-    members.push(Vec::from_slice(alloc, seed)?)?;
-    members.push(Vec::from_slice(alloc, seed)?)?;
-    members.push(Vec::from_slice(alloc, seed)?)?;
-    for _ in 0..further {
-        members.push(next_member(alloc, name, &members)?)?;
+    let mut first = first;
+    let mut second = second;
+    let mut third = third;
+    for _ in 0..places {
+        let next = next_member(name, first.as_slice(), second.as_slice(), third.as_slice());
+        first = second;
+        second = third;
+        third = next;
     }
-    Ok(members)
+    third
 }
 
-/// The last of the members.
-fn last_member(mut members: Vec<Vec<u8>>) -> Vec<u8>
-    requires { 0 < length members.items }
-    ensures { result.items ≡ last_of (map vec_items members.items) }
+/// One turn: the last of the 1003 members that the seed begins. It takes no memory.
+pub(crate) fn turn(name: HashName, seed: &[u8]) -> Digest
+    ensures { result ≡ turn_of (digest_of name) seed.now }
 {
-    match members.pop() {
-        Some(member) => member,
-        None => unreachable!(),
-    }
-}
-
-/// One turn: the last of the 1003 members that the seed begins.
-pub(crate) fn turn(alloc: Global, name: HashName, seed: &[u8]) -> Result<Vec<u8>, AllocError>
-    ensures { IfOk result (λ digest. digest.items ≡ turn_of (digest_of name) seed.now) }
-{
-    Ok(last_member(members_from(alloc, name, seed, HASHES)?))
+    let first = next_member(name, seed, seed, seed);
+    let second = next_member(name, seed, seed, first.as_slice());
+    let third = next_member(name, seed, first.as_slice(), second.as_slice());
+    later_member(name, first, second, third, HASHES - 3)
 }
 
 /// The definition of a turn is what it says: one list is as the standard describes the members that a seed begins, and

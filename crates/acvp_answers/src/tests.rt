@@ -1,7 +1,10 @@
-//! Answers against the standard's; the digest of the empty message is as NIST and every other program have it.
+//! Answers against the standard's; the digest of the empty message is NIST's.
 
-use crate::{Answers, Disposition, Verdict, disposition, grade, standard};
-use acvp_gen::{CapFault, Capability, Prompts, prompts};
+use crate::{
+    Answers, Disposition, TextFault, Verdict, disposition, grade, standard, verdicts_from_text,
+    verdicts_to_text,
+};
+use acvp_gen::{Algorithm, CapFault, Capability, Prompts, prompts};
 use std::alloc::{AllocError, Global};
 use std::process::Abort;
 use std::test::Fail;
@@ -95,6 +98,27 @@ fn a_failed_test_weighs_more_than_a_missing_one(rt: HostRuntime) {
         assert_eq!(rt; disposition(&verdicts), wanted);
     }
     assert_eq!(rt; disposition(&[]), Disposition::Passed);
+}
+
+#[test]
+fn verdicts_are_kept_by_their_letters(rt: HostRuntime) -> Result<(), Fail> {
+    let alloc = rt.alloc();
+    let verdicts = [Verdict::Passed, Verdict::Missing, Verdict::Fail];
+    assert_eq!(rt; verdicts_to_text(alloc, &verdicts)?.as_str(), "pmf");
+    assert_eq!(rt; verdicts_to_text(alloc, &[])?.as_str(), "");
+    let read = verdicts_from_text(alloc, "pmf").map_err(|_| "not read")?;
+    assert_eq!(rt; read.as_slice(), verdicts.as_slice());
+    Ok(())
+}
+
+#[test]
+fn no_other_letter_is_a_verdict(rt: HostRuntime) {
+    for text in ["pmx", "P", "p ", "\u{e9}"] {
+        let read = verdicts_from_text(rt.alloc(), text);
+        assert!(rt; matches!(&read, Err(TextFault::Letter)), "at {text}");
+    }
+    let none = verdicts_from_text(rt.alloc(), "");
+    assert!(rt; matches!(&none, Ok(verdicts) if verdicts.is_empty()));
 }
 
 const ZERO: [u8; 32] = [0; 32];
@@ -237,6 +261,50 @@ fn ninety_nine_checkpoints_fail_and_one_too_many_too(rt: HostRuntime) -> Result<
             assert_eq!(rt; *verdict, Verdict::Missing);
         }
         assert_eq!(rt; verdicts.last(), Some(&verdict));
+    }
+    Ok(())
+}
+
+#[test]
+fn a_test_left_out_is_a_letter_of_its_own(rt: HostRuntime) -> Result<(), Fail> {
+    let alloc = rt.alloc();
+    let text =
+        r#"{"algorithm":"SHA2-256","revision":"1.0","messageLength":[{"min":0,"max":1024,"increment":8}]}"#;
+    let standard = standard_of(alloc, &ZERO, 0, text)?;
+    let mut given = Answers::new(alloc);
+    for number in 1..25 {
+        let digest = standard
+            .texts_for(number)
+            .and_then(<[String]>::first)
+            .ok_or("no digest")?;
+        given.insert(number, texts(alloc, digest.as_str(), 1)?)?;
+    }
+    let verdicts = grade(alloc, &standard, &given)?;
+    let kept = verdicts_to_text(alloc, &verdicts)?;
+    assert_eq!(rt; kept.as_str(), "ppppppppppppppppppppppppm");
+    assert_eq!(rt; disposition(&verdicts), Disposition::Missing);
+    let read = verdicts_from_text(alloc, kept.as_str()).map_err(|_| "not read")?;
+    assert_eq!(rt; read.as_slice(), verdicts.as_slice());
+    Ok(())
+}
+
+// How many tests the standard answers for an algorithm, where each of its domains has one member.
+fn answered(alloc: Global, algorithm: Algorithm) -> Result<usize, CapFault> {
+    let domains = if algorithm.is_hmac() {
+        r#""keyLen":[8],"macLen":[32]"#
+    } else {
+        r#""messageLength":[8]"#
+    };
+    let name = algorithm.name();
+    let text = format!(in alloc; "{{\"algorithm\":\"{name}\",\"revision\":\"1.0\",{domains}}}")?;
+    Ok(standard_of(alloc, &ZERO, 0, text.as_str())?.len())
+}
+
+#[test]
+fn each_algorithm_is_answered(rt: HostRuntime) -> Result<(), Fail> {
+    for algorithm in Algorithm::all() {
+        let wanted = if algorithm.is_hmac() { 9 } else { 17 };
+        assert_eq!(rt; answered(rt.alloc(), algorithm)?, wanted, "{algorithm:?}");
     }
     Ok(())
 }

@@ -1,11 +1,13 @@
 //! The texts with which the standard answers a single test: bytes as hex digits in lower case.
 ghost use Rattle.std.specs.Prelude.{◌≡◌, ◌≤◌, [], ◌∷◌, IfOk, map, string_bytes};
 ghost use Rattle.hex.specs.Hex.{encode_lower};
-ghost use Rattle.acvp_mac.specs.Hash.{out_of};
+ghost use Rattle.acvp_mac.specs.Hash.{digest_of, out_of};
+ghost use Rattle.acvp_answers.specs.MonteCarlo.{turn as turn_of};
+ghost use Rattle.acvp_answers.specs.Private.Ending.{before_or};
 ghost use Rattle.acvp_answers.specs.Standards as standards;
 
 use crate::monte_carlo::turn;
-use acvp_mac::{HashName, hash, hmac};
+use acvp_mac::{Digest, HashName, hash, hmac};
 use std::alloc::{AllocError, Global};
 
 /// How many checkpoints a Monte Carlo test has.
@@ -45,7 +47,17 @@ pub(crate) fn mac_texts(
     one_text(alloc, hmac(name, key, message).leftmost(bytes))
 }
 
-/// The first checkpoints of a Monte Carlo test, one for each turn.
+/// The checkpoint after another one, or after the seed where there is none yet.
+fn checkpoint_after(name: HashName, seed: &[u8], before: Option<Digest>) -> Digest
+    ensures { result ≡ turn_of (digest_of name) (before_or seed.now before) }
+{
+    match before {
+        Some(checkpoint) => turn(name, checkpoint.as_slice()),
+        None => turn(name, seed),
+    }
+}
+
+/// The first checkpoints of a Monte Carlo test, one for each turn. It takes memory for their texts alone.
 pub(crate) fn checkpoint_texts(
     alloc: Global,
     name: HashName,
@@ -55,11 +67,12 @@ pub(crate) fn checkpoint_texts(
     ensures { IfOk result (λ texts. map string_bytes texts.items ≡ standards.checkpoint_texts name seed.now turns) }
 {
     let mut texts = Vec::with_capacity(alloc, turns)?;
-    let mut checkpoint = Vec::from_slice(alloc, seed)?;
+    let mut last = None;
     for _ in 0..turns {
-        checkpoint = turn(alloc, name, &checkpoint)?;
+        let checkpoint = checkpoint_after(name, seed, last);
         let text = hex::encode(alloc, checkpoint.as_slice())?;
         texts.push(text)?;
+        last = Some(checkpoint);
     }
     Ok(texts)
 }

@@ -129,36 +129,69 @@ fn the_widest_domains_are_counted(rt: HostRuntime) -> Result<(), Fail> {
     Ok(())
 }
 
+const SPREAD: &str = "[{\"min\":0,\"max\":48,\"increment\":16}]";
+
+const SINGLES: &str = "[48,0,16,32,16]";
+
 #[test]
 fn capabilities_are_compared_by_their_members(rt: HostRuntime) -> Result<(), Fail> {
-    let range = sha2_256(rt.alloc(), "[{\"min\":0,\"max\":48,\"increment\":16}]")?;
-    let singles = sha2_256(rt.alloc(), "[48,0,16,32,16]")?;
+    let range = sha2_256(rt.alloc(), SPREAD)?;
+    let singles = sha2_256(rt.alloc(), SINGLES)?;
     assert!(rt; range == singles);
     assert!(rt; singles == range);
-    assert!(rt; range.clone()? == range);
-    assert!(rt; range.clone()? == singles.clone()?);
+    Ok(())
+}
+
+#[test]
+fn a_clone_is_the_same_capability(rt: HostRuntime) -> Result<(), Fail> {
+    let range = sha2_256(rt.alloc(), SPREAD)?;
+    let singles = sha2_256(rt.alloc(), SINGLES)?;
+    let copied = range.clone()?;
+    assert!(rt; copied == range);
+    assert!(rt; copied == singles.clone()?);
+    Ok(())
+}
+
+#[test]
+fn a_clone_keeps_the_items_as_they_were_given(rt: HostRuntime) -> Result<(), Fail> {
+    let range = sha2_256(rt.alloc(), SPREAD)?;
+    let singles = sha2_256(rt.alloc(), SINGLES)?;
     let written = singles.to_text(rt.alloc())?;
-    assert!(rt; singles.clone()?.to_text(rt.alloc())?.as_str() == written.as_str());
+    let copied = singles.clone()?;
+    assert!(rt; copied.to_text(rt.alloc())?.as_str() == written.as_str());
     assert!(rt; range.to_text(rt.alloc())?.as_str() != written.as_str());
+    Ok(())
+}
+
+#[test]
+fn other_members_are_another_capability(rt: HostRuntime) -> Result<(), Fail> {
+    let range = sha2_256(rt.alloc(), SPREAD)?;
     for other in ["[0,16,32]", "[0,16,32,48,64]", "[0,16,40,48]", "[8]"] {
         let other = sha2_256(rt.alloc(), other)?;
         assert!(rt; range != other);
         assert!(rt; other != range);
     }
+    Ok(())
+}
+
+#[test]
+fn another_algorithm_is_another_capability(rt: HostRuntime) -> Result<(), Fail> {
+    let range = sha2_256(rt.alloc(), SPREAD)?;
     let sha2_224 = Capability::from_text(
         rt.alloc(),
         r#"{"algorithm":"SHA2-224","revision":"1.0","messageLength":[0,16,32,48]}"#,
     )?;
     assert!(rt; sha2_224 != range);
     assert!(rt; sha2_224.domains() == range.domains());
+    Ok(())
+}
 
-    let hmac = Capability::from_text(
-        rt.alloc(),
-        r#"{"algorithm":"HMAC-SHA2-256","revision":"1.0","keyLen":[32,64],"macLen":[64]}"#,
-    )?;
-    assert!(rt; hmac.clone()? == hmac);
-    assert!(rt; hmac != range);
-    assert!(rt; hmac.domains() != range.domains());
+const HMAC: &str =
+    r#"{"algorithm":"HMAC-SHA2-256","revision":"1.0","keyLen":[32,64],"macLen":[64]}"#;
+
+#[test]
+fn capabilities_of_hmac_are_compared_by_both_domains(rt: HostRuntime) -> Result<(), Fail> {
+    let hmac = Capability::from_text(rt.alloc(), HMAC)?;
     for (what, text) in [
         (
             "another key",
@@ -169,11 +202,20 @@ fn capabilities_are_compared_by_their_members(rt: HostRuntime) -> Result<(), Fai
             r#"{"algorithm":"HMAC-SHA2-256","revision":"1.0","keyLen":[32,64],"macLen":[32,64]}"#,
         ),
     ] {
-        assert!(rt;
-            Capability::from_text(rt.alloc(), text)? != hmac,
-            "at {what}"
-        );
+        let other = Capability::from_text(rt.alloc(), text)?;
+        assert!(rt; other != hmac, "at {what}");
     }
+    Ok(())
+}
+
+#[test]
+fn a_capability_of_hmac_is_none_of_its_hash_function(rt: HostRuntime) -> Result<(), Fail> {
+    let hmac = Capability::from_text(rt.alloc(), HMAC)?;
+    let range = sha2_256(rt.alloc(), SPREAD)?;
+    let copied = hmac.clone()?;
+    assert!(rt; copied == hmac);
+    assert!(rt; hmac != range);
+    assert!(rt; hmac.domains() != range.domains());
     Ok(())
 }
 

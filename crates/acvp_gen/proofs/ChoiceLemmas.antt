@@ -1,6 +1,6 @@
 -- Lemmas on the groups that a capability gets: there are few, of few and short tests.
-use Rattle.std.proofs.Common.{◌≡◌, ℕ, ◌*◌, ◌%◌, ◌≤◌, List, [], ◌∷◌, ◌++◌, length, get_or, map, Bool, true, false, cond, Option, None, Some, refl, subst, length-append, arith}
-use Rattle.std.specs.Prelude.{All, MatchBool}
+use Rattle.std.proofs.Common.{◌≡◌, ℕ, ◌*◌, ◌%◌, ◌≤◌, List, [], ◌∷◌, ◌++◌, length, get_or, map, Bool, true, false, cond, Option, None, Some, refl, sym, subst, length-append, arith}
+use Rattle.std.specs.Prelude.{All, MatchBool, is_some, IfSome}
 use Rattle.std.specs.List.{filter_map, flat_map, slice_get, range_with_len}
 use Rattle.std.proofs.lemmas.List.Elements.{All-filter, All-cons, All-map, All-nil, All-append, All-head, All-tail}
 use Rattle.std.proofs.lemmas.List.{length-map}
@@ -12,6 +12,7 @@ use Rattle.acvp_caps.specs.Algorithms.{is_hmac_of}
 use Rattle.acvp_caps.specs.Capability.{AreLengths, AreDomainsOf, AreHashDomains, AreHmacDomains, block_bits, digest_bits}
 use Rattle.acvp_gen.specs.declared.group.GroupKind.{GroupKind}
 use Rattle.acvp_gen.specs.declared.group.GroupKind.TheVariants.{Functional, MonteCarlo}
+use Rattle.acvp_gen.specs.declared.shape.TestShape.{TestShape}
 use Rattle.acvp_gen.specs.Choice.{ShapeValue, ends, has, ends_and_edges, drawn, message_lengths, key_lengths, mac_lengths, hash_test, hash_shape, monte_carlo_shapes, hash_shapes, hmac_test, hmac_shape, hmac_shapes, shapes_on}
 use Rattle.acvp_gen.specs.Choice as choice
 use Rattle.acvp_gen.specs.Words.{word_of}
@@ -132,46 +133,113 @@ small_hmac_shapes seed vs a keys macs fit few_keys few_macs = record {
       (λ k d within. (fit.within k d within).1));
 }
 
--- ---- sizes
+-- ---- what holds of each group, before its bytes are made
 
-sized_for_key : (a : Algorithm) (key : ℕ) (macs : List ℕ) → All (λ n. n ≤ digest_bits a) macs
-    → All (λ s. IsSized a s.sizes) (map (hmac_shape key) macs)
-sized_for_key a key macs most = All-map (λ s. IsSized a s.sizes) (hmac_shape key) macs most
+pub record IsShapeOf (a : Algorithm) (shape : ShapeValue) : Type 0 where
+  pub sizes : is_some shape.sizes ≡ is_hmac_of a
+  pub sized : IsSized a shape.sizes
+  pub functional : IfSome shape.sizes (λ s. shape.kind ≡ Functional)
+  pub whole_keys : IfSome shape.sizes (λ s. s.key_bits % 8 ≡ 0)
+  pub keys : IfSome shape.sizes (λ s. All (λ t. t.key_bits ≡ s.key_bits) shape.tests)
+  pub seeds : shape.kind ≡ MonteCarlo → All (λ t. t.message_bits ≡ digest_bits a) shape.tests
+  pub messages : All (λ t. t.message_bits % 8 ≡ 0) shape.tests
 
-sized_for_keys : (a : Algorithm) (keys macs : List ℕ) → All (λ n. n ≤ digest_bits a) macs
-    → All (λ s. IsSized a s.sizes) (flat_map (λ key. map (hmac_shape key) macs) keys)
-sized_for_keys a [] macs most = All-nil (λ s. IsSized a s.sizes)
-sized_for_keys a (key ∷ keys) macs most =
-    All-append (λ s. IsSized a s.sizes) (map (hmac_shape key) macs) (flat_map (λ key. map (hmac_shape key) macs) keys)
-    (sized_for_key a key macs most) (sized_for_keys a keys macs most)
+functional_shape : (a : Algorithm) (lengths : List ℕ) → is_hmac_of a ≡ false → All (λ n. n % 8 ≡ 0) lengths
+    → IsShapeOf a (hash_shape Functional lengths)
+functional_shape a lengths hash whole = record {
+  sizes = sym hash;
+  sized = tt;
+  functional = tt;
+  whole_keys = tt;
+  keys = tt;
+  seeds = λ is. cc;
+  messages = All-map (λ t. t.message_bits % 8 ≡ 0) hash_test lengths whole;
+}
 
-sized_hmac : (seed : List ℕ) (vs : ℕ) (a : Algorithm) (keys macs : List ℕ) → AreLengths 32 (digest_bits a) macs
-    → All (λ s. IsSized a s.sizes) (hmac_shapes seed vs a keys macs)
-sized_hmac seed vs a keys macs fit =
-    sized_for_keys a (key_lengths seed vs a keys) (mac_lengths macs)
-    (All-filter (has (ends macs ++ [])) (λ n. n ≤ digest_bits a) macs (λ k d within. (fit.within k d within).1))
+monte_carlo_shape : (a : Algorithm) → is_hmac_of a ≡ false → IsShapeOf a (hash_shape MonteCarlo (digest_bits a ∷ []))
+monte_carlo_shape a hash =
+    let whole : digest_bits a % 8 ≡ 0 = omega arith in
+    record {
+      sizes = sym hash;
+      sized = tt;
+      functional = tt;
+      whole_keys = tt;
+      keys = tt;
+      seeds = λ is. All-cons (λ t. t.message_bits ≡ digest_bits a) (hash_test (digest_bits a)) [] refl
+          (All-nil (λ t. t.message_bits ≡ digest_bits a));
+      messages = All-cons (λ t. t.message_bits % 8 ≡ 0) (hash_test (digest_bits a)) [] whole
+          (All-nil (λ t. t.message_bits % 8 ≡ 0));
+    }
 
-sized_hash : (seed : List ℕ) (vs : ℕ) (a : Algorithm) (members : List ℕ)
-    → All (λ s. IsSized a s.sizes) (hash_shapes seed vs a members)
-sized_hash seed vs a members = at (has members (3 * digest_bits a))
+fit_hash_shapes : (seed : List ℕ) (vs : ℕ) (a : Algorithm) (members : List ℕ) → is_hmac_of a ≡ false
+    → AreLengths 0 65536 members → All (IsShapeOf a) (hash_shapes seed vs a members)
+fit_hash_shapes seed vs a members hash fit = at (has members (3 * digest_bits a))
   where
-    at : (b : Bool) → All (λ s. IsSized a s.sizes) (hash_shape Functional (message_lengths seed vs a members)
+    first : IsShapeOf a (hash_shape Functional (message_lengths seed vs a members))
+    first = functional_shape a (message_lengths seed vs a members) hash
+        (all_lengths (λ n. n % 8 ≡ 0) (choice.message_edges (block_bits a)) members seed vs choice.message_draws
+        fit.whole_bytes)
+
+    at : (b : Bool) → All (IsShapeOf a) (hash_shape Functional (message_lengths seed vs a members)
         ∷ cond b (hash_shape MonteCarlo (digest_bits a ∷ []) ∷ []) [])
-    at true = All-cons (λ s. IsSized a s.sizes) (hash_shape Functional (message_lengths seed vs a members))
-        (hash_shape MonteCarlo (digest_bits a ∷ []) ∷ []) tt
-        (All-cons (λ s. IsSized a s.sizes) (hash_shape MonteCarlo (digest_bits a ∷ [])) [] tt
-        (All-nil (λ s. IsSized a s.sizes)))
-    at false = All-cons (λ s. IsSized a s.sizes) (hash_shape Functional (message_lengths seed vs a members)) [] tt
-        (All-nil (λ s. IsSized a s.sizes))
+    at true = All-cons (IsShapeOf a) (hash_shape Functional (message_lengths seed vs a members))
+        (hash_shape MonteCarlo (digest_bits a ∷ []) ∷ []) first
+        (All-cons (IsShapeOf a) (hash_shape MonteCarlo (digest_bits a ∷ [])) [] (monte_carlo_shape a hash)
+        (All-nil (IsShapeOf a)))
+    at false = All-cons (IsShapeOf a) (hash_shape Functional (message_lengths seed vs a members)) [] first
+        (All-nil (IsShapeOf a))
+
+-- what holds of a test holds of three of them
+three : (P : TestShape → Type 0) (test : TestShape) → P test → All P (test ∷ test ∷ test ∷ [])
+three P test is =
+    All-cons P test (test ∷ test ∷ []) is (All-cons P test (test ∷ []) is (All-cons P test [] is (All-nil P)))
+
+fit_hmac_shape : (a : Algorithm) (key mac : ℕ) → is_hmac_of a ≡ true → key % 8 ≡ 0 → mac ≤ digest_bits a
+    → IsShapeOf a (hmac_shape key mac)
+fit_hmac_shape a key mac hmac whole most = record {
+  sizes = sym hmac;
+  sized = most;
+  functional = refl;
+  whole_keys = whole;
+  keys = three (λ t. t.key_bits ≡ key) (hmac_test key) refl;
+  seeds = λ is. cc;
+  messages = three (λ t. t.message_bits % 8 ≡ 0) (hmac_test key) refl;
+}
+
+fit_for_keys : (a : Algorithm) (keys macs : List ℕ) → is_hmac_of a ≡ true → All (λ n. n % 8 ≡ 0) keys
+    → All (λ n. n ≤ digest_bits a) macs → All (IsShapeOf a) (flat_map (λ key. map (hmac_shape key) macs) keys)
+fit_for_keys a [] macs hmac whole most = All-nil (IsShapeOf a)
+fit_for_keys a (key ∷ keys) macs hmac whole most =
+    All-append (IsShapeOf a) (map (hmac_shape key) macs) (flat_map (λ key. map (hmac_shape key) macs) keys)
+    (All-map (IsShapeOf a) (hmac_shape key) macs
+    (λ k d within. fit_hmac_shape a key (get_or macs k d) hmac (All-head (λ n. n % 8 ≡ 0) key keys whole)
+    (most k d within)))
+    (fit_for_keys a keys macs hmac (All-tail (λ n. n % 8 ≡ 0) key keys whole) most)
+
+fit_hmac_shapes : (seed : List ℕ) (vs : ℕ) (a : Algorithm) (keys macs : List ℕ) → is_hmac_of a ≡ true
+    → AreLengths 8 524288 keys → AreLengths 32 (digest_bits a) macs → All (IsShapeOf a) (hmac_shapes seed vs a keys macs)
+fit_hmac_shapes seed vs a keys macs hmac fit_keys fit_macs =
+    fit_for_keys a (key_lengths seed vs a keys) (mac_lengths macs) hmac
+    (all_lengths (λ n. n % 8 ≡ 0) (choice.key_edges (block_bits a)) keys seed vs choice.key_draws fit_keys.whole_bytes)
+    (All-filter (has (ends macs ++ [])) (λ n. n ≤ digest_bits a) macs (λ k d within. (fit_macs.within k d within).1))
+
+of_hash : (bits : ℕ) (b : Bool) (members : List ℕ)
+    → MatchBool b (AreHmacDomains bits (Message members)) (AreHashDomains (Message members))
+    → (b ≡ false) × AreLengths 0 65536 members
+of_hash bits true members fit = absurd fit
+of_hash bits false members fit = (refl, fit)
 
 of_hmac : (bits : ℕ) (b : Bool) (keys macs : List ℕ)
     → MatchBool b (AreHmacDomains bits (KeyAndMac keys macs)) (AreHashDomains (KeyAndMac keys macs))
-    → AreLengths 32 bits macs
-of_hmac bits true keys macs fit = fit.1
+    → (b ≡ true) × AreLengths 8 524288 keys × AreLengths 32 bits macs
+of_hmac bits true keys macs fit = (refl, fit.0, fit.1)
 of_hmac bits false keys macs fit = absurd fit
 
-pub sized_shapes : (seed : List ℕ) (vs : ℕ) (a : Algorithm) (domains : Domains) → AreDomainsOf a domains
-    → All (λ s. IsSized a s.sizes) (shapes_on seed vs a domains)
-sized_shapes seed vs a (Message members) fit = sized_hash seed vs a members
-sized_shapes seed vs a (KeyAndMac keys macs) fit =
-    sized_hmac seed vs a keys macs (of_hmac (digest_bits a) (is_hmac_of a) keys macs fit)
+pub fit_shapes : (seed : List ℕ) (vs : ℕ) (a : Algorithm) (domains : Domains) → AreDomainsOf a domains
+    → All (IsShapeOf a) (shapes_on seed vs a domains)
+fit_shapes seed vs a (Message members) fit =
+    let both = of_hash (digest_bits a) (is_hmac_of a) members fit in
+    fit_hash_shapes seed vs a members both.0 both.1
+fit_shapes seed vs a (KeyAndMac keys macs) fit =
+    let all = of_hmac (digest_bits a) (is_hmac_of a) keys macs fit in
+    fit_hmac_shapes seed vs a keys macs all.0 all.1 all.2

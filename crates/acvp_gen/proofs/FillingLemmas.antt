@@ -1,15 +1,21 @@
 -- Lemmas on tests and groups: by what comes before them is the same as by a number and a place that move along.
-use Rattle.std.proofs.Common.{◌≡◌, ℕ, zero, suc, ◌+◌, List, [], ◌∷◌, ◌++◌, length, map, refl, sym, ◌∙◌, ap, length-append, arith}
-use Rattle.std.specs.Prelude.{All, Option}
-use Rattle.std.specs.List.{sum_by, range_with_len}
-use Rattle.std.proofs.lemmas.List.{map-append}
+use Rattle.std.proofs.Common.{◌≡◌, ℕ, zero, suc, ◌+◌, List, [], ◌∷◌, ◌++◌, length, map, refl, sym, ◌∙◌, ap, length-append, arith, ◌*◌, ◌/◌, ◌%◌, None, Some}
+use Rattle.std.specs.Prelude.{All, Option, IfSome}
+use Rattle.std.specs.List.{sum_by, flat_map, range_with_len}
+use Rattle.std.proofs.lemmas.List.{map-append, length-take-le}
 use Rattle.std.proofs.lemmas.List.Elements.{All-cons, All-nil, All-head, All-tail}
 use Rattle.std.proofs.lemmas.List.Sums.{sum_by-append}
+use Rattle.acvp_caps.specs.declared.algorithm.Algorithm.{Algorithm}
+use Rattle.acvp_caps.specs.Capability.{digest_bits}
 use Rattle.acvp_gen.specs.declared.group.Sizes.{Sizes}
 use Rattle.acvp_gen.specs.declared.shape.TestShape.{TestShape}
 use Rattle.acvp_gen.specs.Choice.{ShapeValue}
-use Rattle.acvp_gen.specs.Prompts.{words_of_test, test_at, tests_after, groups_after, tests_in, AreNumbered}
+use Rattle.acvp_gen.specs.Words.{word_bytes_of, words_in, bytes_of}
+use Rattle.acvp_gen.specs.Prompt.{TestValue, GroupValue}
+use Rattle.acvp_gen.specs.Prompts.{words_of_test, test_at, tests_after, groups_after, tests_in, IsSized, IsGroupOf, AreGroupsOf}
 use Rattle.acvp_gen.specs.Private.Filling.{tests_from, groups_from}
+use Rattle.acvp_gen.proofs.ChoiceLemmas.{IsShapeOf}
+use Rattle.acvp_gen.proofs.WordLemmas.{two_ranges}
 
 one_test_more : (draws : ℕ) (before : List TestShape) (test : TestShape)
     → draws + sum_by words_of_test (before ++ test ∷ []) ≡ draws + sum_by words_of_test before + words_of_test test
@@ -69,16 +75,6 @@ how_many : (seed : List ℕ) (vs number place : ℕ) (tests : List TestShape)
 how_many seed vs number place [] = refl
 how_many seed vs number place (test ∷ tests) = ap suc (how_many seed vs (number + 1) (place + words_of_test test) tests)
 
-two_ranges : (a m n : ℕ) → range_with_len a m ++ range_with_len (a + m) n ≡ range_with_len a (m + n)
-two_ranges a zero n =
-    let e : a + zero ≡ a = omega arith in
-    let f : zero + n ≡ n = omega arith in
-    rw (e, f) refl
-two_ranges a (suc m) n =
-    let e : a + suc m ≡ a + 1 + m = omega arith in
-    let f : suc m + n ≡ suc (m + n) = omega arith in
-    rw (e, f) (ap (λ ns. a ∷ ns) (two_ranges (a + 1) m n))
-
 groups_numbered : (seed : List ℕ) (vs group number place : ℕ) (shapes : List ShapeValue) →
     map (λ t. t.number) (tests_in (groups_from seed vs group number place shapes))
     ≡ range_with_len number (length (tests_in (groups_from seed vs group number place shapes)))
@@ -98,23 +94,94 @@ groups_numbered seed vs group number place (shape ∷ shapes) =
       how_many seed vs number place shape.tests,
     ) refl
 
-pub are_numbered : (seed : List ℕ) (vs draws : ℕ) (shapes : List ShapeValue)
-    → AreNumbered (groups_from seed vs 1 1 draws shapes)
-are_numbered seed vs draws shapes = groups_numbered seed vs 1 1 draws shapes
+-- ---- what holds of each test and group
 
--- ---- sizes
+all_tests : (P : TestShape → Type 0) (Q : TestValue → Type 0) (seed : List ℕ) (vs : ℕ)
+    → ((number place : ℕ) (test : TestShape) → P test → Q (test_at seed vs number place test))
+    → (number place : ℕ) (tests : List TestShape) → All P tests → All Q (tests_from seed vs number place tests)
+all_tests P Q seed vs step number place [] all = All-nil Q
+all_tests P Q seed vs step number place (test ∷ tests) all =
+    All-cons Q (test_at seed vs number place test)
+    (tests_from seed vs (number + 1) (place + words_of_test test) tests)
+    (step number place test (All-head P test tests all))
+    (all_tests P Q seed vs step (number + 1) (place + words_of_test test) tests (All-tail P test tests all))
 
-pub are_sized : (P : Option Sizes → Type 0) (seed : List ℕ) (vs group number place : ℕ) (shapes : List ShapeValue)
-    → All (λ s. P s.sizes) shapes → All (λ g. P g.sizes) (groups_from seed vs group number place shapes)
-are_sized P seed vs group number place [] all = All-nil (λ g. P g.sizes)
-are_sized P seed vs group number place (shape ∷ shapes) all =
-    All-cons (λ g. P g.sizes) (record {
-      number = group;
-      kind = shape.kind;
-      sizes = shape.sizes;
-      tests = tests_from seed vs number place shape.tests;
-    })
+-- the group of a number, whose tests are made from a number and a place on
+abbrev group_at : List ℕ → ℕ → ℕ → ℕ → ℕ → ShapeValue → GroupValue
+group_at seed vs group number place shape = record {
+  number = group;
+  kind = shape.kind;
+  sizes = shape.sizes;
+  tests = tests_from seed vs number place shape.tests;
+}
+
+all_groups : (P : ShapeValue → Type 0) (Q : GroupValue → Type 0) (seed : List ℕ) (vs : ℕ)
+    → ((group number place : ℕ) (shape : ShapeValue) → P shape → Q (group_at seed vs group number place shape))
+    → (group number place : ℕ) (shapes : List ShapeValue) → All P shapes
+    → All Q (groups_from seed vs group number place shapes)
+all_groups P Q seed vs step group number place [] all = All-nil Q
+all_groups P Q seed vs step group number place (shape ∷ shapes) all =
+    All-cons Q (group_at seed vs group number place shape)
     (groups_from seed vs (group + 1) (number + length shape.tests) (place + sum_by words_of_test shape.tests) shapes)
-    (All-head (λ s. P s.sizes) shape shapes all)
-    (are_sized P seed vs (group + 1) (number + length shape.tests) (place + sum_by words_of_test shape.tests) shapes
-    (All-tail (λ s. P s.sizes) shape shapes all))
+    (step group number place shape (All-head P shape shapes all))
+    (all_groups P Q seed vs step (group + 1) (number + length shape.tests)
+    (place + sum_by words_of_test shape.tests) shapes (All-tail P shape shapes all))
+
+four_bytes : (seed : List ℕ) (vs place words : ℕ)
+    → length (flat_map (word_bytes_of seed vs) (range_with_len place words)) ≡ 4 * words
+four_bytes seed vs place zero = refl
+four_bytes seed vs place (suc words) =
+    let word : length (word_bytes_of seed vs place) ≡ 4 = refl in
+    omega (
+      arith,
+      length-append (word_bytes_of seed vs place) (flat_map (word_bytes_of seed vs) (range_with_len (place + 1) words)),
+      four_bytes seed vs (place + 1) words,
+      word,
+    )
+
+-- a value has the bytes that it is made of
+value_length : (seed : List ℕ) (vs place size : ℕ) → length (bytes_of seed vs place size) ≡ size
+value_length seed vs place size =
+    length-take-le size (flat_map (word_bytes_of seed vs) (range_with_len place (words_in size)))
+    (omega (arith, four_bytes seed vs place (words_in size)))
+
+fit_group : (a : Algorithm) (seed : List ℕ) (vs group number place : ℕ) (shape : ShapeValue) → IsShapeOf a shape
+    → IsGroupOf a (group_at seed vs group number place shape)
+fit_group a seed vs group number place shape fit = record {
+  sizes = fit.sizes;
+  functional = fit.functional;
+  keys = keys_of shape.sizes fit.whole_keys fit.keys;
+  seeds = λ is. all_tests (λ t. t.message_bits ≡ digest_bits a) (λ t. 8 * length t.message ≡ digest_bits a) seed vs
+      (λ number place test same. let whole : digest_bits a % 8 ≡ 0 = omega arith in omega (
+        arith,
+        same,
+        value_length seed vs (place + words_in (test.key_bits / 8)) (test.message_bits / 8),
+      )) number place shape.tests (fit.seeds is);
+  bits = all_tests (λ t. t.message_bits % 8 ≡ 0) (λ t. t.bits ≡ 8 * length t.message) seed vs
+      (λ number place test whole. omega (
+        arith,
+        whole,
+        value_length seed vs (place + words_in (test.key_bits / 8)) (test.message_bits / 8),
+      )) number place shape.tests fit.messages;
+}
+  where
+    keys_of : (o : Option Sizes) → IfSome o (λ s. s.key_bits % 8 ≡ 0)
+        → IfSome o (λ s. All (λ t. t.key_bits ≡ s.key_bits) shape.tests)
+        → IfSome o (λ s. All (λ t. 8 * length t.key ≡ s.key_bits) (tests_from seed vs number place shape.tests))
+    keys_of None whole keys = tt
+    keys_of (Some s) whole keys =
+        let eights : s.key_bits % 8 ≡ 0 = whole in
+        all_tests (λ t. t.key_bits ≡ s.key_bits) (λ t. 8 * length t.key ≡ s.key_bits) seed vs
+        (λ number place test same. omega (arith, eights, same, value_length seed vs place (test.key_bits / 8)))
+        number place shape.tests keys
+
+pub are_groups : (a : Algorithm) (seed : List ℕ) (vs draws : ℕ) (shapes : List ShapeValue) → All (IsShapeOf a) shapes
+    → AreGroupsOf a (groups_after seed vs draws [] 1 shapes)
+are_groups a seed vs draws shapes all =
+    rw (← same_groups seed vs draws shapes) (record {
+      numbered = groups_numbered seed vs 1 1 draws shapes;
+      sized = all_groups (λ s. IsSized a s.sizes) (λ g. IsSized a g.sizes) seed vs
+          (λ group number place shape sized. sized) 1 1 draws shapes (λ k d within. (all k d within).sized);
+      each = all_groups (IsShapeOf a) (IsGroupOf a) seed vs
+          (λ group number place shape fit. fit_group a seed vs group number place shape fit) 1 1 draws shapes all;
+    })

@@ -2,6 +2,7 @@ pub mod Words
 pub mod Prompt
 pub mod Choice
 pub mod Prompts
+pub mod Seeds
 pub mod Private
 pub use Rattle.acvp_caps.specs.Algorithms
 pub use Rattle.acvp_caps.specs.Capability

@@ -1,3 +1,4 @@
 -- Words of private clauses: no public clause speaks in them.
 pub mod Candidates
 pub mod Filling
+pub mod Generator

@@ -1,8 +1,10 @@
 -- The prompts of a vector set: each test has its number and its bytes by the tests before it.
-use Rattle.std.specs.Prelude.{◌≡◌, ℕ, suc, ◌+◌, ◌/◌, ◌≤◌, List, [], ◌∷◌, ◌++◌, length, map, All, Option, IfSome}
+use Rattle.std.specs.Prelude.{◌≡◌, ℕ, suc, ◌+◌, ◌*◌, ◌/◌, ◌≤◌, List, [], ◌∷◌, ◌++◌, length, map, All, Option, is_some, IfSome}
 use Rattle.std.specs.List.{flat_map, sum_by, range_with_len}
 use Rattle.acvp_caps.specs.declared.algorithm.Algorithm.{Algorithm}
+use Rattle.acvp_caps.specs.Algorithms.{is_hmac_of}
 use Rattle.acvp_caps.specs.Capability.{CapabilityValue, digest_bits}
+use Rattle.acvp_gen.specs.declared.group.GroupKind.TheVariants.{Functional, MonteCarlo}
 use Rattle.acvp_gen.specs.declared.group.Sizes.{Sizes}
 use Rattle.acvp_gen.specs.declared.shape.TestShape.{TestShape}
 use Rattle.acvp_gen.specs.Choice.{ShapeValue, shapes_on, draws_on}
@@ -65,7 +67,18 @@ AreNumbered groups = map (λ t. t.number) (tests_in groups) ≡ range_with_len 1
 abbrev pub IsSized : Algorithm → Option Sizes → Type 0
 IsSized algorithm sizes = IfSome sizes (λ s. s.mac_bits ≤ digest_bits algorithm)
 
+-- What holds of each group of an algorithm: it has sizes exactly where the algorithm is HMAC; a group with sizes is
+-- functional, and its keys have the bits that it names; a Monte Carlo group's messages are as long as a digest; and a
+-- test's bits are those of the whole bytes of its message.
+pub record IsGroupOf (algorithm : Algorithm) (group : GroupValue) : Type 0 where
+  pub sizes : is_some group.sizes ≡ is_hmac_of algorithm
+  pub functional : IfSome group.sizes (λ s. group.kind ≡ Functional)
+  pub keys : IfSome group.sizes (λ s. All (λ t. 8 * length t.key ≡ s.key_bits) group.tests)
+  pub seeds : group.kind ≡ MonteCarlo → All (λ t. 8 * length t.message ≡ digest_bits algorithm) group.tests
+  pub bits : All (λ t. t.bits ≡ 8 * length t.message) group.tests
+
 -- what holds of the groups of every vector set
 pub record AreGroupsOf (algorithm : Algorithm) (groups : List GroupValue) : Type 0 where
   pub numbered : AreNumbered groups
   pub sized : All (λ g. IsSized algorithm g.sizes) groups
+  pub each : All (IsGroupOf algorithm) groups

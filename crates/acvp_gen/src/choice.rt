@@ -1,14 +1,15 @@
 //! Which groups of tests a capability gets.
 
-ghost use Rattle.std.specs.Prelude.{◌≡◌, ◌≤◌, ◌++◌, All, length, map, IfOk};
+ghost use Rattle.std.specs.Prelude.{◌≡◌, ◌++◌, map, IfOk};
 ghost use Rattle.std.specs.List.Sorted.{IsStrictlyIncreasing};
 ghost use Rattle.acvp_caps.specs.Capability.{AreLengths, AreDomainsOf};
-ghost use Rattle.acvp_gen.specs.Choice.{hash_test, hash_shape, monte_carlo_shapes, hash_shapes, hmac_shape, hmac_shapes, shapes_on, draws_on};
+ghost use Rattle.acvp_gen.specs.Choice.{hash_test, hash_shape, hash_shapes, hmac_shape, hmac_shapes, shapes_on, draws_on, message_draws, key_draws};
 ghost use Rattle.acvp_gen.specs.Private.Filling.{AreSmall};
-ghost use Rattle.acvp_gen.specs.Prompts.{IsSized};
+ghost use Rattle.acvp_gen.specs.Private.Generator.{moved};
 
+use crate::generator::Generator;
 use crate::group::{GroupKind, Sizes};
-use crate::lengths::{KEY_DRAWS, MESSAGE_DRAWS, key_lengths, mac_lengths, message_lengths};
+use crate::lengths::{key_lengths, mac_lengths, message_lengths};
 use crate::shape::{Shape, TestShape};
 use acvp_caps::{Algorithm, Domain, Domains};
 use std::alloc::{AllocError, Global};
@@ -41,17 +42,19 @@ fn hash_shape(alloc: Global, kind: GroupKind, lengths: &[u64]) -> Result<Shape, 
 /// member.
 fn hash_shapes(
     alloc: Global,
-    seed: &[u8; 32],
-    vs: u64,
+    words: &mut Generator,
     algorithm: Algorithm,
     members: &Domain,
 ) -> Result<Vec<Shape>, AllocError>
-    requires { AreLengths 0 65536 members.now }
-    ensures value { IfOk result (λ shapes. shapes.items ≡ hash_shapes seed.now vs algorithm members.now) }
+    requires lengths { AreLengths 0 65536 members.now }
+    requires start { words.old.place ≡ 0 }
+    ensures value { IfOk result
+        (λ shapes. shapes.items ≡ hash_shapes words.old.seed words.old.vs algorithm members.now) }
+    ensures moved { IfOk result (λ _. words.new ≡ moved words.old message_draws) }
     ensures small { IfOk result (λ shapes. AreSmall shapes.items) }
 {
     let mut shapes = Vec::new(alloc);
-    let lengths = message_lengths(alloc, seed, vs, algorithm, members)?;
+    let lengths = message_lengths(alloc, words, algorithm, members)?;
     shapes.push(hash_shape(alloc, GroupKind::Functional, &lengths)?)?;
     let digest_bits = algorithm.digest_bits();
     if members.contains(3 * digest_bits) {
@@ -98,52 +101,43 @@ fn add_hmac_shapes(
 /// The groups of HMAC, one for each pair of a key's length and a MAC's.
 fn hmac_shapes(
     alloc: Global,
-    seed: &[u8; 32],
-    vs: u64,
+    words: &mut Generator,
     algorithm: Algorithm,
     keys: &Domain,
     macs: &Domain,
 ) -> Result<Vec<Shape>, AllocError>
     requires keys { AreLengths 8 524288 keys.now }
     requires macs { IsStrictlyIncreasing macs.now }
-    ensures value { IfOk result (λ shapes. shapes.items ≡ hmac_shapes seed.now vs algorithm keys.now macs.now) }
+    requires start { words.old.place ≡ 0 }
+    ensures value { IfOk result
+        (λ shapes. shapes.items ≡ hmac_shapes words.old.seed words.old.vs algorithm keys.now macs.now) }
+    ensures moved { IfOk result (λ _. words.new ≡ moved words.old key_draws) }
     ensures small { IfOk result (λ shapes. AreSmall shapes.items) }
 {
     let mut shapes = Vec::new(alloc);
     let macs = mac_lengths(alloc, macs)?;
-    for key_bits in &key_lengths(alloc, seed, vs, algorithm, keys)? {
+    for key_bits in &key_lengths(alloc, words, algorithm, keys)? {
         add_hmac_shapes(alloc, &mut shapes, *key_bits, &macs)?;
     }
     Ok(shapes)
 }
 
-/// The groups of an algorithm and its domains.
-#[tactic(auto, using(crate::proofs::ChoiceLemmas::sized_shapes))]
+/// The groups of an algorithm and its domains. What is drawn takes the first words of the stream.
 pub(crate) fn shapes_on(
     alloc: Global,
-    seed: &[u8; 32],
-    vs: u64,
+    words: &mut Generator,
     algorithm: Algorithm,
     domains: &Domains,
 ) -> Result<Vec<Shape>, AllocError>
-    requires { AreDomainsOf algorithm domains.now }
-    ensures value { IfOk result (λ shapes. shapes.items ≡ shapes_on seed.now vs algorithm domains.now) }
+    requires fit { AreDomainsOf algorithm domains.now }
+    requires start { words.old.place ≡ 0 }
+    ensures value { IfOk result
+        (λ shapes. shapes.items ≡ shapes_on words.old.seed words.old.vs algorithm domains.now) }
+    ensures moved { IfOk result (λ _. words.new ≡ moved words.old (draws_on domains.now)) }
     ensures small { IfOk result (λ shapes. AreSmall shapes.items) }
-    ensures sized { IfOk result (λ shapes. All (λ s. IsSized algorithm s.sizes) shapes.items) }
 {
     match domains {
-        Domains::Message(members) => hash_shapes(alloc, seed, vs, algorithm, members),
-        Domains::KeyAndMac { key, mac } => hmac_shapes(alloc, seed, vs, algorithm, key, mac),
-    }
-}
-
-/// How many words are drawn before the bytes of the tests begin.
-pub(crate) fn draws_on(domains: &Domains) -> u64
-    ensures value { result ≡ draws_on domains.now }
-    ensures most { result ≤ 16 }
-{
-    match domains {
-        Domains::Message(_) => MESSAGE_DRAWS,
-        Domains::KeyAndMac { .. } => KEY_DRAWS,
+        Domains::Message(members) => hash_shapes(alloc, words, algorithm, members),
+        Domains::KeyAndMac { key, mac } => hmac_shapes(alloc, words, algorithm, key, mac),
     }
 }

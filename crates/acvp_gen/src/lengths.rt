@@ -3,17 +3,18 @@
 ghost use Rattle.std.specs.Prelude.{◌≡◌, ◌≤◌, ◌+◌, ◌++◌, length, IfOk};
 ghost use Rattle.std.specs.List.Sorted.{IsStrictlyIncreasing};
 ghost use Rattle.acvp_gen.specs.Private.Candidates.{candidates};
-ghost use Rattle.acvp_gen.specs.Choice.{ends_and_edges, drawn, message_edges, message_lengths, key_lengths, mac_lengths};
+ghost use Rattle.acvp_gen.specs.Choice.{ends_and_edges, drawn, message_edges, message_lengths, key_lengths, mac_lengths, message_draws, key_draws};
+ghost use Rattle.acvp_gen.specs.Private.Generator.{moved};
 
-use crate::words::word;
+use crate::generator::Generator;
 use acvp_caps::{Algorithm, Domain};
 use std::alloc::{AllocError, Global};
 
 /// How many lengths of messages are drawn.
-pub(crate) const MESSAGE_DRAWS: u64 = 16;
+const MESSAGE_DRAWS: u64 = 16;
 
 /// How many lengths of keys are drawn.
-pub(crate) const KEY_DRAWS: u64 = 2;
+const KEY_DRAWS: u64 = 2;
 
 /// The members that are the least, the greatest or an edge, ascending.
 fn ends_and_edges(alloc: Global, edges: &[u64], domain: &Domain) -> Result<Vec<u64>, AllocError>
@@ -42,20 +43,23 @@ fn candidates(alloc: Global, edges: &[u64], domain: &Domain) -> Result<Vec<u64>,
     Ok(lengths)
 }
 
-/// Appends so many drawn members, by the first words of the stream.
+/// Appends so many drawn members, by the first words of the stream. The members are counted once.
 fn draw(
     lengths: &mut Vec<u64>,
-    seed: &[u8; 32],
-    vs: u64,
+    words: &mut Generator,
     draws: u64,
     domain: &Domain,
 ) -> Result<(), AllocError>
-    requires { draws ≤ 16 }
-    ensures value { IfOk result (λ _. lengths.new.items ≡ lengths.old.items ++ drawn seed.now vs draws domain.now) }
+    requires few { draws ≤ 16 }
+    requires start { words.old.place ≡ 0 }
+    ensures value { IfOk result (λ _. lengths.new.items
+        ≡ lengths.old.items ++ drawn words.old.seed words.old.vs draws domain.now) }
     ensures len { IfOk result (λ _. length lengths.new.items ≡ length lengths.old.items + draws) }
+    ensures moved { IfOk result (λ _. words.new ≡ moved words.old draws) }
 {
-    for place in 0..draws {
-        let i = u64::from(word(seed, vs, place)) % domain.count();
+    let count = domain.count();
+    for _ in 0..draws {
+        let i = u64::from(words.next_word()) % count;
         lengths.push(domain.member(i))?;
     }
     Ok(())
@@ -75,37 +79,41 @@ fn message_edges(block_bits: u64) -> [u64; 8]
 /// The lengths of a hash function's messages, in bits: ends and edges, and then those that are drawn.
 pub(crate) fn message_lengths(
     alloc: Global,
-    seed: &[u8; 32],
-    vs: u64,
+    words: &mut Generator,
     algorithm: Algorithm,
     members: &Domain,
 ) -> Result<Vec<u64>, AllocError>
-    requires { IsStrictlyIncreasing members.now }
-    ensures value { IfOk result (λ lengths. lengths.items ≡ message_lengths seed.now vs algorithm members.now) }
+    requires rising { IsStrictlyIncreasing members.now }
+    requires start { words.old.place ≡ 0 }
+    ensures value { IfOk result
+        (λ lengths. lengths.items ≡ message_lengths words.old.seed words.old.vs algorithm members.now) }
+    ensures moved { IfOk result (λ _. words.new ≡ moved words.old message_draws) }
     ensures few { IfOk result (λ lengths. length lengths.items ≤ 26) }
 {
     let edges = message_edges(algorithm.block_bits());
     let mut lengths = ends_and_edges(alloc, &edges, members)?;
-    draw(&mut lengths, seed, vs, MESSAGE_DRAWS, members)?;
+    draw(&mut lengths, words, MESSAGE_DRAWS, members)?;
     Ok(lengths)
 }
 
 /// The lengths of HMAC's keys, in bits: ends and edges, and then those that are drawn.
 pub(crate) fn key_lengths(
     alloc: Global,
-    seed: &[u8; 32],
-    vs: u64,
+    words: &mut Generator,
     algorithm: Algorithm,
     keys: &Domain,
 ) -> Result<Vec<u64>, AllocError>
-    requires { IsStrictlyIncreasing keys.now }
-    ensures value { IfOk result (λ lengths. lengths.items ≡ key_lengths seed.now vs algorithm keys.now) }
+    requires rising { IsStrictlyIncreasing keys.now }
+    requires start { words.old.place ≡ 0 }
+    ensures value { IfOk result
+        (λ lengths. lengths.items ≡ key_lengths words.old.seed words.old.vs algorithm keys.now) }
+    ensures moved { IfOk result (λ _. words.new ≡ moved words.old key_draws) }
     ensures few { IfOk result (λ lengths. length lengths.items ≤ 7) }
 {
     let block_bits = algorithm.block_bits();
     let edges = [block_bits - 8, block_bits, block_bits + 8];
     let mut lengths = ends_and_edges(alloc, &edges, keys)?;
-    draw(&mut lengths, seed, vs, KEY_DRAWS, keys)?;
+    draw(&mut lengths, words, KEY_DRAWS, keys)?;
     Ok(lengths)
 }
 

@@ -4,9 +4,11 @@
 mod choice;
 mod filling;
 mod generation;
+mod generator;
 mod group;
 mod lengths;
 mod prompt;
+mod seeds;
 mod shape;
 mod test_case;
 #[cfg(test)]
@@ -17,5 +19,6 @@ pub use acvp_caps::{Algorithm, CapFault, Capability};
 pub use generation::prompts;
 pub use group::{Group, GroupKind, Sizes};
 pub use prompt::Prompts;
+pub use seeds::Seeds;
 pub use test_case::Test;
 pub use words::word_bytes;

@@ -1,7 +1,7 @@
 //! Words and prompts against RFC 8439, appendix A.1, and against OpenSSL's `chacha20` with the counter and the nonce of
 //! the same block, from whose output lengths and bytes were taken by the rules of the choice.
 
-use crate::{Group, GroupKind, Prompts, Sizes, Test, prompts, word_bytes};
+use crate::{Group, GroupKind, Prompts, Seeds, Sizes, Test, prompts, word_bytes};
 use acvp_caps::{Algorithm, CapFault, Capability};
 use std::alloc::Global;
 use std::process::Abort;
@@ -487,6 +487,50 @@ fn keys_around_a_long_block(rt: HostRuntime) -> Result<(), Fail> {
         assert_eq!(rt; test.number(), 42);
         assert_eq!(rt; test.key(), last.0);
         assert_eq!(rt; test.message(), last.1.as_slice());
+    }
+    Ok(())
+}
+
+// The newest epoch of seeds, if they are taken.
+fn newest_of(seeds: &[[u8; 32]]) -> Option<u64> {
+    Some(Seeds::of(seeds)?.newest())
+}
+
+#[test]
+fn from_one_to_sixteen_seeds_are_taken(rt: HostRuntime) {
+    let seeds = [RISING; 17];
+    assert_eq!(rt; newest_of(&seeds[..0]), None);
+    assert_eq!(rt; newest_of(&seeds[..1]), Some(0));
+    assert_eq!(rt; newest_of(&seeds[..2]), Some(1));
+    assert_eq!(rt; newest_of(&seeds[..16]), Some(15));
+    assert_eq!(rt; newest_of(&seeds), None);
+}
+
+#[test]
+fn a_seed_is_found_by_its_epoch(rt: HostRuntime) -> Result<(), Fail> {
+    let seeds = Seeds::of(&[ZERO, RISING]).ok_or("refused")?;
+    assert_eq!(rt; seeds.get(0).copied(), Some(ZERO));
+    assert_eq!(rt; seeds.get(1).copied(), Some(RISING));
+    assert_eq!(rt; seeds.get(2).copied(), None);
+    assert_eq!(rt; seeds.get(u64::MAX).copied(), None);
+    Ok(())
+}
+
+#[test]
+fn a_newer_seed_leaves_the_prompts_of_earlier_epochs(rt: HostRuntime) -> Result<(), Fail> {
+    let text = r#"{"algorithm":"SHA2-256","revision":"1.0","messageLength":[8,8]}"#;
+    for (seeds, epoch, first) in [
+        ([ZERO].as_slice(), 0, [0x9f, 0x55, 0x98]),
+        ([ZERO, RISING].as_slice(), 0, [0x9f, 0x55, 0x98]),
+        ([ZERO, RISING].as_slice(), 1, [0x18, 0xad, 0x13]),
+    ] {
+        let seeds = Seeds::of(seeds).ok_or("refused")?;
+        let seed = seeds.get(epoch).ok_or("no such epoch")?;
+        let prompts = prompts_of(rt.alloc(), seed, 0, text)?;
+        let group = group_at(&prompts, 0)?;
+        for (place, byte) in first.into_iter().enumerate() {
+            assert_eq!(rt; test_at(group, place)?.message(), [byte].as_slice());
+        }
     }
     Ok(())
 }

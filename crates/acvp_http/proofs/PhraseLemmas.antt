@@ -2,7 +2,7 @@
 use Rattle.std.specs.Prelude.{◌≤◌, length}
 use Rattle.std.proofs.Common.{lit≤}
 use Rattle.acvp_policy.specs.declared.rule.Rule.{Rule}
-use Rattle.acvp_policy.specs.declared.rule.Rule.TheVariants.{BadHead, HeadTooLarge, Truncated, LengthMissing, BadLength, BodyTooLarge, TransferCoding, HostMissing, NoRoute, NoMethod, TokenMissing, TokenMalformed, TokenSignature, TokenClaims, TokenExpired, AccountRefused, AccountTokenNeeded, SessionTokenNeeded, OtherSession, NoResource, SessionCancelled, SessionExpired, SessionFrozen, SetCancelled, SetExpired, AlreadySubmitted, NotSubmitted, NotSample, SampleNotCertifiable, NotPassed, BodyNotJson, BodyEnvelope, BodyField, NotByteOriented, LengthOutOfRange, Unsupported, UnknownTest, DuplicateTest, SetMismatch, NoReference, AccountFull, LoginRefused, RenewalRefused, ClockOutOfRange, Unavailable, BadPage}
+use Rattle.acvp_policy.specs.declared.rule.Rule.TheVariants.{BadHead, HeadTooLarge, Truncated, LengthMissing, BadLength, BodyTooLarge, TransferCoding, HostMissing, NoRoute, NoMethod, TokenMissing, TokenMalformed, TokenSignature, TokenClaims, TokenExpired, AccountRefused, AccountTokenNeeded, SessionTokenNeeded, OtherSession, NoResource, SessionCancelled, SessionExpired, SessionFrozen, SetCancelled, SetExpired, AlreadySubmitted, NotSubmitted, NotSample, SampleNotCertifiable, NotPassed, BodyNotJson, BodyEnvelope, BodyField, NotByteOriented, LengthOutOfRange, Unsupported, UnknownTest, DuplicateTest, SetMismatch, NoReference, AccountFull, LoginRefused, RenewalRefused, ClockOutOfRange, Unavailable, BadPage, ReviewersFull}
 use Rattle.acvp_policy.specs.Rule.{rule_status}
 use Rattle.acvp_http.specs.Reply.{phrase_of}
 
@@ -53,3 +53,4 @@ phrase_of-rule_status RenewalRefused = lit≤ tt
 phrase_of-rule_status ClockOutOfRange = lit≤ tt
 phrase_of-rule_status Unavailable = lit≤ tt
 phrase_of-rule_status BadPage = lit≤ tt
+phrase_of-rule_status ReviewersFull = lit≤ tt

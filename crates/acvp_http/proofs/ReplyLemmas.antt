@@ -2,7 +2,7 @@
 use Rattle.std.proofs.Common.{◌≡◌, ℕ, List, [], ◌++◌, codes, refl, append_assoc}
 use Rattle.serde_json.proofs.OnLiterals.{serde_json_on_literals}
 use Rattle.acvp_policy.specs.declared.rule.Rule.{Rule}
-use Rattle.acvp_policy.specs.declared.rule.Rule.TheVariants.{BadHead, HeadTooLarge, Truncated, LengthMissing, BadLength, BodyTooLarge, TransferCoding, HostMissing, NoRoute, NoMethod, TokenMissing, TokenMalformed, TokenSignature, TokenClaims, TokenExpired, AccountRefused, AccountTokenNeeded, SessionTokenNeeded, OtherSession, NoResource, SessionCancelled, SessionExpired, SessionFrozen, SetCancelled, SetExpired, AlreadySubmitted, NotSubmitted, NotSample, SampleNotCertifiable, NotPassed, BodyNotJson, BodyEnvelope, BodyField, NotByteOriented, LengthOutOfRange, Unsupported, UnknownTest, DuplicateTest, SetMismatch, NoReference, AccountFull, LoginRefused, RenewalRefused, ClockOutOfRange, Unavailable, BadPage}
+use Rattle.acvp_policy.specs.declared.rule.Rule.TheVariants.{BadHead, HeadTooLarge, Truncated, LengthMissing, BadLength, BodyTooLarge, TransferCoding, HostMissing, NoRoute, NoMethod, TokenMissing, TokenMalformed, TokenSignature, TokenClaims, TokenExpired, AccountRefused, AccountTokenNeeded, SessionTokenNeeded, OtherSession, NoResource, SessionCancelled, SessionExpired, SessionFrozen, SetCancelled, SetExpired, AlreadySubmitted, NotSubmitted, NotSample, SampleNotCertifiable, NotPassed, BodyNotJson, BodyEnvelope, BodyField, NotByteOriented, LengthOutOfRange, Unsupported, UnknownTest, DuplicateTest, SetMismatch, NoReference, AccountFull, LoginRefused, RenewalRefused, ClockOutOfRange, Unavailable, BadPage, ReviewersFull}
 use Rattle.acvp_policy.specs.Rule.{rule_word}
 use Rattle.acvp_json.specs.Written.{body_of}
 use Rattle.acvp_http.specs.Reply.{error_object}
@@ -65,6 +65,7 @@ body_of-error_object RenewalRefused = refl
 body_of-error_object ClockOutOfRange = refl
 body_of-error_object Unavailable = refl
 body_of-error_object BadPage = refl
+body_of-error_object ReviewersFull = refl
 
 -- three writes into an empty text
 pub written_thrice : (s0 s1 s2 s3 a b c : List ℕ) → s0 ≡ [] → s1 ≡ s0 ++ a → s2 ≡ s1 ++ b → s3 ≡ s2 ++ c

@@ -4,7 +4,7 @@
 
 pub use conditions::{joined_conditions, renamed_conditions};
 pub use digest_bytes::Digest;
-pub use hash_functions::{HashFunction, hash};
+pub use hash_functions::{HashFunction, hash, hash_pieces};
 pub use keyed_hash::hmac;
 pub use one_time_codes::{accepted_step, step_of, totp};
 pub use sha2::{Sha224, Sha256, Sha384, Sha512, Sha512_224, Sha512_256};

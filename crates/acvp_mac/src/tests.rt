@@ -3,7 +3,7 @@
 
 use crate::{
     HashFunction, HashName, Sha224, Sha256, Sha384, Sha512, Sha512_224, Sha512_256, accepted_step,
-    hash, hmac, step_of, totp,
+    hash, hash_pieces, hmac, step_of, totp,
 };
 use std::alloc::{AllocError, Global};
 use std::fmt::Write;
@@ -264,6 +264,24 @@ fn a_code_lasts_two_steps_and_serves_once(rt: HostRuntime) {
         assert_eq!(rt; accepted_step(SECRET, last, moment, 46119246), accepted);
     }
     assert_eq!(rt; accepted_step(SECRET, None, 59, 46119247), None);
+}
+
+#[test]
+fn pieces_are_hashed_as_one_message(rt: HostRuntime) -> Result<(), Fail> {
+    for (name, digest) in [
+        (
+            HashName::Sha224,
+            "23097d223405d8228642a477bda255b32aadbce4bda0b3f7e36c9da7",
+        ),
+        (
+            HashName::Sha512_256,
+            "53048e2681941ef99b2e29b76b4c7dabe4c2d0c634fc6d46e0e2f13107e7af23",
+        ),
+    ] {
+        let found = hash_pieces(name, &[b"a", b"", b"bc"]);
+        assert_eq!(rt; hex(rt.alloc(), found.as_slice())?.as_str(), digest);
+    }
+    Ok(())
 }
 
 #[test]

@@ -52,6 +52,9 @@ resource_conditions-late action.NewEnvironment f = refl
 resource_conditions-late action.ReadEnvironment f = refl
 resource_conditions-late action.ListRequests f = refl
 resource_conditions-late action.ReadRequest f = refl
+resource_conditions-late action.ListReviewers f = refl
+resource_conditions-late action.AddReviewer f = refl
+resource_conditions-late action.RemoveReviewer f = refl
 
 late-from_test : (n : ℕ) → nat_le 20 n ≡ true → 20 ≤ n
 late-from_test n h = grind (arith, nat_tests)
@@ -76,6 +79,8 @@ claims_conditions-agree scope.Login one other same = refl
 claims_conditions-agree scope.AccountRead one other same = rw (same.token, same.standing) refl
 claims_conditions-agree scope.AccountChange one other same = rw (same.token, same.standing) refl
 claims_conditions-agree scope.SessionResource one other same = rw (same.token, same.standing, same.numbers) refl
+claims_conditions-agree scope.ReviewableResource one other same =
+    rw (same.token, same.standing, same.reviewer, same.numbers) refl
 
 pub caller_rule-kept : (a : Action) (one other : Facts) (r : Rule) → AgreeOnCaller one other → IsCallerRule r →
     decision a one ≡ Err r → decision a other ≡ Err r

@@ -13,4 +13,5 @@ IsCallerRule rule = (11 ≤ rule_number rule) × (rule_number rule ≤ 19)
 pub record AgreeOnCaller (one other : Facts) : Type 0 where
   pub token : one.token ≡ other.token
   pub standing : one.standing ≡ other.standing
+  pub reviewer : one.reviewer ≡ other.reviewer
   pub numbers : resource_of one.subject ≡ resource_of other.subject

@@ -20,7 +20,6 @@ use Rattle.acvp_policy.specs.declared.facts.CertificationStatus.TheVariants as s
 use Rattle.acvp_policy.specs.declared.facts.LoginFacts.{LoginFacts}
 use Rattle.acvp_policy.specs.declared.facts.RowSubject.{RowSubject}
 use Rattle.acvp_policy.specs.declared.facts.SessionFacts.{SessionFacts}
-use Rattle.acvp_policy.specs.declared.facts.CertificationFacts.{CertificationFacts}
 use Rattle.acvp_policy.specs.declared.facts.SetFacts.{SetFacts}
 use Rattle.acvp_policy.specs.Resource.{resource_of, session_number}
 
@@ -101,6 +100,10 @@ this_session f =
     let of_session = λ (s : ℕ). is_some_and (claims_of f.token) (are_of_session s) in
     (is_some_and (session_number (resource_of f.subject)) of_session, rule.OtherSession)
 
+-- a reviewer of the session, with a token that is bound to no session
+abbrev pub is_reviewer : Facts → Bool
+is_reviewer f = is_some_and (claims_of f.token) (λ c. is_none c.session) && f.reviewer
+
 -- What the path names is there, and is of the kind that the action is about.
 
 abbrev pub is_account : Subject → Bool
@@ -115,13 +118,13 @@ abbrev pub session_found : Subject → Option SessionFacts
 session_found (subject.Session on) = on.found
 session_found _ = None
 
-abbrev pub certification_found : Subject → Option CertificationFacts
-certification_found (subject.Certification on) = on.found
-certification_found _ = None
-
 abbrev pub set_found : Subject → Option SetFacts
 set_found (subject.Set on) = on.found
 set_found _ = None
+
+abbrev pub reviewer_found : Subject → Option SessionFacts
+reviewer_found (subject.Reviewer on) = on.found
+reviewer_found _ = None
 
 abbrev pub vendor_of : Subject → Option RowSubject
 vendor_of (subject.Vendor row) = Some row
@@ -149,11 +152,11 @@ algorithm_there f = (is_some_and (algorithm_of f.subject) (λ n. nat_le 1 n && n
 abbrev pub session_there : Facts → Condition Rule
 session_there f = (is_some (session_found f.subject), rule.NoResource)
 
-abbrev pub certification_there : Facts → Condition Rule
-certification_there f = (is_some (certification_found f.subject), rule.NoResource)
-
 abbrev pub set_there : Facts → Condition Rule
 set_there f = (is_some (set_found f.subject), rule.NoResource)
+
+abbrev pub reviewer_there : Facts → Condition Rule
+reviewer_there f = (is_some (reviewer_found f.subject), rule.NoResource)
 
 abbrev pub vendor_there : Facts → Condition Rule
 vendor_there f = (is_some_and (vendor_of f.subject) (λ row. row.found), rule.NoResource)
@@ -169,10 +172,6 @@ request_there f = (is_some_and (request_of f.subject) (λ row. row.found), rule.
 
 -- How the session stands.
 
-abbrev pub session_of_certification : Option CertificationFacts → Option SessionFacts
-session_of_certification None = None
-session_of_certification (Some found) = Some found.session
-
 abbrev pub session_of_set : Option SetFacts → Option SessionFacts
 session_of_set None = None
 session_of_set (Some found) = Some found.session
@@ -180,8 +179,8 @@ session_of_set (Some found) = Some found.session
 -- the session that was found, whatever the path names of it
 abbrev pub session_of : Subject → Option SessionFacts
 session_of (subject.Session on) = on.found
-session_of (subject.Certification on) = session_of_certification on.found
 session_of (subject.Set on) = session_of_set on.found
+session_of (subject.Reviewer on) = on.found
 session_of _ = None
 
 -- seconds from a session's creation to its end, and to that of its vector sets
@@ -215,7 +214,7 @@ abbrev pub is_no_sample : Facts → Condition Rule
 is_no_sample f = (is_some_and (session_of f.subject) (λ x. not x.sample), rule.SampleNotCertifiable)
 
 abbrev pub has_passed : Facts → Condition Rule
-has_passed f = (is_some_and (certification_found f.subject) (λ x. x.passed), rule.NotPassed)
+has_passed f = (is_some_and (session_of f.subject) (λ x. x.passed), rule.NotPassed)
 
 -- How the vector set stands.
 

@@ -6,3 +6,4 @@ pub mod Policy
 pub mod Granted
 pub mod Decision
 pub mod Callers
+pub mod Kinds

@@ -11,8 +11,8 @@ resource_of (subject.Login found) = resource.Account
 resource_of subject.Account = resource.Account
 resource_of (subject.Algorithm number) = resource.Algorithm number
 resource_of (subject.Session on) = resource.Session on.session
-resource_of (subject.Certification on) = resource.Session on.session
 resource_of (subject.Set on) = resource.Set on.session on.set
+resource_of (subject.Reviewer on) = resource.Reviewer on.session on.reviewer
 resource_of (subject.Vendor row) = resource.Vendor row.number
 resource_of (subject.Module row) = resource.Module row.number
 resource_of (subject.Environment row) = resource.Environment row.number
@@ -22,6 +22,7 @@ resource_of (subject.Request row) = resource.Request row.number
 abbrev pub session_number : Resource → Option ℕ
 session_number (resource.Session s) = Some s
 session_number (resource.Set s v) = Some s
+session_number (resource.Reviewer s account) = Some s
 session_number resource.Account = None
 session_number (resource.Algorithm number) = None
 session_number (resource.Vendor number) = None

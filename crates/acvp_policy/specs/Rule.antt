@@ -50,6 +50,7 @@ rule_number rule.RenewalRefused = 43
 rule_number rule.ClockOutOfRange = 44
 rule_number rule.Unavailable = 45
 rule_number rule.BadPage = 46
+rule_number rule.ReviewersFull = 47
 
 -- the classes of RFC 9110, section 15
 abbrev pub rule_status : Rule → ℕ
@@ -99,6 +100,7 @@ rule_status rule.RenewalRefused = 403
 rule_status rule.ClockOutOfRange = 503
 rule_status rule.Unavailable = 503
 rule_status rule.BadPage = 400
+rule_status rule.ReviewersFull = 403
 
 abbrev pub rule_word : Rule → List ℕ
 rule_word rule.BadHead = codes "badHead"
@@ -147,3 +149,4 @@ rule_word rule.RenewalRefused = codes "renewalRefused"
 rule_word rule.ClockOutOfRange = codes "clockOutOfRange"
 rule_word rule.Unavailable = codes "unavailable"
 rule_word rule.BadPage = codes "badPage"
+rule_word rule.ReviewersFull = codes "reviewersFull"

@@ -3,7 +3,7 @@
 ghost use Rattle.std.specs.Prelude.{◌≡◌};
 ghost use Rattle.acvp_policy.specs.Scope.{scope_of};
 
-/// What a request asks for, in the order of the protocol's table of paths.
+/// What a request asks for, in the order of the actions' numbers, from 1 to 31.
 #[derive(Clone, Copy, Debug, PartialEq, Eq)]
 pub enum Action {
     Login,
@@ -34,6 +34,9 @@ pub enum Action {
     ReadEnvironment,
     ListRequests,
     ReadRequest,
+    ListReviewers,
+    AddReviewer,
+    RemoveReviewer,
 }
 
 /// What an action asks of the caller.
@@ -50,6 +53,10 @@ pub enum Scope {
 
     /// A token that is bound to the session of the path.
     SessionResource,
+
+    /// A token that is bound to the session of the path, or a token that is bound to no session, of an account that
+    /// reviews it.
+    ReviewableResource,
 }
 
 impl Action {
@@ -62,9 +69,11 @@ impl Action {
             Action::NewSession | Action::NewVendor => Scope::AccountChange,
             Action::NewModule | Action::NewEnvironment => Scope::AccountChange,
             Action::ReadSession | Action::Certify | Action::CancelSession => Scope::SessionResource,
-            Action::SessionResults | Action::ListSets => Scope::SessionResource,
-            Action::ReadSet | Action::CancelSet | Action::SetResults => Scope::SessionResource,
+            Action::ListSets | Action::ReadSet | Action::CancelSet => Scope::SessionResource,
             Action::Submit | Action::Resubmit | Action::Expected => Scope::SessionResource,
+            Action::ListReviewers | Action::AddReviewer => Scope::SessionResource,
+            Action::RemoveReviewer => Scope::SessionResource,
+            Action::SessionResults | Action::SetResults => Scope::ReviewableResource,
             _ => Scope::AccountRead,
         }
     }

@@ -38,7 +38,8 @@ pub fn claims_allow(scope: Scope, facts: &Facts) -> Result<(), Rule>
     match scope {
         Scope::Login | Scope::AccountRead => Ok(()),
         Scope::AccountChange => check(claims.session.is_none(), Rule::AccountTokenNeeded),
-        Scope::SessionResource => {
+        Scope::ReviewableResource if claims.session.is_none() && facts.reviewer => Ok(()),
+        Scope::SessionResource | Scope::ReviewableResource => {
             check(claims.session.is_some(), Rule::SessionTokenNeeded)?;
             check(
                 is_bound_to(claims, facts.subject.resource()),
@@ -52,7 +53,9 @@ pub fn claims_allow(scope: Scope, facts: &Facts) -> Result<(), Rule>
 fn is_bound_to(claims: Claims, resource: Resource) -> bool
     ensures { result ≡ is_some_and (session_number resource) (λ s. are_of_session s claims) }
 {
-    let (Resource::Session(session) | Resource::Set(session, _)) = resource else {
+    let (Resource::Session(session) | Resource::Set(session, _) | Resource::Reviewer(session, _)) =
+        resource
+    else {
         return false;
     };
     claims.session == Some(session) && account_of_session(session) == claims.account as u64

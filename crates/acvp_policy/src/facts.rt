@@ -3,7 +3,7 @@
 use acvp_token::Claims;
 
 /// What is known when a request is decided: what was found, and nothing that is still to be looked up.
-/// A login is decided on its findings alone, and leaves `token` and `standing` unread.
+/// A login is decided on its findings alone, and leaves `token`, `standing` and `reviewer` unread.
 #[derive(Clone, Copy, Debug, PartialEq, Eq)]
 pub struct Facts {
     /// The moment of the request, in seconds since 1970.
@@ -14,6 +14,9 @@ pub struct Facts {
 
     /// How the account of the token's claims stands.
     pub standing: Standing,
+
+    /// Whether the account of the token's claims is a reviewer of the session that the path names.
+    pub reviewer: bool,
 
     /// What the request's path names, with what was found there.
     pub subject: Subject,
@@ -28,7 +31,7 @@ pub enum Token {
     /// It has the shape of no token, or there are two.
     Malformed,
 
-    /// It isn't signed under the server's key.
+    /// It isn't signed under the key that it names.
     NotSigned,
 
     /// Its claims don't say whom it stands for and how long.
@@ -65,11 +68,11 @@ pub enum Subject {
     /// A session.
     Session(SessionSubject),
 
-    /// The certification of a session.
-    Certification(CertificationSubject),
-
     /// A vector set of a session.
     Set(SetSubject),
+
+    /// A reviewer of a session.
+    Reviewer(ReviewerSubject),
 
     /// A vendor, module or environment, or a request.
     Vendor(RowSubject),
@@ -118,13 +121,6 @@ pub struct SessionSubject {
     pub found: Option<SessionFacts>,
 }
 
-/// The session that a path names, to be certified.
-#[derive(Clone, Copy, Debug, PartialEq, Eq)]
-pub struct CertificationSubject {
-    pub session: u64,
-    pub found: Option<CertificationFacts>,
-}
-
 /// The vector set that a path names.
 #[derive(Clone, Copy, Debug, PartialEq, Eq)]
 pub struct SetSubject {
@@ -133,6 +129,18 @@ pub struct SetSubject {
 
     /// The session and its set; none where either isn't there, or the set isn't the session's.
     pub found: Option<SetFacts>,
+}
+
+/// The reviewer of a session that a path names.
+#[derive(Clone, Copy, Debug, PartialEq, Eq)]
+pub struct ReviewerSubject {
+    pub session: u64,
+
+    /// The number of an account.
+    pub reviewer: u64,
+
+    /// The session; none where it isn't there, or the account is no reviewer of it.
+    pub found: Option<SessionFacts>,
 }
 
 /// The row that a path names by its number.
@@ -156,6 +164,9 @@ pub struct SessionFacts {
 
     /// The status of its last certification request, where it has one.
     pub certification: Option<CertificationStatus>,
+
+    /// Whether it has a vector set that isn't cancelled, and each such set has the disposition `passed`.
+    pub passed: bool,
 }
 
 /// The status of a certification request.
@@ -164,15 +175,6 @@ pub enum CertificationStatus {
     Initial,
     Approved,
     Rejected,
-}
-
-/// How a session stands that is to be certified.
-#[derive(Clone, Copy, Debug, PartialEq, Eq)]
-pub struct CertificationFacts {
-    pub session: SessionFacts,
-
-    /// Whether the session has a vector set that isn't cancelled, and each such set has the disposition `passed`.
-    pub passed: bool,
 }
 
 /// How a vector set stands, and its session.

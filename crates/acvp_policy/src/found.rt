@@ -10,7 +10,8 @@ use crate::caller::check;
 use crate::facts::{Facts, Renewal, Subject};
 use crate::rule::Rule;
 use crate::session::{
-    cancel_session_allowed, certification_allowed, session_read_allowed, session_results_allowed,
+    cancel_session_allowed, certification_allowed, live_session_found, reviewer_removal_allowed,
+    session_found,
 };
 use crate::set::{
     cancel_set_allowed, expected_allowed, resubmission_allowed, set_read_allowed,
@@ -28,10 +29,11 @@ pub fn resource_allows(action: Action, facts: &Facts) -> Result<(), Rule>
             facts.subject,
             Subject::Algorithm(1..=12)
         )),
-        Action::ReadSession | Action::ListSets => session_read_allowed(facts),
+        Action::ReadSession | Action::ListSets | Action::ListReviewers => session_found(facts),
         Action::Certify => certification_allowed(facts),
         Action::CancelSession => cancel_session_allowed(facts),
-        Action::SessionResults => session_results_allowed(facts),
+        Action::SessionResults | Action::AddReviewer => live_session_found(facts),
+        Action::RemoveReviewer => reviewer_removal_allowed(facts),
         Action::ReadSet => set_read_allowed(facts),
         Action::CancelSet => cancel_set_allowed(facts),
         Action::SetResults => set_results_allowed(facts),

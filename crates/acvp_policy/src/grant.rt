@@ -1,7 +1,10 @@
 //! Decisions and the grants that they give.
 
-ghost use Rattle.std.specs.Prelude.{◌≡◌, ◌↔◌, IsTrue, IfOk};
+ghost use Rattle.std.specs.Prelude.{◌≡◌, ◌↔◌, ◌⊎◌, ℕ, IsTrue, IfOk};
+ghost use Rattle.acvp_token.specs.SessionNumber.{account_of_session};
 ghost use Rattle.acvp_policy.specs.Decision.{account_of, decision, granted};
+ghost use Rattle.acvp_policy.specs.Granted.{Granted};
+ghost use Rattle.acvp_policy.specs.Kinds.{IsOfItsKind, IsOfSession, IsReview};
 
 use crate::action::Action;
 use crate::caller::claims_allow;
@@ -40,6 +43,16 @@ pub fn decide(action: Action, facts: &Facts) -> Result<Grant, Rule>
         resource: facts.subject.resource(),
     })
 }
+
+/// A grant is for a resource of its action's kind. On a session, its sets and its reviewers it is given to the account
+/// that the session is of, unless a reviewer reads results.
+pub fn granted_resources()
+    ensures kind { (action : Action) (facts : Facts) (grant : Granted) → decision action facts ≡ Ok grant
+        → IsOfItsKind action grant.resource }
+    ensures own { (action : Action) (facts : Facts) (grant : Granted) → decision action facts ≡ Ok grant
+        → (session : ℕ) → IsOfSession session grant.resource
+        → (account_of_session session ≡ grant.account) ⊎ IsReview action facts }
+{}
 
 /// Spends a grant without a change.
 pub fn release(grant: Grant) {

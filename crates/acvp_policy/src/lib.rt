@@ -3,11 +3,10 @@
 
 pub use action::{Action, Scope};
 pub use facts::{
-    CertificationFacts, CertificationStatus, CertificationSubject, Facts, LoginFacts, Renewal,
-    RowSubject, SessionFacts, SessionSubject, SetFacts, SetSubject, Standing, Subject, Token,
-    UserFacts,
+    CertificationStatus, Facts, LoginFacts, Renewal, ReviewerSubject, RowSubject, SessionFacts,
+    SessionSubject, SetFacts, SetSubject, Standing, Subject, Token, UserFacts,
 };
-pub use grant::{Grant, allows, decide, release};
+pub use grant::{Grant, allows, decide, granted_resources, release};
 pub use isolation::caller_rules_agree;
 pub use resource::Resource;
 pub use rule::Rule;

@@ -15,6 +15,9 @@ pub enum Resource {
 
     /// A session and its vector set.
     Set(u64, u64),
+
+    /// A session and the account of a reviewer of it.
+    Reviewer(u64, u64),
     Vendor(u64),
     Module(u64),
     Environment(u64),
@@ -30,8 +33,8 @@ impl Subject {
             Subject::Login(_) | Subject::Account => Resource::Account,
             Subject::Algorithm(number) => Resource::Algorithm(*number),
             Subject::Session(on) => Resource::Session(on.session),
-            Subject::Certification(on) => Resource::Session(on.session),
             Subject::Set(on) => Resource::Set(on.session, on.set),
+            Subject::Reviewer(on) => Resource::Reviewer(on.session, on.reviewer),
             Subject::Vendor(row) => Resource::Vendor(row.number),
             Subject::Module(row) => Resource::Module(row.number),
             Subject::Environment(row) => Resource::Environment(row.number),

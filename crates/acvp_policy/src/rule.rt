@@ -143,13 +143,16 @@ pub enum Rule {
 
     /// The query is no page.
     BadPage = 46,
+
+    /// The session has as many reviewers as it may have, and the account isn't one of them.
+    ReviewersFull = 47,
 }
 
 impl Rule {
-    /// The number of the rule, from 1 to 46.
+    /// The number of the rule, from 1 to 47.
     pub fn number(self) -> u8
         ensures value { result ≡ rule_number self }
-        ensures range { (1 ≤ result) × (result ≤ 46) }
+        ensures range { (1 ≤ result) × (result ≤ 47) }
     {
         self as u8
     }
@@ -188,7 +191,8 @@ impl Rule {
             | Rule::SampleNotCertifiable
             | Rule::AccountFull
             | Rule::LoginRefused
-            | Rule::RenewalRefused => 403,
+            | Rule::RenewalRefused
+            | Rule::ReviewersFull => 403,
             Rule::NoRoute | Rule::NoResource => 404,
             Rule::NoMethod => 405,
             Rule::SessionCancelled
@@ -259,6 +263,7 @@ impl Rule {
             Rule::ClockOutOfRange => "clockOutOfRange",
             Rule::Unavailable => "unavailable",
             Rule::BadPage => "badPage",
+            Rule::ReviewersFull => "reviewersFull",
         }
     }
 }

@@ -13,8 +13,8 @@ use crate::rule::Rule;
 /// The seconds from a session's creation to its end.
 pub const SESSION_LIFE: u64 = 2_592_000;
 
-/// Whether a session may be read, or its sets listed.
-pub fn session_read_allowed(facts: &Facts) -> Result<(), Rule>
+/// Whether a session is there, to be read, or to have its sets or reviewers listed.
+pub fn session_found(facts: &Facts) -> Result<(), Rule>
     ensures { result ≡ judged (resource_conditions action.ReadSession facts.now) tt }
 {
     let Subject::Session(on) = facts.subject else {
@@ -23,11 +23,24 @@ pub fn session_read_allowed(facts: &Facts) -> Result<(), Rule>
     check(on.found.is_some(), Rule::NoResource)
 }
 
-/// Whether a session's results may be read.
-pub fn session_results_allowed(facts: &Facts) -> Result<(), Rule>
+/// Whether a session is there and not cancelled, to have its results read or a reviewer added.
+pub fn live_session_found(facts: &Facts) -> Result<(), Rule>
     ensures { result ≡ judged (resource_conditions action.SessionResults facts.now) tt }
 {
     let Subject::Session(on) = facts.subject else {
+        return Err(Rule::NoResource);
+    };
+    let Some(session) = on.found else {
+        return Err(Rule::NoResource);
+    };
+    check(!session.cancelled, Rule::SessionCancelled)
+}
+
+/// Whether a session's reviewer may be removed.
+pub fn reviewer_removal_allowed(facts: &Facts) -> Result<(), Rule>
+    ensures { result ≡ judged (resource_conditions action.RemoveReviewer facts.now) tt }
+{
+    let Subject::Reviewer(on) = facts.subject else {
         return Err(Rule::NoResource);
     };
     let Some(session) = on.found else {
@@ -54,20 +67,17 @@ pub fn cancel_session_allowed(facts: &Facts) -> Result<(), Rule>
 pub fn certification_allowed(facts: &Facts) -> Result<(), Rule>
     ensures { result ≡ judged (resource_conditions action.Certify facts.now) tt }
 {
-    let Subject::Certification(on) = facts.subject else {
+    let Subject::Session(on) = facts.subject else {
         return Err(Rule::NoResource);
     };
-    let Some(found) = on.found else {
+    let Some(session) = on.found else {
         return Err(Rule::NoResource);
     };
-    check(!found.session.cancelled, Rule::SessionCancelled)?;
-    check(
-        session_lasts(found.session, facts.moment),
-        Rule::SessionExpired,
-    )?;
-    check(!frozen(found.session), Rule::SessionFrozen)?;
-    check(!found.session.sample, Rule::SampleNotCertifiable)?;
-    check(found.passed, Rule::NotPassed)
+    check(!session.cancelled, Rule::SessionCancelled)?;
+    check(session_lasts(session, facts.moment), Rule::SessionExpired)?;
+    check(!frozen(session), Rule::SessionFrozen)?;
+    check(!session.sample, Rule::SampleNotCertifiable)?;
+    check(session.passed, Rule::NotPassed)
 }
 
 /// Whether the moment is before the session's end; before its creation it is, too.

@@ -3,9 +3,9 @@
 use crate::session::SESSION_LIFE;
 use crate::set::SET_LIFE;
 use crate::{
-    Action, CertificationFacts, CertificationStatus, CertificationSubject, Facts, LoginFacts,
-    Renewal, Resource, RowSubject, Rule, SessionFacts, SessionSubject, SetFacts, SetSubject,
-    Standing, Subject, Token, UserFacts, allows, decide, release,
+    Action, CertificationStatus, Facts, LoginFacts, Renewal, Resource, ReviewerSubject, RowSubject,
+    Rule, SessionFacts, SessionSubject, SetFacts, SetSubject, Standing, Subject, Token, UserFacts,
+    allows, decide, release,
 };
 use acvp_token::Claims;
 use std::process::Abort;
@@ -67,6 +67,7 @@ fn open_session() -> SessionFacts {
         created: CREATED,
         sample: false,
         certification: None,
+        passed: true,
     }
 }
 
@@ -78,11 +79,12 @@ fn on_session(session: SessionFacts) -> Subject {
     })
 }
 
-/// A path that names the session to be certified.
-fn on_certification(session: SessionFacts, passed: bool) -> Subject {
-    Subject::Certification(CertificationSubject {
+/// A path that names the other account as a reviewer of the session, which stands so.
+fn on_reviewer(session: SessionFacts) -> Subject {
+    Subject::Reviewer(ReviewerSubject {
         session: SESSION,
-        found: Some(CertificationFacts { session, passed }),
+        reviewer: FOREIGN_ACCOUNT as u64,
+        found: Some(session),
     })
 }
 
@@ -131,7 +133,8 @@ fn good_subject(action: Action) -> Subject {
         Action::ReadSession | Action::CancelSession | Action::SessionResults | Action::ListSets => {
             on_session(open_session())
         }
-        Action::Certify => on_certification(open_session(), true),
+        Action::Certify | Action::ListReviewers | Action::AddReviewer => on_session(open_session()),
+        Action::RemoveReviewer => on_reviewer(open_session()),
         Action::ReadSet | Action::CancelSet | Action::SetResults | Action::Submit => on_set(
             open_session(),
             false,
@@ -158,6 +161,7 @@ fn good_facts(action: Action, bound: Option<u64>) -> Facts {
         moment: MOMENT,
         token: token_of(ACCOUNT, bound),
         standing: Standing::Enabled,
+        reviewer: false,
         subject: good_subject(action),
     }
 }
@@ -166,10 +170,7 @@ fn good_facts(action: Action, bound: Option<u64>) -> Facts {
 fn not_found(subject: Subject) -> Subject {
     match subject {
         Subject::Session(on) => Subject::Session(SessionSubject { found: None, ..on }),
-        Subject::Certification(on) => Subject::Certification(CertificationSubject {
-            found: None,
-            ..on
-        }),
+        Subject::Reviewer(on) => Subject::Reviewer(ReviewerSubject { found: None, ..on }),
         Subject::Set(on) => Subject::Set(SetSubject { found: None, ..on }),
         Subject::Vendor(row) => Subject::Vendor(RowSubject {
             found: false,
@@ -205,17 +206,16 @@ fn with_session_broken(subject: Subject, rule: Rule) -> Subject {
             session,
             found: Some(session_broken(found, rule)),
         }),
-        Subject::Certification(
-            CertificationSubject {
+        Subject::Reviewer(
+            ReviewerSubject {
                 session,
+                reviewer,
                 found: Some(found),
             },
-        ) => Subject::Certification(CertificationSubject {
+        ) => Subject::Reviewer(ReviewerSubject {
             session,
-            found: Some(CertificationFacts {
-                session: session_broken(found.session, rule),
-                passed: found.passed && rule != Rule::NotPassed,
-            }),
+            reviewer,
+            found: Some(session_broken(found, rule)),
         }),
         Subject::Set(
             SetSubject {
@@ -245,6 +245,7 @@ fn session_broken(session: SessionFacts, rule: Rule) -> SessionFacts {
         Rule::SessionFrozen => broken.certification = Some(CertificationStatus::Initial),
         Rule::NotSample => broken.sample = false,
         Rule::SampleNotCertifiable => broken.sample = true,
+        Rule::NotPassed => broken.passed = false,
         _ => {}
     }
     broken
@@ -385,7 +386,7 @@ const SESSION_OF_TOKEN: &[u8] = &[11, 12, 13, 14, 15, 16, 18, 19];
 /// account's own lists and rows are meant, rule 20 is broken by facts on something else.
 #[test]
 fn each_action_has_its_rules_in_their_order(rt: HostRuntime) {
-    let table: [(Action, Option<u64>, &[u8], &[u8]); 28] = [
+    let table: [(Action, Option<u64>, &[u8], &[u8]); 31] = [
         (Action::Login, None, LOGIN, &[42, 43]),
         (Action::ReadAccount, None, READ, &[20]),
         (Action::ListAlgorithms, None, READ, &[20]),
@@ -459,6 +460,24 @@ fn each_action_has_its_rules_in_their_order(rt: HostRuntime) {
         (Action::ReadEnvironment, None, READ, &[20]),
         (Action::ListRequests, None, READ, &[20]),
         (Action::ReadRequest, Some(SESSION), READ, &[20]),
+        (
+            Action::ListReviewers,
+            Some(SESSION),
+            SESSION_OF_TOKEN,
+            &[20],
+        ),
+        (
+            Action::AddReviewer,
+            Some(SESSION),
+            SESSION_OF_TOKEN,
+            &[20, 21],
+        ),
+        (
+            Action::RemoveReviewer,
+            Some(SESSION),
+            SESSION_OF_TOKEN,
+            &[20, 21],
+        ),
     ];
     for (action, bound, front, back) in table {
         answers_the_first(&rt, action, bound, front, back);
@@ -471,6 +490,7 @@ fn session_facts(token: Token, subject: Subject) -> Facts {
         moment: MOMENT,
         token,
         standing: Standing::Enabled,
+        reviewer: false,
         subject,
     }
 }
@@ -549,19 +569,18 @@ fn expected_answers_and_certificates_of_samples(rt: HostRuntime) {
         (Action::Expected, on_set(sample, true), None),
         (
             Action::Certify,
-            on_certification(sample, true),
+            on_session(sample),
             Some(Rule::SampleNotCertifiable),
         ),
         (
             Action::Certify,
-            on_certification(open_session(), false),
+            on_session(SessionFacts {
+                passed: false,
+                ..open_session()
+            }),
             Some(Rule::NotPassed),
         ),
-        (
-            Action::Certify,
-            on_certification(open_session(), true),
-            None,
-        ),
+        (Action::Certify, on_session(open_session()), None),
     ] {
         assert_eq!(rt; refusal(action, &session_facts(bound, subject)), rule);
     }
@@ -599,20 +618,20 @@ fn lives_end_at_their_last_second(rt: HostRuntime) {
         (Action::Submit, on_set(late, false), u64::MAX, None),
         (
             Action::Certify,
-            on_certification(open_session(), true),
+            on_session(open_session()),
             CREATED + SESSION_LIFE - 1,
             None,
         ),
         (
             Action::Certify,
-            on_certification(open_session(), true),
+            on_session(open_session()),
             CREATED + SESSION_LIFE,
             Some(Rule::SessionExpired),
         ),
-        (Action::Certify, on_certification(late, true), 0, None),
+        (Action::Certify, on_session(late), 0, None),
         (
             Action::Certify,
-            on_certification(open_session(), true),
+            on_session(open_session()),
             u64::MAX,
             Some(Rule::SessionExpired),
         ),
@@ -646,6 +665,73 @@ fn certification_freezes_until_it_is_rejected(rt: HostRuntime) {
         };
         let facts = session_facts(bound, on_set(session, true));
         assert_eq!(rt; refusal(Action::Resubmit, &facts), rule);
+    }
+}
+
+/// What is decided for the other account, with a token that is bound to a session or not, of the session's reviewer or
+/// of none.
+fn refusal_of_foreign(action: Action, bound: Option<u64>, reviewer: bool) -> Option<Rule> {
+    let facts = Facts {
+        token: token_of(FOREIGN_ACCOUNT, bound),
+        reviewer,
+        ..good_facts(action, None)
+    };
+    refusal(action, &facts)
+}
+
+#[test]
+fn reviewers_read_results_and_nothing_else(rt: HostRuntime) {
+    for action in [Action::SessionResults, Action::SetResults] {
+        let others = Some(Rule::OtherSession);
+        assert_eq!(rt; refusal_of_foreign(action, None, true), None);
+        assert_eq!(rt;
+            refusal_of_foreign(action, Some(FOREIGN_SESSION), true),
+            others
+        );
+        assert_eq!(rt; refusal_of_foreign(action, Some(SESSION), true), others);
+    }
+    let needed = Some(Rule::SessionTokenNeeded);
+    for action in [Action::SessionResults, Action::SetResults] {
+        assert_eq!(rt; refusal_of_foreign(action, None, false), needed);
+    }
+    for action in [
+        Action::ReadSession,
+        Action::Certify,
+        Action::CancelSession,
+        Action::ListSets,
+        Action::ReadSet,
+        Action::CancelSet,
+        Action::Submit,
+        Action::Resubmit,
+        Action::Expected,
+        Action::ListReviewers,
+        Action::AddReviewer,
+        Action::RemoveReviewer,
+    ] {
+        assert_eq!(rt;
+            refusal_of_foreign(action, None, true),
+            needed,
+            "{action:?}"
+        );
+    }
+}
+
+#[test]
+fn reviewers_of_what_is_cancelled_or_absent_are_told_so(rt: HostRuntime) {
+    let cancelled = SessionFacts {
+        cancelled: true,
+        ..open_session()
+    };
+    for (subject, rule) in [
+        (on_session(cancelled), Rule::SessionCancelled),
+        (absent_session(SESSION), Rule::NoResource),
+        (Subject::Account, Rule::NoResource),
+    ] {
+        let facts = Facts {
+            reviewer: true,
+            ..session_facts(token_of(FOREIGN_ACCOUNT, None), subject)
+        };
+        assert_eq!(rt; refusal(Action::SessionResults, &facts), Some(rule));
     }
 }
 
@@ -703,7 +789,13 @@ fn grants_are_for_one_resource_of_one_account(rt: HostRuntime) {
         on_set(open_session(), false),
     );
     let login = session_facts(Token::Missing, on_login(true, Some(1), Renewal::Unasked));
+    let removal = session_facts(
+        token_of(ACCOUNT, Some(SESSION)),
+        on_reviewer(open_session()),
+    );
+    let named = Resource::Reviewer(SESSION, FOREIGN_ACCOUNT as u64);
     for (action, facts, resource) in [
+        (Action::RemoveReviewer, removal, named),
         (Action::Submit, set, Resource::Set(SESSION, SET)),
         (Action::Login, login, Resource::Account),
     ] {
@@ -735,6 +827,7 @@ fn rules_have_the_words_and_statuses_of_the_protocol(rt: HostRuntime) {
         (Rule::LoginRefused, 42, 403, "loginRefused"),
         (Rule::ClockOutOfRange, 44, 503, "clockOutOfRange"),
         (Rule::BadPage, 46, 400, "badPage"),
+        (Rule::ReviewersFull, 47, 403, "reviewersFull"),
     ] {
         assert_eq!(rt; rule.number(), number);
         assert_eq!(rt; rule.status(), status);

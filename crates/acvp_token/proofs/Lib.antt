@@ -1,4 +1,5 @@
 pub mod Dots
+pub mod Places
 pub mod Shapes
 pub mod Readings
 pub mod Verdicts

@@ -1,7 +1,7 @@
 -- An issued token reads as the claims that it was issued for.
 use Rattle.std.proofs.Common.{◌≡◌, ℕ, zero, suc, ◌+◌, ◌*◌, ◌/◌, ◌%◌, ◌^◌, ◌<◌, ◌≤◌, List, [], ◌∷◌, ◌++◌, Bool, true}
 use Rattle.std.proofs.Common.{false, nat_lt, ◌&&◌, length, length-append, get_or, Option, None, Some, IfSome, Result}
-use Rattle.std.proofs.Common.{Ok, Err, IfOk, OnOk, String, string_bytes, Global, codes, decimal, refl, sym, ap, ◌∙◌}
+use Rattle.std.proofs.Common.{Ok, Err, IfOk, OnOk, String, string_bytes, Global, codes, decimal, refl, sym, ap, subst, ◌∙◌}
 use Rattle.std.proofs.Common.{arith, append-nil}
 use Rattle.std.proofs.lemmas.Fmt.{decimal_by_steps, length-decimal-le, IsAscii-decimal}
 use Rattle.std.proofs.lemmas.Grind.{flat_map-append}
@@ -10,6 +10,7 @@ use Rattle.std.specs.Str.{IsAscii}
 use Rattle.std.specs.List.{list_all}
 use Rattle.std.specs.declared.alloc.AllocError.{AllocError}
 use Rattle.std.proofs.lemmas.Bool.Decides.{nat_tests}
+use Rattle.std.proofs.lemmas.Slice.Eq.{bytes_eq-Decides}
 use Rattle.base64.specs.Engines.{url_safe_no_pad}
 use Rattle.base64.specs.GeneralPurpose.{IsBytes}
 use Rattle.base64.proofs.RoundTrip.{length-encode_symbols}
@@ -22,6 +23,7 @@ use Rattle.json.specs.Lex.{tokens}
 use Rattle.json.specs.Print.{print}
 use Rattle.json.proofs.Printed.Tokens.{tokens-print}
 use Rattle.json.proofs.Printed.Trees.{ArePrintable-json_tokens, value-json_tokens}
+use Rattle.serde_json.specs.Find.{get}
 use Rattle.serde_json.specs.Read.{read, of_json}
 use Rattle.serde_json.specs.Written.{compact_text, has_float, outline}
 use Rattle.serde_json.proofs.Numbers.{number_of-decimal}
@@ -31,10 +33,13 @@ use Rattle.acvp_mac.specs.declared.HashName.TheVariants.{Sha256}
 use Rattle.acvp_mac.proofs.DigestFacts.{length-hmac_of, bytes-hmac_of}
 use Rattle.acvp_token.specs.declared.Claims.{Claims}
 use Rattle.acvp_token.specs.ClaimsJson.{claims_data, claims_text}
-use Rattle.acvp_token.specs.TokenText.{encoded, issued_header, signature_of, token_of, token_text}
+use Rattle.acvp_token.specs.Keys.{Keys, one_key, Ring, key_at, last_place, IsKeyRing, signing_key, is_kid_of}
+use Rattle.acvp_token.specs.Keys.{named_key}
+use Rattle.acvp_token.specs.TokenText.{encoded, issued_header, signature_of, token_of, token_at, token_text}
+use Rattle.acvp_token.specs.TokenText.{ring_token_text}
 use Rattle.acvp_token.specs.Private.ClaimsWriting.{IsClaimsWritten}
-use Rattle.acvp_token.specs.Reads.{IsJson, IsHeader, GivesClaims, Reads}
-use Rattle.acvp_token.proofs.Readings.{bytes-from_test}
+use Rattle.acvp_token.specs.Reads.{IsJson, IsHeader, GivesClaims, ReadsBy, Reads, ReadsUnder}
+use Rattle.acvp_token.proofs.Places.{named-is, some-unwrapped, place_text, decimal-place}
 
 -- ---- the length of the claims
 
@@ -112,9 +117,13 @@ claims-short account (Some session) issued expires a s i e = session-length acco
 
 -- ---- the parts of an issued token
 
-header_data : Data
-header_data =
+-- the value of the header of a token that is issued under the key at a place
+header_data : ℕ → Data
+header_data zero =
     object (member (codes "alg") (string (codes "HS256")) (member (codes "typ") (string (codes "JWT")) no_members))
+header_data (suc n) =
+    object (member (codes "alg") (string (codes "HS256")) (member (codes "kid") (string (decimal (suc n)))
+    (member (codes "typ") (string (codes "JWT")) no_members)))
 
 below-from_test : (x : ℕ) → nat_lt x 128 ≡ true → x < 128
 below-from_test x h = grind (arith, nat_tests)
@@ -136,16 +145,88 @@ ascii-from_test (x ∷ xs) h =
     let parts = both (nat_lt x 128) (list_all (λ b. nat_lt b 128) xs) h in
     ascii-cons x xs (below-from_test x parts.0) (ascii-from_test xs parts.1)
 
-header-json : IsJson issued_header header_data
+-- what comes before the place in such a header, what comes after it, and the value
+abbrev header_front : List ℕ
+header_front = codes "{\"alg\":\"HS256\",\"kid\":\""
+
+abbrev header_back : List ℕ
+header_back = codes "\",\"typ\":\"JWT\"}"
+
+abbrev named_header : List ℕ → Data
+named_header text =
+    object (member (codes "alg") (string (codes "HS256")) (member (codes "kid") (string text)
+    (member (codes "typ") (string (codes "JWT")) no_members)))
+
+named-reads : (place : ℕ) → place < 16 →
+    read (header_front ++ place_text place ++ header_back) ≡ Some (named_header (place_text place))
+unfolding serde_json_on_literals place_text
+named-reads zero h = refl
+named-reads (suc zero) h = refl
+named-reads (suc (suc zero)) h = refl
+named-reads (suc (suc (suc zero))) h = refl
+named-reads (suc (suc (suc (suc zero)))) h = refl
+named-reads (suc (suc (suc (suc (suc zero))))) h = refl
+named-reads (suc (suc (suc (suc (suc (suc zero)))))) h = refl
+named-reads (suc (suc (suc (suc (suc (suc (suc zero))))))) h = refl
+named-reads (suc (suc (suc (suc (suc (suc (suc (suc zero)))))))) h = refl
+named-reads (suc (suc (suc (suc (suc (suc (suc (suc (suc zero))))))))) h = refl
+named-reads (suc (suc (suc (suc (suc (suc (suc (suc (suc (suc zero)))))))))) h = refl
+named-reads (suc (suc (suc (suc (suc (suc (suc (suc (suc (suc (suc zero))))))))))) h = refl
+named-reads (suc (suc (suc (suc (suc (suc (suc (suc (suc (suc (suc (suc zero)))))))))))) h = refl
+named-reads (suc (suc (suc (suc (suc (suc (suc (suc (suc (suc (suc (suc (suc zero))))))))))))) h = refl
+named-reads (suc (suc (suc (suc (suc (suc (suc (suc (suc (suc (suc (suc (suc (suc zero)))))))))))))) h = refl
+named-reads (suc (suc (suc (suc (suc (suc (suc (suc (suc (suc (suc (suc (suc (suc (suc zero))))))))))))))) h = refl
+named-reads (suc (suc (suc (suc (suc (suc (suc (suc (suc (suc (suc (suc (suc (suc (suc (suc n)))))))))))))))) h = absurd (omega arith)
+
+plain-reads : read (issued_header zero) ≡ Some (header_data zero)
 unfolding serde_json_on_literals header_data
-header-json = record { utf8 = IsUtf8-from_ascii issued_header (ascii-from_test issued_header refl); reads = refl }
+plain-reads = refl
 
-header-passes : IsHeader header_data
+header-reads : (place : ℕ) → place < 16 → read (issued_header place) ≡ Some (header_data place)
 unfolding header_data
-header-passes = record { algorithm = refl; nothing_critical = refl }
+header-reads zero h = plain-reads
+header-reads (suc n) h =
+    let P : List ℕ → Type 0 = λ text. read (header_front ++ text ++ header_back) ≡ Some (named_header text) in
+    subst P (sym (decimal-place (suc n) h)) (named-reads (suc n) h)
 
-header-bytes : IsBytes issued_header
-header-bytes = bytes-from_test issued_header refl
+header-ascii : (place : ℕ) → place < 16 → IsAscii (issued_header place)
+header-ascii zero h = ascii-from_test (issued_header zero) refl
+header-ascii (suc n) h =
+    IsAscii-append (header_front ++ decimal (suc n)) header_back
+    (IsAscii-append header_front (decimal (suc n)) (ascii-from_test header_front refl)
+    (IsAscii-decimal (suc n) (omega arith)))
+    (ascii-from_test header_back refl)
+
+ascii-bytes : (bytes : List ℕ) → IsAscii bytes → IsBytes bytes
+ascii-bytes bytes h = λ i. let low = h i in omega (arith, low)
+
+header-json : (place : ℕ) → place < 16 → IsJson (issued_header place) (header_data place)
+header-json place h =
+    record { utf8 = IsUtf8-from_ascii (issued_header place) (header-ascii place h); reads = header-reads place h }
+
+header-passes : (place : ℕ) → IsHeader (header_data place)
+unfolding header_data
+header-passes zero = record { algorithm = refl; nothing_critical = refl }
+header-passes (suc n) = record { algorithm = refl; nothing_critical = refl }
+
+header-bytes : (place : ℕ) → place < 16 → IsBytes (issued_header place)
+header-bytes place h = ascii-bytes (issued_header place) (header-ascii place h)
+
+header-short : (place : ℕ) → place < 16 → length (issued_header place) ≤ 38
+header-short zero h = omega arith
+header-short (suc n) h =
+    let size = length-decimal-le 2 (suc n) (omega arith) (omega arith) in
+    simp length-append (omega (arith, size))
+
+-- the key of a place is the one that the header of that place names, under one key and under a ring
+header-names-place : (place : ℕ) → is_kid_of (get (codes "kid") (header_data place)) place ≡ true
+unfolding header_data
+header-names-place zero = refl
+header-names-place (suc n) = (bytes_eq-Decides (decimal (suc n)) (decimal (suc n))).1 refl
+
+header-names-key : (ring : Ring) (place : ℕ) → place < 16 → length ring ≤ 16 →
+    named_key ring (header_data place) ≡ key_at ring place
+header-names-key ring place h most = named-is (header_data place) place ring h most (header-names-place place)
 
 gives-data : (account : ℕ) (session : Option ℕ) (issued expires : ℕ) → 1 ≤ account → account ≤ 9999 →
     let claims : Claims = record { account = account; session = session; issued = issued; expires = expires } in
@@ -180,40 +261,79 @@ encoded-length bytes n h =
     simp length-append (omega (arith, size))
 
 -- an issued token is short
-pub issued-short : (key : List ℕ) (c : Claims) → length (claims_text c) ≤ 120 → length (token_text key c) ≤ 1024
-unfolding token_text
-issued-short key c h =
-    let signature = signature_of key issued_header (claims_text c) in
-    let first = encoded-length issued_header 27 (omega arith) in
+issued-short : (place : ℕ) (key : List ℕ) (c : Claims) → place < 16 → length (claims_text c) ≤ 120 →
+    length (token_at place key c) ≤ 1024
+issued-short place key c within h =
+    let signature = signature_of key (issued_header place) (claims_text c) in
+    let first = encoded-length (issued_header place) 38 (header-short place within) in
     let second = encoded-length (claims_text c) 120 h in
-    let size = length-hmac_of Sha256 key (encoded issued_header ++ codes "." ++ encoded (claims_text c)) in
+    let size = length-hmac_of Sha256 key (encoded (issued_header place) ++ codes "." ++ encoded (claims_text c)) in
     let third = encoded-length signature 32 (omega (arith, size)) in
     simp length-append (omega (arith, first, second, third))
 
--- an issued token reads as its claims, where their text does
-pub reads-token_text : (key : List ℕ) (c : Claims) → 1 ≤ c.account → c.account ≤ 9999 → length (claims_text c) ≤ 120 →
-    IsJson (claims_text c) (claims_data c) → IsBytes (claims_text c) → Reads key (token_text key c) c
-unfolding token_text
-reads-token_text key c least greatest short json bytes =
+-- the text of these claims reads as them
+record IsClaimsJson (c : Claims) : Type 0 where
+  least : 1 ≤ c.account
+  greatest : c.account ≤ 9999
+  short : length (claims_text c) ≤ 120
+  json : IsJson (claims_text c) (claims_data c)
+  bytes : IsBytes (claims_text c)
+
+-- an issued token reads as its claims where their text does, under any keys of which its header names the one that
+-- signed it
+reads-token_at : (keys : Keys) (place : ℕ) (key : List ℕ) (c : Claims) → place < 16 →
+    keys (header_data place) ≡ Some key → IsClaimsJson c → ReadsBy keys (token_at place key c) c
+reads-token_at keys place key c within names claims =
     record {
-      header = issued_header;
+      header = issued_header place;
       payload = claims_text c;
-      signature = signature_of key issued_header (claims_text c);
+      signature = signature_of key (issued_header place) (claims_text c);
+      key = key;
       shape = record {
-        short = issued-short key c short;
-        whole = refl;
-        header_bytes = header-bytes;
-        claims_bytes = bytes;
-        signature_bytes = bytes-hmac_of Sha256 key (encoded issued_header ++ codes "." ++ encoded (claims_text c));
-        header_reads = (header_data, header-json, header-passes);
+        value = header_data place;
+        form = record {
+          short = issued-short place key c within claims.short;
+          whole = refl;
+          header_bytes = header-bytes place within;
+          claims_bytes = claims.bytes;
+          signature_bytes = bytes-hmac_of Sha256 key
+              (encoded (issued_header place) ++ codes "." ++ encoded (claims_text c));
+          header_reads = header-json place within;
+          header_passes = header-passes place;
+        };
+        names = names;
       };
       signed = refl;
       content = record {
         value = claims_data c;
-        json = json;
-        gives = gives-data c.account c.session c.issued c.expires least greatest;
+        json = claims.json;
+        gives = gives-data c.account c.session c.issued c.expires claims.least claims.greatest;
       };
     }
+
+reads-token_text : (key : List ℕ) (c : Claims) → IsClaimsJson c → Reads key (token_text key c) c
+unfolding token_text
+reads-token_text key c claims = reads-token_at (one_key key) 0 key c (omega arith) refl claims
+
+-- the last key of a ring is there
+signing_key-is : (ring : Ring) → IsKeyRing ring → key_at ring (last_place ring) ≡ Some (signing_key ring)
+signing_key-is ring is = some-unwrapped (key_at ring (last_place ring)) is.last
+
+-- a ring in which the key stands under which a token was issued by another names it
+later-names : (ring later : Ring) → IsKeyRing ring → IsKeyRing later →
+    key_at later (last_place ring) ≡ key_at ring (last_place ring) →
+    named_key later (header_data (last_place ring)) ≡ Some (signing_key ring)
+later-names ring later is is_later stands =
+    header-names-key later (last_place ring) (omega (arith, is.least, is.most)) is_later.most ∙ stands
+    ∙ signing_key-is ring is
+
+reads-ring_token_text : (ring later : Ring) (c : Claims) → IsKeyRing ring → IsKeyRing later →
+    key_at later (last_place ring) ≡ key_at ring (last_place ring) → IsClaimsJson c →
+    ReadsUnder later (ring_token_text ring c) c
+unfolding ring_token_text
+reads-ring_token_text ring later c is is_later stands claims =
+    reads-token_at (named_key later) (last_place ring) (signing_key ring) c (omega (arith, is.least, is.most))
+    (later-names ring later is is_later stands) claims
 
 -- ---- the text of the claims, as it is written
 
@@ -244,25 +364,57 @@ claims-written (Ok s) c d is text reads short =
 -- ---- the whole token
 
 -- a token over the text of the claims is the issued one
+issued-at : (r : Result (String Global) AllocError) (place : ℕ) (key payload : List ℕ) (c : Claims) →
+    IsClaimsWritten payload c →
+    IfOk r (λ t. string_bytes t
+    ≡ token_of (issued_header place) payload (signature_of key (issued_header place) payload)) →
+    IfOk r (λ t. string_bytes t ≡ token_at place key c)
+issued-at (Err e) place key payload c written text = tt
+issued-at (Ok t) place key payload c written text = rw (text, written.value) refl
+
 pub issued-text : (r : Result (String Global) AllocError) (key payload : List ℕ) (c : Claims) →
     IsClaimsWritten payload c →
-    IfOk r (λ t. string_bytes t ≡ token_of issued_header payload (signature_of key issued_header payload)) →
+    IfOk r (λ t. string_bytes t ≡ token_of (issued_header 0) payload (signature_of key (issued_header 0) payload)) →
     IfOk r (λ t. string_bytes t ≡ token_text key c)
 unfolding token_text
-issued-text (Err e) key payload c written text = tt
-issued-text (Ok t) key payload c written text = rw (text, written.value) refl
+issued-text r key payload c written text = issued-at r 0 key payload c written text
+
+pub ring-issued-text : (r : Result (String Global) AllocError) (ring : Ring) (header payload : List ℕ) (c : Claims) →
+    header ≡ issued_header (last_place ring) → IsClaimsWritten payload c →
+    IfOk r (λ t. string_bytes t ≡ token_of header payload (signature_of (signing_key ring) header payload)) →
+    IfOk r (λ t. string_bytes t ≡ ring_token_text ring c)
+unfolding ring_token_text
+ring-issued-text r ring header payload c is written text =
+    issued-at r (last_place ring) (signing_key ring) payload c written (rw is at text)
 
 -- and it reads as the claims
+written-json : (payload : List ℕ) (c : Claims) → IsClaimsWritten payload c → IsBytes payload → 1 ≤ c.account →
+    c.account ≤ 9999 → IsClaimsJson c
+written-json payload c written bytes least greatest =
+    record {
+      least = least;
+      greatest = greatest;
+      short = rw written.value at written.short;
+      json = rw written.value at written.json;
+      bytes = rw written.value at bytes;
+    }
+
 pub issued-reads : (r : Result (String Global) AllocError) (key payload : List ℕ) (c : Claims) →
     IsClaimsWritten payload c →
     IfOk r (λ t. string_bytes t ≡ token_text key c) → OnOk r (IsBytes payload) → 1 ≤ c.account → c.account ≤ 9999 →
     IfOk r (λ t. Reads key (string_bytes t) c)
 issued-reads (Err e) key payload c written text bytes least greatest = tt
 issued-reads (Ok t) key payload c written text bytes least greatest =
-    let short : length (claims_text c) ≤ 120 = rw written.value at written.short in
-    let json : IsJson (claims_text c) (claims_data c) = rw written.value at written.json in
-    let are_bytes : IsBytes (claims_text c) = rw written.value at bytes in
-    rw text (reads-token_text key c least greatest short json are_bytes)
+    rw text (reads-token_text key c (written-json payload c written bytes least greatest))
+
+pub ring-issued-reads : (r : Result (String Global) AllocError) (ring : Ring) (payload : List ℕ) (c : Claims) →
+    IsKeyRing ring → IsClaimsWritten payload c →
+    IfOk r (λ t. string_bytes t ≡ ring_token_text ring c) → OnOk r (IsBytes payload) → 1 ≤ c.account →
+    c.account ≤ 9999 →
+    IfOk r (λ t. ReadsUnder ring (string_bytes t) c)
+ring-issued-reads (Err e) ring payload c is written text bytes least greatest = tt
+ring-issued-reads (Ok t) ring payload c is written text bytes least greatest =
+    rw text (reads-ring_token_text ring ring c is is refl (written-json payload c written bytes least greatest))
 
 -- ---- the token of any claims, whoever writes it
 
@@ -421,15 +573,38 @@ claims-json account session issued expires a s i e =
       reads = claims-reads account session issued expires s i e;
     }
 
-ascii-bytes : (bytes : List ℕ) → IsAscii bytes → IsBytes bytes
-ascii-bytes bytes h = λ i. let low = h i in omega (arith, low)
+any-claims-json : (c : Claims) → 1 ≤ c.account → c.account ≤ 9999 →
+    IfSome c.session (λ n. n < 2 ^ 64) → c.issued < 2 ^ 64 → c.expires < 2 ^ 64 → IsClaimsJson c
+unfolding made_claims
+any-claims-json c least greatest s i e =
+    let small : c.account < 2 ^ 64 = omega arith in
+    record {
+      least = least;
+      greatest = greatest;
+      short = claims-short c.account c.session c.issued c.expires small s i e;
+      json = claims-json c.account c.session c.issued c.expires small s i e;
+      bytes = ascii-bytes (claims_text c) (claims-ascii c.account c.session c.issued c.expires small s i e);
+    }
 
 -- the token of any claims reads as them
 pub token_text-reads : (key : List ℕ) (c : Claims) → 1 ≤ c.account → c.account ≤ 9999 →
     IfSome c.session (λ n. n < 2 ^ 64) → c.issued < 2 ^ 64 → c.expires < 2 ^ 64 → Reads key (token_text key c) c
-unfolding made_claims
-token_text-reads key c least greatest s i e =
-    let small : c.account < 2 ^ 64 = omega arith in
-    reads-token_text key c least greatest (claims-short c.account c.session c.issued c.expires small s i e)
-    (claims-json c.account c.session c.issued c.expires small s i e)
-    (ascii-bytes (claims_text c) (claims-ascii c.account c.session c.issued c.expires small s i e))
+token_text-reads key c least greatest s i e = reads-token_text key c (any-claims-json c least greatest s i e)
+
+-- and so it does under each ring in which the key that signed it stands
+pub ring_token_text-reads : (ring later : Ring) (c : Claims) → IsKeyRing ring → IsKeyRing later →
+    key_at later (last_place ring) ≡ key_at ring (last_place ring) → 1 ≤ c.account → c.account ≤ 9999 →
+    IfSome c.session (λ n. n < 2 ^ 64) → c.issued < 2 ^ 64 → c.expires < 2 ^ 64 →
+    ReadsUnder later (ring_token_text ring c) c
+ring_token_text-reads ring later c is is_later stands least greatest s i e =
+    reads-ring_token_text ring later c is is_later stands (any-claims-json c least greatest s i e)
+
+-- as does the token of any claims under one key, where that is entry 0
+pub token_text-reads_under : (key : List ℕ) (later : Ring) (c : Claims) → IsKeyRing later →
+    key_at later 0 ≡ Some key → 1 ≤ c.account → c.account ≤ 9999 →
+    IfSome c.session (λ n. n < 2 ^ 64) → c.issued < 2 ^ 64 → c.expires < 2 ^ 64 →
+    ReadsUnder later (token_text key c) c
+unfolding token_text
+token_text-reads_under key later c is_later stands least greatest s i e =
+    reads-token_at (named_key later) 0 key c (omega arith)
+    (header-names-key later 0 (omega arith) is_later.most ∙ stands) (any-claims-json c least greatest s i e)

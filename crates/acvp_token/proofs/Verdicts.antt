@@ -10,15 +10,15 @@ use Rattle.serde_json.specs.Find.{get, as_str, as_number, as_u64}
 use Rattle.acvp_token.specs.declared.Claims.{Claims}
 use Rattle.acvp_token.specs.TokenText.{encoded}
 use Rattle.acvp_token.specs.Private.Splitting.{HasNoDot, IsSplit}
-use Rattle.acvp_token.specs.Reads.{IsJson, IsHeader, HasShape, GivesClaims, IsClaimsText}
-use Rattle.acvp_token.specs.Faults.{IsMalformed}
-use Rattle.acvp_token.specs.Private.Opening.{IsNoEncoding, IsHeaderText}
+use Rattle.acvp_token.specs.Keys.{is_member_text}
+use Rattle.acvp_token.specs.Reads.{IsJson, IsHeader, HasForm, GivesClaims, IsClaimsText}
+use Rattle.acvp_token.specs.Private.Opening.{IsNoEncoding, IsHeaderText, IsHeaderless, IsFormless}
 use Rattle.acvp_token.specs.Private.ClaimsReading.{IsAccount, IsSession}
-use Rattle.acvp_token.specs.Verdict.{split_dot, decoded, part_value, is_member_text, header_passes, Parts, if_header}
+use Rattle.acvp_token.specs.Verdict.{split_dot, decoded, part_value, header_passes, Parts, if_header}
 use Rattle.acvp_token.specs.Verdict.{decoded_parts, parts_of, account_up_to, account_in, number_in, session_value}
 use Rattle.acvp_token.specs.Verdict.{session_in, claims_in, claims_of}
 use Rattle.acvp_token.proofs.Dots.{split-parts, split-unique, encoded-no_dot, parts-from_right}
-use Rattle.acvp_token.proofs.Shapes.{malformed-header, malformed-claims, malformed-signature, malformed-text}
+use Rattle.acvp_token.proofs.Shapes.{formless-header, formless-claims, formless-signature, formless-text}
 use Rattle.acvp_token.proofs.Readings.{bind-is, test-is, both, IsCut, split_dot-is, dot-there, IsDecoded, decoded-is}
 use Rattle.acvp_token.proofs.Readings.{part_value-is, json-unique}
 
@@ -223,67 +223,70 @@ test-from_header d h = rw (h.algorithm, h.nothing_critical) refl
 -- ---- the parts of a token
 
 abbrev AreParts : List ℕ → List ℕ → List ℕ → Parts → Type 0
-AreParts h p s parts = (parts.header ≡ h) × (parts.payload ≡ p) × (parts.signature ≡ s) × IsHeaderText h
+AreParts h p s parts =
+    (parts.header ≡ h) × (parts.payload ≡ p) × (parts.signature ≡ s) × IsHeaderText h parts.value
 
-if_header-is : (h p s : List ℕ) → MatchOption (if_header h p s) (¬ IsHeaderText h) (AreParts h p s)
+if_header-is : (h p s : List ℕ) → MatchOption (if_header h p s) (IsHeaderless h) (AreParts h p s)
 if_header-is h p s =
-    bind-is ((d : Data) → ¬ IsJson h d) (¬ IsHeaderText h) (IsJson h) (AreParts h p s) (part_value h) _
+    bind-is ((d : Data) → ¬ IsJson h d) (IsHeaderless h) (IsJson h) (AreParts h p s) (part_value h) _
     (part_value-is h)
-    (λ none t. none t.0 t.1)
+    (λ none d t. none d t.json)
     (λ d json.
-    test-is (¬ IsHeaderText h) (AreParts h p s) (header_passes d)
-    (Some (record { header = h; payload = p; signature = s })) None
-    (λ t. (refl, refl, refl, (d, json, header-from_test d t)))
-    (λ t found.
-    let same : found.0 ≡ d = json-unique h found.0 d found.1 json in
-    let passes : header_passes d ≡ true = test-from_header d (rw same at found.2) in
+    test-is (IsHeaderless h) (AreParts h p s) (header_passes d)
+    (Some (record { value = d; header = h; payload = p; signature = s })) None
+    (λ t. (refl, refl, refl, record { json = json; passes = header-from_test d t }))
+    (λ t e found.
+    let same : e ≡ d = json-unique h e d found.json json in
+    let passes : header_passes d ≡ true = test-from_header d (rw same at found.passes) in
     cc))
 
-abbrev pub IsShapeOf : List ℕ → Parts → Type 0
-IsShapeOf text parts = HasShape text parts.header parts.payload parts.signature
+abbrev pub IsFormOf : List ℕ → Parts → Type 0
+IsFormOf text parts = HasForm text parts.header parts.payload parts.signature parts.value
 
-shape-of_parts : (text a b r h p s : List ℕ) (parts : Parts) → length text ≤ 1024 → IsSplit text a b r →
-    IsDecoded a h → IsDecoded b p → IsDecoded r s → AreParts h p s parts → IsShapeOf text parts
-shape-of_parts text a b r h p s parts short split first second third are =
-    let shape : HasShape text h p s = record {
+form-of_parts : (text a b r h p s : List ℕ) (parts : Parts) → length text ≤ 1024 → IsSplit text a b r →
+    IsDecoded a h → IsDecoded b p → IsDecoded r s → AreParts h p s parts → IsFormOf text parts
+form-of_parts text a b r h p s parts short split first second third are =
+    let header = are.3 in
+    let form : HasForm text h p s parts.value = record {
       short = short;
       whole = rw (← first.0, ← second.0, ← third.0) split.whole;
       header_bytes = first.1;
       claims_bytes = second.1;
       signature_bytes = third.1;
-      header_reads = are.3;
+      header_reads = header.json;
+      header_passes = header.passes;
     } in
-    rw (are.0, are.1, are.2) shape
+    rw (are.0, are.1, are.2) form
 
 decoded_parts-is : (text a b r : List ℕ) → length text ≤ 1024 → IsSplit text a b r →
-    MatchOption (decoded_parts a b r) (IsMalformed text) (IsShapeOf text)
+    MatchOption (decoded_parts a b r) (IsFormless text) (IsFormOf text)
 decoded_parts-is text a b r short split =
-    bind-is (IsNoEncoding a) (IsMalformed text) (IsDecoded a) (IsShapeOf text) (decoded a) _ (decoded-is a)
-    (malformed-header text a b r split)
+    bind-is (IsNoEncoding a) (IsFormless text) (IsDecoded a) (IsFormOf text) (decoded a) _ (decoded-is a)
+    (formless-header text a b r split)
     (λ h first.
-    bind-is (IsNoEncoding b) (IsMalformed text) (IsDecoded b) (IsShapeOf text) (decoded b) _ (decoded-is b)
-    (malformed-claims text a b r split)
+    bind-is (IsNoEncoding b) (IsFormless text) (IsDecoded b) (IsFormOf text) (decoded b) _ (decoded-is b)
+    (formless-claims text a b r split)
     (λ p second.
-    bind-is (IsNoEncoding r) (IsMalformed text) (IsDecoded r) (IsShapeOf text) (decoded r) _ (decoded-is r)
-    (malformed-signature text a b r split)
+    bind-is (IsNoEncoding r) (IsFormless text) (IsDecoded r) (IsFormOf text) (decoded r) _ (decoded-is r)
+    (formless-signature text a b r split)
     (λ s third.
-    match-weaker (¬ IsHeaderText h) (IsMalformed text) (AreParts h p s) (IsShapeOf text) (if_header h p s)
+    match-weaker (IsHeaderless h) (IsFormless text) (AreParts h p s) (IsFormOf text) (if_header h p s)
     (if_header-is h p s)
-    (malformed-text text a b r h split first.0 first.1)
-    (λ parts are. shape-of_parts text a b r h p s parts short split first second third are))))
+    (formless-text text a b r h split first.0 first.1)
+    (λ parts are. form-of_parts text a b r h p s parts short split first second third are))))
 
-no-dot-malformed : (text : List ℕ) → HasNoDot text → IsMalformed text
-no-dot-malformed text none =
-    λ h c s shape.
+no-dot-formless : (text : List ℕ) → HasNoDot text → IsFormless text
+no-dot-formless text none =
+    λ h c s d form.
     let cut : text ≡ encoded h ++ 46 ∷ (encoded c ++ 46 ∷ encoded s) =
-    shape.whole ∙ parts-from_right (encoded h) (encoded c) (encoded s) in
+    form.whole ∙ parts-from_right (encoded h) (encoded c) (encoded s) in
     dot-there (encoded h) _ (rw cut at none)
 
-one-dot-malformed : (text a rest : List ℕ) → text ≡ a ++ 46 ∷ rest → HasNoDot a → HasNoDot rest → IsMalformed text
-one-dot-malformed text a rest e first none =
-    λ h c s shape.
+one-dot-formless : (text a rest : List ℕ) → text ≡ a ++ 46 ∷ rest → HasNoDot a → HasNoDot rest → IsFormless text
+one-dot-formless text a rest e first none =
+    λ h c s d form.
     let cut : a ++ 46 ∷ rest ≡ encoded h ++ 46 ∷ (encoded c ++ 46 ∷ encoded s) =
-    sym e ∙ shape.whole ∙ parts-from_right (encoded h) (encoded c) (encoded s) in
+    sym e ∙ form.whole ∙ parts-from_right (encoded h) (encoded c) (encoded s) in
     let same : rest ≡ encoded c ++ 46 ∷ encoded s =
     (split-unique a (encoded h) rest _ first (encoded-no_dot h) cut).1 in
     dot-there (encoded c) _ (rw same at none)
@@ -294,19 +297,19 @@ above-from_test n h = grind (arith, nat_tests)
 within-from_test : (n : ℕ) → nat_lt 1024 n ≡ false → n ≤ 1024
 within-from_test n h = grind (arith, nat_tests)
 
-pub parts_of-is : (text : List ℕ) → MatchOption (parts_of text) (IsMalformed text) (IsShapeOf text)
+pub parts_of-is : (text : List ℕ) → MatchOption (parts_of text) (IsFormless text) (IsFormOf text)
 unfolding parts_of
 parts_of-is text =
-    test-is (IsMalformed text) (IsShapeOf text) (nat_lt 1024 (length text)) None _
-    (λ t h c s shape. omega (arith, above-from_test (length text) t, shape.short))
+    test-is (IsFormless text) (IsFormOf text) (nat_lt 1024 (length text)) None _
+    (λ t h c s d form. omega (arith, above-from_test (length text) t, form.short))
     (λ t.
     let short = within-from_test (length text) t in
-    bind-is (HasNoDot text) (IsMalformed text) (IsCut text) (IsShapeOf text) (split_dot text) _ (split_dot-is text)
-    (no-dot-malformed text)
+    bind-is (HasNoDot text) (IsFormless text) (IsCut text) (IsFormOf text) (split_dot text) _ (split_dot-is text)
+    (no-dot-formless text)
     (λ first cut.
-    bind-is (HasNoDot first.1) (IsMalformed text) (IsCut first.1) (IsShapeOf text) (split_dot first.1) _
+    bind-is (HasNoDot first.1) (IsFormless text) (IsCut first.1) (IsFormOf text) (split_dot first.1) _
     (split_dot-is first.1)
-    (one-dot-malformed text first.0 first.1 cut.0 cut.1)
+    (one-dot-formless text first.0 first.1 cut.0 cut.1)
     (λ second cut_again.
     decoded_parts-is text first.0 second.0 second.1 short
     (split-parts text first.1 first.0 second.0 second.1 cut.0 cut_again.0 cut.1 cut_again.1).0)))

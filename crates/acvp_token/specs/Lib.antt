@@ -1,4 +1,5 @@
 pub mod ClaimsJson
+pub mod Keys
 pub mod TokenText
 pub mod Reads
 pub mod Faults

@@ -14,6 +14,7 @@ use Rattle.serde_json.specs.Read.{read}
 use Rattle.acvp_token.specs.declared.Claims.{Claims}
 use Rattle.acvp_token.specs.declared.TokenFault.{TokenFault}
 use Rattle.acvp_token.specs.declared.TokenFault.TheVariants.{Malformed, Signature, Claims as NoClaims, Expired, Memory}
+use Rattle.acvp_token.specs.Keys.{Keys, one_key, Ring, is_member_text, named_key}
 use Rattle.acvp_token.specs.TokenText.{encoded, signature_of}
 
 -- the text before its first dot, and the text after it
@@ -34,18 +35,14 @@ decoded part = option_and_then (if_encoding part) (result_ok (decode_of url_safe
 unfoldable pub part_value : List ℕ → Option Data
 part_value bytes = if is_utf8 bytes then read bytes else None
 
--- whether the text of a member is there and is this one
-abbrev pub is_member_text : List ℕ → Option (List ℕ) → Bool
-is_member_text wanted None = false
-is_member_text wanted (Some s) = bytes_eq s wanted
-
 -- whether a header asks for HMAC-SHA-256 and for no extension
 unfoldable pub header_passes : Data → Bool
 header_passes d =
     is_member_text (codes "HS256") (option_and_then as_str (get (codes "alg") d)) && is_none (get (codes "crit") d)
 
--- the parts of a token
+-- the parts of a token, and the value of its header
 pub record Parts : Type 0 where
+  pub value : Data
   pub header : List ℕ
   pub payload : List ℕ
   pub signature : List ℕ
@@ -54,7 +51,8 @@ pub record Parts : Type 0 where
 abbrev pub if_header : List ℕ → List ℕ → List ℕ → Option Parts
 if_header header payload signature =
     option_and_then (λ d. if header_passes d
-    then Some (record { header = header; payload = payload; signature = signature }) else None) (part_value header)
+    then Some (record { value = d; header = header; payload = payload; signature = signature }) else None)
+    (part_value header)
 
 -- the parts of which these are the encodings
 abbrev pub decoded_parts : List ℕ → List ℕ → List ℕ → Option Parts
@@ -113,24 +111,41 @@ reading_signed false claims = Err Signature
 reading_signed true None = Err NoClaims
 reading_signed true (Some claims) = Ok claims
 
--- what is read of the parts of a token
-abbrev pub reading_parts : List ℕ → Option Parts → Result Claims TokenFault
-reading_parts key None = Err Malformed
-reading_parts key (Some parts) =
+-- what is read of the parts of a token under the key that its header names
+abbrev pub reading_named : Parts → Option (List ℕ) → Result Claims TokenFault
+reading_named parts None = Err Malformed
+reading_named parts (Some key) =
     reading_signed (bytes_eq parts.signature (signature_of key parts.header parts.payload)) (claims_of parts.payload)
 
--- what a text reads as, apart from its end
+-- what is read of the parts of a token
+abbrev pub reading_parts : Keys → Option Parts → Result Claims TokenFault
+reading_parts keys None = Err Malformed
+reading_parts keys (Some parts) = reading_named parts (keys parts.value)
+
+-- what a text reads as, apart from its end: by the key that its header names, under one key, and under a ring
+unfoldable pub reading_by : Keys → List ℕ → Result Claims TokenFault
+reading_by keys text = reading_parts keys (parts_of text)
+
 unfoldable pub reading_of : List ℕ → List ℕ → Result Claims TokenFault
-reading_of key text = reading_parts key (parts_of text)
+reading_of key text = reading_by (one_key key) text
+
+unfoldable pub reading_under : Ring → List ℕ → Result Claims TokenFault
+reading_under ring text = reading_by (named_key ring) text
 
 -- these claims, where they last at a moment
 abbrev pub lasting_at : ℕ → Result Claims TokenFault → Result Claims TokenFault
 lasting_at moment (Ok claims) = if nat_lt moment claims.expires then Ok claims else Err Expired
 lasting_at moment (Err fault) = Err fault
 
--- what a text is verified as at a moment
+-- what a text is verified as at a moment, likewise
+unfoldable pub verdict_by : Keys → List ℕ → ℕ → Result Claims TokenFault
+verdict_by keys text moment = lasting_at moment (reading_by keys text)
+
 unfoldable pub verdict_of : List ℕ → List ℕ → ℕ → Result Claims TokenFault
-verdict_of key text moment = lasting_at moment (reading_of key text)
+verdict_of key text moment = verdict_by (one_key key) text moment
+
+unfoldable pub verdict_under : Ring → List ℕ → ℕ → Result Claims TokenFault
+verdict_under ring text moment = verdict_by (named_key ring) text moment
 
 -- the answer is this value, unless memory ran out
 abbrev pub IsUnlessMemory : Result Claims TokenFault → Result Claims TokenFault → Type 0

@@ -2,13 +2,19 @@
 //! HMAC-SHA-256.
 #![tactic(auto)]
 
-pub use issuing::{issue, issued_reads_back};
+pub use issuing::{issue, issue_ring, issued_reads_back, reads_while_its_key_stands};
+pub use key_ring::KeyRing;
 pub use session_number::account_of_session;
-pub use verifying::{reads_one_way, verify, verify_for_renewal};
+pub use verifying::{
+    reads_one_way, verify, verify_for_renewal, verify_ring, verify_ring_for_renewal,
+};
 
 mod claims_json;
 mod issuing;
+mod key_ring;
 mod opening;
+#[cfg(test)]
+mod ring_tests;
 mod session_number;
 mod splitting;
 #[cfg(test)]
@@ -38,7 +44,8 @@ pub struct Claims {
 #[derive(Clone, Copy, PartialEq, Eq, Debug)]
 pub enum TokenFault {
     /// The first test, rule 12 `tokenMalformed`: the text has the shape of no token. It is too long, its parts do not
-    /// decode, or its header does not ask for HMAC-SHA-256 alone.
+    /// decode, or its header does not ask for HMAC-SHA-256 alone; or, under a ring, names
+    /// no key that is there and not retired.
     Malformed,
 
     /// The second test, rule 13 `tokenSignature`: the signature is not that of the key.

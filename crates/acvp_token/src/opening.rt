@@ -1,7 +1,8 @@
 //! A token's text is decoded and its header judged.
 
-ghost use Rattle.std.specs.Prelude.{◌≡◌, ℕ, List, IfOk, IfErr, OnOk};
+ghost use Rattle.std.specs.Prelude.{◌≡◌, ℕ, List, IfOk, IfErr};
 ghost use Rattle.base64.specs.GeneralPurpose.{IsBytes};
+ghost use Rattle.serde_json.specs.View.{view};
 ghost use Rattle.acvp_token.specs.TokenText.{encoded};
 ghost use Rattle.acvp_token.specs.Private.Opening.{IsUndecoded, IsNoHeader, IsHeaderText, HasOpened, IsUnopened};
 
@@ -18,6 +19,9 @@ const TEXT_LIMIT: usize = 1024;
 /// A token whose header is judged, with its signature not yet checked.
 #[derive(Drop)]
 pub(crate) struct OpenToken<'t> {
+    /// The header.
+    pub(crate) header: Value,
+
     /// What the signature is over.
     pub(crate) signed: &'t [u8],
 
@@ -31,7 +35,7 @@ pub(crate) struct OpenToken<'t> {
 /// The parts of a token, decoded.
 pub(crate) fn open_token(alloc: Global, text: &[u8]) -> Result<OpenToken<'_>, TokenFault>
     ensures ok { IfOk result
-        (λ t. HasOpened text.now t.signed.now t.claims.items t.signature.items) }
+        (λ t. HasOpened text.now (view t.header) t.signed.now t.claims.items t.signature.items) }
     ensures err { IfErr result (IsUnopened text.now) }
 {
     if text.len() > TEXT_LIMIT {
@@ -43,8 +47,9 @@ pub(crate) fn open_token(alloc: Global, text: &[u8]) -> Result<OpenToken<'_>, To
     let header = decode_part(alloc, parts.header)?;
     let claims = decode_part(alloc, parts.claims)?;
     let signature = decode_part(alloc, parts.signature)?;
-    check_header(alloc, &header)?;
+    let header = read_header(alloc, &header)?;
     Ok(OpenToken {
+        header,
         signed: parts.signed,
         claims,
         signature,
@@ -64,9 +69,9 @@ fn decode_part(alloc: Global, part: &[u8]) -> Result<Vec<u8>, TokenFault>
     }
 }
 
-/// Whether a header asks for the one algorithm and for no extension.
-fn check_header(alloc: Global, header: &[u8]) -> Result<(), TokenFault>
-    ensures ok { OnOk result (IsHeaderText header.now) }
+/// The value of a header that asks for the one algorithm and for no extension.
+fn read_header(alloc: Global, header: &[u8]) -> Result<Value, TokenFault>
+    ensures ok { IfOk result (λ v. IsHeaderText header.now (view v)) }
     ensures err { IfErr result (IsNoHeader header.now) }
 {
     let value = match Value::from_slice(alloc, header) {
@@ -76,7 +81,7 @@ fn check_header(alloc: Global, header: &[u8]) -> Result<(), TokenFault>
     };
     let is_signed_so = value.get("alg").and_then(Value::as_str) == Some("HS256");
     if is_signed_so && value.get("crit").is_none() {
-        Ok(())
+        Ok(value)
     } else {
         Err(TokenFault::Malformed)
     }

@@ -1,14 +1,25 @@
-use Rattle.std.proofs.Common.{ap, ◌∙◌}
-use Rattle.acvp_answers.specs.MonteCarlo.{turn, last_of}
-use Rattle.acvp_answers.proofs.MonteCarloLemmas.{kept_some}
+use Rattle.std.proofs.Common.{[], ◌∷◌, refl, List, ℕ}
 use Rattle.acvp_mac.specs.Hash.{digest_of}
+use Rattle.acvp_answers.specs.MonteCarlo.{turn, members_of, extended}
+use Rattle.acvp_answers.specs.Private.Ending.{EndsIn}
+use Rattle.acvp_answers.proofs.MonteCarloLemmas.{ends_more}
 use Rattle.acvp_answers.proofs.monte_carlo.turn.Goals as goal
 
-pub last_member-requires : goal.last_member-requires
-last_member-requires c =
-    kept_some (digest_of c.args.name) c.args.seed.now 1000 c.in_ok-members_from.field-0.items
-    c.in_ok-members_from.ensures
-
 pub returns : goal.returns
-unfolding turn
-returns c = c.last_member.ensures ∙ ap (λ members. last_of members) c.in_ok-members_from.ensures
+unfolding turn members_of
+returns c =
+    let hash = digest_of c.args.name in
+    let seed = c.args.seed.now in
+    let seeds : List (List ℕ) = seed ∷ seed ∷ seed ∷ [] in
+    let second_is = rw c.as_slice.ensures.value at c.next_member-second.ensures in
+    let third_is = rw (c.as_slice-2.ensures.value, c.as_slice-3.ensures.value) at c.next_member-third.ensures in
+    let once : EndsIn (extended hash seeds) seed seed c.next_member-first.result =
+    rw c.next_member-first.ensures (ends_more hash seeds seed seed seed ([], refl)) in
+    let twice : EndsIn (extended hash (extended hash seeds)) seed c.next_member-first.result
+    c.next_member-second.result =
+    rw second_is (ends_more hash (extended hash seeds) seed seed c.next_member-first.result once) in
+    let thrice : EndsIn (extended hash (extended hash (extended hash seeds))) c.next_member-first.result
+    c.next_member-second.result c.next_member-third.result =
+    rw third_is (ends_more hash (extended hash (extended hash seeds)) seed c.next_member-first.result
+    c.next_member-second.result twice) in
+    c.later_member.ensures (extended hash (extended hash (extended hash seeds))) thrice

@@ -6,7 +6,12 @@ use Rattle.acvp_policy.proofs.CallerRules.{caller_rule-kept}
 use Rattle.acvp_policy.proofs.isolation.caller_rules_agree.Goals as goal
 
 turned : (one other : Facts) → AgreeOnCaller one other → AgreeOnCaller other one
-turned one other same = record { token = sym same.token; standing = sym same.standing; numbers = sym same.numbers }
+turned one other same = record {
+  token = sym same.token;
+  standing = sym same.standing;
+  reviewer = sym same.reviewer;
+  numbers = sym same.numbers;
+}
 
 pub returns : goal.returns
 returns c = λ action one other rule same on_caller. (

@@ -1,21 +1,20 @@
 -- What is verified is what the definitions allow, and that is one value.
-use Rattle.std.proofs.Common.{Ok, Err, rules}
-use Rattle.acvp_token.specs.declared.TokenFault.TheVariants.{Expired}
+use Rattle.std.proofs.Common.{rules}
+use Rattle.acvp_token.specs.Keys.{one_key}
 use Rattle.acvp_token.specs.Faults.{IsVerdict}
-use Rattle.acvp_token.proofs.Agreement.{verdict-agrees}
+use Rattle.acvp_token.proofs.Agreement.{verdict_of-agrees, verdict-lasting}
 use Rattle.acvp_token.proofs.verifying.verify.Goals as goal
 
 pub returns-in_err-claims-clause-value : goal.returns-in_err-claims-clause-value
 returns-in_err-claims-clause-value c =
     let verdict : IsVerdict c.args.key.now c.args.text.now c.args.moment c.from_residual.result = search rules in
-    verdict-agrees c.args.key.now c.args.text.now c.args.moment c.from_residual.result verdict
+    verdict_of-agrees c.args.key.now c.args.text.now c.args.moment c.from_residual.result verdict
 
-pub returns-then-moment-claims-clause-value : goal.returns-then-moment-claims-clause-value
-returns-then-moment-claims-clause-value c =
-    let verdict : IsVerdict c.args.key.now c.args.text.now c.args.moment (Ok c.in_ok-claims.claims) = search rules in
-    verdict-agrees c.args.key.now c.args.text.now c.args.moment (Ok c.in_ok-claims.claims) verdict
+pub returns-clause-verdict : goal.returns-clause-verdict
+returns-clause-verdict c =
+    verdict-lasting (one_key c.args.key.now) c.args.text.now c.args.moment c.in_ok-claims.claims c.lasting_at.result
+    c.in_ok-claims.ensures.reading c.lasting_at.ensures
 
-pub returns-else-moment-claims-clause-value : goal.returns-else-moment-claims-clause-value
-returns-else-moment-claims-clause-value c =
-    let verdict : IsVerdict c.args.key.now c.args.text.now c.args.moment (Err Expired) = search rules in
-    verdict-agrees c.args.key.now c.args.text.now c.args.moment (Err Expired) verdict
+pub returns-clause-value : goal.returns-clause-value
+returns-clause-value c =
+    verdict_of-agrees c.args.key.now c.args.text.now c.args.moment c.lasting_at.result (returns-clause-verdict c)
