@@ -1,9 +1,8 @@
 -- Lemmas on answers, as the map that keeps them.
-use Rattle.std.proofs.Common.{◌≡◌, ◌-◌, ℕ, zero, suc, List, [], ◌∷◌, ◌++◌, map, string_bytes, true, false, Option, None, Some, option_map, Bool, nat_eq, refl, sym, ◌∙◌, ap, append_assoc, String, Global, arith}
+use Rattle.std.proofs.Common.{◌≡◌, ℕ, List, true, false, Option, None, Some, option_map, Bool, nat_eq, refl, sym, ◌∙◌, ap, arith}
 use Rattle.std.specs.Prelude.{Contains, is_some}
 use Rattle.std.specs.BTreeMap.{BTreeMap, get, is_at}
 use Rattle.std.specs.Borrow.{Bor}
-use Rattle.std.specs.List.{slice_get}
 use Rattle.std.specs.Map.{keys_of, lookup}
 use Rattle.std.specs.Option.{option_copied}
 use Rattle.std.specs.Ordering.{nat_cmp}
@@ -15,8 +14,7 @@ use Rattle.std.proofs.lemmas.Cmp.{nat_cmp_total}
 use Rattle.std.proofs.lemmas.Map.Lookups.{exact_unsigned}
 use Rattle.std.proofs.lemmas.Map.Views.{btree_map_contains_key_iff}
 use Rattle.acvp_answers.specs.Answer.{Answer, Texts, is_answered, shown_texts, shown}
-use Rattle.acvp_answers.specs.Verdicts.{verdict_on, answer_to, verdicts_of}
-use Rattle.acvp_answers.specs.declared.verdict.Verdict.{Verdict}
+use Rattle.acvp_answers.specs.Verdicts.{answer_to}
 use Rattle.acvp_answers.proofs.MapLemmas.{keys_same, lookup_same}
 
 -- whether a number is answered
@@ -72,33 +70,3 @@ pub answer_read : (entries : List (ℕ × Texts)) (given : List Answer) (k : ℕ
 answer_read entries given k r view found =
     same_texts r ∙ ap (λ o. option_map shown_texts o) found ∙ sym (lookup_same shown_texts (is_at (nat_cmp k)) entries)
     ∙ ap (λ answers. answer_to answers k) view
-
--- the verdict on one test
-pub graded : (entries : List (ℕ × Texts)) (given : List Answer) (k : ℕ) (w : Texts) (r : Option (Bor Texts))
-    (d : List (String Global)) (v : Verdict) →
-    shown entries ≡ given → option_copied r ≡ lookup (is_at (nat_cmp k)) entries → d ≡ w.items
-    → v ≡ verdict_on (option_map (λ ts. shown_texts ts.now) r) (map string_bytes d) →
-    v ≡ verdict_on (answer_to given k) (shown_texts w)
-graded entries given k w r d v view found items is =
-    let answer : option_map (λ ts. shown_texts ts.now) r ≡ answer_to given k =
-    answer_read entries given k r view found in
-    is ∙ rw (answer, items) refl
-
--- one turn more
-pub graded_more : (done total : List Verdict) (iter rest : List (ℕ × Texts)) (k : ℕ) (w : Texts) (v : Verdict)
-    (given : List Answer) →
-    iter ≡ (k, w) ∷ rest → v ≡ verdict_on (answer_to given k) (shown_texts w)
-    → done ++ verdicts_of (shown iter) given ≡ total →
-    (done ++ v ∷ []) ++ verdicts_of (shown rest) given ≡ total
-graded_more done total iter rest k w v given next is so =
-    let so' : done ++ verdicts_of (shown ((k, w) ∷ rest)) given ≡ total = rw next at so in
-    append_assoc done (v ∷ []) (verdicts_of (shown rest) given) ∙ rw is so'
-
--- the answer at a place, an entry further
-pub nth_more : (iter rest : List (ℕ × Texts)) (k : ℕ) (w : Texts) (left : ℕ) (answer : Option Answer) → iter ≡ (k, w)
-    ∷ rest → (left ≡ 0 → ⊥) → slice_get (shown iter) left ≡ answer → slice_get (shown rest) (left - 1) ≡ answer
-nth_more iter rest k w zero answer next some at = absurd (some refl)
-nth_more iter rest k w (suc left) answer next some at =
-    let here : slice_get (shown ((k, w) ∷ rest)) (suc left) ≡ answer = rw next at at in
-    let less : suc left - 1 ≡ left = omega arith in
-    rw less here

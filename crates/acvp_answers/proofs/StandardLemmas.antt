@@ -125,7 +125,7 @@ one_group_more name answers new total g here rest next is row so =
     let more = (first_group (length answers) g here rest next so.2).1 in
     let long : length new ≡ length answers + length g.tests = ap length is
     ∙ length-append answers (group_answers name g)
-    ∙ ap (λ n. length answers + n) (length-map g.tests (λ t. (t.number, texts_on name g.kind g.sizes t))) in
+    ∙ ap (λ n. length answers + n) (length-map g.tests (λ t. (t.number, texts_on name g.form t))) in
     let at : length new + 1 ≡ length answers + 1 + length g.tests = omega (arith, long) in (
       rw is (append_assoc answers (group_answers name g) (flat_map (group_answers name) rest) ∙ all),
       row,

@@ -1,14 +1,13 @@
 -- The texts with which the standard answers a test: bytes as hex digits in lower case.
-use Rattle.std.specs.Prelude.{ℕ, ◌/◌, List, [], ◌∷◌, map, take, Option, None, Some}
+use Rattle.std.specs.Prelude.{ℕ, ◌/◌, List, [], ◌∷◌, map, take}
 use Rattle.std.specs.List.{flat_map}
 use Rattle.hex.specs.Hex.{encode_lower}
 use Rattle.acvp_mac.specs.declared.HashName.{HashName}
 use Rattle.acvp_mac.specs.Hash.{digest_of}
 use Rattle.acvp_mac.specs.Hmac.{hmac_of}
 use Rattle.acvp_gen.specs.Algorithms.{hash_of}
-use Rattle.acvp_gen.specs.declared.group.GroupKind.{GroupKind}
-use Rattle.acvp_gen.specs.declared.group.GroupKind.TheVariants.{Functional, MonteCarlo}
-use Rattle.acvp_gen.specs.declared.group.Sizes.{Sizes}
+use Rattle.acvp_gen.specs.declared.group.GroupForm.{GroupForm}
+use Rattle.acvp_gen.specs.declared.group.GroupForm.TheVariants.{Digest, MonteCarlo, Mac}
 use Rattle.acvp_gen.specs.Prompt.{TestValue, GroupValue, PromptsValue}
 use Rattle.acvp_answers.specs.Answer.{Answer}
 use Rattle.acvp_answers.specs.MonteCarlo.{checkpoints}
@@ -29,15 +28,15 @@ checkpoint_texts name seed turns = map encode_lower (checkpoints (digest_of name
 unfoldable pub monte_carlo_texts : HashName → List ℕ → List (List ℕ)
 monte_carlo_texts name seed = checkpoint_texts name seed 100
 
--- of a test of a group, by the group's kind and sizes
-abbrev pub texts_on : HashName → GroupKind → Option Sizes → TestValue → List (List ℕ)
-texts_on name MonteCarlo sizes test = monte_carlo_texts name test.message
-texts_on name Functional None test = digest_texts name test.message
-texts_on name Functional (Some sizes) test = mac_texts name test.key test.message (sizes.mac_bits / 8)
+-- of a test of a group, by the group's form
+abbrev pub texts_on : HashName → GroupForm → TestValue → List (List ℕ)
+texts_on name Digest test = digest_texts name test.message
+texts_on name MonteCarlo test = monte_carlo_texts name test.message
+texts_on name (Mac sizes) test = mac_texts name test.key test.message (sizes.mac_bits / 8)
 
 -- the standard's answers to the tests of a group
 abbrev pub group_answers : HashName → GroupValue → List Answer
-group_answers name group = map (λ t. (t.number, texts_on name group.kind group.sizes t)) group.tests
+group_answers name group = map (λ t. (t.number, texts_on name group.form t)) group.tests
 
 -- the standard's answers to the tests of a vector set, in their order
 abbrev pub standard_of : PromptsValue → List Answer

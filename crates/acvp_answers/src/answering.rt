@@ -3,12 +3,13 @@
 ghost use Rattle.std.specs.Prelude.{◌≡◌, ◌≤◌, ◌+◌, ◌*◌, ◌++◌, IfOk, IfSome, length, map, string_bytes};
 ghost use Rattle.std.specs.List.{range_with_len};
 ghost use Rattle.acvp_mac.specs.Hash.{out_of};
+ghost use Rattle.acvp_gen.specs.Prompt.{sizes_of};
 ghost use Rattle.acvp_answers.specs.Answer.{AreWithoutGaps};
 ghost use Rattle.acvp_answers.specs.Standards as standards;
 
 use crate::answers::Answers;
 use crate::texts::{digest_texts, mac_texts, monte_carlo_texts};
-use acvp_gen::{Group, GroupKind, Prompts, Test};
+use acvp_gen::{Group, GroupForm, Prompts, Test};
 use acvp_mac::HashName;
 use std::alloc::{AllocError, Global};
 
@@ -19,20 +20,16 @@ fn texts_on(
     group: &Group,
     test: &Test,
 ) -> Result<Vec<String>, AllocError>
-    requires { IfSome group.now.sizes (λ s. s.mac_bits ≤ 8 * out_of name) }
-    ensures { IfOk result (λ texts. map string_bytes texts.items
-        ≡ standards.texts_on name group.now.kind group.now.sizes test.now) }
+    requires { IfSome (sizes_of group.now.form) (λ s. s.mac_bits ≤ 8 * out_of name) }
+    ensures { IfOk result (λ texts. map string_bytes texts.items ≡ standards.texts_on name group.now.form test.now) }
 {
-    match (group.kind(), group.mac_bits()) {
-        (GroupKind::MonteCarlo, _) => monte_carlo_texts(alloc, name, test.message()),
-        (GroupKind::Functional, None) => digest_texts(alloc, name, test.message()),
-        (GroupKind::Functional, Some(bits)) => mac_texts(
-            alloc,
-            name,
-            test.key(),
-            test.message(),
-            (bits / 8) as usize,
-        ),
+    match group.form() {
+        GroupForm::Digest => digest_texts(alloc, name, test.message()),
+        GroupForm::MonteCarlo => monte_carlo_texts(alloc, name, test.message()),
+        GroupForm::Mac(sizes) => {
+            let bytes = (sizes.mac_bits / 8) as usize;
+            mac_texts(alloc, name, test.key(), test.message(), bytes)
+        }
     }
 }
 
@@ -46,7 +43,7 @@ fn answer_group(
     requires before { AreWithoutGaps answers.now }
     requires next { map (λ t. t.number) group.now.tests ≡ range_with_len (length answers.now + 1)
         (length group.now.tests) }
-    requires sized { IfSome group.now.sizes (λ s. s.mac_bits ≤ 8 * out_of name) }
+    requires sized { IfSome (sizes_of group.now.form) (λ s. s.mac_bits ≤ 8 * out_of name) }
     ensures value { IfOk result (λ _. answers.new ≡ answers.old ++ standards.group_answers name group.now) }
     ensures before { IfOk result (λ _. AreWithoutGaps answers.new) }
 {

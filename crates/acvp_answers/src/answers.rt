@@ -7,12 +7,13 @@ ghost use Rattle.std.specs.Map.{keys_of};
 ghost use Rattle.acvp_answers.specs.Answer.{AreAscending, is_answered, shown};
 ghost use Rattle.acvp_answers.specs.Verdicts.{answer_to};
 
+use crate::iter::Iter;
 use std::alloc::{AllocError, Global};
 use std::collections::BTreeMap;
 use std::marker::Model;
 
 /// Answers to tests, ascending by the tests' numbers, each of which stands once.
-#[derive(Clone, Drop)]
+#[derive(Drop)]
 pub struct Answers {
     pub(crate) texts: BTreeMap<u64, Vec<String>>,
 }
@@ -86,6 +87,15 @@ impl Answers {
             Some(entry) => entry,
             None => unreachable!(),
         }
+    }
+
+    /// The answers in their order, each by its test's number and its texts. It takes no memory.
+    pub fn iter(&self) -> Iter<'_>
+        ensures value { result ≡ self.now }
+        ensures ascending { AreAscending self.now }
+    {
+        let entries = self.texts.iter();
+        Iter { entries }
     }
 
     /// Whether the test of a number is answered. It takes no memory.

@@ -39,8 +39,8 @@ fn are_lowered_to(given: &[String], wanted: &[String]) -> bool
 }
 
 /// The verdict on a test.
-fn verdict_on(given: Option<&Vec<String>>, wanted: &[String]) -> Verdict
-    ensures { result ≡ verdict_on (option_map (λ texts. map string_bytes texts.now.items) given.entry)
+fn verdict_on(given: Option<&[String]>, wanted: &[String]) -> Verdict
+    ensures { result ≡ verdict_on (option_map (λ texts. map string_bytes texts.now) given.entry)
         (map string_bytes wanted.now) }
 {
     match given {
@@ -56,8 +56,8 @@ pub fn grade(alloc: Global, standard: &Answers, given: &Answers) -> Result<Vec<V
     ensures count { IfOk result (λ verdicts. length verdicts.items ≡ length standard.now) }
 {
     let mut verdicts = Vec::with_capacity(alloc, standard.len())?;
-    for (number, wanted) in standard.texts.iter() {
-        verdicts.push(verdict_on(given.texts.get(number), wanted))?;
+    for (number, wanted) in standard.iter() {
+        verdicts.push(verdict_on(given.texts_for(number), wanted))?;
     }
     Ok(verdicts)
 }

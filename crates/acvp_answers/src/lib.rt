@@ -4,6 +4,7 @@
 mod answering;
 mod answers;
 mod grading;
+mod iter;
 mod monte_carlo;
 #[cfg(test)]
 mod tests;
@@ -14,6 +15,7 @@ mod verdict_text;
 pub use answering::standard;
 pub use answers::Answers;
 pub use grading::{disposition, grade};
+pub use iter::Iter;
 pub use monte_carlo::turn_is_the_standards;
 pub use verdict::{Disposition, Verdict};
 pub use verdict_text::{

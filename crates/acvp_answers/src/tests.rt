@@ -1,5 +1,7 @@
 //! Answers against the standard's; the digest of the empty message is NIST's.
 
+ghost use Rattle.std.specs.Prelude.{◌≡◌, IfOk, length, map};
+
 use crate::{
     Answers, Disposition, TextFault, Verdict, disposition, grade, standard, verdicts_from_text,
     verdicts_to_text,
@@ -8,6 +10,12 @@ use acvp_gen::{Algorithm, CapFault, Capability, Prompts, prompts};
 use std::alloc::{AllocError, Global};
 use std::process::Abort;
 use std::test::Fail;
+
+const HASH: &str =
+    r#"{"algorithm":"SHA2-256","revision":"1.0","messageLength":[{"min":0,"max":1024,"increment":8}]}"#;
+
+const HMAC: &str =
+    r#"{"algorithm":"HMAC-SHA2-512/256","revision":"1.0","keyLen":[{"min":8,"max":2048,"increment":8}],"macLen":[32,256]}"#;
 
 const EMPTY: &str = "e3b0c44298fc1c149afbf4c8996fb92427ae41e4649b934ca495991b7852b855";
 
@@ -30,27 +38,42 @@ fn answers(alloc: Global, entries: &[(u64, &str, usize)]) -> Result<Answers, All
     Ok(answers)
 }
 
-// The number of the test at a place, and how many texts answer it.
-fn numbers_at(rt: &impl Abort, answers: &Answers, place: usize) -> (u64, usize) {
+// The numbers of the tests, and how many texts answer each.
+fn counts_of(alloc: Global, answers: &Answers) -> Result<Vec<(u64, usize)>, AllocError>
+    ensures { IfOk result (λ counts. counts.items ≡ map (λ answer. (answer.0, length answer.1)) answers.now) }
+{
+    let mut counts = Vec::with_capacity(alloc, answers.len())?;
+    for (number, texts) in answers.iter() {
+        counts.push((number, texts.len()))?;
+    }
+    Ok(counts)
+}
+
+// The number of the test at a place.
+fn number_at(rt: &impl Abort, answers: &Answers, place: usize) -> u64 {
     assert!(rt; place < answers.len());
-    let (number, texts) = answers.entry(place);
-    (number, texts.len())
+    answers.entry(place).0
 }
 
 #[test]
 fn answers_ascend_and_stand_once(rt: HostRuntime) -> Result<(), Fail> {
     let alloc = rt.alloc();
     let mut kept = answers(alloc, &[(25, "b", 2), (1, "a", 1), (7, "", 0)])?;
-    assert_eq!(rt; kept.len(), 3);
-    assert_eq!(rt; numbers_at(&rt, &kept, 0), (1, 1));
-    assert_eq!(rt; numbers_at(&rt, &kept, 1), (7, 0));
-    assert_eq!(rt; numbers_at(&rt, &kept, 2), (25, 2));
+    assert_eq!(rt;
+        counts_of(alloc, &kept)?.as_slice(),
+        [(1, 1), (7, 0), (25, 2)].as_slice()
+    );
     assert_eq!(rt; kept.insert(7, texts(alloc, "c", 1)?)?, false);
-    assert_eq!(rt; kept.len(), 3);
-    assert_eq!(rt; numbers_at(&rt, &kept, 1), (7, 0));
+    assert_eq!(rt;
+        counts_of(alloc, &kept)?.as_slice(),
+        [(1, 1), (7, 0), (25, 2)].as_slice()
+    );
     assert_eq!(rt; kept.insert(8, texts(alloc, "c", 1)?)?, true);
-    assert_eq!(rt; kept.len(), 4);
-    assert_eq!(rt; numbers_at(&rt, &kept, 2), (8, 1));
+    assert_eq!(rt;
+        counts_of(alloc, &kept)?.as_slice(),
+        [(1, 1), (7, 0), (8, 1), (25, 2)].as_slice()
+    );
+    assert_eq!(rt; number_at(&rt, &kept, 2), 8);
     Ok(())
 }
 
@@ -167,8 +190,6 @@ fn assert_text(
 
 #[test]
 fn digests_and_checkpoints_of_the_standard(rt: HostRuntime) -> Result<(), Fail> {
-    let text =
-        r#"{"algorithm":"SHA2-256","revision":"1.0","messageLength":[{"min":0,"max":1024,"increment":8}]}"#;
     for (seed, vs, second, last, checkpoints) in [
         (
             ZERO,
@@ -193,7 +214,7 @@ fn digests_and_checkpoints_of_the_standard(rt: HostRuntime) -> Result<(), Fail> 
             ],
         ),
     ] {
-        let answers = standard_of(rt.alloc(), &seed, vs, text)?;
+        let answers = standard_of(rt.alloc(), &seed, vs, HASH)?;
         assert_eq!(rt; answers.len(), 25);
         assert_text(&rt, &answers, 1, 1, 0, EMPTY);
         assert_text(&rt, &answers, 2, 1, 0, second);
@@ -209,8 +230,6 @@ fn digests_and_checkpoints_of_the_standard(rt: HostRuntime) -> Result<(), Fail> 
 
 #[test]
 fn macs_of_the_standard(rt: HostRuntime) -> Result<(), Fail> {
-    let text =
-        r#"{"algorithm":"HMAC-SHA2-512/256","revision":"1.0","keyLen":[{"min":8,"max":2048,"increment":8}],"macLen":[32,256]}"#;
     for (seed, vs, short, long, last) in [
         (
             ZERO,
@@ -227,7 +246,7 @@ fn macs_of_the_standard(rt: HostRuntime) -> Result<(), Fail> {
             "0ff33ce5e1acb42e19ee7307f636bc08917fe4888ceaf27d9a6c7842649e862b",
         ),
     ] {
-        let answers = standard_of(rt.alloc(), &seed, vs, text)?;
+        let answers = standard_of(rt.alloc(), &seed, vs, HMAC)?;
         assert_eq!(rt; answers.len(), 42);
         assert_text(&rt, &answers, 1, 1, 0, short);
         assert_text(&rt, &answers, 4, 1, 0, long);
@@ -239,9 +258,7 @@ fn macs_of_the_standard(rt: HostRuntime) -> Result<(), Fail> {
 #[test]
 fn ninety_nine_checkpoints_fail_and_one_too_many_too(rt: HostRuntime) -> Result<(), Fail> {
     let alloc = rt.alloc();
-    let text =
-        r#"{"algorithm":"SHA2-256","revision":"1.0","messageLength":[{"min":0,"max":1024,"increment":8}]}"#;
-    let standard = standard_of(alloc, &ZERO, 0, text)?;
+    let standard = standard_of(alloc, &ZERO, 0, HASH)?;
     for (count, verdict) in [
         (0, Verdict::Fail),
         (99, Verdict::Fail),
@@ -265,26 +282,51 @@ fn ninety_nine_checkpoints_fail_and_one_too_many_too(rt: HostRuntime) -> Result<
     Ok(())
 }
 
-#[test]
-fn a_test_left_out_is_a_letter_of_its_own(rt: HostRuntime) -> Result<(), Fail> {
-    let alloc = rt.alloc();
-    let text =
-        r#"{"algorithm":"SHA2-256","revision":"1.0","messageLength":[{"min":0,"max":1024,"increment":8}]}"#;
-    let standard = standard_of(alloc, &ZERO, 0, text)?;
+// The standard's answers to tests 1 to 24, from a number on, where one may be wrong.
+fn digests_from(
+    alloc: Global,
+    standard: &Answers,
+    first: u64,
+    wrong: u64,
+) -> Result<Answers, AllocError> {
     let mut given = Answers::new(alloc);
-    for number in 1..25 {
-        let digest = standard
-            .texts_for(number)
-            .and_then(<[String]>::first)
-            .ok_or("no digest")?;
-        given.insert(number, texts(alloc, digest.as_str(), 1)?)?;
+    for number in first..25 {
+        for text in standard.texts_for(number).unwrap_or(&[]) {
+            let text = if number == wrong { "00" } else { text.as_str() };
+            given.insert(number, texts(alloc, text, 1)?)?;
+        }
     }
-    let verdicts = grade(alloc, &standard, &given)?;
-    let kept = verdicts_to_text(alloc, &verdicts)?;
-    assert_eq!(rt; kept.as_str(), "ppppppppppppppppppppppppm");
-    assert_eq!(rt; disposition(&verdicts), Disposition::Missing);
-    let read = verdicts_from_text(alloc, kept.as_str()).map_err(|_| "not read")?;
-    assert_eq!(rt; read.as_slice(), verdicts.as_slice());
+    Ok(given)
+}
+
+#[test]
+fn a_missing_answer_is_told_and_a_wrong_one_weighs_more(rt: HostRuntime) -> Result<(), Fail> {
+    let alloc = rt.alloc();
+    let standard = standard_of(alloc, &ZERO, 0, HASH)?;
+    for (first, wrong, letters, wanted) in [
+        (1, 0, "ppppppppppppppppppppppppm", Disposition::Missing),
+        (2, 0, "mpppppppppppppppppppppppm", Disposition::Missing),
+        (1, 24, "pppppppppppppppppppppppfm", Disposition::Fail),
+    ] {
+        let given = digests_from(alloc, &standard, first, wrong)?;
+        let verdicts = grade(alloc, &standard, &given)?;
+        assert_eq!(rt; verdicts_to_text(alloc, &verdicts)?.as_str(), letters);
+        assert_eq!(rt; disposition(&verdicts), wanted);
+        let read = verdicts_from_text(alloc, letters).map_err(|_| "not read")?;
+        assert_eq!(rt; read.as_slice(), verdicts.as_slice());
+    }
+    Ok(())
+}
+
+#[test]
+fn the_standards_own_answers_pass(rt: HostRuntime) -> Result<(), Fail> {
+    let alloc = rt.alloc();
+    for capability in [HASH, HMAC] {
+        let standard = standard_of(alloc, &ZERO, 0, capability)?;
+        let verdicts = grade(alloc, &standard, &standard)?;
+        assert_eq!(rt; verdicts.len(), standard.len());
+        assert_eq!(rt; disposition(&verdicts), Disposition::Passed);
+    }
     Ok(())
 }
 
@@ -312,9 +354,7 @@ fn each_algorithm_is_answered(rt: HostRuntime) -> Result<(), Fail> {
 #[test]
 fn a_right_digest_in_capitals_passes(rt: HostRuntime) -> Result<(), Fail> {
     let alloc = rt.alloc();
-    let text =
-        r#"{"algorithm":"SHA2-256","revision":"1.0","messageLength":[{"min":0,"max":1024,"increment":8}]}"#;
-    let standard = standard_of(alloc, &ZERO, 0, text)?;
+    let standard = standard_of(alloc, &ZERO, 0, HASH)?;
     let given = answers(alloc, &[(1, EMPTY_IN_CAPITALS, 1)])?;
     let verdicts = grade(alloc, &standard, &given)?;
     assert_eq!(rt; verdicts.first(), Some(&Verdict::Passed));

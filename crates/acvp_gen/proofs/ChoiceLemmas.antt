@@ -10,12 +10,13 @@ use Rattle.acvp_caps.specs.declared.capability.Domains.{Domains}
 use Rattle.acvp_caps.specs.declared.capability.Domains.TheVariants.{Message, KeyAndMac}
 use Rattle.acvp_caps.specs.Algorithms.{is_hmac_of}
 use Rattle.acvp_caps.specs.Capability.{AreLengths, AreDomainsOf, AreHashDomains, AreHmacDomains, block_bits, digest_bits}
-use Rattle.acvp_gen.specs.declared.group.GroupKind.{GroupKind}
-use Rattle.acvp_gen.specs.declared.group.GroupKind.TheVariants.{Functional, MonteCarlo}
+use Rattle.acvp_gen.specs.declared.group.GroupForm.{GroupForm}
+use Rattle.acvp_gen.specs.declared.group.GroupForm.TheVariants.{Digest, MonteCarlo}
 use Rattle.acvp_gen.specs.declared.shape.TestShape.{TestShape}
 use Rattle.acvp_gen.specs.Choice.{ShapeValue, ends, has, ends_and_edges, drawn, message_lengths, key_lengths, mac_lengths, hash_test, hash_shape, monte_carlo_shapes, hash_shapes, hmac_test, hmac_shape, hmac_shapes, shapes_on}
 use Rattle.acvp_gen.specs.Choice as choice
 use Rattle.acvp_gen.specs.Words.{word_of}
+use Rattle.acvp_gen.specs.Prompt.{sizes_of}
 use Rattle.acvp_gen.specs.Prompts.{IsSized}
 use Rattle.acvp_gen.specs.Private.Filling.{IsShort, IsSmall, AreSmall}
 
@@ -50,9 +51,9 @@ all_lengths P edges members seed vs draws all =
 short_hash_test : (bits : ℕ) → bits ≤ 65536 → IsShort (hash_test bits)
 short_hash_test bits least = record { key = omega arith; message = least }
 
-small_hash_shape : (kind : GroupKind) (lengths : List ℕ) → length lengths ≤ 26 → All (λ n. n ≤ 65536) lengths
-    → IsSmall (hash_shape kind lengths)
-small_hash_shape kind lengths few short = record {
+small_hash_shape : (form : GroupForm) (lengths : List ℕ) → length lengths ≤ 26 → All (λ n. n ≤ 65536) lengths
+    → IsSmall (hash_shape form lengths)
+small_hash_shape form lengths few short = record {
   few = omega (arith, length-map lengths hash_test, few);
   short = All-map IsShort hash_test lengths (λ k d within. short_hash_test (get_or lengths k d) (short k d within));
 }
@@ -64,8 +65,8 @@ pub small_hash_shapes : (seed : List ℕ) (vs : ℕ) (a : Algorithm) (members : 
     → length (message_lengths seed vs a members) ≤ 26 → digest_bits a ≤ 512 → AreSmall (hash_shapes seed vs a members)
 small_hash_shapes seed vs a members fit few short = at (has members (3 * digest_bits a))
   where
-    functional : IsSmall (hash_shape Functional (message_lengths seed vs a members))
-    functional = small_hash_shape Functional (message_lengths seed vs a members) few
+    digests : IsSmall (hash_shape Digest (message_lengths seed vs a members))
+    digests = small_hash_shape Digest (message_lengths seed vs a members) few
         (all_lengths (λ n. n ≤ 65536) (choice.message_edges (block_bits a)) members seed vs choice.message_draws
         (λ k d within. (fit.within k d within).1))
 
@@ -73,17 +74,17 @@ small_hash_shapes seed vs a members fit few short = at (has members (3 * digest_
     monte_carlo = small_hash_shape MonteCarlo (digest_bits a
         ∷ []) (omega arith) (one_length (digest_bits a) (omega (arith, short)))
 
-    at : (b : Bool) → AreSmall (hash_shape Functional (message_lengths seed vs a members)
+    at : (b : Bool) → AreSmall (hash_shape Digest (message_lengths seed vs a members)
         ∷ cond b (hash_shape MonteCarlo (digest_bits a ∷ []) ∷ []) [])
     at true = record {
       few = omega arith;
-      small = All-cons IsSmall (hash_shape Functional (message_lengths seed vs a members))
-          (hash_shape MonteCarlo (digest_bits a ∷ []) ∷ []) functional
+      small = All-cons IsSmall (hash_shape Digest (message_lengths seed vs a members))
+          (hash_shape MonteCarlo (digest_bits a ∷ []) ∷ []) digests
           (All-cons IsSmall (hash_shape MonteCarlo (digest_bits a ∷ [])) [] monte_carlo (All-nil IsSmall));
     }
     at false = record {
       few = omega arith;
-      small = All-cons IsSmall (hash_shape Functional (message_lengths seed vs a members)) [] functional
+      small = All-cons IsSmall (hash_shape Digest (message_lengths seed vs a members)) [] digests
           (All-nil IsSmall);
     }
 
@@ -136,20 +137,18 @@ small_hmac_shapes seed vs a keys macs fit few_keys few_macs = record {
 -- ---- what holds of each group, before its bytes are made
 
 pub record IsShapeOf (a : Algorithm) (shape : ShapeValue) : Type 0 where
-  pub sizes : is_some shape.sizes ≡ is_hmac_of a
-  pub sized : IsSized a shape.sizes
-  pub functional : IfSome shape.sizes (λ s. shape.kind ≡ Functional)
-  pub whole_keys : IfSome shape.sizes (λ s. s.key_bits % 8 ≡ 0)
-  pub keys : IfSome shape.sizes (λ s. All (λ t. t.key_bits ≡ s.key_bits) shape.tests)
-  pub seeds : shape.kind ≡ MonteCarlo → All (λ t. t.message_bits ≡ digest_bits a) shape.tests
+  pub sizes : is_some (sizes_of shape.form) ≡ is_hmac_of a
+  pub sized : IsSized a shape.form
+  pub whole_keys : IfSome (sizes_of shape.form) (λ s. s.key_bits % 8 ≡ 0)
+  pub keys : IfSome (sizes_of shape.form) (λ s. All (λ t. t.key_bits ≡ s.key_bits) shape.tests)
+  pub seeds : shape.form ≡ MonteCarlo → All (λ t. t.message_bits ≡ digest_bits a) shape.tests
   pub messages : All (λ t. t.message_bits % 8 ≡ 0) shape.tests
 
-functional_shape : (a : Algorithm) (lengths : List ℕ) → is_hmac_of a ≡ false → All (λ n. n % 8 ≡ 0) lengths
-    → IsShapeOf a (hash_shape Functional lengths)
-functional_shape a lengths hash whole = record {
+digest_shape : (a : Algorithm) (lengths : List ℕ) → is_hmac_of a ≡ false → All (λ n. n % 8 ≡ 0) lengths
+    → IsShapeOf a (hash_shape Digest lengths)
+digest_shape a lengths hash whole = record {
   sizes = sym hash;
   sized = tt;
-  functional = tt;
   whole_keys = tt;
   keys = tt;
   seeds = λ is. cc;
@@ -162,7 +161,6 @@ monte_carlo_shape a hash =
     record {
       sizes = sym hash;
       sized = tt;
-      functional = tt;
       whole_keys = tt;
       keys = tt;
       seeds = λ is. All-cons (λ t. t.message_bits ≡ digest_bits a) (hash_test (digest_bits a)) [] refl
@@ -175,18 +173,18 @@ fit_hash_shapes : (seed : List ℕ) (vs : ℕ) (a : Algorithm) (members : List �
     → AreLengths 0 65536 members → All (IsShapeOf a) (hash_shapes seed vs a members)
 fit_hash_shapes seed vs a members hash fit = at (has members (3 * digest_bits a))
   where
-    first : IsShapeOf a (hash_shape Functional (message_lengths seed vs a members))
-    first = functional_shape a (message_lengths seed vs a members) hash
+    first : IsShapeOf a (hash_shape Digest (message_lengths seed vs a members))
+    first = digest_shape a (message_lengths seed vs a members) hash
         (all_lengths (λ n. n % 8 ≡ 0) (choice.message_edges (block_bits a)) members seed vs choice.message_draws
         fit.whole_bytes)
 
-    at : (b : Bool) → All (IsShapeOf a) (hash_shape Functional (message_lengths seed vs a members)
+    at : (b : Bool) → All (IsShapeOf a) (hash_shape Digest (message_lengths seed vs a members)
         ∷ cond b (hash_shape MonteCarlo (digest_bits a ∷ []) ∷ []) [])
-    at true = All-cons (IsShapeOf a) (hash_shape Functional (message_lengths seed vs a members))
+    at true = All-cons (IsShapeOf a) (hash_shape Digest (message_lengths seed vs a members))
         (hash_shape MonteCarlo (digest_bits a ∷ []) ∷ []) first
         (All-cons (IsShapeOf a) (hash_shape MonteCarlo (digest_bits a ∷ [])) [] (monte_carlo_shape a hash)
         (All-nil (IsShapeOf a)))
-    at false = All-cons (IsShapeOf a) (hash_shape Functional (message_lengths seed vs a members)) [] first
+    at false = All-cons (IsShapeOf a) (hash_shape Digest (message_lengths seed vs a members)) [] first
         (All-nil (IsShapeOf a))
 
 -- what holds of a test holds of three of them
@@ -199,7 +197,6 @@ fit_hmac_shape : (a : Algorithm) (key mac : ℕ) → is_hmac_of a ≡ true → k
 fit_hmac_shape a key mac hmac whole most = record {
   sizes = sym hmac;
   sized = most;
-  functional = refl;
   whole_keys = whole;
   keys = three (λ t. t.key_bits ≡ key) (hmac_test key) refl;
   seeds = λ is. cc;

@@ -11,7 +11,7 @@ use Rattle.acvp_gen.specs.declared.group.Sizes.{Sizes}
 use Rattle.acvp_gen.specs.declared.shape.TestShape.{TestShape}
 use Rattle.acvp_gen.specs.Choice.{ShapeValue}
 use Rattle.acvp_gen.specs.Words.{word_bytes_of, words_in, bytes_of}
-use Rattle.acvp_gen.specs.Prompt.{TestValue, GroupValue}
+use Rattle.acvp_gen.specs.Prompt.{TestValue, GroupValue, sizes_of}
 use Rattle.acvp_gen.specs.Prompts.{words_of_test, test_at, tests_after, groups_after, tests_in, IsSized, IsGroupOf, AreGroupsOf}
 use Rattle.acvp_gen.specs.Private.Filling.{tests_from, groups_from}
 use Rattle.acvp_gen.proofs.ChoiceLemmas.{IsShapeOf}
@@ -49,8 +49,7 @@ same_groups_at seed vs draws before group (shape ∷ shapes) =
     rw (same_tests seed vs draws before shape.tests)
     (ap (λ gs. record {
       number = group;
-      kind = shape.kind;
-      sizes = shape.sizes;
+      form = shape.form;
       tests = tests_from seed vs (length before + 1) (draws + sum_by words_of_test before) shape.tests;
     } ∷ gs)
     (rest ∙ rw (number, place, next) refl))
@@ -110,8 +109,7 @@ all_tests P Q seed vs step number place (test ∷ tests) all =
 abbrev group_at : List ℕ → ℕ → ℕ → ℕ → ℕ → ShapeValue → GroupValue
 group_at seed vs group number place shape = record {
   number = group;
-  kind = shape.kind;
-  sizes = shape.sizes;
+  form = shape.form;
   tests = tests_from seed vs number place shape.tests;
 }
 
@@ -149,8 +147,7 @@ fit_group : (a : Algorithm) (seed : List ℕ) (vs group number place : ℕ) (sha
     → IsGroupOf a (group_at seed vs group number place shape)
 fit_group a seed vs group number place shape fit = record {
   sizes = fit.sizes;
-  functional = fit.functional;
-  keys = keys_of shape.sizes fit.whole_keys fit.keys;
+  keys = keys_of (sizes_of shape.form) fit.whole_keys fit.keys;
   seeds = λ is. all_tests (λ t. t.message_bits ≡ digest_bits a) (λ t. 8 * length t.message ≡ digest_bits a) seed vs
       (λ number place test same. let whole : digest_bits a % 8 ≡ 0 = omega arith in omega (
         arith,
@@ -180,7 +177,7 @@ pub are_groups : (a : Algorithm) (seed : List ℕ) (vs draws : ℕ) (shapes : Li
 are_groups a seed vs draws shapes all =
     rw (← same_groups seed vs draws shapes) (record {
       numbered = groups_numbered seed vs 1 1 draws shapes;
-      sized = all_groups (λ s. IsSized a s.sizes) (λ g. IsSized a g.sizes) seed vs
+      sized = all_groups (λ s. IsSized a s.form) (λ g. IsSized a g.form) seed vs
           (λ group number place shape sized. sized) 1 1 draws shapes (λ k d within. (all k d within).sized);
       each = all_groups (IsShapeOf a) (IsGroupOf a) seed vs
           (λ group number place shape fit. fit_group a seed vs group number place shape fit) 1 1 draws shapes all;

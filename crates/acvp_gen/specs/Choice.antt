@@ -5,16 +5,15 @@ use Rattle.acvp_caps.specs.declared.algorithm.Algorithm.{Algorithm}
 use Rattle.acvp_caps.specs.declared.capability.Domains.{Domains}
 use Rattle.acvp_caps.specs.declared.capability.Domains.TheVariants.{Message, KeyAndMac}
 use Rattle.acvp_caps.specs.Capability.{block_bits, digest_bits}
-use Rattle.acvp_gen.specs.declared.group.GroupKind.{GroupKind}
-use Rattle.acvp_gen.specs.declared.group.GroupKind.TheVariants.{Functional, MonteCarlo}
+use Rattle.acvp_gen.specs.declared.group.GroupForm.{GroupForm}
+use Rattle.acvp_gen.specs.declared.group.GroupForm.TheVariants.{Digest, MonteCarlo, Mac}
 use Rattle.acvp_gen.specs.declared.group.Sizes.{Sizes}
 use Rattle.acvp_gen.specs.declared.shape.TestShape.{TestShape}
 use Rattle.acvp_gen.specs.Words.{word_of}
 
--- what a group is to be: its kind, for HMAC its three sizes, and its tests by their sizes
+-- what a group is to be: its form, for HMAC with its three sizes, and its tests by their sizes
 pub record ShapeValue : Type 0 where
-  pub kind : GroupKind
-  pub sizes : Option Sizes
+  pub form : GroupForm
   pub tests : List TestShape
 
 -- ---- lengths
@@ -76,15 +75,15 @@ mac_lengths members = ends_and_edges [] members
 abbrev pub hash_test : ℕ → TestShape
 hash_test bits = record { key_bits = 0; message_bits = bits }
 
-abbrev pub hash_shape : GroupKind → List ℕ → ShapeValue
-hash_shape kind lengths = record { kind = kind; sizes = None; tests = map hash_test lengths }
+abbrev pub hash_shape : GroupForm → List ℕ → ShapeValue
+hash_shape form lengths = record { form = form; tests = map hash_test lengths }
 
 -- one Monte Carlo test, of a seed as long as a digest, where three times the digest's bits is a member
 abbrev pub monte_carlo_shapes : ℕ → List ℕ → List ShapeValue
 monte_carlo_shapes digest members = if has members (3 * digest) then hash_shape MonteCarlo (digest ∷ []) ∷ [] else []
 
 abbrev pub hash_shapes : List ℕ → ℕ → Algorithm → List ℕ → List ShapeValue
-hash_shapes seed vs algorithm members = hash_shape Functional (message_lengths seed vs algorithm members)
+hash_shapes seed vs algorithm members = hash_shape Digest (message_lengths seed vs algorithm members)
     ∷ monte_carlo_shapes (digest_bits algorithm) members
 
 -- the bits of an HMAC test's message
@@ -101,8 +100,7 @@ hmac_sizes key mac = record { key_bits = key; message_bits = hmac_message; mac_b
 -- three tests of a pair of a key's length and a MAC's
 abbrev pub hmac_shape : ℕ → ℕ → ShapeValue
 hmac_shape key mac = record {
-  kind = Functional;
-  sizes = Some (hmac_sizes key mac);
+  form = Mac (hmac_sizes key mac);
   tests = hmac_test key
       ∷ hmac_test key ∷ hmac_test key ∷ [];
 }

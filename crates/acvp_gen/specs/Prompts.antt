@@ -1,14 +1,14 @@
 -- The prompts of a vector set: each test has its number and its bytes by the tests before it.
-use Rattle.std.specs.Prelude.{◌≡◌, ℕ, suc, ◌+◌, ◌*◌, ◌/◌, ◌≤◌, List, [], ◌∷◌, ◌++◌, length, map, All, Option, is_some, IfSome}
+use Rattle.std.specs.Prelude.{◌≡◌, ℕ, suc, ◌+◌, ◌*◌, ◌/◌, ◌≤◌, List, [], ◌∷◌, ◌++◌, length, map, All, is_some, IfSome}
 use Rattle.std.specs.List.{flat_map, sum_by, range_with_len}
 use Rattle.acvp_caps.specs.declared.algorithm.Algorithm.{Algorithm}
 use Rattle.acvp_caps.specs.Algorithms.{is_hmac_of}
 use Rattle.acvp_caps.specs.Capability.{CapabilityValue, digest_bits}
-use Rattle.acvp_gen.specs.declared.group.GroupKind.TheVariants.{Functional, MonteCarlo}
-use Rattle.acvp_gen.specs.declared.group.Sizes.{Sizes}
+use Rattle.acvp_gen.specs.declared.group.GroupForm.{GroupForm}
+use Rattle.acvp_gen.specs.declared.group.GroupForm.TheVariants.{MonteCarlo}
 use Rattle.acvp_gen.specs.declared.shape.TestShape.{TestShape}
 use Rattle.acvp_gen.specs.Choice.{ShapeValue, shapes_on, draws_on}
-use Rattle.acvp_gen.specs.Prompt.{TestValue, GroupValue, PromptsValue}
+use Rattle.acvp_gen.specs.Prompt.{TestValue, GroupValue, PromptsValue, sizes_of}
 use Rattle.acvp_gen.specs.Words.{bytes_of, words_in}
 
 -- the words that a test's key and message take
@@ -40,8 +40,7 @@ groups_after seed vs draws before number [] = []
 groups_after seed vs draws before number (shape ∷ shapes) =
     record {
       number = number;
-      kind = shape.kind;
-      sizes = shape.sizes;
+      form = shape.form;
       tests = tests_after seed vs draws before shape.tests;
     }
     ∷ groups_after seed vs draws (before ++ shape.tests) (suc number) shapes
@@ -64,21 +63,20 @@ abbrev pub AreNumbered : List GroupValue → Type 0
 AreNumbered groups = map (λ t. t.number) (tests_in groups) ≡ range_with_len 1 (length (tests_in groups))
 
 -- a MAC is never longer than the digest of the algorithm's hash function
-abbrev pub IsSized : Algorithm → Option Sizes → Type 0
-IsSized algorithm sizes = IfSome sizes (λ s. s.mac_bits ≤ digest_bits algorithm)
+abbrev pub IsSized : Algorithm → GroupForm → Type 0
+IsSized algorithm form = IfSome (sizes_of form) (λ s. s.mac_bits ≤ digest_bits algorithm)
 
--- What holds of each group of an algorithm: it has sizes exactly where the algorithm is HMAC; a group with sizes is
--- functional, and its keys have the bits that it names; a Monte Carlo group's messages are as long as a digest; and a
--- test's bits are those of the whole bytes of its message.
+-- What holds of each group of an algorithm: it has sizes exactly where the algorithm is HMAC; the keys of a group with
+-- sizes have the bits that it names; a Monte Carlo group's messages are as long as a digest; and a test's bits are those
+-- of the whole bytes of its message.
 pub record IsGroupOf (algorithm : Algorithm) (group : GroupValue) : Type 0 where
-  pub sizes : is_some group.sizes ≡ is_hmac_of algorithm
-  pub functional : IfSome group.sizes (λ s. group.kind ≡ Functional)
-  pub keys : IfSome group.sizes (λ s. All (λ t. 8 * length t.key ≡ s.key_bits) group.tests)
-  pub seeds : group.kind ≡ MonteCarlo → All (λ t. 8 * length t.message ≡ digest_bits algorithm) group.tests
+  pub sizes : is_some (sizes_of group.form) ≡ is_hmac_of algorithm
+  pub keys : IfSome (sizes_of group.form) (λ s. All (λ t. 8 * length t.key ≡ s.key_bits) group.tests)
+  pub seeds : group.form ≡ MonteCarlo → All (λ t. 8 * length t.message ≡ digest_bits algorithm) group.tests
   pub bits : All (λ t. t.bits ≡ 8 * length t.message) group.tests
 
 -- what holds of the groups of every vector set
 pub record AreGroupsOf (algorithm : Algorithm) (groups : List GroupValue) : Type 0 where
   pub numbered : AreNumbered groups
-  pub sized : All (λ g. IsSized algorithm g.sizes) groups
+  pub sized : All (λ g. IsSized algorithm g.form) groups
   pub each : All (IsGroupOf algorithm) groups

@@ -8,7 +8,7 @@ ghost use Rattle.acvp_gen.specs.Private.Filling.{AreSmall};
 ghost use Rattle.acvp_gen.specs.Private.Generator.{moved};
 
 use crate::generator::Generator;
-use crate::group::{GroupKind, Sizes};
+use crate::group::{GroupForm, Sizes};
 use crate::lengths::{key_lengths, mac_lengths, message_lengths};
 use crate::shape::{Shape, TestShape};
 use acvp_caps::{Algorithm, Domain, Domains};
@@ -21,8 +21,8 @@ const HMAC_MESSAGE: u64 = 128;
 const HMAC_TESTS: usize = 3;
 
 /// A group of a hash function's tests, by the bits of their messages.
-fn hash_shape(alloc: Global, kind: GroupKind, lengths: &[u64]) -> Result<Shape, AllocError>
-    ensures { IfOk result (λ shape. shape ≡ hash_shape kind lengths.now) }
+fn hash_shape(alloc: Global, form: GroupForm, lengths: &[u64]) -> Result<Shape, AllocError>
+    ensures { IfOk result (λ shape. shape ≡ hash_shape form lengths.now) }
 {
     let mut tests = Vec::with_capacity(alloc, lengths.len())?;
     for length in lengths {
@@ -31,11 +31,7 @@ fn hash_shape(alloc: Global, kind: GroupKind, lengths: &[u64]) -> Result<Shape, 
             message_bits: *length,
         })?;
     }
-    Ok(Shape {
-        kind,
-        sizes: None,
-        tests,
-    })
+    Ok(Shape { form, tests })
 }
 
 /// The groups of a hash function: the functional tests, and a Monte Carlo test where three times the digest's bits is a
@@ -55,10 +51,10 @@ fn hash_shapes(
 {
     let mut shapes = Vec::new(alloc);
     let lengths = message_lengths(alloc, words, algorithm, members)?;
-    shapes.push(hash_shape(alloc, GroupKind::Functional, &lengths)?)?;
+    shapes.push(hash_shape(alloc, GroupForm::Digest, &lengths)?)?;
     let digest_bits = algorithm.digest_bits();
     if members.contains(3 * digest_bits) {
-        shapes.push(hash_shape(alloc, GroupKind::MonteCarlo, &[digest_bits])?)?;
+        shapes.push(hash_shape(alloc, GroupForm::MonteCarlo, &[digest_bits])?)?;
     }
     Ok(shapes)
 }
@@ -77,8 +73,7 @@ fn hmac_shape(alloc: Global, key_bits: u64, mac_bits: u64) -> Result<Shape, Allo
         mac_bits,
     };
     Ok(Shape {
-        kind: GroupKind::Functional,
-        sizes: Some(sizes),
+        form: GroupForm::Mac(sizes),
         tests: vec![in alloc; test; HMAC_TESTS]?,
     })
 }

@@ -78,8 +78,7 @@ pub(crate) fn groups_from(
     for shape in shapes {
         groups.push(Group {
             number: group,
-            kind: shape.kind,
-            sizes: shape.sizes,
+            form: shape.form,
             tests: tests_from(alloc, words, number, &shape.tests)?,
         })?;
         group += 1;

@@ -17,7 +17,7 @@ mod words;
 
 pub use acvp_caps::{Algorithm, CapFault, Capability};
 pub use generation::prompts;
-pub use group::{Group, GroupKind, Sizes};
+pub use group::{Group, GroupForm, GroupKind, Sizes};
 pub use prompt::Prompts;
 pub use seeds::Seeds;
 pub use test_case::Test;

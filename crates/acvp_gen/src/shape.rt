@@ -1,6 +1,6 @@
 //! What groups and tests are to be, before their bytes are made.
 
-use crate::group::{GroupKind, Sizes};
+use crate::group::GroupForm;
 use std::marker::Model;
 
 /// A test by its sizes in bits. A hash function takes no key: 0 bits.
@@ -16,8 +16,7 @@ pub struct TestShape {
 /// A group and its tests.
 #[derive(Drop)]
 pub(crate) struct Shape {
-    pub kind: GroupKind,
-    pub sizes: Option<Sizes>,
+    pub form: GroupForm,
     pub tests: Vec<TestShape>,
 }
 
@@ -26,5 +25,5 @@ impl Model for Shape {
 
     ghost Value = { ShapeValue };
 
-    ghost view = { λ s. record { kind = s.kind; sizes = s.sizes; tests = s.tests.items } };
+    ghost view = { λ s. record { form = s.form; tests = s.tests.items } };
 }

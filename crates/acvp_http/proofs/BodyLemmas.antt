@@ -1,5 +1,5 @@
 -- Lemmas on the body of a login: what its two parts' tests say of the whole list.
-use Rattle.std.proofs.Common.{◌≡◌, ◌⊎◌, ⊎_elim, inl, inr, ℕ, List, [], ◌∷◌, Bool, true, false, Option, None, Some, Ok, Err, refl, sym, ◌∙◌, ap, is_some}
+use Rattle.std.proofs.Common.{◌≡◌, ◌⊎◌, ⊎_elim, inl, inr, ℕ, List, [], ◌∷◌, Bool, true, false, Option, None, Some, Ok, Err, refl, ◌∙◌, ap, is_some}
 use Rattle.std.specs.Prelude.{option_and_then}
 use Rattle.serde_json.specs.Data.{Data}
 use Rattle.acvp_json.specs.Envelope.{object_of, envelope_of, envelope_conditions, body_json}

@@ -1,5 +1,5 @@
 -- Lemmas on the fields of a head.
-use Rattle.std.proofs.Common.{◌≡◌, ◌<◌, ℕ, ◌+◌, List, [], ◌∷◌, ◌++◌, length, map, drop, get_or, Bool, true, false, if◌then◌else◌, cond, not, ◌||◌, ◌==◌, nat_le, codes, Option, Some, None, Ok, refl, sym, ◌∙◌, ap, ◌≤◌, arith, append_assoc, length-append}
+use Rattle.std.proofs.Common.{◌≡◌, ◌<◌, ℕ, ◌+◌, List, [], ◌∷◌, ◌++◌, length, map, drop, get_or, Bool, true, false, if◌then◌else◌, cond, not, ◌||◌, ◌==◌, nat_le, codes, Some, None, Ok, refl, sym, ◌∙◌, ap, ◌≤◌, arith, append_assoc, length-append}
 use Rattle.std.specs.Prelude.{All}
 use Rattle.std.proofs.lemmas.List.Elements.{All-push, All-get_or}
 use Rattle.std.proofs.lemmas.List.{drop_more, map-append, length-map}

@@ -1,5 +1,5 @@
 -- Lemmas on lists.
-use Rattle.std.proofs.Common.{◌≡◌, ℕ, ◌+◌, ◌<◌, List, ◌++◌, length, take, drop, map, set, get_or, ap, ◌∙◌, append_assoc, arith, refl}
+use Rattle.std.proofs.Common.{◌≡◌, ℕ, ◌+◌, ◌<◌, List, ◌++◌, length, take, drop, map, set, get_or, ap, ◌∙◌, append_assoc, arith}
 use Rattle.std.proofs.lemmas.List.{get_or_default, take_all, drop_all, append-nil, length-map}
 use Rattle.std.proofs.lemmas.List.Edits.{map_over_more}
 

@@ -7,9 +7,8 @@ use Rattle.acvp_policy.specs.declared.rule.Rule.{Rule}
 use Rattle.acvp_policy.specs.declared.rule.Rule.TheVariants.{ClockOutOfRange, Unavailable}
 use Rattle.acvp_http.specs.Asks.{ParsedRequest, login, Asks}
 use Rattle.acvp_http.specs.Event.{DeskState}
-use Rattle.acvp_json.specs.ReplyData.{reply_data}
+use Rattle.acvp_json.specs.ReplyData.{token_data}
 use Rattle.acvp_json.specs.Written.{body_of}
-use Rattle.acvp_json.specs.declared.reply_object.ReplyObject.TheVariants.{Login}
 use Rattle.acvp_token.specs.TokenText.{token_text}
 use Rattle.acvp_http.specs.declared.login.AcceptedLogin.{AcceptedLogin}
 use Rattle.acvp_http.specs.Login.{login_decision, claims_at, after_login}
@@ -23,7 +22,7 @@ pub taken_accepted : (held same : DeskState) (moment : ℕ) (date body : List �
     ≡ Ok (Some accepted_login) →
     accounts ≡ after_login same.accounts accepted_login
     → reply ≡ framed 200 (Some date) []
-    (body_of (reply_data (Login (token_text same.keys.token (claims_at accepted_login moment))))) →
+    (body_of (token_data (token_text same.keys.token (claims_at accepted_login moment)))) →
     LoginTaken held moment date body accounts reply
 taken_accepted held same moment date body accepted_login accounts reply parts is changed shown =
     subst (λ (h : DeskState). LoginTaken h moment date body accounts reply) (sym parts) (inl (rw is (changed, shown)))

@@ -1,5 +1,5 @@
 -- What the bytes of an input ask for: a request, or the rule that refuses it before anyone is looked at.
-use Rattle.std.specs.Prelude.{◌≡◌, ◌≤◌, ◌<◌, ◌⊎◌, ℕ, ◌-◌, List, [], ◌∷◌, length, take, drop, map, filter, count_by, find, position, codes, Bool, true, false, not, ◌||◌, ◌==◌, nat_le, nat_lt, if◌then◌else◌, MatchBool, Option, Some, None, unwrap_or, Result, Ok, Err}
+use Rattle.std.specs.Prelude.{◌≡◌, ◌≤◌, ◌<◌, ◌⊎◌, ℕ, ◌-◌, List, [], ◌∷◌, length, take, drop, map, filter, count_by, position, codes, Bool, true, false, not, ◌||◌, ◌==◌, nat_le, nat_lt, if◌then◌else◌, MatchBool, Option, Some, None, unwrap_or, Result, Ok, Err}
 use Rattle.std.specs.List.{starts_with, ends_with, list_all}
 use Rattle.std.specs.Str.{bytes_eq, str_eq_ignore_ascii_case}
 use Rattle.httparse.specs.Grammar.{RequestHead, ReadsRequest}

@@ -1,8 +1,7 @@
 -- What an event does to the records, and what it is answered.
-use Rattle.std.specs.Prelude.{◌≡◌, ◌<◌, ◌⊎◌, ℕ, List, [], ◌∷◌, Bool, true, false, nat_lt, MatchBool, Option, Some, None, Result, Ok, Err}
-use Rattle.acvp_json.specs.ReplyData.{reply_data}
+use Rattle.std.specs.Prelude.{◌≡◌, ◌<◌, ℕ, List, [], ◌∷◌, Bool, true, false, nat_lt, MatchBool, Option, Some, None, Result, Ok, Err}
+use Rattle.acvp_json.specs.ReplyData.{token_data}
 use Rattle.acvp_json.specs.Written.{body_of}
-use Rattle.acvp_json.specs.declared.reply_object.ReplyObject.TheVariants.{Login}
 use Rattle.acvp_token.specs.TokenText.{token_text}
 use Rattle.acvp_http.specs.declared.login.AcceptedLogin.{AcceptedLogin}
 use Rattle.acvp_policy.specs.declared.rule.Rule.{Rule}
@@ -27,7 +26,7 @@ LoginAnswered desk moment date (Ok None) accounts reply = ⊥
 LoginAnswered desk moment date (Ok (Some accepted_login)) accounts reply =
     (accounts ≡ after_login desk.accounts accepted_login)
     × (reply ≡ framed 200 (Some date) []
-    (body_of (reply_data (Login (token_text desk.keys.token (claims_at accepted_login moment))))))
+    (body_of (token_data (token_text desk.keys.token (claims_at accepted_login moment)))))
 
 -- what is asked is decided, carried out and answered
 abbrev pub RequestAnswered : DeskState → ℕ → List ℕ → ParsedRequest → List Account → List ℕ → Type 0

@@ -1,8 +1,7 @@
 //! A login: the account and the step that its code uses, and the token that it is answered.
 ghost use Rattle.std.specs.Prelude.{◌≡◌, ◌⊎◌, [], ◌<◌, Some, None, MatchResult, IfOk};
-ghost use Rattle.acvp_json.specs.ReplyData.{reply_data};
+ghost use Rattle.acvp_json.specs.ReplyData.{token_data};
 ghost use Rattle.acvp_json.specs.Written.{body_of};
-ghost use Rattle.acvp_json.specs.declared.reply_object.ReplyObject.TheVariants.{Login};
 ghost use Rattle.acvp_token.specs.TokenText.{token_text};
 ghost use Rattle.acvp_http.specs.Login.{password_of, account_of, code_use_of, is_session_of, renewed_session, login_of, login_decision, claims_at};
 ghost use Rattle.acvp_http.specs.Private.LoginRules.{rule_of_fault, FailsBody};
@@ -157,6 +156,14 @@ pub(crate) fn decide(
     })
 }
 
+/// The body with a new token.
+#[tactic(auto, unfolding(acvp_json::specs::ReplyData::reply_data))]
+fn token_body(alloc: Global, token: &str) -> Result<Vec<u8>, AllocError>
+    ensures { IfOk result (λ body. body.items ≡ body_of (token_data token.now)) }
+{
+    write_reply(alloc, &ReplyObject::Login { token })
+}
+
 /// The reply with an account's new token.
 pub(crate) fn token_reply(
     alloc: Global,
@@ -168,7 +175,7 @@ pub(crate) fn token_reply(
     requires { moment < end_of_moments }
     ensures { IfOk result
         (λ reply. reply ≡ framed 200 (Some date.now) []
-        (body_of (reply_data (Login (token_text key.now (claims_at accepted_login moment)))))) }
+        (body_of (token_data (token_text key.now (claims_at accepted_login moment))))) }
 {
     let claims = Claims {
         account: accepted_login.account,
@@ -176,7 +183,7 @@ pub(crate) fn token_reply(
         issued: moment,
         expires: moment + TOKEN_LIFE,
     };
-    let token = Text::new(issue(alloc, key, &claims)?);
-    let body = write_reply(alloc, &ReplyObject::Login { token })?;
+    let token = issue(alloc, key, &claims)?;
+    let body = token_body(alloc, token.as_str())?;
     Reply::accepted(alloc, date, &body)
 }

@@ -1,30 +1,8 @@
 -- Lemmas on bodies.
-use Rattle.std.proofs.Common.{◌≡◌, ℕ, List, [], ◌∷◌, length, Bool, true, false, Some, None, refl, slice_index_or, arith}
-use Rattle.std.specs.Prelude.{IsUtf8}
-use Rattle.std.specs.Str.{is_utf8}
-use Rattle.std.proofs.lemmas.Str.{IsUtf8-from_is_utf8, is_utf8-from_IsUtf8}
-use Rattle.serde_json.specs.Data.{Data}
-use Rattle.serde_json.specs.Read.{read}
+use Rattle.std.proofs.Common.{◌≡◌, List, [], ◌∷◌, length, false, None, refl, slice_index_or, arith}
 use Rattle.serde_json.specs.View.{view, items_view}
-use Rattle.serde_json.specs.Written.{has_float}
 use Rattle.serde_json.specs.declared.value.Value.{Value}
-use Rattle.acvp_json.specs.Envelope.{body_json, is_envelope, envelope_items}
-
-pub body_json-read : (body : List ℕ) (d : Data) → IsUtf8 body → read body ≡ Some d → has_float d ≡ false
-    → body_json body ≡ Some d
-body_json-read body d utf8 reads plain =
-    let text : is_utf8 body ≡ true = is_utf8-from_IsUtf8 body utf8 in
-    rw (text, reads, plain)
-
-body_json-unread : (body : List ℕ) (b : Bool) → is_utf8 body ≡ b → (IsUtf8 body → read body ≡ None)
-    → body_json body ≡ None
-body_json-unread body true text reads =
-    let none : read body ≡ None = reads (IsUtf8-from_is_utf8 body text) in
-    rw (text, none)
-body_json-unread body false text reads = rw text
-
-pub body_json-none : (body : List ℕ) → (IsUtf8 body → read body ≡ None) → body_json body ≡ None
-body_json-none body reads = body_json-unread body (is_utf8 body) refl reads
+use Rattle.acvp_json.specs.Envelope.{is_envelope, envelope_items}
 
 pub envelope_items-other : (vs : List Value) → (length vs ≡ 2 → ⊥) → envelope_items (items_view vs) ≡ None
 envelope_items-other [] other = refl

@@ -1,9 +1,9 @@
 -- Lemmas on kept answers: what is written is read, and nothing else.
-use Rattle.std.proofs.Common.{◌≡◌, ℕ, ◌+◌, ◌<◌, ◌≤◌, List, [], ◌∷◌, ◌++◌, length, get_or, take, drop, map, Bool, true, false, cond, ◌&&◌, Option, None, Some, option_map, refl, sym, ◌∙◌, ap, subst, append_assoc, add-one, string_bytes, String, Global, arith}
+use Rattle.std.proofs.Common.{◌≡◌, ℕ, ◌+◌, ◌<◌, ◌≤◌, List, [], ◌∷◌, ◌++◌, length, get_or, drop, map, Bool, true, false, cond, ◌&&◌, Option, None, Some, option_map, refl, sym, ◌∙◌, ap, subst, append_assoc, add-one, string_bytes, String, Global, arith}
 use Rattle.std.specs.Prelude.{nat_lt, option_and_then, Contains, MatchBool, Result, Ok, Err, IfOk, ◌↔◌}
 use Rattle.std.specs.BTreeMap.{insert_entry}
 use Rattle.std.specs.Cmp.{nat_cmp_is}
-use Rattle.std.specs.List.{list_all, AllByRecursion, slice_get}
+use Rattle.std.specs.List.{list_all, AllByRecursion}
 use Rattle.std.specs.List.Sorted.{IsStrictlySortedBy}
 use Rattle.std.specs.Map.{keys_of}
 use Rattle.std.specs.Ordering.{nat_cmp}
@@ -13,9 +13,9 @@ use Rattle.std.specs.declared.cmp.Ordering.TheVariants.{Less, Greater}
 use Rattle.std.proofs.Math.Seq.{drop-cons}
 use Rattle.std.proofs.lemmas.Bool.Decides.{nat_tests}
 use Rattle.std.proofs.lemmas.Cmp.{nat_cmp_total, ranked}
-use Rattle.std.proofs.lemmas.List.{take_more, map-append}
+use Rattle.std.proofs.lemmas.List.{map-append}
 use Rattle.std.proofs.lemmas.List.Sums.{AllPass-from_list_all}
-use Rattle.std.proofs.lemmas.Option.{get_or_from_slice_get, slice_get_within}
+use Rattle.std.proofs.lemmas.Simd.{map-map}
 use Rattle.std.proofs.lemmas.Slice.Eq.{bytes_eq-Decides}
 use Rattle.std.proofs.lemmas.Str.{IsUtf8-string_bytes}
 use Rattle.serde_json.specs.Data.{Data, null, boolean, number, unsigned, negative, float, string, array, object, Items, no_items, item, depth, items_depth}
@@ -27,9 +27,10 @@ use Rattle.serde_json.specs.declared.value.Value.{Value}
 use Rattle.acvp_caps.specs.Json.{whole_number}
 use Rattle.acvp_answers.specs.Answer.{Answer, AreAscending}
 use Rattle.acvp_json.specs.Elements.{each}
-use Rattle.acvp_json.specs.Envelope.{body_json}
+use Rattle.acvp_registry.specs.Json.{body_json}
 use Rattle.acvp_json.specs.KeptAnswers.{texts_data, answer_data, answers_data, kept_text, texts_of, pair_items, pair_of, answer_of, is_above, are_rising, if_rising, answers_after, answers_of, is_compact, kept_in, kept_answers, IsKeptAs}
-use Rattle.acvp_json.proofs.EnvelopeLemmas.{body_json-read}
+use Rattle.acvp_json.proofs.AnswersLemmas.{regrouped}
+use Rattle.acvp_registry.proofs.JsonLemmas.{body_json-read}
 
 -- ---- optional values
 
@@ -265,22 +266,19 @@ written (Err e) d answers is ascending text reads = tt
 
 -- ---- one answer more is written
 
-pub shown-more : (done new : List Value) (answers : List Answer) (i : ℕ) (a : Answer) (v : Value)
-    → slice_get answers i ≡ Some a → view v ≡ answer_data a
-    → map view done ≡ map answer_data (take i answers) → new ≡ done ++ v ∷ []
-    → map view new ≡ map answer_data (take (i + 1) answers)
-shown-more done new answers i a v at is so pushed =
-    let within : i < length answers = slice_get_within answers i a at in
-    let here : get_or answers i a ≡ a = get_or_from_slice_get answers i a a at in
-    rw (
-      pushed,
-      map-append view done (v ∷ []),
-      take_more answers i a within,
-      map-append answer_data (take i answers) (get_or answers i a ∷ []),
-      here,
-      so,
-      is,
-    ) refl
+pub shown-more : (done new : List Value) (answers left : List Answer) (a : Answer) (v : Value) (whole : List Data)
+    → answers ≡ a ∷ left → view v ≡ answer_data a
+    → map view done ++ map answer_data answers ≡ whole → new ≡ done ++ v ∷ []
+    → map view new ++ map answer_data left ≡ whole
+shown-more done new answers left a v whole at is so pushed =
+    let so' : map view done ++ map answer_data (a ∷ left) ≡ whole = rw at at so in
+    rw (pushed, map-append view done (v ∷ []), is) (append_assoc (map view done) (answer_data a ∷ []) (map
+    answer_data left)) ∙ so'
+
+-- the texts of an answer, as the program has them and as lists of bytes
+pub texts_shown : (texts : List (String Global)) → map (λ t. string (string_bytes t)) texts
+    ≡ map string (map string_bytes texts)
+texts_shown texts = sym (map-map string (λ (t : String Global). string_bytes t) texts)
 
 -- ---- one answer more is read
 
@@ -330,12 +328,6 @@ next-of : (last : Option ℕ) (a : Answer) (o : Option (List Answer)) → is_abo
     ∷ more) (option_and_then (if_rising (Some a.0)) o)
 next-of last a None above = refl
 next-of last a (Some as') above = rw above (rest-of a (are_rising (Some a.0) (keys_of as')) as')
-
-regrouped : (done : List Answer) (a : Answer) (o : Option (List Answer))
-    → option_map (λ more. (done ++ a ∷ []) ++ more) o ≡ option_map (λ more. done ++ more)
-    (option_map (λ more. a ∷ more) o)
-regrouped done a None = refl
-regrouped done a (Some more) = ap Some (append_assoc done (a ∷ []) more)
 
 -- one answer more
 pub after-more : (vs : List Value) (k : ℕ) (v : Value) (last : Option ℕ) (done : List Answer) (a : Answer)

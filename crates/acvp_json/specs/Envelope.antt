@@ -1,22 +1,12 @@
 -- The envelope that every body has: an array of two objects, the first of which names the version of the protocol.
 use Rattle.std.specs.Prelude.{ℕ, List, [], ◌∷◌, codes, Bool, ◌&&◌, is_some, if◌then◌else◌, Option, Some, None, option_and_then}
-use Rattle.std.specs.Str.{is_utf8}
 use Rattle.serde_json.specs.Data.{Data, Items, no_items, item}
-use Rattle.serde_json.specs.Read.{read}
 use Rattle.serde_json.specs.Find.{as_array, as_object}
-use Rattle.serde_json.specs.Written.{has_float}
+pub use Rattle.acvp_registry.specs.Json.{body_json}
 use Rattle.acvp_json.specs.declared.fault.BodyFault.{BodyFault}
 use Rattle.acvp_json.specs.declared.fault.BodyFault.TheVariants.{BodyNotJson, BodyEnvelope}
 use Rattle.acvp_json.specs.Members.{text_at, is_text}
 use Rattle.acvp_caps.specs.Conditions.{Condition}
-
--- the value, unless a number in it is kept as a float
-abbrev pub without_float : Data → Option Data
-without_float d = if has_float d then None else Some d
-
--- the JSON value (RFC 8259) that the bytes are
-abbrev pub body_json : List ℕ → Option Data
-body_json bytes = if is_utf8 bytes then option_and_then without_float (read bytes) else None
 
 -- the first names the version, and the second is an object
 abbrev pub is_envelope : Data → Data → Bool

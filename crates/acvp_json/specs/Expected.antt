@@ -1,10 +1,9 @@
 -- The object of a vector set's expected answers: the standard's, in the places that a client's take.
-use Rattle.std.specs.Prelude.{ℕ, List, [], ◌∷◌, codes, Option, None, Some, unwrap_or}
+use Rattle.std.specs.Prelude.{ℕ, List, [], ◌∷◌, codes, unwrap_or}
 use Rattle.serde_json.specs.Data.{Data, string, object, no_members, member}
 use Rattle.acvp_caps.specs.Algorithms.{name_of}
-use Rattle.acvp_gen.specs.declared.group.GroupKind.{GroupKind}
-use Rattle.acvp_gen.specs.declared.group.GroupKind.TheVariants.{Functional, MonteCarlo}
-use Rattle.acvp_gen.specs.declared.group.Sizes.{Sizes}
+use Rattle.acvp_gen.specs.declared.group.GroupForm.{GroupForm}
+use Rattle.acvp_gen.specs.declared.group.GroupForm.TheVariants.{Digest, MonteCarlo, Mac}
 use Rattle.acvp_gen.specs.Prompt.{TestValue, GroupValue, PromptsValue}
 use Rattle.acvp_answers.specs.Answer.{Answer}
 use Rattle.acvp_answers.specs.Verdicts.{answer_to}
@@ -41,19 +40,19 @@ expected_mac texts n =
     object (member (codes "mac") (string (first_text texts))
     (member (codes "tcId") (count n) no_members))
 
--- a test of a group of this kind and these sizes, which one of HMAC has
-abbrev pub expected_answer : GroupKind → Option Sizes → List (List ℕ) → ℕ → Data
-expected_answer MonteCarlo sizes texts n = expected_checkpoints texts n
-expected_answer Functional None texts n = expected_digest texts n
-expected_answer Functional (Some sizes) texts n = expected_mac texts n
+-- a test of a group of this form
+abbrev pub expected_answer : GroupForm → List (List ℕ) → ℕ → Data
+expected_answer Digest texts n = expected_digest texts n
+expected_answer MonteCarlo texts n = expected_checkpoints texts n
+expected_answer (Mac sizes) texts n = expected_mac texts n
 
-abbrev pub expected_test : List Answer → GroupValue → TestValue → Data
-expected_test standard group test = expected_answer group.kind group.sizes (texts_at standard test.number) test.number
+abbrev pub expected_test : List Answer → GroupForm → TestValue → Data
+expected_test standard form test = expected_answer form (texts_at standard test.number) test.number
 
 -- a group: the answers to its tests, and its number
 abbrev pub expected_group : List Answer → GroupValue → Data
 expected_group standard group =
-    object (member (codes "tests") (array_of (expected_test standard group) group.tests)
+    object (member (codes "tests") (array_of (expected_test standard group.form) group.tests)
     (member (codes "tgId") (count group.number) no_members))
 
 -- the answers to a vector set: its algorithm, its revision, its groups and its number

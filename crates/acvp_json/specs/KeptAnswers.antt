@@ -11,7 +11,7 @@ use Rattle.acvp_answers.specs.Answer.{Answer, AreAscending}
 use Rattle.acvp_json.specs.declared.fault.BodyFault.{BodyFault}
 use Rattle.acvp_json.specs.declared.fault.BodyFault.TheVariants.{BodyNotJson, BodyField}
 use Rattle.acvp_json.specs.Elements.{each}
-use Rattle.acvp_json.specs.Envelope.{body_json}
+use Rattle.acvp_registry.specs.Json.{body_json}
 use Rattle.acvp_caps.specs.Conditions.{Condition}
 
 -- ---- as they are written

@@ -2,15 +2,23 @@ pub mod Members
 pub mod Envelope
 pub mod LoginBody
 pub mod CertifyBody
+pub mod ReviewerBody
 pub mod Time
 pub mod Written
 pub mod ReplyData
 pub mod Values
 pub mod VectorSet
 pub mod SetResults
+pub mod Urls
+pub mod Session
+pub mod Page
+pub mod Registry
+pub mod Account
+pub mod AlgorithmData
 pub mod Expected
 pub mod Elements
 pub mod KeptAnswers
+pub mod Submission
 pub mod AnswersBody
 pub mod Private
 pub use Rattle.acvp_answers.specs.Answer
@@ -19,6 +27,8 @@ pub use Rattle.acvp_caps.specs.Algorithms
 pub use Rattle.acvp_caps.specs.Json
 pub use Rattle.acvp_caps.specs.Conditions
 pub use Rattle.acvp_gen.specs.Prompt
+pub use Rattle.acvp_registry.specs.Json as RegistryJson
+pub use Rattle.acvp_registry.specs.Object
 pub use Rattle.acvp_registry.specs.Url
 pub use Rattle.hex.specs.Hex
 pub use Rattle.jiff.specs.Words

@@ -1,5 +1,5 @@
 -- The members of a JSON object.
-use Rattle.std.specs.Prelude.{ℕ, List, Bool, Option, Some, None, is_some, option_map}
+use Rattle.std.specs.Prelude.{ℕ, List, Option, Some, None, option_map}
 use Rattle.serde_json.specs.Data.{Data}
 use Rattle.serde_json.specs.Find.{as_str}
 pub use Rattle.acvp_caps.specs.Json.{number_at, text_at, is_text}
@@ -8,6 +8,3 @@ pub use Rattle.acvp_caps.specs.Json.{number_at, text_at, is_text}
 abbrev pub optional_text : Option Data → Option (Option (List ℕ))
 optional_text None = Some None
 optional_text (Some d) = option_map Some (as_str d)
-
-abbrev pub is_optional_text : Option Data → Bool
-is_optional_text member = is_some (optional_text member)

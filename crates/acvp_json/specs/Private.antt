@@ -3,3 +3,4 @@ pub mod Readings
 pub mod Borrowed
 pub mod Said
 pub mod AnswersReading
+pub mod Civil

@@ -1,17 +1,19 @@
 -- The object of a vector set: its groups of tests, as a client runs them.
-use Rattle.std.specs.Prelude.{ℕ, List, codes, Bool, Option, None, Some}
+use Rattle.std.specs.Prelude.{ℕ, List, codes, Bool}
 use Rattle.serde_json.specs.Data.{Data, boolean, string, object, no_members, member}
 use Rattle.acvp_caps.specs.Algorithms.{name_of}
+use Rattle.acvp_gen.specs.declared.group.GroupForm.{GroupForm}
+use Rattle.acvp_gen.specs.declared.group.GroupForm.TheVariants.{Digest, MonteCarlo, Mac}
 use Rattle.acvp_gen.specs.declared.group.GroupKind.{GroupKind}
-use Rattle.acvp_gen.specs.declared.group.GroupKind.TheVariants.{Functional, MonteCarlo}
+use Rattle.acvp_gen.specs.declared.group.GroupKind.TheVariants as kind
 use Rattle.acvp_gen.specs.declared.group.Sizes.{Sizes}
-use Rattle.acvp_gen.specs.Prompt.{TestValue, GroupValue, PromptsValue}
+use Rattle.acvp_gen.specs.Prompt.{TestValue, GroupValue, PromptsValue, kind_of}
 use Rattle.acvp_json.specs.Values.{count, hex_text, array_of}
 
 -- what the tests of a group ask for: a functional test, or a Monte Carlo test
 abbrev pub type_word : GroupKind → List ℕ
-type_word Functional = codes "AFT"
-type_word MonteCarlo = codes "MCT"
+type_word kind.Functional = codes "AFT"
+type_word kind.MonteCarlo = codes "MCT"
 
 -- a test of a hash function: the bits of the message, the message and the test's number
 abbrev pub hash_test_data : TestValue → Data
@@ -30,7 +32,7 @@ mac_test_data test =
 -- a group of a hash function: what its tests ask for, its tests and its number
 abbrev pub hash_group_data : GroupValue → Data
 hash_group_data group =
-    object (member (codes "testType") (string (type_word group.kind))
+    object (member (codes "testType") (string (type_word (kind_of group.form)))
     (member (codes "tests") (array_of hash_test_data group.tests)
     (member (codes "tgId") (count group.number) no_members)))
 
@@ -40,17 +42,18 @@ mac_group_data sizes group =
     object (member (codes "keyLen") (count sizes.key_bits)
     (member (codes "macLen") (count sizes.mac_bits)
     (member (codes "msgLen") (count sizes.message_bits)
-    (member (codes "testType") (string (type_word group.kind))
+    (member (codes "testType") (string (type_word (kind_of group.form)))
     (member (codes "tests") (array_of mac_test_data group.tests)
     (member (codes "tgId") (count group.number) no_members))))))
 
--- a group: one of HMAC has sizes
-abbrev pub group_under : Option Sizes → GroupValue → Data
-group_under None group = hash_group_data group
-group_under (Some sizes) group = mac_group_data sizes group
+-- a group, by its form: one of HMAC has sizes
+abbrev pub group_under : GroupForm → GroupValue → Data
+group_under Digest group = hash_group_data group
+group_under MonteCarlo group = hash_group_data group
+group_under (Mac sizes) group = mac_group_data sizes group
 
 abbrev pub group_data : GroupValue → Data
-group_data group = group_under group.sizes group
+group_data group = group_under group.form group
 
 -- a vector set: its algorithm, whether it is a sample, its revision, its groups and its number
 abbrev pub vector_set_data : Bool → PromptsValue → Data

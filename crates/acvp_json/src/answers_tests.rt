@@ -2,10 +2,10 @@
 //! `acvp_answers` tests against other programs.
 
 use crate::{BodyFault, ReplyObject, answers_to_text, open_envelope, read_answers, write_reply};
-use acvp_answers::{Answers, Disposition, Verdict, disposition, grade, standard};
+use acvp_answers::standard;
 use acvp_gen::{CapFault, Capability, Prompts, prompts};
 use serde_json::Value;
-use std::alloc::{AllocError, Global};
+use std::alloc::Global;
 use std::process::Abort;
 use std::test::Fail;
 
@@ -148,165 +148,84 @@ fn the_first_test_that_fails_is_told(rt: HostRuntime) -> Result<(), Fail> {
     Ok(())
 }
 
-/// A body with the standard's answers to tests 1 to 24 of the hash function, from a number on, where one may be wrong.
-fn digests_from(
-    alloc: Global,
-    standard: &Answers,
-    first: u64,
-    wrong: u64,
-) -> Result<String, AllocError> {
-    let mut body = String::from_str(
-        alloc,
-        r#"{"vsId":700000101,"testGroups":[{"tgId":1,"tests":["#,
-    )?;
-    let mut comma = "";
-    for number in first..25 {
-        for text in standard.texts_for(number).unwrap_or(&[]) {
-            let text = if number == wrong { "00" } else { text.as_str() };
-            let test = format!(in alloc; r#"{comma}{{"tcId":{number},"md":"{text}"}}"#)?;
-            body.push_str(test.as_str())?;
-            comma = ",";
-        }
-    }
-    body.push_str("]}]}")?;
-    Ok(body)
-}
-
-/// What the answers of a body come to, and the verdicts on the first and the last test.
-fn outcome(
-    alloc: Global,
-    prompts: &Prompts,
-    standard: &Answers,
-    body: &str,
-) -> Result<(Disposition, Option<Verdict>, Option<Verdict>), BodyFault> {
-    let Ok(object) = Value::from_str(alloc, body) else {
-        return Err(BodyFault::BodyNotJson);
-    };
-    let given = read_answers(alloc, &object, prompts)?;
-    let Ok(verdicts) = grade(alloc, standard, &given) else {
-        return Err(BodyFault::Memory);
-    };
-    Ok((
-        disposition(&verdicts),
-        verdicts.first().copied(),
-        verdicts.last().copied(),
-    ))
-}
-
+/// The bodies are of another vector set, which is told only of those that have the form.
 #[test]
-fn a_missing_answer_is_told_and_a_wrong_one_weighs_more(rt: HostRuntime) -> Result<(), Fail> {
-    let alloc = rt.alloc();
-    let prompts = prompts_of(alloc, HASH)?;
-    let right = standard(alloc, &prompts)?;
-    for (first, wrong, wanted) in [
+fn bodies_of_answers_have_a_form(rt: HostRuntime) -> Result<(), Fail> {
+    let prompts = prompts_of(rt.alloc(), HASH)?;
+    for (body, is_formed) in [
+        (r#"{"vsId":1,"testGroups":[]}"#, true),
         (
-            1,
-            0,
-            (
-                Disposition::Missing,
-                Some(Verdict::Passed),
-                Some(Verdict::Missing),
-            ),
+            r#"{"vsId":0,"algorithm":"SHA2-256","revision":"1.0","testGroups":[{"tgId":1,"tests":[{"tcId":1,"md":"e3"},{"tcId":2,"mac":""},{"tcId":3}]},{"tgId":1,"tests":[{"tcId":3,"resultsArray":[{"md":"e3"},{"md":"","x":0}]}]},{"tgId":2,"tests":[{"tcId":4,"resultsArray":[]}]},{"tgId":3,"tests":[]}]}"#,
+            true,
+        ),
+        (r#"{"testGroups":[]}"#, false),
+        (r#"{"vsId":-1,"testGroups":[]}"#, false),
+        (r#"{"vsId":"1","testGroups":[]}"#, false),
+        (r#"{"vsId":1}"#, false),
+        (r#"{"vsId":1,"testGroups":{}}"#, false),
+        (r#"{"vsId":1,"algorithm":null,"testGroups":[]}"#, false),
+        (r#"{"vsId":1,"revision":1,"testGroups":[]}"#, false),
+        (r#"{"vsId":1,"testGroups":[{"tests":[]}]}"#, false),
+        (r#"{"vsId":1,"testGroups":[{"tgId":1}]}"#, false),
+        (r#"{"vsId":1,"testGroups":[[]]}"#, false),
+        (
+            r#"{"vsId":1,"testGroups":[{"tgId":1,"tests":[]},{"tgId":"2","tests":[]}]}"#,
+            false,
         ),
         (
-            2,
-            0,
-            (
-                Disposition::Missing,
-                Some(Verdict::Missing),
-                Some(Verdict::Missing),
-            ),
+            r#"{"vsId":1,"testGroups":[{"tgId":1,"tests":[{"md":"e3"}]}]}"#,
+            false,
         ),
         (
-            1,
-            24,
-            (
-                Disposition::Fail,
-                Some(Verdict::Passed),
-                Some(Verdict::Missing),
-            ),
+            r#"{"vsId":1,"testGroups":[{"tgId":1,"tests":[{"tcId":1,"md":1}]}]}"#,
+            false,
         ),
+        (
+            r#"{"vsId":1,"testGroups":[{"tgId":1,"tests":[{"tcId":1,"mac":null}]}]}"#,
+            false,
+        ),
+        (
+            r#"{"vsId":1,"testGroups":[{"tgId":1,"tests":[{"tcId":1,"resultsArray":null}]}]}"#,
+            false,
+        ),
+        (
+            r#"{"vsId":1,"testGroups":[{"tgId":1,"tests":[{"tcId":1,"resultsArray":[{}]}]}]}"#,
+            false,
+        ),
+        (r#"[]"#, false),
     ] {
-        let body = digests_from(alloc, &right, first, wrong)?;
-        let read = outcome(alloc, &prompts, &right, body.as_str());
-        assert_eq!(rt; read.ok(), Some(wanted));
-    }
-    for (body, wanted) in [
-        (
-            r#"{"vsId":700000101,"testGroups":[{"tgId":1,"tests":[{"tcId":1,"md":"E3B0C44298FC1C149AFBF4C8996FB92427AE41E4649B934CA495991B7852B855"}]}]}"#,
-            (
-                Disposition::Missing,
-                Some(Verdict::Passed),
-                Some(Verdict::Missing),
-            ),
-        ),
-        (
-            r#"{"vsId":700000101,"testGroups":[{"tgId":2,"tests":[{"tcId":25,"resultsArray":[]}]}]}"#,
-            (
-                Disposition::Fail,
-                Some(Verdict::Missing),
-                Some(Verdict::Fail),
-            ),
-        ),
-    ] {
-        assert_eq!(rt; outcome(alloc, &prompts, &right, body).ok(), Some(wanted));
-    }
-    Ok(())
-}
-
-/// A body with so many of the standard's checkpoints, begun anew behind the last, as the answer to the Monte Carlo
-/// test.
-fn checkpoints(alloc: Global, standard: &Answers, count: usize) -> Result<String, AllocError> {
-    let mut body = String::from_str(
-        alloc,
-        r#"{"vsId":700000101,"testGroups":[{"tgId":2,"tests":[{"tcId":25,"resultsArray":["#,
-    )?;
-    let texts = standard.texts_for(25).unwrap_or(&[]);
-    for text in texts.iter().cycle().take(count) {
-        if !body.ends_with("[") {
-            body.push_str(",")?;
-        }
-        let entry = format!(in alloc; r#"{{"md":"{text}"}}"#)?;
-        body.push_str(entry.as_str())?;
-    }
-    body.push_str("]}]}]}")?;
-    Ok(body)
-}
-
-#[test]
-fn a_hundred_checkpoints_pass_and_no_other_number(rt: HostRuntime) -> Result<(), Fail> {
-    let alloc = rt.alloc();
-    let prompts = prompts_of(alloc, HASH)?;
-    let right = standard(alloc, &prompts)?;
-    for (count, verdict) in [
-        (99, Verdict::Fail),
-        (100, Verdict::Passed),
-        (101, Verdict::Fail),
-    ] {
-        let body = checkpoints(alloc, &right, count)?;
-        let read = outcome(alloc, &prompts, &right, body.as_str())?;
-        assert_eq!(rt; read.1, Some(Verdict::Missing));
-        assert_eq!(rt; read.2, Some(verdict));
+        let fault = if is_formed {
+            BodyFault::SetMismatch
+        } else {
+            BodyFault::BodyField
+        };
+        assert_eq!(rt;
+            read_text(rt.alloc(), &prompts, body).err(),
+            Some(fault),
+            "{body}"
+        );
     }
     Ok(())
 }
 
 #[test]
-fn expected_answers_that_are_sent_back_pass(rt: HostRuntime) -> Result<(), Fail> {
+fn expected_answers_that_are_sent_back_are_the_standards(rt: HostRuntime) -> Result<(), Fail> {
     let alloc = rt.alloc();
     for capability in [HASH, HMAC] {
         let prompts = prompts_of(alloc, capability)?;
         let right = standard(alloc, &prompts)?;
         let expected = ReplyObject::Expected {
-            prompts: prompts_of(alloc, capability)?,
-            standard: standard(alloc, &prompts)?,
+            prompts: &prompts,
+            standard: &right,
         };
         let body = write_reply(alloc, &expected)?;
         let object = open_envelope(alloc, &body)?;
         let given = read_answers(alloc, &object, &prompts)?;
-        let verdicts = grade(alloc, &right, &given)?;
-        assert_eq!(rt; verdicts.len(), right.len());
-        assert_eq!(rt; disposition(&verdicts), Disposition::Passed);
+        assert_eq!(rt; given.len(), right.len());
+        assert_eq!(rt;
+            answers_to_text(alloc, &given)?.as_str(),
+            answers_to_text(alloc, &right)?.as_str()
+        );
     }
     Ok(())
 }

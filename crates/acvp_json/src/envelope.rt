@@ -1,12 +1,14 @@
 //! The envelope that every body has: an array of the protocol's version and an object.
-ghost use Rattle.std.specs.Prelude.{◌≡◌, ◌⊎◌, Some, None, option_map, MatchResult};
+ghost use Rattle.std.specs.Prelude.{◌≡◌, ◌⊎◌, Some, None, option_map, MatchResult, IfOk, false};
 ghost use Rattle.serde_json.specs.View.{view};
-ghost use Rattle.acvp_json.specs.Envelope.{body_json, is_envelope, envelope_of, object_of, envelope_conditions};
+ghost use Rattle.serde_json.specs.Written.{has_float};
+ghost use Rattle.acvp_registry.specs.Json.{body_json};
+ghost use Rattle.acvp_json.specs.Envelope.{is_envelope, envelope_of, object_of, envelope_conditions};
 ghost use Rattle.acvp_caps.specs.Conditions.{IsJudged, judged};
 
 use crate::fault::BodyFault;
-use crate::floats::has_float;
 use acvp_caps::json::{is_text, text_at};
+use acvp_registry::{RegFault, body_value};
 use serde_json::Value;
 use std::alloc::Global;
 
@@ -15,10 +17,9 @@ pub(crate) fn parse(alloc: Global, body: &[u8]) -> Result<Value, BodyFault>
     ensures { MatchResult result (λ value. body_json body.now ≡ Some (view value))
         (λ fault. (fault ≡ BodyFault.Memory) ⊎ ((fault ≡ BodyFault.BodyNotJson) × (body_json body.now ≡ None))) }
 {
-    match Value::from_slice(alloc, body) {
-        Ok(value) if has_float(&value) => Err(BodyFault::BodyNotJson),
+    match body_value(alloc, body) {
         Ok(value) => Ok(value),
-        Err(error) if error.is_memory() => Err(BodyFault::Memory),
+        Err(RegFault::Memory) => Err(BodyFault::Memory),
         Err(_) => Err(BodyFault::BodyNotJson),
     }
 }
@@ -47,10 +48,12 @@ fn object_in(value: Value) -> Option<Value>
     }
 }
 
-/// Reads a body's envelope, and gives the object in it. The faults are BodyNotJson, BodyEnvelope and Memory.
+/// Reads a body's envelope, and gives the object in it, in which no number is kept as a float. The faults are
+/// BodyNotJson, BodyEnvelope and Memory.
 pub fn open_envelope(alloc: Global, body: &[u8]) -> Result<Value, BodyFault>
-    ensures { IsJudged BodyFault.Memory (λ value. Some (view value))
+    ensures value { IsJudged BodyFault.Memory (λ value. Some (view value))
         (judged (envelope_conditions body.now) (object_of body.now)) result }
+    ensures plain { IfOk result (λ value. has_float (view value) ≡ false) }
 {
     let value = parse(alloc, body)?;
     match object_in(value) {

@@ -1,10 +1,12 @@
 //! The object of a vector set's expected answers: the standard's, in the places that a client's take.
 ghost use Rattle.std.specs.Prelude.{◌≡◌, IfOk, map, string_bytes};
 ghost use Rattle.serde_json.specs.View.{view};
+ghost use Rattle.acvp_json.specs.Values.{array_of};
 ghost use Rattle.acvp_json.specs.Expected.{texts_at, first_text, digest_data, expected_digest, expected_checkpoints, expected_mac, expected_answer, expected_test, expected_group, expected_data};
 
+use crate::array::{Shows, array};
 use acvp_answers::Answers;
-use acvp_gen::{Group, GroupKind, Prompts, Sizes, Test};
+use acvp_gen::{Group, GroupForm, Prompts, Test};
 use serde_json::{Value, json};
 use std::alloc::{AllocError, Global};
 
@@ -28,113 +30,81 @@ fn first_text(texts: &[String]) -> &str
     }
 }
 
-/// A functional test of a hash function.
-fn expected_digest(alloc: Global, texts: &[String], number: u64) -> Result<Value, AllocError>
-    ensures { IfOk result (λ value. view value ≡ expected_digest (map string_bytes texts.now) number) }
-{
-    json!(in alloc; {"md": first_text(texts), "tcId": number})
-}
+/// Checkpoints of a Monte Carlo test.
+struct Checkpoints;
 
-/// A test of HMAC.
-fn expected_mac(alloc: Global, texts: &[String], number: u64) -> Result<Value, AllocError>
-    ensures { IfOk result (λ value. view value ≡ expected_mac (map string_bytes texts.now) number) }
-{
-    json!(in alloc; {"mac": first_text(texts), "tcId": number})
-}
+impl Shows<String> for Checkpoints {
+    ghost data_of = { λ _ text. digest_data (string_bytes text) };
 
-/// A digest.
-fn digest_value(alloc: Global, text: &str) -> Result<Value, AllocError>
-    ensures { IfOk result (λ value. view value ≡ digest_data text.now) }
-{
-    json!(in alloc; {"md": text})
-}
-
-/// Digests.
-fn digest_values(alloc: Global, texts: &[String]) -> Result<Vec<Value>, AllocError>
-    ensures { IfOk result (λ values. map view values.items ≡ map digest_data (map string_bytes texts.now)) }
-{
-    let mut values = Vec::new(alloc);
-    for text in texts {
-        values.push(digest_value(alloc, text.as_str())?)?;
+    fn value(&self, alloc: Global, text: &String) -> Result<Value, AllocError> {
+        json!(in alloc; {"md": text.as_str()})
     }
-    Ok(values)
+}
+
+/// The checkpoints of a Monte Carlo test.
+fn checkpoints_value(alloc: Global, texts: &[String]) -> Result<Value, AllocError>
+    ensures { IfOk result (λ value. view value ≡ array_of digest_data (map string_bytes texts.now)) }
+{
+    array(alloc, &Checkpoints, texts)
 }
 
 /// A Monte Carlo test: each checkpoint.
 fn expected_checkpoints(alloc: Global, texts: &[String], number: u64) -> Result<Value, AllocError>
     ensures { IfOk result (λ value. view value ≡ expected_checkpoints (map string_bytes texts.now) number) }
 {
-    let checkpoints = Value::Array(digest_values(alloc, texts)?);
+    let checkpoints = checkpoints_value(alloc, texts)?;
     json!(in alloc; {"resultsArray": checkpoints, "tcId": number})
 }
 
-/// A test of a group of this kind and these sizes.
+/// A test of a group of this form.
 fn expected_answer(
     alloc: Global,
-    kind: GroupKind,
-    sizes: Option<Sizes>,
+    form: GroupForm,
     texts: &[String],
     number: u64,
 ) -> Result<Value, AllocError>
-    ensures { IfOk result (λ value. view value ≡ expected_answer kind sizes (map string_bytes texts.now) number) }
+    ensures { IfOk result (λ value. view value ≡ expected_answer form (map string_bytes texts.now) number) }
 {
-    match (kind, sizes) {
-        (GroupKind::MonteCarlo, _) => expected_checkpoints(alloc, texts, number),
-        (GroupKind::Functional, None) => expected_digest(alloc, texts, number),
-        (GroupKind::Functional, Some(_)) => expected_mac(alloc, texts, number),
+    match form {
+        GroupForm::Digest => json!(in alloc; {"md": first_text(texts), "tcId": number}),
+        GroupForm::MonteCarlo => expected_checkpoints(alloc, texts, number),
+        GroupForm::Mac(_) => json!(in alloc; {"mac": first_text(texts), "tcId": number}),
     }
 }
 
-/// A test of a group.
-fn expected_test(
-    alloc: Global,
-    standard: &Answers,
-    group: &Group,
-    test: &Test,
-) -> Result<Value, AllocError>
-    ensures { IfOk result (λ value. view value ≡ expected_test standard.now group.now test.now) }
-{
-    let texts = texts_at(standard, test.number());
-    expected_answer(alloc, group.kind(), group.sizes(), texts, test.number())
+/// The tests of a group of this form, and the standard's answers to them.
+#[derive(Clone, Copy)]
+struct ExpectedTests<'a> {
+    standard: &'a Answers,
+    form: GroupForm,
 }
 
-/// The tests of a group.
-fn expected_tests(
-    alloc: Global,
-    standard: &Answers,
-    group: &Group,
-) -> Result<Vec<Value>, AllocError>
-    ensures { IfOk result (λ values. map view values.items
-        ≡ map (expected_test standard.now group.now) group.now.tests) }
-{
-    let mut values = Vec::new(alloc);
-    for test in group.tests() {
-        values.push(expected_test(alloc, standard, group, test)?)?;
+impl Shows<Test> for ExpectedTests<'_> {
+    ghost data_of = { λ tests test. expected_test tests.standard.now tests.form test };
+
+    fn value(&self, alloc: Global, test: &Test) -> Result<Value, AllocError> {
+        let texts = texts_at(self.standard, test.number());
+        expected_answer(alloc, self.form, texts, test.number())
     }
-    Ok(values)
 }
 
-/// A group.
-fn expected_group(alloc: Global, standard: &Answers, group: &Group) -> Result<Value, AllocError>
-    ensures { IfOk result (λ value. view value ≡ expected_group standard.now group.now) }
-{
-    let tests = Value::Array(expected_tests(alloc, standard, group)?);
-    json!(in alloc; {"tests": tests, "tgId": group.number()})
+/// The groups of a vector set, and the standard's answers to their tests.
+#[derive(Clone, Copy)]
+struct ExpectedGroups<'a> {
+    standard: &'a Answers,
 }
 
-/// The groups of a vector set.
-fn expected_groups(
-    alloc: Global,
-    standard: &Answers,
-    groups: &[Group],
-) -> Result<Vec<Value>, AllocError>
-    ensures { IfOk result (λ values. map view values.items ≡ map (expected_group standard.now) groups.now) }
-{
-    let mut values = Vec::new(alloc);
-    for group in groups {
-        values.push(expected_group(alloc, standard, group)?)?;
+impl Shows<Group> for ExpectedGroups<'_> {
+    ghost data_of = { λ groups group. expected_group groups.standard.now group };
+
+    fn value(&self, alloc: Global, group: &Group) -> Result<Value, AllocError> {
+        let show = ExpectedTests {
+            standard: self.standard,
+            form: group.form(),
+        };
+        let tests = array(alloc, &show, group.tests())?;
+        json!(in alloc; {"tests": tests, "tgId": group.number()})
     }
-    Ok(values)
 }
 
 /// The standard's answers to the tests of a vector set.
@@ -145,7 +115,7 @@ pub(crate) fn expected_value(
 ) -> Result<Value, AllocError>
     ensures { IfOk result (λ value. view value ≡ expected_data prompts.now standard.now) }
 {
-    let groups = Value::Array(expected_groups(alloc, standard, prompts.groups())?);
+    let groups = array(alloc, &ExpectedGroups { standard }, prompts.groups())?;
     json!(in alloc; {
         "algorithm": prompts.algorithm().name(),
         "revision": "1.0",

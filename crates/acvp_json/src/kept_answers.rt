@@ -1,5 +1,6 @@
 //! Answers as they are kept: the text `[[number,[text,..]],..]` of JSON.
 ghost use Rattle.std.specs.Prelude.{◌≡◌, ◌⊎◌, ◌↔◌, List, false, Some, IfOk, MatchResult, map, option_map, string_bytes};
+ghost use Rattle.serde_json.specs.Data.{string};
 ghost use Rattle.serde_json.specs.View.{view};
 ghost use Rattle.serde_json.specs.Written.{has_float};
 ghost use Rattle.acvp_answers.specs.Answer.{Answer, AreAscending, shown_texts};
@@ -7,6 +8,7 @@ ghost use Rattle.acvp_json.specs.KeptAnswers.{texts_data, answer_data, answers_d
 ghost use Rattle.acvp_caps.specs.Conditions.{IsJudged, judged};
 ghost use Rattle.acvp_json.specs.Private.Readings.{IsRead};
 
+use crate::array::{Shows, array};
 use crate::envelope::parse;
 use crate::fault::BodyFault;
 use crate::text::copied;
@@ -14,15 +16,22 @@ use acvp_answers::Answers;
 use serde_json::{Value, json};
 use std::alloc::{AllocError, Global};
 
+/// The texts of an answer.
+struct Texts;
+
+impl Shows<String> for Texts {
+    ghost data_of = { λ _ text. string (string_bytes text) };
+
+    fn value(&self, alloc: Global, text: &String) -> Result<Value, AllocError> {
+        Value::try_from_str(alloc, text.as_str())
+    }
+}
+
 /// The array of texts.
 fn texts_value(alloc: Global, texts: &[String]) -> Result<Value, AllocError>
     ensures { IfOk result (λ value. view value ≡ texts_data (map string_bytes texts.now)) }
 {
-    let mut values = Vec::new(alloc);
-    for text in texts {
-        values.push(Value::try_from_str(alloc, text.as_str())?)?;
-    }
-    Ok(Value::Array(values))
+    array(alloc, &Texts, texts)
 }
 
 /// A test's number and its texts.
@@ -38,16 +47,14 @@ fn answers_value(alloc: Global, answers: &Answers) -> Result<Value, AllocError>
     ensures value { IfOk result (λ value. view value ≡ answers_data answers.now) }
     ensures ascending { AreAscending answers.now }
 {
-    let mut values = Vec::new(alloc);
-    for i in 0..answers.len() {
-        let (number, texts) = answers.entry(i);
+    let mut values = Vec::with_capacity(alloc, answers.len())?;
+    for (number, texts) in answers.iter() {
         values.push(answer_value(alloc, number, texts)?)?;
     }
     Ok(Value::Array(values))
 }
 
-/// The answers as compact JSON, ascending by the tests' numbers. It takes time in the square of their count, since each
-/// is found from the front.
+/// The answers as compact JSON, ascending by the tests' numbers. It takes time in the length of the text.
 pub fn answers_to_text(alloc: Global, answers: &Answers) -> Result<String, AllocError>
     ensures text { IfOk result (λ text. string_bytes text ≡ kept_text answers.now) }
     ensures reads_back { IfOk result (λ text. kept_answers (string_bytes text) ≡ Some answers.now) }

@@ -1,34 +1,50 @@
 //! Bodies of requests in, and objects of replies out.
 #![tactic(auto)]
 
+mod account;
+#[cfg(test)]
+mod account_tests;
+mod algorithms;
 mod answers_body;
 #[cfg(test)]
 mod answers_tests;
+mod array;
 mod certify_body;
 mod envelope;
 mod expected;
 mod fault;
-mod floats;
 mod kept_answers;
 mod login_body;
 mod members;
+mod page;
+mod registered;
+#[cfg(test)]
+mod registered_tests;
 mod reply_object;
 #[cfg(test)]
 mod reply_tests;
+mod reviewer_body;
+mod session;
 mod set_results;
+mod submission;
 #[cfg(test)]
 mod tests;
 mod text;
 mod time;
+mod urls;
 mod vector_set;
 
+pub use account::Counts;
 pub use answers_body::read_answers;
 pub use certify_body::{CertifyBody, read_certify};
 pub use envelope::open_envelope;
 pub use fault::BodyFault;
 pub use kept_answers::{answers_from_text, answers_to_text};
 pub use login_body::{LoginBody, read_login};
+pub use page::Page;
+pub use registered::Registered;
 pub use reply_object::{ReplyObject, write_reply};
-pub use set_results::{TestResult, TestResults};
+pub use reviewer_body::read_reviewer;
+pub use session::{Session, SessionStatus, SetResult};
 pub use text::Text;
-pub use time::time_text;
+pub use time::{Created, time_text};

@@ -3,7 +3,7 @@ ghost use Rattle.std.specs.Prelude.{◌≡◌, option_and_then, option_map};
 ghost use Rattle.std.specs.Borrow.{Bor};
 ghost use Rattle.serde_json.specs.Find.{as_array};
 ghost use Rattle.serde_json.specs.View.{view, items_view};
-ghost use Rattle.acvp_json.specs.Members.{optional_text, is_optional_text};
+ghost use Rattle.acvp_json.specs.Members.{optional_text};
 ghost use Rattle.acvp_json.specs.Private.Borrowed.{texts};
 
 use serde_json::Value;
@@ -16,13 +16,6 @@ pub(crate) fn optional_text(member: Option<&Value>) -> Option<Option<&str>>
         Some(member) => Some(Some(member.as_str()?)),
         None => Some(None),
     }
-}
-
-/// Whether a member is absent or a text.
-pub(crate) fn is_optional_text(member: Option<&Value>) -> bool
-    ensures { result ≡ is_optional_text (option_map (λ v. view v.now) member.entry) }
-{
-    optional_text(member).is_some()
 }
 
 /// The elements of a member that is an array.

@@ -1,109 +1,197 @@
 //! The objects of accepted replies, and their bytes.
-ghost use Rattle.std.specs.Prelude.{◌≡◌, ◌++◌, IfOk, MatchResult, codes, decimal, map, string_bytes};
+ghost use Rattle.std.specs.Prelude.{◌≡◌, IfOk};
 ghost use Rattle.serde_json.specs.View.{view};
-ghost use Rattle.acvp_caps.specs.Algorithms.{algorithms, algorithm_number};
 ghost use Rattle.acvp_json.specs.Written.{body_of, enveloped};
-ghost use Rattle.acvp_json.specs.ReplyData.{algorithm_data, algorithms_data, token_data, reply_data};
+ghost use Rattle.acvp_json.specs.ReplyData.{token_data, reply_data};
 
+use crate::account::{Counts, account_value, reviewers_value};
+use crate::algorithms::{algorithm_value, algorithms_value};
 use crate::expected::expected_value;
-use crate::set_results::{TestResults, set_results_value};
-use crate::text::Text;
+use crate::page::{Page, page_value};
+use crate::registered::{Objects, Registered, Requests, registered_value, request_value};
+use crate::session::{
+    Session, Sessions, SetResult, new_session_value, outcome_value, session_results_value,
+    session_value, sets_value,
+};
+use crate::set_results::set_results_value;
+use crate::time::Created;
+use crate::urls::{list_path, results_url, session_url, set_url};
 use crate::vector_set::vector_set_value;
-use acvp_answers::{Answers, Disposition};
+use acvp_answers::{Answers, Disposition, Verdict};
 use acvp_caps::Algorithm;
 use acvp_gen::Prompts;
+use acvp_registry::{Kind, PendingRequest};
 use serde_json::{Value, json};
 use std::alloc::{AllocError, Global};
 
-/// What an accepted request is answered, one variant for each kind of answer.
-#[derive(Drop)]
-pub enum ReplyObject {
+/// What an accepted request is answered, one variant for each kind of answer. It borrows what it shows.
+#[derive(Clone, Copy)]
+pub enum ReplyObject<'a> {
     /// A new token.
     Login {
-        token: Text,
+        token: &'a str,
+    },
+    /// An account, and how many rows it has of each kind.
+    ReadAccount {
+        account: u16,
+        counts: Counts,
     },
     /// All algorithms that can be registered, in the order of their numbers.
     ListAlgorithms,
     ReadAlgorithm {
         algorithm: Algorithm,
     },
+    /// A page of an account's sessions, of which there are so many.
+    ListSessions {
+        page: Page,
+        total: u64,
+        sessions: &'a [Session],
+    },
+    /// A new session, a token that is bound to it, and the numbers of its vector sets.
+    NewSession {
+        token: &'a str,
+        number: u64,
+        created: Created,
+        sets: &'a [u64],
+    },
+    /// A session, whether it has passed, and the numbers of its vector sets.
+    ReadSession {
+        session: Session,
+        passed: bool,
+        sets: &'a [u64],
+    },
+    /// A session of this number is cancelled.
+    CancelSession {
+        session: u64,
+    },
+    /// Whether a session has passed, and what each of its vector sets comes to.
+    SessionResults {
+        passed: bool,
+        sets: &'a [SetResult],
+    },
+    /// The numbers of a session's vector sets.
+    ListSets {
+        sets: &'a [u64],
+    },
     /// A vector set, and whether its session is a sample.
     ReadSet {
         sample: bool,
-        prompts: Prompts,
+        prompts: &'a Prompts,
     },
-    /// What a vector set of this number and each of its tests come to.
+    /// A vector set of this number is cancelled.
+    CancelSet {
+        vs: u64,
+    },
+    /// What a vector set of this number and each of its tests come to, the tests from 1 on.
     SetResults {
         vs: u64,
         disposition: Disposition,
-        tests: TestResults,
+        verdicts: &'a [Verdict],
+    },
+    /// The answers to a vector set of this number are kept.
+    Received {
+        vs: u64,
     },
     /// A vector set's tests, and the standard's answers to them.
     Expected {
-        prompts: Prompts,
-        standard: Answers,
+        prompts: &'a Prompts,
+        standard: &'a Answers,
+    },
+    /// A vendor, a module or an operational environment.
+    ReadObject {
+        object: Registered<'a>,
+    },
+    /// A page of an account's vendors, modules or operational environments, of which there are so many.
+    ListObjects {
+        kind: Kind,
+        page: Page,
+        total: u64,
+        objects: &'a [Registered<'a>],
+    },
+    /// A request in its state.
+    Request {
+        request: PendingRequest,
+    },
+    /// A page of an account's requests, of which there are so many.
+    ListRequests {
+        page: Page,
+        total: u64,
+        requests: &'a [PendingRequest],
+    },
+    /// The accounts that review a session.
+    Reviewers {
+        accounts: &'a [u16],
     },
 }
 
-/// The URL of an algorithm.
-fn algorithm_url(alloc: Global, algorithm: Algorithm) -> Result<String, AllocError>
-    ensures { IfOk result (λ url. string_bytes url ≡ codes "/acvp/v1/algorithms/"
-        ++ decimal (algorithm_number algorithm)) }
-{
-    let number = algorithm.number();
-    format!(in alloc; "/acvp/v1/algorithms/{number}")
-}
-
-/// The object of an algorithm.
-fn algorithm_value(alloc: Global, algorithm: Algorithm) -> Result<Value, AllocError>
-    ensures { IfOk result (λ value. view value ≡ algorithm_data algorithm) }
-{
-    let url = algorithm_url(alloc, algorithm)?;
-    json!(in alloc; {"name": algorithm.name(), "revision": "1.0", "url": url})
-}
-
-/// The objects of all algorithms.
-fn algorithm_values(alloc: Global) -> Result<Vec<Value>, AllocError>
-    ensures { IfOk result (λ values. map view values.items ≡ map algorithm_data algorithms) }
-{
-    let mut values = Vec::new(alloc);
-    for algorithm in Algorithm::all() {
-        values.push(algorithm_value(alloc, algorithm)?)?;
-    }
-    Ok(values)
-}
-
 /// The object of a token.
-fn token_value(alloc: Global, token: &Text) -> Result<Value, AllocError>
+fn token_value(alloc: Global, token: &str) -> Result<Value, AllocError>
     ensures { IfOk result (λ value. view value ≡ token_data token.now) }
 {
-    json!(in alloc; {"accessToken": token.as_str()})
-}
-
-/// The object of all algorithms.
-fn algorithms_value(alloc: Global) -> Result<Value, AllocError>
-    ensures { IfOk result (λ value. view value ≡ algorithms_data) }
-{
-    let algorithms = Value::Array(algorithm_values(alloc)?);
-    json!(in alloc; {"algorithms": algorithms})
+    json!(in alloc; {"accessToken": token})
 }
 
 /// The object of a reply.
 #[tactic(auto, unfolding(crate::specs::ReplyData::reply_data))]
-fn object_value(alloc: Global, reply: &ReplyObject) -> Result<Value, AllocError>
+fn object_value<'a>(alloc: Global, reply: &'a ReplyObject<'a>) -> Result<Value, AllocError>
     ensures { IfOk result (λ value. view value ≡ reply_data reply.now) }
 {
-    match reply {
+    match *reply {
         ReplyObject::Login { token } => token_value(alloc, token),
+        ReplyObject::ReadAccount { account, counts } => account_value(alloc, account, counts),
         ReplyObject::ListAlgorithms => algorithms_value(alloc),
-        ReplyObject::ReadAlgorithm { algorithm } => algorithm_value(alloc, *algorithm),
-        ReplyObject::ReadSet { sample, prompts } => vector_set_value(alloc, *sample, prompts),
+        ReplyObject::ReadAlgorithm { algorithm } => algorithm_value(alloc, algorithm),
+        ReplyObject::ListSessions {
+            page,
+            total,
+            sessions,
+        } => page_value(
+            alloc,
+            &Sessions,
+            "/acvp/v1/testSessions",
+            page,
+            total,
+            sessions,
+        ),
+        ReplyObject::NewSession {
+            token,
+            number,
+            created,
+            sets,
+        } => new_session_value(alloc, token, number, created, sets),
+        ReplyObject::ReadSession {
+            session,
+            passed,
+            sets,
+        } => session_value(alloc, session, passed, sets),
+        ReplyObject::CancelSession { session } => {
+            outcome_value(alloc, "cancelled", session_url(alloc, session)?)
+        }
+        ReplyObject::SessionResults { passed, sets } => session_results_value(alloc, passed, sets),
+        ReplyObject::ListSets { sets } => sets_value(alloc, sets),
+        ReplyObject::ReadSet { sample, prompts } => vector_set_value(alloc, sample, prompts),
+        ReplyObject::CancelSet { vs } => outcome_value(alloc, "cancelled", set_url(alloc, vs)?),
         ReplyObject::SetResults {
             vs,
             disposition,
-            tests,
-        } => set_results_value(alloc, *vs, *disposition, tests),
+            verdicts,
+        } => set_results_value(alloc, vs, disposition, verdicts),
+        ReplyObject::Received { vs } => outcome_value(alloc, "received", results_url(alloc, vs)?),
         ReplyObject::Expected { prompts, standard } => expected_value(alloc, prompts, standard),
+        ReplyObject::ReadObject { object } => registered_value(alloc, &object),
+        ReplyObject::ListObjects {
+            kind,
+            page,
+            total,
+            objects,
+        } => page_value(alloc, &Objects, list_path(kind), page, total, objects),
+        ReplyObject::Request { request } => request_value(alloc, request),
+        ReplyObject::ListRequests {
+            page,
+            total,
+            requests,
+        } => page_value(alloc, &Requests, "/acvp/v1/requests", page, total, requests),
+        ReplyObject::Reviewers { accounts } => reviewers_value(alloc, accounts),
     }
 }
 
@@ -114,8 +202,8 @@ fn enveloped(alloc: Global, object: Value) -> Result<Value, AllocError>
     json!(in alloc; [{"acvVersion": "1.0"}, object])
 }
 
-/// The body of a reply: compact JSON, the members of each object in ascending order.
-pub fn write_reply(alloc: Global, reply: &ReplyObject) -> Result<Vec<u8>, AllocError>
+/// The body of a reply: the version and the object, as compact JSON.
+pub fn write_reply<'a>(alloc: Global, reply: &'a ReplyObject<'a>) -> Result<Vec<u8>, AllocError>
     ensures { IfOk result (λ bytes. bytes.items ≡ body_of (reply_data reply.now)) }
 {
     let object = object_value(alloc, reply)?;

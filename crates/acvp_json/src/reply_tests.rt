@@ -1,12 +1,13 @@
 //! Vector sets, results and expected answers as they are written. Messages and keys are OpenSSL's `chacha20` of the
-//! seed, read by the rules of the choice of tests, and digests and HMACs are those of Python's `hashlib` and `hmac`.
+//! seed, read by the rules of the choice of tests, and digests and HMACs are those of Python's `hashlib` and `hmac`; the
+//! texts of results are those of Python's `json`, with sorted members.
 
-use crate::{ReplyObject, TestResult, TestResults, write_reply};
+use crate::{ReplyObject, write_reply};
 use acvp_answers::{Answers, Disposition, Verdict, standard};
 use acvp_caps::{CapFault, Capability};
 use acvp_gen::{Prompts, prompts};
 use serde_json::Value;
-use std::alloc::{AllocError, Global};
+use std::alloc::Global;
 use std::process::Abort;
 use std::test::Fail;
 
@@ -26,6 +27,18 @@ const HASH_SET: &str = "[{\"acvVersion\":\"1.0\"},{\"algorithm\":\"SHA2-256\",\"
     {\"len\":8,\"msg\":\"31\",\"tcId\":13},{\"len\":8,\"msg\":\"51\",\"tcId\":14},{\"len\":8,\
     \"msg\":\"ac\",\"tcId\":15},{\"len\":8,\"msg\":\"4b\",\"tcId\":16},{\"len\":8,\
     \"msg\":\"2d\",\"tcId\":17}],\"tgId\":1}],\"vsId\":0}]";
+
+const LATER_HASH_SET: &str =
+    "[{\"acvVersion\":\"1.0\"},{\"algorithm\":\"SHA2-256\",\"isSample\":false,\
+    \"revision\":\"1.0\",\"testGroups\":[{\"testType\":\"AFT\",\"tests\":[{\"len\":8,\
+    \"msg\":\"46\",\"tcId\":1},{\"len\":8,\"msg\":\"72\",\"tcId\":2},{\"len\":8,\"msg\":\"de\",\
+    \"tcId\":3},{\"len\":8,\"msg\":\"75\",\"tcId\":4},{\"len\":8,\"msg\":\"9f\",\"tcId\":5},\
+    {\"len\":8,\"msg\":\"45\",\"tcId\":6},{\"len\":8,\"msg\":\"f3\",\"tcId\":7},{\"len\":8,\
+    \"msg\":\"5c\",\"tcId\":8},{\"len\":8,\"msg\":\"d9\",\"tcId\":9},{\"len\":8,\"msg\":\"22\",\
+    \"tcId\":10},{\"len\":8,\"msg\":\"a4\",\"tcId\":11},{\"len\":8,\"msg\":\"09\",\"tcId\":12},\
+    {\"len\":8,\"msg\":\"00\",\"tcId\":13},{\"len\":8,\"msg\":\"28\",\"tcId\":14},{\"len\":8,\
+    \"msg\":\"21\",\"tcId\":15},{\"len\":8,\"msg\":\"86\",\"tcId\":16},{\"len\":8,\"msg\":\"33\",\
+    \"tcId\":17}],\"tgId\":1}],\"vsId\":700000101}]";
 
 const HMAC_SET: &str =
     "[{\"acvVersion\":\"1.0\"},{\"algorithm\":\"HMAC-SHA2-256\",\"isSample\":false,\
@@ -87,56 +100,66 @@ const LAST_CHECKPOINT: &str =
     ",{\"md\":\"51127556a9e1e79c11084298bd5d01a86bd7d9b84ffe236d606a193c8dbeedc2\"}],\
     \"tcId\":19}],\"tgId\":2}],\"vsId\":0}]";
 
-/// The prompts of vector set 0 under a seed of zeros.
-fn prompts_of(alloc: Global, capability: &str) -> Result<Prompts, CapFault> {
+/// The prompts of the vector set of a number under a seed of zeros.
+fn prompts_of(alloc: Global, vs: u64, capability: &str) -> Result<Prompts, CapFault> {
     let capability = Capability::from_text(alloc, capability)?;
-    prompts(alloc, &[0; 32], 0, &capability).map_err(|_| CapFault::Memory)
+    prompts(alloc, &[0; 32], vs, &capability).map_err(|_| CapFault::Memory)
 }
 
 /// The text of a reply.
-fn text_of(alloc: Global, reply: &ReplyObject) -> Result<String, Fail> {
+pub(crate) fn text_of<'a>(alloc: Global, reply: &'a ReplyObject<'a>) -> Result<String, Fail> {
     Ok(String::from_utf8(write_reply(alloc, reply)?).map_err(|_| "no UTF-8")?)
 }
 
-fn set_text(alloc: Global, capability: &str, sample: bool) -> Result<String, Fail> {
-    let prompts = prompts_of(alloc, capability)?;
+/// That a reply is written as this text.
+pub(crate) fn assert_shown<'a>(
+    rt: &impl Abort,
+    alloc: Global,
+    reply: &'a ReplyObject<'a>,
+    wanted: &str,
+) -> Result<(), Fail> {
+    assert_eq!(rt; text_of(alloc, reply)?.as_str(), wanted);
+    Ok(())
+}
+
+fn set_text(alloc: Global, vs: u64, capability: &str, sample: bool) -> Result<String, Fail> {
+    let prompts = prompts_of(alloc, vs, capability)?;
+    let prompts = &prompts;
     text_of(alloc, &ReplyObject::ReadSet { sample, prompts })
 }
 
 fn expected_text(alloc: Global, capability: &str) -> Result<String, Fail> {
-    let prompts = prompts_of(alloc, capability)?;
+    let prompts = prompts_of(alloc, 0, capability)?;
     let standard = standard(alloc, &prompts)?;
+    let (prompts, standard) = (&prompts, &standard);
     text_of(alloc, &ReplyObject::Expected { prompts, standard })
 }
 
 #[test]
-fn a_vector_set_of_a_hash_function(rt: HostRuntime) -> Result<(), Fail> {
-    assert_eq!(rt; set_text(rt.alloc(), HASH, true)?.as_str(), HASH_SET);
-    Ok(())
-}
-
-#[test]
-fn a_vector_set_of_hmac(rt: HostRuntime) -> Result<(), Fail> {
-    assert_eq!(rt; set_text(rt.alloc(), HMAC, false)?.as_str(), HMAC_SET);
+fn vector_sets_of_hash_functions_and_hmac(rt: HostRuntime) -> Result<(), Fail> {
+    for (vs, capability, sample, wanted) in [
+        (0, HASH, true, HASH_SET),
+        (700000101, HASH, false, LATER_HASH_SET),
+        (0, HMAC, false, HMAC_SET),
+    ] {
+        let text = set_text(rt.alloc(), vs, capability, sample)?;
+        assert_eq!(rt; text.as_str(), wanted);
+    }
     Ok(())
 }
 
 #[test]
 fn a_vector_set_with_a_monte_carlo_test(rt: HostRuntime) -> Result<(), Fail> {
-    let text = set_text(rt.alloc(), MONTE_CARLO, false)?;
+    let text = set_text(rt.alloc(), 0, MONTE_CARLO, false)?;
     assert!(rt; text.as_str().ends_with(MONTE_CARLO_SET), "{text}");
     Ok(())
 }
 
 #[test]
-fn expected_digests(rt: HostRuntime) -> Result<(), Fail> {
-    assert_eq!(rt; expected_text(rt.alloc(), HASH)?.as_str(), HASH_EXPECTED);
-    Ok(())
-}
-
-#[test]
-fn expected_macs(rt: HostRuntime) -> Result<(), Fail> {
-    assert_eq!(rt; expected_text(rt.alloc(), HMAC)?.as_str(), HMAC_EXPECTED);
+fn expected_digests_and_macs(rt: HostRuntime) -> Result<(), Fail> {
+    for (capability, wanted) in [(HASH, HASH_EXPECTED), (HMAC, HMAC_EXPECTED)] {
+        assert_eq!(rt; expected_text(rt.alloc(), capability)?.as_str(), wanted);
+    }
     Ok(())
 }
 
@@ -169,74 +192,61 @@ fn expected_answers_that_are_not_there(rt: HostRuntime) -> Result<(), Fail> {
             "{\"tests\":[{\"resultsArray\":[],\"tcId\":19}],\"tgId\":2}],\"vsId\":0}]",
         ),
     ] {
-        let prompts = prompts_of(alloc, capability)?;
+        let prompts = prompts_of(alloc, 0, capability)?;
         let standard = Answers::new(alloc);
+        let (prompts, standard) = (&prompts, &standard);
         let text = text_of(alloc, &ReplyObject::Expected { prompts, standard })?;
         assert!(rt; text.as_str().ends_with(test), "{text}");
     }
     Ok(())
 }
 
-/// Results of tests of these numbers.
-fn results(alloc: Global, tests: &[(u64, Verdict)]) -> Result<TestResults, AllocError> {
-    let mut results = Vec::new(alloc);
-    for (number, verdict) in tests {
-        results.push(TestResult {
-            number: *number,
-            verdict: *verdict,
-        })?;
-    }
-    Ok(TestResults::new(results))
-}
-
 #[test]
-fn each_verdict_and_each_disposition_has_a_word(rt: HostRuntime) -> Result<(), Fail> {
-    let alloc = rt.alloc();
-    for (disposition, word) in [
-        (Disposition::Passed, "passed"),
-        (Disposition::Fail, "fail"),
-        (Disposition::Missing, "missing"),
-        (Disposition::Expired, "expired"),
-        (Disposition::Unreceived, "unreceived"),
+fn tests_have_their_verdicts_by_their_numbers(rt: HostRuntime) -> Result<(), Fail> {
+    for (vs, disposition, verdicts, wanted) in [
+        (
+            700000101,
+            Disposition::Passed,
+            [Verdict::Passed].as_slice(),
+            r#"[{"acvVersion":"1.0"},{"disposition":"passed","tests":[{"result":"passed","tcId":1}],"vsId":700000101}]"#,
+        ),
+        (
+            700000101,
+            Disposition::Fail,
+            &[Verdict::Passed, Verdict::Fail, Verdict::Missing],
+            "[{\"acvVersion\":\"1.0\"},{\"disposition\":\"fail\",\
+             \"tests\":[{\"result\":\"passed\",\"tcId\":1},{\"result\":\"fail\",\"tcId\":2},\
+             {\"result\":\"missing\",\"tcId\":3}],\"vsId\":700000101}]",
+        ),
+        (
+            700000101,
+            Disposition::Missing,
+            &[Verdict::Missing, Verdict::Passed],
+            "[{\"acvVersion\":\"1.0\"},{\"disposition\":\"missing\",\
+             \"tests\":[{\"result\":\"missing\",\"tcId\":1},{\"result\":\"passed\",\"tcId\":2}],\
+             \"vsId\":700000101}]",
+        ),
+        (
+            999999999920,
+            Disposition::Expired,
+            &[Verdict::Missing, Verdict::Missing, Verdict::Missing],
+            "[{\"acvVersion\":\"1.0\"},{\"disposition\":\"expired\",\
+             \"tests\":[{\"result\":\"missing\",\"tcId\":1},{\"result\":\"missing\",\"tcId\":2},\
+             {\"result\":\"missing\",\"tcId\":3}],\"vsId\":999999999920}]",
+        ),
+        (
+            0,
+            Disposition::Unreceived,
+            &[],
+            r#"[{"acvVersion":"1.0"},{"disposition":"unreceived","tests":[],"vsId":0}]"#,
+        ),
     ] {
-        let verdicts = [
-            (1, Verdict::Passed),
-            (2, Verdict::Fail),
-            (18446744073709551615, Verdict::Missing),
-        ];
-        let tests = results(alloc, &verdicts)?;
-        let vs = 700000101;
         let reply = ReplyObject::SetResults {
             vs,
             disposition,
-            tests,
+            verdicts,
         };
-        let wanted = format!(in alloc;
-            "[{{\"acvVersion\":\"1.0\"}},{{\"disposition\":\"{word}\",\"tests\":[\
-             {{\"result\":\"passed\",\"tcId\":1}},{{\"result\":\"fail\",\"tcId\":2}},\
-             {{\"result\":\"missing\",\"tcId\":18446744073709551615}}],\"vsId\":{vs}}}]"
-        )?;
-        assert_eq!(rt; text_of(alloc, &reply)?.as_str(), wanted.as_str());
+        assert_eq!(rt; text_of(rt.alloc(), &reply)?.as_str(), wanted);
     }
-    Ok(())
-}
-
-#[test]
-fn results_are_given_back(rt: HostRuntime) -> Result<(), Fail> {
-    let alloc = rt.alloc();
-    let tests = results(alloc, &[(2, Verdict::Fail), (1, Verdict::Passed)])?;
-    let wanted = [
-        TestResult {
-            number: 2,
-            verdict: Verdict::Fail,
-        },
-        TestResult {
-            number: 1,
-            verdict: Verdict::Passed,
-        },
-    ];
-    assert_eq!(rt; tests.as_slice(), wanted.as_slice());
-    assert_eq!(rt; tests.into_vec().as_slice(), wanted.as_slice());
-    assert!(rt; results(alloc, &[])?.as_slice().is_empty());
     Ok(())
 }

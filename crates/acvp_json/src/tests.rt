@@ -1,12 +1,10 @@
-//! Bodies and replies, by the forms that the protocol gives them; the times are those of `date -u`.
+//! Bodies by the forms that the protocol gives them, and answers as they are kept; the times are those of `date -u`.
 
-use crate::answers_body::has_answers_form;
 use crate::{
-    BodyFault, CertifyBody, LoginBody, ReplyObject, Text, answers_from_text, answers_to_text,
-    open_envelope, read_certify, read_login, time_text, write_reply,
+    BodyFault, CertifyBody, LoginBody, answers_from_text, answers_to_text, open_envelope,
+    read_certify, read_login, read_reviewer, time_text,
 };
 use acvp_answers::Answers;
-use acvp_caps::Algorithm;
 use serde_json::Value;
 use std::alloc::{AllocError, Global};
 use std::test::Fail;
@@ -187,6 +185,33 @@ fn a_certification_names_a_module_and_an_environment(rt: HostRuntime) -> Result<
 }
 
 #[test]
+fn a_reviewer_is_the_number_of_an_account(rt: HostRuntime) -> Result<(), Fail> {
+    let alloc = rt.alloc();
+    let field = Err(BodyFault::BodyField);
+    for (object, read) in [
+        ("{\"account\":1}", Ok(1)),
+        ("{\"account\":9,\"further\":0}", Ok(9)),
+        ("{\"account\":9999}", Ok(9999)),
+        ("{\"account\":0}", field),
+        ("{\"account\":10000}", field),
+        ("{\"account\":65545}", field),
+        ("{\"account\":18446744073709551615}", field),
+        ("{\"account\":-1}", field),
+        ("{\"account\":\"7\"}", field),
+        ("{\"account\":[7]}", field),
+        ("{\"account\":null}", field),
+        ("{\"Account\":7}", field),
+        ("{}", field),
+    ] {
+        match Value::from_str(alloc, object) {
+            Ok(object) => assert_eq!(rt; read_reviewer(&object), read),
+            Err(_) => assert!(rt; false),
+        }
+    }
+    Ok(())
+}
+
+#[test]
 fn times_are_those_of_the_civil_calendar(rt: HostRuntime) -> Result<(), Fail> {
     let alloc = rt.alloc();
     for (moment, text) in [
@@ -199,62 +224,6 @@ fn times_are_those_of_the_civil_calendar(rt: HostRuntime) -> Result<(), Fail> {
     ] {
         assert_eq!(rt; time_text(alloc, moment)?.as_str(), text);
     }
-    Ok(())
-}
-
-#[test]
-fn a_login_is_answered_by_its_token(rt: HostRuntime) -> Result<(), Fail> {
-    let alloc = rt.alloc();
-    let token = Text::new(String::from_str(alloc, "a.b.c")?);
-    assert_eq!(rt;
-        write_reply(alloc, &ReplyObject::Login { token })?.as_slice(),
-        b"[{\"acvVersion\":\"1.0\"},{\"accessToken\":\"a.b.c\"}]".as_slice()
-    );
-    Ok(())
-}
-
-#[test]
-fn algorithms_have_names_and_numbers(rt: HostRuntime) -> Result<(), Fail> {
-    let alloc = rt.alloc();
-    let algorithm = ReplyObject::ReadAlgorithm {
-        algorithm: Algorithm::Sha2_256,
-    };
-    assert_eq!(rt;
-        write_reply(alloc, &algorithm)?.as_slice(),
-        b"[{\"acvVersion\":\"1.0\"},{\"name\":\"SHA2-256\",\"revision\":\"1.0\",\
-          \"url\":\"/acvp/v1/algorithms/2\"}]"
-            .as_slice()
-    );
-    let names = [
-        "SHA2-224",
-        "SHA2-256",
-        "SHA2-384",
-        "SHA2-512",
-        "SHA2-512/224",
-        "SHA2-512/256",
-        "HMAC-SHA2-224",
-        "HMAC-SHA2-256",
-        "HMAC-SHA2-384",
-        "HMAC-SHA2-512",
-        "HMAC-SHA2-512/224",
-        "HMAC-SHA2-512/256",
-    ];
-    let mut list = String::from_str(alloc, "[{\"acvVersion\":\"1.0\"},{\"algorithms\":[")?;
-    for (i, name) in names.iter().enumerate() {
-        if i > 0 {
-            list.push(',')?;
-        }
-        let number = i + 1;
-        let object = format!(in alloc;
-            "{{\"name\":\"{name}\",\"revision\":\"1.0\",\"url\":\"/acvp/v1/algorithms/{number}\"}}"
-        )?;
-        list.push_str(object.as_str())?;
-    }
-    list.push_str("]}]")?;
-    assert_eq!(rt;
-        write_reply(alloc, &ReplyObject::ListAlgorithms)?.as_slice(),
-        list.as_bytes()
-    );
     Ok(())
 }
 
@@ -332,62 +301,6 @@ fn what_answers_are_not_kept_as_is_refused(rt: HostRuntime) -> Result<(), Fail> 
         ("[[1,[\"\\u0061\"]]]", BodyFault::BodyField),
     ] {
         assert_eq!(rt; answers_from_text(alloc, text).err(), Some(fault));
-    }
-    Ok(())
-}
-
-#[test]
-fn bodies_of_answers_have_a_form(rt: HostRuntime) -> Result<(), Fail> {
-    let alloc = rt.alloc();
-    for (object, is_formed) in [
-        ("{\"vsId\":1,\"testGroups\":[]}", true),
-        (
-            "{\"vsId\":0,\"algorithm\":\"SHA2-256\",\"revision\":\"1.0\",\"testGroups\":[\
-             {\"tgId\":1,\"tests\":[{\"tcId\":1,\"md\":\"e3\"},{\"tcId\":2,\"mac\":\"\"},{\"tcId\":3}]},\
-             {\"tgId\":1,\"tests\":[{\"tcId\":3,\"resultsArray\":[{\"md\":\"e3\"},{\"md\":\"\",\"x\":0}]}]},\
-             {\"tgId\":2,\"tests\":[{\"tcId\":4,\"resultsArray\":[]}]},{\"tgId\":3,\"tests\":[]}]}",
-            true,
-        ),
-        ("{\"testGroups\":[]}", false),
-        ("{\"vsId\":-1,\"testGroups\":[]}", false),
-        ("{\"vsId\":\"1\",\"testGroups\":[]}", false),
-        ("{\"vsId\":1}", false),
-        ("{\"vsId\":1,\"testGroups\":{}}", false),
-        ("{\"vsId\":1,\"algorithm\":null,\"testGroups\":[]}", false),
-        ("{\"vsId\":1,\"revision\":1,\"testGroups\":[]}", false),
-        ("{\"vsId\":1,\"testGroups\":[{\"tests\":[]}]}", false),
-        ("{\"vsId\":1,\"testGroups\":[{\"tgId\":1}]}", false),
-        ("{\"vsId\":1,\"testGroups\":[[]]}", false),
-        (
-            "{\"vsId\":1,\"testGroups\":[{\"tgId\":1,\"tests\":[]},{\"tgId\":\"2\",\"tests\":[]}]}",
-            false,
-        ),
-        (
-            "{\"vsId\":1,\"testGroups\":[{\"tgId\":1,\"tests\":[{\"md\":\"e3\"}]}]}",
-            false,
-        ),
-        (
-            "{\"vsId\":1,\"testGroups\":[{\"tgId\":1,\"tests\":[{\"tcId\":1,\"md\":1}]}]}",
-            false,
-        ),
-        (
-            "{\"vsId\":1,\"testGroups\":[{\"tgId\":1,\"tests\":[{\"tcId\":1,\"mac\":null}]}]}",
-            false,
-        ),
-        (
-            "{\"vsId\":1,\"testGroups\":[{\"tgId\":1,\"tests\":[{\"tcId\":1,\"resultsArray\":null}]}]}",
-            false,
-        ),
-        (
-            "{\"vsId\":1,\"testGroups\":[{\"tgId\":1,\"tests\":[{\"tcId\":1,\"resultsArray\":[{}]}]}]}",
-            false,
-        ),
-        ("[]", false),
-    ] {
-        match Value::from_str(alloc, object) {
-            Ok(object) => assert_eq!(rt; has_answers_form(&object), is_formed),
-            Err(_) => assert!(rt; false),
-        }
     }
     Ok(())
 }

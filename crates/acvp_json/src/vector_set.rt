@@ -1,9 +1,11 @@
 //! The object of a vector set: its groups of tests, as a client runs them.
-ghost use Rattle.std.specs.Prelude.{◌≡◌, IfOk, map, codes};
+ghost use Rattle.std.specs.Prelude.{◌≡◌, IfOk, codes};
 ghost use Rattle.serde_json.specs.View.{view};
+ghost use Rattle.acvp_gen.specs.Prompt.{kind_of};
 ghost use Rattle.acvp_json.specs.VectorSet.{type_word, hash_test_data, mac_test_data, hash_group_data, mac_group_data, group_data, vector_set_data};
 
-use acvp_gen::{Group, GroupKind, Prompts, Sizes, Test};
+use crate::array::{Shows, array};
+use acvp_gen::{Group, GroupForm, GroupKind, Prompts, Sizes, Test};
 use serde_json::{Value, json};
 use std::alloc::{AllocError, Global};
 
@@ -17,50 +19,36 @@ fn type_word(kind: GroupKind) -> &'static str
     }
 }
 
-/// A test of a hash function.
-fn hash_test_value(alloc: Global, test: &Test) -> Result<Value, AllocError>
-    ensures { IfOk result (λ value. view value ≡ hash_test_data test.now) }
-{
-    let message = hex::encode(alloc, test.message())?;
-    json!(in alloc; {"len": test.bits(), "msg": message, "tcId": test.number()})
-}
+/// The tests of a hash function.
+struct HashTests;
 
-/// A test of HMAC.
-fn mac_test_value(alloc: Global, test: &Test) -> Result<Value, AllocError>
-    ensures { IfOk result (λ value. view value ≡ mac_test_data test.now) }
-{
-    let key = hex::encode(alloc, test.key())?;
-    let message = hex::encode(alloc, test.message())?;
-    json!(in alloc; {"key": key, "msg": message, "tcId": test.number()})
-}
+impl Shows<Test> for HashTests {
+    ghost data_of = { λ _ test. hash_test_data test };
 
-/// Tests of a hash function.
-fn hash_test_values(alloc: Global, tests: &[Test]) -> Result<Vec<Value>, AllocError>
-    ensures { IfOk result (λ values. map view values.items ≡ map hash_test_data tests.now) }
-{
-    let mut values = Vec::new(alloc);
-    for test in tests {
-        values.push(hash_test_value(alloc, test)?)?;
+    fn value(&self, alloc: Global, test: &Test) -> Result<Value, AllocError> {
+        let message = hex::encode(alloc, test.message())?;
+        json!(in alloc; {"len": test.bits(), "msg": message, "tcId": test.number()})
     }
-    Ok(values)
 }
 
-/// Tests of HMAC.
-fn mac_test_values(alloc: Global, tests: &[Test]) -> Result<Vec<Value>, AllocError>
-    ensures { IfOk result (λ values. map view values.items ≡ map mac_test_data tests.now) }
-{
-    let mut values = Vec::new(alloc);
-    for test in tests {
-        values.push(mac_test_value(alloc, test)?)?;
+/// The tests of HMAC.
+struct MacTests;
+
+impl Shows<Test> for MacTests {
+    ghost data_of = { λ _ test. mac_test_data test };
+
+    fn value(&self, alloc: Global, test: &Test) -> Result<Value, AllocError> {
+        let key = hex::encode(alloc, test.key())?;
+        let message = hex::encode(alloc, test.message())?;
+        json!(in alloc; {"key": key, "msg": message, "tcId": test.number()})
     }
-    Ok(values)
 }
 
 /// A group of a hash function.
 fn hash_group_value(alloc: Global, group: &Group) -> Result<Value, AllocError>
     ensures { IfOk result (λ value. view value ≡ hash_group_data group.now) }
 {
-    let tests = Value::Array(hash_test_values(alloc, group.tests())?);
+    let tests = array(alloc, &HashTests, group.tests())?;
     json!(in alloc; {"testType": type_word(group.kind()), "tests": tests, "tgId": group.number()})
 }
 
@@ -68,7 +56,7 @@ fn hash_group_value(alloc: Global, group: &Group) -> Result<Value, AllocError>
 fn mac_group_value(alloc: Global, sizes: Sizes, group: &Group) -> Result<Value, AllocError>
     ensures { IfOk result (λ value. view value ≡ mac_group_data sizes group.now) }
 {
-    let tests = Value::Array(mac_test_values(alloc, group.tests())?);
+    let tests = array(alloc, &MacTests, group.tests())?;
     json!(in alloc; {
         "keyLen": sizes.key_bits,
         "macLen": sizes.mac_bits,
@@ -79,25 +67,18 @@ fn mac_group_value(alloc: Global, sizes: Sizes, group: &Group) -> Result<Value, 
     })
 }
 
-/// A group: one of HMAC has sizes.
-fn group_value(alloc: Global, group: &Group) -> Result<Value, AllocError>
-    ensures { IfOk result (λ value. view value ≡ group_data group.now) }
-{
-    match group.sizes() {
-        Some(sizes) => mac_group_value(alloc, sizes, group),
-        None => hash_group_value(alloc, group),
-    }
-}
-
 /// The groups of a vector set.
-fn group_values(alloc: Global, groups: &[Group]) -> Result<Vec<Value>, AllocError>
-    ensures { IfOk result (λ values. map view values.items ≡ map group_data groups.now) }
-{
-    let mut values = Vec::new(alloc);
-    for group in groups {
-        values.push(group_value(alloc, group)?)?;
+struct Groups;
+
+impl Shows<Group> for Groups {
+    ghost data_of = { λ _ group. group_data group };
+
+    fn value(&self, alloc: Global, group: &Group) -> Result<Value, AllocError> {
+        match group.form() {
+            GroupForm::Mac(sizes) => mac_group_value(alloc, sizes, group),
+            GroupForm::Digest | GroupForm::MonteCarlo => hash_group_value(alloc, group),
+        }
     }
-    Ok(values)
 }
 
 /// A vector set, and whether it is a sample.
@@ -108,7 +89,7 @@ pub(crate) fn vector_set_value(
 ) -> Result<Value, AllocError>
     ensures { IfOk result (λ value. view value ≡ vector_set_data sample prompts.now) }
 {
-    let groups = Value::Array(group_values(alloc, prompts.groups())?);
+    let groups = array(alloc, &Groups, prompts.groups())?;
     json!(in alloc; {
         "algorithm": prompts.algorithm().name(),
         "isSample": sample,

@@ -1,2 +1,10 @@
 pub mod Number
 pub mod Url
+pub mod Json
+pub mod Object
+pub mod Private
+pub use Rattle.serde_json.specs.Data
+pub use Rattle.serde_json.specs.Find
+pub use Rattle.serde_json.specs.Read
+pub use Rattle.serde_json.specs.View
+pub use Rattle.serde_json.specs.Written

@@ -1,5 +1,5 @@
 -- The URLs of vendors, modules and operational environments.
-use Rattle.std.specs.Prelude.{◌≡◌, ◌<◌, ◌^◌, ℕ, List, ◌++◌, length, take, drop, codes, decimal, Option, Some, None, option_and_then, if◌then◌else◌}
+use Rattle.std.specs.Prelude.{◌≡◌, ◌<◌, ◌^◌, ℕ, List, ◌++◌, length, take, drop, codes, decimal, Option, Some, None, option_map, option_and_then, if◌then◌else◌}
 use Rattle.std.specs.Str.{bytes_eq}
 use Rattle.acvp_registry.specs.declared.kind.Kind.{Kind}
 use Rattle.acvp_registry.specs.declared.kind.Kind.TheVariants.{Vendor, Module, Environment, Certification}
@@ -24,3 +24,7 @@ behind text place = if bytes_eq (take (length place) text) place then Some (drop
 -- the same as a value: the number behind the kind's place
 abbrev pub url_number_of : Kind → List ℕ → Option ℕ
 url_number_of kind text = option_and_then plain_number_of (option_and_then (behind text) (place_of kind))
+
+-- the URL of the object of a kind and number: the kind's place, and the number in decimal
+abbrev pub url_of : Kind → ℕ → Option (List ℕ)
+url_of kind number = option_map (λ place. place ++ decimal number) (place_of kind)

@@ -1,12 +1,23 @@
-//! Vendors, modules and operational environments: their kinds, and the URLs that name them.
+//! Vendors, modules and operational environments: their kinds, the URLs that name them, and what is kept of them.
 #![tactic(auto)]
 
+mod depth;
+mod fault;
+mod floats;
+mod json;
 mod kind;
 mod number;
+mod object;
+mod request;
 #[cfg(test)]
 mod tests;
 mod url;
 
+pub use fault::RegFault;
+pub use floats::has_float;
+pub use json::body_value;
 pub use kind::Kind;
 pub use number::{digits_number, plain_number};
-pub use url::url_number;
+pub use object::{Object, read_object, with_url};
+pub use request::{PendingRequest, Status};
+pub use url::{object_url, url_number};

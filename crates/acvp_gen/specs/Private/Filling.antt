@@ -16,8 +16,7 @@ groups_from seed vs group number place [] = []
 groups_from seed vs group number place (shape ∷ shapes) =
     record {
       number = group;
-      kind = shape.kind;
-      sizes = shape.sizes;
+      form = shape.form;
       tests = tests_from seed vs number place shape.tests;
     }
     ∷ groups_from seed vs (group + 1) (number + length shape.tests) (place + sum_by words_of_test shape.tests) shapes

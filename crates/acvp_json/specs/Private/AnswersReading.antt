@@ -6,11 +6,12 @@ use Rattle.acvp_gen.specs.Prompt.{PromptsValue}
 use Rattle.acvp_answers.specs.Answer.{Answer}
 use Rattle.acvp_json.specs.declared.fault.BodyFault.{BodyFault}
 use Rattle.acvp_json.specs.declared.fault.BodyFault.TheVariants.{Memory}
-use Rattle.acvp_json.specs.AnswersBody.{Given, given_conditions, answer_given, placed}
+use Rattle.acvp_json.specs.AnswersBody.{given_conditions, answer_given, placed}
+use Rattle.acvp_json.specs.Submission.{GivenValue}
 use Rattle.acvp_caps.specs.Conditions.{judged}
 
 -- the answers after one that is given, or the fault of the first condition that it breaks
-abbrev pub after_given : PromptsValue → List Answer → Given → Result (List Answer) BodyFault
+abbrev pub after_given : PromptsValue → List Answer → GivenValue → Result (List Answer) BodyFault
 after_given prompts answers given =
     judged (given_conditions prompts (keys_of answers) given)
     (placed answers (filter_map (answer_given prompts) (given ∷ [])))
@@ -20,7 +21,7 @@ abbrev pub and_then_all : (List Answer → Result (List Answer) BodyFault) → R
 and_then_all more (Ok answers) = more answers
 and_then_all more (Err fault) = Err fault
 
-abbrev pub after_all : PromptsValue → List Answer → List Given → Result (List Answer) BodyFault
+abbrev pub after_all : PromptsValue → List Answer → List GivenValue → Result (List Answer) BodyFault
 after_all prompts answers [] = Ok answers
 after_all prompts answers (given ∷ more) =
     and_then_all (λ before. after_all prompts before more) (after_given prompts answers given)

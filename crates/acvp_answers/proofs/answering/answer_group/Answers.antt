@@ -14,7 +14,7 @@ loop-test-preserved c =
     ∷ drop (c.loop-test.test-index + 1) c.args.group.now.tests =
     drop_more c.args.group.now.tests c.loop-test.test-index c.test-item.result within
     ∙ ap (λ t. t ∷ drop (c.loop-test.test-index + 1) c.args.group.now.tests) (sym is) in
-    one_answer_more (λ t. texts_on c.args.name c.args.group.now.kind c.args.group.now.sizes t) c.loop-test.answers
+    one_answer_more (λ t. texts_on c.args.name c.args.group.now.form t) c.loop-test.answers
     c.insert.new.self
     (c.args.answers.now ++ group_answers c.args.name c.args.group.now) c.test-item.result
     (drop c.loop-test.test-index c.args.group.now.tests) (drop (c.loop-test.test-index + 1) c.args.group.now.tests)

@@ -6,7 +6,7 @@ use Rattle.acvp_answers.proofs.answering.answer_group.Given as goal
 
 abbrev pub invariant-loop-test : goal.invariant-loop-test
 invariant-loop-test l =
-    (l.answers ++ map (λ t. (t.number, texts_on l.name l.group.kind l.group.sizes t)) (drop l.test-index l.group.tests)
+    (l.answers ++ map (λ t. (t.number, texts_on l.name l.group.form t)) (drop l.test-index l.group.tests)
     ≡ l.fn.answers ++ group_answers l.name l.group)
     × (keys_of l.answers ≡ range_with_len 1 (length l.answers))
     × (map (λ t. t.number) (drop l.test-index l.group.tests) ≡ range_with_len (length l.answers + 1)

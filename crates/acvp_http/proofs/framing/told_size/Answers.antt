@@ -1,4 +1,4 @@
-use Rattle.std.proofs.Common.{◌≡◌, ◌∙◌, sym, ap, map, length}
+use Rattle.std.proofs.Common.{◌∙◌, sym, map}
 use Rattle.httparse.specs.Spans.{span_bytes, header_bytes}
 use Rattle.acvp_http.proofs.FramingLemmas.{told_is}
 use Rattle.acvp_http.proofs.framing.told_size.Goals as goal
