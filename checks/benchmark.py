@@ -83,7 +83,8 @@ PARTED = json.dumps({"algorithm": "HMAC-SHA2-512", "keyLen": [{"increment": 8, "
                      "macLen": [{"increment": 8, "max": 512, "min": 32}], "revision": "1.0"})
 
 
-def built(folder, name, commit):
+def built(folder, name, commit, crates=CRATES, stands_on="acvp_caps acvp_gen acvp_answers",
+          text=PROGRAM.replace("PARTED", PARTED.replace('"', '\\"'))):
     """The program over a commit, or over the work tree."""
     side = os.path.join(folder, name)
     os.makedirs(os.path.join(side, "crates"))
@@ -92,18 +93,18 @@ def built(folder, name, commit):
                                  stdout=subprocess.PIPE).stdout
         subprocess.run(["tar", "-x", "-C", side], input=archive, check=True)
     else:
-        for crate in CRATES:
+        for crate in crates:
             shutil.copytree(os.path.join(TOP, "crates", crate), os.path.join(side, "crates", crate),
                             ignore=shutil.ignore_patterns("out"))
         shutil.copy(os.path.join(TOP, "crates.txt"), side)
     with open(os.path.join(side, "crates.txt")) as listed:
-        lines = [line for line in listed if line.split(":")[0] in CRATES]
+        lines = [line for line in listed if line.split(":")[0] in crates]
     with open(os.path.join(side, "crates.txt"), "w") as listed:
-        listed.writelines(lines + ["benchmark: acvp_caps acvp_gen acvp_answers\n"])
+        listed.writelines(lines + [f"benchmark: {stands_on}\n"])
     source = os.path.join(side, "crates", "benchmark", "src")
     os.makedirs(source)
     with open(os.path.join(source, "main.rt"), "w") as program:
-        program.write(PROGRAM.replace("PARTED", PARTED.replace('"', '\\"')))
+        program.write(text)
     print(f"proving and building the program over {name} ..", flush=True)
     done = subprocess.run(["rt", "run"], cwd=os.path.dirname(source), capture_output=True, text=True)
     program = os.path.join(side, "crates", "benchmark", "out", "benchmark")
