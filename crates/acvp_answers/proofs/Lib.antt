@@ -1,4 +1,5 @@
 pub mod MapLemmas
+pub mod CloneLemmas
 pub mod AnswerLemmas
 pub mod MonteCarloLemmas
 pub mod TurnLemmas

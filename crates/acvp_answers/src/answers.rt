@@ -27,6 +27,15 @@ impl Model for Answers {
     ghost view = { λ a. shown a.texts.entries };
 }
 
+impl Clone for Answers {
+    ghost is_clone = { λ it copy. copy ≡ it };
+
+    fn clone(&self) -> Result<Answers, AllocError> {
+        let texts = self.texts.clone()?;
+        Ok(Answers { texts })
+    }
+}
+
 /// The number and the texts at a place of the map, by its order.
 fn nth_of(kept: &BTreeMap<u64, Vec<String>>, i: usize) -> Option<(u64, &[String])>
     ensures { option_map (λ e. (e.0, map string_bytes e.1.now)) result ≡ slice_get (shown kept.now.entries) i }

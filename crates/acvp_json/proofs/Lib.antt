@@ -1,4 +1,5 @@
 pub mod EnvelopeLemmas
+mod ObjectLemmas
 pub mod KeptLemmas
 pub mod ReplyLemmas
 pub mod UrlLemmas

@@ -4,3 +4,4 @@ pub mod Borrowed
 pub mod Said
 pub mod AnswersReading
 pub mod Civil
+pub mod Placed

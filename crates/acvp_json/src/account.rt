@@ -5,11 +5,12 @@ ghost use Rattle.acvp_json.specs.Account.{account_data, reviewers_data};
 ghost use Rattle.acvp_json.specs.Values.{count};
 
 use crate::array::{Shows, array};
-use serde_json::{Value, json};
+use crate::object::object;
+use serde_json::Value;
 use std::alloc::{AllocError, Global};
 
 /// How many rows an account has of each kind.
-#[derive(Clone, Copy, Debug, PartialEq, Eq)]
+#[derive(Clone, Copy)]
 pub struct Counts {
     pub modules: u64,
     pub environments: u64,
@@ -26,14 +27,21 @@ pub(crate) fn account_value(
 ) -> Result<Value, AllocError>
     ensures { IfOk result (λ value. view value ≡ account_data account counts) }
 {
-    json!(in alloc; {
-        "account": account,
-        "modules": counts.modules,
-        "oes": counts.environments,
-        "requests": counts.requests,
-        "sessions": counts.sessions,
-        "vendors": counts.vendors
-    })
+    object(
+        alloc,
+        &[],
+        &[
+            "account", "modules", "oes", "requests", "sessions", "vendors",
+        ],
+        [
+            Value::from(account),
+            Value::from(counts.modules),
+            Value::from(counts.environments),
+            Value::from(counts.requests),
+            Value::from(counts.sessions),
+            Value::from(counts.vendors),
+        ],
+    )
 }
 
 /// The numbers of accounts.
@@ -43,7 +51,7 @@ impl Shows<u16> for Accounts {
     ghost data_of = { λ _ account. count account };
 
     fn value(&self, alloc: Global, account: &u16) -> Result<Value, AllocError> {
-        json!(in alloc; *account)
+        Ok(Value::from(*account))
     }
 }
 
@@ -52,5 +60,5 @@ pub(crate) fn reviewers_value(alloc: Global, accounts: &[u16]) -> Result<Value, 
     ensures { IfOk result (λ value. view value ≡ reviewers_data accounts.now) }
 {
     let accounts = array(alloc, &Accounts, accounts)?;
-    json!(in alloc; {"reviewers": accounts})
+    object(alloc, &[], &["reviewers"], [accounts])
 }

@@ -5,8 +5,9 @@ ghost use Rattle.acvp_caps.specs.Algorithms.{algorithm_number};
 ghost use Rattle.acvp_json.specs.AlgorithmData.{algorithm_data, algorithms_data};
 
 use crate::array::{Shows, array};
+use crate::object::object;
 use acvp_caps::Algorithm;
-use serde_json::{Value, json};
+use serde_json::Value;
 use std::alloc::{AllocError, Global};
 
 /// The URL of an algorithm.
@@ -18,22 +19,20 @@ fn algorithm_url(alloc: Global, algorithm: Algorithm) -> Result<String, AllocErr
     format!(in alloc; "/acvp/v1/algorithms/{number}")
 }
 
-/// An algorithm.
-pub(crate) fn algorithm_value(alloc: Global, algorithm: Algorithm) -> Result<Value, AllocError>
-    ensures { IfOk result (λ value. view value ≡ algorithm_data algorithm) }
-{
-    let url = algorithm_url(alloc, algorithm)?;
-    json!(in alloc; {"name": algorithm.name(), "revision": "1.0", "url": url})
-}
-
 /// Algorithms.
-struct Algorithms;
+pub(crate) struct Algorithms;
 
 impl Shows<Algorithm> for Algorithms {
     ghost data_of = { λ _ algorithm. algorithm_data algorithm };
 
     fn value(&self, alloc: Global, algorithm: &Algorithm) -> Result<Value, AllocError> {
-        algorithm_value(alloc, *algorithm)
+        let url = algorithm_url(alloc, *algorithm)?;
+        object(
+            alloc,
+            &[("name", algorithm.name()), ("revision", "1.0")],
+            &["url"],
+            [Value::String(url)],
+        )
     }
 }
 
@@ -43,5 +42,5 @@ pub(crate) fn algorithms_value(alloc: Global) -> Result<Value, AllocError>
 {
     let all = Algorithm::all();
     let algorithms = array(alloc, &Algorithms, &all)?;
-    json!(in alloc; {"algorithms": algorithms})
+    object(alloc, &[], &["algorithms"], [algorithms])
 }

@@ -1,5 +1,5 @@
 //! JSON arrays of what the elements of a list are shown as.
-ghost use Rattle.std.specs.Prelude.{◌≡◌, IfOk, map};
+ghost use Rattle.std.specs.Prelude.{◌≡◌, IfOk};
 ghost use Rattle.serde_json.specs.Data.{Data};
 ghost use Rattle.serde_json.specs.View.{view};
 ghost use Rattle.acvp_json.specs.Values.{array_of};
@@ -15,17 +15,6 @@ pub(crate) trait Shows<T> {
         ensures { IfOk result (λ value. view value ≡ data_of self.now element.now) };
 }
 
-/// The values of the elements, in their order.
-fn values<T, S: Shows<T>>(alloc: Global, show: &S, elements: &[T]) -> Result<Vec<Value>, AllocError>
-    ensures { IfOk result (λ values. map view values.items ≡ map (S.data_of show.now) elements.now) }
-{
-    let mut values = Vec::new(alloc);
-    for element in elements {
-        values.push(show.value(alloc, element)?)?;
-    }
-    Ok(values)
-}
-
 /// The array of the elements' values, in their order.
 pub(crate) fn array<T, S: Shows<T>>(
     alloc: Global,
@@ -34,5 +23,9 @@ pub(crate) fn array<T, S: Shows<T>>(
 ) -> Result<Value, AllocError>
     ensures { IfOk result (λ value. view value ≡ array_of (S.data_of show.now) elements.now) }
 {
-    Ok(Value::Array(values(alloc, show, elements)?))
+    let mut values = Vec::new(alloc);
+    for element in elements {
+        values.push(show.value(alloc, element)?)?;
+    }
+    Ok(Value::Array(values))
 }

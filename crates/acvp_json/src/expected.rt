@@ -5,9 +5,10 @@ ghost use Rattle.acvp_json.specs.Values.{array_of};
 ghost use Rattle.acvp_json.specs.Expected.{texts_at, first_text, digest_data, expected_digest, expected_checkpoints, expected_mac, expected_answer, expected_test, expected_group, expected_data};
 
 use crate::array::{Shows, array};
+use crate::object::object;
 use acvp_answers::Answers;
 use acvp_gen::{Group, GroupForm, Prompts, Test};
-use serde_json::{Value, json};
+use serde_json::Value;
 use std::alloc::{AllocError, Global};
 
 /// The texts that answer the test of a number, of which there may be none.
@@ -37,7 +38,7 @@ impl Shows<String> for Checkpoints {
     ghost data_of = { λ _ text. digest_data (string_bytes text) };
 
     fn value(&self, alloc: Global, text: &String) -> Result<Value, AllocError> {
-        json!(in alloc; {"md": text.as_str()})
+        object(alloc, &[("md", text.as_str())], &[], [])
     }
 }
 
@@ -53,7 +54,12 @@ fn expected_checkpoints(alloc: Global, texts: &[String], number: u64) -> Result<
     ensures { IfOk result (λ value. view value ≡ expected_checkpoints (map string_bytes texts.now) number) }
 {
     let checkpoints = checkpoints_value(alloc, texts)?;
-    json!(in alloc; {"resultsArray": checkpoints, "tcId": number})
+    object(
+        alloc,
+        &[],
+        &["resultsArray", "tcId"],
+        [checkpoints, Value::from(number)],
+    )
 }
 
 /// A test of a group of this form.
@@ -66,9 +72,19 @@ fn expected_answer(
     ensures { IfOk result (λ value. view value ≡ expected_answer form (map string_bytes texts.now) number) }
 {
     match form {
-        GroupForm::Digest => json!(in alloc; {"md": first_text(texts), "tcId": number}),
+        GroupForm::Digest => object(
+            alloc,
+            &[("md", first_text(texts))],
+            &["tcId"],
+            [Value::from(number)],
+        ),
         GroupForm::MonteCarlo => expected_checkpoints(alloc, texts, number),
-        GroupForm::Mac(_) => json!(in alloc; {"mac": first_text(texts), "tcId": number}),
+        GroupForm::Mac(_) => object(
+            alloc,
+            &[("mac", first_text(texts))],
+            &["tcId"],
+            [Value::from(number)],
+        ),
     }
 }
 
@@ -103,7 +119,12 @@ impl Shows<Group> for ExpectedGroups<'_> {
             form: group.form(),
         };
         let tests = array(alloc, &show, group.tests())?;
-        json!(in alloc; {"tests": tests, "tgId": group.number()})
+        object(
+            alloc,
+            &[],
+            &["tests", "tgId"],
+            [tests, Value::from(group.number())],
+        )
     }
 }
 
@@ -116,10 +137,13 @@ pub(crate) fn expected_value(
     ensures { IfOk result (λ value. view value ≡ expected_data prompts.now standard.now) }
 {
     let groups = array(alloc, &ExpectedGroups { standard }, prompts.groups())?;
-    json!(in alloc; {
-        "algorithm": prompts.algorithm().name(),
-        "revision": "1.0",
-        "testGroups": groups,
-        "vsId": prompts.vs()
-    })
+    object(
+        alloc,
+        &[
+            ("algorithm", prompts.algorithm().name()),
+            ("revision", "1.0"),
+        ],
+        &["testGroups", "vsId"],
+        [groups, Value::from(prompts.vs())],
+    )
 }

@@ -13,7 +13,7 @@ use crate::envelope::parse;
 use crate::fault::BodyFault;
 use crate::text::copied;
 use acvp_answers::Answers;
-use serde_json::{Value, json};
+use serde_json::Value;
 use std::alloc::{AllocError, Global};
 
 /// The texts of an answer.
@@ -39,7 +39,7 @@ fn answer_value(alloc: Global, number: u64, texts: &[String]) -> Result<Value, A
     ensures { IfOk result (λ value. view value ≡ answer_data (number, map string_bytes texts.now)) }
 {
     let texts = texts_value(alloc, texts)?;
-    json!(in alloc; [number, texts])
+    Ok(Value::Array(vec![in alloc; Value::from(number), texts]?))
 }
 
 /// The array of answers.

@@ -16,6 +16,7 @@ mod fault;
 mod kept_answers;
 mod login_body;
 mod members;
+mod object;
 mod page;
 mod registered;
 #[cfg(test)]

@@ -4,11 +4,12 @@ ghost use Rattle.serde_json.specs.View.{view};
 ghost use Rattle.acvp_json.specs.Page.{next_offset, prev_offset, last_offset, page_url, link_data, links_data, page_data};
 
 use crate::array::{Shows, array};
-use serde_json::{Value, json};
+use crate::object::object;
+use serde_json::Value;
 use std::alloc::{AllocError, Global};
 
 /// Which rows of a list are shown: without the first `offset`, at most `limit`.
-#[derive(Clone, Copy, Debug, PartialEq, Eq)]
+#[derive(Clone, Copy)]
 pub struct Page {
     pub offset: u64,
 
@@ -78,7 +79,12 @@ fn links_value(alloc: Global, path: &str, page: Page, total: u64) -> Result<Valu
     let last = link_value(alloc, path, page.limit, Some(last_offset(page, total)))?;
     let next = link_value(alloc, path, page.limit, next_offset(page, total))?;
     let prev = link_value(alloc, path, page.limit, prev_offset(page))?;
-    json!(in alloc; {"first": first, "last": last, "next": next, "prev": prev})
+    object(
+        alloc,
+        &[],
+        &["first", "last", "next", "prev"],
+        [first, last, next, prev],
+    )
 }
 
 /// A page of the list at a path, which has `total` rows in all, with these rows.
@@ -95,5 +101,10 @@ pub(crate) fn page_value<T, S: Shows<T>>(
     let data = array(alloc, show, rows)?;
     let links = links_value(alloc, path, page, total)?;
     let incomplete = next_offset(page, total).is_some();
-    json!(in alloc; {"data": data, "incomplete": incomplete, "links": links, "totalCount": total})
+    object(
+        alloc,
+        &[],
+        &["data", "incomplete", "links", "totalCount"],
+        [data, Value::Bool(incomplete), links, Value::from(total)],
+    )
 }

@@ -1,13 +1,13 @@
 //! The objects of vendors, modules and operational environments, and of the requests for them.
-ghost use Rattle.std.specs.Prelude.{◌≡◌, IfOk};
-ghost use Rattle.serde_json.specs.View.{view};
+ghost use Rattle.std.specs.Prelude.{◌≡◌};
 ghost use Rattle.acvp_json.specs.Registry.{registered_data, status_word, request_data};
 
 use crate::array::Shows;
+use crate::object::object;
 use crate::session::outcome_value;
 use crate::urls::{approved_url, request_url};
 use acvp_registry::{Object, PendingRequest, RegFault, Status, with_url};
-use serde_json::{Value, json};
+use serde_json::Value;
 use std::alloc::{AllocError, Global};
 
 /// A vendor, a module or an operational environment, with its number.
@@ -17,24 +17,17 @@ pub struct Registered<'a> {
     pub object: &'a Object,
 }
 
-/// The kept object with its own URL.
-pub(crate) fn registered_value(alloc: Global, row: &Registered<'_>) -> Result<Value, AllocError>
-    ensures { IfOk result (λ value. view value ≡ registered_data row.now) }
-{
-    match with_url(alloc, row.object, row.number) {
-        Ok(value) => Ok(value),
-        Err(_) => Err(AllocError),
-    }
-}
-
-/// What is registered.
+/// What is registered: the kept object with its own URL.
 pub(crate) struct Objects;
 
 impl<'a> Shows<Registered<'a>> for Objects {
     ghost data_of = { λ _ row. registered_data row };
 
     fn value(&self, alloc: Global, row: &Registered<'a>) -> Result<Value, AllocError> {
-        registered_value(alloc, row)
+        match with_url(alloc, row.object, row.number) {
+            Ok(value) => Ok(value),
+            Err(_) => Err(AllocError),
+        }
     }
 }
 
@@ -49,27 +42,25 @@ fn status_word(status: Status) -> &'static str
     }
 }
 
-/// A request in its state.
-pub(crate) fn request_value(alloc: Global, request: PendingRequest) -> Result<Value, AllocError>
-    ensures { IfOk result (λ value. view value ≡ request_data request) }
-{
-    let url = request_url(alloc, request.number)?;
-    match (request.status, request.approved) {
-        (Status::Approved, Some(number)) => {
-            let approved = approved_url(alloc, request.kind, number)?;
-            json!(in alloc; {"approvedUrl": approved, "status": "approved", "url": url})
-        }
-        (status, _) => outcome_value(alloc, status_word(status), url),
-    }
-}
-
-/// Requests.
+/// Requests in their states.
 pub(crate) struct Requests;
 
 impl Shows<PendingRequest> for Requests {
     ghost data_of = { λ _ request. request_data request };
 
     fn value(&self, alloc: Global, request: &PendingRequest) -> Result<Value, AllocError> {
-        request_value(alloc, *request)
+        let url = request_url(alloc, request.number)?;
+        match (request.status, request.approved) {
+            (Status::Approved, Some(number)) => {
+                let approved = approved_url(alloc, request.kind, number)?;
+                object(
+                    alloc,
+                    &[("status", "approved")],
+                    &["approvedUrl", "url"],
+                    [Value::String(approved), Value::String(url)],
+                )
+            }
+            (status, _) => outcome_value(alloc, status_word(status), url),
+        }
     }
 }

@@ -5,10 +5,12 @@ ghost use Rattle.acvp_json.specs.Written.{body_of, enveloped};
 ghost use Rattle.acvp_json.specs.ReplyData.{token_data, reply_data};
 
 use crate::account::{Counts, account_value, reviewers_value};
-use crate::algorithms::{algorithm_value, algorithms_value};
+use crate::algorithms::{Algorithms, algorithms_value};
+use crate::array::Shows;
 use crate::expected::expected_value;
+use crate::object::object;
 use crate::page::{Page, page_value};
-use crate::registered::{Objects, Registered, Requests, registered_value, request_value};
+use crate::registered::{Objects, Registered, Requests};
 use crate::session::{
     Session, Sessions, SetResult, new_session_value, outcome_value, session_results_value,
     session_value, sets_value,
@@ -21,7 +23,7 @@ use acvp_answers::{Answers, Disposition, Verdict};
 use acvp_caps::Algorithm;
 use acvp_gen::Prompts;
 use acvp_registry::{Kind, PendingRequest};
-use serde_json::{Value, json};
+use serde_json::Value;
 use std::alloc::{AllocError, Global};
 
 /// What an accepted request is answered, one variant for each kind of answer. It borrows what it shows.
@@ -128,7 +130,7 @@ pub enum ReplyObject<'a> {
 fn token_value(alloc: Global, token: &str) -> Result<Value, AllocError>
     ensures { IfOk result (λ value. view value ≡ token_data token.now) }
 {
-    json!(in alloc; {"accessToken": token})
+    object(alloc, &[("accessToken", token)], &[], [])
 }
 
 /// The object of a reply.
@@ -136,11 +138,11 @@ fn token_value(alloc: Global, token: &str) -> Result<Value, AllocError>
 fn object_value<'a>(alloc: Global, reply: &'a ReplyObject<'a>) -> Result<Value, AllocError>
     ensures { IfOk result (λ value. view value ≡ reply_data reply.now) }
 {
-    match *reply {
+    match reply {
         ReplyObject::Login { token } => token_value(alloc, token),
-        ReplyObject::ReadAccount { account, counts } => account_value(alloc, account, counts),
+        ReplyObject::ReadAccount { account, counts } => account_value(alloc, *account, *counts),
         ReplyObject::ListAlgorithms => algorithms_value(alloc),
-        ReplyObject::ReadAlgorithm { algorithm } => algorithm_value(alloc, algorithm),
+        ReplyObject::ReadAlgorithm { algorithm } => Algorithms.value(alloc, algorithm),
         ReplyObject::ListSessions {
             page,
             total,
@@ -149,8 +151,8 @@ fn object_value<'a>(alloc: Global, reply: &'a ReplyObject<'a>) -> Result<Value, 
             alloc,
             &Sessions,
             "/acvp/v1/testSessions",
-            page,
-            total,
+            *page,
+            *total,
             sessions,
         ),
         ReplyObject::NewSession {
@@ -158,48 +160,56 @@ fn object_value<'a>(alloc: Global, reply: &'a ReplyObject<'a>) -> Result<Value, 
             number,
             created,
             sets,
-        } => new_session_value(alloc, token, number, created, sets),
+        } => new_session_value(alloc, token, *number, *created, sets),
         ReplyObject::ReadSession {
             session,
             passed,
             sets,
-        } => session_value(alloc, session, passed, sets),
+        } => session_value(alloc, *session, *passed, sets),
         ReplyObject::CancelSession { session } => {
-            outcome_value(alloc, "cancelled", session_url(alloc, session)?)
+            outcome_value(alloc, "cancelled", session_url(alloc, *session)?)
         }
-        ReplyObject::SessionResults { passed, sets } => session_results_value(alloc, passed, sets),
+        ReplyObject::SessionResults { passed, sets } => session_results_value(alloc, *passed, sets),
         ReplyObject::ListSets { sets } => sets_value(alloc, sets),
-        ReplyObject::ReadSet { sample, prompts } => vector_set_value(alloc, sample, prompts),
-        ReplyObject::CancelSet { vs } => outcome_value(alloc, "cancelled", set_url(alloc, vs)?),
+        ReplyObject::ReadSet { sample, prompts } => vector_set_value(alloc, *sample, prompts),
+        ReplyObject::CancelSet { vs } => outcome_value(alloc, "cancelled", set_url(alloc, *vs)?),
         ReplyObject::SetResults {
             vs,
             disposition,
             verdicts,
-        } => set_results_value(alloc, vs, disposition, verdicts),
-        ReplyObject::Received { vs } => outcome_value(alloc, "received", results_url(alloc, vs)?),
+        } => set_results_value(alloc, *vs, *disposition, verdicts),
+        ReplyObject::Received { vs } => outcome_value(alloc, "received", results_url(alloc, *vs)?),
         ReplyObject::Expected { prompts, standard } => expected_value(alloc, prompts, standard),
-        ReplyObject::ReadObject { object } => registered_value(alloc, &object),
+        ReplyObject::ReadObject { object } => Objects.value(alloc, object),
         ReplyObject::ListObjects {
             kind,
             page,
             total,
             objects,
-        } => page_value(alloc, &Objects, list_path(kind), page, total, objects),
-        ReplyObject::Request { request } => request_value(alloc, request),
+        } => page_value(alloc, &Objects, list_path(*kind), *page, *total, objects),
+        ReplyObject::Request { request } => Requests.value(alloc, request),
         ReplyObject::ListRequests {
             page,
             total,
             requests,
-        } => page_value(alloc, &Requests, "/acvp/v1/requests", page, total, requests),
+        } => page_value(
+            alloc,
+            &Requests,
+            "/acvp/v1/requests",
+            *page,
+            *total,
+            requests,
+        ),
         ReplyObject::Reviewers { accounts } => reviewers_value(alloc, accounts),
     }
 }
 
 /// An object in the envelope of every body.
-fn enveloped(alloc: Global, object: Value) -> Result<Value, AllocError>
-    ensures { IfOk result (λ value. view value ≡ enveloped (view object)) }
+fn enveloped(alloc: Global, shown: Value) -> Result<Value, AllocError>
+    ensures { IfOk result (λ value. view value ≡ enveloped (view shown)) }
 {
-    json!(in alloc; [{"acvVersion": "1.0"}, object])
+    let version = object(alloc, &[("acvVersion", "1.0")], &[], [])?;
+    Ok(Value::Array(vec![in alloc; version, shown]?))
 }
 
 /// The body of a reply: the version and the object, as compact JSON.

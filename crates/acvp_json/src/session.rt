@@ -6,15 +6,16 @@ ghost use Rattle.acvp_json.specs.Session.{session_word, set_urls, session_row_da
 ghost use Rattle.acvp_json.specs.Urls.{set_url};
 
 use crate::array::{Shows, array};
+use crate::object::object;
 use crate::set_results::disposition_word;
 use crate::time::Created;
 use crate::urls::{session_url, set_url};
 use acvp_answers::Disposition;
-use serde_json::{Value, json};
+use serde_json::Value;
 use std::alloc::{AllocError, Global};
 
 /// Where a test session stands.
-#[derive(Clone, Copy, Debug, PartialEq, Eq)]
+#[derive(Clone, Copy)]
 pub enum SessionStatus {
     Open,
     /// Its last request for certification waits.
@@ -25,7 +26,7 @@ pub enum SessionStatus {
 }
 
 /// A test session.
-#[derive(Clone, Copy, Debug)]
+#[derive(Clone, Copy)]
 pub struct Session {
     pub number: u64,
     pub created: Created,
@@ -34,7 +35,7 @@ pub struct Session {
 }
 
 /// What a vector set of a session comes to.
-#[derive(Clone, Copy, Debug, PartialEq, Eq)]
+#[derive(Clone, Copy)]
 pub struct SetResult {
     /// The number of the vector set.
     pub vs: u64,
@@ -75,13 +76,17 @@ impl Shows<Session> for Sessions {
         let created = session.created.created_on(alloc)?;
         let expires = session.created.expires_on(alloc)?;
         let url = session_url(alloc, session.number)?;
-        json!(in alloc; {
-            "createdOn": created,
-            "expiresOn": expires,
-            "isSample": session.sample,
-            "status": session_word(session.status),
-            "url": url
-        })
+        object(
+            alloc,
+            &[("status", session_word(session.status))],
+            &["createdOn", "expiresOn", "isSample", "url"],
+            [
+                Value::String(created),
+                Value::String(expires),
+                Value::Bool(session.sample),
+                Value::String(url),
+            ],
+        )
     }
 }
 
@@ -98,15 +103,26 @@ pub(crate) fn session_value(
     let expires = session.created.expires_on(alloc)?;
     let url = session_url(alloc, session.number)?;
     let sets = array(alloc, &SetUrls, sets)?;
-    json!(in alloc; {
-        "createdOn": created,
-        "expiresOn": expires,
-        "isSample": session.sample,
-        "passed": passed,
-        "status": session_word(session.status),
-        "url": url,
-        "vectorSetUrls": sets
-    })
+    object(
+        alloc,
+        &[("status", session_word(session.status))],
+        &[
+            "createdOn",
+            "expiresOn",
+            "isSample",
+            "passed",
+            "url",
+            "vectorSetUrls",
+        ],
+        [
+            Value::String(created),
+            Value::String(expires),
+            Value::Bool(session.sample),
+            Value::Bool(passed),
+            Value::String(url),
+            sets,
+        ],
+    )
 }
 
 /// A new session, a token that is bound to it, and its vector sets.
@@ -123,20 +139,24 @@ pub(crate) fn new_session_value(
     let expires = created.expires_on(alloc)?;
     let url = session_url(alloc, number)?;
     let sets = array(alloc, &SetUrls, sets)?;
-    json!(in alloc; {
-        "accessToken": token,
-        "createdOn": created_on,
-        "expiresOn": expires,
-        "url": url,
-        "vectorSetUrls": sets
-    })
+    object(
+        alloc,
+        &[("accessToken", token)],
+        &["createdOn", "expiresOn", "url", "vectorSetUrls"],
+        [
+            Value::String(created_on),
+            Value::String(expires),
+            Value::String(url),
+            sets,
+        ],
+    )
 }
 
 /// What became of a session, a vector set, its answers or a request, and its URL.
 pub(crate) fn outcome_value(alloc: Global, word: &str, url: String) -> Result<Value, AllocError>
     ensures { IfOk result (λ value. view value ≡ outcome_data word.now (string_bytes url)) }
 {
-    json!(in alloc; {"status": word, "url": url})
+    object(alloc, &[("status", word)], &["url"], [Value::String(url)])
 }
 
 /// The vector sets of a session.
@@ -144,7 +164,7 @@ pub(crate) fn sets_value(alloc: Global, sets: &[u64]) -> Result<Value, AllocErro
     ensures { IfOk result (λ value. view value ≡ sets_data sets.now) }
 {
     let sets = array(alloc, &SetUrls, sets)?;
-    json!(in alloc; {"vectorSetUrls": sets})
+    object(alloc, &[], &["vectorSetUrls"], [sets])
 }
 
 /// What each vector set of a session comes to.
@@ -155,7 +175,12 @@ impl Shows<SetResult> for SetResults {
 
     fn value(&self, alloc: Global, set: &SetResult) -> Result<Value, AllocError> {
         let url = set_url(alloc, set.vs)?;
-        json!(in alloc; {"status": disposition_word(set.disposition), "vectorSetUrl": url})
+        object(
+            alloc,
+            &[("status", disposition_word(set.disposition))],
+            &["vectorSetUrl"],
+            [Value::String(url)],
+        )
     }
 }
 
@@ -168,5 +193,10 @@ pub(crate) fn session_results_value(
     ensures { IfOk result (λ value. view value ≡ session_results_data passed sets.now) }
 {
     let results = array(alloc, &SetResults, sets)?;
-    json!(in alloc; {"passed": passed, "results": results})
+    object(
+        alloc,
+        &[],
+        &["passed", "results"],
+        [Value::Bool(passed), results],
+    )
 }

@@ -4,8 +4,9 @@ ghost use Rattle.std.specs.List.{enumerate_from};
 ghost use Rattle.serde_json.specs.View.{view};
 ghost use Rattle.acvp_json.specs.SetResults.{verdict_word, disposition_word, result_data, set_results_data};
 
+use crate::object::object;
 use acvp_answers::{Disposition, Verdict};
-use serde_json::{Value, json};
+use serde_json::Value;
 use std::alloc::{AllocError, Global};
 
 /// The word for what an answer comes to.
@@ -36,7 +37,12 @@ pub(crate) fn disposition_word(disposition: Disposition) -> &'static str
 fn result_value(alloc: Global, number: u64, verdict: Verdict) -> Result<Value, AllocError>
     ensures { IfOk result (λ value. view value ≡ result_data (number, verdict)) }
 {
-    json!(in alloc; {"result": verdict_word(verdict), "tcId": number})
+    object(
+        alloc,
+        &[("result", verdict_word(verdict))],
+        &["tcId"],
+        [Value::from(number)],
+    )
 }
 
 /// The results of tests that are numbered from 1 on.
@@ -60,5 +66,10 @@ pub(crate) fn set_results_value(
     ensures { IfOk result (λ value. view value ≡ set_results_data vs disposition verdicts.now) }
 {
     let results = Value::Array(result_values(alloc, verdicts)?);
-    json!(in alloc; {"disposition": disposition_word(disposition), "tests": results, "vsId": vs})
+    object(
+        alloc,
+        &[("disposition", disposition_word(disposition))],
+        &["tests", "vsId"],
+        [results, Value::from(vs)],
+    )
 }

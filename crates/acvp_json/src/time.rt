@@ -35,7 +35,7 @@ pub fn time_text(alloc: Global, moment: u64) -> Result<String, AllocError>
 }
 
 /// When a test session was created, in seconds since 1970: so early that it ends before the year 10000.
-#[derive(Clone, Copy, Debug)]
+#[derive(Clone, Copy)]
 pub struct Created {
     moment: u64,
 }

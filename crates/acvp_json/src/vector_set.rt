@@ -5,8 +5,9 @@ ghost use Rattle.acvp_gen.specs.Prompt.{kind_of};
 ghost use Rattle.acvp_json.specs.VectorSet.{type_word, hash_test_data, mac_test_data, hash_group_data, mac_group_data, group_data, vector_set_data};
 
 use crate::array::{Shows, array};
+use crate::object::object;
 use acvp_gen::{Group, GroupForm, GroupKind, Prompts, Sizes, Test};
-use serde_json::{Value, json};
+use serde_json::Value;
 use std::alloc::{AllocError, Global};
 
 /// The word for what the tests of a group ask for.
@@ -27,7 +28,16 @@ impl Shows<Test> for HashTests {
 
     fn value(&self, alloc: Global, test: &Test) -> Result<Value, AllocError> {
         let message = hex::encode(alloc, test.message())?;
-        json!(in alloc; {"len": test.bits(), "msg": message, "tcId": test.number()})
+        object(
+            alloc,
+            &[],
+            &["len", "msg", "tcId"],
+            [
+                Value::from(test.bits()),
+                Value::String(message),
+                Value::from(test.number()),
+            ],
+        )
     }
 }
 
@@ -40,7 +50,16 @@ impl Shows<Test> for MacTests {
     fn value(&self, alloc: Global, test: &Test) -> Result<Value, AllocError> {
         let key = hex::encode(alloc, test.key())?;
         let message = hex::encode(alloc, test.message())?;
-        json!(in alloc; {"key": key, "msg": message, "tcId": test.number()})
+        object(
+            alloc,
+            &[],
+            &["key", "msg", "tcId"],
+            [
+                Value::String(key),
+                Value::String(message),
+                Value::from(test.number()),
+            ],
+        )
     }
 }
 
@@ -49,7 +68,12 @@ fn hash_group_value(alloc: Global, group: &Group) -> Result<Value, AllocError>
     ensures { IfOk result (λ value. view value ≡ hash_group_data group.now) }
 {
     let tests = array(alloc, &HashTests, group.tests())?;
-    json!(in alloc; {"testType": type_word(group.kind()), "tests": tests, "tgId": group.number()})
+    object(
+        alloc,
+        &[("testType", type_word(group.kind()))],
+        &["tests", "tgId"],
+        [tests, Value::from(group.number())],
+    )
 }
 
 /// A group of HMAC.
@@ -57,14 +81,18 @@ fn mac_group_value(alloc: Global, sizes: Sizes, group: &Group) -> Result<Value, 
     ensures { IfOk result (λ value. view value ≡ mac_group_data sizes group.now) }
 {
     let tests = array(alloc, &MacTests, group.tests())?;
-    json!(in alloc; {
-        "keyLen": sizes.key_bits,
-        "macLen": sizes.mac_bits,
-        "msgLen": sizes.message_bits,
-        "testType": type_word(group.kind()),
-        "tests": tests,
-        "tgId": group.number()
-    })
+    object(
+        alloc,
+        &[("testType", type_word(group.kind()))],
+        &["keyLen", "macLen", "msgLen", "tests", "tgId"],
+        [
+            Value::from(sizes.key_bits),
+            Value::from(sizes.mac_bits),
+            Value::from(sizes.message_bits),
+            tests,
+            Value::from(group.number()),
+        ],
+    )
 }
 
 /// The groups of a vector set.
@@ -90,11 +118,13 @@ pub(crate) fn vector_set_value(
     ensures { IfOk result (λ value. view value ≡ vector_set_data sample prompts.now) }
 {
     let groups = array(alloc, &Groups, prompts.groups())?;
-    json!(in alloc; {
-        "algorithm": prompts.algorithm().name(),
-        "isSample": sample,
-        "revision": "1.0",
-        "testGroups": groups,
-        "vsId": prompts.vs()
-    })
+    object(
+        alloc,
+        &[
+            ("algorithm", prompts.algorithm().name()),
+            ("revision", "1.0"),
+        ],
+        &["isSample", "testGroups", "vsId"],
+        [Value::Bool(sample), groups, Value::from(prompts.vs())],
+    )
 }

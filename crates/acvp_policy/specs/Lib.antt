@@ -7,3 +7,4 @@ pub mod Granted
 pub mod Decision
 pub mod Callers
 pub mod Kinds
+pub use Rattle.acvp_token.specs.SessionNumber

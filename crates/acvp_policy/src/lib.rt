@@ -2,6 +2,7 @@
 #![tactic(auto)]
 
 pub use action::{Action, Scope};
+pub use acvp_token::Claims;
 pub use facts::{
     CertificationStatus, Facts, LoginFacts, Renewal, ReviewerSubject, RowSubject, SessionFacts,
     SessionSubject, SetFacts, SetSubject, Standing, Subject, Token, UserFacts,

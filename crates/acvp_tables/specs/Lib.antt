@@ -1,0 +1,9 @@
+pub mod Graded
+pub mod Content
+pub mod Calls
+pub mod Changes
+pub mod State
+pub mod StateChanges
+pub mod Own
+pub mod Covers
+pub mod Private

@@ -1,0 +1,27 @@
+//! The records that the server keeps: their rows, how each is looked up, and how each change leaves them; and their
+//! plain form, in lists.
+#![tactic(auto)]
+
+mod change;
+mod graded;
+mod laws;
+mod list;
+mod rows;
+mod summary;
+mod tables;
+#[cfg(test)]
+mod tests;
+
+pub use change::{
+    Approval, CancelledSet, Change, KeptAnswers, NewAccount, NewCertification, NewRequest,
+    NewSession, OrderChange, UsedStep,
+};
+pub use graded::Graded;
+pub use laws::{changes_are_of_one_account, numbers_tell, state_follows};
+pub use list::ListTables;
+pub use rows::{
+    AccountRow, Certification, ObjectRow, RequestBody, RequestRow, RequestStatus, ReviewerRow,
+    SessionRow, SetRow,
+};
+pub use summary::{Counts, RequestSubject, RequestSummary, SetSummary};
+pub use tables::{StoreFault, Tables};

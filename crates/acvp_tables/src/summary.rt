@@ -1,0 +1,43 @@
+//! What is read of a row without the parts of it that take memory.
+
+use crate::rows::{Certification, RequestStatus};
+use acvp_answers::Disposition;
+use acvp_registry::Kind;
+
+/// A vector set without its capability and answers.
+#[derive(Clone, Copy)]
+pub struct SetSummary {
+    pub number: u64,
+    pub session: u64,
+    pub epoch: u64,
+    pub cancelled: bool,
+
+    /// What its last answers came to; none where no answers are kept.
+    pub disposition: Option<Disposition>,
+}
+
+/// What a request asks for: the registration of an object of a kind, or a certification.
+#[derive(Clone, Copy)]
+pub enum RequestSubject {
+    Registration(Kind),
+    Certification(Certification),
+}
+
+/// A request without the object that it asks to register.
+#[derive(Clone, Copy)]
+pub struct RequestSummary {
+    pub number: u64,
+    pub account: u16,
+    pub subject: RequestSubject,
+    pub status: RequestStatus,
+}
+
+/// How many rows of each kind an account has.
+#[derive(Clone, Copy)]
+pub struct Counts {
+    pub sessions: u64,
+    pub vendors: u64,
+    pub modules: u64,
+    pub environments: u64,
+    pub requests: u64,
+}

@@ -1,0 +1,596 @@
+//! The records as lists, by numbers worked by hand.
+
+ghost use Rattle.std.specs.Prelude.{◌≡◌, ◌<◌, IfOk};
+ghost use Rattle.acvp_policy.specs.declared.action.Action.TheVariants as action;
+ghost use Rattle.acvp_policy.specs.declared.resource.Resource.TheVariants as resource;
+ghost use Rattle.acvp_tables.specs.Changes.{after_order};
+ghost use Rattle.acvp_tables.specs.Content.{Content, account_at};
+ghost use Rattle.acvp_tables.specs.Covers.{Covers, HasSmallNumber};
+ghost use Rattle.acvp_tables.specs.State.{IsSound};
+ghost use Rattle.acvp_tables.specs.declared.change.OrderChange.TheVariants as order;
+
+use crate::{
+    AccountRow, Approval, CancelledSet, Certification, Change, Graded, KeptAnswers, ListTables,
+    NewAccount, NewCertification, NewRequest, NewSession, OrderChange, RequestStatus, ReviewerRow,
+    StoreFault, Tables, UsedStep,
+};
+use acvp_answers::{Answers, Disposition, Verdict};
+use acvp_caps::read_registration;
+use acvp_policy::{
+    Action, Claims, Facts, LoginFacts, Renewal, ReviewerSubject, SessionFacts, SessionSubject,
+    SetFacts, SetSubject, Standing, Subject, Token, UserFacts, decide,
+};
+use acvp_registry::{Kind, body_value, read_object};
+use std::alloc::Global;
+use std::test::Fail;
+
+/// The secret of every account here.
+const SECRET: [u8; 32] = [49; 32];
+
+/// When every session here was created.
+const CREATED: u64 = 60;
+
+/// Two capabilities.
+const REGISTRATION: &str =
+    r#"{"algorithms":[{"algorithm":"SHA2-256","messageLength":[8],"revision":"1.0"},{"algorithm":"SHA2-512","messageLength":[8],"revision":"1.0"}],"isSample":false}"#;
+
+/// A vendor.
+const VENDOR: &str = r#"{"name":"V"}"#;
+
+/// A session that is open, whose sets have all passed.
+fn open_session() -> SessionFacts {
+    SessionFacts {
+        cancelled: false,
+        created: CREATED,
+        sample: false,
+        certification: None,
+        passed: true,
+    }
+}
+
+/// Adds an account that isn't there, and reads it: three calls over any tables.
+fn add_and_read<T: Tables>(
+    tables: &mut T,
+    account: NewAccount,
+) -> Result<Option<AccountRow>, StoreFault>
+    ensures { T.is_live tables.new → IfOk result (λ found. (c : Content) → IsSound c → IsSound (after_order (order.AddAccount account) c) → T.stands tables.old c
+        → (found ≡ account_at account.account (after_order (order.AddAccount account) c).accounts) × T.stands tables.new (after_order (order.AddAccount account) c)) }
+{
+    if tables.account(account.account)?.is_some() {
+        return Err(StoreFault::Refused);
+    }
+    tables.order(&OrderChange::AddAccount(account))?;
+    tables.account(account.account)
+}
+
+/// Applies what an account may change of its own rows.
+fn on_account(tables: &mut ListTables, account: u16, action: Action, change: &Change) -> bool
+    requires covers { Covers (record { action = action; account = account; resource = resource.Account }) change.now }
+    requires number { HasSmallNumber change.now }
+{
+    let facts = Facts {
+        moment: CREATED,
+        token: Token::Verified(Claims {
+            account,
+            session: None,
+            issued: CREATED,
+            expires: 1860,
+        }),
+        standing: Standing::Enabled,
+        reviewer: false,
+        subject: Subject::Account,
+    };
+    match decide(action, &facts) {
+        Ok(grant) => tables.apply(grant, change).is_ok(),
+        Err(_) => false,
+    }
+}
+
+/// Applies what an account may change of a session.
+fn on_session(
+    tables: &mut ListTables,
+    account: u16,
+    session: u64,
+    action: Action,
+    change: &Change,
+) -> bool
+    requires covers { Covers (record { action = action; account = account; resource = resource.Session session }) change.now }
+    requires number { HasSmallNumber change.now }
+{
+    let facts = Facts {
+        moment: CREATED,
+        token: Token::Verified(Claims {
+            account,
+            session: Some(session),
+            issued: CREATED,
+            expires: 1860,
+        }),
+        standing: Standing::Enabled,
+        reviewer: false,
+        subject: Subject::Session(SessionSubject {
+            session,
+            found: Some(open_session()),
+        }),
+    };
+    match decide(action, &facts) {
+        Ok(grant) => tables.apply(grant, change).is_ok(),
+        Err(_) => false,
+    }
+}
+
+/// Applies what an account may change of a vector set.
+fn on_set(
+    tables: &mut ListTables,
+    account: u16,
+    session: u64,
+    set: u64,
+    action: Action,
+    change: &Change,
+) -> bool
+    requires covers { Covers (record { action = action; account = account; resource = resource.Set session set }) change.now }
+    requires number { HasSmallNumber change.now }
+{
+    let facts = Facts {
+        moment: CREATED,
+        token: Token::Verified(Claims {
+            account,
+            session: Some(session),
+            issued: CREATED,
+            expires: 1860,
+        }),
+        standing: Standing::Enabled,
+        reviewer: false,
+        subject: Subject::Set(SetSubject {
+            session,
+            set,
+            found: Some(SetFacts {
+                session: open_session(),
+                cancelled: false,
+                answered: false,
+            }),
+        }),
+    };
+    match decide(action, &facts) {
+        Ok(grant) => tables.apply(grant, change).is_ok(),
+        Err(_) => false,
+    }
+}
+
+/// Applies what an account may change of a reviewer of a session.
+fn on_reviewer(
+    tables: &mut ListTables,
+    account: u16,
+    session: u64,
+    reviewer: u64,
+    action: Action,
+    change: &Change,
+) -> bool
+    requires covers { Covers (record { action = action; account = account; resource = resource.Reviewer session reviewer }) change.now }
+    requires number { HasSmallNumber change.now }
+{
+    let facts = Facts {
+        moment: CREATED,
+        token: Token::Verified(Claims {
+            account,
+            session: Some(session),
+            issued: CREATED,
+            expires: 1860,
+        }),
+        standing: Standing::Enabled,
+        reviewer: false,
+        subject: Subject::Reviewer(ReviewerSubject {
+            session,
+            reviewer,
+            found: Some(open_session()),
+        }),
+    };
+    match decide(action, &facts) {
+        Ok(grant) => tables.apply(grant, change).is_ok(),
+        Err(_) => false,
+    }
+}
+
+/// Applies what the login of an account changes.
+fn on_login(tables: &mut ListTables, account: u16, step: u64, change: &Change) -> bool
+    requires covers { Covers (record { action = action.Login; account = account; resource = resource.Account }) change.now }
+    requires number { HasSmallNumber change.now }
+{
+    let facts = Facts {
+        moment: CREATED,
+        token: Token::Missing,
+        standing: Standing::Absent,
+        reviewer: false,
+        subject: Subject::Login(LoginFacts {
+            user: Some(UserFacts {
+                account,
+                enabled: true,
+                step: Some(step),
+            }),
+            renewal: Renewal::Unasked,
+        }),
+    };
+    match decide(Action::Login, &facts) {
+        Ok(grant) => tables.apply(grant, change).is_ok(),
+        Err(_) => false,
+    }
+}
+
+/// Adds a session with two vector sets.
+fn add_session(alloc: Global, tables: &mut ListTables, account: u16, number: u64) -> bool
+    requires { number < 100000000000 }
+{
+    let Ok(value) = body_value(alloc, REGISTRATION.as_bytes()) else {
+        return false;
+    };
+    let Ok(registration) = read_registration(alloc, &value) else {
+        return false;
+    };
+    let session = NewSession {
+        number,
+        account,
+        created: CREATED,
+        epoch: 2,
+        registration,
+    };
+    on_account(
+        tables,
+        account,
+        Action::NewSession,
+        &Change::NewSession(session),
+    )
+}
+
+/// Adds a request for the registration of a vendor.
+fn ask_for_vendor(alloc: Global, tables: &mut ListTables, account: u16, number: u64) -> bool {
+    let Ok(value) = body_value(alloc, VENDOR.as_bytes()) else {
+        return false;
+    };
+    let Ok(object) = read_object(alloc, Kind::Vendor, &value) else {
+        return false;
+    };
+    let request = NewRequest {
+        number,
+        account,
+        object,
+    };
+    on_account(
+        tables,
+        account,
+        Action::NewVendor,
+        &Change::NewRequest(request),
+    )
+}
+
+/// Keeps answers with one verdict.
+fn keep_answers(
+    alloc: Global,
+    tables: &mut ListTables,
+    set: u64,
+    verdict: Verdict,
+    passed: u64,
+) -> bool {
+    let mut verdicts = Vec::new(alloc);
+    if verdicts.push(verdict).is_err() {
+        return false;
+    }
+    let kept = KeptAnswers {
+        session: 7000001,
+        set,
+        graded: Graded::new(Answers::new(alloc), verdicts),
+        passed,
+    };
+    on_set(
+        tables,
+        7,
+        7000001,
+        set,
+        Action::Submit,
+        &Change::KeepAnswers(kept),
+    )
+}
+
+/// The numbers of a session's sets that aren't cancelled, and what their answers came to.
+fn sets_of(
+    alloc: Global,
+    tables: &mut ListTables,
+    session: u64,
+) -> Result<Vec<(u64, Option<Disposition>)>, StoreFault> {
+    let mut found = Vec::new(alloc);
+    for set in tables.sets_of(session)? {
+        if found.push((set.number, set.disposition)).is_err() {
+            return Err(StoreFault::Memory);
+        }
+    }
+    Ok(found)
+}
+
+/// How many sets a session has, and how many have passed.
+fn counters(tables: &mut ListTables, session: u64) -> Result<Option<(u64, u64)>, StoreFault> {
+    match tables.session(session)? {
+        Some(row) => Ok(Some((row.live, row.passed))),
+        None => Ok(None),
+    }
+}
+
+/// The numbers of vendors of account 7 on a page.
+fn vendors(
+    alloc: Global,
+    tables: &mut ListTables,
+    offset: u64,
+    limit: u64,
+) -> Result<Vec<u64>, StoreFault> {
+    let mut found = Vec::new(alloc);
+    for row in tables.objects(Kind::Vendor, 7, offset, limit)? {
+        if found.push(row.number).is_err() {
+            return Err(StoreFault::Memory);
+        }
+    }
+    Ok(found)
+}
+
+#[test]
+fn sessions_of_two_accounts_are_numbered_apart(rt: HostRuntime) -> Result<(), Fail> {
+    let mut tables = ListTables::new(rt.alloc());
+    assert!(rt; add_session(rt.alloc(), &mut tables, 7, 7000001));
+    assert!(rt; add_session(rt.alloc(), &mut tables, 9, 9000001));
+    assert!(rt; add_session(rt.alloc(), &mut tables, 7, 7000002));
+    assert_eq!(rt; counters(&mut tables, 9000001), Ok(Some((2, 0))));
+    assert_eq!(rt; counters(&mut tables, 8000001), Ok(None));
+    let sets = sets_of(rt.alloc(), &mut tables, 7000002).expect(&rt, "sets");
+    assert_eq!(rt;
+        sets.as_slice(),
+        [(700000201, None), (700000202, None)].as_slice()
+    );
+    assert_eq!(rt; tables.greatest_epoch(), Ok(Some(2)));
+    let counts = tables.counts(7).expect(&rt, "counts");
+    assert_eq!(rt; (counts.sessions, counts.requests), (2, 0));
+    let page = tables.sessions(7, 1, 20).expect(&rt, "a page");
+    assert_eq!(rt; page.len(), 1);
+    Ok(())
+}
+
+#[test]
+fn the_last_answers_count_and_a_cancelled_set_does_not(rt: HostRuntime) -> Result<(), Fail> {
+    let alloc = rt.alloc();
+    let mut tables = ListTables::new(alloc);
+    assert!(rt; add_session(alloc, &mut tables, 7, 7000001));
+    assert!(rt; keep_answers(alloc, &mut tables, 700000101, Verdict::Fail, 0));
+    assert!(rt; keep_answers(alloc, &mut tables, 700000101, Verdict::Passed, 1));
+    assert_eq!(rt; counters(&mut tables, 7000001), Ok(Some((2, 1))));
+    let sets = sets_of(alloc, &mut tables, 7000001).expect(&rt, "sets");
+    assert_eq!(rt;
+        sets.as_slice(),
+        [(700000101, Some(Disposition::Passed)), (700000102, None)].as_slice()
+    );
+    let cancelled = CancelledSet {
+        session: 7000001,
+        set: 700000102,
+        live: 1,
+        passed: 1,
+    };
+    assert!(rt;
+        on_set(
+            &mut tables,
+            7,
+            7000001,
+            700000102,
+            Action::CancelSet,
+            &Change::CancelSet(cancelled)
+        )
+    );
+    assert_eq!(rt; counters(&mut tables, 7000001), Ok(Some((1, 1))));
+    let sets = sets_of(alloc, &mut tables, 7000001).expect(&rt, "sets");
+    assert_eq!(rt;
+        sets.as_slice(),
+        [(700000101, Some(Disposition::Passed))].as_slice()
+    );
+    let verdicts = tables
+        .verdicts(700000101)
+        .expect(&rt, "verdicts")
+        .expect(&rt, "answers");
+    assert_eq!(rt; verdicts.as_slice(), [Verdict::Passed].as_slice());
+    assert!(rt; tables.capability(700000101).expect(&rt, "a read").is_some());
+    assert!(rt;
+        on_session(
+            &mut tables,
+            7,
+            7000001,
+            Action::CancelSession,
+            &Change::CancelSession(7000001)
+        )
+    );
+    assert!(rt;
+        tables
+            .session(7000001)
+            .expect(&rt, "a read")
+            .expect(&rt, "a row")
+            .cancelled
+    );
+    Ok(())
+}
+
+#[test]
+fn an_approved_request_becomes_an_object(rt: HostRuntime) -> Result<(), Fail> {
+    let alloc = rt.alloc();
+    let mut tables = ListTables::new(alloc);
+    let account = add_and_read(
+        &mut tables,
+        NewAccount {
+            account: 7,
+            secret: SECRET,
+        },
+    );
+    assert!(rt;
+        account
+            .expect(&rt, "an account")
+            .expect(&rt, "a row")
+            .enabled
+    );
+    for number in [7000001, 7000002, 7000003, 7000004] {
+        assert!(rt; ask_for_vendor(alloc, &mut tables, 7, number));
+        let approval = Approval {
+            request: number,
+            approved: number,
+        };
+        assert_eq!(rt; tables.order(&OrderChange::Approve(approval)), Ok(()));
+    }
+    let request = tables
+        .request(7000001)
+        .expect(&rt, "a read")
+        .expect(&rt, "a row");
+    assert!(rt; matches!(request.status, RequestStatus::Approved(7000001)));
+    let object = tables
+        .object(Kind::Vendor, 7000001)
+        .expect(&rt, "a read")
+        .expect(&rt, "a row");
+    assert_eq!(rt; object.object.text(), VENDOR);
+    assert_eq!(rt; tables.owner(Kind::Vendor, 7000004), Ok(Some(7)));
+    assert_eq!(rt; tables.owner(Kind::Module, 7000004), Ok(None));
+    assert_eq!(rt;
+        vendors(alloc, &mut tables, 1, 2)
+            .expect(&rt, "a page")
+            .as_slice(),
+        [7000002, 7000003].as_slice()
+    );
+    assert_eq!(rt;
+        vendors(alloc, &mut tables, 4, 2)
+            .expect(&rt, "a page")
+            .as_slice(),
+        [].as_slice()
+    );
+    assert!(rt; ask_for_vendor(alloc, &mut tables, 7, 7000005));
+    assert_eq!(rt; tables.order(&OrderChange::Reject(7000005)), Ok(()));
+    let page = tables.requests(7, 4, 20).expect(&rt, "a page");
+    assert!(rt;
+        matches!(page.first(), Some(request) if matches!(request.status, RequestStatus::Rejected))
+    );
+    Ok(())
+}
+
+#[test]
+fn a_certification_request_is_kept_with_its_session(rt: HostRuntime) -> Result<(), Fail> {
+    let mut tables = ListTables::new(rt.alloc());
+    assert!(rt; add_session(rt.alloc(), &mut tables, 7, 7000001));
+    let certification = Certification {
+        module: 7000001,
+        environment: 7000001,
+        session: 7000001,
+    };
+    let request = NewCertification {
+        number: 7000009,
+        account: 7,
+        certification,
+    };
+    assert!(rt;
+        on_session(
+            &mut tables,
+            7,
+            7000001,
+            Action::Certify,
+            &Change::Certify(request)
+        )
+    );
+    let session = tables
+        .session(7000001)
+        .expect(&rt, "a read")
+        .expect(&rt, "a row");
+    assert_eq!(rt; session.certify, Some(7000009));
+    let approval = Approval {
+        request: 7000009,
+        approved: 7000001,
+    };
+    assert_eq!(rt; tables.order(&OrderChange::Approve(approval)), Ok(()));
+    let request = tables
+        .request(7000009)
+        .expect(&rt, "a read")
+        .expect(&rt, "a row");
+    assert!(rt; matches!(request.status, RequestStatus::Approved(7000001)));
+    assert_eq!(rt; tables.counts(7).expect(&rt, "counts").vendors, 0);
+    Ok(())
+}
+
+#[test]
+fn reviewers_are_told_once_and_ascending(rt: HostRuntime) -> Result<(), Fail> {
+    let mut tables = ListTables::new(rt.alloc());
+    for account in [9, 8, 9, 12] {
+        let reviewer = ReviewerRow {
+            session: 7000001,
+            account,
+        };
+        assert!(rt;
+            on_session(
+                &mut tables,
+                7,
+                7000001,
+                Action::AddReviewer,
+                &Change::AddReviewer(reviewer)
+            )
+        );
+    }
+    let reviewers = tables.reviewers_of(7000001).expect(&rt, "a read");
+    assert_eq!(rt; reviewers.as_slice(), [8, 9, 12].as_slice());
+    let reviewer = ReviewerRow {
+        session: 7000001,
+        account: 9,
+    };
+    assert!(rt;
+        on_reviewer(
+            &mut tables,
+            7,
+            7000001,
+            9,
+            Action::RemoveReviewer,
+            &Change::RemoveReviewer(reviewer)
+        )
+    );
+    assert_eq!(rt; tables.is_reviewer(7000001, 9), Ok(false));
+    assert_eq!(rt; tables.is_reviewer(7000001, 8), Ok(true));
+    assert_eq!(rt; tables.is_reviewer(7000002, 8), Ok(false));
+    Ok(())
+}
+
+#[test]
+fn a_used_step_and_a_disabled_account_are_kept(rt: HostRuntime) -> Result<(), Fail> {
+    let mut tables = ListTables::new(rt.alloc());
+    let added = NewAccount {
+        account: 7,
+        secret: SECRET,
+    };
+    assert_eq!(rt; tables.order(&OrderChange::AddAccount(added)), Ok(()));
+    let used = UsedStep {
+        account: 7,
+        step: 2,
+    };
+    assert!(rt; on_login(&mut tables, 7, 2, &Change::UseStep(used)));
+    assert_eq!(rt; tables.order(&OrderChange::DisableAccount(7)), Ok(()));
+    let account = tables.account(7).expect(&rt, "a read").expect(&rt, "a row");
+    assert_eq!(rt; (account.enabled, account.last_step), (false, Some(2)));
+    Ok(())
+}
+
+#[test]
+fn nothing_is_found_where_there_is_no_row(rt: HostRuntime) -> Result<(), Fail> {
+    let mut tables = ListTables::new(rt.alloc());
+    assert!(rt; tables.account(7).expect(&rt, "a read").is_none());
+    assert!(rt; tables.session(7000001).expect(&rt, "a read").is_none());
+    assert!(rt; tables.set(700000101).expect(&rt, "a read").is_none());
+    assert!(rt; tables.capability(700000101).expect(&rt, "a read").is_none());
+    assert!(rt; tables.verdicts(700000101).expect(&rt, "a read").is_none());
+    assert!(rt;
+        tables
+            .object(Kind::Vendor, 7000001)
+            .expect(&rt, "a read")
+            .is_none()
+    );
+    assert!(rt; tables.request(7000001).expect(&rt, "a read").is_none());
+    assert!(rt; tables.sets_of(7000001).expect(&rt, "a read").is_empty());
+    assert!(rt;
+        tables
+            .reviewers_of(7000001)
+            .expect(&rt, "a read")
+            .is_empty()
+    );
+    assert!(rt; tables.sessions(7, 0, 20).expect(&rt, "a read").is_empty());
+    assert_eq!(rt; tables.greatest_epoch(), Ok(None));
+    Ok(())
+}
