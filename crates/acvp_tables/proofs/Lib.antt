@@ -1,7 +1,15 @@
 pub mod ListLemmas
+pub mod Empty
 pub mod Follows
+pub mod CountedLemmas
+pub mod CountsKept
 pub mod Numbers
 pub mod OwnRows
+pub mod KeptLemmas
+pub mod KeptRows
+pub mod KeptRequests
+pub mod KeptSessions
+pub mod NumbersKept
 pub mod MadeLemmas
 pub mod OnceLemmas
 pub mod EpochLemmas

@@ -55,7 +55,7 @@ filter-within p q gives (r ∷ rows) = grind (arith, nat_tests, gives r, filter-
 -- ---- well numbered gives keyed
 
 -- what holds of each class of rows holds of all, said of each row's own class
-by_class : {R C : Type 0} (same : C → C → Bool) (class : R → C) (p : C → R → Bool) → ((c : C) → same c c ≡ true) → (rows : List R)
+pub by_class : {R C : Type 0} (same : C → C → Bool) (class : R → C) (p : C → R → Bool) → ((c : C) → same c c ≡ true) → (rows : List R)
     → ((c : C) → list_all (p c) (filter (λ r. same (class r) c) rows) ≡ true) → list_all (λ r. p (class r) r) rows ≡ true
 by_class same class p is [] all = refl
 by_class {C = C} same class p is (r ∷ rows) all =

@@ -112,7 +112,7 @@ own_same (change.KeepAnswers k) state fits = simp (filter_changed {R = SetRecord
 own_same (change.CancelSession n) state fits = simp (filter_changed {R = SessionRecord})
 own_same (change.CancelSet x) state fits = simp (filter_changed {R = SetRecord})
 own_same (change.NewRequest r) state fits = simp (filter-append, same r.account)
-own_same (change.Certify c) state fits = simp (filter-append, filter_changed {R = SessionRecord}, fits, same (owner_of c.certification.session))
+own_same (change.Certify c) state fits = simp (filter-append, filter_changed {R = SessionRecord}, fits.0, same (owner_of c.certification.session))
 own_same (change.AddReviewer r) state fits = simp (reviewer_own r state.reviewers)
 own_same (change.RemoveReviewer r) state fits = simp (filter_swap (λ (row : ReviewerRow). owner_of row.session == owner_of r.session) (λ row. not (is_pair r row)) state.reviewers)
 
@@ -161,7 +161,7 @@ own_other v (change.KeepAnswers k) state apart is fits = simp (others_sets v k.s
 own_other v (change.CancelSession n) state apart is fits = simp (others_sessions v n cancelled_session_record (λ r. refl) apart state is)
 own_other v (change.CancelSet x) state apart is fits = simp (others_sets v x.session x.set cancelled_set_record (λ r. refl) fits apart state is)
 own_other v (change.NewRequest r) state apart is fits = simp (filter-append, differs r.account v apart, append-nil)
-own_other v (change.Certify c) state apart is fits = simp (others_sessions v c.certification.session (certified_record c.number) (λ r. refl) apart state is, filter-append, fits, differs (owner_of c.certification.session) v apart, append-nil)
+own_other v (change.Certify c) state apart is fits = simp (others_sessions v c.certification.session (certified_record c.number) (λ r. refl) apart state is, filter-append, fits.0, differs (owner_of c.certification.session) v apart, append-nil)
 own_other v (change.AddReviewer r) state apart is fits = simp (reviewer_other v r state.reviewers apart)
 own_other v (change.RemoveReviewer r) state apart is fits = simp (filter_kept (λ (row : ReviewerRow). owner_of row.session == v) (λ row. not (is_pair r row)) (λ row e. removed_other v r row apart e) state.reviewers)
 

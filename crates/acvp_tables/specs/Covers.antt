@@ -1,5 +1,5 @@
 -- Which change a grant is leave for.
-use Rattle.std.specs.Prelude.{◌≡◌, ◌⊎◌, ◌<◌, ⊤}
+use Rattle.std.specs.Prelude.{◌≡◌, ◌⊎◌}
 use Rattle.acvp_policy.specs.Granted.{Granted}
 use Rattle.acvp_policy.specs.declared.action.Action.{Action}
 use Rattle.acvp_policy.specs.declared.action.Action.TheVariants as action
@@ -28,8 +28,3 @@ Covers g (change.NewRequest r) = (g.action ≡ request_action r.object.kind) × 
 Covers g (change.Certify c) = (g.action ≡ action.Certify) × (g.resource ≡ resource.Session c.certification.session) × (g.account ≡ c.account) × (g.account ≡ account_of_session c.certification.session)
 Covers g (change.AddReviewer r) = (g.action ≡ action.AddReviewer) × (g.resource ≡ resource.Session r.session) × (g.account ≡ account_of_session r.session)
 Covers g (change.RemoveReviewer r) = (g.action ≡ action.RemoveReviewer) × (g.resource ≡ resource.Reviewer r.session r.account) × (g.account ≡ account_of_session r.session)
-
--- a new session's number leaves room for those of its sets; a number of any account under 100000 does
-abbrev pub HasSmallNumber : Change → Type 0
-HasSmallNumber (change.NewSession s) = s.number < 100000000000
-HasSmallNumber _ = ⊤

@@ -5,5 +5,7 @@ pub mod Changes
 pub mod State
 pub mod StateChanges
 pub mod Own
+pub mod Next
+pub mod Counted
 pub mod Covers
 pub mod Private

@@ -30,5 +30,6 @@ abbrev pub Fits : Change → Type 0
 Fits (change.NewSession s) = owner_of s.number ≡ s.account
 Fits (change.KeepAnswers k) = (k.set / 100) ≡ k.session
 Fits (change.CancelSet x) = (x.set / 100) ≡ x.session
-Fits (change.Certify c) = c.account ≡ owner_of c.certification.session
+Fits (change.NewRequest r) = owner_of r.number ≡ r.account
+Fits (change.Certify c) = (c.account ≡ owner_of c.certification.session) × (owner_of c.number ≡ c.account)
 Fits _ = ⊤

@@ -1,11 +1,13 @@
 //! What holds of the records and of their changes, whoever keeps them.
 ghost use Rattle.std.specs.Prelude.{◌≡◌, ◌≢◌, ℕ, ◌/◌, [], None, ◌==◌, ◌&&◌, if◌then◌else◌};
 ghost use Rattle.acvp_registry.specs.declared.kind.Kind.{Kind};
-ghost use Rattle.acvp_tables.specs.Content.{Content, account_at, object_at, request_at, is_reviewer, reviewers_of};
-ghost use Rattle.acvp_tables.specs.State.{State, state_of, own, seen, may_see, owner_of, session_record_at, set_record_at, sets_in, live_records, IsWellNumbered};
+ghost use Rattle.acvp_tables.specs.Content.{Content, no_rows, account_at, object_at, request_at, is_reviewer, reviewers_of};
+ghost use Rattle.acvp_tables.specs.State.{State, state_of, own, seen, may_see, owner_of, session_record_at, set_record_at, sets_in, live_records, IsWellNumbered, IsSound};
 ghost use Rattle.acvp_tables.specs.Changes.{after, after_order};
 ghost use Rattle.acvp_tables.specs.StateChanges.{after_state, after_order_state};
+ghost use Rattle.acvp_tables.specs.Counted.{IsCounted, IsNextCount};
 ghost use Rattle.acvp_tables.specs.Own.{account_of_change, account_of_order, Fits};
+ghost use Rattle.acvp_tables.specs.Next.{IsNext, IsNextOrder};
 ghost use Rattle.acvp_tables.specs.declared.change.Change.{Change};
 ghost use Rattle.acvp_tables.specs.declared.change.OrderChange.{OrderChange};
 
@@ -41,4 +43,23 @@ pub fn changes_are_of_one_account()
     ensures others { (v : ℕ) (it : Change) (state : State) → account_of_change it ≢ v → IsWellNumbered state → Fits it → own v (after_state it state) ≡ own v state }
     ensures order { (it : OrderChange) (state : State) → IsWellNumbered state → own (account_of_order it) (after_order_state it state) ≡ after_order_state it (own (account_of_order it) state) }
     ensures ordered_others { (v : ℕ) (it : OrderChange) (state : State) → account_of_order it ≢ v → IsWellNumbered state → own v (after_order_state it state) ≡ own v state }
+{}
+
+/// A change keeps each session's counters right, where those that come with it are next; an order always does.
+pub fn counts_are_kept()
+    ensures change { (it : Change) (c : Content) → IsSound c → IsNextCount c it → IsCounted c → IsCounted (after it c) }
+    ensures order { (it : OrderChange) (c : Content) → IsCounted c → IsCounted (after_order it c) }
+{}
+
+/// Without a row the records are well numbered, and all counters are right.
+pub fn records_begin_well()
+    ensures numbered { IsSound no_rows }
+    ensures counted { IsCounted no_rows }
+{}
+
+/// A change keeps the records well numbered, where it is next: its new numbers are its account's next, and what it names is
+/// there.
+pub fn numbers_are_kept()
+    ensures change { (it : Change) (state : State) → IsWellNumbered state → IsNext state it → IsWellNumbered (after_state it state) }
+    ensures order { (it : OrderChange) (state : State) → IsWellNumbered state → IsNextOrder state it → IsWellNumbered (after_order_state it state) }
 {}

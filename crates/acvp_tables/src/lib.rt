@@ -17,7 +17,10 @@ pub use change::{
     NewSession, OrderChange, UsedStep,
 };
 pub use graded::Graded;
-pub use laws::{changes_are_of_one_account, numbers_tell, state_follows};
+pub use laws::{
+    changes_are_of_one_account, counts_are_kept, numbers_are_kept, numbers_tell,
+    records_begin_well, state_follows,
+};
 pub use list::ListTables;
 pub use rows::{
     AccountRow, Certification, ObjectRow, RequestBody, RequestRow, RequestStatus, ReviewerRow,

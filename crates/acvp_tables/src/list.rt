@@ -5,6 +5,7 @@ ghost use Rattle.std.proofs.Common.{inl, sym};
 ghost use Rattle.acvp_tables.specs.Content.{no_rows};
 ghost use Rattle.acvp_tables.specs.Changes.{after, after_order, is_set};
 ghost use Rattle.acvp_tables.specs.Private.Made.{IsMade};
+ghost use Rattle.acvp_tables.specs.State.{owner_of};
 ghost use Rattle.acvp_tables.specs.declared.change.Change.TheVariants as change;
 ghost use Rattle.acvp_tables.specs.declared.tables.StoreFault.TheVariants.{Memory};
 ghost use Rattle.acvp_tables.specs.declared.change.OrderChange.TheVariants as order;
@@ -103,7 +104,7 @@ impl ListTables {
     /// Adds a session and its sets.
     #[tactic(auto, unfolding(crate::specs::Changes::after))]
     fn add_session(&mut self, session: &NewSession) -> Result<(), StoreFault>
-        requires { session.now.number < 100000000000 }
+        requires { owner_of session.now.number ≡ session.now.account }
         ensures memory { IfErr result (λ fault. fault ≡ Memory) }
         ensures made { IsMade result self.old self.new (after (change.NewSession session.now)) }
     {

@@ -1,11 +1,13 @@
 //! The records as lists, by numbers worked by hand.
 
-ghost use Rattle.std.specs.Prelude.{◌≡◌, ◌<◌, IfOk};
+ghost use Rattle.std.specs.Prelude.{◌≡◌, ◌/◌, ◌<◌, IfOk};
 ghost use Rattle.acvp_policy.specs.declared.action.Action.TheVariants as action;
 ghost use Rattle.acvp_policy.specs.declared.resource.Resource.TheVariants as resource;
 ghost use Rattle.acvp_tables.specs.Changes.{after_order};
 ghost use Rattle.acvp_tables.specs.Content.{Content, account_at};
-ghost use Rattle.acvp_tables.specs.Covers.{Covers, HasSmallNumber};
+ghost use Rattle.acvp_tables.specs.Covers.{Covers};
+ghost use Rattle.acvp_tables.specs.Own.{Fits};
+ghost use Rattle.acvp_tables.specs.State.{owner_of};
 ghost use Rattle.acvp_tables.specs.State.{IsSound};
 ghost use Rattle.acvp_tables.specs.declared.change.OrderChange.TheVariants as order;
 
@@ -66,7 +68,7 @@ fn add_and_read<T: Tables>(
 /// Applies what an account may change of its own rows.
 fn on_account(tables: &mut ListTables, account: u16, action: Action, change: &Change) -> bool
     requires covers { Covers (record { action = action; account = account; resource = resource.Account }) change.now }
-    requires number { HasSmallNumber change.now }
+    requires fits { Fits change.now }
 {
     let facts = Facts {
         moment: CREATED,
@@ -95,7 +97,7 @@ fn on_session(
     change: &Change,
 ) -> bool
     requires covers { Covers (record { action = action; account = account; resource = resource.Session session }) change.now }
-    requires number { HasSmallNumber change.now }
+    requires fits { Fits change.now }
 {
     let facts = Facts {
         moment: CREATED,
@@ -128,7 +130,7 @@ fn on_set(
     change: &Change,
 ) -> bool
     requires covers { Covers (record { action = action; account = account; resource = resource.Set session set }) change.now }
-    requires number { HasSmallNumber change.now }
+    requires fits { Fits change.now }
 {
     let facts = Facts {
         moment: CREATED,
@@ -166,7 +168,7 @@ fn on_reviewer(
     change: &Change,
 ) -> bool
     requires covers { Covers (record { action = action; account = account; resource = resource.Reviewer session reviewer }) change.now }
-    requires number { HasSmallNumber change.now }
+    requires fits { Fits change.now }
 {
     let facts = Facts {
         moment: CREATED,
@@ -193,7 +195,7 @@ fn on_reviewer(
 /// Applies what the login of an account changes.
 fn on_login(tables: &mut ListTables, account: u16, step: u64, change: &Change) -> bool
     requires covers { Covers (record { action = action.Login; account = account; resource = resource.Account }) change.now }
-    requires number { HasSmallNumber change.now }
+    requires fits { Fits change.now }
 {
     let facts = Facts {
         moment: CREATED,
@@ -217,7 +219,7 @@ fn on_login(tables: &mut ListTables, account: u16, step: u64, change: &Change) -
 
 /// Adds a session with two vector sets.
 fn add_session(alloc: Global, tables: &mut ListTables, account: u16, number: u64) -> bool
-    requires { number < 100000000000 }
+    requires { owner_of number ≡ account }
 {
     let Ok(value) = body_value(alloc, REGISTRATION.as_bytes()) else {
         return false;
@@ -241,7 +243,9 @@ fn add_session(alloc: Global, tables: &mut ListTables, account: u16, number: u64
 }
 
 /// Adds a request for the registration of a vendor.
-fn ask_for_vendor(alloc: Global, tables: &mut ListTables, account: u16, number: u64) -> bool {
+fn ask_for_vendor(alloc: Global, tables: &mut ListTables, account: u16, number: u64) -> bool
+    requires { owner_of number ≡ account }
+{
     let Ok(value) = body_value(alloc, VENDOR.as_bytes()) else {
         return false;
     };
@@ -261,6 +265,18 @@ fn ask_for_vendor(alloc: Global, tables: &mut ListTables, account: u16, number: 
     )
 }
 
+/// Adds a request for a vendor of account 7, and approves it.
+fn register_vendor(alloc: Global, tables: &mut ListTables, number: u64) -> bool
+    requires { owner_of number ≡ 7 }
+{
+    let approval = Approval {
+        request: number,
+        approved: number,
+    };
+    ask_for_vendor(alloc, tables, 7, number)
+        && tables.order(&OrderChange::Approve(approval)).is_ok()
+}
+
 /// Keeps answers with one verdict.
 fn keep_answers(
     alloc: Global,
@@ -268,7 +284,9 @@ fn keep_answers(
     set: u64,
     verdict: Verdict,
     passed: u64,
-) -> bool {
+) -> bool
+    requires { set / 100 ≡ 7000001 }
+{
     let mut verdicts = Vec::new(alloc);
     if verdicts.push(verdict).is_err() {
         return false;
@@ -426,14 +444,10 @@ fn an_approved_request_becomes_an_object(rt: HostRuntime) -> Result<(), Fail> {
             .expect(&rt, "a row")
             .enabled
     );
-    for number in [7000001, 7000002, 7000003, 7000004] {
-        assert!(rt; ask_for_vendor(alloc, &mut tables, 7, number));
-        let approval = Approval {
-            request: number,
-            approved: number,
-        };
-        assert_eq!(rt; tables.order(&OrderChange::Approve(approval)), Ok(()));
-    }
+    assert!(rt; register_vendor(alloc, &mut tables, 7000001));
+    assert!(rt; register_vendor(alloc, &mut tables, 7000002));
+    assert!(rt; register_vendor(alloc, &mut tables, 7000003));
+    assert!(rt; register_vendor(alloc, &mut tables, 7000004));
     let request = tables
         .request(7000001)
         .expect(&rt, "a read")
@@ -591,6 +605,16 @@ fn nothing_is_found_where_there_is_no_row(rt: HostRuntime) -> Result<(), Fail> {
             .is_empty()
     );
     assert!(rt; tables.sessions(7, 0, 20).expect(&rt, "a read").is_empty());
+    assert!(rt;
+        tables
+            .objects(Kind::Vendor, 7, 0, 20)
+            .expect(&rt, "a read")
+            .is_empty()
+    );
+    assert!(rt; tables.requests(7, 0, 20).expect(&rt, "a read").is_empty());
+    assert_eq!(rt; tables.owner(Kind::Vendor, 7000001), Ok(None));
+    assert_eq!(rt; tables.is_reviewer(7000001, 9), Ok(false));
+    assert_eq!(rt; tables.counts(7).expect(&rt, "a read").sessions, 0);
     assert_eq!(rt; tables.greatest_epoch(), Ok(None));
     Ok(())
 }

@@ -1,6 +1,7 @@
 //! Vector sets as a list.
 ghost use Rattle.std.specs.Prelude.{◌≡◌, ◌≤◌, ◌<◌, IfOk, filter, length, option_map};
 ghost use Rattle.acvp_tables.specs.Content.{is_live_in, set_summary, set_verdicts, greater, greatest_epoch_of};
+ghost use Rattle.acvp_tables.specs.State.{owner_of};
 ghost use Rattle.acvp_tables.specs.Changes.{changed, is_set, cancelled_set, new_sets, with_graded};
 
 use crate::change::NewSession;
@@ -108,7 +109,7 @@ impl Edit<SetRow> for CancelSet {
 
 /// The rows of a new session's sets.
 pub(crate) fn new_sets(alloc: Global, session: &NewSession) -> Result<Vec<SetRow>, AllocError>
-    requires { session.now.number < 100000000000 }
+    requires { owner_of session.now.number ≡ session.now.account }
     ensures { IfOk result (λ rows. rows.items ≡ new_sets session.now.number session.now.epoch 1 session.now.registration.capabilities) }
 {
     let mut rows = Vec::new(alloc);

@@ -1,0 +1,60 @@
+-- When a change is next: its new numbers are its account's next, and what it names is there.
+use Rattle.std.specs.Prelude.{◌≡◌, ℕ, ◌+◌, ◌<◌, ◌≤◌, Bool, true, length, filter, ◌==◌, ◌||◌, nat_lt, [], Some, is_some, ⊤}
+use Rattle.acvp_tables.specs.Content.{is_reviewer, request_at}
+use Rattle.acvp_tables.specs.State.{State, own, owner_of, session_record_at, objects_in, names_rows, is_account_number, first_of_account}
+use Rattle.acvp_tables.specs.Own.{account_of_change, account_of_order, Fits}
+use Rattle.acvp_tables.specs.declared.rows.RequestRow.{RequestRow}
+use Rattle.acvp_tables.specs.declared.rows.RequestBody.{RequestBody}
+use Rattle.acvp_tables.specs.declared.rows.RequestBody.TheVariants as body
+use Rattle.acvp_tables.specs.declared.rows.RequestStatus.TheVariants as status
+use Rattle.acvp_tables.specs.declared.change.Change.{Change}
+use Rattle.acvp_tables.specs.declared.change.Change.TheVariants as change
+use Rattle.acvp_tables.specs.declared.change.OrderChange.{OrderChange}
+use Rattle.acvp_tables.specs.declared.change.OrderChange.TheVariants as order
+
+-- the number that an account gives after so many, of 999999 at most
+abbrev pub IsNextNumber : ℕ → ℕ → ℕ → Type 0
+IsNextNumber account so_many number = (number ≡ first_of_account account + so_many) × (so_many < 999999)
+
+-- of the session this reviewer is there, or at most 15
+abbrev pub has_room : ℕ → ℕ → State → Bool
+has_room session account mine =
+    is_reviewer session account mine.reviewers || nat_lt (length (filter (λ row. row.session == session) mine.reviewers)) 16
+
+-- an accepted action's change is next in its account's rows: a new session has 1 to 20 sets and was created at a moment
+-- that is served, what a new request names is there, and a new reviewer's session is there and has room
+abbrev pub IsNextFor : State → Change → Type 0
+IsNextFor mine (change.NewSession s) =
+    IsNextNumber s.account (length mine.sessions) s.number × (nat_lt s.created 4102444800 ≡ true)
+    × (1 ≤ length s.registration.capabilities) × (length s.registration.capabilities ≤ 20)
+IsNextFor mine (change.NewRequest r) = IsNextNumber r.account (length mine.requests) r.number × (names_rows mine (body.Registration r.object) ≡ true)
+IsNextFor mine (change.Certify c) =
+    IsNextNumber c.account (length mine.requests) c.number × (names_rows mine (body.Certification c.certification) ≡ true)
+IsNextFor mine (change.AddReviewer r) =
+    (is_some (session_record_at r.session mine.sessions) ≡ true) × (is_account_number r.account ≡ true) × (has_room r.session r.account mine ≡ true)
+IsNextFor mine _ = ⊤
+
+-- a request that the operator hasn't decided is there
+pub record IsWaiting (n : ℕ) (mine : State) : Type 0 where
+  pub row : RequestRow
+  pub there : request_at n mine.requests ≡ Some row
+  pub initial : row.status ≡ status.Initial
+
+-- the number under which a request is approved is its account's next for an object of the kind, or the certified session's
+abbrev pub IsNextApproved : ℕ → State → RequestBody → ℕ → Type 0
+IsNextApproved account mine (body.Registration object) number = number ≡ first_of_account account + length (objects_in object.kind mine.objects)
+IsNextApproved account mine (body.Certification c) number = number ≡ c.session
+
+-- an order's change is next in its account's rows: a new account isn't there yet, and a request that is decided waits
+abbrev pub IsNextOrderFor : State → OrderChange → Type 0
+IsNextOrderFor mine (order.AddAccount a) = (mine.accounts ≡ []) × (is_account_number a.account ≡ true)
+IsNextOrderFor mine (order.DisableAccount n) = ⊤
+IsNextOrderFor mine (order.Approve a) = (waiting : IsWaiting a.request mine) × IsNextApproved (owner_of a.request) mine waiting.row.body a.approved
+IsNextOrderFor mine (order.Reject n) = IsWaiting n mine
+
+-- a change is next among the rows of the account that it is of
+abbrev pub IsNext : State → Change → Type 0
+IsNext state it = Fits it × IsNextFor (own (account_of_change it) state) it
+
+abbrev pub IsNextOrder : State → OrderChange → Type 0
+IsNextOrder state it = IsNextOrderFor (own (account_of_order it) state) it
