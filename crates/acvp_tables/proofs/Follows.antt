@@ -1,13 +1,11 @@
 -- What a change makes of a content is what it makes of the records of it.
-use Rattle.std.proofs.Common.{◌≡◌, ℕ, ◌+◌, Bool, List, [], ◌∷◌, ◌++◌, map, refl, ap, arith}
+use Rattle.std.proofs.Common.{◌≡◌, Bool, List, [], ◌∷◌, map, refl, arith}
 use Rattle.std.proofs.lemmas.Bool.Decides.{nat_tests}
-use Rattle.acvp_caps.specs.Capability.{CapabilityValue}
+use Rattle.std.proofs.lemmas.List.{map-append}
 use Rattle.acvp_tables.specs.Content.{Content}
 use Rattle.acvp_tables.specs.State.{session_record, set_record, state_of}
-use Rattle.acvp_tables.specs.Changes.{changed, after, after_order, is_session, cancelled_session, with_certify, with_passed, with_counts, is_set, with_graded, cancelled_set, new_sets}
-use Rattle.acvp_tables.specs.StateChanges.{after_state, after_order_state, is_session_record, cancelled_session_record, certified_record, is_set_record, answered_record, cancelled_set_record, new_set_records}
-use Rattle.acvp_tables.specs.declared.rows.SessionRow.{SessionRow}
-use Rattle.acvp_tables.specs.declared.rows.SetRow.{SetRow}
+use Rattle.acvp_tables.specs.Changes.{changed, after, after_order, is_session, cancelled_session, with_certify, with_passed, with_counts, is_set, with_graded, cancelled_set}
+use Rattle.acvp_tables.specs.StateChanges.{after_state, after_order_state, is_session_record, cancelled_session_record, certified_record, is_set_record, answered_record, cancelled_set_record}
 use Rattle.acvp_tables.specs.declared.change.Change.{Change}
 use Rattle.acvp_tables.specs.declared.change.Change.TheVariants as change
 use Rattle.acvp_tables.specs.declared.change.OrderChange.{OrderChange}
@@ -19,22 +17,14 @@ map-changed g p f q h tests changes [] = refl
 map-changed g p f q h tests changes (r ∷ rows) = grind (arith, nat_tests, tests r, changes r, map-changed g p f q h tests changes rows)
 
 -- a change that their records don't tell
-map-unchanged : {R Q : Type 0} (g : R → Q) (p : R → Bool) (f : R → R) → ((r : R) → g (f r) ≡ g r) → (rows : List R) → map g (changed p f rows) ≡ map g rows
+pub map-unchanged : {R Q : Type 0} (g : R → Q) (p : R → Bool) (f : R → R) → ((r : R) → g (f r) ≡ g r) → (rows : List R) → map g (changed p f rows) ≡ map g rows
 map-unchanged g p f same [] = refl
 map-unchanged g p f same (r ∷ rows) = grind (arith, nat_tests, same r, map-unchanged g p f same rows)
-
-map-push : {R Q : Type 0} (g : R → Q) (xs ys : List R) → map g (xs ++ ys) ≡ map g xs ++ map g ys
-map-push g [] ys = refl
-map-push g (x ∷ xs) ys = ap (λ rest. g x ∷ rest) (map-push g xs ys)
-
-map-new_sets : (session epoch i : ℕ) (capabilities : List CapabilityValue) → map set_record (new_sets session epoch i capabilities) ≡ new_set_records session epoch i capabilities
-map-new_sets session epoch i [] = refl
-map-new_sets session epoch i (c ∷ rest) = simp (map-new_sets session epoch (i + 1) rest)
 
 pub follows : (c : Content) (it : Change) → state_of (after it c) ≡ after_state it (state_of c)
 unfolding state_of after after_state
 follows c (change.UseStep u) = refl
-follows c (change.NewSession s) = simp (map-push {R = SessionRow}, map-push {R = SetRow}, map-new_sets)
+follows c (change.NewSession s) = simp map-append
 follows c (change.KeepAnswers k) = simp (
   map-unchanged session_record (is_session k.session) (with_passed k.passed) (λ r. refl) c.sessions,
   map-changed set_record (is_set k.set) (with_graded k.graded) (is_set_record k.set) (answered_record k.graded.answers) (λ r. refl) (λ r. refl) c.sets,

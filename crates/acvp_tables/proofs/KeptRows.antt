@@ -3,8 +3,8 @@ use Rattle.std.proofs.Common.{◌≡◌, ℕ, ◌≤◌, ◌<◌, Bool, true, fa
 use Rattle.std.specs.Prelude.{filter, not, is_some, ◌==◌, ◌&&◌}
 use Rattle.std.specs.List.{list_all, list_any}
 use Rattle.std.proofs.lemmas.Bool.Decides.{nat_tests}
-use Rattle.acvp_tables.specs.Content.{is_reviewer}
-use Rattle.acvp_tables.specs.State.{State, SessionRecord, SetRecord, first_of_session, session_record_at, sets_in, is_account_number, registers_row, of_all, certifies, IsWellNumberedFor}
+use Rattle.acvp_tables.specs.Content.{account_at, is_reviewer}
+use Rattle.acvp_tables.specs.State.{State, SessionRecord, SetRecord, first_of_session, session_record_at, sets_in, is_account_number, is_account_row, has_rows, has_registered_as, of_all, certifies, IsWellNumberedFor}
 use Rattle.acvp_tables.specs.Changes.{changed, is_account, with_step, disabled, new_account, is_pair, with_reviewer}
 use Rattle.acvp_tables.specs.StateChanges.{after_state, after_order_state, is_set_record, answered_record, cancelled_set_record}
 use Rattle.acvp_tables.specs.Next.{IsNextFor, IsNextOrderFor}
@@ -19,8 +19,9 @@ use Rattle.acvp_tables.specs.declared.change.NewAccount.{NewAccount}
 use Rattle.acvp_tables.specs.declared.change.KeptAnswers.{KeptAnswers}
 use Rattle.acvp_tables.specs.declared.change.CancelledSet.{CancelledSet}
 use Rattle.acvp_tables.proofs.CountedLemmas.{all_append}
+use Rattle.acvp_tables.proofs.Numbers.{eqb_same}
 use Rattle.acvp_tables.proofs.OwnRows.{filter_changed}
-use Rattle.acvp_tables.proofs.KeptLemmas.{fewer, is_numbered-changed, length-changed, list_all-changed, list_all-filter, list_all_weaker, list_any-changed, none_pass, one_more}
+use Rattle.acvp_tables.proofs.KeptLemmas.{fewer, found-changed, found_last, length-changed, list_all-changed, list_all-filter, list_all_weaker, list_any-changed, none_pass, numbered-changed, one_more}
 
 -- ---- words
 
@@ -38,17 +39,18 @@ abbrev pub is_certified : List RequestRow → SessionRecord → Bool
 is_certified requests row = of_all (λ n. list_any (is_for row n) requests) row.certify
 
 abbrev pub is_registered : List RequestRow → ObjectRow → Bool
-is_registered requests object = list_any (registers_row object) requests
+is_registered requests object = list_any (has_registered_as object) requests
 
 -- ---- accounts
 
 -- where they alone change
 well_accounts : (u : ℕ) (rows : List AccountRow) (mine : State) → IsWellNumberedFor u mine → length rows ≤ 1
-    → list_all (λ row. is_account_number row.number) rows ≡ true
+    → list_all is_account_row rows ≡ true → (has_rows mine ≡ true → is_some (account_at u rows) ≡ true)
     → IsWellNumberedFor u (record mine { accounts = rows })
-well_accounts u rows mine well one all = record {
+well_accounts u rows mine well one all there = record {
   once = one;
   accounts = all;
+  there = there;
   sessions = well.sessions;
   few_sessions = well.few_sessions;
   requests = well.requests;
@@ -56,13 +58,14 @@ well_accounts u rows mine well one all = record {
   objects = well.objects;
   asked_for = well.asked_for;
   registered = well.registered;
+  given = well.given;
   sets = well.sets;
   few_sets = well.few_sets;
   some_sets = well.some_sets;
   set_sessions = well.set_sessions;
   certified = well.certified;
-  named = well.named;
-  vendors = well.vendors;
+  asked = well.asked;
+  kept = well.kept;
   created = well.created;
   reviewed = well.reviewed;
   reviewers = well.reviewers;
@@ -70,27 +73,29 @@ well_accounts u rows mine well one all = record {
   pairs_once = well.pairs_once;
 }
 
--- one of them changes, and not its number
-well_account : (u n : ℕ) (f : AccountRow → AccountRow) (mine : State) → ((r : AccountRow) → (f r).number ≡ r.number) → IsWellNumberedFor u mine
+-- one of them changes, and not its number and secret
+well_account : (u n : ℕ) (f : AccountRow → AccountRow) (mine : State) → ((r : AccountRow) → (f r).number ≡ r.number)
+    → ((r : AccountRow) → is_account_row (f r) ≡ is_account_row r) → IsWellNumberedFor u mine
     → IsWellNumberedFor u (record mine { accounts = changed (is_account n) f mine.accounts })
-well_account u n f mine keeps well = well_accounts u (changed (is_account n) f mine.accounts) mine well
+well_account u n f mine keeps stays well = well_accounts u (changed (is_account n) f mine.accounts) mine well
     (rw (length-changed (is_account n) f mine.accounts) well.once)
-    (list_all-changed (λ (row : AccountRow). is_account_number row.number) (is_account n) f
-    (λ r. ap (λ k. is_account_number k) (keeps r)) mine.accounts ∙ well.accounts)
+    (list_all-changed is_account_row (is_account n) f stays mine.accounts ∙ well.accounts)
+    (λ e. found-changed (λ (row : AccountRow). row.number) u (is_account n) f keeps mine.accounts ∙ well.there e)
 
 pub well_step : (u : ℕ) (x : UsedStep) (mine : State) → IsWellNumberedFor u mine → IsWellNumberedFor u (after_state (change.UseStep x) mine)
 unfolding after_state
-well_step u x mine well = well_account u x.account (with_step x.step) mine (λ r. refl) well
+well_step u x mine well = well_account u x.account (with_step x.step) mine (λ r. refl) (λ r. refl) well
 
 pub well_disabled : (u n : ℕ) (mine : State) → IsWellNumberedFor u mine → IsWellNumberedFor u (after_order_state (order.DisableAccount n) mine)
 unfolding after_order_state
-well_disabled u n mine well = well_account u n disabled mine (λ r. refl) well
+well_disabled u n mine well = well_account u n disabled mine (λ r. refl) (λ r. refl) well
 
-pub well_added : (u : ℕ) (a : NewAccount) (mine : State) → IsWellNumberedFor u mine → IsNextOrderFor mine (order.AddAccount a)
-    → IsWellNumberedFor u (after_order_state (order.AddAccount a) mine)
+pub well_added : (a : NewAccount) (mine : State) → IsWellNumberedFor a.account mine → IsNextOrderFor mine (order.AddAccount a)
+    → IsWellNumberedFor a.account (after_order_state (order.AddAccount a) mine)
 unfolding after_order_state
-well_added u a mine well next = well_accounts u (mine.accounts ++ new_account a ∷ []) mine well (rw next.0 (omega arith))
-    (all_append (λ (row : AccountRow). is_account_number row.number) mine.accounts (new_account a ∷ []) well.accounts (rw next.1 refl))
+well_added a mine well next = well_accounts a.account (mine.accounts ++ new_account a ∷ []) mine well (rw next.0 (omega arith))
+    (all_append is_account_row mine.accounts (new_account a ∷ []) well.accounts (rw next.1 refl))
+    (λ e. found_last (λ (row : AccountRow). row.number == a.account) mine.accounts (new_account a) (eqb_same a.account))
 
 -- ---- vector sets
 
@@ -101,6 +106,7 @@ well_set : (u v : ℕ) (f : SetRecord → SetRecord) (mine : State) → ((r : Se
 well_set u v f mine keeps stays well = record {
   once = well.once;
   accounts = well.accounts;
+  there = well.there;
   sessions = well.sessions;
   few_sessions = well.few_sessions;
   requests = well.requests;
@@ -108,15 +114,16 @@ well_set u v f mine keeps stays well = record {
   objects = well.objects;
   asked_for = well.asked_for;
   registered = well.registered;
+  given = well.given;
   sets = λ s. rw (in_session s)
-      (is_numbered-changed (λ (row : SetRecord). row.number) (first_of_session s) (is_set_record v) f keeps (sets_in s mine.sets) ∙ well.sets s);
+      (numbered-changed (λ (row : SetRecord). row.number) (first_of_session s) (is_set_record v) f keeps (sets_in s mine.sets) (well.sets s));
   few_sets = λ s. rw (in_session s) (rw (length-changed (is_set_record v) f (sets_in s mine.sets)) (well.few_sets s));
   some_sets = list_all_weaker (has_set mine.sets) (has_set (changed (is_set_record v) f mine.sets)) some mine.sessions well.some_sets;
   set_sessions = list_all-changed (λ (set : SetRecord). is_there mine.sessions set.session) (is_set_record v) f
       (λ r. ap (λ n. is_there mine.sessions n) (stays r)) mine.sets ∙ well.set_sessions;
   certified = well.certified;
-  named = well.named;
-  vendors = well.vendors;
+  asked = well.asked;
+  kept = well.kept;
   created = well.created;
   reviewed = well.reviewed;
   reviewers = well.reviewers;
@@ -152,6 +159,7 @@ well_reviewers : (u : ℕ) (rows : List ReviewerRow) (mine : State) → list_all
 well_reviewers u rows mine there fine few once well = record {
   once = well.once;
   accounts = well.accounts;
+  there = well.there;
   sessions = well.sessions;
   few_sessions = well.few_sessions;
   requests = well.requests;
@@ -159,13 +167,14 @@ well_reviewers u rows mine there fine few once well = record {
   objects = well.objects;
   asked_for = well.asked_for;
   registered = well.registered;
+  given = well.given;
   sets = well.sets;
   few_sets = well.few_sets;
   some_sets = well.some_sets;
   set_sessions = well.set_sessions;
   certified = well.certified;
-  named = well.named;
-  vendors = well.vendors;
+  asked = well.asked;
+  kept = well.kept;
   created = well.created;
   reviewed = there;
   reviewers = fine;

@@ -6,8 +6,8 @@ use Rattle.std.proofs.lemmas.Bool.Decides.{nat_tests}
 use Rattle.std.proofs.lemmas.List.Sums.{length-filter, count_by-le-length}
 use Rattle.acvp_registry.specs.declared.kind.Kind.{Kind}
 use Rattle.acvp_registry.specs.declared.kind.Kind.TheVariants.{Vendor, Module, Environment, Certification}
-use Rattle.acvp_tables.specs.Content.{Content, is_kind, is_reviewer, reviewers_of, account_at, object_at, request_at}
-use Rattle.acvp_tables.specs.State.{State, SessionRecord, SetRecord, state_of, set_record, owner_of, own, seen, may_see, session_record_at, set_record_at, sets_in, live_records, objects_in, is_numbered, registers, first_of_account, first_of_session, IsWellNumberedFor, IsWellNumbered}
+use Rattle.acvp_tables.specs.Content.{Content, is_kind, is_reviewer, account_at, object_at, request_at}
+use Rattle.acvp_tables.specs.State.{State, SessionRecord, SetRecord, state_of, set_record, IsNumbered, owner_of, own, seen, may_see, session_record_at, set_record_at, sets_in, live_records, objects_in, has_registered, first_of_account, first_of_session, IsWellNumberedFor, IsWellNumbered}
 use Rattle.acvp_tables.specs.Changes.{is_set}
 use Rattle.acvp_tables.specs.declared.rows.AccountRow.{AccountRow}
 use Rattle.acvp_tables.specs.declared.rows.SetRow.{SetRow}
@@ -67,24 +67,24 @@ by_class {C = C} same class p is (r ∷ rows) all =
     tail true c e = grind (arith, nat_tests, e)
     tail false c e = e
 
-numbered_of_account : {R : Type 0} (number : R → ℕ) (u i : ℕ) (rows : List R) → u * 1000000 ≤ i → i + length rows ≤ (u + 1) * 1000000 → is_numbered number i rows ≡ true → list_all (λ r. owner_of (number r) == u) rows ≡ true
+numbered_of_account : {R : Type 0} (number : R → ℕ) (u i : ℕ) (rows : List R) → u * 1000000 ≤ i → i + length rows ≤ (u + 1) * 1000000 → IsNumbered number i rows → list_all (λ r. owner_of (number r) == u) rows ≡ true
 numbered_of_account number u i [] low few e = refl
 numbered_of_account number u i (r ∷ rows) low few e =
-    let here : number r ≡ i = grind (arith, nat_tests, e) in
+    let here : number r ≡ i = cc (e) in
     let mine : owner_of i ≡ u = omega arith in
     let low' : u * 1000000 ≤ i + 1 = omega arith in
     let more : (i + 1) + length rows ≤ (u + 1) * 1000000 = omega arith in
-    let after : is_numbered number (i + 1) rows ≡ true = grind (arith, nat_tests, e) in
+    let after : IsNumbered number (i + 1) rows = cc (e) in
     grind (arith, nat_tests, here, mine, numbered_of_account number u (i + 1) rows low' more after)
 
-numbered_of_session : {R : Type 0} (number : R → ℕ) (s i : ℕ) (rows : List R) → s * 100 ≤ i → i + length rows ≤ (s + 1) * 100 → is_numbered number i rows ≡ true → list_all (λ r. (number r / 100) == s) rows ≡ true
+numbered_of_session : {R : Type 0} (number : R → ℕ) (s i : ℕ) (rows : List R) → s * 100 ≤ i → i + length rows ≤ (s + 1) * 100 → IsNumbered number i rows → list_all (λ r. (number r / 100) == s) rows ≡ true
 numbered_of_session number s i [] low few e = refl
 numbered_of_session number s i (r ∷ rows) low few e =
-    let here : number r ≡ i = grind (arith, nat_tests, e) in
+    let here : number r ≡ i = cc (e) in
     let mine : i / 100 ≡ s = omega arith in
     let low' : s * 100 ≤ i + 1 = omega arith in
     let more : (i + 1) + length rows ≤ (s + 1) * 100 = omega arith in
-    let after : is_numbered number (i + 1) rows ≡ true = grind (arith, nat_tests, e) in
+    let after : IsNumbered number (i + 1) rows = cc (e) in
     grind (arith, nat_tests, here, mine, numbered_of_session number s (i + 1) rows low' more after)
 
 pub same_kind : (kind : Kind) → is_kind kind kind ≡ true
@@ -100,9 +100,9 @@ length-filter_le : {R : Type 0} (p : R → Bool) (rows : List R) → length (fil
 length-filter_le p rows = omega (arith, length-filter p rows, count_by-le-length p rows)
 
 pub few_objects : (u : ℕ) (mine : State) (kind : Kind) → IsWellNumberedFor u mine → length (objects_in kind mine.objects) ≤ 999999
-few_objects u mine kind well = omega (arith, well.asked_for kind, well.few_requests, length-filter_le (registers kind) mine.requests)
+few_objects u mine kind well = omega (arith, well.asked_for kind, well.few_requests, length-filter_le (has_registered kind) mine.requests)
 
-sessions_keyed : (u : ℕ) (mine : State) → IsWellNumberedFor u mine → list_all (λ row. owner_of row.number == u) mine.sessions ≡ true
+pub sessions_keyed : (u : ℕ) (mine : State) → IsWellNumberedFor u mine → list_all (λ row. owner_of row.number == u) mine.sessions ≡ true
 sessions_keyed u mine well = numbered_of_account {R = SessionRecord} (λ row. row.number) u (first_of_account u) mine.sessions (omega arith) (omega (arith, well.few_sessions)) well.sessions
 
 requests_keyed : (u : ℕ) (mine : State) → IsWellNumberedFor u mine → list_all (λ row. owner_of row.number == u) mine.requests ≡ true
@@ -117,9 +117,9 @@ pub own_sets_in : (s : ℕ) (state : State) → sets_in s (own (owner_of s) stat
 unfolding own
 own_sets_in s state = filter-within (λ (row : SetRecord). row.session == s) (λ row. owner_of row.session == owner_of s) (λ row e. grind (arith, nat_tests, e)) state.sets
 
-sets_numbered : (state : State) → IsWellNumbered state → (s : ℕ) → is_numbered (λ row. row.number) (first_of_session s) (sets_in s state.sets) ≡ true
+sets_numbered : (state : State) → IsWellNumbered state → (s : ℕ) → IsNumbered (λ row. row.number) (first_of_session s) (sets_in s state.sets)
 unfolding IsWellNumbered
-sets_numbered state well s = subst (λ rows. is_numbered (λ row. row.number) (first_of_session s) rows ≡ true) (own_sets_in s state) ((well (owner_of s)).sets s)
+sets_numbered state well s = subst (λ rows. IsNumbered (λ row. row.number) (first_of_session s) rows) (own_sets_in s state) ((well (owner_of s)).sets s)
 
 sets_few : (state : State) → IsWellNumbered state → (s : ℕ) → length (sets_in s state.sets) ≤ 20
 unfolding IsWellNumbered
@@ -172,15 +172,6 @@ pub reviewer_found : (u s a : ℕ) (state : State) → is_reviewer s a (own u st
 unfolding own
 reviewer_found u s a state = any_told (λ (row : ReviewerRow). owner_of row.session == u) (λ row. (row.session == s) && (row.account == a)) (owner_of s == u) (λ row e. grind (arith, nat_tests, e)) state.reviewers
 
-pub reviewers_found : (u s : ℕ) (state : State) → reviewers_of s (own u state).reviewers ≡ (if owner_of s == u then reviewers_of s state.reviewers else [])
-unfolding own
-reviewers_found u s state = go (owner_of s == u) (filter_told (λ (row : ReviewerRow). owner_of row.session == u) (λ row. row.session == s) (owner_of s == u) (λ row e. grind (arith, nat_tests, e)) state.reviewers)
-  where
-    go : (b : Bool) → filter (λ row. row.session == s) (filter (λ row. owner_of row.session == u) state.reviewers) ≡ (if b then filter (λ row. row.session == s) state.reviewers else [])
-        → reviewers_of s (filter (λ row. owner_of row.session == u) state.reviewers) ≡ (if b then reviewers_of s state.reviewers else [])
-    go true e = rw e refl
-    go false e = rw e refl
-
 -- ---- look-ups among the rows that an account may see
 
 pub session_seen : (u n : ℕ) (state : State) → IsKeyed state → session_record_at n (seen u state).sessions ≡ (if may_see u (owner_of n) n state then session_record_at n state.sessions else None)
@@ -232,23 +223,23 @@ own_seen u state = simp (
 
 -- ---- no set's number is there twice
 
-none_below : {R : Type 0} (number : R → ℕ) (v i : ℕ) (rows : List R) → v < i → is_numbered number i rows ≡ true → length (filter (λ row. number row == v) rows) ≡ 0
+none_below : {R : Type 0} (number : R → ℕ) (v i : ℕ) (rows : List R) → v < i → IsNumbered number i rows → length (filter (λ row. number row == v) rows) ≡ 0
 none_below number v i [] low e = refl
 none_below number v i (r ∷ rows) low e =
-    let here : number r ≡ i = grind (arith, nat_tests, e) in
+    let here : number r ≡ i = cc (e) in
     let off : (number r == v) ≡ false = grind (arith, nat_tests, here, low) in
-    let rest : is_numbered number (i + 1) rows ≡ true = grind (arith, nat_tests, e) in
+    let rest : IsNumbered number (i + 1) rows = cc (e) in
     let low' : v < i + 1 = omega arith in
     rw off (none_below number v (i + 1) rows low' rest)
 
-once_numbered : {R : Type 0} (number : R → ℕ) (v i : ℕ) (rows : List R) → is_numbered number i rows ≡ true → length (filter (λ row. number row == v) rows) ≤ 1
+pub once_numbered : {R : Type 0} (number : R → ℕ) (v i : ℕ) (rows : List R) → IsNumbered number i rows → length (filter (λ row. number row == v) rows) ≤ 1
 once_numbered number v i [] e = omega arith
 once_numbered number v i (r ∷ rows) e =
-    let here : number r ≡ i = grind (arith, nat_tests, e) in
-    let rest : is_numbered number (i + 1) rows ≡ true = grind (arith, nat_tests, e) in
+    let here : number r ≡ i = cc (e) in
+    let rest : IsNumbered number (i + 1) rows = cc (e) in
     go (number r == v) refl here rest (once_numbered number v (i + 1) rows rest)
   where
-    go : (b : Bool) → (number r == v) ≡ b → number r ≡ i → is_numbered number (i + 1) rows ≡ true → length (filter (λ row. number row == v) rows) ≤ 1 → length (filter (λ row. number row == v) (r ∷ rows)) ≤ 1
+    go : (b : Bool) → (number r == v) ≡ b → number r ≡ i → IsNumbered number (i + 1) rows → length (filter (λ row. number row == v) rows) ≤ 1 → length (filter (λ row. number row == v) (r ∷ rows)) ≤ 1
     go true eb here rest few =
         let low : v < i + 1 = grind (arith, nat_tests, eb, here) in
         rw eb (omega (arith, none_below number v (i + 1) rows low rest))

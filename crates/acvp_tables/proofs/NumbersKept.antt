@@ -24,13 +24,13 @@ well_after (change.KeepAnswers k) mine well fits next = well_answered (owner_of 
 well_after (change.CancelSession n) mine well fits next = well_cancelled (owner_of n) n mine well
 well_after (change.CancelSet x) mine well fits next = well_cancelled_set (owner_of x.session) x mine well
 well_after (change.NewRequest r) mine well fits next = well_requested r mine well next
-well_after (change.Certify c) mine well fits next = well_certified c mine well fits next
+well_after (change.Certify c) mine well fits next = rw (← fits.0) (well_certified c mine (rw (← fits.0) at well) next)
 well_after (change.AddReviewer r) mine well fits next = well_reviewed (owner_of r.session) r mine well next
 well_after (change.RemoveReviewer r) mine well fits next = well_less_reviewer (owner_of r.session) r mine well
 
 well_after_order : (it : OrderChange) (mine : State) → IsWellNumberedFor (account_of_order it) mine → IsNextOrderFor mine it
     → IsWellNumberedFor (account_of_order it) (after_order_state it mine)
-well_after_order (order.AddAccount a) mine well next = well_added a.account a mine well next
+well_after_order (order.AddAccount a) mine well next = well_added a mine well next
 well_after_order (order.DisableAccount n) mine well next = well_disabled n n mine well
 well_after_order (order.Approve a) mine well next = well_approved a mine well next
 well_after_order (order.Reject n) mine well next = well_rejected (owner_of n) n mine well next

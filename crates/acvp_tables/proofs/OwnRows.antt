@@ -1,5 +1,5 @@
 -- What a change does to each account's rows.
-use Rattle.std.proofs.Common.{◌≡◌, ◌≢◌, ℕ, ◌+◌, ◌/◌, Bool, true, false, List, [], ◌∷◌, eqb, refl, ap, arith}
+use Rattle.std.proofs.Common.{◌≡◌, ◌≢◌, ℕ, ◌+◌, ◌/◌, Bool, true, false, List, [], ◌∷◌, map, eqb, refl, ap, arith}
 use Rattle.std.specs.Prelude.{filter, not, ◌==◌, ◌&&◌, if◌then◌else◌}
 use Rattle.std.specs.List.{list_all, list_any}
 use Rattle.std.proofs.lemmas.Bool.Decides.{nat_tests}
@@ -7,9 +7,9 @@ use Rattle.std.proofs.lemmas.List.Elements.{filter-append}
 use Rattle.std.proofs.lemmas.List.{append-nil}
 use Rattle.acvp_caps.specs.Capability.{CapabilityValue}
 use Rattle.acvp_tables.specs.Content.{is_reviewer, request_at}
-use Rattle.acvp_tables.specs.State.{State, SessionRecord, SetRecord, owner_of, own}
-use Rattle.acvp_tables.specs.Changes.{changed, is_account, with_step, disabled, is_request, with_status, is_pair, with_reviewer, registered, registered_by}
-use Rattle.acvp_tables.specs.StateChanges.{after_state, after_order_state, is_session_record, cancelled_session_record, certified_record, is_set_record, answered_record, cancelled_set_record, new_set_records}
+use Rattle.acvp_tables.specs.State.{State, SessionRecord, SetRecord, set_record, owner_of, own}
+use Rattle.acvp_tables.specs.Changes.{changed, is_account, with_step, disabled, is_request, with_status, new_sets, is_pair, with_reviewer, approved_objects, new_objects}
+use Rattle.acvp_tables.specs.StateChanges.{after_state, after_order_state, is_session_record, cancelled_session_record, certified_record, is_set_record, answered_record, cancelled_set_record}
 use Rattle.acvp_tables.specs.Own.{account_of_change, account_of_order, Fits}
 use Rattle.acvp_tables.proofs.Numbers.{IsKeyed, request_found}
 use Rattle.acvp_tables.specs.declared.rows.AccountRow.{AccountRow}
@@ -49,7 +49,9 @@ any_within : {R : Type 0} (p q : R → Bool) → ((r : R) → p r ≡ true → q
 any_within p q gives [] = refl
 any_within p q gives (r ∷ rows) = grind (arith, nat_tests, gives r, any_within p q gives rows)
 
-filter-new_sets : (v s epoch i : ℕ) (capabilities : List CapabilityValue) → filter (λ row. owner_of row.session == v) (new_set_records s epoch i capabilities) ≡ (if owner_of s == v then new_set_records s epoch i capabilities else [])
+filter-new_sets : (v s epoch i : ℕ) (capabilities : List CapabilityValue)
+    → filter (λ row. owner_of row.session == v) (map set_record (new_sets s epoch i capabilities))
+    ≡ (if owner_of s == v then map set_record (new_sets s epoch i capabilities) else [])
 filter-new_sets v s epoch i [] = grind (arith, nat_tests)
 filter-new_sets v s epoch i (c ∷ rest) = grind (arith, nat_tests, filter-new_sets v s epoch (i + 1) rest)
 
@@ -83,20 +85,23 @@ removed_other v r row apart e = grind (arith, nat_tests, apart, e)
 
 -- ---- what is registered
 
-registered_by_own : (v account k : ℕ) (it : RequestBody) → filter (λ row. row.account == v) (registered_by account it k) ≡ (if account == v then registered_by account it k else [])
+registered_by_own : (v account k : ℕ) (it : RequestBody)
+    → filter (λ row. row.account == v) (new_objects account it k) ≡ (if account == v then new_objects account it k else [])
 registered_by_own v account k (body.Registration object) = grind (arith, nat_tests)
 registered_by_own v account k (body.Certification c) = grind (arith, nat_tests)
 
 registered_own : (v n k : ℕ) (rows : List RequestRow) → list_all (λ row. owner_of row.number == row.account) rows ≡ true
-    → filter (λ row. row.account == v) (registered (request_at n rows) k) ≡ (if owner_of n == v then registered (request_at n rows) k else [])
+    → filter (λ row. row.account == v) (approved_objects (request_at n rows) k) ≡ (if owner_of n == v then approved_objects (request_at n rows) k else [])
 registered_own v n k [] all = grind (arith, nat_tests)
 registered_own v n k (r ∷ rows) all =
     let rest : list_all (λ (row : RequestRow). owner_of row.number == row.account) rows ≡ true = grind (arith, nat_tests, all) in
     let here : owner_of r.number ≡ r.account = grind (arith, nat_tests, all) in
     go (r.number == n) refl here (registered_own v n k rows rest)
   where
-    go : (b : Bool) → (r.number == n) ≡ b → owner_of r.number ≡ r.account → filter (λ row. row.account == v) (registered (request_at n rows) k) ≡ (if owner_of n == v then registered (request_at n rows) k else [])
-        → filter (λ row. row.account == v) (registered (request_at n (r ∷ rows)) k) ≡ (if owner_of n == v then registered (request_at n (r ∷ rows)) k else [])
+    go : (b : Bool) → (r.number == n) ≡ b → owner_of r.number ≡ r.account
+        → filter (λ row. row.account == v) (approved_objects (request_at n rows) k) ≡ (if owner_of n == v then approved_objects (request_at n rows) k else [])
+        → filter (λ row. row.account == v) (approved_objects (request_at n (r ∷ rows)) k)
+        ≡ (if owner_of n == v then approved_objects (request_at n (r ∷ rows)) k else [])
     go true e here more =
         let of : owner_of n ≡ r.account = grind (arith, nat_tests, e, here) in
         rw e (rw of (registered_by_own v r.account k r.body))

@@ -137,16 +137,16 @@ requests_ordered _ rows = rows
 
 -- what is registered where a request is approved: its object, of its account, under this number. A certification
 -- registers nothing
-abbrev pub registered_by : ℕ → RequestBody → ℕ → List ObjectRow
-registered_by account (body.Registration object) number = record { number = number; account = account; object = object } ∷ []
-registered_by account (body.Certification c) number = []
+abbrev pub new_objects : ℕ → RequestBody → ℕ → List ObjectRow
+new_objects account (body.Registration object) number = record { number = number; account = account; object = object } ∷ []
+new_objects account (body.Certification c) number = []
 
-abbrev pub registered : Option RequestRow → ℕ → List ObjectRow
-registered None number = []
-registered (Some row) number = registered_by row.account row.body number
+abbrev pub approved_objects : Option RequestRow → ℕ → List ObjectRow
+approved_objects None number = []
+approved_objects (Some row) number = new_objects row.account row.body number
 
 abbrev pub objects_ordered : OrderChange → List RequestRow → List ObjectRow → List ObjectRow
-objects_ordered (order.Approve a) requests rows = rows ++ registered (request_at a.request requests) a.approved
+objects_ordered (order.Approve a) requests rows = rows ++ approved_objects (request_at a.request requests) a.approved
 objects_ordered _ requests rows = rows
 
 -- ---- reviewers

@@ -1,6 +1,6 @@
 -- What is kept: for each table a list of its rows. And what each read selects of it.
-use Rattle.std.specs.Prelude.{ℕ, List, [], ◌∷◌, length, map, filter, find, take, drop, Bool, ◌==◌, ◌&&◌, not, nat_le, if◌then◌else◌, Option, Some, None, option_map}
-use Rattle.std.specs.List.{list_any}
+use Rattle.std.specs.Prelude.{ℕ, List, [], ◌∷◌, length, filter, find, take, drop, Bool, ◌==◌, ◌&&◌, not, nat_le, if◌then◌else◌, Option, Some, None, option_map}
+use Rattle.std.specs.List.{list_any, range_with_len}
 use Rattle.acvp_answers.specs.declared.verdict.Verdict.{Verdict}
 use Rattle.acvp_registry.specs.declared.kind.Kind.{Kind}
 use Rattle.acvp_registry.specs.declared.kind.Kind.TheVariants.{Vendor, Module, Environment, Certification}
@@ -84,19 +84,13 @@ live_sets session rows = filter (is_live_in session) rows
 abbrev pub is_reviewer : ℕ → ℕ → List ReviewerRow → Bool
 is_reviewer session account rows = list_any (λ row. (row.session == session) && (row.account == account)) rows
 
--- the number at its place in an ascending list
-abbrev pub with_number : ℕ → List ℕ → List ℕ
-with_number n [] = n ∷ []
-with_number n (m ∷ rest) = if nat_le n m then n ∷ m ∷ rest else m ∷ with_number n rest
+-- the numbers that an account may have
+unfoldable pub account_numbers : List ℕ
+account_numbers = range_with_len 1 9999
 
--- the numbers put one after the other at their places in an ascending list
-abbrev pub ascending : List ℕ → List ℕ → List ℕ
-ascending placed [] = placed
-ascending placed (n ∷ rest) = ascending (with_number n placed) rest
-
--- the accounts that review a session, ascending
-abbrev pub reviewers_of : ℕ → List ReviewerRow → List ℕ
-reviewers_of session rows = ascending [] (map (λ row. row.account) (filter (λ row. row.session == session) rows))
+-- those of them that review a session
+unfoldable pub reviewers_of : ℕ → List ReviewerRow → List ℕ
+reviewers_of session rows = filter (λ account. is_reviewer session account rows) account_numbers
 
 -- ---- rows of an account
 

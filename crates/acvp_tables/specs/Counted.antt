@@ -1,9 +1,10 @@
 -- When a session's counters count its vector sets.
-use Rattle.std.specs.Prelude.{◌≡◌, ℕ, ◌+◌, List, length, filter, Bool, true, false, ◌==◌, ◌&&◌, if◌then◌else◌, Option, Some, None, ⊤}
+use Rattle.std.specs.Prelude.{◌≡◌, ℕ, List, length, filter, Bool, true, false, ◌==◌, ◌&&◌, if◌then◌else◌, Option, Some, None, ⊤}
 use Rattle.std.specs.List.{list_all}
 use Rattle.acvp_answers.specs.declared.verdict.Disposition.{Disposition}
 use Rattle.acvp_answers.specs.declared.verdict.Disposition.TheVariants as disposition
 use Rattle.acvp_tables.specs.Graded.{GradedValue}
+use Rattle.acvp_tables.specs.Changes.{sets_after}
 use Rattle.acvp_tables.specs.Content.{Content, is_live_in, live_sets, session_at, set_at}
 use Rattle.acvp_tables.specs.declared.rows.SessionRow.{SessionRow}
 use Rattle.acvp_tables.specs.declared.rows.SetRow.{SetRow}
@@ -25,17 +26,33 @@ has_passed (Some graded) = is_passed graded.disposition
 abbrev pub is_passed_in : ℕ → SetRow → Bool
 is_passed_in session row = is_live_in session row && has_passed row.graded
 
--- `live` is the number of the session's sets that aren't cancelled, and `passed` that of those that have passed
+-- how many of a session's sets aren't cancelled, and how many of those have passed
+abbrev pub live_count : ℕ → List SetRow → ℕ
+live_count session sets = length (live_sets session sets)
+
+abbrev pub passed_count : ℕ → List SetRow → ℕ
+passed_count session sets = length (filter (is_passed_in session) sets)
+
 abbrev pub is_counted : List SetRow → SessionRow → Bool
-is_counted sets row = (row.live == length (live_sets row.number sets)) && (row.passed == length (filter (is_passed_in row.number) sets))
+is_counted sets row = (row.live == live_count row.number sets) && (row.passed == passed_count row.number sets)
 
 -- each session's counters are right
 abbrev pub IsCounted : Content → Type 0
 IsCounted c = list_all (is_counted c.sets) c.sessions ≡ true
 
+-- the counters that come with a change are those of the sets after it
+abbrev pub IsNextCount : Content → Change → Type 0
+IsNextCount c (change.KeepAnswers k) = k.passed ≡ passed_count k.session (sets_after (change.KeepAnswers k) c.sets)
+IsNextCount c (change.CancelSet x) =
+    (x.live ≡ live_count x.session (sets_after (change.CancelSet x) c.sets))
+    × (x.passed ≡ passed_count x.session (sets_after (change.CancelSet x) c.sets))
+IsNextCount c _ = ⊤
+
+-- ---- one set's part of the counters
+
 -- one or none
-abbrev pub mark : Bool → ℕ
-mark b = if b then 1 else 0
+abbrev pub one_if : Bool → ℕ
+one_if b = if b then 1 else 0
 
 -- a session and a set of it that isn't cancelled are there
 pub record AreThere (session set : ℕ) (c : Content) : Type 0 where
@@ -44,13 +61,3 @@ pub record AreThere (session set : ℕ) (c : Content) : Type 0 where
   pub has_session : session_at session c.sessions ≡ Some row
   pub has_set : set_at set c.sets ≡ Some set_row
   pub live : is_live_in session set_row ≡ true
-
--- the counters that come with a change are next: those that are kept, less what the set gave them, and with what it gives
--- now. A new session's number is free
-abbrev pub IsNextCount : Content → Change → Type 0
-IsNextCount c (change.NewSession s) = session_at s.number c.sessions ≡ None
-IsNextCount c (change.KeepAnswers k) = (there : AreThere k.session k.set c)
-    × (k.passed + mark (has_passed there.set_row.graded) ≡ there.row.passed + mark (is_passed k.graded.disposition))
-IsNextCount c (change.CancelSet x) = (there : AreThere x.session x.set c)
-    × (x.live + 1 ≡ there.row.live) × (x.passed + mark (has_passed there.set_row.graded) ≡ there.row.passed)
-IsNextCount c _ = ⊤

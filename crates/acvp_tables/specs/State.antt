@@ -1,14 +1,14 @@
 -- The records without what is derived of them: no verdict, no disposition, no counter. What each account owns of them, and
 -- what it may see. And when they are well numbered.
-use Rattle.std.specs.Prelude.{◌≡◌, ℕ, ◌+◌, ◌*◌, ◌/◌, ◌≤◌, List, [], ◌∷◌, length, map, filter, find, Bool, true, false, ◌==◌, ◌&&◌, ◌||◌, not, nat_le, nat_lt, Option, Some, None, option_map, is_some}
-use Rattle.std.specs.List.{list_all, list_any}
+use Rattle.std.specs.Prelude.{◌≡◌, ℕ, ◌+◌, ◌*◌, ◌/◌, ◌≤◌, List, length, map, filter, find, Bool, true, false, ◌==◌, ◌&&◌, ◌||◌, not, nat_le, nat_lt, Option, Some, None, option_map, is_some}
+use Rattle.std.specs.List.{list_all, list_any, range_with_len}
 use Rattle.acvp_answers.specs.Answer.{Answer}
 use Rattle.acvp_caps.specs.Capability.{CapabilityValue}
-use Rattle.acvp_registry.specs.Object.{KeptObject, object_vendor}
+use Rattle.acvp_registry.specs.Object.{KeptObject, object_fault, object_vendor}
 use Rattle.acvp_registry.specs.declared.kind.Kind.{Kind}
 use Rattle.acvp_registry.specs.declared.kind.Kind.TheVariants.{Vendor, Module, Environment}
 use Rattle.acvp_tables.specs.Graded.{GradedValue}
-use Rattle.acvp_tables.specs.Content.{Content, is_kind, is_reviewer, object_at}
+use Rattle.acvp_tables.specs.Content.{Content, account_at, is_kind, is_reviewer, object_at, objects_of, requests_of}
 use Rattle.acvp_tables.specs.declared.rows.AccountRow.{AccountRow}
 use Rattle.acvp_tables.specs.declared.rows.SessionRow.{SessionRow}
 use Rattle.acvp_tables.specs.declared.rows.SetRow.{SetRow}
@@ -19,6 +19,7 @@ use Rattle.acvp_tables.specs.declared.rows.RequestBody.TheVariants as body
 use Rattle.acvp_tables.specs.declared.rows.RequestStatus.{RequestStatus}
 use Rattle.acvp_tables.specs.declared.rows.RequestStatus.TheVariants as status
 use Rattle.acvp_tables.specs.declared.rows.ReviewerRow.{ReviewerRow}
+use Rattle.acvp_tables.specs.declared.summary.Counts.{Counts}
 
 pub record SessionRecord : Type 0 where
   pub number : ℕ
@@ -119,15 +120,37 @@ live_records session rows = filter (λ row. (row.session == session) && not row.
 abbrev pub objects_in : Kind → List ObjectRow → List ObjectRow
 objects_in kind rows = filter (λ row. is_kind row.object.kind kind) rows
 
+abbrev pub session_records_of : ℕ → List SessionRecord → List SessionRecord
+session_records_of account rows = filter (λ row. row.account == account) rows
+
+-- how many rows an account has
+abbrev pub record_counts : ℕ → State → Counts
+record_counts account state = record {
+  sessions = length (session_records_of account state.sessions);
+  vendors = length (objects_of Vendor account state.objects);
+  modules = length (objects_of Module account state.objects);
+  environments = length (objects_of Environment account state.objects);
+  requests = length (requests_of account state.requests);
+}
+
 -- ---- well numbered
 
 -- the rows have the numbers from the first on, in order and without gaps
-abbrev pub is_numbered : {Row : Type 0} → (Row → ℕ) → ℕ → List Row → Bool
-is_numbered number first [] = true
-is_numbered number first (row ∷ rows) = (number row == first) && is_numbered number (first + 1) rows
+abbrev pub IsNumbered : {Row : Type 0} → (Row → ℕ) → ℕ → List Row → Type 0
+IsNumbered number first rows = map number rows ≡ range_with_len first (length rows)
 
 abbrev pub is_account_number : ℕ → Bool
 is_account_number n = nat_le 1 n && nat_le n 9999
+
+-- an account's number, and a secret of 32 bytes
+abbrev pub is_account_row : AccountRow → Bool
+is_account_row row = is_account_number row.number && (length row.secret == 32)
+
+abbrev pub has_rows : State → Bool
+has_rows mine = nat_lt 0 (length mine.sessions + length mine.objects + length mine.requests)
+
+abbrev pub is_account_there : ℕ → State → Bool
+is_account_there u mine = is_some (account_at u mine.accounts)
 
 abbrev pub is_registration_of : Kind → RequestBody → Bool
 is_registration_of kind (body.Registration object) = is_kind object.kind kind
@@ -144,12 +167,18 @@ is_approved (status.Approved n) = true
 is_approved status.Rejected = false
 
 -- an approved request for the registration of an object of a kind
-abbrev pub registers : Kind → RequestRow → Bool
-registers kind row = is_registration_of kind row.body && is_approved row.status
+abbrev pub has_registered : Kind → RequestRow → Bool
+has_registered kind row = is_registration_of kind row.body && is_approved row.status
 
 -- an approved request by which the object was registered under its number
-abbrev pub registers_row : ObjectRow → RequestRow → Bool
-registers_row object row = is_registration_of object.object.kind row.body && is_approved_as object.number row.status
+abbrev pub has_registered_as : ObjectRow → RequestRow → Bool
+has_registered_as object row = is_registration_of object.object.kind row.body && is_approved_as object.number row.status
+
+-- the number of what an approval gave
+abbrev pub given_number : RequestStatus → Option ℕ
+given_number status.Initial = None
+given_number (status.Approved n) = Some n
+given_number status.Rejected = None
 
 -- of what may be none, each is so
 abbrev pub of_all : {X : Type 0} → (X → Bool) → Option X → Bool
@@ -160,12 +189,25 @@ of_all test (Some x) = test x
 abbrev pub has_vendor : List ObjectRow → KeptObject → Bool
 has_vendor objects object = of_all (λ n. is_some (object_at Vendor n objects)) (object_vendor object)
 
--- what a request's body names is there
-abbrev pub names_rows : State → RequestBody → Bool
-names_rows mine (body.Registration object) = has_vendor mine.objects object
-names_rows mine (body.Certification c) =
+-- the object's value is one that is kept of its kind, and its vendor is there
+abbrev pub is_sound_object : List ObjectRow → KeptObject → Bool
+is_sound_object objects object = not (is_some (object_fault object.kind object.value)) && has_vendor objects object
+
+-- a request's body is one that is kept, and what it names is there
+abbrev pub is_sound_body : State → RequestBody → Bool
+is_sound_body mine (body.Registration object) = is_sound_object mine.objects object
+is_sound_body mine (body.Certification c) =
     is_some (object_at Module c.module mine.objects) && is_some (object_at Environment c.environment mine.objects)
     && is_some (session_record_at c.session mine.sessions)
+
+-- what an approval gives under a number is there: an object of the kind, or the certified session
+abbrev pub has_given : List ObjectRow → RequestBody → ℕ → Bool
+has_given objects (body.Registration object) n = is_some (object_at object.kind n objects)
+has_given objects (body.Certification c) n = c.session == n
+
+-- what an approved request gave is there
+abbrev pub has_all_given : List ObjectRow → RequestRow → Bool
+has_all_given objects row = of_all (has_given objects row.body) (given_number row.status)
 
 abbrev pub certifies : ℕ → RequestBody → Bool
 certifies session (body.Registration object) = false
@@ -173,27 +215,29 @@ certifies session (body.Certification c) = c.session == session
 
 -- what holds of one account's rows
 pub record IsWellNumberedFor (u : ℕ) (mine : State) : Type 0 where
-  -- the account is there at most once
+  -- the account is there at most once, and where it has rows
   pub once : length mine.accounts ≤ 1
-  pub accounts : list_all (λ row. is_account_number row.number) mine.accounts ≡ true
+  pub accounts : list_all is_account_row mine.accounts ≡ true
+  pub there : has_rows mine ≡ true → is_account_there u mine ≡ true
   -- numbers rise from the account's first without gaps
-  pub sessions : is_numbered (λ row. row.number) (first_of_account u) mine.sessions ≡ true
+  pub sessions : IsNumbered (λ row. row.number) (first_of_account u) mine.sessions
   pub few_sessions : length mine.sessions ≤ 999999
-  pub requests : is_numbered (λ row. row.number) (first_of_account u) mine.requests ≡ true
+  pub requests : IsNumbered (λ row. row.number) (first_of_account u) mine.requests
   pub few_requests : length mine.requests ≤ 999999
-  pub objects : (kind : Kind) → is_numbered (λ row. row.number) (first_of_account u) (objects_in kind mine.objects) ≡ true
-  -- no more objects of a kind than approved requests for them, and each object is that of one
-  pub asked_for : (kind : Kind) → length (objects_in kind mine.objects) ≤ length (filter (registers kind) mine.requests)
-  pub registered : list_all (λ object. list_any (registers_row object) mine.requests) mine.objects ≡ true
+  pub objects : (kind : Kind) → IsNumbered (λ row. row.number) (first_of_account u) (objects_in kind mine.objects)
+  -- no more objects of a kind than approved requests for them; each object is that of one, and each one's object is there
+  pub asked_for : (kind : Kind) → length (objects_in kind mine.objects) ≤ length (filter (has_registered kind) mine.requests)
+  pub registered : list_all (λ object. list_any (has_registered_as object) mine.requests) mine.objects ≡ true
+  pub given : list_all (has_all_given mine.objects) mine.requests ≡ true
   -- of each session 1 to 20 sets, whose numbers rise from the session's first without gaps
-  pub sets : (s : ℕ) → is_numbered (λ row. row.number) (first_of_session s) (sets_in s mine.sets) ≡ true
+  pub sets : (s : ℕ) → IsNumbered (λ row. row.number) (first_of_session s) (sets_in s mine.sets)
   pub few_sets : (s : ℕ) → length (sets_in s mine.sets) ≤ 20
   pub some_sets : list_all (λ row. list_any (λ set. set.session == row.number) mine.sets) mine.sessions ≡ true
   -- what rows refer to is there
   pub set_sessions : list_all (λ set. is_some (session_record_at set.session mine.sessions)) mine.sets ≡ true
   pub certified : list_all (λ row. of_all (λ n. list_any (λ request. (request.number == n) && certifies row.number request.body) mine.requests) row.certify) mine.sessions ≡ true
-  pub named : list_all (λ request. names_rows mine request.body) mine.requests ≡ true
-  pub vendors : list_all (λ row. has_vendor mine.objects row.object) mine.objects ≡ true
+  pub asked : list_all (λ request. is_sound_body mine request.body) mine.requests ≡ true
+  pub kept : list_all (λ row. is_sound_object mine.objects row.object) mine.objects ≡ true
   -- a session was created at a moment that is served
   pub created : list_all (λ row. nat_lt row.created 4102444800) mine.sessions ≡ true
   -- of each session at most 16 reviewers, none twice

@@ -1,13 +1,11 @@
 -- What each change makes of the records, without what is derived of them.
-use Rattle.std.specs.Prelude.{ℕ, ◌+◌, ◌*◌, List, [], ◌∷◌, ◌++◌, Bool, true, false, ◌==◌, Some, None}
+use Rattle.std.specs.Prelude.{ℕ, List, [], ◌∷◌, ◌++◌, map, Bool, true, ◌==◌, Some}
 use Rattle.acvp_answers.specs.Answer.{Answer}
-use Rattle.acvp_caps.specs.Capability.{CapabilityValue}
-use Rattle.acvp_tables.specs.State.{State, SessionRecord, SetRecord}
-use Rattle.acvp_tables.specs.Changes.{changed, accounts_after, accounts_ordered, requests_after, requests_ordered, objects_ordered, reviewers_after}
+use Rattle.acvp_tables.specs.State.{State, SessionRecord, SetRecord, session_record, set_record}
+use Rattle.acvp_tables.specs.Changes.{changed, new_session, new_sets, accounts_after, accounts_ordered, requests_after, requests_ordered, objects_ordered, reviewers_after}
 use Rattle.acvp_tables.specs.declared.change.Change.{Change}
 use Rattle.acvp_tables.specs.declared.change.Change.TheVariants as change
 use Rattle.acvp_tables.specs.declared.change.OrderChange.{OrderChange}
-use Rattle.acvp_tables.specs.declared.change.NewSession.{NewSession}
 
 -- ---- sessions
 
@@ -20,11 +18,8 @@ cancelled_session_record row = record row { cancelled = true }
 abbrev pub certified_record : ℕ → SessionRecord → SessionRecord
 certified_record request row = record row { certify = Some request }
 
-abbrev pub new_session_record : NewSession → SessionRecord
-new_session_record s = record { number = s.number; account = s.account; sample = s.registration.sample; created = s.created; cancelled = false; certify = None }
-
 abbrev pub session_records_after : Change → List SessionRecord → List SessionRecord
-session_records_after (change.NewSession s) rows = rows ++ new_session_record s ∷ []
+session_records_after (change.NewSession s) rows = rows ++ session_record (new_session s) ∷ []
 session_records_after (change.CancelSession n) rows = changed (is_session_record n) cancelled_session_record rows
 session_records_after (change.Certify c) rows = changed (is_session_record c.certification.session) (certified_record c.number) rows
 session_records_after _ rows = rows
@@ -40,15 +35,8 @@ answered_record answers row = record row { answers = Some answers }
 abbrev pub cancelled_set_record : SetRecord → SetRecord
 cancelled_set_record row = record row { cancelled = true }
 
--- a session's sets, one for each capability, of the numbers from its i-th on
-abbrev pub new_set_records : ℕ → ℕ → ℕ → List CapabilityValue → List SetRecord
-new_set_records session epoch i [] = []
-new_set_records session epoch i (capability ∷ rest) =
-    record { number = session * 100 + i; session = session; capability = capability; epoch = epoch; cancelled = false; answers = None }
-    ∷ new_set_records session epoch (i + 1) rest
-
 abbrev pub set_records_after : Change → List SetRecord → List SetRecord
-set_records_after (change.NewSession s) rows = rows ++ new_set_records s.number s.epoch 1 s.registration.capabilities
+set_records_after (change.NewSession s) rows = rows ++ map set_record (new_sets s.number s.epoch 1 s.registration.capabilities)
 set_records_after (change.KeepAnswers k) rows = changed (is_set_record k.set) (answered_record k.graded.answers) rows
 set_records_after (change.CancelSet x) rows = changed (is_set_record x.set) cancelled_set_record rows
 set_records_after _ rows = rows

@@ -1,20 +1,53 @@
 //! What holds of the records and of their changes, whoever keeps them.
-ghost use Rattle.std.specs.Prelude.{◌≡◌, ◌≢◌, ℕ, ◌/◌, [], None, ◌==◌, ◌&&◌, if◌then◌else◌};
+ghost use Rattle.std.specs.Prelude.{◌≡◌, ◌≢◌, ℕ, ◌+◌, ◌/◌, List, [], map, Some, None, option_map, ◌==◌, ◌&&◌, if◌then◌else◌};
+ghost use Rattle.acvp_policy.specs.Granted.{Granted};
 ghost use Rattle.acvp_registry.specs.declared.kind.Kind.{Kind};
-ghost use Rattle.acvp_tables.specs.Content.{Content, no_rows, account_at, object_at, request_at, is_reviewer, reviewers_of};
-ghost use Rattle.acvp_tables.specs.State.{State, state_of, own, seen, may_see, owner_of, session_record_at, set_record_at, sets_in, live_records, IsWellNumbered, IsSound};
+ghost use Rattle.acvp_tables.specs.Content.{Content, no_rows, account_at, session_at, set_at, object_at, request_at, live_sets, is_reviewer, reviewers_of, sessions_of, objects_of, requests_of, page, counts_of};
+ghost use Rattle.acvp_tables.specs.State.{State, SessionRecord, SetRecord, session_record, set_record, state_of, own, seen, may_see, owner_of, session_record_at, set_record_at, sets_in, live_records, session_records_of, record_counts, IsWellNumbered, IsSound};
 ghost use Rattle.acvp_tables.specs.Changes.{after, after_order};
 ghost use Rattle.acvp_tables.specs.StateChanges.{after_state, after_order_state};
-ghost use Rattle.acvp_tables.specs.Counted.{IsCounted, IsNextCount};
+ghost use Rattle.acvp_tables.specs.Counted.{IsCounted, IsNextCount, AreThere, one_if, has_passed, is_passed};
+ghost use Rattle.acvp_tables.specs.Covers.{Covers};
 ghost use Rattle.acvp_tables.specs.Own.{account_of_change, account_of_order, Fits};
 ghost use Rattle.acvp_tables.specs.Next.{IsNext, IsNextOrder};
+ghost use Rattle.acvp_tables.specs.declared.rows.SessionRow.{SessionRow};
+ghost use Rattle.acvp_tables.specs.declared.rows.ObjectRow.{ObjectRow};
+ghost use Rattle.acvp_tables.specs.declared.rows.RequestRow.{RequestRow};
+ghost use Rattle.acvp_tables.specs.declared.change.KeptAnswers.{KeptAnswers};
+ghost use Rattle.acvp_tables.specs.declared.change.CancelledSet.{CancelledSet};
 ghost use Rattle.acvp_tables.specs.declared.change.Change.{Change};
+ghost use Rattle.acvp_tables.specs.declared.change.Change.TheVariants as change;
 ghost use Rattle.acvp_tables.specs.declared.change.OrderChange.{OrderChange};
+ghost use Rattle.acvp_tables.specs.declared.change.OrderChange.TheVariants as order;
+ghost use Rattle.acvp_tables.specs.declared.change.Approval.{Approval};
 
 /// A change of what is kept is that change of the records of it.
 pub fn state_follows()
     ensures change { (c : Content) (it : Change) → state_of (after it c) ≡ after_state it (state_of c) }
     ensures order { (c : Content) (it : OrderChange) → state_of (after_order it c) ≡ after_order_state it (state_of c) }
+{}
+
+/// What is looked up in what is kept is looked up in the records of it.
+pub fn selections_follow()
+    ensures session { (n : ℕ) (c : Content) → session_record_at n (state_of c).sessions ≡ option_map session_record (session_at n c.sessions) }
+    ensures set { (n : ℕ) (c : Content) → set_record_at n (state_of c).sets ≡ option_map set_record (set_at n c.sets) }
+    ensures live_sets { (s : ℕ) (c : Content) → live_records s (state_of c).sets ≡ map set_record (live_sets s c.sets) }
+    ensures sessions { (u : ℕ) (c : Content) → session_records_of u (state_of c).sessions ≡ map session_record (sessions_of u c.sessions) }
+    ensures page { (offset limit : ℕ) (rows : List SessionRow) → page offset limit (map session_record rows) ≡ map session_record (page offset limit rows) }
+    ensures counts { (u : ℕ) (c : Content) → record_counts u (state_of c) ≡ counts_of u c }
+{}
+
+/// A row that is found by its number is of the account, or of the session, that its number names.
+pub fn numbers_name()
+    ensures session { (n : ℕ) (state : State) (row : SessionRecord) → IsWellNumbered state → session_record_at n state.sessions ≡ Some row → row.account ≡ owner_of n }
+    ensures request { (n : ℕ) (state : State) (row : RequestRow) → IsWellNumbered state → request_at n state.requests ≡ Some row → row.account ≡ owner_of n }
+    ensures object { (n : ℕ) (kind : Kind) (state : State) (row : ObjectRow) → IsWellNumbered state → object_at kind n state.objects ≡ Some row → row.account ≡ owner_of n }
+    ensures set { (n : ℕ) (state : State) (row : SetRecord) → IsWellNumbered state → set_record_at n state.sets ≡ Some row → row.session ≡ n / 100 }
+{}
+
+/// The change that a grant is leave for is of the grant's account.
+pub fn grants_name_the_account()
+    ensures { (g : Granted) (it : Change) → Covers g it → account_of_change it ≡ g.account }
 {}
 
 /// In well numbered records a look-up by number tells what is found among the rows that an account owns, and among those
@@ -29,6 +62,10 @@ pub fn numbers_tell()
     ensures live_sets { (u s : ℕ) (state : State) → live_records s (own u state).sets ≡ (if owner_of s == u then live_records s state.sets else []) }
     ensures reviewer { (u s a : ℕ) (state : State) → is_reviewer s a (own u state).reviewers ≡ ((owner_of s == u) && is_reviewer s a state.reviewers) }
     ensures reviewers { (u s : ℕ) (state : State) → reviewers_of s (own u state).reviewers ≡ (if owner_of s == u then reviewers_of s state.reviewers else []) }
+    ensures sessions { (u : ℕ) (state : State) → session_records_of u (own u state).sessions ≡ session_records_of u state.sessions }
+    ensures objects { (u : ℕ) (kind : Kind) (state : State) → objects_of kind u (own u state).objects ≡ objects_of kind u state.objects }
+    ensures requests { (u : ℕ) (state : State) → requests_of u (own u state).requests ≡ requests_of u state.requests }
+    ensures counts { (u : ℕ) (state : State) → record_counts u (own u state) ≡ record_counts u state }
     ensures seen_session { (u n : ℕ) (state : State) → IsWellNumbered state → session_record_at n (seen u state).sessions ≡ (if may_see u (owner_of n) n state then session_record_at n state.sessions else None) }
     ensures seen_set { (u v : ℕ) (state : State) → IsWellNumbered state → set_record_at v (seen u state).sets ≡ (if may_see u (owner_of (v / 100)) (v / 100) state then set_record_at v state.sets else None) }
     ensures seen_sets { (u s : ℕ) (state : State) → sets_in s (seen u state).sets ≡ (if may_see u (owner_of s) s state then sets_in s state.sets else []) }
@@ -47,8 +84,20 @@ pub fn changes_are_of_one_account()
 
 /// A change keeps each session's counters right, where those that come with it are next; an order always does.
 pub fn counts_are_kept()
-    ensures change { (it : Change) (c : Content) → IsSound c → IsNextCount c it → IsCounted c → IsCounted (after it c) }
+    ensures change { (it : Change) (c : Content) → IsSound c → IsNext (state_of c) it → IsNextCount c it → IsCounted c → IsCounted (after it c) }
     ensures order { (it : OrderChange) (c : Content) → IsCounted c → IsCounted (after_order it c) }
+{}
+
+/// The counters after a change of one vector set are those that are kept, less what the set gave them, and with what it
+/// gives then.
+pub fn counts_differ_by_one()
+    ensures kept { (k : KeptAnswers) (c : Content) → IsSound c → IsCounted c → (there : AreThere k.session k.set c)
+        → k.passed + one_if (has_passed there.set_row.graded) ≡ there.row.passed + one_if (is_passed k.graded.disposition)
+        → IsNextCount c (change.KeepAnswers k) }
+    ensures cancelled { (x : CancelledSet) (c : Content) → IsSound c → IsCounted c → (there : AreThere x.session x.set c)
+        → x.live + 1 ≡ there.row.live
+        → x.passed + one_if (has_passed there.set_row.graded) ≡ there.row.passed
+        → IsNextCount c (change.CancelSet x) }
 {}
 
 /// Without a row the records are well numbered, and all counters are right.
@@ -62,4 +111,10 @@ pub fn records_begin_well()
 pub fn numbers_are_kept()
     ensures change { (it : Change) (state : State) → IsWellNumbered state → IsNext state it → IsWellNumbered (after_state it state) }
     ensures order { (it : OrderChange) (state : State) → IsWellNumbered state → IsNextOrder state it → IsWellNumbered (after_order_state it state) }
+{}
+
+/// An approval gives a number of its request's account: that of an object, of which there are 999999 of a kind at most, or
+/// of the certified session.
+pub fn approvals_name_the_account()
+    ensures { (a : Approval) (state : State) → IsWellNumbered state → IsNextOrder state (order.Approve a) → owner_of a.approved ≡ owner_of a.request }
 {}

@@ -18,8 +18,9 @@ pub use change::{
 };
 pub use graded::Graded;
 pub use laws::{
-    changes_are_of_one_account, counts_are_kept, numbers_are_kept, numbers_tell,
-    records_begin_well, state_follows,
+    approvals_name_the_account, changes_are_of_one_account, counts_are_kept, counts_differ_by_one,
+    grants_name_the_account, numbers_are_kept, numbers_name, numbers_tell, records_begin_well,
+    selections_follow, state_follows,
 };
 pub use list::ListTables;
 pub use rows::{

@@ -27,7 +27,7 @@ use crate::list::accounts::{AccountIs, Disabled, WholeAccount, WithStep, new_acc
 use crate::list::counting::counts_in;
 use crate::list::objects::{ItsOwner, ObjectIs, ObjectsOf, WholeObject};
 use crate::list::requests::{
-    RequestInShort, RequestIs, RequestsOf, WithStatus, new_certification, new_request, registered,
+    RequestInShort, RequestIs, RequestsOf, WithStatus, new_certification, new_object, new_request,
 };
 use crate::list::reviewers::{ReviewerIs, add, remove, reviewers_of};
 use crate::list::sessions::{
@@ -237,7 +237,7 @@ impl ListTables {
             },
         );
         let row = match asked {
-            Some(row) => registered(row, approval.approved)?,
+            Some(row) => new_object(row, approval.approved)?,
             None => None,
         };
         if let Some(row) = row {

@@ -1,14 +1,16 @@
 //! The records as lists, by numbers worked by hand.
 
-ghost use Rattle.std.specs.Prelude.{◌≡◌, ◌/◌, ◌<◌, IfOk};
+ghost use Rattle.std.specs.Prelude.{◌≡◌, ◌/◌, true, false, IfOk, IfSome};
+ghost use Rattle.acvp_policy.specs.Decision.{granted};
 ghost use Rattle.acvp_policy.specs.declared.action.Action.TheVariants as action;
+ghost use Rattle.acvp_policy.specs.declared.facts.Standing.TheVariants as standing;
+ghost use Rattle.acvp_policy.specs.declared.facts.Token.TheVariants as token;
 ghost use Rattle.acvp_policy.specs.declared.resource.Resource.TheVariants as resource;
-ghost use Rattle.acvp_tables.specs.Changes.{after_order};
+ghost use Rattle.acvp_tables.specs.Changes.{after_order, new_account};
 ghost use Rattle.acvp_tables.specs.Content.{Content, account_at};
-ghost use Rattle.acvp_tables.specs.Covers.{Covers};
+ghost use Rattle.acvp_tables.specs.Covers.{Covers, request_action};
 ghost use Rattle.acvp_tables.specs.Own.{Fits};
-ghost use Rattle.acvp_tables.specs.State.{owner_of};
-ghost use Rattle.acvp_tables.specs.State.{IsSound};
+ghost use Rattle.acvp_tables.specs.State.{owner_of, is_account_row, IsSound};
 ghost use Rattle.acvp_tables.specs.declared.change.OrderChange.TheVariants as order;
 
 use crate::{
@@ -22,7 +24,7 @@ use acvp_policy::{
     Action, Claims, Facts, LoginFacts, Renewal, ReviewerSubject, SessionFacts, SessionSubject,
     SetFacts, SetSubject, Standing, Subject, Token, UserFacts, decide,
 };
-use acvp_registry::{Kind, body_value, read_object};
+use acvp_registry::{Kind, Object, body_value, read_object};
 use std::alloc::Global;
 use std::test::Fail;
 
@@ -39,6 +41,12 @@ const REGISTRATION: &str =
 /// A vendor.
 const VENDOR: &str = r#"{"name":"V"}"#;
 
+/// A module of that vendor.
+const MODULE: &str = r#"{"name":"M","vendorUrl":"/acvp/v1/vendors/7000001"}"#;
+
+/// An operational environment.
+const ENVIRONMENT: &str = r#"{"name":"E"}"#;
+
 /// A session that is open, whose sets have all passed.
 fn open_session() -> SessionFacts {
     SessionFacts {
@@ -50,13 +58,15 @@ fn open_session() -> SessionFacts {
     }
 }
 
-/// Adds an account that isn't there, and reads it: three calls over any tables.
+/// Adds an account that isn't there, and reads it: three calls over any tables, after which the records are sound still.
 fn add_and_read<T: Tables>(
     tables: &mut T,
     account: NewAccount,
 ) -> Result<Option<AccountRow>, StoreFault>
-    ensures { T.is_live tables.new → IfOk result (λ found. (c : Content) → IsSound c → IsSound (after_order (order.AddAccount account) c) → T.stands tables.old c
-        → (found ≡ account_at account.account (after_order (order.AddAccount account) c).accounts) × T.stands tables.new (after_order (order.AddAccount account) c)) }
+    requires { is_account_row (new_account account) ≡ true }
+    ensures added { T.is_live tables.new → IfOk result (λ found. (c : Content) → IsSound c → T.stands tables.old c
+        → (found ≡ account_at account.account (after_order (order.AddAccount account) c).accounts)
+        × T.stands tables.new (after_order (order.AddAccount account) c) × IsSound (after_order (order.AddAccount account) c)) }
 {
     if tables.account(account.account)?.is_some() {
         return Err(StoreFault::Refused);
@@ -65,30 +75,52 @@ fn add_and_read<T: Tables>(
     tables.account(account.account)
 }
 
-/// Applies what an account may change of its own rows.
-fn on_account(tables: &mut ListTables, account: u16, action: Action, change: &Change) -> bool
-    requires covers { Covers (record { action = action; account = account; resource = resource.Account }) change.now }
-    requires fits { Fits change.now }
+/// What is known of a request with the token of an account, or of a session of it.
+fn facts(account: u16, session: Option<u64>, subject: Subject) -> Facts
+    ensures { result ≡ record { moment = 60; token = token.Verified (record { account = account; session = session; issued = 60; expires = 1860 }); standing = standing.Enabled; reviewer = false; subject = subject } }
 {
-    let facts = Facts {
+    let claims = Claims {
+        account,
+        session,
+        issued: CREATED,
+        expires: 1860,
+    };
+    Facts {
         moment: CREATED,
-        token: Token::Verified(Claims {
-            account,
-            session: None,
-            issued: CREATED,
-            expires: 1860,
-        }),
+        token: Token::Verified(claims),
         standing: Standing::Enabled,
         reviewer: false,
-        subject: Subject::Account,
-    };
-    match decide(action, &facts) {
+        subject,
+    }
+}
+
+/// Applies a change that the policy allows on these facts.
+fn applied(tables: &mut ListTables, action: Action, facts: &Facts, change: &Change) -> bool
+    requires covers { Covers (granted action facts.now) change.now }
+    requires fits { Fits change.now }
+{
+    match decide(action, facts) {
         Ok(grant) => tables.apply(grant, change).is_ok(),
         Err(_) => false,
     }
 }
 
+/// Applies what an account may change of its own rows.
+#[tactic(auto, unfolding(acvp_policy::specs::Decision::granted))]
+fn on_account(tables: &mut ListTables, account: u16, action: Action, change: &Change) -> bool
+    requires covers { Covers (record { action = action; account = account; resource = resource.Account }) change.now }
+    requires fits { Fits change.now }
+{
+    applied(
+        tables,
+        action,
+        &facts(account, None, Subject::Account),
+        change,
+    )
+}
+
 /// Applies what an account may change of a session.
+#[tactic(auto, unfolding(acvp_policy::specs::Decision::granted))]
 fn on_session(
     tables: &mut ListTables,
     account: u16,
@@ -99,28 +131,20 @@ fn on_session(
     requires covers { Covers (record { action = action; account = account; resource = resource.Session session }) change.now }
     requires fits { Fits change.now }
 {
-    let facts = Facts {
-        moment: CREATED,
-        token: Token::Verified(Claims {
-            account,
-            session: Some(session),
-            issued: CREATED,
-            expires: 1860,
-        }),
-        standing: Standing::Enabled,
-        reviewer: false,
-        subject: Subject::Session(SessionSubject {
-            session,
-            found: Some(open_session()),
-        }),
-    };
-    match decide(action, &facts) {
-        Ok(grant) => tables.apply(grant, change).is_ok(),
-        Err(_) => false,
-    }
+    let subject = Subject::Session(SessionSubject {
+        session,
+        found: Some(open_session()),
+    });
+    applied(
+        tables,
+        action,
+        &facts(account, Some(session), subject),
+        change,
+    )
 }
 
 /// Applies what an account may change of a vector set.
+#[tactic(auto, unfolding(acvp_policy::specs::Decision::granted))]
 fn on_set(
     tables: &mut ListTables,
     account: u16,
@@ -132,89 +156,58 @@ fn on_set(
     requires covers { Covers (record { action = action; account = account; resource = resource.Set session set }) change.now }
     requires fits { Fits change.now }
 {
-    let facts = Facts {
-        moment: CREATED,
-        token: Token::Verified(Claims {
-            account,
-            session: Some(session),
-            issued: CREATED,
-            expires: 1860,
+    let subject = Subject::Set(SetSubject {
+        session,
+        set,
+        found: Some(SetFacts {
+            session: open_session(),
+            cancelled: false,
+            answered: false,
         }),
-        standing: Standing::Enabled,
-        reviewer: false,
-        subject: Subject::Set(SetSubject {
-            session,
-            set,
-            found: Some(SetFacts {
-                session: open_session(),
-                cancelled: false,
-                answered: false,
-            }),
-        }),
-    };
-    match decide(action, &facts) {
-        Ok(grant) => tables.apply(grant, change).is_ok(),
-        Err(_) => false,
-    }
+    });
+    applied(
+        tables,
+        action,
+        &facts(account, Some(session), subject),
+        change,
+    )
 }
 
-/// Applies what an account may change of a reviewer of a session.
-fn on_reviewer(
-    tables: &mut ListTables,
-    account: u16,
-    session: u64,
-    reviewer: u64,
-    action: Action,
-    change: &Change,
-) -> bool
-    requires covers { Covers (record { action = action; account = account; resource = resource.Reviewer session reviewer }) change.now }
-    requires fits { Fits change.now }
+/// Takes a reviewer of a session out.
+#[tactic(auto, unfolding(acvp_policy::specs::Decision::granted))]
+fn remove_reviewer(tables: &mut ListTables, account: u16, reviewer: ReviewerRow) -> bool
+    requires { owner_of reviewer.session ≡ account }
 {
-    let facts = Facts {
-        moment: CREATED,
-        token: Token::Verified(Claims {
-            account,
-            session: Some(session),
-            issued: CREATED,
-            expires: 1860,
-        }),
-        standing: Standing::Enabled,
-        reviewer: false,
-        subject: Subject::Reviewer(ReviewerSubject {
-            session,
-            reviewer,
-            found: Some(open_session()),
-        }),
-    };
-    match decide(action, &facts) {
-        Ok(grant) => tables.apply(grant, change).is_ok(),
-        Err(_) => false,
-    }
+    let subject = Subject::Reviewer(ReviewerSubject {
+        session: reviewer.session,
+        reviewer: u64::from(reviewer.account),
+        found: Some(open_session()),
+    });
+    applied(
+        tables,
+        Action::RemoveReviewer,
+        &facts(account, Some(reviewer.session), subject),
+        &Change::RemoveReviewer(reviewer),
+    )
 }
 
-/// Applies what the login of an account changes.
-fn on_login(tables: &mut ListTables, account: u16, step: u64, change: &Change) -> bool
-    requires covers { Covers (record { action = action.Login; account = account; resource = resource.Account }) change.now }
-    requires fits { Fits change.now }
-{
-    let facts = Facts {
-        moment: CREATED,
-        token: Token::Missing,
-        standing: Standing::Absent,
-        reviewer: false,
-        subject: Subject::Login(LoginFacts {
-            user: Some(UserFacts {
-                account,
-                enabled: true,
-                step: Some(step),
-            }),
-            renewal: Renewal::Unasked,
+/// Uses a step, by a login.
+#[tactic(auto, unfolding(acvp_policy::specs::Decision::granted))]
+fn use_step(tables: &mut ListTables, account: u16, step: u64) -> bool {
+    let subject = Subject::Login(LoginFacts {
+        user: Some(UserFacts {
+            account,
+            enabled: true,
+            step: Some(step),
         }),
-    };
-    match decide(Action::Login, &facts) {
-        Ok(grant) => tables.apply(grant, change).is_ok(),
-        Err(_) => false,
-    }
+        renewal: Renewal::Unasked,
+    });
+    applied(
+        tables,
+        Action::Login,
+        &facts(account, None, subject),
+        &Change::UseStep(UsedStep { account, step }),
+    )
 }
 
 /// Adds a session with two vector sets.
@@ -242,27 +235,37 @@ fn add_session(alloc: Global, tables: &mut ListTables, account: u16, number: u64
     )
 }
 
-/// Adds a request for the registration of a vendor.
-fn ask_for_vendor(alloc: Global, tables: &mut ListTables, account: u16, number: u64) -> bool
-    requires { owner_of number ≡ account }
+/// The object of a kind that a JSON text is.
+fn object_of(alloc: Global, kind: Kind, text: &str) -> Option<Object>
+    ensures { IfSome result (λ object. object.kind ≡ kind) }
 {
-    let Ok(value) = body_value(alloc, VENDOR.as_bytes()) else {
-        return false;
+    let Ok(value) = body_value(alloc, text.as_bytes()) else {
+        return None;
     };
-    let Ok(object) = read_object(alloc, Kind::Vendor, &value) else {
+    read_object(alloc, kind, &value).ok()
+}
+
+/// Adds a request of account 7 for the registration of an object.
+fn ask_for(
+    alloc: Global,
+    tables: &mut ListTables,
+    action: Action,
+    kind: Kind,
+    text: &str,
+    number: u64,
+) -> bool
+    requires action { action ≡ request_action kind }
+    requires number { owner_of number ≡ 7 }
+{
+    let Some(object) = object_of(alloc, kind, text) else {
         return false;
     };
     let request = NewRequest {
         number,
-        account,
+        account: 7,
         object,
     };
-    on_account(
-        tables,
-        account,
-        Action::NewVendor,
-        &Change::NewRequest(request),
-    )
+    on_account(tables, 7, action, &Change::NewRequest(request))
 }
 
 /// Adds a request for a vendor of account 7, and approves it.
@@ -273,8 +276,14 @@ fn register_vendor(alloc: Global, tables: &mut ListTables, number: u64) -> bool
         request: number,
         approved: number,
     };
-    ask_for_vendor(alloc, tables, 7, number)
-        && tables.order(&OrderChange::Approve(approval)).is_ok()
+    ask_for(
+        alloc,
+        tables,
+        Action::NewVendor,
+        Kind::Vendor,
+        VENDOR,
+        number,
+    ) && tables.order(&OrderChange::Approve(approval)).is_ok()
 }
 
 /// Keeps answers with one verdict.
@@ -472,7 +481,16 @@ fn an_approved_request_becomes_an_object(rt: HostRuntime) -> Result<(), Fail> {
             .as_slice(),
         [].as_slice()
     );
-    assert!(rt; ask_for_vendor(alloc, &mut tables, 7, 7000005));
+    assert!(rt;
+        ask_for(
+            alloc,
+            &mut tables,
+            Action::NewVendor,
+            Kind::Vendor,
+            VENDOR,
+            7000005
+        )
+    );
     assert_eq!(rt; tables.order(&OrderChange::Reject(7000005)), Ok(()));
     let page = tables.requests(7, 4, 20).expect(&rt, "a page");
     assert!(rt;
@@ -481,17 +499,58 @@ fn an_approved_request_becomes_an_object(rt: HostRuntime) -> Result<(), Fail> {
     Ok(())
 }
 
+/// Registers a vendor, a module of it and an environment of account 7, each as the first of its kind.
+fn register_all(alloc: Global, tables: &mut ListTables) -> bool {
+    let module = Approval {
+        request: 7000002,
+        approved: 7000001,
+    };
+    let environment = Approval {
+        request: 7000003,
+        approved: 7000001,
+    };
+    register_vendor(alloc, tables, 7000001)
+        && ask_for(
+            alloc,
+            tables,
+            Action::NewModule,
+            Kind::Module,
+            MODULE,
+            7000002,
+        )
+        && tables.order(&OrderChange::Approve(module)).is_ok()
+        && ask_for(
+            alloc,
+            tables,
+            Action::NewEnvironment,
+            Kind::Environment,
+            ENVIRONMENT,
+            7000003,
+        )
+        && tables.order(&OrderChange::Approve(environment)).is_ok()
+}
+
+/// The status of the request of a number.
+fn status(tables: &mut ListTables, number: u64) -> Result<Option<RequestStatus>, StoreFault> {
+    match tables.request(number)? {
+        Some(request) => Ok(Some(request.status)),
+        None => Ok(None),
+    }
+}
+
 #[test]
 fn a_certification_request_is_kept_with_its_session(rt: HostRuntime) -> Result<(), Fail> {
-    let mut tables = ListTables::new(rt.alloc());
-    assert!(rt; add_session(rt.alloc(), &mut tables, 7, 7000001));
+    let alloc = rt.alloc();
+    let mut tables = ListTables::new(alloc);
+    assert!(rt; register_all(alloc, &mut tables));
+    assert!(rt; add_session(alloc, &mut tables, 7, 7000001));
     let certification = Certification {
         module: 7000001,
         environment: 7000001,
         session: 7000001,
     };
     let request = NewCertification {
-        number: 7000009,
+        number: 7000004,
         account: 7,
         certification,
     };
@@ -508,18 +567,48 @@ fn a_certification_request_is_kept_with_its_session(rt: HostRuntime) -> Result<(
         .session(7000001)
         .expect(&rt, "a read")
         .expect(&rt, "a row");
-    assert_eq!(rt; session.certify, Some(7000009));
+    assert_eq!(rt; session.certify, Some(7000004));
+    let initial = status(&mut tables, 7000004).expect(&rt, "a read");
+    assert!(rt; matches!(initial, Some(RequestStatus::Initial)));
     let approval = Approval {
-        request: 7000009,
+        request: 7000004,
         approved: 7000001,
     };
     assert_eq!(rt; tables.order(&OrderChange::Approve(approval)), Ok(()));
-    let request = tables
-        .request(7000009)
+    let approved = status(&mut tables, 7000004).expect(&rt, "a read");
+    assert!(rt; matches!(approved, Some(RequestStatus::Approved(7000001))));
+    let unknown = status(&mut tables, 7000009).expect(&rt, "a read");
+    assert!(rt; unknown.is_none());
+    Ok(())
+}
+
+#[test]
+fn vendors_modules_and_environments_are_numbered_apart(rt: HostRuntime) -> Result<(), Fail> {
+    let alloc = rt.alloc();
+    let mut tables = ListTables::new(alloc);
+    assert!(rt; register_all(alloc, &mut tables));
+    let counts = tables.counts(7).expect(&rt, "counts");
+    assert_eq!(rt;
+        (
+            counts.vendors,
+            counts.modules,
+            counts.environments,
+            counts.requests
+        ),
+        (1, 1, 1, 3)
+    );
+    let module = tables
+        .object(Kind::Module, 7000001)
         .expect(&rt, "a read")
         .expect(&rt, "a row");
-    assert!(rt; matches!(request.status, RequestStatus::Approved(7000001)));
-    assert_eq!(rt; tables.counts(7).expect(&rt, "counts").vendors, 0);
+    assert_eq!(rt; module.object.text(), MODULE);
+    assert_eq!(rt; module.object.vendor(), Some(7000001));
+    let environment = tables
+        .object(Kind::Environment, 7000001)
+        .expect(&rt, "a read")
+        .expect(&rt, "a row");
+    assert_eq!(rt; environment.object.text(), ENVIRONMENT);
+    assert_eq!(rt; tables.owner(Kind::Environment, 7000002), Ok(None));
     Ok(())
 }
 
@@ -547,16 +636,7 @@ fn reviewers_are_told_once_and_ascending(rt: HostRuntime) -> Result<(), Fail> {
         session: 7000001,
         account: 9,
     };
-    assert!(rt;
-        on_reviewer(
-            &mut tables,
-            7,
-            7000001,
-            9,
-            Action::RemoveReviewer,
-            &Change::RemoveReviewer(reviewer)
-        )
-    );
+    assert!(rt; remove_reviewer(&mut tables, 7, reviewer));
     assert_eq!(rt; tables.is_reviewer(7000001, 9), Ok(false));
     assert_eq!(rt; tables.is_reviewer(7000001, 8), Ok(true));
     assert_eq!(rt; tables.is_reviewer(7000002, 8), Ok(false));
@@ -571,11 +651,7 @@ fn a_used_step_and_a_disabled_account_are_kept(rt: HostRuntime) -> Result<(), Fa
         secret: SECRET,
     };
     assert_eq!(rt; tables.order(&OrderChange::AddAccount(added)), Ok(()));
-    let used = UsedStep {
-        account: 7,
-        step: 2,
-    };
-    assert!(rt; on_login(&mut tables, 7, 2, &Change::UseStep(used)));
+    assert!(rt; use_step(&mut tables, 7, 2));
     assert_eq!(rt; tables.order(&OrderChange::DisableAccount(7)), Ok(()));
     let account = tables.account(7).expect(&rt, "a read").expect(&rt, "a row");
     assert_eq!(rt; (account.enabled, account.last_step), (false, Some(2)));

@@ -1,7 +1,7 @@
 //! Requests as a list.
 ghost use Rattle.std.specs.Prelude.{◌≡◌, ◌==◌, IfOk, Option, option_to_list};
 ghost use Rattle.acvp_tables.specs.Content.{request_summary, subject_of};
-ghost use Rattle.acvp_tables.specs.Changes.{is_request, with_status, new_request, new_certification, registered_by};
+ghost use Rattle.acvp_tables.specs.Changes.{is_request, with_status, new_request, new_certification, new_objects};
 
 use crate::change::{NewCertification, NewRequest};
 use crate::list::walks::{Edit, Show, Test};
@@ -111,8 +111,8 @@ pub(crate) fn new_certification(request: &NewCertification) -> RequestRow
 }
 
 /// The row of what is registered under a number where a request is approved.
-pub(crate) fn registered(row: &RequestRow, number: u64) -> Result<Option<ObjectRow>, AllocError>
-    ensures { IfOk result (λ found. option_to_list found ≡ registered_by row.now.account row.now.body number) }
+pub(crate) fn new_object(row: &RequestRow, number: u64) -> Result<Option<ObjectRow>, AllocError>
+    ensures { IfOk result (λ found. option_to_list found ≡ new_objects row.now.account row.now.body number) }
 {
     match &row.body {
         RequestBody::Registration(object) => {

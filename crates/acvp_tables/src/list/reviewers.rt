@@ -1,6 +1,6 @@
 //! Reviewers as a list.
-ghost use Rattle.std.specs.Prelude.{◌≡◌, ◌==◌, ◌&&◌, not, map, filter, OnOk, OnErr, IfErr, IfOk};
-ghost use Rattle.acvp_tables.specs.Content.{is_reviewer, reviewers_of, with_number, ascending};
+ghost use Rattle.std.specs.Prelude.{◌≡◌, ◌==◌, ◌&&◌, [], not, map, filter, OnOk, OnErr, IfErr, IfOk};
+ghost use Rattle.acvp_tables.specs.Private.Ascending.{with_number, ascending};
 ghost use Rattle.acvp_tables.specs.declared.tables.StoreFault.TheVariants.{Memory};
 ghost use Rattle.acvp_tables.specs.Changes.{is_pair, with_reviewer};
 
@@ -47,7 +47,7 @@ pub(crate) fn reviewers_of(
     rows: &[ReviewerRow],
     session: u64,
 ) -> Result<Vec<u16>, AllocError>
-    ensures { IfOk result (λ numbers. numbers.items ≡ reviewers_of session rows.now) }
+    ensures { IfOk result (λ numbers. numbers.items ≡ ascending [] (map (λ row. row.account) (filter (λ row. row.session == session) rows.now))) }
 {
     let mut numbers = Vec::new(alloc);
     for row in rows {

@@ -5,6 +5,6 @@ use Rattle.acvp_tables.proofs.laws.counts_are_kept.Goals as goal
 pub returns : goal.returns
 unfolding after_order
 returns c = record {
-  change = λ it content sound next counted. counted_after it content sound next counted;
+  change = λ it content sound next count counted. counted_after it content sound next count counted;
   order = λ it content counted. counted;
 }

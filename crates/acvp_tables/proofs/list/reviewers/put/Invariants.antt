@@ -1,5 +1,5 @@
 use Rattle.std.proofs.Common.{◌≡◌, ◌++◌, drop, take}
-use Rattle.acvp_tables.specs.Content.{with_number}
+use Rattle.acvp_tables.specs.Private.Ascending.{with_number}
 use Rattle.acvp_tables.proofs.list.reviewers.put.Given as goal
 
 abbrev pub invariant-loop-other : goal.invariant-loop-other
