@@ -187,11 +187,11 @@ counted_cancelled c x sound fits next counted = set_counted c x.set x.session ca
 -- ---- counters that differ by one set's part
 
 -- what the counters of a session that is there are
-record Counters (n : ℕ) (c : Content) (row : SessionRow) : Type 0 where
-  live : row.live ≡ live_count n c.sets
-  passed : row.passed ≡ passed_count n c.sets
+pub record Counters (n : ℕ) (c : Content) (row : SessionRow) : Type 0 where
+  pub live : row.live ≡ live_count n c.sets
+  pub passed : row.passed ≡ passed_count n c.sets
 
-counters : (n : ℕ) (c : Content) (row : SessionRow) → session_at n c.sessions ≡ Some row → IsCounted c → Counters n c row
+pub counters : (n : ℕ) (c : Content) (row : SessionRow) → session_at n c.sessions ≡ Some row → IsCounted c → Counters n c row
 counters n c row found counted =
     let has : (row.number == n) ≡ true = found_passes (is_session n) c.sessions row found in
     let is : row.number ≡ n = grind (arith, nat_tests, has) in

@@ -14,6 +14,7 @@ pub mod KeptSessions
 pub mod NumbersKept
 pub mod AddedAccount
 pub mod Approved
+pub mod Bounds
 pub mod MadeLemmas
 pub mod OnceLemmas
 pub mod EpochLemmas

@@ -117,7 +117,7 @@ pub own_sets_in : (s : ℕ) (state : State) → sets_in s (own (owner_of s) stat
 unfolding own
 own_sets_in s state = filter-within (λ (row : SetRecord). row.session == s) (λ row. owner_of row.session == owner_of s) (λ row e. grind (arith, nat_tests, e)) state.sets
 
-sets_numbered : (state : State) → IsWellNumbered state → (s : ℕ) → IsNumbered (λ row. row.number) (first_of_session s) (sets_in s state.sets)
+pub sets_numbered : (state : State) → IsWellNumbered state → (s : ℕ) → IsNumbered (λ row. row.number) (first_of_session s) (sets_in s state.sets)
 unfolding IsWellNumbered
 sets_numbered state well s = subst (λ rows. IsNumbered (λ row. row.number) (first_of_session s) rows) (own_sets_in s state) ((well (owner_of s)).sets s)
 
@@ -250,7 +250,7 @@ filter_agrees : {R : Type 0} (p q keyed : R → Bool) → ((r : R) → keyed r �
 filter_agrees p q keyed agree [] all = refl
 filter_agrees p q keyed agree (r ∷ rows) all = grind (arith, nat_tests, agree r, filter_agrees p q keyed agree rows)
 
-filter_both : {R : Type 0} (p q : R → Bool) (rows : List R) → filter (λ row. q row && p row) rows ≡ filter p (filter q rows)
+pub filter_both : {R : Type 0} (p q : R → Bool) (rows : List R) → filter (λ row. q row && p row) rows ≡ filter p (filter q rows)
 filter_both p q [] = refl
 filter_both p q (r ∷ rows) = grind (arith, nat_tests, filter_both p q rows)
 

@@ -76,7 +76,7 @@ is_pair_of s m row = (row.session == s) && (row.account == m)
 abbrev in_range : ℕ → ℕ → ReviewerRow → Bool
 in_range first last row = nat_le first row.account && nat_le row.account last
 
-abbrev accounts_in : ℕ → List ReviewerRow → List ℕ
+abbrev pub accounts_in : ℕ → List ReviewerRow → List ℕ
 accounts_in s rows = map (λ row. row.account) (filter (λ row. row.session == s) rows)
 
 -- no account is there twice, or passes the test already
@@ -118,7 +118,7 @@ placed_reviewers s rows all once =
     subst (λ none. ascending none (accounts_in s rows) ≡ filter (λ m. is_reviewer s m rows) (range_with_len 1 9999)) (none_pass 1 9999)
     (placed s 1 9999 9999 refl (λ m. false) rows all (λ m. omega (arith, once m)))
 
-of_sound : (s : ℕ) (state : State) → IsWellNumbered state → ascending [] (accounts_in s state.reviewers) ≡ reviewers_of s state.reviewers
+pub of_sound : (s : ℕ) (state : State) → IsWellNumbered state → ascending [] (accounts_in s state.reviewers) ≡ reviewers_of s state.reviewers
 unfolding IsWellNumbered own
 of_sound s state well = placed_reviewers s state.reviewers
     (by_class (λ a b. a == b) (λ row. owner_of row.session) (λ u row. is_account_number row.account) eqb_same state.reviewers (λ u. (well u).reviewers))

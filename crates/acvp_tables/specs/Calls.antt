@@ -8,7 +8,7 @@ module _ {T C : Type 0} (is_sound : C → Type 0) (stands : T → C → Type 0) 
 
 module _ {T C E : Type 0} (faults : E → Type 0) (stands : T → C → Type 0) (is_live is_clean : T → Type 0) (leaves : T → C → C → Type 0) where
   -- A read. It succeeds of a live store alone, which stays live. A store that is live stands for the same as before. After a
-  -- crash an open finds that alone: `leaves new c d` holds for every d.
+  -- crash an open finds that alone: `leaves new c d` holds for every d. Live or not, it leaves to a crash what was left before.
   pub record Reads {X : Type 0} (result : Result X E) (old new : T) : Type 0 where
     pub fault : IfErr result faults
     pub was_live : is_live new → is_live old
@@ -16,6 +16,7 @@ module _ {T C E : Type 0} (faults : E → Type 0) (stands : T → C → Type 0) 
     pub live : OnOk result (is_clean new → is_live old × is_live new)
     pub same : is_live new → (c : C) → stands old c → stands new c
     pub left : is_clean new → is_live old → (c d : C) → stands old c → leaves new c d
+    pub kept : is_clean new → (c d : C) → leaves old c d → leaves new c d
 
 module _ {T C E : Type 0} (is_sound : C → Type 0) (faults : E → Type 0) (stands : T → C → Type 0) (is_live is_clean : T → Type 0) (leaves : T → C → C → Type 0) where
   -- A change. It is made of a sound content where it succeeds, and a live store stays live; else the content stays. After a

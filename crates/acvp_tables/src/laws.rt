@@ -1,9 +1,9 @@
 //! What holds of the records and of their changes, whoever keeps them.
-ghost use Rattle.std.specs.Prelude.{◌≡◌, ◌≢◌, ℕ, ◌+◌, ◌/◌, List, [], map, Some, None, option_map, ◌==◌, ◌&&◌, if◌then◌else◌};
+ghost use Rattle.std.specs.Prelude.{◌≡◌, ◌≢◌, ℕ, ◌+◌, ◌/◌, ◌≤◌, List, [], map, length, filter, All, Some, None, IfSome, option_map, true, not, ◌==◌, ◌&&◌, if◌then◌else◌};
 ghost use Rattle.acvp_policy.specs.Granted.{Granted};
 ghost use Rattle.acvp_registry.specs.declared.kind.Kind.{Kind};
-ghost use Rattle.acvp_tables.specs.Content.{Content, no_rows, account_at, session_at, set_at, object_at, request_at, live_sets, is_reviewer, reviewers_of, sessions_of, objects_of, requests_of, page, counts_of};
-ghost use Rattle.acvp_tables.specs.State.{State, SessionRecord, SetRecord, session_record, set_record, state_of, own, seen, may_see, owner_of, session_record_at, set_record_at, sets_in, live_records, session_records_of, record_counts, IsWellNumbered, IsSound};
+ghost use Rattle.acvp_tables.specs.Content.{Content, no_rows, account_at, session_at, set_at, object_at, request_at, live_sets, is_reviewer, reviewers_of, sessions_of, objects_of, requests_of, page, counts_of, greatest_epoch_of};
+ghost use Rattle.acvp_tables.specs.State.{State, SessionRecord, SetRecord, session_record, set_record, state_of, own, seen, may_see, owner_of, first_of_account, first_of_session, session_record_at, set_record_at, sets_in, live_records, objects_in, session_records_of, record_counts, IsNumbered, IsWellNumbered, IsSound};
 ghost use Rattle.acvp_tables.specs.Changes.{after, after_order};
 ghost use Rattle.acvp_tables.specs.StateChanges.{after_state, after_order_state};
 ghost use Rattle.acvp_tables.specs.Counted.{IsCounted, IsNextCount, AreThere, one_if, has_passed, is_passed};
@@ -11,6 +11,7 @@ ghost use Rattle.acvp_tables.specs.Covers.{Covers};
 ghost use Rattle.acvp_tables.specs.Own.{account_of_change, account_of_order, Fits};
 ghost use Rattle.acvp_tables.specs.Next.{IsNext, IsNextOrder};
 ghost use Rattle.acvp_tables.specs.declared.rows.SessionRow.{SessionRow};
+ghost use Rattle.acvp_tables.specs.declared.rows.SetRow.{SetRow};
 ghost use Rattle.acvp_tables.specs.declared.rows.ObjectRow.{ObjectRow};
 ghost use Rattle.acvp_tables.specs.declared.rows.RequestRow.{RequestRow};
 ghost use Rattle.acvp_tables.specs.declared.change.KeptAnswers.{KeptAnswers};
@@ -117,4 +118,34 @@ pub fn numbers_are_kept()
 /// of the certified session.
 pub fn approvals_name_the_account()
     ensures { (a : Approval) (state : State) → IsWellNumbered state → IsNextOrder state (order.Approve a) → owner_of a.approved ≡ owner_of a.request }
+{}
+
+/// In well numbered records the rows of an account, or of a session, that are listed have rising numbers from its first on,
+/// without gaps; the sets that aren't cancelled are among them.
+pub fn lists_ascend()
+    ensures sessions { (u : ℕ) (state : State) → IsWellNumbered state → IsNumbered (λ row. row.number) (first_of_account u) (session_records_of u state.sessions) }
+    ensures objects { (u : ℕ) (kind : Kind) (state : State) → IsWellNumbered state → IsNumbered (λ row. row.number) (first_of_account u) (objects_of kind u state.objects) }
+    ensures requests { (u : ℕ) (state : State) → IsWellNumbered state → IsNumbered (λ row. row.number) (first_of_account u) (requests_of u state.requests) }
+    ensures sets { (s : ℕ) (state : State) → IsWellNumbered state → IsNumbered (λ row. row.number) (first_of_session s) (sets_in s state.sets) }
+    ensures live_sets { (s : ℕ) (state : State) → live_records s state.sets ≡ filter (λ row. not row.cancelled) (sets_in s state.sets) }
+{}
+
+/// What a caller counts is what the next numbers come from: the objects of a kind among an account's rows are those of the
+/// kind and the account, and a session's reviewers are as many as its rows of them.
+pub fn numbers_count()
+    ensures objects { (u : ℕ) (kind : Kind) (state : State) → objects_in kind (own u state).objects ≡ objects_of kind u state.objects }
+    ensures reviewers { (s : ℕ) (state : State) → IsWellNumbered state → length (reviewers_of s state.reviewers) ≡ length (filter (λ row. row.session == s) state.reviewers) }
+{}
+
+/// Where all counters are right, and a session and an uncancelled set of it are there, those of the session can be lessened
+/// by what the set gives them.
+pub fn counters_allow()
+    ensures live { (session set : ℕ) (c : Content) → IsSound c → IsCounted c → (there : AreThere session set c) → 1 ≤ there.row.live }
+    ensures passed { (session set : ℕ) (c : Content) → IsSound c → IsCounted c → (there : AreThere session set c) → has_passed there.set_row.graded ≡ true → 1 ≤ there.row.passed }
+{}
+
+/// Each set's epoch is at most the greatest, and only where there is no set there is no greatest.
+pub fn epochs_are_bounded()
+    ensures greatest { (rows : List SetRow) → IfSome (greatest_epoch_of rows) (λ greatest. All (λ row. row.epoch ≤ greatest) rows) }
+    ensures none { (rows : List SetRow) → greatest_epoch_of rows ≡ None → rows ≡ [] }
 {}
