@@ -1,0 +1,36 @@
+-- What is judged, and the first condition that doesn't hold.
+use Rattle.std.proofs.Common.{◌≡◌, List, [], ◌∷◌, ◌++◌, Bool, true, false, Option, None, Some, Ok, Err, refl}
+use Rattle.acvp_mac.specs.Conditions.{Condition, first_broken, judged, unless}
+
+pub broken : {F X : Type 0} (conditions : List (Condition F)) (value : X) (fault : F) → judged conditions value ≡ Err fault → first_broken conditions ≡ Some fault
+broken {F = F} conditions value fault is = go (first_broken conditions) is
+  where
+    go : (b : Option F) → unless b value ≡ Err fault → b ≡ Some fault
+    go None e = absurd (cc)
+    go (Some f) e = cc
+
+pub held : {F X : Type 0} (conditions : List (Condition F)) (value x : X) → judged conditions value ≡ Ok x → first_broken conditions ≡ None
+held {F = F} conditions value x is = go (first_broken conditions) is
+  where
+    go : (b : Option F) → unless b value ≡ Ok x → b ≡ None
+    go None e = refl
+    go (Some f) e = absurd (cc)
+
+-- conditions after one another
+pub front_broken : {F : Type 0} (front rest : List (Condition F)) (fault : F) → first_broken front ≡ Some fault → first_broken (front ++ rest) ≡ Some fault
+front_broken [] rest fault e = absurd (cc)
+front_broken {F = F} (c ∷ front) rest fault e = go c.0 (front_broken front rest fault) e
+  where
+    go : (b : Bool) → (first_broken front ≡ Some fault → first_broken (front ++ rest) ≡ Some fault) → first_broken ((b, c.1) ∷ front) ≡ Some fault
+        → first_broken ((b, c.1) ∷ front ++ rest) ≡ Some fault
+    go true later e = later e
+    go false later e = e
+
+pub front_held : {F : Type 0} (front rest : List (Condition F)) → first_broken front ≡ None → first_broken (front ++ rest) ≡ first_broken rest
+front_held [] rest e = refl
+front_held {F = F} (c ∷ front) rest e = go c.0 (front_held front rest) e
+  where
+    go : (b : Bool) → (first_broken front ≡ None → first_broken (front ++ rest) ≡ first_broken rest) → first_broken ((b, c.1) ∷ front) ≡ None
+        → first_broken ((b, c.1) ∷ front ++ rest) ≡ first_broken rest
+    go true later e = later e
+    go false later e = absurd (cc)

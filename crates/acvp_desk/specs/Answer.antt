@@ -1,0 +1,161 @@
+-- What a request is answered, and what it changes.
+use Rattle.std.specs.Prelude.{◌≡◌, ◌⊎◌, ℕ, ◌≤◌, false, List, [], ◌∷◌, ◌++◌, length, drop, nat_lt, Option, Some, None, option_map, option_and_then, Result, Ok, Err, ⊤}
+use Rattle.acvp_json.specs.Data.{Data}
+use Rattle.acvp_mac.specs.Conditions.{Condition, judged}
+use Rattle.acvp_token.specs.TokenText.{ring_token_text}
+use Rattle.acvp_json.specs.LoginBody.{login_body_conditions}
+use Rattle.acvp_json.specs.ReplyData.{token_data}
+use Rattle.acvp_json.specs.Written.{body_of}
+use Rattle.acvp_policy.specs.Granted.{Granted}
+use Rattle.acvp_policy.specs.Policy.{policy}
+use Rattle.acvp_policy.specs.declared.action.Action.{Action}
+use Rattle.acvp_policy.specs.declared.action.Action.TheVariants as action
+use Rattle.acvp_policy.specs.declared.facts.Facts.{Facts}
+use Rattle.acvp_policy.specs.declared.facts.Standing.TheVariants as standing
+use Rattle.acvp_policy.specs.declared.facts.Subject.TheVariants as subject
+use Rattle.acvp_policy.specs.declared.facts.Token.TheVariants as token
+use Rattle.acvp_policy.specs.declared.rule.Rule.{Rule}
+use Rattle.acvp_policy.specs.declared.rule.Rule.TheVariants as rule
+use Rattle.acvp_tables.specs.Changes.{after}
+use Rattle.acvp_tables.specs.Content.{Content, account_at}
+use Rattle.acvp_tables.specs.Covers.{Covers}
+use Rattle.acvp_tables.specs.Own.{Fits}
+use Rattle.acvp_tables.specs.State.{State, state_of}
+use Rattle.acvp_tables.specs.StateChanges.{after_state}
+use Rattle.acvp_tables.specs.declared.change.Change.{Change}
+use Rattle.acvp_tables.specs.declared.change.Change.TheVariants as change
+use Rattle.acvp_desk.specs.Bodies.{body_conditions}
+use Rattle.acvp_desk.specs.Login.{login_ask_at, login_facts, step_of, claims_at}
+use Rattle.acvp_desk.specs.declared.ask.Ask.{Ask}
+use Rattle.acvp_desk.specs.declared.ask.Ask.TheVariants as ask
+use Rattle.acvp_desk.specs.declared.find.Found.{Found}
+use Rattle.acvp_desk.specs.declared.keys.Keys.{Keys}
+use Rattle.acvp_desk.specs.declared.request.TypedRequest.{TypedRequest}
+
+-- the first moment that is no longer served: the year 2100, in seconds since 1970
+abbrev pub end_of_moments : ℕ
+end_of_moments = 4102444800
+
+-- ---- what is asked
+
+-- the conditions on the body that are looked at before a row is: those on a login's. What has no case yet has no route
+abbrev pub first_conditions_on : Action → List ℕ → List (Condition Rule)
+first_conditions_on action.Login body = body_conditions login_body_conditions body
+first_conditions_on _ body = (false, rule.NoRoute) ∷ []
+
+-- the conditions that are looked at before a row is
+abbrev pub first_conditions : ℕ → TypedRequest → List (Condition Rule)
+first_conditions moment r = (nat_lt moment end_of_moments, rule.ClockOutOfRange) ∷ first_conditions_on r.action r.body.now
+
+abbrev pub ask_on : Keys → Action → List ℕ → Option Ask
+ask_on keys action.Login body = option_map ask.Login (login_ask_at keys.token body)
+ask_on keys _ body = None
+
+abbrev pub ask_of : Keys → TypedRequest → Option Ask
+ask_of keys r = ask_on keys r.action r.body.now
+
+abbrev pub action_of : Ask → Action
+action_of (ask.Login login) = action.Login
+
+-- ---- what is found
+
+-- whose row is looked up
+abbrev pub who : Ask → Option ℕ
+who (ask.Login login) = login.user
+
+abbrev pub found_of : Ask → State → Found
+found_of it state = record { account = option_and_then (λ n. account_at n state.accounts) (who it) }
+
+abbrev pub facts_from : ℕ → Ask → Found → Facts
+facts_from moment (ask.Login login) found = record {
+  moment = moment;
+  token = token.Missing;
+  standing = standing.Absent;
+  reviewer = false;
+  subject = subject.Login (login_facts moment login found.account);
+}
+
+-- ---- the answer
+
+-- the conditions on what was found
+unfoldable pub later_conditions : ℕ → Ask → Found → List (Condition Rule)
+later_conditions moment it found = policy (action_of it) (facts_from moment it found)
+
+-- the object of the reply
+abbrev pub reply_of : Keys → ℕ → Ask → Found → Option Data
+reply_of keys moment (ask.Login login) found = option_map (λ row. token_data (ring_token_text keys.token (claims_at moment login row))) found.account
+
+-- the change that is made
+abbrev pub change_of : ℕ → Ask → Found → Option Change
+change_of moment (ask.Login login) found =
+    option_and_then (λ row. option_map (λ step. change.UseStep (record { account = row.number; step = step })) (step_of moment login row)) found.account
+
+abbrev pub later_of : ℕ → Option Ask → State → List (Condition Rule)
+later_of moment None state = []
+later_of moment (Some it) state = later_conditions moment it (found_of it state)
+
+-- all conditions, in their order
+abbrev pub conditions : Keys → ℕ → TypedRequest → State → List (Condition Rule)
+conditions keys moment r state = first_conditions moment r ++ later_of moment (ask_of keys r) state
+
+abbrev pub reply_to : Keys → ℕ → Option Ask → State → Option Data
+reply_to keys moment None state = None
+reply_to keys moment (Some it) state = reply_of keys moment it (found_of it state)
+
+-- the rule of the first condition that doesn't hold, or the object of the reply
+unfoldable pub answer : Keys → ℕ → TypedRequest → State → Result (Option Data) Rule
+answer keys moment r state = judged (conditions keys moment r state) (reply_to keys moment (ask_of keys r) state)
+
+-- ---- the effect
+
+abbrev pub change_by : ℕ → Option Ask → State → Option Change
+change_by moment None state = None
+change_by moment (Some it) state = change_of moment it (found_of it state)
+
+-- the change of a request that is accepted
+abbrev pub change_on : Result (Option Data) Rule → Option Change → Option Change
+change_on (Ok reply) it = it
+change_on (Err rule) it = None
+
+unfoldable pub accepted_change : Keys → ℕ → TypedRequest → State → Option Change
+accepted_change keys moment r state = change_on (answer keys moment r state) (change_by moment (ask_of keys r) state)
+
+abbrev pub state_after : Option Change → State → State
+state_after None state = state
+state_after (Some it) state = after_state it state
+
+abbrev pub content_after : Option Change → Content → Content
+content_after None c = c
+content_after (Some it) c = after it c
+
+-- the records after a request
+abbrev pub effect : Keys → ℕ → TypedRequest → State → State
+effect keys moment r state = state_after (accepted_change keys moment r state) state
+
+-- and what is kept of them
+abbrev pub content_effect : Keys → ℕ → TypedRequest → Content → Content
+content_effect keys moment r c = content_after (accepted_change keys moment r (state_of c)) c
+
+-- ---- the reply
+
+-- the bytes that a reply's head is written into stand before its body
+abbrev pub spare : ℕ
+spare = 256
+
+-- the spare bytes, and then the body of an object
+abbrev pub IsReply : List ℕ → Option Data → Type 0
+IsReply buffer None = ⊥
+IsReply buffer (Some object) = (spare ≤ length buffer) × (drop spare buffer ≡ body_of object)
+
+abbrev pub Gives : List ℕ → Result (Option Data) Rule → Type 0
+Gives buffer (Ok object) = IsReply buffer object
+Gives buffer (Err rule) = ⊥
+
+-- a refusal for want of memory or of the store, or by this rule
+abbrev pub Refuses : {X : Type 0} → Rule → Result X Rule → Type 0
+Refuses r result = (r ≡ rule.Unavailable) ⊎ (result ≡ Err r)
+
+-- the grant is leave for the change, where one is made
+abbrev pub CoversAny : Granted → Option Change → Type 0
+CoversAny grant None = ⊤
+CoversAny grant (Some it) = Covers grant it × Fits it

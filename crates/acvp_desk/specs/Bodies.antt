@@ -1,0 +1,29 @@
+-- The conditions on the body of a request, each with the rule that says that it doesn't hold.
+use Rattle.std.specs.Prelude.{ℕ, List, [], map, ◌++◌, Option, Some, None}
+use Rattle.acvp_json.specs.Data.{Data}
+use Rattle.acvp_mac.specs.Conditions.{Condition, with_fault}
+use Rattle.acvp_json.specs.Envelope.{envelope_conditions, object_of}
+use Rattle.acvp_json.specs.declared.fault.BodyFault.{BodyFault}
+use Rattle.acvp_json.specs.declared.fault.BodyFault.TheVariants as fault
+use Rattle.acvp_policy.specs.declared.rule.Rule.{Rule}
+use Rattle.acvp_policy.specs.declared.rule.Rule.TheVariants as rule
+
+-- the rule of a body's fault
+abbrev pub rule_of : BodyFault → Rule
+rule_of fault.BodyNotJson = rule.BodyNotJson
+rule_of fault.BodyEnvelope = rule.BodyEnvelope
+rule_of fault.BodyField = rule.BodyField
+rule_of fault.UnknownTest = rule.UnknownTest
+rule_of fault.DuplicateTest = rule.DuplicateTest
+rule_of fault.SetMismatch = rule.SetMismatch
+rule_of fault.NoReference = rule.NoReference
+rule_of fault.Memory = rule.Unavailable
+
+-- what is asked of the object of a body, where there is one
+abbrev pub object_conditions : (Data → List (Condition BodyFault)) → Option Data → List (Condition BodyFault)
+object_conditions conditions None = []
+object_conditions conditions (Some d) = conditions d
+
+-- what is asked of a body: its envelope, and then its object
+abbrev pub body_conditions : (Data → List (Condition BodyFault)) → List ℕ → List (Condition Rule)
+body_conditions conditions body = map (with_fault rule_of) (envelope_conditions body ++ object_conditions conditions (object_of body))

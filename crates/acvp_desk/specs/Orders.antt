@@ -1,0 +1,77 @@
+-- The operator's orders: what each is answered, and what it changes.
+use Rattle.std.specs.Prelude.{◌≡◌, ℕ, length, Bool, true, Option, Some, None, is_some, if◌then◌else◌, ⊤}
+use Rattle.acvp_tables.specs.Changes.{after_order}
+use Rattle.acvp_tables.specs.Content.{Content, account_at}
+use Rattle.acvp_tables.specs.State.{State, is_account_number, state_of, IsSound}
+use Rattle.acvp_tables.specs.StateChanges.{after_order_state}
+use Rattle.acvp_tables.specs.declared.change.OrderChange.{OrderChange}
+use Rattle.acvp_tables.specs.declared.change.OrderChange.TheVariants as change
+use Rattle.acvp_desk.specs.declared.order.Order.{Order}
+use Rattle.acvp_desk.specs.declared.order.Order.TheVariants as order
+use Rattle.acvp_desk.specs.declared.order.OrderReply.{OrderReply}
+use Rattle.acvp_desk.specs.declared.order.OrderReply.TheVariants.{Done, Taken, Unknown, Unavailable}
+
+-- the account that is named has a number from 1 to 9999
+abbrev pub IsOrder : Order → Type 0
+IsOrder (order.AddAccount account secret) = is_account_number account ≡ true
+IsOrder (order.DisableAccount account) = is_account_number account ≡ true
+IsOrder (order.ApproveRequest request) = ⊤
+IsOrder (order.RejectRequest request) = ⊤
+
+-- the secret has 32 bytes
+abbrev pub HasSecret : Order → Type 0
+HasSecret (order.AddAccount account secret) = length secret ≡ 32
+HasSecret _ = ⊤
+
+abbrev pub has_account : ℕ → State → Bool
+has_account account state = is_some (account_at account state.accounts)
+
+-- what an order is answered. What has no case yet knows no request
+unfoldable pub order_reply : Order → State → OrderReply
+order_reply (order.AddAccount account secret) state = if has_account account state then Taken else Done None
+order_reply (order.DisableAccount account) state = if has_account account state then Done None else Unknown
+order_reply (order.ApproveRequest request) state = Unknown
+order_reply (order.RejectRequest request) state = Unknown
+
+-- the change that it makes, unless it is refused
+unfoldable pub order_change : Order → State → Option OrderChange
+order_change (order.AddAccount account secret) state =
+    if has_account account state then None else Some (change.AddAccount (record { account = account; secret = secret }))
+order_change (order.DisableAccount account) state = if has_account account state then Some (change.DisableAccount account) else None
+order_change (order.ApproveRequest request) state = None
+order_change (order.RejectRequest request) state = None
+
+abbrev pub state_after_order : Option OrderChange → State → State
+state_after_order None state = state
+state_after_order (Some it) state = after_order_state it state
+
+abbrev pub content_after_order : Option OrderChange → Content → Content
+content_after_order None c = c
+content_after_order (Some it) c = after_order it c
+
+-- the records after an order
+abbrev pub order_effect : Order → State → State
+order_effect it state = state_after_order (order_change it state) state
+
+-- and what is kept of them
+abbrev pub content_order_effect : Order → Content → Content
+content_order_effect it c = content_after_order (order_change it (state_of c)) c
+
+-- what is said of an answer that was carried out, and of one that wasn't
+abbrev pub IfAnswered : OrderReply → Type 0 → Type 0 → Type 0
+IfAnswered Unavailable P Q = Q
+IfAnswered _ P Q = P
+
+module _ {T : Type 0} (stands : T → Content → Type 0) (is_live is_clean : T → Type 0) (leaves : T → Content → Content → Type 0) where
+  -- For every content that the tables stand for: the order is answered, and the content after its effect stands; or it is
+  -- unavailable, and all stands as it did. A crash finds the effect of what was answered; and of what was unavailable, what
+  -- there was or that with the effect.
+  pub record Orders (reply : OrderReply) (old new : T) (it : Order) : Type 0 where
+    pub was_live : is_live new → is_live old
+    pub was_clean : is_clean new → is_clean old
+    pub answered : IfAnswered reply
+        (is_live new → (c : Content) → IsSound c → stands old c → (reply ≡ order_reply it (state_of c)) × stands new (content_order_effect it c))
+        (is_live new → (c : Content) → IsSound c → stands old c → stands new c)
+    pub settled : IfAnswered reply
+        (is_clean new → is_live old → (c d : Content) → IsSound c → stands old c → leaves new (content_order_effect it c) d)
+        (is_clean new → is_live old → (c : Content) → IsSound c → stands old c → leaves new c (content_order_effect it c))

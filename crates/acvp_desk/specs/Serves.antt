@@ -1,0 +1,46 @@
+-- What serving a request does to what the tables stand for.
+use Rattle.std.specs.Prelude.{◌≡◌, ℕ, Result, Ok, Err, OnOk, OnErr, IfOk, IfErr, Bool, is_some, ⊤}
+use Rattle.acvp_policy.specs.declared.rule.Rule.{Rule}
+use Rattle.acvp_tables.specs.Content.{Content}
+use Rattle.acvp_tables.specs.State.{state_of}
+use Rattle.acvp_desk.specs.Answer.{answer, accepted_change, content_effect, Gives, Refuses}
+use Rattle.acvp_desk.specs.Kept.{IsKept}
+use Rattle.acvp_desk.specs.declared.desk.DeskReply.{DeskReply}
+use Rattle.acvp_desk.specs.declared.desk.DeskReply.TheVariants.{Given, Denied}
+use Rattle.acvp_desk.specs.declared.keys.Keys.{Keys}
+use Rattle.acvp_desk.specs.declared.request.TypedRequest.{TypedRequest}
+use Rattle.acvp_desk.specs.declared.serve.Served.{Served}
+
+-- what is given, with whether a change was made
+abbrev pub result_of : DeskReply → Bool → Result Served Rule
+result_of (Given reply) changed = Ok (record { reply = reply; changed = changed })
+result_of (Denied rule) changed = Err rule
+
+-- what is said of a denial
+abbrev pub IfDenied : DeskReply → Type 0 → Type 0
+IfDenied (Given reply) P = ⊤
+IfDenied (Denied rule) P = P
+
+module _ {T : Type 0} (stands : T → Content → Type 0) (is_live is_clean : T → Type 0) (leaves : T → Content → Content → Type 0) where
+  -- The tables are looked at, or left alone: as a read, but that nothing need be asked of them.
+  pub record Looks {X E : Type 0} (result : Result X E) (old new : T) : Type 0 where
+    pub was_live : is_live new → is_live old
+    pub was_clean : is_clean new → is_clean old
+    pub live : OnOk result (is_clean new → is_live old → is_live new)
+    pub same : is_live new → (c : Content) → stands old c → stands new c
+    pub left : is_clean new → is_live old → (c d : Content) → stands old c → leaves new c d
+    pub kept : is_clean new → (c d : Content) → leaves old c d → leaves new c d
+
+  -- For every content that the tables stand for: the reply is given, and the content after the request's effect stands and
+  -- holds what is held at all times; or the request is refused, and all stands as it did. A crash finds the effect of what
+  -- was given; and of what was refused, what there was or that with the effect.
+  pub record Serves (result : Result Served Rule) (old new : T) (keys : Keys) (moment : ℕ) (r : TypedRequest) : Type 0 where
+    pub was_live : is_live new → is_live old
+    pub was_clean : is_clean new → is_clean old
+    pub given : IfOk result (λ served. is_live new → (c : Content) → IsKept keys.seed c → stands old c
+        → Gives served.reply.items (answer keys moment r (state_of c)) × stands new (content_effect keys moment r c)
+        × (served.changed ≡ is_some (accepted_change keys moment r (state_of c))))
+    pub denied : IfErr result (λ rule. is_live new → (c : Content) → IsKept keys.seed c → stands old c
+        → Refuses rule (answer keys moment r (state_of c)) × stands new c)
+    pub settled : OnOk result (is_clean new → is_live old → (c d : Content) → IsKept keys.seed c → stands old c → leaves new (content_effect keys moment r c) d)
+    pub unsettled : OnErr result (is_clean new → is_live old → (c : Content) → IsKept keys.seed c → stands old c → leaves new c (content_effect keys moment r c))

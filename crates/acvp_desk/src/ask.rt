@@ -1,0 +1,182 @@
+//! What a request asks, as far as it is known before a row is looked at.
+
+ghost use Rattle.std.specs.Prelude.{◌≡◌, ◌⊎◌, ◌<◌, Some, None, IfOk, IfErr};
+ghost use Rattle.acvp_mac.specs.Conditions.{first_broken};
+ghost use Rattle.acvp_json.specs.Envelope.{envelope_conditions, object_of};
+ghost use Rattle.acvp_json.specs.LoginBody.{login_body_conditions, login_body_of};
+ghost use Rattle.acvp_json.specs.View.{view};
+ghost use Rattle.acvp_json.specs.declared.fault.BodyFault.{BodyFault};
+ghost use Rattle.acvp_desk.specs.Bodies.{rule_of, body_conditions};
+ghost use Rattle.acvp_desk.specs.Login.{login_ask_at, login_at, password_of, user_of, renewal_of};
+ghost use Rattle.acvp_desk.specs.Answer.{ask_of, first_conditions, first_conditions_on, action_of, end_of_moments};
+
+use crate::keys::Keys;
+use crate::request::TypedRequest;
+use acvp_json::{BodyFault, LoginBody, Text, open_envelope, read_login};
+use acvp_mac::{joined_conditions, renamed_conditions};
+use acvp_policy::{Action, Renewal, Rule};
+use acvp_registry::{digits_number, plain_number};
+use acvp_token::{KeyRing, TokenFault, verify_ring_for_renewal};
+use serde_json::Value;
+use std::alloc::Global;
+
+/// The first moment that is no longer served: the year 2100, in seconds since 1970.
+const END_OF_MOMENTS: u64 = 4102444800;
+
+/// What a login asks: whose it is, where the user is the plain decimal of an account's number; the number of its
+/// one-time code, where the password has the form of one; and what the token that it hands in came to.
+#[derive(Clone, Copy)]
+pub(crate) struct LoginAsk {
+    pub user: Option<u16>,
+    pub password: Option<u32>,
+    pub renewal: Renewal,
+}
+
+/// What is asked.
+#[derive(Clone, Copy)]
+pub(crate) enum Ask {
+    Login(LoginAsk),
+}
+
+impl Ask {
+    /// The action that it is.
+    pub fn action(self) -> Action
+        ensures { result ≡ action_of self }
+    {
+        match self {
+            Ask::Login(_) => Action::Login,
+        }
+    }
+}
+
+/// The number of a one-time code.
+fn password_number(text: &[u8]) -> Option<u32>
+    ensures { result ≡ password_of text.now }
+{
+    if text.len() != 8 {
+        return None;
+    }
+    let number = digits_number(text)?;
+    Some(number as u32)
+}
+
+/// The account's number that the user is.
+fn user_number(text: &[u8]) -> Option<u16>
+    ensures { result ≡ user_of text.now }
+{
+    match plain_number(text)? {
+        number if number >= 1 && number <= 9999 => Some(number as u16),
+        _ => None,
+    }
+}
+
+/// What the token that is handed in came to; nothing where memory was refused.
+fn renewal(alloc: Global, ring: &KeyRing, text: &Option<Text>) -> Result<Renewal, Rule>
+    ensures value { IfOk result (λ renewal. renewal ≡ renewal_of ring.now text.now) }
+    ensures memory { IfErr result (λ rule. rule ≡ Rule.Unavailable) }
+{
+    let Some(text) = text else {
+        return Ok(Renewal::Unasked);
+    };
+    match verify_ring_for_renewal(alloc, ring, text.as_str().as_bytes()) {
+        Ok(claims) => Ok(Renewal::Reads(claims)),
+        Err(TokenFault::Memory) => Err(Rule::Unavailable),
+        Err(_) => Ok(Renewal::Unreadable),
+    }
+}
+
+/// The rule of a body's fault.
+fn rule_of(fault: BodyFault) -> Rule
+    ensures { result ≡ rule_of fault }
+{
+    match fault {
+        BodyFault::BodyNotJson => Rule::BodyNotJson,
+        BodyFault::BodyEnvelope => Rule::BodyEnvelope,
+        BodyFault::BodyField => Rule::BodyField,
+        BodyFault::UnknownTest => Rule::UnknownTest,
+        BodyFault::DuplicateTest => Rule::DuplicateTest,
+        BodyFault::SetMismatch => Rule::SetMismatch,
+        BodyFault::NoReference => Rule::NoReference,
+        BodyFault::Memory => Rule::Unavailable,
+    }
+}
+
+/// The object of a body, or the rule of the first condition on its envelope that doesn't hold.
+fn opened(alloc: Global, body: &[u8]) -> Result<Value, Rule>
+    ensures ok { IfOk result (λ object. (first_broken (envelope_conditions body.now) ≡ None) × (object_of body.now ≡ Some (view object))) }
+    ensures err { IfErr result (λ rule. (rule ≡ Rule.Unavailable)
+        ⊎ ((fault : BodyFault) × (first_broken (envelope_conditions body.now) ≡ Some fault) × (rule ≡ rule_of fault))) }
+{
+    match open_envelope(alloc, body) {
+        Ok(object) => Ok(object),
+        Err(fault) => Err(rule_of(fault)),
+    }
+}
+
+/// What the object of a login says, or the rule of the first condition on it that doesn't hold.
+fn said(alloc: Global, object: &Value) -> Result<LoginBody, Rule>
+    ensures ok { IfOk result (λ login. (first_broken (login_body_conditions (view object.now)) ≡ None) × (login_body_of (view object.now) ≡ Some login)) }
+    ensures err { IfErr result (λ rule. (rule ≡ Rule.Unavailable)
+        ⊎ ((fault : BodyFault) × (first_broken (login_body_conditions (view object.now)) ≡ Some fault) × (rule ≡ rule_of fault))) }
+{
+    match read_login(alloc, object) {
+        Ok(login) => Ok(login),
+        Err(fault) => Err(rule_of(fault)),
+    }
+}
+
+/// What the body of a login says, or the rule of the first condition on it that doesn't hold.
+fn login_body(alloc: Global, body: &[u8]) -> Result<LoginBody, Rule>
+    ensures ok { IfOk result (λ login. (first_broken (body_conditions login_body_conditions body.now) ≡ None) × (login_at body.now ≡ Some login)) }
+    ensures err { IfErr result (λ rule. (rule ≡ Rule.Unavailable) ⊎ (first_broken (body_conditions login_body_conditions body.now) ≡ Some rule)) }
+{
+    joined_conditions::<BodyFault>();
+    renamed_conditions::<BodyFault, Rule>();
+    let object = match opened(alloc, body) {
+        Ok(object) => object,
+        Err(rule) => return Err(rule),
+    };
+    said(alloc, &object)
+}
+
+/// What a login asks.
+fn login_ask(alloc: Global, ring: &KeyRing, body: &[u8]) -> Result<LoginAsk, Rule>
+    ensures ok { IfOk result (λ ask. (first_broken (body_conditions login_body_conditions body.now) ≡ None) × (login_ask_at ring.now body.now ≡ Some ask)) }
+    ensures err { IfErr result (λ rule. (rule ≡ Rule.Unavailable) ⊎ (first_broken (body_conditions login_body_conditions body.now) ≡ Some rule)) }
+{
+    let login = login_body(alloc, body)?;
+    let renewal = renewal(alloc, ring, &login.access_token)?;
+    Ok(LoginAsk {
+        user: user_number(login.user.as_str().as_bytes()),
+        password: password_number(login.password.as_str().as_bytes()),
+        renewal,
+    })
+}
+
+/// What a request asks, or the rule of the first condition on its body that is looked at before a row is and doesn't hold.
+fn ask_in(alloc: Global, keys: &Keys, request: &TypedRequest<'_>) -> Result<Ask, Rule>
+    ensures ok { IfOk result (λ ask. (first_broken (first_conditions_on request.now.action request.now.body.now) ≡ None) × (ask_of keys.now request.now ≡ Some ask)) }
+    ensures err { IfErr result (λ rule. (rule ≡ Rule.Unavailable) ⊎ (first_broken (first_conditions_on request.now.action request.now.body.now) ≡ Some rule)) }
+{
+    match request.action {
+        Action::Login => Ok(Ask::Login(login_ask(alloc, &keys.token, request.body)?)),
+        _ => Err(Rule::NoRoute),
+    }
+}
+
+/// What a request asks, or the rule of the first condition that is looked at before a row is and doesn't hold.
+pub(crate) fn ask_for(
+    alloc: Global,
+    keys: &Keys,
+    moment: u64,
+    request: &TypedRequest<'_>,
+) -> Result<Ask, Rule>
+    ensures moment { IfOk result (λ _. moment < end_of_moments) }
+    ensures ok { IfOk result (λ ask. (first_broken (first_conditions moment request.now) ≡ None) × (ask_of keys.now request.now ≡ Some ask)) }
+    ensures err { IfErr result (λ rule. (rule ≡ Rule.Unavailable) ⊎ (first_broken (first_conditions moment request.now) ≡ Some rule)) }
+{
+    if moment >= END_OF_MOMENTS {
+        return Err(Rule::ClockOutOfRange);
+    }
+    ask_in(alloc, keys, request)
+}

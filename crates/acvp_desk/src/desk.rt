@@ -1,0 +1,117 @@
+//! The desk: the keys of a server, and its records.
+
+ghost use Rattle.std.specs.Prelude.{◌≡◌, false, IfOk, IfErr};
+ghost use Rattle.acvp_tables.specs.Content.{Content, greatest_epoch_of};
+ghost use Rattle.acvp_tables.specs.State.{IsSound};
+ghost use Rattle.acvp_desk.specs.Desk.{HasSeeds, tables_of};
+ghost use Rattle.acvp_desk.specs.Orders.{IsOrder, Orders};
+ghost use Rattle.acvp_desk.specs.Serves.{Looks, Serves, result_of, IfDenied};
+
+use crate::keys::Keys;
+use crate::order::{Order, OrderReply, order_on};
+use crate::request::TypedRequest;
+use crate::serve::{Served, serve};
+use acvp_policy::Rule;
+use acvp_tables::{StoreFault, Tables};
+use std::alloc::Global;
+use std::marker::Model;
+
+/// What a request is answered.
+#[derive(Drop)]
+pub enum DeskReply {
+    /// 256 spare bytes, and then the body of the reply.
+    Given(Vec<u8>),
+
+    /// The rule that is broken. Nothing has changed.
+    Denied(Rule),
+}
+
+/// A reply, and whether a change was made of the records.
+#[derive(Drop)]
+pub struct Outcome {
+    pub reply: DeskReply,
+    pub changed: bool,
+}
+
+/// The keys of a server, and its records.
+#[derive(Drop)]
+pub struct Desk<T: Tables> {
+    keys: Keys,
+    tables: T,
+}
+
+impl<T: Tables> Model for Desk<T> {
+    ghost use Rattle.acvp_desk.specs.Desk.{DeskValue};
+
+    ghost Value = { DeskValue T };
+
+    ghost view = { λ d. record { keys = d.keys; tables = d.tables } };
+}
+
+/// Why there is no desk.
+#[derive(Clone, Copy, Debug, PartialEq, Eq)]
+pub enum NewFault {
+    /// Memory ran out, the store's too.
+    Memory,
+
+    /// A vector set was made under a seed that isn't there.
+    Epoch,
+
+    /// The store refused a statement, or met a row that stands for nothing.
+    Store,
+}
+
+impl<T: Tables> Desk<T> {
+    /// A desk over these records, whose vector sets were all made under seeds that are there. On a fault the records are
+    /// handed back.
+    pub fn new(keys: Keys, tables: T) -> Result<Desk<T>, (T, NewFault)>
+        ensures keys { IfOk result (λ desk. desk.keys ≡ keys) }
+        ensures looks { Looks T.stands T.is_live T.is_clean T.leaves result tables (tables_of result) }
+        ensures seeded { T.is_live (tables_of result) → IfOk result (λ _. (c : Content) → IsSound c → T.stands tables c → HasSeeds keys.seed (greatest_epoch_of c.sets)) }
+        ensures epoch { T.is_live (tables_of result) → IfErr result (λ fault. fault.1 ≡ NewFault.Epoch → (c : Content) → IsSound c → T.stands tables c → ¬ HasSeeds keys.seed (greatest_epoch_of c.sets)) }
+    {
+        let mut tables = tables;
+        let newest = keys.seed.newest();
+        match tables.greatest_epoch() {
+            Ok(Some(epoch)) if epoch > newest => Err((tables, NewFault::Epoch)),
+            Ok(_) => Ok(Desk { keys, tables }),
+            Err(StoreFault::Memory) => Err((tables, NewFault::Memory)),
+            Err(StoreFault::Refused) => Err((tables, NewFault::Store)),
+        }
+    }
+
+    /// Carries an operator's order out. The moment isn't used.
+    pub fn order(&mut self, moment: u64, order: &Order) -> OrderReply
+        requires { IsOrder order.now }
+        ensures keys { self.new.keys ≡ self.old.keys }
+        ensures answered { Orders T.stands T.is_live T.is_clean T.leaves result self.old.tables self.new.tables order.now }
+    {
+        let _ = moment;
+        order_on(&mut self.tables, order)
+    }
+
+    /// Answers a request at a moment, in seconds since 1970.
+    pub fn handle(&mut self, alloc: Global, moment: u64, request: &TypedRequest<'_>) -> Outcome
+        ensures keys { self.new.keys ≡ self.old.keys }
+        ensures served { Serves T.stands T.is_live T.is_clean T.leaves (result_of result.reply result.changed) self.old.tables self.new.tables self.old.keys moment request.now }
+        ensures denied { IfDenied result.reply (result.changed ≡ false) }
+    {
+        match serve(alloc, &self.keys, &mut self.tables, moment, request) {
+            Ok(Served { reply, changed }) => Outcome {
+                reply: DeskReply::Given(reply),
+                changed,
+            },
+            Err(rule) => Outcome {
+                reply: DeskReply::Denied(rule),
+                changed: false,
+            },
+        }
+    }
+
+    /// The records.
+    pub fn into_tables(self) -> T
+        ensures { result ≡ self.tables }
+    {
+        self.tables
+    }
+}

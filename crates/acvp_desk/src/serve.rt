@@ -1,0 +1,90 @@
+//! A request is served: found, decided, drafted, and carried out.
+
+ghost use Rattle.std.specs.Prelude.{◌≡◌, ◌<◌, ◌⊎◌, None, Some, IfOk, IfErr};
+ghost use Rattle.acvp_mac.specs.Conditions.{first_broken};
+ghost use Rattle.acvp_desk.specs.Answer.{change_of, end_of_moments, later_conditions, reply_of, IsReply, CoversAny};
+ghost use Rattle.acvp_desk.specs.Serves.{Serves};
+
+use crate::ask::{Ask, ask_for};
+use crate::draft::{Draft, draft_for};
+use crate::find::{Found, facts_for, find};
+use crate::keys::Keys;
+use crate::request::TypedRequest;
+use acvp_policy::{Grant, Rule, decide, release};
+use acvp_tables::Tables;
+use std::alloc::Global;
+
+/// Leave for what is drafted. Its grant must be spent.
+struct Allowed {
+    grant: Grant,
+    draft: Draft,
+}
+
+/// Decides, and then drafts: the one place that holds a grant while something can fail.
+fn plan(alloc: Global, keys: &Keys, moment: u64, ask: &Ask, found: &Found) -> Result<Allowed, Rule>
+    requires { moment < end_of_moments }
+    ensures held { IfOk result (λ _. first_broken (later_conditions moment ask.now found.now) ≡ None) }
+    ensures reply { IfOk result (λ allowed. IsReply allowed.draft.reply.items (reply_of keys.now moment ask.now found.now)) }
+    ensures change { IfOk result (λ allowed. allowed.draft.change ≡ change_of moment ask.now found.now) }
+    ensures covers { IfOk result (λ allowed. CoversAny allowed.grant allowed.draft.change) }
+    ensures denied { IfErr result (λ rule. (rule ≡ Rule.Unavailable) ⊎ (first_broken (later_conditions moment ask.now found.now) ≡ Some rule)) }
+{
+    let grant = match decide(ask.action(), &facts_for(moment, ask, found)) {
+        Ok(grant) => grant,
+        Err(rule) => return Err(rule),
+    };
+    match draft_for(alloc, keys, moment, ask, found) {
+        Ok(draft) => Ok(Allowed { grant, draft }),
+        Err(_) => {
+            release(grant);
+            Err(Rule::Unavailable)
+        }
+    }
+}
+
+/// What is given: the bytes of the reply, and whether a change was made.
+#[derive(Drop)]
+pub(crate) struct Served {
+    pub reply: Vec<u8>,
+    pub changed: bool,
+}
+
+/// Serves a request.
+pub(crate) fn serve<T: Tables>(
+    alloc: Global,
+    keys: &Keys,
+    tables: &mut T,
+    moment: u64,
+    request: &TypedRequest<'_>,
+) -> Result<Served, Rule>
+    ensures { Serves T.stands T.is_live T.is_clean T.leaves result tables.old tables.new keys.now moment request.now }
+{
+    let ask = match ask_for(alloc, keys, moment, request) {
+        Ok(ask) => ask,
+        Err(rule) => return Err(rule),
+    };
+    let Ok(found) = find(tables, &ask) else {
+        return Err(Rule::Unavailable);
+    };
+    let Allowed { grant, draft } = match plan(alloc, keys, moment, &ask, &found) {
+        Ok(allowed) => allowed,
+        Err(rule) => return Err(rule),
+    };
+    let Draft { reply, change } = draft;
+    match change {
+        None => {
+            release(grant);
+            Ok(Served {
+                reply,
+                changed: false,
+            })
+        }
+        Some(change) => match tables.apply(grant, &change) {
+            Ok(()) => Ok(Served {
+                reply,
+                changed: true,
+            }),
+            Err(_) => Err(Rule::Unavailable),
+        },
+    }
+}
