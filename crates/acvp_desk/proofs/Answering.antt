@@ -13,23 +13,23 @@ use Rattle.acvp_desk.proofs.Judging.{front_broken, front_held}
 module _ (keys : Keys) (m : ℕ) (r : TypedRequest) (s : State) where
   pub refused_first : (rule : Rule) → first_broken (first_conditions m r) ≡ Some rule → answer keys m r s ≡ Err rule
   unfolding answer
-  refused_first rule broken = ap (λ b. unless b (reply_to keys m (ask_of keys r) s)) (front_broken (first_conditions m r) (later_of m (ask_of keys r) s) rule broken)
+  refused_first rule broken = ap (λ b. unless b (reply_to keys m (ask_of keys m r) s)) (front_broken (first_conditions m r) (later_of m (ask_of keys m r) s) rule broken)
 
-  module _ (it : Ask) (held : first_broken (first_conditions m r) ≡ None) (asked : ask_of keys r ≡ Some it) (f : Found) (found : f ≡ found_of it s) where
+  module _ (it : Ask) (held : first_broken (first_conditions m r) ≡ None) (asked : ask_of keys m r ≡ Some it) (f : Found) (found : f ≡ found_of it s) where
     later : first_broken (conditions keys m r s) ≡ first_broken (later_conditions m it f)
-    later = front_held (first_conditions m r) (later_of m (ask_of keys r) s) held ∙ ap (λ a. first_broken (later_of m a s)) asked
+    later = front_held (first_conditions m r) (later_of m (ask_of keys m r) s) held ∙ ap (λ a. first_broken (later_of m a s)) asked
         ∙ ap (λ g. first_broken (later_conditions m it g)) (sym found)
 
     pub refused_later : (rule : Rule) → first_broken (later_conditions m it f) ≡ Some rule → answer keys m r s ≡ Err rule
     unfolding answer
-    refused_later rule broken = ap (λ b. unless b (reply_to keys m (ask_of keys r) s)) (later ∙ broken)
+    refused_later rule broken = ap (λ b. unless b (reply_to keys m (ask_of keys m r) s)) (later ∙ broken)
 
     pub answered : first_broken (later_conditions m it f) ≡ None → answer keys m r s ≡ Ok (reply_of keys m it f)
     unfolding answer
-    answered none = ap (λ b. unless b (reply_to keys m (ask_of keys r) s)) (later ∙ none)
+    answered none = ap (λ b. unless b (reply_to keys m (ask_of keys m r) s)) (later ∙ none)
         ∙ ap (λ a. Ok (reply_to keys m a s)) asked ∙ ap (λ g. Ok (reply_of keys m it g)) (sym found)
 
     pub makes : first_broken (later_conditions m it f) ≡ None → accepted_change keys m r s ≡ change_of m it f
     unfolding accepted_change
-    makes none = ap (λ a. change_on a (change_by m (ask_of keys r) s)) (answered none)
+    makes none = ap (λ a. change_on a (change_by m (ask_of keys m r) s)) (answered none)
         ∙ ap (λ a. change_by m a s) asked ∙ ap (λ g. change_of m it g) (sym found)

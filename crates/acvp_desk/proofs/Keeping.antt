@@ -78,7 +78,7 @@ module _ (follows : (c : Content) (it : Change) → state_of (after it c) ≡ af
 
   pub request_kept : (keys : Keys) (m : ℕ) (r : TypedRequest) (c : Content) → IsKept keys.seed c → IsKept keys.seed (content_effect keys m r c)
   unfolding accepted_change
-  request_kept keys m r c kept = by_answer keys.seed m c (answer keys m r (state_of c)) (ask_of keys r) kept
+  request_kept keys m r c kept = by_answer keys.seed m c (answer keys m r (state_of c)) (ask_of keys m r) kept
 
 -- ---- orders
 

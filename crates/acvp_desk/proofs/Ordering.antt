@@ -7,6 +7,7 @@ use Rattle.acvp_tables.specs.State.{IsSound, state_of}
 use Rattle.acvp_tables.specs.declared.change.OrderChange.{OrderChange}
 use Rattle.acvp_tables.specs.declared.change.OrderChange.TheVariants as change
 use Rattle.acvp_tables.specs.declared.rows.AccountRow.{AccountRow}
+use Rattle.acvp_tables.specs.declared.tables.StoreFault.{StoreFault}
 use Rattle.acvp_desk.specs.Orders.{order_reply, order_change, content_after_order, content_order_effect, Orders}
 use Rattle.acvp_desk.specs.declared.order.Order.{Order}
 use Rattle.acvp_desk.specs.declared.order.Order.TheVariants as order
@@ -39,7 +40,7 @@ disabled a row c is = record { reply_is = rw (← is) refl; change_is = rw (← 
 
 -- ---- the exits
 
-module _ {T E : Type 0} (faults : E → Type 0) (stands : T → Content → Type 0) (is_live is_clean : T → Type 0) (leaves : T → Content → Content → Type 0) (it : Order) where
+module _ {T : Type 0} (faults : StoreFault → Type 0) (stands : T → Content → Type 0) (is_live is_clean : T → Type 0) (leaves : T → Content → Content → Type 0) (it : Order) where
   abbrev Decides : T → T → OrderReply → Option OrderChange → Type 0
   Decides old mid reply made = is_live mid → (c : Content) → IsSound c → stands old c → IsDecided it reply made c
 
@@ -61,10 +62,13 @@ module _ {T E : Type 0} (faults : E → Type 0) (stands : T → Content → Type
       (decides : Decides old mid (Done None) (Some ch)) where
     -- carried out
     pub carried_out : (y : Y) → Changes IsSound faults stands is_live is_clean leaves {X = Y} (Ok y) mid new (after_order ch)
-        → Orders stands is_live is_clean leaves (Done None) old new it
+        → Orders faults stands is_live is_clean leaves (Done None) old new it
     carried_out y changes = record {
       was_live = λ live. reads.was_live (changes.was_live live);
       was_clean = λ clean. reads.was_clean (changes.was_clean clean);
+      same = tt;
+      live = λ clean live. changes.live clean (reads.live (changes.was_clean clean)).1;
+      kept = tt;
       answered = λ live c sound h. let up = changes.was_live live in
           let decided = decides up c sound h in
           (sym decided.reply_is, subst (λ d. stands new d) (sym (becomes (Some ch) (Done None) c decided)) (changes.ok live c sound (reads.same up c h)));
@@ -73,12 +77,15 @@ module _ {T E : Type 0} (faults : E → Type 0) (stands : T → Content → Type
     }
 
     -- the change failed
-    pub failed : (e : E) → Changes IsSound faults stands is_live is_clean leaves {X = Y} (Err e) mid new (after_order ch)
-        → Orders stands is_live is_clean leaves Unavailable old new it
+    pub failed : (e : StoreFault) → Changes IsSound faults stands is_live is_clean leaves {X = Y} (Err e) mid new (after_order ch)
+        → Orders faults stands is_live is_clean leaves Unavailable old new it
     failed e changes = record {
       was_live = λ live. reads.was_live (changes.was_live live);
       was_clean = λ clean. reads.was_clean (changes.was_clean clean);
-      answered = λ live c sound h. changes.err live c (reads.same (changes.was_live live) c h);
+      answered = (e, changes.fault);
+      same = λ live c h. changes.err live c (reads.same (changes.was_live live) c h);
+      live = tt;
+      kept = tt;
       settled = λ clean live c sound h. let up = (reads.live (changes.was_clean clean)).1 in
           subst (λ e. leaves new c e) (sym (becomes (Some ch) (Done None) c (decides up c sound h))) (changes.unsettled clean up c sound (reads.same up c h));
     }

@@ -1,5 +1,5 @@
 -- The exits of serving, each once for all actions.
-use Rattle.std.proofs.Common.{◌≡◌, ◌⊎◌, ℕ, Option, None, Some, Ok, Err, inl, inr, refl, sym, ap, subst, ◌∙◌, Vec, true, false, is_some}
+use Rattle.std.proofs.Common.{◌≡◌, ◌⊎◌, ℕ, Option, None, Some, Ok, Err, inl, inr, refl, sym, ap, subst, ◌∙◌, Vec, true, false, is_some, ◌≤◌, ◌<◌, arith}
 use Rattle.std.specs.Global.{Global}
 use Rattle.acvp_mac.specs.Conditions.{first_broken}
 use Rattle.acvp_policy.specs.declared.rule.Rule.{Rule}
@@ -9,7 +9,7 @@ use Rattle.acvp_tables.specs.Changes.{after}
 use Rattle.acvp_tables.specs.Content.{Content}
 use Rattle.acvp_tables.specs.State.{IsSound, state_of}
 use Rattle.acvp_tables.specs.declared.change.Change.{Change}
-use Rattle.acvp_desk.specs.Answer.{first_conditions, ask_of, found_of, later_conditions, reply_of, answer, accepted_change, change_of, content_after, content_effect, Gives, IsReply}
+use Rattle.acvp_desk.specs.Answer.{end_of_moments, first_conditions, ask_of, found_of, later_conditions, reply_of, answer, accepted_change, change_of, content_after, content_effect, Gives, IsReply}
 use Rattle.acvp_desk.specs.Kept.{IsKept}
 use Rattle.acvp_desk.specs.Serves.{Looks, Serves}
 use Rattle.acvp_desk.specs.declared.ask.Ask.{Ask}
@@ -18,21 +18,26 @@ use Rattle.acvp_desk.specs.declared.keys.Keys.{Keys}
 use Rattle.acvp_desk.specs.declared.request.TypedRequest.{TypedRequest}
 use Rattle.acvp_desk.proofs.Answering.{refused_first, refused_later, answered, makes}
 
-module _ {T : Type 0} (stands : T → Content → Type 0) (is_live is_clean : T → Type 0) (leaves : T → Content → Content → Type 0) (keys : Keys) (m : ℕ) (r : TypedRequest) where
+module _ {T : Type 0} (stands : T → Content → Type 0) (is_live is_clean : T → Type 0) (leaves : T → Content → Content → Type 0) (keys : Keys) (m : ℕ) (r : TypedRequest)
+    (stay : (c : Content) → IsKept keys.seed c → IsKept keys.seed (content_effect keys m r c)) where
   -- refused before anything is looked at
   pub refused_at_once : (rests : (t : T) (c d : Content) → is_live t → stands t c → leaves t c d) (told : Rule) (old : T)
-      → (told ≡ rule.Unavailable) ⊎ (first_broken (first_conditions m r) ≡ Some told)
+      → (end_of_moments ≤ m → told ≡ rule.ClockOutOfRange) → (told ≡ rule.Unavailable) ⊎ (first_broken (first_conditions m r) ≡ Some told)
       → Serves stands is_live is_clean leaves (Err told) old old keys m r
-  refused_at_once rests told old why = record {
+  refused_at_once rests told old late why = record {
     was_live = λ live. live;
     was_clean = λ clean. clean;
+    clock = λ past. ap (λ rule. Err rule) (late past);
     given = tt;
-    denied = λ live c kept h. (elim why [ inl fault ↦ inl fault | inr broken ↦ inr (refused_first keys m r (state_of c) told broken) ], h);
+    denied = λ live c kept h. elim why [ inl fault ↦ inl fault | inr broken ↦ inr (refused_first keys m r (state_of c) told broken) ];
+    same = λ live c h. h;
     settled = tt;
     unsettled = λ clean live c kept h. rests old c (content_effect keys m r c) live h;
+    live = inr (λ clean live. live);
+    kept = inr (λ clean c d left. left);
   }
 
-  module _ (it : Ask) (held : first_broken (first_conditions m r) ≡ None) (asked : ask_of keys r ≡ Some it) (old mid : T) (f : Found) {E : Type 0}
+  module _ (served : m < end_of_moments) (it : Ask) (held : first_broken (first_conditions m r) ≡ None) (asked : ask_of keys m r ≡ Some it) (old mid : T) (f : Found) {E : Type 0}
       (looks : Looks stands is_live is_clean leaves {X = Found} {E = E} (Ok f) old mid)
       (finds : is_live mid → (c : Content) → IsSound c → stands old c → f ≡ found_of it (state_of c)) where
     -- refused on what was found
@@ -41,11 +46,15 @@ module _ {T : Type 0} (stands : T → Content → Type 0) (is_live is_clean : T 
     refused told why = record {
       was_live = looks.was_live;
       was_clean = looks.was_clean;
+      clock = λ past. absurd (omega (arith, served, past));
       given = tt;
       denied = λ live c kept h.
-          (elim why [ inl fault ↦ inl fault | inr broken ↦ inr (refused_later keys m r (state_of c) it held asked f (finds live c kept.sound h) told broken) ], looks.same live c h);
+          elim why [ inl fault ↦ inl fault | inr broken ↦ inr (refused_later keys m r (state_of c) it held asked f (finds live c kept.sound h) told broken) ];
+      same = λ live c h. looks.same live c h;
       settled = tt;
       unsettled = λ clean live c kept h. looks.left clean live c (content_effect keys m r c) h;
+      live = inr looks.live;
+      kept = inr looks.kept;
     }
 
     module _ (bytes : Vec ℕ Global) (none : first_broken (later_conditions m it f) ≡ None) (reply : IsReply bytes.items (reply_of keys m it f)) where
@@ -65,11 +74,15 @@ module _ {T : Type 0} (stands : T → Content → Type 0) (is_live is_clean : T 
       given_read is = record {
         was_live = looks.was_live;
         was_clean = looks.was_clean;
-        given = λ live c kept h. (gives live c kept h, subst (λ d. stands mid d) (sym (becomes None is live c kept h)) (looks.same live c h), ap is_some (sym (accepts None is live c kept h)));
+        clock = λ past. absurd (omega (arith, served, past));
+        given = λ live c kept h. (gives live c kept h, subst (λ d. stands mid d) (sym (becomes None is live c kept h)) (looks.same live c h), stay c kept, ap is_some (sym (accepts None is live c kept h)));
         denied = tt;
         settled = λ clean live c d kept h. let up = looks.live clean live in
             subst (λ e. leaves mid e d) (sym (becomes None is up c kept h)) (looks.left clean live c d h);
+        same = tt;
         unsettled = tt;
+        live = looks.live;
+        kept = λ unchanged. looks.kept;
       }
 
       module _ (it_changes : Change) (is : Some it_changes ≡ change_of m it f) (new : T) {X Fault : Type 0} (faults : Fault → Type 0) where
@@ -79,12 +92,16 @@ module _ {T : Type 0} (stands : T → Content → Type 0) (is_live is_clean : T 
         given_changed x changes = record {
           was_live = λ live. looks.was_live (changes.was_live live);
           was_clean = λ clean. looks.was_clean (changes.was_clean clean);
+          clock = λ past. absurd (omega (arith, served, past));
           given = λ live c kept h. let up = changes.was_live live in
-              (gives up c kept h, subst (λ d. stands new d) (sym (becomes (Some it_changes) is up c kept h)) (changes.ok live c kept.sound (looks.same up c h)), ap is_some (sym (accepts (Some it_changes) is up c kept h)));
+              (gives up c kept h, subst (λ d. stands new d) (sym (becomes (Some it_changes) is up c kept h)) (changes.ok live c kept.sound (looks.same up c h)), stay c kept, ap is_some (sym (accepts (Some it_changes) is up c kept h)));
           denied = tt;
           settled = λ clean live c d kept h. let up = looks.live (changes.was_clean clean) live in
               subst (λ e. leaves new e d) (sym (becomes (Some it_changes) is up c kept h)) (changes.settled clean up c d kept.sound (looks.same up c h));
+          same = tt;
           unsettled = tt;
+          live = λ clean live. changes.live clean (looks.live (changes.was_clean clean) live);
+          kept = λ unchanged. absurd (cc);
         }
 
         -- the change failed
@@ -93,9 +110,13 @@ module _ {T : Type 0} (stands : T → Content → Type 0) (is_live is_clean : T 
         failed e changes = record {
           was_live = λ live. looks.was_live (changes.was_live live);
           was_clean = λ clean. looks.was_clean (changes.was_clean clean);
+          clock = λ past. absurd (omega (arith, served, past));
           given = tt;
-          denied = λ live c kept h. (inl refl, changes.err live c (looks.same (changes.was_live live) c h));
+          denied = λ live c kept h. inl refl;
+          same = λ live c h. changes.err live c (looks.same (changes.was_live live) c h);
           settled = tt;
+          live = inl refl;
+          kept = inl refl;
           unsettled = λ clean live c kept h. let up = looks.live (changes.was_clean clean) live in
               subst (λ e. leaves new c e) (sym (becomes (Some it_changes) is up c kept h)) (changes.unsettled clean up c kept.sound (looks.same up c h));
         }

@@ -39,20 +39,20 @@ end_of_moments = 4102444800
 -- ---- what is asked
 
 -- the conditions on the body that are looked at before a row is: those on a login's. What has no case yet has no route
-abbrev pub first_conditions_on : Action → List ℕ → List (Condition Rule)
-first_conditions_on action.Login body = body_conditions login_body_conditions body
-first_conditions_on _ body = (false, rule.NoRoute) ∷ []
+abbrev pub first_conditions_on : Action → TypedRequest → List (Condition Rule)
+first_conditions_on action.Login r = body_conditions login_body_conditions r.body.now
+first_conditions_on _ r = (false, rule.NoRoute) ∷ []
 
 -- the conditions that are looked at before a row is
 abbrev pub first_conditions : ℕ → TypedRequest → List (Condition Rule)
-first_conditions moment r = (nat_lt moment end_of_moments, rule.ClockOutOfRange) ∷ first_conditions_on r.action r.body.now
+first_conditions moment r = (nat_lt moment end_of_moments, rule.ClockOutOfRange) ∷ first_conditions_on r.action r
 
-abbrev pub ask_on : Keys → Action → List ℕ → Option Ask
-ask_on keys action.Login body = option_map ask.Login (login_ask_at keys.token body)
-ask_on keys _ body = None
+abbrev pub ask_on : Action → Keys → ℕ → TypedRequest → Option Ask
+ask_on action.Login keys moment r = option_map ask.Login (login_ask_at keys.token r.body.now)
+ask_on _ keys moment r = None
 
-abbrev pub ask_of : Keys → TypedRequest → Option Ask
-ask_of keys r = ask_on keys r.action r.body.now
+abbrev pub ask_of : Keys → ℕ → TypedRequest → Option Ask
+ask_of keys moment r = ask_on r.action keys moment r
 
 abbrev pub action_of : Ask → Action
 action_of (ask.Login login) = action.Login
@@ -96,7 +96,7 @@ later_of moment (Some it) state = later_conditions moment it (found_of it state)
 
 -- all conditions, in their order
 abbrev pub conditions : Keys → ℕ → TypedRequest → State → List (Condition Rule)
-conditions keys moment r state = first_conditions moment r ++ later_of moment (ask_of keys r) state
+conditions keys moment r state = first_conditions moment r ++ later_of moment (ask_of keys moment r) state
 
 abbrev pub reply_to : Keys → ℕ → Option Ask → State → Option Data
 reply_to keys moment None state = None
@@ -104,7 +104,7 @@ reply_to keys moment (Some it) state = reply_of keys moment it (found_of it stat
 
 -- the rule of the first condition that doesn't hold, or the object of the reply
 unfoldable pub answer : Keys → ℕ → TypedRequest → State → Result (Option Data) Rule
-answer keys moment r state = judged (conditions keys moment r state) (reply_to keys moment (ask_of keys r) state)
+answer keys moment r state = judged (conditions keys moment r state) (reply_to keys moment (ask_of keys moment r) state)
 
 -- ---- the effect
 
@@ -118,7 +118,7 @@ change_on (Ok reply) it = it
 change_on (Err rule) it = None
 
 unfoldable pub accepted_change : Keys → ℕ → TypedRequest → State → Option Change
-accepted_change keys moment r state = change_on (answer keys moment r state) (change_by moment (ask_of keys r) state)
+accepted_change keys moment r state = change_on (answer keys moment r state) (change_by moment (ask_of keys moment r) state)
 
 abbrev pub state_after : Option Change → State → State
 state_after None state = state

@@ -5,11 +5,12 @@ use Rattle.acvp_tables.specs.Content.{Content, account_at}
 use Rattle.acvp_tables.specs.State.{State, is_account_number, state_of, IsSound}
 use Rattle.acvp_tables.specs.StateChanges.{after_order_state}
 use Rattle.acvp_tables.specs.declared.change.OrderChange.{OrderChange}
+use Rattle.acvp_tables.specs.declared.tables.StoreFault.{StoreFault}
 use Rattle.acvp_tables.specs.declared.change.OrderChange.TheVariants as change
 use Rattle.acvp_desk.specs.declared.order.Order.{Order}
 use Rattle.acvp_desk.specs.declared.order.Order.TheVariants as order
 use Rattle.acvp_desk.specs.declared.order.OrderReply.{OrderReply}
-use Rattle.acvp_desk.specs.declared.order.OrderReply.TheVariants.{Done, Taken, Unknown, Unavailable}
+use Rattle.acvp_desk.specs.declared.order.OrderReply.TheVariants.{Done, Taken, Unknown, NotInitial, Unavailable}
 
 -- the account that is named has a number from 1 to 9999
 abbrev pub IsOrder : Order → Type 0
@@ -57,21 +58,35 @@ order_effect it state = state_after_order (order_change it state) state
 abbrev pub content_order_effect : Order → Content → Content
 content_order_effect it c = content_after_order (order_change it (state_of c)) c
 
--- what is said of an answer that was carried out, and of one that wasn't
-abbrev pub IfAnswered : OrderReply → Type 0 → Type 0 → Type 0
-IfAnswered Unavailable P Q = Q
-IfAnswered _ P Q = P
+-- what is said of an order that is done, of one that is refused, and of one that is unavailable
+abbrev pub ByReply : OrderReply → Type 0 → Type 0 → Type 0 → Type 0
+ByReply (Done approved) P Q R = P
+ByReply Taken P Q R = Q
+ByReply Unknown P Q R = Q
+ByReply NotInitial P Q R = Q
+ByReply Unavailable P Q R = R
 
-module _ {T : Type 0} (stands : T → Content → Type 0) (is_live is_clean : T → Type 0) (leaves : T → Content → Content → Type 0) where
+module _ {T : Type 0} (faults : StoreFault → Type 0) (stands : T → Content → Type 0) (is_live is_clean : T → Type 0) (leaves : T → Content → Content → Type 0) where
+  abbrev pub Answers : OrderReply → T → T → Order → Type 0
+  Answers reply old new it = is_live new → (c : Content) → IsSound c → stands old c
+      → (reply ≡ order_reply it (state_of c)) × stands new (content_order_effect it c)
+
+  abbrev pub Settles : T → T → Order → Type 0
+  Settles old new it = is_clean new → is_live old → (c d : Content) → IsSound c → stands old c → leaves new (content_order_effect it c) d
+
+  abbrev pub Stays : T → T → Type 0
+  Stays old new = is_live new → (c : Content) → stands old c → stands new c
+
   -- For every content that the tables stand for: the order is answered, and the content after its effect stands; or it is
   -- unavailable, and all stands as it did. A crash finds the effect of what was answered; and of what was unavailable, what
-  -- there was or that with the effect.
+  -- there was or that with the effect. Only a fault of the tables makes it unavailable.
   pub record Orders (reply : OrderReply) (old new : T) (it : Order) : Type 0 where
     pub was_live : is_live new → is_live old
     pub was_clean : is_clean new → is_clean old
-    pub answered : IfAnswered reply
-        (is_live new → (c : Content) → IsSound c → stands old c → (reply ≡ order_reply it (state_of c)) × stands new (content_order_effect it c))
-        (is_live new → (c : Content) → IsSound c → stands old c → stands new c)
-    pub settled : IfAnswered reply
-        (is_clean new → is_live old → (c d : Content) → IsSound c → stands old c → leaves new (content_order_effect it c) d)
+    pub answered : ByReply reply (Answers reply old new it) (Answers reply old new it) ((fault : StoreFault) × faults fault)
+    pub same : ByReply reply ⊤ (Stays old new) (Stays old new)
+    pub settled : ByReply reply (Settles old new it) (Settles old new it)
         (is_clean new → is_live old → (c : Content) → IsSound c → stands old c → leaves new c (content_order_effect it c))
+    -- unless it is unavailable, a live store stays live, and where it is refused a crash finds what it found before
+    pub live : ByReply reply (is_clean new → is_live old → is_live new) (is_clean new → is_live old → is_live new) ⊤
+    pub kept : ByReply reply ⊤ (is_clean new → (c d : Content) → leaves old c d → leaves new c d) ⊤

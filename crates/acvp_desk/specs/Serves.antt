@@ -1,9 +1,10 @@
 -- What serving a request does to what the tables stand for.
-use Rattle.std.specs.Prelude.{◌≡◌, ℕ, Result, Ok, Err, OnOk, OnErr, IfOk, IfErr, Bool, is_some, ⊤}
+use Rattle.std.specs.Prelude.{◌≡◌, ◌⊎◌, ◌≤◌, false, ℕ, Result, Ok, Err, OnOk, OnErr, IfOk, IfErr, Bool, is_some, ⊤}
 use Rattle.acvp_policy.specs.declared.rule.Rule.{Rule}
+use Rattle.acvp_policy.specs.declared.rule.Rule.TheVariants.{ClockOutOfRange, Unavailable}
 use Rattle.acvp_tables.specs.Content.{Content}
 use Rattle.acvp_tables.specs.State.{state_of}
-use Rattle.acvp_desk.specs.Answer.{answer, accepted_change, content_effect, Gives, Refuses}
+use Rattle.acvp_desk.specs.Answer.{end_of_moments, answer, accepted_change, content_effect, Gives, Refuses}
 use Rattle.acvp_desk.specs.Kept.{IsKept}
 use Rattle.acvp_desk.specs.declared.desk.DeskReply.{DeskReply}
 use Rattle.acvp_desk.specs.declared.desk.DeskReply.TheVariants.{Given, Denied}
@@ -21,6 +22,16 @@ abbrev pub IfDenied : DeskReply → Type 0 → Type 0
 IfDenied (Given reply) P = ⊤
 IfDenied (Denied rule) P = P
 
+-- what is said unless it is unavailable
+abbrev pub IfLasting : Result Served Rule → Type 0 → Type 0
+IfLasting (Ok served) P = P
+IfLasting (Err rule) P = (rule ≡ Unavailable) ⊎ P
+
+-- what is said where no change was made, unless it is unavailable
+abbrev pub IfUnchanged : Result Served Rule → Type 0 → Type 0
+IfUnchanged (Ok served) P = served.changed ≡ false → P
+IfUnchanged (Err rule) P = (rule ≡ Unavailable) ⊎ P
+
 module _ {T : Type 0} (stands : T → Content → Type 0) (is_live is_clean : T → Type 0) (leaves : T → Content → Content → Type 0) where
   -- The tables are looked at, or left alone: as a read, but that nothing need be asked of them.
   pub record Looks {X E : Type 0} (result : Result X E) (old new : T) : Type 0 where
@@ -32,15 +43,21 @@ module _ {T : Type 0} (stands : T → Content → Type 0) (is_live is_clean : T 
     pub kept : is_clean new → (c d : Content) → leaves old c d → leaves new c d
 
   -- For every content that the tables stand for: the reply is given, and the content after the request's effect stands and
-  -- holds what is held at all times; or the request is refused, and all stands as it did. A crash finds the effect of what
-  -- was given; and of what was refused, what there was or that with the effect.
+  -- holds what holds at all times; or the request is refused, and all stands as it did. A crash finds the effect of what was
+  -- given; and of what was refused, what there was or that with the effect. Past the last moment that is served nothing else
+  -- is looked at.
   pub record Serves (result : Result Served Rule) (old new : T) (keys : Keys) (moment : ℕ) (r : TypedRequest) : Type 0 where
     pub was_live : is_live new → is_live old
     pub was_clean : is_clean new → is_clean old
+    pub clock : end_of_moments ≤ moment → result ≡ Err ClockOutOfRange
     pub given : IfOk result (λ served. is_live new → (c : Content) → IsKept keys.seed c → stands old c
         → Gives served.reply.items (answer keys moment r (state_of c)) × stands new (content_effect keys moment r c)
+        × IsKept keys.seed (content_effect keys moment r c)
         × (served.changed ≡ is_some (accepted_change keys moment r (state_of c))))
-    pub denied : IfErr result (λ rule. is_live new → (c : Content) → IsKept keys.seed c → stands old c
-        → Refuses rule (answer keys moment r (state_of c)) × stands new c)
+    pub denied : IfErr result (λ rule. is_live new → (c : Content) → IsKept keys.seed c → stands old c → Refuses rule (answer keys moment r (state_of c)))
+    pub same : OnErr result (is_live new → (c : Content) → stands old c → stands new c)
     pub settled : OnOk result (is_clean new → is_live old → (c d : Content) → IsKept keys.seed c → stands old c → leaves new (content_effect keys moment r c) d)
     pub unsettled : OnErr result (is_clean new → is_live old → (c : Content) → IsKept keys.seed c → stands old c → leaves new c (content_effect keys moment r c))
+    -- unless it is unavailable, a live store stays live, and where no change was made a crash finds what it found before
+    pub live : IfLasting result (is_clean new → is_live old → is_live new)
+    pub kept : IfUnchanged result (is_clean new → (c d : Content) → leaves old c d → leaves new c d)

@@ -1,6 +1,6 @@
 //! What a request asks, as far as it is known before a row is looked at.
 
-ghost use Rattle.std.specs.Prelude.{◌≡◌, ◌⊎◌, ◌<◌, Some, None, IfOk, IfErr};
+ghost use Rattle.std.specs.Prelude.{◌≡◌, ◌⊎◌, ◌<◌, ◌≤◌, Some, None, IfOk, IfErr};
 ghost use Rattle.acvp_mac.specs.Conditions.{first_broken};
 ghost use Rattle.acvp_json.specs.Envelope.{envelope_conditions, object_of};
 ghost use Rattle.acvp_json.specs.LoginBody.{login_body_conditions, login_body_of};
@@ -154,9 +154,9 @@ fn login_ask(alloc: Global, ring: &KeyRing, body: &[u8]) -> Result<LoginAsk, Rul
 }
 
 /// What a request asks, or the rule of the first condition on its body that is looked at before a row is and doesn't hold.
-fn ask_in(alloc: Global, keys: &Keys, request: &TypedRequest<'_>) -> Result<Ask, Rule>
-    ensures ok { IfOk result (λ ask. (first_broken (first_conditions_on request.now.action request.now.body.now) ≡ None) × (ask_of keys.now request.now ≡ Some ask)) }
-    ensures err { IfErr result (λ rule. (rule ≡ Rule.Unavailable) ⊎ (first_broken (first_conditions_on request.now.action request.now.body.now) ≡ Some rule)) }
+fn ask_in(alloc: Global, keys: &Keys, moment: u64, request: &TypedRequest<'_>) -> Result<Ask, Rule>
+    ensures ok { IfOk result (λ ask. (first_broken (first_conditions_on request.now.action request.now) ≡ None) × (ask_of keys.now moment request.now ≡ Some ask)) }
+    ensures err { IfErr result (λ rule. (rule ≡ Rule.Unavailable) ⊎ (first_broken (first_conditions_on request.now.action request.now) ≡ Some rule)) }
 {
     match request.action {
         Action::Login => Ok(Ask::Login(login_ask(alloc, &keys.token, request.body)?)),
@@ -172,11 +172,12 @@ pub(crate) fn ask_for(
     request: &TypedRequest<'_>,
 ) -> Result<Ask, Rule>
     ensures moment { IfOk result (λ _. moment < end_of_moments) }
-    ensures ok { IfOk result (λ ask. (first_broken (first_conditions moment request.now) ≡ None) × (ask_of keys.now request.now ≡ Some ask)) }
+    ensures clock { IfErr result (λ rule. end_of_moments ≤ moment → rule ≡ Rule.ClockOutOfRange) }
+    ensures ok { IfOk result (λ ask. (first_broken (first_conditions moment request.now) ≡ None) × (ask_of keys.now moment request.now ≡ Some ask)) }
     ensures err { IfErr result (λ rule. (rule ≡ Rule.Unavailable) ⊎ (first_broken (first_conditions moment request.now) ≡ Some rule)) }
 {
     if moment >= END_OF_MOMENTS {
         return Err(Rule::ClockOutOfRange);
     }
-    ask_in(alloc, keys, request)
+    ask_in(alloc, keys, moment, request)
 }

@@ -22,7 +22,7 @@ pub enum DeskReply {
     /// 256 spare bytes, and then the body of the reply.
     Given(Vec<u8>),
 
-    /// The rule that is broken. Nothing has changed.
+    /// The rule that is broken, or that memory or the store was refused. Nothing has changed.
     Denied(Rule),
 }
 
@@ -36,6 +36,7 @@ pub struct Outcome {
 /// The keys of a server, and its records.
 #[derive(Drop)]
 pub struct Desk<T: Tables> {
+    alloc: Global,
     keys: Keys,
     tables: T,
 }
@@ -64,17 +65,23 @@ pub enum NewFault {
 impl<T: Tables> Desk<T> {
     /// A desk over these records, whose vector sets were all made under seeds that are there. On a fault the records are
     /// handed back.
-    pub fn new(keys: Keys, tables: T) -> Result<Desk<T>, (T, NewFault)>
+    pub fn new(alloc: Global, keys: Keys, tables: T) -> Result<Desk<T>, (T, NewFault)>
         ensures keys { IfOk result (λ desk. desk.keys ≡ keys) }
         ensures looks { Looks T.stands T.is_live T.is_clean T.leaves result tables (tables_of result) }
         ensures seeded { T.is_live (tables_of result) → IfOk result (λ _. (c : Content) → IsSound c → T.stands tables c → HasSeeds keys.seed (greatest_epoch_of c.sets)) }
+        ensures memory { IfErr result (λ fault. fault.1 ≡ NewFault.Memory → T.faults StoreFault.Memory) }
+        ensures store { IfErr result (λ fault. fault.1 ≡ NewFault.Store → T.faults StoreFault.Refused) }
         ensures epoch { T.is_live (tables_of result) → IfErr result (λ fault. fault.1 ≡ NewFault.Epoch → (c : Content) → IsSound c → T.stands tables c → ¬ HasSeeds keys.seed (greatest_epoch_of c.sets)) }
     {
         let mut tables = tables;
         let newest = keys.seed.newest();
         match tables.greatest_epoch() {
             Ok(Some(epoch)) if epoch > newest => Err((tables, NewFault::Epoch)),
-            Ok(_) => Ok(Desk { keys, tables }),
+            Ok(_) => Ok(Desk {
+                alloc,
+                keys,
+                tables,
+            }),
             Err(StoreFault::Memory) => Err((tables, NewFault::Memory)),
             Err(StoreFault::Refused) => Err((tables, NewFault::Store)),
         }
@@ -84,19 +91,19 @@ impl<T: Tables> Desk<T> {
     pub fn order(&mut self, moment: u64, order: &Order) -> OrderReply
         requires { IsOrder order.now }
         ensures keys { self.new.keys ≡ self.old.keys }
-        ensures answered { Orders T.stands T.is_live T.is_clean T.leaves result self.old.tables self.new.tables order.now }
+        ensures answered { Orders T.faults T.stands T.is_live T.is_clean T.leaves result self.old.tables self.new.tables order.now }
     {
         let _ = moment;
         order_on(&mut self.tables, order)
     }
 
     /// Answers a request at a moment, in seconds since 1970.
-    pub fn handle(&mut self, alloc: Global, moment: u64, request: &TypedRequest<'_>) -> Outcome
+    pub fn handle(&mut self, moment: u64, request: &TypedRequest<'_>) -> Outcome
         ensures keys { self.new.keys ≡ self.old.keys }
         ensures served { Serves T.stands T.is_live T.is_clean T.leaves (result_of result.reply result.changed) self.old.tables self.new.tables self.old.keys moment request.now }
         ensures denied { IfDenied result.reply (result.changed ≡ false) }
     {
-        match serve(alloc, &self.keys, &mut self.tables, moment, request) {
+        match serve(self.alloc, &self.keys, &mut self.tables, moment, request) {
             Ok(Served { reply, changed }) => Outcome {
                 reply: DeskReply::Given(reply),
                 changed,

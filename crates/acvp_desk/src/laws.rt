@@ -1,7 +1,7 @@
 //! What holds of the records after requests and orders, whoever keeps them.
 
 ghost use Rattle.std.specs.Prelude.{◌≡◌, ℕ, List};
-ghost use Rattle.acvp_tables.specs.Content.{Content};
+ghost use Rattle.acvp_tables.specs.Content.{Content, no_rows};
 ghost use Rattle.acvp_tables.specs.State.{state_of};
 ghost use Rattle.acvp_desk.specs.Answer.{effect, content_effect};
 ghost use Rattle.acvp_desk.specs.Kept.{IsKept};
@@ -10,7 +10,7 @@ ghost use Rattle.acvp_desk.specs.declared.keys.Keys.{Keys};
 ghost use Rattle.acvp_desk.specs.declared.order.Order.{Order};
 ghost use Rattle.acvp_desk.specs.declared.request.TypedRequest.{TypedRequest};
 
-use acvp_tables::{counts_are_kept, numbers_are_kept, state_follows};
+use acvp_tables::{counts_are_kept, numbers_are_kept, records_begin_well, state_follows};
 
 /// What a request or an order makes of what is kept is what it makes of the records of it.
 pub fn effects_follow()
@@ -20,11 +20,13 @@ pub fn effects_follow()
     state_follows();
 }
 
-/// What holds of the records at all times holds after a request, and after an order.
+/// What holds of the records at all times holds without a row, after a request, and after an order.
 pub fn records_are_kept()
+    ensures start { (seeds : List (List ℕ)) → IsKept seeds no_rows }
     ensures request { (keys : Keys) (moment : ℕ) (r : TypedRequest) (c : Content) → IsKept keys.seed c → IsKept keys.seed (content_effect keys moment r c) }
     ensures order { (seeds : List (List ℕ)) (it : Order) (c : Content) → IsOrder it → HasSecret it → IsKept seeds c → IsKept seeds (content_order_effect it c) }
 {
+    records_begin_well();
     state_follows();
     numbers_are_kept();
     counts_are_kept();

@@ -37,7 +37,7 @@ pub enum OrderReply {
 /// Adds an account that isn't there.
 #[tactic(auto, unfolding(crate::specs::Orders::order_reply, crate::specs::Orders::order_change))]
 fn add<T: Tables>(tables: &mut T, account: u16, secret: [u8; 32]) -> OrderReply
-    ensures { Orders T.stands T.is_live T.is_clean T.leaves result tables.old tables.new (order.AddAccount account secret) }
+    ensures { Orders T.faults T.stands T.is_live T.is_clean T.leaves result tables.old tables.new (order.AddAccount account secret) }
 {
     match tables.account(account) {
         Err(_) => OrderReply::Unavailable,
@@ -55,7 +55,7 @@ fn add<T: Tables>(tables: &mut T, account: u16, secret: [u8; 32]) -> OrderReply
 /// Disables an account that is there.
 #[tactic(auto, unfolding(crate::specs::Orders::order_reply, crate::specs::Orders::order_change))]
 fn disable<T: Tables>(tables: &mut T, account: u16) -> OrderReply
-    ensures { Orders T.stands T.is_live T.is_clean T.leaves result tables.old tables.new (order.DisableAccount account) }
+    ensures { Orders T.faults T.stands T.is_live T.is_clean T.leaves result tables.old tables.new (order.DisableAccount account) }
 {
     match tables.account(account) {
         Err(_) => OrderReply::Unavailable,
@@ -71,7 +71,7 @@ fn disable<T: Tables>(tables: &mut T, account: u16) -> OrderReply
 #[tactic(auto, unfolding(crate::specs::Orders::order_reply, crate::specs::Orders::order_change))]
 pub fn order_on<T: Tables>(tables: &mut T, order: &Order) -> OrderReply
     requires { IsOrder order.now }
-    ensures { Orders T.stands T.is_live T.is_clean T.leaves result tables.old tables.new order.now }
+    ensures { Orders T.faults T.stands T.is_live T.is_clean T.leaves result tables.old tables.new order.now }
 {
     match *order {
         Order::AddAccount { account, secret } => add(tables, account, secret),

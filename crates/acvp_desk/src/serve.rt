@@ -9,6 +9,7 @@ use crate::ask::{Ask, ask_for};
 use crate::draft::{Draft, draft_for};
 use crate::find::{Found, facts_for, find};
 use crate::keys::Keys;
+use crate::laws::records_are_kept;
 use crate::request::TypedRequest;
 use acvp_policy::{Grant, Rule, decide, release};
 use acvp_tables::Tables;
@@ -59,6 +60,7 @@ pub(crate) fn serve<T: Tables>(
 ) -> Result<Served, Rule>
     ensures { Serves T.stands T.is_live T.is_clean T.leaves result tables.old tables.new keys.now moment request.now }
 {
+    records_are_kept();
     let ask = match ask_for(alloc, keys, moment, request) {
         Ok(ask) => ask,
         Err(rule) => return Err(rule),

@@ -1,5 +1,5 @@
-//! Logins and orders over lists. Tokens were signed by Python's hmac under a key of zeros, codes are those of the secret of
-//! RFC 6238's test vectors.
+//! Logins and orders over lists. Codes are those of the secret of RFC 6238's test vectors; tokens were signed by Python's
+//! hmac, under a key of zeros where nothing else is said.
 
 ghost use Rattle.std.specs.Prelude.{◌≡◌, true};
 ghost use Rattle.acvp_tables.specs.State.{is_account_number};
@@ -17,7 +17,7 @@ use std::test::Fail;
 
 const SECRET: [u8; 32] = *b"12345678901234567890123456789012";
 
-/// A login with the code of the steps 1 and 2.
+/// A login with the code of step 1, which step 2 accepts too.
 const LOGIN: &[u8] = br#"[{"acvVersion":"1.0"},{"password":"46119246","user":"7"}]"#;
 
 /// Its reply at 59.
@@ -58,7 +58,7 @@ fn desk_of_seven(rt: &impl Abort, alloc: Global, keys: Keys) -> Desk<ListTables>
         secret: SECRET,
     };
     assert_eq!(rt; order_on(&mut tables, &added), OrderReply::Done(None));
-    Desk::new(keys, tables).ok().expect(rt, "a desk")
+    Desk::new(alloc, keys, tables).ok().expect(rt, "a desk")
 }
 
 /// The request for a login with this body.
@@ -76,15 +76,8 @@ fn login(body: &[u8]) -> TypedRequest<'_> {
 }
 
 /// Asserts that a login with this body is given the reply with this body, and that a change was made.
-fn gives(
-    rt: &impl Abort,
-    alloc: Global,
-    desk: &mut Desk<ListTables>,
-    moment: u64,
-    body: &[u8],
-    wanted: &[u8],
-) {
-    let outcome = desk.handle(alloc, moment, &login(body));
+fn gives(rt: &impl Abort, desk: &mut Desk<ListTables>, moment: u64, body: &[u8], wanted: &[u8]) {
+    let outcome = desk.handle(moment, &login(body));
     assert!(rt; outcome.changed);
     match outcome.reply {
         DeskReply::Given(reply) => assert_eq!(rt; reply.get(256..), Some(wanted)),
@@ -95,13 +88,12 @@ fn gives(
 /// Asserts that a request is denied by a rule, and that no change was made.
 fn denies(
     rt: &impl Abort,
-    alloc: Global,
     desk: &mut Desk<ListTables>,
     moment: u64,
     request: &TypedRequest<'_>,
     rule: Rule,
 ) {
-    let outcome = desk.handle(alloc, moment, request);
+    let outcome = desk.handle(moment, request);
     assert!(rt; !outcome.changed);
     match outcome.reply {
         DeskReply::Given(_) => assert_eq!(rt; rule.word(), ""),
@@ -113,8 +105,8 @@ fn denies(
 fn a_code_logs_in_once(rt: HostRuntime) -> Result<(), Fail> {
     let alloc = rt.alloc();
     let mut desk = desk_of_seven(&rt, alloc, keys(&rt));
-    gives(&rt, alloc, &mut desk, 59, LOGIN, ACCEPTED);
-    denies(&rt, alloc, &mut desk, 60, &login(LOGIN), Rule::LoginRefused);
+    gives(&rt, &mut desk, 59, LOGIN, ACCEPTED);
+    denies(&rt, &mut desk, 60, &login(LOGIN), Rule::LoginRefused);
     let mut tables = desk.into_tables();
     let row = tables.account(7).expect(&rt, "a read").expect(&rt, "a row");
     assert_eq!(rt; row.last_step, Some(1));
@@ -125,8 +117,8 @@ fn a_code_logs_in_once(rt: HostRuntime) -> Result<(), Fail> {
 fn a_code_lasts_to_the_end_of_the_next_step(rt: HostRuntime) -> Result<(), Fail> {
     let alloc = rt.alloc();
     let mut desk = desk_of_seven(&rt, alloc, keys(&rt));
-    denies(&rt, alloc, &mut desk, 90, &login(LOGIN), Rule::LoginRefused);
-    let outcome = desk.handle(alloc, 89, &login(LOGIN));
+    denies(&rt, &mut desk, 90, &login(LOGIN), Rule::LoginRefused);
+    let outcome = desk.handle(89, &login(LOGIN));
     assert!(rt; outcome.changed);
     Ok(())
 }
@@ -139,7 +131,7 @@ fn a_ring_names_its_last_key(rt: HostRuntime) -> Result<(), Fail> {
         seed: Seeds::of(&[[0; 32]]).expect(&rt, "seeds"),
     };
     let mut desk = desk_of_seven(&rt, alloc, keys);
-    gives(&rt, alloc, &mut desk, 59, LOGIN, UNDER_THE_SECOND);
+    gives(&rt, &mut desk, 59, LOGIN, UNDER_THE_SECOND);
     Ok(())
 }
 
@@ -174,11 +166,10 @@ fn conditions_are_looked_at_in_their_order(rt: HostRuntime) -> Result<(), Fail> 
         ),
     ];
     for (body, rule) in bodies {
-        denies(&rt, alloc, &mut desk, 59, &login(body), rule);
+        denies(&rt, &mut desk, 59, &login(body), rule);
     }
     denies(
         &rt,
-        alloc,
         &mut desk,
         4102444800,
         &login(b"["),
@@ -188,9 +179,9 @@ fn conditions_are_looked_at_in_their_order(rt: HostRuntime) -> Result<(), Fail> 
         action: Action::ReadAccount,
         ..login(LOGIN)
     };
-    denies(&rt, alloc, &mut desk, 59, &other, Rule::NoRoute);
+    denies(&rt, &mut desk, 59, &other, Rule::NoRoute);
     // None of them used the code.
-    gives(&rt, alloc, &mut desk, 59, LOGIN, ACCEPTED);
+    gives(&rt, &mut desk, 59, LOGIN, ACCEPTED);
     Ok(())
 }
 
@@ -200,16 +191,9 @@ fn an_expired_token_is_renewed_with_its_session(rt: HostRuntime) -> Result<(), F
     let mut desk = desk_of_seven(&rt, alloc, keys(&rt));
     // Of account 9, and of account 7 with a session of account 9.
     for body in [OF_NINE, OF_ANOTHERS_SESSION] {
-        denies(
-            &rt,
-            alloc,
-            &mut desk,
-            59,
-            &login(body),
-            Rule::RenewalRefused,
-        );
+        denies(&rt, &mut desk, 59, &login(body), Rule::RenewalRefused);
     }
-    gives(&rt, alloc, &mut desk, 59, OF_SEVEN, RENEWED);
+    gives(&rt, &mut desk, 59, OF_SEVEN, RENEWED);
     Ok(())
 }
 
@@ -227,7 +211,7 @@ fn orders_are_answered(rt: HostRuntime) -> Result<(), Fail> {
     let disabled = Order::DisableAccount { account: 7 };
     assert_eq!(rt; desk.order(0, &disabled), OrderReply::Done(None));
     assert_eq!(rt; desk.order(0, &disabled), OrderReply::Done(None));
-    denies(&rt, alloc, &mut desk, 59, &login(LOGIN), Rule::LoginRefused);
+    denies(&rt, &mut desk, 59, &login(LOGIN), Rule::LoginRefused);
     let unknown = Order::ApproveRequest { request: 7000009 };
     assert_eq!(rt; desk.order(0, &unknown), OrderReply::Unknown);
     Ok(())
