@@ -145,10 +145,10 @@ spare = 256
 -- the spare bytes, and then the body of an object
 abbrev pub IsReply : List ℕ → Option Data → Type 0
 IsReply buffer None = ⊥
-IsReply buffer (Some object) = (spare ≤ length buffer) × (drop spare buffer ≡ body_of object)
+IsReply buffer (Some shown) = (spare ≤ length buffer) × (drop spare buffer ≡ body_of shown)
 
 abbrev pub Gives : List ℕ → Result (Option Data) Rule → Type 0
-Gives buffer (Ok object) = IsReply buffer object
+Gives buffer (Ok reply) = IsReply buffer reply
 Gives buffer (Err rule) = ⊥
 
 -- a refusal for want of memory or of the store, or by this rule
