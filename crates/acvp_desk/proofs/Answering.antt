@@ -7,10 +7,10 @@ use Rattle.acvp_desk.specs.Answer.{first_conditions, ask_of, found_of, later_con
 use Rattle.acvp_desk.specs.declared.ask.Ask.{Ask}
 use Rattle.acvp_desk.specs.declared.find.Found.{Found}
 use Rattle.acvp_desk.specs.declared.keys.Keys.{Keys}
-use Rattle.acvp_desk.specs.declared.request.TypedRequest.{TypedRequest}
+use Rattle.acvp_desk.specs.Request.{RequestValue}
 use Rattle.acvp_desk.proofs.Judging.{front_broken, front_held}
 
-module _ (keys : Keys) (m : ℕ) (r : TypedRequest) (s : State) where
+module _ (keys : Keys) (m : ℕ) (r : RequestValue) (s : State) where
   pub refused_first : (rule : Rule) → first_broken (first_conditions m r) ≡ Some rule → answer keys m r s ≡ Err rule
   unfolding answer
   refused_first rule broken = ap (λ b. unless b (reply_to keys m (ask_of keys m r) s)) (front_broken (first_conditions m r) (later_of m (ask_of keys m r) s) rule broken)

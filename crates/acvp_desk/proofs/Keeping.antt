@@ -26,7 +26,7 @@ use Rattle.acvp_desk.specs.declared.ask.LoginAsk.{LoginAsk}
 use Rattle.acvp_desk.specs.declared.keys.Keys.{Keys}
 use Rattle.acvp_desk.specs.declared.order.Order.{Order}
 use Rattle.acvp_desk.specs.declared.order.Order.TheVariants as order
-use Rattle.acvp_desk.specs.declared.request.TypedRequest.{TypedRequest}
+use Rattle.acvp_desk.specs.Request.{RequestValue}
 
 -- ---- the records follow
 
@@ -35,7 +35,7 @@ module _ (follows : (c : Content) (it : Change) → state_of (after it c) ≡ af
   changed_follows None c = refl
   changed_follows (Some it) c = follows c it
 
-  pub request_follows : (keys : Keys) (m : ℕ) (r : TypedRequest) (c : Content) → state_of (content_effect keys m r c) ≡ effect keys m r (state_of c)
+  pub request_follows : (keys : Keys) (m : ℕ) (r : RequestValue) (c : Content) → state_of (content_effect keys m r c) ≡ effect keys m r (state_of c)
   request_follows keys m r c = changed_follows (accepted_change keys m r (state_of c)) c
 
 module _ (follows : (c : Content) (it : OrderChange) → state_of (after_order it c) ≡ after_order_state it (state_of c)) where
@@ -76,7 +76,7 @@ module _ (follows : (c : Content) (it : Change) → state_of (after it c) ≡ af
   by_answer seeds m c (Ok reply) None kept = kept
   by_answer seeds m c (Ok reply) (Some (Login login)) kept = found_kept seeds m login c (option_and_then (λ n. account_at n (state_of c).accounts) login.user) kept
 
-  pub request_kept : (keys : Keys) (m : ℕ) (r : TypedRequest) (c : Content) → IsKept keys.seed c → IsKept keys.seed (content_effect keys m r c)
+  pub request_kept : (keys : Keys) (m : ℕ) (r : RequestValue) (c : Content) → IsKept keys.seed c → IsKept keys.seed (content_effect keys m r c)
   unfolding accepted_change
   request_kept keys m r c kept = by_answer keys.seed m c (answer keys m r (state_of c)) (ask_of keys m r) kept
 

@@ -5,3 +5,4 @@ pub mod Answering
 pub mod Serving
 pub mod Ordering
 pub mod Keeping
+pub mod Naming

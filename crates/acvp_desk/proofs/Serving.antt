@@ -1,6 +1,7 @@
 -- The exits of serving, each once for all actions.
-use Rattle.std.proofs.Common.{◌≡◌, ◌⊎◌, ℕ, Option, None, Some, Ok, Err, inl, inr, refl, sym, ap, subst, ◌∙◌, Vec, true, false, is_some, ◌≤◌, ◌<◌, arith}
+use Rattle.std.proofs.Common.{◌≡◌, ◌⊎◌, ℕ, List, length, Option, None, Some, Ok, Err, inl, inr, refl, sym, ap, subst, ◌∙◌, Vec, true, false, is_some, ◌≤◌, ◌<◌, arith}
 use Rattle.std.specs.Global.{Global}
+use Rattle.acvp_json.specs.Data.{Data}
 use Rattle.acvp_mac.specs.Conditions.{first_broken}
 use Rattle.acvp_policy.specs.declared.rule.Rule.{Rule}
 use Rattle.acvp_policy.specs.declared.rule.Rule.TheVariants as rule
@@ -9,16 +10,21 @@ use Rattle.acvp_tables.specs.Changes.{after}
 use Rattle.acvp_tables.specs.Content.{Content}
 use Rattle.acvp_tables.specs.State.{IsSound, state_of}
 use Rattle.acvp_tables.specs.declared.change.Change.{Change}
-use Rattle.acvp_desk.specs.Answer.{end_of_moments, first_conditions, ask_of, found_of, later_conditions, reply_of, answer, accepted_change, change_of, content_after, content_effect, Gives, IsReply}
+use Rattle.acvp_desk.specs.Answer.{end_of_moments, first_conditions, ask_of, found_of, later_conditions, reply_of, answer, accepted_change, change_of, content_after, content_effect, spare, Gives, IsReply}
 use Rattle.acvp_desk.specs.Kept.{IsKept}
 use Rattle.acvp_desk.specs.Serves.{Looks, Serves}
 use Rattle.acvp_desk.specs.declared.ask.Ask.{Ask}
 use Rattle.acvp_desk.specs.declared.find.Found.{Found}
 use Rattle.acvp_desk.specs.declared.keys.Keys.{Keys}
-use Rattle.acvp_desk.specs.declared.request.TypedRequest.{TypedRequest}
+use Rattle.acvp_desk.specs.Request.{RequestValue}
 use Rattle.acvp_desk.proofs.Answering.{refused_first, refused_later, answered, makes}
 
-module _ {T : Type 0} (stands : T → Content → Type 0) (is_live is_clean : T → Type 0) (leaves : T → Content → Content → Type 0) (keys : Keys) (m : ℕ) (r : TypedRequest)
+-- what is given has room for its head
+roomy : (buffer : List ℕ) (shown : Option Data) → IsReply buffer shown → spare ≤ length buffer
+roomy buffer None reply = absurd reply
+roomy buffer (Some shown) reply = reply.0
+
+module _ {T : Type 0} (stands : T → Content → Type 0) (is_live is_clean : T → Type 0) (leaves : T → Content → Content → Type 0) (keys : Keys) (m : ℕ) (r : RequestValue)
     (stay : (c : Content) → IsKept keys.seed c → IsKept keys.seed (content_effect keys m r c)) where
   -- refused before anything is looked at
   pub refused_at_once : (rests : (t : T) (c d : Content) → is_live t → stands t c → leaves t c d) (told : Rule) (old : T)
@@ -28,6 +34,7 @@ module _ {T : Type 0} (stands : T → Content → Type 0) (is_live is_clean : T 
     was_live = λ live. live;
     was_clean = λ clean. clean;
     clock = λ past. ap (λ rule. Err rule) (late past);
+    room = tt;
     given = tt;
     denied = λ live c kept h. elim why [ inl fault ↦ inl fault | inr broken ↦ inr (refused_first keys m r (state_of c) told broken) ];
     same = λ live c h. h;
@@ -47,6 +54,7 @@ module _ {T : Type 0} (stands : T → Content → Type 0) (is_live is_clean : T 
       was_live = looks.was_live;
       was_clean = looks.was_clean;
       clock = λ past. absurd (omega (arith, served, past));
+      room = tt;
       given = tt;
       denied = λ live c kept h.
           elim why [ inl fault ↦ inl fault | inr broken ↦ inr (refused_later keys m r (state_of c) it held asked f (finds live c kept.sound h) told broken) ];
@@ -75,6 +83,7 @@ module _ {T : Type 0} (stands : T → Content → Type 0) (is_live is_clean : T 
         was_live = looks.was_live;
         was_clean = looks.was_clean;
         clock = λ past. absurd (omega (arith, served, past));
+        room = roomy bytes.items (reply_of keys m it f) reply;
         given = λ live c kept h. (gives live c kept h, subst (λ d. stands mid d) (sym (becomes None is live c kept h)) (looks.same live c h), stay c kept, ap is_some (sym (accepts None is live c kept h)));
         denied = tt;
         settled = λ clean live c d kept h. let up = looks.live clean live in
@@ -93,6 +102,7 @@ module _ {T : Type 0} (stands : T → Content → Type 0) (is_live is_clean : T 
           was_live = λ live. looks.was_live (changes.was_live live);
           was_clean = λ clean. looks.was_clean (changes.was_clean clean);
           clock = λ past. absurd (omega (arith, served, past));
+          room = roomy bytes.items (reply_of keys m it f) reply;
           given = λ live c kept h. let up = changes.was_live live in
               (gives up c kept h, subst (λ d. stands new d) (sym (becomes (Some it_changes) is up c kept h)) (changes.ok live c kept.sound (looks.same up c h)), stay c kept, ap is_some (sym (accepts (Some it_changes) is up c kept h)));
           denied = tt;
@@ -111,6 +121,7 @@ module _ {T : Type 0} (stands : T → Content → Type 0) (is_live is_clean : T 
           was_live = λ live. looks.was_live (changes.was_live live);
           was_clean = λ clean. looks.was_clean (changes.was_clean clean);
           clock = λ past. absurd (omega (arith, served, past));
+          room = tt;
           given = tt;
           denied = λ live c kept h. inl refl;
           same = λ live c h. changes.err live c (looks.same (changes.was_live live) c h);

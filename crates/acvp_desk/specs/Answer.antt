@@ -30,7 +30,7 @@ use Rattle.acvp_desk.specs.declared.ask.Ask.{Ask}
 use Rattle.acvp_desk.specs.declared.ask.Ask.TheVariants as ask
 use Rattle.acvp_desk.specs.declared.find.Found.{Found}
 use Rattle.acvp_desk.specs.declared.keys.Keys.{Keys}
-use Rattle.acvp_desk.specs.declared.request.TypedRequest.{TypedRequest}
+use Rattle.acvp_desk.specs.Request.{RequestValue}
 
 -- the first moment that is no longer served: the year 2100, in seconds since 1970
 abbrev pub end_of_moments : ℕ
@@ -39,19 +39,19 @@ end_of_moments = 4102444800
 -- ---- what is asked
 
 -- the conditions on the body that are looked at before a row is: those on a login's. What has no case yet has no route
-abbrev pub first_conditions_on : Action → TypedRequest → List (Condition Rule)
-first_conditions_on action.Login r = body_conditions login_body_conditions r.body.now
+abbrev pub first_conditions_on : Action → RequestValue → List (Condition Rule)
+first_conditions_on action.Login r = body_conditions login_body_conditions r.body
 first_conditions_on _ r = (false, rule.NoRoute) ∷ []
 
 -- the conditions that are looked at before a row is
-abbrev pub first_conditions : ℕ → TypedRequest → List (Condition Rule)
+abbrev pub first_conditions : ℕ → RequestValue → List (Condition Rule)
 first_conditions moment r = (nat_lt moment end_of_moments, rule.ClockOutOfRange) ∷ first_conditions_on r.action r
 
-abbrev pub ask_on : Action → Keys → ℕ → TypedRequest → Option Ask
-ask_on action.Login keys moment r = option_map ask.Login (login_ask_at keys.token r.body.now)
+abbrev pub ask_on : Action → Keys → ℕ → RequestValue → Option Ask
+ask_on action.Login keys moment r = option_map ask.Login (login_ask_at keys.token r.body)
 ask_on _ keys moment r = None
 
-abbrev pub ask_of : Keys → ℕ → TypedRequest → Option Ask
+abbrev pub ask_of : Keys → ℕ → RequestValue → Option Ask
 ask_of keys moment r = ask_on r.action keys moment r
 
 abbrev pub action_of : Ask → Action
@@ -95,7 +95,7 @@ later_of moment None state = []
 later_of moment (Some it) state = later_conditions moment it (found_of it state)
 
 -- all conditions, in their order
-abbrev pub conditions : Keys → ℕ → TypedRequest → State → List (Condition Rule)
+abbrev pub conditions : Keys → ℕ → RequestValue → State → List (Condition Rule)
 conditions keys moment r state = first_conditions moment r ++ later_of moment (ask_of keys moment r) state
 
 abbrev pub reply_to : Keys → ℕ → Option Ask → State → Option Data
@@ -103,7 +103,7 @@ reply_to keys moment None state = None
 reply_to keys moment (Some it) state = reply_of keys moment it (found_of it state)
 
 -- the rule of the first condition that doesn't hold, or the object of the reply
-unfoldable pub answer : Keys → ℕ → TypedRequest → State → Result (Option Data) Rule
+unfoldable pub answer : Keys → ℕ → RequestValue → State → Result (Option Data) Rule
 answer keys moment r state = judged (conditions keys moment r state) (reply_to keys moment (ask_of keys moment r) state)
 
 -- ---- the effect
@@ -117,7 +117,7 @@ abbrev pub change_on : Result (Option Data) Rule → Option Change → Option Ch
 change_on (Ok reply) it = it
 change_on (Err rule) it = None
 
-unfoldable pub accepted_change : Keys → ℕ → TypedRequest → State → Option Change
+unfoldable pub accepted_change : Keys → ℕ → RequestValue → State → Option Change
 accepted_change keys moment r state = change_on (answer keys moment r state) (change_by moment (ask_of keys moment r) state)
 
 abbrev pub state_after : Option Change → State → State
@@ -129,11 +129,11 @@ content_after None c = c
 content_after (Some it) c = after it c
 
 -- the records after a request
-abbrev pub effect : Keys → ℕ → TypedRequest → State → State
+abbrev pub effect : Keys → ℕ → RequestValue → State → State
 effect keys moment r state = state_after (accepted_change keys moment r state) state
 
 -- and what is kept of them
-abbrev pub content_effect : Keys → ℕ → TypedRequest → Content → Content
+abbrev pub content_effect : Keys → ℕ → RequestValue → Content → Content
 content_effect keys moment r c = content_after (accepted_change keys moment r (state_of c)) c
 
 -- ---- the reply

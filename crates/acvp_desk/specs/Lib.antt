@@ -1,3 +1,4 @@
+pub mod Request
 pub mod Bodies
 pub mod Login
 pub mod Answer
@@ -5,3 +6,8 @@ pub mod Kept
 pub mod Serves
 pub mod Desk
 pub mod Orders
+pub mod Errors
+pub use Rattle.acvp_json.specs.Data
+pub use Rattle.acvp_json.specs.Written
+pub use Rattle.acvp_mac.specs.Conditions
+pub use Rattle.acvp_registry.specs.Number

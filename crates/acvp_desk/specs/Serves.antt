@@ -1,15 +1,15 @@
 -- What serving a request does to what the tables stand for.
-use Rattle.std.specs.Prelude.{◌≡◌, ◌⊎◌, ◌≤◌, false, ℕ, Result, Ok, Err, OnOk, OnErr, IfOk, IfErr, Bool, is_some, ⊤}
+use Rattle.std.specs.Prelude.{◌≡◌, ◌⊎◌, ◌≤◌, false, ℕ, length, Result, Ok, Err, OnOk, OnErr, IfOk, IfErr, Bool, is_some, ⊤}
 use Rattle.acvp_policy.specs.declared.rule.Rule.{Rule}
 use Rattle.acvp_policy.specs.declared.rule.Rule.TheVariants.{ClockOutOfRange, Unavailable}
 use Rattle.acvp_tables.specs.Content.{Content}
 use Rattle.acvp_tables.specs.State.{state_of}
-use Rattle.acvp_desk.specs.Answer.{end_of_moments, answer, accepted_change, content_effect, Gives, Refuses}
+use Rattle.acvp_desk.specs.Answer.{end_of_moments, answer, accepted_change, content_effect, spare, Gives, Refuses}
 use Rattle.acvp_desk.specs.Kept.{IsKept}
 use Rattle.acvp_desk.specs.declared.desk.DeskReply.{DeskReply}
 use Rattle.acvp_desk.specs.declared.desk.DeskReply.TheVariants.{Given, Denied}
 use Rattle.acvp_desk.specs.declared.keys.Keys.{Keys}
-use Rattle.acvp_desk.specs.declared.request.TypedRequest.{TypedRequest}
+use Rattle.acvp_desk.specs.Request.{RequestValue}
 use Rattle.acvp_desk.specs.declared.serve.Served.{Served}
 
 -- what is given, with whether a change was made
@@ -46,10 +46,12 @@ module _ {T : Type 0} (stands : T → Content → Type 0) (is_live is_clean : T 
   -- holds what holds at all times; or the request is refused, and all stands as it did. A crash finds the effect of what was
   -- given; and of what was refused, what there was or that with the effect. Past the last moment that is served nothing else
   -- is looked at.
-  pub record Serves (result : Result Served Rule) (old new : T) (keys : Keys) (moment : ℕ) (r : TypedRequest) : Type 0 where
+  pub record Serves (result : Result Served Rule) (old new : T) (keys : Keys) (moment : ℕ) (r : RequestValue) : Type 0 where
     pub was_live : is_live new → is_live old
     pub was_clean : is_clean new → is_clean old
     pub clock : end_of_moments ≤ moment → result ≡ Err ClockOutOfRange
+    -- there is room for the head of what is given, whatever the tables stand for
+    pub room : IfOk result (λ served. spare ≤ length served.reply.items)
     pub given : IfOk result (λ served. is_live new → (c : Content) → IsKept keys.seed c → stands old c
         → Gives served.reply.items (answer keys moment r (state_of c)) × stands new (content_effect keys moment r c)
         × IsKept keys.seed (content_effect keys moment r c)

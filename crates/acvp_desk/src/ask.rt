@@ -6,6 +6,7 @@ ghost use Rattle.acvp_json.specs.Envelope.{envelope_conditions, object_of};
 ghost use Rattle.acvp_json.specs.LoginBody.{login_body_conditions, login_body_of};
 ghost use Rattle.acvp_json.specs.View.{view};
 ghost use Rattle.acvp_json.specs.declared.fault.BodyFault.{BodyFault};
+ghost use Rattle.acvp_desk.specs.Request.{request_value};
 ghost use Rattle.acvp_desk.specs.Bodies.{rule_of, body_conditions};
 ghost use Rattle.acvp_desk.specs.Login.{login_ask_at, login_at, password_of, user_of, renewal_of};
 ghost use Rattle.acvp_desk.specs.Answer.{ask_of, first_conditions, first_conditions_on, action_of, end_of_moments};
@@ -21,7 +22,7 @@ use serde_json::Value;
 use std::alloc::Global;
 
 /// The first moment that is no longer served: the year 2100, in seconds since 1970.
-const END_OF_MOMENTS: u64 = 4102444800;
+pub const END_OF_MOMENTS: u64 = 4102444800;
 
 /// What a login asks: whose it is, where the user is the plain decimal of an account's number; the number of its
 /// one-time code, where the password has the form of one; and what the token that it hands in came to.
@@ -155,8 +156,8 @@ fn login_ask(alloc: Global, ring: &KeyRing, body: &[u8]) -> Result<LoginAsk, Rul
 
 /// What a request asks, or the rule of the first condition on its body that is looked at before a row is and doesn't hold.
 fn ask_in(alloc: Global, keys: &Keys, moment: u64, request: &TypedRequest<'_>) -> Result<Ask, Rule>
-    ensures ok { IfOk result (λ ask. (first_broken (first_conditions_on request.now.action request.now) ≡ None) × (ask_of keys.now moment request.now ≡ Some ask)) }
-    ensures err { IfErr result (λ rule. (rule ≡ Rule.Unavailable) ⊎ (first_broken (first_conditions_on request.now.action request.now) ≡ Some rule)) }
+    ensures ok { IfOk result (λ ask. (first_broken (first_conditions_on request.now.action (request_value request.now)) ≡ None) × (ask_of keys.now moment (request_value request.now) ≡ Some ask)) }
+    ensures err { IfErr result (λ rule. (rule ≡ Rule.Unavailable) ⊎ (first_broken (first_conditions_on request.now.action (request_value request.now)) ≡ Some rule)) }
 {
     match request.action {
         Action::Login => Ok(Ask::Login(login_ask(alloc, &keys.token, request.body)?)),
@@ -173,8 +174,8 @@ pub(crate) fn ask_for(
 ) -> Result<Ask, Rule>
     ensures moment { IfOk result (λ _. moment < end_of_moments) }
     ensures clock { IfErr result (λ rule. end_of_moments ≤ moment → rule ≡ Rule.ClockOutOfRange) }
-    ensures ok { IfOk result (λ ask. (first_broken (first_conditions moment request.now) ≡ None) × (ask_of keys.now moment request.now ≡ Some ask)) }
-    ensures err { IfErr result (λ rule. (rule ≡ Rule.Unavailable) ⊎ (first_broken (first_conditions moment request.now) ≡ Some rule)) }
+    ensures ok { IfOk result (λ ask. (first_broken (first_conditions moment (request_value request.now)) ≡ None) × (ask_of keys.now moment (request_value request.now) ≡ Some ask)) }
+    ensures err { IfErr result (λ rule. (rule ≡ Rule.Unavailable) ⊎ (first_broken (first_conditions moment (request_value request.now)) ≡ Some rule)) }
 {
     if moment >= END_OF_MOMENTS {
         return Err(Rule::ClockOutOfRange);

@@ -3,6 +3,7 @@
 ghost use Rattle.std.specs.Prelude.{◌≡◌, false, IfOk, IfErr};
 ghost use Rattle.acvp_tables.specs.Content.{Content, greatest_epoch_of};
 ghost use Rattle.acvp_tables.specs.State.{IsSound};
+ghost use Rattle.acvp_desk.specs.Request.{request_value};
 ghost use Rattle.acvp_desk.specs.Desk.{HasSeeds, tables_of};
 ghost use Rattle.acvp_desk.specs.Orders.{IsOrder, Orders};
 ghost use Rattle.acvp_desk.specs.Serves.{Looks, Serves, result_of, IfDenied};
@@ -100,7 +101,7 @@ impl<T: Tables> Desk<T> {
     /// Answers a request at a moment, in seconds since 1970.
     pub fn handle(&mut self, moment: u64, request: &TypedRequest<'_>) -> Outcome
         ensures keys { self.new.keys ≡ self.old.keys }
-        ensures served { Serves T.stands T.is_live T.is_clean T.leaves (result_of result.reply result.changed) self.old.tables self.new.tables self.old.keys moment request.now }
+        ensures served { Serves T.stands T.is_live T.is_clean T.leaves (result_of result.reply result.changed) self.old.tables self.new.tables self.old.keys moment (request_value request.now) }
         ensures denied { IfDenied result.reply (result.changed ≡ false) }
     {
         match serve(self.alloc, &self.keys, &mut self.tables, moment, request) {

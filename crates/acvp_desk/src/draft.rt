@@ -21,7 +21,9 @@ use std::alloc::{AllocError, Global};
 const TOKEN_LIFE: u64 = 1800;
 
 /// How many bytes stand before the body of a reply, for its head.
-const SPARE: [u8; 256] = [0; 256];
+pub const SPARE_BYTES: usize = 256;
+
+const SPARE: [u8; SPARE_BYTES] = [0; SPARE_BYTES];
 
 /// A reply's bytes, and the change that it tells of.
 #[derive(Drop)]

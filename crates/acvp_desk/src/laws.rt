@@ -1,20 +1,23 @@
 //! What holds of the records after requests and orders, whoever keeps them.
 
-ghost use Rattle.std.specs.Prelude.{◌≡◌, ℕ, List};
+ghost use Rattle.std.specs.Prelude.{◌≡◌, ◌++◌, ℕ, List, codes};
 ghost use Rattle.acvp_tables.specs.Content.{Content, no_rows};
 ghost use Rattle.acvp_tables.specs.State.{state_of};
 ghost use Rattle.acvp_desk.specs.Answer.{effect, content_effect};
+ghost use Rattle.acvp_desk.specs.Errors.{error_body};
 ghost use Rattle.acvp_desk.specs.Kept.{IsKept};
 ghost use Rattle.acvp_desk.specs.Orders.{IsOrder, HasSecret, order_effect, content_order_effect};
+ghost use Rattle.acvp_policy.specs.Rule.{rule_word};
+ghost use Rattle.acvp_policy.specs.declared.rule.Rule.{Rule};
 ghost use Rattle.acvp_desk.specs.declared.keys.Keys.{Keys};
 ghost use Rattle.acvp_desk.specs.declared.order.Order.{Order};
-ghost use Rattle.acvp_desk.specs.declared.request.TypedRequest.{TypedRequest};
+ghost use Rattle.acvp_desk.specs.Request.{RequestValue};
 
 use acvp_tables::{counts_are_kept, numbers_are_kept, records_begin_well, state_follows};
 
 /// What a request or an order makes of what is kept is what it makes of the records of it.
 pub fn effects_follow()
-    ensures request { (keys : Keys) (moment : ℕ) (r : TypedRequest) (c : Content) → state_of (content_effect keys moment r c) ≡ effect keys moment r (state_of c) }
+    ensures request { (keys : Keys) (moment : ℕ) (r : RequestValue) (c : Content) → state_of (content_effect keys moment r c) ≡ effect keys moment r (state_of c) }
     ensures order { (it : Order) (c : Content) → state_of (content_order_effect it c) ≡ order_effect it (state_of c) }
 {
     state_follows();
@@ -23,7 +26,7 @@ pub fn effects_follow()
 /// What holds of the records at all times holds without a row, after a request, and after an order.
 pub fn records_are_kept()
     ensures start { (seeds : List (List ℕ)) → IsKept seeds no_rows }
-    ensures request { (keys : Keys) (moment : ℕ) (r : TypedRequest) (c : Content) → IsKept keys.seed c → IsKept keys.seed (content_effect keys moment r c) }
+    ensures request { (keys : Keys) (moment : ℕ) (r : RequestValue) (c : Content) → IsKept keys.seed c → IsKept keys.seed (content_effect keys moment r c) }
     ensures order { (seeds : List (List ℕ)) (it : Order) (c : Content) → IsOrder it → HasSecret it → IsKept seeds c → IsKept seeds (content_order_effect it c) }
 {
     records_begin_well();
@@ -31,3 +34,8 @@ pub fn records_are_kept()
     numbers_are_kept();
     counts_are_kept();
 }
+
+/// The bytes of the body that names a rule.
+pub fn errors_are_named()
+    ensures { (rule : Rule) → error_body rule ≡ codes "[{\"acvVersion\":\"1.0\"},{\"error\":\"" ++ rule_word rule ++ codes "\"}]" }
+{}

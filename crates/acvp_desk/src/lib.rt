@@ -1,9 +1,14 @@
 //! The desk: one request, or one order of the operator, on the records.
 #![tactic(auto)]
 
+pub use acvp_gen::Seeds;
+pub use acvp_registry::{digits_number, plain_number};
+pub use acvp_token::KeyRing;
+pub use ask::END_OF_MOMENTS;
 pub use desk::{Desk, DeskReply, NewFault, Outcome};
+pub use draft::SPARE_BYTES;
 pub use keys::Keys;
-pub use laws::{effects_follow, records_are_kept};
+pub use laws::{effects_follow, errors_are_named, records_are_kept};
 pub use order::{Order, OrderReply, order_on};
 pub use request::{Numbers, TokenField, TypedRequest};
 

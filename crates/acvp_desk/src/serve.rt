@@ -3,6 +3,7 @@
 ghost use Rattle.std.specs.Prelude.{◌≡◌, ◌<◌, ◌⊎◌, None, Some, IfOk, IfErr};
 ghost use Rattle.acvp_mac.specs.Conditions.{first_broken};
 ghost use Rattle.acvp_desk.specs.Answer.{change_of, end_of_moments, later_conditions, reply_of, IsReply, CoversAny};
+ghost use Rattle.acvp_desk.specs.Request.{request_value};
 ghost use Rattle.acvp_desk.specs.Serves.{Serves};
 
 use crate::ask::{Ask, ask_for};
@@ -58,7 +59,7 @@ pub(crate) fn serve<T: Tables>(
     moment: u64,
     request: &TypedRequest<'_>,
 ) -> Result<Served, Rule>
-    ensures { Serves T.stands T.is_live T.is_clean T.leaves result tables.old tables.new keys.now moment request.now }
+    ensures { Serves T.stands T.is_live T.is_clean T.leaves result tables.old tables.new keys.now moment (request_value request.now) }
 {
     records_are_kept();
     let ask = match ask_for(alloc, keys, moment, request) {

@@ -3,8 +3,8 @@ use Rattle.std.proofs.Common.{◌≡◌, ◌≢◌, ◌<◌, ◌≤◌, ◌+◌,
 use Rattle.std.proofs.lemmas.Fmt.{length-decimal-le}
 use Rattle.hex.specs.Hex.{is_hex_digit}
 use Rattle.hex.proofs.HexLemmas.{decode_of-ok}
-use Rattle.acvp_http.specs.declared.records.Order.{Order}
-use Rattle.acvp_http.specs.declared.records.Order.TheVariants as kind
+use Rattle.acvp_desk.specs.declared.order.Order.{Order}
+use Rattle.acvp_desk.specs.declared.order.Order.TheVariants as kind
 use Rattle.acvp_http.specs.declared.script.Command.{Command}
 use Rattle.acvp_http.specs.declared.script.Command.TheVariants as command
 use Rattle.acvp_http.specs.declared.script.Line.{Line}
@@ -48,6 +48,8 @@ order_parts m (kind.DisableAccount account) front (number, named, is) = (
   (decimal m ++ 32 ∷ decimal account, refl, (named, (number, refl))),
   is ∙ ap (λ rest. codes "account-disable " ++ rest) (regroup_disable (decimal m) (decimal account)),
 )
+order_parts m (kind.ApproveRequest number) front written = absurd written
+order_parts m (kind.RejectRequest number) front written = absurd written
 
 -- a request's line, its bytes and their line feeds are the request, written
 pub request_written : (m n : ℕ) (bytes text : List ℕ) → length bytes ≡ n → IsLine (line.Request m n) text
@@ -103,6 +105,8 @@ line_lacks (line.Order m (kind.AddAccount account secret)) text (rest, is, (name
 line_lacks (line.Order m (kind.DisableAccount account)) text (rest, is, (named, moment)) =
     after_word_lacks command.DisableAccount rest text is
     (moment_lacks m (decimal account) rest moment (decimal_lacks 10 account (omega arith) (omega (arith, named))))
+line_lacks (line.Order m (kind.ApproveRequest number)) text is = absurd is
+line_lacks (line.Order m (kind.RejectRequest number)) text is = absurd is
 
 length_moment : (m : ℕ) (rest text : List ℕ) → IsMoment m rest text → length text ≤ 20 + length rest
 length_moment m rest text is =
@@ -125,6 +129,8 @@ line_short (line.Order m (kind.DisableAccount account)) text (rest, is, (named, 
     length-decimal-le 4 account (omega arith) (omega (arith, named)) (omega (arith, named)) in
     let tail = length_moment m (decimal account) rest moment in
     rw is (omega arith)
+line_short (line.Order m (kind.ApproveRequest number)) text is = absurd is
+line_short (line.Order m (kind.RejectRequest number)) text is = absurd is
 
 -- an event's text begins with its line
 pub event_front : (e : Event) (front : List ℕ) → IsWritten e front → (said : Line) × (text : List ℕ) × (tail : List ℕ)

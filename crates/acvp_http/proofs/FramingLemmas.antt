@@ -7,7 +7,7 @@ use Rattle.std.specs.Str.{str_eq_ignore_ascii_case}
 use Rattle.httparse.specs.Spans.{span_bytes, header_bytes, IsWithin, IsHeaderWithin}
 use Rattle.httparse.specs.declared.spans.Span.{Span}
 use Rattle.httparse.specs.declared.spans.HeaderSpan.{HeaderSpan}
-use Rattle.acvp_mac.specs.Conditions.{judged}
+use Rattle.acvp_desk.specs.Conditions.{judged}
 use Rattle.acvp_policy.specs.declared.rule.Rule.{Rule}
 use Rattle.acvp_policy.specs.declared.rule.Rule.TheVariants.{LengthMissing, BadLength, BodyTooLarge, HostMissing, Truncated}
 use Rattle.acvp_http.specs.Asks.{values_of, needs_length, is_nil, lengths_agree, body_length, hosts_fit, framing_conditions}

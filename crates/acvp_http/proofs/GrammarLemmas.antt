@@ -1,8 +1,8 @@
 -- Lemmas on input that leaves the grammar of scripts.
 use Rattle.std.proofs.Common.{◌≡◌, ◌≢◌, ℕ, List, [], ◌∷◌, ◌++◌, length, decimal, Option, Some, None, IfSome, Bool, arith, sym, ◌∙◌, ap, refl, append_assoc, append-nil, length-append}
 use Rattle.std.specs.Io.KnownBytes.{Consumes}
-use Rattle.acvp_http.specs.declared.records.Order.{Order}
-use Rattle.acvp_http.specs.declared.records.Order.TheVariants as kind
+use Rattle.acvp_desk.specs.declared.order.Order.{Order}
+use Rattle.acvp_desk.specs.declared.order.Order.TheVariants as kind
 use Rattle.acvp_http.specs.declared.script.Command.TheVariants as command
 use Rattle.acvp_http.specs.declared.script.Line.{Line}
 use Rattle.acvp_http.specs.declared.script.Line.TheVariants as line
@@ -92,6 +92,8 @@ no_line_empty (line.Order m (kind.AddAccount account secret)) (rest, is, tail) =
     no_gap (command_word command.AddAccount) rest is
 no_line_empty (line.Order m (kind.DisableAccount account)) (rest, is, tail) =
     no_gap (command_word command.DisableAccount) rest is
+no_line_empty (line.Order m (kind.ApproveRequest number)) is = is
+no_line_empty (line.Order m (kind.RejectRequest number)) is = is
 
 pub no_event_byte : (byte : ℕ) → HasNoEvent (byte ∷ [])
 no_event_byte byte = λ e front more written is.
@@ -128,6 +130,8 @@ not_order text m n m' (kind.DisableAccount account) (rest, is, tail) (rest', is'
       word_lacks command.Request,
       is,
     ) is').0 in cc
+not_order text m n m' (kind.ApproveRequest number) says is = is
+not_order text m n m' (kind.RejectRequest number) says is = is
 
 -- a request's line without its bytes
 no_bytes : (xs ys text : List ℕ) (m n : ℕ) → xs ≡ (text ++ 10 ∷ []) ++ ys → IsLine (line.Request m n) text

@@ -3,7 +3,6 @@ pub mod PhraseLemmas
 pub mod ReplyLemmas
 pub mod HeadLemmas
 pub mod FramingLemmas
-pub mod BodyLemmas
 pub mod ServeLemmas
 pub mod RouteLemmas
 pub mod LineLemmas
@@ -15,4 +14,3 @@ pub mod WritingLemmas
 pub mod TurnLemmas
 pub mod RunLemmas
 pub mod AsksLemmas
-pub mod AccountLemmas

@@ -5,14 +5,13 @@ use Rattle.std.proofs.lemmas.Fmt.{decimal_injective, digits_decimal}
 use Rattle.std.proofs.lemmas.Str.Parse.{IsNumeralModel, numerals_by_value, tells_all_ascii_digits, digit_from_value}
 use Rattle.std.specs.Str.{all_ascii_digits}
 use Rattle.std.specs.Str.Parse.{AllDigits, digits_value}
-use Rattle.acvp_http.specs.declared.records.Order.TheVariants as order
+use Rattle.acvp_desk.specs.declared.order.Order.TheVariants as order
 use Rattle.acvp_http.specs.declared.script.Command.{Command}
 use Rattle.acvp_http.specs.declared.script.Command.TheVariants as command
 use Rattle.acvp_http.specs.declared.script.Line.{Line}
 use Rattle.acvp_http.specs.declared.script.Line.TheVariants as line
 use Rattle.acvp_http.specs.Private.Lines.{Lacks, IsMoment, IsRequestTail, IsAddTail, IsDisableTail, IsLine, command_word}
-use Rattle.acvp_http.specs.Script.{IsNumber, IsSecretText}
-use Rattle.acvp_http.specs.Records.{IsAccountNumber}
+use Rattle.acvp_http.specs.Script.{IsNumber, IsAccountNumber, IsSecretText}
 
 -- the kit's test of digits and the number that they write
 own : IsNumeralModel (λ ds. all_ascii_digits ds ≡ true) (digits_value 10)
@@ -146,6 +145,8 @@ no_line_word text a b cut none (line.Order m (order.AddAccount n s)) (rest, is, 
     none command.AddAccount (word_is text a b rest command.AddAccount cut is).0
 no_line_word text a b cut none (line.Order m (order.DisableAccount n)) (rest, is, tail) =
     none command.DisableAccount (word_is text a b rest command.DisableAccount cut is).0
+no_line_word text a b cut none (line.Order m (order.ApproveRequest n)) is = is
+no_line_word text a b cut none (line.Order m (order.RejectRequest n)) is = is
 
 pub no_add_line : (text a b : List ℕ) → Lacks 32 a × (text ≡ a ++ 32 ∷ b) → a ≡ command_word command.AddAccount
     → ((m n : ℕ) (s : List ℕ) → IsAddTail m n s b → ⊥) → (other : Line) → IsLine other text → ⊥
@@ -155,3 +156,5 @@ no_add_line text a b cut word none (line.Order m (order.AddAccount n s)) (rest, 
     let same : b ≡ rest = (word_is text a b rest command.AddAccount cut is).1 in none m n s (rw same tail)
 no_add_line text a b cut word none (line.Order m (order.DisableAccount n)) (rest, is, tail) =
     let same : a ≡ command_word command.DisableAccount = (word_is text a b rest command.DisableAccount cut is).0 in cc
+no_add_line text a b cut word none (line.Order m (order.ApproveRequest n)) is = is
+no_add_line text a b cut word none (line.Order m (order.RejectRequest n)) is = is

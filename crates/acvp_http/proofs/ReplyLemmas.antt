@@ -1,11 +1,8 @@
 -- Lemmas on replies.
-use Rattle.std.proofs.Common.{◌≡◌, ℕ, List, [], ◌++◌, codes, refl, append_assoc}
-use Rattle.serde_json.proofs.OnLiterals.{serde_json_on_literals}
-use Rattle.acvp_policy.specs.declared.rule.Rule.{Rule}
-use Rattle.acvp_policy.specs.declared.rule.Rule.TheVariants.{BadHead, HeadTooLarge, Truncated, LengthMissing, BadLength, BodyTooLarge, TransferCoding, HostMissing, NoRoute, NoMethod, TokenMissing, TokenMalformed, TokenSignature, TokenClaims, TokenExpired, AccountRefused, AccountTokenNeeded, SessionTokenNeeded, OtherSession, NoResource, SessionCancelled, SessionExpired, SessionFrozen, SetCancelled, SetExpired, AlreadySubmitted, NotSubmitted, NotSample, SampleNotCertifiable, NotPassed, BodyNotJson, BodyEnvelope, BodyField, NotByteOriented, LengthOutOfRange, Unsupported, UnknownTest, DuplicateTest, SetMismatch, NoReference, AccountFull, LoginRefused, RenewalRefused, ClockOutOfRange, Unavailable, BadPage, ReviewersFull}
-use Rattle.acvp_policy.specs.Rule.{rule_word}
-use Rattle.acvp_json.specs.Written.{body_of}
-use Rattle.acvp_http.specs.Reply.{error_object}
+use Rattle.std.proofs.Common.{◌≡◌, ◌≤◌, ℕ, ◌+◌, ◌-◌, List, [], ◌++◌, Option, length, take, drop, refl, ap, ◌∙◌, arith, append_assoc, append-nil, length-append}
+use Rattle.std.proofs.lemmas.List.{drop_all, drop-append-le, drop-drop, length-drop, length-take-le, take_all}
+use borrow.Rule.Slice.PartMut.{put_mid}
+use Rattle.acvp_http.specs.Reply.{framed, head_text}
 
 -- the head from what was written piece by piece
 pub head_pieces : (first date type label number close extra_fields end s1 s2 s3 s4 s5 s6 : List ℕ) →
@@ -15,59 +12,46 @@ pub head_pieces : (first date type label number close extra_fields end s1 s2 s3 
 head_pieces first date type label number close extra_fields end s1 s2 s3 s4 s5 s6 e1 e2 e3 e4 e5 e6 =
     rw (e6, e5, e4, e3, e2, e1) (simp append_assoc)
 
--- the body of each refusal, computed
-pub body_of-error_object : (rule : Rule)
-    → body_of (error_object rule) ≡ codes "[{\"acvVersion\":\"1.0\"},{\"error\":\"" ++ rule_word rule ++ codes "\"}]"
-unfolding serde_json_on_literals body_of
-body_of-error_object BadHead = refl
-body_of-error_object HeadTooLarge = refl
-body_of-error_object Truncated = refl
-body_of-error_object LengthMissing = refl
-body_of-error_object BadLength = refl
-body_of-error_object BodyTooLarge = refl
-body_of-error_object TransferCoding = refl
-body_of-error_object HostMissing = refl
-body_of-error_object NoRoute = refl
-body_of-error_object NoMethod = refl
-body_of-error_object TokenMissing = refl
-body_of-error_object TokenMalformed = refl
-body_of-error_object TokenSignature = refl
-body_of-error_object TokenClaims = refl
-body_of-error_object TokenExpired = refl
-body_of-error_object AccountRefused = refl
-body_of-error_object AccountTokenNeeded = refl
-body_of-error_object SessionTokenNeeded = refl
-body_of-error_object OtherSession = refl
-body_of-error_object NoResource = refl
-body_of-error_object SessionCancelled = refl
-body_of-error_object SessionExpired = refl
-body_of-error_object SessionFrozen = refl
-body_of-error_object SetCancelled = refl
-body_of-error_object SetExpired = refl
-body_of-error_object AlreadySubmitted = refl
-body_of-error_object NotSubmitted = refl
-body_of-error_object NotSample = refl
-body_of-error_object SampleNotCertifiable = refl
-body_of-error_object NotPassed = refl
-body_of-error_object BodyNotJson = refl
-body_of-error_object BodyEnvelope = refl
-body_of-error_object BodyField = refl
-body_of-error_object NotByteOriented = refl
-body_of-error_object LengthOutOfRange = refl
-body_of-error_object Unsupported = refl
-body_of-error_object UnknownTest = refl
-body_of-error_object DuplicateTest = refl
-body_of-error_object SetMismatch = refl
-body_of-error_object NoReference = refl
-body_of-error_object AccountFull = refl
-body_of-error_object LoginRefused = refl
-body_of-error_object RenewalRefused = refl
-body_of-error_object ClockOutOfRange = refl
-body_of-error_object Unavailable = refl
-body_of-error_object BadPage = refl
-body_of-error_object ReviewersFull = refl
-
 -- three writes into an empty text
 pub written_thrice : (s0 s1 s2 s3 a b c : List ℕ) → s0 ≡ [] → s1 ≡ s0 ++ a → s2 ≡ s1 ++ b → s3 ≡ s2 ++ c
     → s3 ≡ a ++ b ++ c
 written_thrice s0 s1 s2 s3 a b c e0 e1 e2 e3 = rw (e3, e2, e1, e0) refl
+
+-- bytes that are written over a part of a buffer, as the code reaches it through its vector
+written_over : (items head : List ℕ) (len a k : ℕ) → a + k ≡ 256 → length head ≡ k → 256 ≤ length items → len ≡ length items
+    → drop a (take len (put_mid a k items head ++ drop (length (put_mid a k items head)) items)) ≡ head ++ drop 256 items
+written_over items head len a k sum size room whole =
+    let written = put_mid a k items head in
+    let front : length (take a items) ≡ a = length-take-le a items (omega (arith, sum, room)) in
+    let same : length written ≡ length items =
+    omega (
+      arith,
+      length-append (take a items) (head ++ drop k (drop a items)),
+      length-append head (drop k (drop a items)),
+      front,
+      length-drop k (drop a items),
+      length-drop a items,
+      sum,
+      size,
+      room,
+    ) in
+    let all : take len (written ++ drop (length written) items) ≡ written =
+    ap (λ rest. take len (written ++ rest)) (drop_all (length written) items (omega (arith, same)))
+    ∙ ap (λ text. take len text) (append-nil written) ∙ take_all len written (omega (arith, same, whole)) in
+    ap (λ text. drop a text) all ∙ drop-append-le a (take a items) (head ++ drop k (drop a items)) (omega (arith, front))
+    ∙ ap (λ none. none ++ (head ++ drop k (drop a items))) (drop_all a (take a items) (omega (arith, front)))
+    ∙ ap (λ rest. head ++ rest) (drop-drop k a items ∙ ap (λ n. drop n items) sum)
+
+-- a head in the last of the spare bytes
+pub head_put : (items shown new head : List ℕ) (len n : ℕ) → shown ≡ items → len ≡ length items → 256 ≤ length items
+    → n ≡ length head → length head ≤ 256 → new ≡ head
+    → drop (256 - n) (take len (put_mid (256 - n) (256 - (256 - n)) shown new
+    ++ drop (length (put_mid (256 - n) (256 - (256 - n)) shown new)) items)) ≡ head ++ drop 256 items
+head_put items shown new head len n same whole room size few copied =
+    rw (same, copied) (written_over items head len (256 - n) (256 - (256 - n)) (omega (arith, size, few)) (omega (arith, size, few)) room whole)
+
+-- a head with the length of the body that stands behind it
+pub framed_is : (status code : ℕ) (date : Option (List ℕ)) (fields head shown body whole : List ℕ) (size : ℕ) → code ≡ status → shown ≡ body → size ≡ length body
+    → head ≡ head_text code date fields size → whole ≡ head ++ shown → whole ≡ framed status date fields body
+unfolding framed
+framed_is status code date fields head shown body whole size same here long first is = rw (is, first, same, here, long) refl

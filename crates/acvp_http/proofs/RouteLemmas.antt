@@ -9,8 +9,8 @@ use Rattle.matchit.specs.Seek.{seek, first, or_else, param_step, has_slash}
 use Rattle.matchit.specs.Router.{RouteOf}
 use Rattle.acvp_http.specs.declared.routes.Path.{Path}
 use Rattle.acvp_http.specs.declared.routes.Path.TheVariants.{Login}
-use Rattle.acvp_http.specs.Asks.{path_named}
-use Rattle.acvp_http.specs.Private.Paths.{table}
+use Rattle.acvp_http.specs.Paths.{path_named}
+use Rattle.acvp_http.specs.Private.Rows.{table}
 
 -- the parameter's step of a walk that has no rows
 after_none : {K : Type 0} (h : Bool) (n : ℕ) (path : List ℕ) → ((skip : ℕ) → seek {K = K} skip [] path ≡ None) →

@@ -1,33 +1,34 @@
 -- Lemmas on runs that go on by one turn.
-use Rattle.std.proofs.Common.{◌≡◌, ◌≢◌, ◌<◌, ◌+◌, ℕ, List, [], ◌∷◌, ◌++◌, length, Option, None, Some, Err, subst, arith, sym, ◌∙◌, ap, refl, append_assoc, length-append}
+use Rattle.std.proofs.Common.{◌≡◌, ◌≢◌, ◌<◌, ◌≤◌, ◌+◌, ◌-◌, ◌^◌, min, inr, ℕ, Bool, true, List, [], ◌∷◌, ◌++◌, length, Option, None, Some, Err, subst, arith, sym, ◌∙◌, ap, refl, append_assoc, length-append}
+use Rattle.std.proofs.lemmas.Bool.{le-leb}
 use Rattle.std.proofs.lemmas.List.{append-nil}
 use Rattle.std.specs.Io.KnownBytes.{Appends, Consumes}
-use Rattle.acvp_http.specs.declared.records.Account.{Account}
-use Rattle.acvp_http.specs.declared.records.Keys.{Keys}
+use Rattle.hex.proofs.HexLemmas.{decode_of-ok}
+use Rattle.acvp_tables.specs.Content.{Content}
+use Rattle.acvp_tables.specs.State.{is_account_number}
+use Rattle.acvp_desk.specs.declared.keys.Keys.{Keys}
+use Rattle.acvp_desk.specs.declared.order.Order.TheVariants.{AddAccount, DisableAccount, ApproveRequest, RejectRequest}
 use Rattle.acvp_http.specs.declared.script.ScriptFault.{ScriptFault}
-use Rattle.acvp_http.specs.declared.script.ScriptFault.TheVariants.{Write}
-use Rattle.acvp_http.specs.declared.records.Order.TheVariants.{AddAccount, DisableAccount}
-use Rattle.acvp_http.specs.Event.{Event, request, order, Answer, Turn, DeskState}
+use Rattle.acvp_http.specs.declared.script.ScriptFault.TheVariants.{Read, Write, Syntax, Limit, Memory}
+use Rattle.acvp_http.specs.Event.{Event, request, order, Answer, Turn}
 use Rattle.acvp_http.specs.Private.Turns.{CanHappen}
-use Rattle.acvp_http.specs.Script.{IsScript, IsWritten, HasNoEvent, answer_text, output_of}
-use Rattle.acvp_http.specs.Serve.{Runs, Takes, with_accounts}
-use Rattle.acvp_http.specs.Private.Reading.{TakesPart}
+use Rattle.acvp_http.specs.Script.{IsScript, IsWritten, IsAccountNumber, HasNoEvent, answer_text, output_of}
+use Rattle.acvp_http.specs.Serve.{Runs, Takes, GoesByTurn, GoesByTurns}
+use Rattle.acvp_http.specs.Private.Reading.{TakesPart, StopsReading}
 use Rattle.acvp_http.specs.Private.Writing.{AppendsFront}
-use Rattle.acvp_http.specs.Run.{events_of, BeginsWith, TakesInPart, RunsScript}
+use Rattle.acvp_http.specs.Run.{events_of, most_reads, BeginsWith, TakesInPart, StopsAfter, WritesAnswers, RunsScript}
 use Rattle.acvp_http.proofs.KnownLemmas.{consumes_consumes, consumes_nothing}
 use Rattle.acvp_http.proofs.WritingLemmas.{appends_appends}
 
 -- a run, and one turn more
-pub runs_more : (held : DeskState) (turns : List Turn) (accounts next : List Account) (answers : List Answer)
-    (turn : Turn) (answer : Answer) →
-    Runs held turns accounts answers → Takes (with_accounts held accounts) turn next answer
-    → Runs held (turns ++ turn ∷ []) next (answers ++ answer ∷ [])
-runs_more held [] accounts next [] turn answer runs takes =
-    (next, (let same : accounts ≡ held.accounts = runs in rw same at takes), refl)
-runs_more held [] accounts next (a ∷ answers) turn answer runs takes = absurd runs
-runs_more held (t ∷ turns) accounts next [] turn answer runs takes = absurd runs
-runs_more held (t ∷ turns) accounts next (a ∷ answers) turn answer (mid, first, runs) takes =
-    (mid, first, runs_more (with_accounts held mid) turns accounts next answers turn answer runs takes)
+pub runs_more : (keys : Keys) (turns : List Turn) (start c next : Content) (answers : List Answer) (turn : Turn) (answer : Answer)
+    → Runs keys turns start c answers → Takes keys turn c next answer → Runs keys (turns ++ turn ∷ []) start next (answers ++ answer ∷ [])
+runs_more keys [] start c next [] turn answer runs takes =
+    (next, (let same : c ≡ start = runs in rw same at takes), refl)
+runs_more keys [] start c next (a ∷ answers) turn answer runs takes = absurd runs
+runs_more keys (t ∷ turns) start c next [] turn answer runs takes = absurd runs
+runs_more keys (t ∷ turns) start c next (a ∷ answers) turn answer (mid, first, runs) takes =
+    (mid, first, runs_more keys turns mid c next answers turn answer runs takes)
 
 -- a script, and one event more
 pub script_more : (events : List Event) (text front : List ℕ) (e : Event) → IsScript events text → IsWritten e front
@@ -53,94 +54,109 @@ output_more [] answer = append-nil (answer_text answer)
 output_more (a ∷ answers) answer = ap (λ rest. answer_text a ++ rest) (output_more answers answer)
     ∙ sym (append_assoc (answer_text a) (output_of answers) (answer_text answer))
 
--- what a run has done after so many turns
-pub record Ran (held : DeskState) (accounts : List Account) (input left old new : Option (List ℕ))
-    (count : ℕ) : Type 0 where
-  pub turns : List Turn
-  pub answers : List Answer
-  pub text : List ℕ
-  pub runs : Runs held turns accounts answers
-  pub script : IsScript (events_of turns) text
-  pub size : length turns ≡ count
-  pub consumed : Consumes input left text
-  pub appended : Appends old new (output_of answers)
-
 appends_nothing : (a : Option (List ℕ)) → Appends a a []
 appends_nothing None = tt
 appends_nothing (Some xs) = sym (append-nil xs)
 
--- before the first turn
-pub ran_none : (held : DeskState) (input old : Option (List ℕ)) → Ran held held.accounts input input old old 0
-ran_none held input old = record {
-  turns = [];
-  answers = [];
-  text = [];
-  runs = refl;
-  script = refl;
-  size = refl;
-  consumed = consumes_nothing input;
-  appended = appends_nothing old;
-}
+-- a turn of a desk with the same keys
+pub under : {T : Type 0} (stands : T → Content → Type 0) (is_live : T → Type 0) (now keys : Keys) (old new : T) (turn : Turn) (answer : Answer) → now ≡ keys
+    → GoesByTurn stands is_live now turn answer old new → GoesByTurn stands is_live keys turn answer old new
+under stands is_live now keys old new turn answer same takes = subst (λ (k : Keys). GoesByTurn stands is_live k turn answer old new) same takes
 
--- one turn more, on a desk with the keys of the first
-pub takes_again : (held now : DeskState) (turn : Turn) (next : List Account) (answer : Answer) → now.keys ≡ held.keys
-    → Takes now turn next answer → Takes (with_accounts held now.accounts) turn next answer
-takes_again held now turn next answer same takes =
-    subst (λ (k : Keys). Takes (record { keys = k; accounts = now.accounts }) turn next answer) same takes
+-- what a run over tables has done after so many turns
+module _ {T : Type 0} (stands : T → Content → Type 0) (is_live : T → Type 0) (keys : Keys) (start : T) where
+  pub record Ran (now : T) (input left old new : Option (List ℕ)) (count : ℕ) : Type 0 where
+    pub turns : List Turn
+    pub answers : List Answer
+    pub text : List ℕ
+    pub was_live : is_live now → is_live start
+    pub runs : GoesByTurns stands is_live keys turns answers start now
+    pub script : IsScript (events_of turns) text
+    pub size : length turns ≡ count
+    pub consumed : Consumes input left text
+    pub appended : Appends old new (output_of answers)
 
-pub ran_more : (held now : DeskState) (next : List Account) (input left left' old new new' : Option (List ℕ))
-    (count : ℕ) (turn : Turn) (answer : Answer) (front : List ℕ) →
-    Ran held now.accounts input left old new count → now.keys ≡ held.keys → IsWritten turn.event front
-    → Consumes left left' front → Takes now turn next answer → Appends new new' (answer_text answer) →
-    Ran held next input left' old new' (count + 1)
-ran_more held now next input left left' old new new' count turn answer front ran same written consumed takes appended =
-    record {
-      turns = ran.turns ++ turn ∷ [];
-      answers = ran.answers ++ answer ∷ [];
-      text = ran.text ++ front;
-      runs = runs_more held ran.turns now.accounts next ran.answers turn answer ran.runs
-          (takes_again held now turn next answer same takes);
-      script = rw (events_more ran.turns turn)
-          (script_more (events_of ran.turns) ran.text front turn.event ran.script written);
-      size = omega (arith, length-append ran.turns (turn ∷ []), ran.size);
-      consumed = consumes_consumes input left left' ran.text front ran.consumed consumed;
-      appended = rw (output_more ran.answers answer) (appends_appends old new new' (output_of ran.answers)
-          (answer_text answer) ran.appended appended);
-    }
+  -- before the first turn
+  pub ran_none : (input old : Option (List ℕ)) → Ran start input input old old 0
+  ran_none input old = record {
+    turns = [];
+    answers = [];
+    text = [];
+    was_live = λ live. live;
+    runs = λ live c kept h. (c, refl, h, kept);
+    script = refl;
+    size = refl;
+    consumed = consumes_nothing input;
+    appended = appends_nothing old;
+  }
+
+  -- the tables go by the turns, and by one more
+  goes_on_by : (turns : List Turn) (answers : List Answer) (mid now : T) (turn : Turn) (answer : Answer)
+      → GoesByTurns stands is_live keys turns answers start mid → (is_live now → is_live mid) → GoesByTurn stands is_live keys turn answer mid now
+      → GoesByTurns stands is_live keys (turns ++ turn ∷ []) (answers ++ answer ∷ []) start now
+  goes_on_by turns answers mid now turn answer runs was_live takes = λ live c kept h.
+      let (c', ran, stands', kept') = runs (was_live live) c kept h in
+      let (next, taken, stands-next, kept-next) = takes live c' kept' stands' in
+      (next, runs_more keys turns c c' next answers turn answer ran taken, stands-next, kept-next)
+
+  module _ (mid now : T) (input left left' old new new' : Option (List ℕ)) (turn : Turn) (answer : Answer) (front : List ℕ) where
+    -- one turn more
+    pub ran_more : (count : ℕ) → Ran mid input left old new count → (is_live now → is_live mid) → IsWritten turn.event front
+        → Consumes left left' front → GoesByTurn stands is_live keys turn answer mid now → Appends new new' (answer_text answer)
+        → Ran now input left' old new' (count + 1)
+    ran_more count ran was_live written consumed takes appended =
+        record {
+          turns = ran.turns ++ turn ∷ [];
+          answers = ran.answers ++ answer ∷ [];
+          text = ran.text ++ front;
+          was_live = λ live. ran.was_live (was_live live);
+          runs = goes_on_by ran.turns ran.answers mid now turn answer ran.runs was_live takes;
+          script = rw (events_more ran.turns turn)
+              (script_more (events_of ran.turns) ran.text front turn.event ran.script written);
+          size = omega (arith, length-append ran.turns (turn ∷ []), ran.size);
+          consumed = consumes_consumes input left left' ran.text front ran.consumed consumed;
+          appended = rw (output_more ran.answers answer) (appends_appends old new new' (output_of ran.answers)
+              (answer_text answer) ran.appended appended);
+        }
+
+    -- the writer fails in a turn's answer
+    pub ran_writes : (before after count : ℕ) (fault : ScriptFault) → Ran mid input left old new count → count < 100000 → (is_live now → is_live mid)
+        → IsWritten turn.event front → Consumes left left' front → GoesByTurn stands is_live keys turn answer mid now → fault ≡ Write
+        → AppendsFront new new' (answer_text answer) → RunsScript stands is_live keys start now input left' before after old new' (Err fault)
+    ran_writes before after count fault ran few was_live written consumed takes is (begun, rest, parts, appended) =
+        let result : RunsScript stands is_live keys start now input left' before after old new' (Err Write) = (
+          ran.turns ++ turn ∷ [],
+          ran.answers ++ answer ∷ [],
+          ran.text ++ front,
+          goes_on_by ran.turns ran.answers mid now turn answer ran.runs was_live takes,
+          rw (events_more ran.turns turn) (script_more (events_of ran.turns) ran.text front turn.event ran.script written),
+          consumes_consumes input left left' ran.text front ran.consumed consumed,
+          (
+            ran.answers,
+            answer,
+            refl,
+            (begun, rest, parts, appends_appends old new new' (output_of ran.answers) begun ran.appended appended),
+          ),
+          omega (arith, length-append ran.turns (turn ∷ []), ran.size),
+        ) in
+        rw is result
 
 -- what was taken behind the turns holds no whole event
-pub ran_in_part : (held : DeskState) (accounts : List Account) (input left left' old new : Option (List ℕ)) (count : ℕ)
-    (ran : Ran held accounts input left old new count) → TakesPart left left' HasNoEvent
-    → TakesInPart input left' ran.text
-ran_in_part held accounts input left left' old new count ran (part, taken, none) =
-    (part, none, consumes_consumes input left left' ran.text part ran.consumed taken)
+pub in_part : (input left left' : Option (List ℕ)) (text : List ℕ) → Consumes input left text → TakesPart left left' HasNoEvent
+    → TakesInPart input left' text
+in_part input left left' text consumed (part, taken, none) = (part, none, consumes_consumes input left left' text part consumed taken)
 
--- the writer fails in a turn's answer
-pub ran_writes : (held now : DeskState) (next : List Account) (input left left' old new new' : Option (List ℕ))
-    (before after count : ℕ) (turn : Turn) (answer : Answer) (front : List ℕ) (fault : ScriptFault) →
-    Ran held now.accounts input left old new count → count < 100000 → now.keys ≡ held.keys → IsWritten turn.event front
-    → Consumes left left' front → Takes now turn next answer → fault ≡ Write
-    → AppendsFront new new' (answer_text answer) →
-    RunsScript held next input left' before after old new' (Err fault)
-ran_writes held now next input left left' old new new' before after count turn answer front fault ran few same written
-    consumed takes is (start, rest, parts, appended) =
-    let result : RunsScript held next input left' before after old new' (Err Write) = (
-      ran.turns ++ turn ∷ [],
-      ran.answers ++ answer ∷ [],
-      ran.text ++ front,
-      runs_more held ran.turns now.accounts next ran.answers turn answer ran.runs
-          (takes_again held now turn next answer same takes),
-      rw (events_more ran.turns turn) (script_more (events_of ran.turns) ran.text front turn.event ran.script written),
-      consumes_consumes input left left' ran.text front ran.consumed consumed,
-      (
-        ran.answers,
-        answer,
-        refl,
-        (start, rest, parts, appends_appends old new new' (output_of ran.answers) start ran.appended appended),
-      ),
-      omega (arith, length-append ran.turns (turn ∷ []), ran.size),
-    ) in
-    rw is result
+-- the byte behind the last turn isn't read: a read has failed, or there were too many
+pub stopped_at_last : (fault : ScriptFault) (failed : Bool) (before after limit : ℕ) (input left old new : Option (List ℕ)) (turns : List Turn)
+    (answers : List Answer) (text : List ℕ) → StopsReading fault failed after limit → limit ≡ min (before + most_reads) (2 ^ 64 - 1)
+    → TakesInPart input left text → Appends old new (output_of answers)
+    → StopsAfter input left before after turns text (Err fault) × WritesAnswers old new answers (Err fault)
+stopped_at_last Read failed before after limit input left old new turns answers text stops at part appended = (part, appended)
+stopped_at_last Write failed before after limit input left old new turns answers text stops at part appended = absurd stops
+stopped_at_last Syntax failed before after limit input left old new turns answers text stops at part appended = absurd stops
+stopped_at_last Limit failed before after limit input left old new turns answers text stops at part appended =
+    ((part, inr (subst (λ (n : ℕ). n ≤ after) at stops.1)), appended)
+stopped_at_last Memory failed before after limit input left old new turns answers text stops at part appended = absurd stops
 
 -- one byte more stands behind the script
 pub goes_on : (input left left' : Option (List ℕ)) (text : List ℕ) (byte : ℕ) → Consumes input left text
@@ -152,7 +168,13 @@ goes_on (Some xs) (Some ys) (Some zs) text byte first second =
     (ys, first, λ none. let some : byte ∷ zs ≡ [] = sym second ∙ none in cc)
 
 -- an event that is written can happen
+is_number : (n : ℕ) → IsAccountNumber n → is_account_number n ≡ true
+is_number n named = rw (le-leb 1 n named.0, le-leb n 9999 named.1) refl
+
 pub can_happen : (e : Event) (text : List ℕ) → IsWritten e text → CanHappen e
 can_happen (request moment bytes) text written = tt
-can_happen (order moment (AddAccount account secret)) text written = written.1
-can_happen (order moment (DisableAccount account)) text written = written.1
+can_happen (order moment (AddAccount account secret)) text (number, named, (digits, hex, is)) =
+    (is_number account named, omega (arith, hex.0, (decode_of-ok digits secret hex.1).2))
+can_happen (order moment (DisableAccount account)) text written = (is_number account written.1, tt)
+can_happen (order moment (ApproveRequest number)) text written = absurd written
+can_happen (order moment (RejectRequest number)) text written = absurd written

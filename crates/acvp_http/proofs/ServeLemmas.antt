@@ -1,65 +1,88 @@
--- Lemmas on how a request is served.
-use Rattle.std.proofs.Common.{◌≡◌, ◌<◌, ◌≤◌, ◌⊎◌, ⊎_elim, inl, inr, ℕ, List, true, false, Some, None, Ok, [], Err, refl, sym, ap, ◌∙◌, subst}
-use Rattle.std.proofs.lemmas.Bool.{lt-ltb, le-ltb}
+-- Lemmas on how a request is served, for any tables.
+use Rattle.std.proofs.Common.{◌≡◌, ◌<◌, ◌≤◌, ◌⊎◌, inl, inr, ℕ, List, Bool, true, false, Option, Some, None, Result, Ok, Err, [], drop, refl, ap, ◌∙◌, Vec}
+use Rattle.std.specs.Global.{Global}
 use Rattle.std.specs.Prelude.{nat_lt}
-use Rattle.acvp_http.specs.declared.records.Account.{Account}
+use Rattle.std.proofs.lemmas.Bool.{lt-ltb, le-ltb}
 use Rattle.acvp_policy.specs.declared.rule.Rule.{Rule}
-use Rattle.acvp_policy.specs.declared.rule.Rule.TheVariants.{ClockOutOfRange, Unavailable}
-use Rattle.acvp_http.specs.Asks.{ParsedRequest, login, Asks}
-use Rattle.acvp_http.specs.Event.{DeskState}
-use Rattle.acvp_json.specs.ReplyData.{token_data}
-use Rattle.acvp_json.specs.Written.{body_of}
-use Rattle.acvp_token.specs.TokenText.{token_text}
-use Rattle.acvp_http.specs.declared.login.AcceptedLogin.{AcceptedLogin}
-use Rattle.acvp_http.specs.Login.{login_decision, claims_at, after_login}
+use Rattle.acvp_policy.specs.declared.rule.Rule.TheVariants as rule
+use Rattle.acvp_tables.specs.Content.{Content}
+use Rattle.acvp_tables.specs.State.{state_of}
+use Rattle.acvp_desk.specs.Answer.{end_of_moments, answer, accepted_change, content_effect, spare, Gives}
+use Rattle.acvp_desk.specs.Data.{Data}
+use Rattle.acvp_desk.specs.Request.{RequestValue}
+use Rattle.acvp_desk.specs.Serves.{result_of}
+use Rattle.acvp_desk.specs.Serves as desk
+use Rattle.acvp_desk.specs.declared.desk.DeskReply.TheVariants.{Given, Denied}
+use Rattle.acvp_desk.specs.declared.keys.Keys.{Keys}
+use Rattle.acvp_http.specs.Asks.{ParsedRequest, typed, Asks}
 use Rattle.acvp_http.specs.Reply.{refusal, framed, IsDateOf}
-use Rattle.acvp_http.specs.Serve.{ServesRequest, IsUnavailableRequest, RequestAnswered, RequestTaken, end_of_moments}
-use Rattle.acvp_http.specs.Private.Turns.{LoginTaken}
+use Rattle.acvp_http.specs.Serve.{ServesRequest, IsUnavailableRequest, RequestAnswered, IsReplied, RequestTaken}
 
--- a login that passes every test, where the desk's parts are these
-pub taken_accepted : (held same : DeskState) (moment : ℕ) (date body : List ℕ) (accepted_login : AcceptedLogin)
-    (accounts : List Account) (reply : List ℕ) → held ≡ same → login_decision same.keys.token same.accounts moment body
-    ≡ Ok (Some accepted_login) →
-    accounts ≡ after_login same.accounts accepted_login
-    → reply ≡ framed 200 (Some date) []
-    (body_of (token_data (token_text same.keys.token (claims_at accepted_login moment)))) →
-    LoginTaken held moment date body accounts reply
-taken_accepted held same moment date body accepted_login accounts reply parts is changed shown =
-    subst (λ (h : DeskState). LoginTaken h moment date body accounts reply) (sym parts) (inl (rw is (changed, shown)))
+-- a rule is that of an unavailable server, or another
+is_unavailable : (r : Rule) → (r ≡ rule.Unavailable) ⊎ (r ≡ rule.Unavailable → ⊥)
+is_unavailable rule.Unavailable = inl refl
+is_unavailable _ = inr (λ is. absurd (cc))
 
--- a login that fails a test, or to which memory was refused
-pub taken_refused : (held same : DeskState) (moment : ℕ) (date body : List ℕ) (rule : Rule) (reply : List ℕ)
-    → held ≡ same →
-    (rule ≡ Unavailable) ⊎ (login_decision same.keys.token same.accounts moment body ≡ Err rule)
-    → reply ≡ refusal (Some date) rule →
-    LoginTaken held moment date body held.accounts reply
-taken_refused held same moment date body rule reply parts why shown =
-    ⊎_elim (λ (is : rule ≡ Unavailable). inr (refl, shown ∙ ap (λ (r : Rule). refusal (Some date) r) is))
-    (λ (is : login_decision same.keys.token same.accounts moment body ≡ Err rule). inl
-    (rw (parts, is) (refl, shown))) why
+module _ {T : Type 0} (stands : T → Content → Type 0) (is_live is_clean : T → Type 0) (leaves : T → Content → Content → Type 0) (keys : Keys) (m : ℕ) (bytes : List ℕ) where
+  -- past the last moment nobody is looked at
+  pub taken_late : (t : T) (reply : List ℕ) → end_of_moments ≤ m → reply ≡ refusal None rule.ClockOutOfRange
+      → RequestTaken stands is_live keys m bytes reply t t
+  unfolding ServesRequest
+  taken_late t reply late is =
+      let over : nat_lt m end_of_moments ≡ false = le-ltb m end_of_moments late in
+      (false, λ live c kept h. (c, rw over (refl, is), h, kept))
 
--- past the last moment nobody is looked at
-pub taken_late : (held : DeskState) (moment : ℕ) (bytes reply : List ℕ) → end_of_moments ≤ moment
-    → reply ≡ refusal None ClockOutOfRange → RequestTaken held moment bytes held.accounts reply
-unfolding ServesRequest
-taken_late held moment bytes reply late is =
-    let over : nat_lt moment end_of_moments ≡ false = le-ltb moment end_of_moments late in
-    (false, rw over (refl, is))
+  module _ (early : m < end_of_moments) (date : List ℕ) (dated : IsDateOf m date) where
+    in_time : nat_lt m end_of_moments ≡ true
+    in_time = lt-ltb m end_of_moments early
 
--- what is asked is served
-pub taken_parsed : (held : DeskState) (moment : ℕ) (bytes : List ℕ) (ask : ParsedRequest) (date : List ℕ)
-    (accounts : List Account) (reply : List ℕ) → moment < end_of_moments → Asks bytes ask → IsDateOf moment date →
-    RequestAnswered held moment date ask accounts reply → RequestTaken held moment bytes accounts reply
-unfolding ServesRequest
-taken_parsed held moment bytes ask date accounts reply early asks dated answered =
-    let in_time : nat_lt moment end_of_moments ≡ true = lt-ltb moment end_of_moments early in
-    (false, rw in_time (ask, date, asks, dated, answered))
+    -- what is asked is served
+    served : (parsed : ParsedRequest) → Asks bytes parsed → (c next : Content) (reply : List ℕ) → RequestAnswered keys m date parsed c next reply
+        → ServesRequest keys m bytes c next reply
+    unfolding ServesRequest
+    served parsed asks c next reply done = rw in_time (parsed, date, asks, dated, done)
 
--- a login is served, or memory was refused to it
-pub taken_login : (held : DeskState) (moment : ℕ) (bytes body date : List ℕ) (accounts : List Account) (reply : List ℕ)
-    → moment < end_of_moments → Asks bytes (login body) → IsDateOf moment date →
-    LoginTaken held moment date body accounts reply → RequestTaken held moment bytes accounts reply
-unfolding IsUnavailableRequest
-taken_login held moment bytes body date accounts reply early asks dated taken =
-    ⊎_elim (λ answered. taken_parsed held moment bytes (login body) date accounts reply early asks dated answered)
-    (λ unavailable. (true, (unavailable.0, (early, (login body, asks, refl), unavailable.1)))) taken
+    -- a refusal before anyone is looked at
+    pub taken_refused : (parsed : ParsedRequest) → Asks bytes parsed → (t : T) (reply : List ℕ)
+        → ((c : Content) → RequestAnswered keys m date parsed c c reply) → RequestTaken stands is_live keys m bytes reply t t
+    taken_refused parsed asks t reply done = (false, λ live c kept h. (c, served parsed asks c c reply (done c), h, kept))
+
+    module _ (r : RequestValue) (asks : Asks bytes (typed r)) (old new : T) (changed : Bool) where
+      unchanged : (c : Content) (told : Rule) (reply : List ℕ) → answer keys m r (state_of c) ≡ Err told → reply ≡ refusal (Some date) told
+          → RequestAnswered keys m date (typed r) c c reply
+      unfolding accepted_change
+      unchanged c told reply is shown = rw is (refl, shown)
+
+      -- the desk has denied it
+      pub taken_denied : (told : Rule) (reply : List ℕ) → desk.Serves stands is_live is_clean leaves (result_of (Denied told) changed) old new keys m r
+          → reply ≡ refusal (Some date) told → RequestTaken stands is_live keys m bytes reply old new
+      unfolding IsUnavailableRequest
+      taken_denied told reply serves shown = elim (is_unavailable told) [
+        | inl is ↦ (true, λ live c kept h. (c, (refl, (early, (typed r, asks, refl), shown ∙ ap (λ x. refusal (Some date) x) is)), serves.same live c h, kept))
+        | inr other ↦ (
+          false,
+          λ live c kept h.
+              let refuses : answer keys m r (state_of c) ≡ Err told = elim (serves.denied live c kept h) [ inl is ↦ absurd (other is) | inr is ↦ is ] in
+              (c, served (typed r) asks c c reply (unchanged c told reply refuses shown), serves.same live c h, kept),
+        )
+      ]
+
+      shown_as : (a : Result (Option Data) Rule) (buffer reply : List ℕ) → Gives buffer a → reply ≡ framed 200 (Some date) [] (drop spare buffer)
+          → IsReplied date a reply
+      shown_as (Err told) buffer reply gives is = absurd gives
+      shown_as (Ok None) buffer reply gives is = absurd gives
+      shown_as (Ok (Some told)) buffer reply gives is = rw (← gives.1) is
+
+      -- the desk has given a reply
+      pub taken_given : (buffer : Vec ℕ Global) (reply : List ℕ) → desk.Serves stands is_live is_clean leaves (result_of (Given buffer) changed) old new keys m r
+          → reply ≡ framed 200 (Some date) [] (drop spare buffer.items) → RequestTaken stands is_live keys m bytes reply old new
+      taken_given buffer reply serves is = (
+        false,
+        λ live c kept h.
+            let (gives, stands_after, kept_after, told) = serves.given live c kept h in (
+              content_effect keys m r c,
+              served (typed r) asks c (content_effect keys m r c) reply (refl, shown_as (answer keys m r (state_of c)) buffer.items reply gives is),
+              stands_after,
+              kept_after,
+            ),
+      )

@@ -1,22 +1,23 @@
--- What the bytes of an input ask for: a request, or the rule that refuses it before anyone is looked at.
-use Rattle.std.specs.Prelude.{◌≡◌, ◌≤◌, ◌<◌, ◌⊎◌, ℕ, ◌-◌, List, [], ◌∷◌, length, take, drop, map, filter, count_by, position, codes, Bool, true, false, not, ◌||◌, ◌==◌, nat_le, nat_lt, if◌then◌else◌, MatchBool, Option, Some, None, unwrap_or, Result, Ok, Err}
+-- What the bytes of an input ask for: a request of the desk, or why they are refused before anyone is looked at.
+use Rattle.std.specs.Prelude.{◌≡◌, ◌≤◌, ◌<◌, ◌⊎◌, ℕ, ◌+◌, ◌-◌, List, [], ◌∷◌, length, take, drop, reverse, map, filter, count_by, position, codes, Bool, true, false, not, ◌||◌, ◌==◌, nat_le, nat_lt, if◌then◌else◌, MatchBool, Option, Some, None, unwrap_or, Result, Ok, Err}
 use Rattle.std.specs.List.{starts_with, ends_with, list_all}
 use Rattle.std.specs.Str.{bytes_eq, str_eq_ignore_ascii_case}
 use Rattle.httparse.specs.Grammar.{RequestHead, ReadsRequest}
 use Rattle.httparse.specs.Spans.{name_and_value}
-use Rattle.acvp_mac.specs.Conditions.{Condition, judged}
-use Rattle.acvp_registry.specs.Number.{digits_number_of}
+use Rattle.acvp_desk.specs.Conditions.{Condition, judged}
+use Rattle.acvp_desk.specs.Number.{digits_number_of}
+use Rattle.acvp_desk.specs.Request.{RequestValue, TokenValue, missing, doubled, bearer}
+use Rattle.acvp_http.specs.Paths.{path_named, route_on}
 use Rattle.acvp_http.specs.declared.routes.Route.{Route}
-use Rattle.acvp_http.specs.declared.routes.Route.TheVariants.{Login}
 use Rattle.acvp_http.specs.declared.routes.Path.{Path}
-use Rattle.acvp_http.specs.declared.routes.Path.TheVariants.{Login as LoginPath}
 use Rattle.acvp_policy.specs.declared.rule.Rule.{Rule}
-use Rattle.acvp_policy.specs.declared.rule.Rule.TheVariants.{BadHead, HeadTooLarge, Truncated, LengthMissing, BadLength, BodyTooLarge, TransferCoding, HostMissing, NoRoute, NoMethod}
+use Rattle.acvp_policy.specs.declared.rule.Rule.TheVariants.{BadHead, HeadTooLarge, Truncated, LengthMissing, BadLength, BodyTooLarge, TransferCoding, HostMissing, NoRoute}
 
--- what the bytes of an input are read as: the rule that refuses them, or a login and the bytes of its body
+-- what the bytes of an input are read as: the rule that refuses them, a path that the method isn't one of, or a request
 pub data ParsedRequest : Type 0 where
   refused : Rule → ParsedRequest
-  login : List ℕ → ParsedRequest
+  wrong_method : Path → ParsedRequest
+  typed : RequestValue → ParsedRequest
 
 -- ---- the head
 
@@ -102,34 +103,64 @@ abbrev pub body_size : List ℕ → ℕ → List (List ℕ × List ℕ) → ℕ 
 body_size method minor fields available =
     judged (framing_conditions method minor fields available) (body_length (values_of (codes "content-length") fields))
 
--- ---- the route
+-- ---- the token and the target
 
--- the path: the target up to its first question mark
+-- the bytes from the first that is no space
+abbrev pub skip_spaces : List ℕ → List ℕ
+skip_spaces [] = []
+skip_spaces (b ∷ bytes) = if b == 32 then skip_spaces bytes else b ∷ bytes
+
+-- the bytes without the spaces at their ends
+unfoldable pub without_spaces : List ℕ → List ℕ
+without_spaces bytes = reverse (skip_spaces (reverse (skip_spaces bytes)))
+
+-- the token of a value that begins with the scheme (RFC 6750, section 2.1), whose name is read in any case
+abbrev pub bearer_of : List ℕ → TokenValue
+bearer_of value = if str_eq_ignore_ascii_case (take 7 value) (codes "Bearer ") then bearer (without_spaces (drop 7 value))
+    else missing
+
+abbrev pub token_in : List (List ℕ) → TokenValue
+token_in [] = missing
+token_in (value ∷ []) = bearer_of value
+token_in (value ∷ other ∷ values) = doubled
+
+-- what the `Authorization` fields hold
+abbrev pub token_of : List (List ℕ × List ℕ) → TokenValue
+token_of fields = token_in (values_of (codes "authorization") fields)
+
+-- where the first question mark of a target stands, or its end
+abbrev pub path_length : List ℕ → ℕ
+path_length target = unwrap_or (position (λ b. b == 63) target) (length target)
+
+-- the path stands before it, and the query behind it (RFC 3986, section 3)
 abbrev pub path_of : List ℕ → List ℕ
-path_of target = take (unwrap_or (position (λ b. b == 63) target) (length target)) target
+path_of target = take (path_length target) target
 
--- the path of the table that these bytes are
-abbrev pub path_named : List ℕ → Option Path
-path_named path = if bytes_eq path (codes "/acvp/v1/login") then Some LoginPath else None
+abbrev pub query_of : List ℕ → List ℕ
+query_of target = drop (path_length target + 1) target
 
--- a method on a path of the table
-abbrev pub method_on : List ℕ → Option Path → Result Route Rule
-method_on method None = Err NoRoute
-method_on method (Some LoginPath) = if bytes_eq method (codes "POST") then Ok Login else Err NoMethod
+-- ---- the request
 
--- the route of a method on a path, or the rule that it breaks
-abbrev pub route_of : List ℕ → List ℕ → Result Route Rule
-route_of method path = method_on method (path_named path)
+-- a head with a body asks a route
+abbrev pub asked_route : RequestHead → List ℕ → Path → Option Route → ParsedRequest
+asked_route head body path None = wrong_method path
+asked_route head body path (Some route) = typed (record {
+  action = route.action;
+  numbers = route.numbers;
+  token = token_of (fields_of head);
+  query = query_of head.target;
+  body = body;
+})
 
--- what a route asks with a body
-abbrev pub routed : Result Route Rule → List ℕ → ParsedRequest
-routed (Err rule) body = refused rule
-routed (Ok Login) body = login body
+-- and a path
+abbrev pub asked_path : RequestHead → List ℕ → Option Path → ParsedRequest
+asked_path head body None = refused NoRoute
+asked_path head body (Some path) = asked_route head body path (route_on head.method path)
 
 -- what a head asks, where rest follows it and its body has this size
 abbrev pub asked_by : RequestHead → List ℕ → Result ℕ Rule → ParsedRequest
 asked_by head rest (Err rule) = refused rule
-asked_by head rest (Ok size) = routed (route_of head.method (path_of head.target)) (take size rest)
+asked_by head rest (Ok size) = asked_path head (take size rest) (path_named (path_of head.target))
 
 abbrev pub asked : RequestHead → List ℕ → ParsedRequest
 asked head rest = asked_by head rest (body_size head.method head.minor (fields_of head) (length rest))

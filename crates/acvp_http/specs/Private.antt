@@ -4,6 +4,6 @@ pub mod Reading
 pub mod Writing
 pub mod Head
 pub mod ReplyBytes
-pub mod LoginRules
 pub mod Turns
-pub mod Paths
+pub mod Rows
+pub mod Spaces

@@ -3,14 +3,12 @@ use Rattle.std.specs.Prelude.{◌≡◌, ℕ, List, [], ◌++◌, length, codes,
 use Rattle.http.specs.StatusCode.{reason_phrase}
 use Rattle.httpdate.specs.Date.{unix_secs, date_text}
 use Rattle.httpdate.specs.declared.date.HttpDate.{HttpDate}
-use Rattle.serde_json.specs.Data.{Data, string, object, no_members, member}
-use Rattle.acvp_json.specs.Written.{body_of}
+use Rattle.acvp_desk.specs.Errors.{error_body}
+use Rattle.acvp_http.specs.Paths.{allowed_on}
+use Rattle.acvp_http.specs.declared.routes.Path.{Path}
 use Rattle.acvp_policy.specs.declared.rule.Rule.{Rule}
 use Rattle.acvp_policy.specs.declared.rule.Rule.TheVariants.{NoMethod, TokenMissing, TokenMalformed, TokenSignature, TokenClaims, TokenExpired, ClockOutOfRange, Unavailable}
-use Rattle.acvp_policy.specs.Rule.{rule_status, rule_word}
-
-abbrev pub error_object : Rule → Data
-error_object rule = object (member (codes "error") (string (rule_word rule)) no_members)
+use Rattle.acvp_policy.specs.Rule.{rule_status}
 
 -- the phrase that stands beside a status code
 abbrev pub phrase_of : ℕ → List ℕ
@@ -24,10 +22,9 @@ abbrev pub date_line : Option (List ℕ) → List ℕ
 date_line None = []
 date_line (Some date) = line (codes "Date: " ++ date)
 
--- the field that a refusal has beside those of every reply: the path's methods where the method is none of them, and with
--- status 401 how to authenticate (RFC 9110, section 11.6.1; RFC 6750)
+-- the field that a refusal with status 401 has beside those of every reply: how to authenticate (RFC 9110, section 11.6.1;
+-- RFC 6750)
 abbrev pub rule_line : Rule → List ℕ
-rule_line NoMethod = line (codes "Allow: POST")
 rule_line TokenMissing = line (codes "WWW-Authenticate: Bearer")
 rule_line TokenMalformed = line (codes "WWW-Authenticate: Bearer")
 rule_line TokenSignature = line (codes "WWW-Authenticate: Bearer")
@@ -57,7 +54,11 @@ date_shown date _ = date
 
 -- the reply that names the rule
 abbrev pub refusal : Option (List ℕ) → Rule → List ℕ
-refusal date rule = framed (rule_status rule) (date_shown date rule) (rule_line rule) (body_of (error_object rule))
+refusal date rule = framed (rule_status rule) (date_shown date rule) (rule_line rule) (error_body rule)
+
+-- where a path hasn't the method: the reply names those that it has
+abbrev pub method_refusal : List ℕ → Path → List ℕ
+method_refusal date path = framed (rule_status NoMethod) (Some date) (line (codes "Allow: " ++ allowed_on path)) (error_body NoMethod)
 
 -- the text is the date and time of the moment as IMF-fixdate (RFC 9110, section 5.6.7)
 abbrev pub IsDateOf : ℕ → List ℕ → Type 0

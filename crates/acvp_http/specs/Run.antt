@@ -1,12 +1,13 @@
 -- The run of a script: what it makes of the records and of the input, and what it writes.
 use Rattle.std.specs.Prelude.{◌≡◌, ◌≢◌, ◌⊎◌, ◌≤◌, ◌<◌, ℕ, ◌+◌, ◌-◌, ◌^◌, min, List, [], ◌∷◌, ◌++◌, length, map, Bool, true, false, Option, None, Some, Result, Ok, Err, ⊤}
 use Rattle.std.specs.Io.KnownBytes.{Appends, Consumes, IsAtEnd}
-use Rattle.acvp_http.specs.declared.records.Account.{Account}
+use Rattle.acvp_desk.specs.declared.keys.Keys.{Keys}
+use Rattle.acvp_tables.specs.Content.{Content}
 use Rattle.acvp_http.specs.declared.script.ScriptFault.{ScriptFault}
 use Rattle.acvp_http.specs.declared.script.ScriptFault.TheVariants.{Read, Write, Syntax, Limit, Memory}
-use Rattle.acvp_http.specs.Event.{Event, Answer, Turn, DeskState}
+use Rattle.acvp_http.specs.Event.{Event, Answer, Turn}
 use Rattle.acvp_http.specs.Script.{IsScript, HasNoEvent, LeavesGrammar, answer_text, output_of}
-use Rattle.acvp_http.specs.Serve.{Runs}
+use Rattle.acvp_http.specs.Serve.{GoesByTurns}
 
 -- the events of the turns
 abbrev pub events_of : List Turn → List Event
@@ -68,15 +69,16 @@ WritesAnswers old new answers (Err Syntax) = Appends old new (output_of answers)
 WritesAnswers old new answers (Err Limit) = Appends old new (output_of answers)
 WritesAnswers old new answers (Err Memory) = Appends old new (output_of answers)
 
--- The input begins with the script of some turns, which give these accounts and the answers that are written; `left` is
--- what was not taken of it, and the reader was read so often before the run and after it.
-abbrev pub RunsScript : DeskState → List Account → Option (List ℕ) → Option (List ℕ) → ℕ → ℕ → Option (List ℕ)
-    → Option (List ℕ) → Result ℕ ScriptFault → Type 0
-RunsScript desk accounts input left before after old new result =
-    (turns : List Turn) × (answers : List Answer) × (text : List ℕ)
-    × Runs desk turns accounts answers × IsScript (events_of turns) text
-    × StopsAfter input left before after turns text result × WritesAnswers old new answers result
-    × (length turns ≤ most_events)
+-- The input begins with the script of some turns, which the tables went by and whose answers are written; `left` is what
+-- was not taken of it, and the reader was read so often before the run and after it.
+module _ {T : Type 0} (stands : T → Content → Type 0) (is_live : T → Type 0) where
+  abbrev pub RunsScript : Keys → T → T → Option (List ℕ) → Option (List ℕ) → ℕ → ℕ → Option (List ℕ)
+      → Option (List ℕ) → Result ℕ ScriptFault → Type 0
+  RunsScript keys tables last input left before after old new result =
+      (turns : List Turn) × (answers : List Answer) × (text : List ℕ)
+      × GoesByTurns stands is_live keys turns answers tables last × IsScript (events_of turns) text
+      × StopsAfter input left before after turns text result × WritesAnswers old new answers result
+      × (length turns ≤ most_events)
 
 -- whether the answer is that the reader, or the writer, has failed
 abbrev pub is_read_answer : Result ℕ ScriptFault → Bool

@@ -2,15 +2,18 @@
 use Rattle.std.specs.Prelude.{◌≡◌, ◌≢◌, ℕ, ◌^◌, ◌<◌, ◌≤◌, List, [], ◌∷◌, ◌++◌, length, codes, decimal, Ok}
 use Rattle.std.specs.List.{flat_map}
 use Rattle.hex.specs.Hex.{decode_of}
-use Rattle.acvp_http.specs.declared.records.Order.TheVariants.{AddAccount, DisableAccount}
-use Rattle.acvp_http.specs.declared.records.OrderReply.{OrderReply}
-use Rattle.acvp_http.specs.declared.records.OrderReply.TheVariants.{Done, Taken, Unknown, Unavailable}
-use Rattle.acvp_http.specs.Records.{IsAccountNumber}
+use Rattle.acvp_desk.specs.declared.order.Order.TheVariants.{AddAccount, DisableAccount, ApproveRequest, RejectRequest}
+use Rattle.acvp_desk.specs.declared.order.OrderReply.{OrderReply}
+use Rattle.acvp_desk.specs.declared.order.OrderReply.TheVariants.{Done, Taken, Unknown, NotInitial, Unavailable}
 use Rattle.acvp_http.specs.Event.{Event, request, order, Answer, replied, ordered}
 
 -- a number of the script: 1 to 19 digits without leading zeros
 abbrev pub IsNumber : ℕ → Type 0
 IsNumber n = n < 10 ^ 19
+
+-- an account's number is 1 to 9999
+abbrev pub IsAccountNumber : ℕ → Type 0
+IsAccountNumber n = (1 ≤ n) × (n ≤ 9999)
 
 -- 64 hex digits that give the secret's 32 bytes
 abbrev pub IsSecretText : List ℕ → List ℕ → Type 0
@@ -20,7 +23,7 @@ IsSecretText text secret = (length text ≡ 64) × (decode_of text ≡ Ok secret
 abbrev pub longest_request : ℕ
 longest_request = 4194304
 
--- the event is written so
+-- the event is written so; a request has no order's line
 abbrev pub IsWritten : Event → List ℕ → Type 0
 IsWritten (request moment bytes) text =
     IsNumber moment × (length bytes ≤ longest_request)
@@ -34,6 +37,8 @@ IsWritten (order moment (AddAccount account secret)) text =
 IsWritten (order moment (DisableAccount account)) text =
     IsNumber moment × IsAccountNumber account
     × (text ≡ codes "account-disable " ++ decimal moment ++ codes " " ++ decimal account ++ codes "\n")
+IsWritten (order moment (ApproveRequest number)) text = ⊥
+IsWritten (order moment (RejectRequest number)) text = ⊥
 
 -- the text is these events, one after another
 abbrev pub IsScript : List Event → List ℕ → Type 0
@@ -51,9 +56,10 @@ LeavesGrammar rest = (rest ≢ []) × HasNoEvent rest
 
 -- an order's word
 abbrev pub order_word : OrderReply → List ℕ
-order_word Done = codes "done"
+order_word (Done approved) = codes "done"
 order_word Taken = codes "taken"
 order_word Unknown = codes "unknown"
+order_word NotInitial = codes "notInitial"
 order_word Unavailable = codes "unavailable"
 
 -- what is written for an answer

@@ -4,11 +4,11 @@ ghost use Rattle.std.specs.List.{list_all};
 ghost use Rattle.std.specs.Str.{str_eq_ignore_ascii_case, bytes_eq};
 ghost use Rattle.httparse.specs.Spans.{span_bytes, header_bytes, IsWithin, IsHeaderWithin};
 ghost use Rattle.acvp_http.specs.Asks.{values_of, same_number, first_number, lengths_agree, needs_length, hosts_fit, body_length, is_nil, framing_conditions, body_limit, body_size};
-ghost use Rattle.acvp_mac.specs.Conditions.{judged};
-ghost use Rattle.acvp_registry.specs.Number.{digits_number_of};
+ghost use Rattle.acvp_desk.specs.Conditions.{judged};
+ghost use Rattle.acvp_desk.specs.Number.{digits_number_of};
 
+use acvp_desk::digits_number;
 use acvp_policy::Rule;
-use acvp_registry::digits_number;
 use httparse::spans::{HeaderSpan, Span};
 use std::marker::Model;
 
@@ -21,7 +21,7 @@ fn is_named(name: &[u8], wanted: &[u8]) -> bool
 
 /// Where the values of one field are, at most 64.
 #[derive(Drop)]
-struct FieldValues {
+pub(crate) struct FieldValues {
     spans: [Span; 64],
     count: usize,
 }
@@ -70,7 +70,7 @@ impl FieldValues {
         self.as_slice().is_empty()
     }
 
-    fn as_slice(&self) -> &[Span]
+    pub fn as_slice(&self) -> &[Span]
         ensures { result.now ≡ self.now }
     {
         &self.spans[..self.count]
@@ -78,7 +78,7 @@ impl FieldValues {
 }
 
 /// The values of the fields of this name.
-fn field_values_of(block: &[u8], headers: &[HeaderSpan], name: &[u8]) -> FieldValues
+pub(crate) fn field_values_of(block: &[u8], headers: &[HeaderSpan], name: &[u8]) -> FieldValues
     requires within { All (IsHeaderWithin (length block.now)) headers.now }
     requires few { length headers.now ≤ 64 }
     ensures value { map (span_bytes block.now) result ≡ values_of name.now (map (header_bytes block.now) headers.now) }

@@ -6,9 +6,9 @@ ghost use Rattle.acvp_http.specs.Private.Lines.{Lacks};
 ghost use Rattle.acvp_http.specs.Private.Reading.{TakesPart, StopsReading, StopsLine, StopsFilling, HasNoBody, StopsBody, StopsEvent, event_of};
 ghost use Rattle.acvp_http.specs.Script.{IsWritten, HasNoEvent};
 
-use crate::records::Order;
 use crate::script::{Line, ScriptFault, read_line};
 use crate::source::{Source, is_interrupted};
+use acvp_desk::Order;
 use std::alloc::Global;
 
 /// As many bytes as a line has at most, without its line feed: `account-add`, a moment of 19 digits, an account's

@@ -1,14 +1,17 @@
 //! The reply to a request: its head and its body.
-ghost use Rattle.std.specs.Prelude.{◌≡◌, ◌≤◌, ◌<◌, ◌++◌, ◌+◌, [], codes, length, decimal, unwrap_or, Some, None, option_map, option_copied, IfOk};
+ghost use Rattle.std.specs.Prelude.{◌≡◌, ◌≤◌, ◌<◌, ◌++◌, ◌+◌, ℕ, List, [], codes, length, drop, decimal, unwrap_or, Some, None, option_map, option_copied};
 ghost use Rattle.http.specs.StatusCode.{reason_phrase};
 ghost use Rattle.acvp_policy.specs.Rule.{rule_status, rule_word};
-ghost use Rattle.acvp_http.specs.Reply.{phrase_of, line, date_line, rule_line, head_text, framed, date_shown, refusal, error_object};
-ghost use Rattle.acvp_json.specs.Written.{body_of};
+ghost use Rattle.acvp_desk.specs.Answer.{spare};
+ghost use Rattle.acvp_desk.specs.Errors.{error_body};
+ghost use Rattle.acvp_http.specs.Paths.{allowed_on};
+ghost use Rattle.acvp_http.specs.Reply.{phrase_of, line, date_line, rule_line, head_text, framed, date_shown, refusal, method_refusal};
 
+use crate::routes::Path;
 use crate::text::Text;
+use acvp_desk::{SPARE_BYTES, errors_are_named};
 use acvp_policy::Rule;
 use http::StatusCode;
-use std::alloc::{AllocError, Global};
 use std::marker::Model;
 
 /// The phrase of a status code (RFC 9110, section 15).
@@ -57,7 +60,7 @@ fn head(status: u16, date: Option<&[u8; 29]>, extra_fields: &[u8], body_length: 
     requires short { length (phrase_of status) ≤ 31 }
     requires extra_fields { length extra_fields.now ≤ 64 }
     ensures value { result ≡ head_text status (option_copied date.entry) extra_fields.now body_length }
-    ensures len { length result ≤ 384 }
+    ensures len { length result ≤ 256 }
 {
     let mut text = status_line(status);
     push_date(&mut text, date);
@@ -78,11 +81,22 @@ fn extra_fields(rule: Rule) -> &'static [u8]
     ensures len { length result.now ≤ 64 }
 {
     match rule {
-        Rule::NoMethod => b"Allow: POST\r\n",
         Rule::TokenMissing | Rule::TokenMalformed | Rule::TokenSignature => AUTHENTICATE,
         Rule::TokenClaims | Rule::TokenExpired => AUTHENTICATE,
         _ => b"",
     }
+}
+
+/// The `Allow` line of a path.
+fn allow_line(path: Path) -> Text
+    ensures value { result ≡ line (codes "Allow: " ++ allowed_on path) }
+    ensures len { length result ≤ 64 }
+{
+    let mut text = Text::new();
+    text.push(b"Allow: ");
+    text.push(path.allowed().as_bytes());
+    text.push(b"\r\n");
+    text
 }
 
 /// The date that a refusal shows.
@@ -97,9 +111,10 @@ fn date_shown(date: Option<&[u8; 29]>, rule: Rule) -> Option<&[u8; 29]>
 
 /// The body of a refusal.
 fn error_body(rule: Rule) -> Text
-    ensures value { result ≡ body_of (error_object rule) }
+    ensures value { result ≡ error_body rule }
     ensures len { length result ≤ 64 }
 {
+    errors_are_named();
     let mut body = Text::new();
     body.push(b"[{\"acvVersion\":\"1.0\"},{\"error\":\"");
     body.push(rule.word().as_bytes());
@@ -110,7 +125,9 @@ fn error_body(rule: Rule) -> Text
 #[derive(Drop)]
 enum Bytes {
     Short(Text),
-    Long(Vec<u8>),
+
+    /// The bytes of a buffer from this place on.
+    Long { buffer: Vec<u8>, start: usize },
 }
 
 /// The bytes of a reply.
@@ -121,21 +138,23 @@ pub struct Reply {
 
 impl Model for Reply {
     ghost use Rattle.std.specs.Prelude.{List, ℕ};
-    ghost use Rattle.acvp_http.specs.Private.ReplyBytes.{bytes_of};
+    ghost use Rattle.acvp_http.specs.Private.ReplyBytes.{bytes_of, IsCut};
 
     ghost Value = { List ℕ };
 
     ghost view = { λ r. bytes_of r.bytes };
+
+    ghost invariant = { λ r. IsCut r.bytes };
 }
 
-/// The reply that names a rule, with this date.
+/// The reply that names a rule, with this date and these fields.
 #[tactic(auto, unfolding(crate::specs::Reply::framed))]
-fn refusal_text(date: Option<&[u8; 29]>, rule: Rule) -> Text
-    ensures { result ≡ framed (rule_status rule) (option_copied date.entry) (rule_line rule)
-        (body_of (error_object rule)) }
+fn refusal_text(date: Option<&[u8; 29]>, rule: Rule, fields: &[u8]) -> Text
+    requires { length fields.now ≤ 64 }
+    ensures { result ≡ framed (rule_status rule) (option_copied date.entry) fields.now (error_body rule) }
 {
     let body = error_body(rule);
-    let mut text = head(rule.status(), date, extra_fields(rule), body.len() as u64);
+    let mut text = head(rule.status(), date, fields, body.len() as u64);
     text.push(body.as_slice());
     text
 }
@@ -146,23 +165,34 @@ impl Reply {
         ensures { result ≡ refusal (option_copied date.entry) rule }
     {
         Reply {
-            bytes: Bytes::Short(refusal_text(date_shown(date, rule), rule)),
+            bytes: Bytes::Short(refusal_text(date_shown(date, rule), rule, extra_fields(rule))),
         }
     }
 
-    /// A reply of status 200 with this body.
-    #[tactic(auto, unfolding(crate::specs::Reply::framed))]
-    pub(crate) fn accepted(alloc: Global, date: &[u8; 29], body: &[u8]) -> Result<Reply, AllocError>
-        ensures { IfOk result (λ reply. reply ≡ framed 200 (Some date.now) [] body.now) }
+    /// The reply to a method that a path hasn't. It takes no memory.
+    pub(crate) fn wrong_method(date: &[u8; 29], path: Path) -> Reply
+        ensures { result ≡ method_refusal date.now path }
     {
-        let head = head(200, Some(date), b"", body.len() as u64);
-        let head = head.as_slice();
-        let mut bytes = Vec::with_capacity(alloc, head.len())?;
-        bytes.extend_from_slice(head)?;
-        bytes.extend_from_slice(body)?;
-        Ok(Reply {
-            bytes: Bytes::Long(bytes),
-        })
+        let fields = allow_line(path);
+        Reply {
+            bytes: Bytes::Short(refusal_text(Some(date), Rule::NoMethod, fields.as_slice())),
+        }
+    }
+
+    /// The reply of status 200 with the body that stands behind the spare bytes. It takes no memory.
+    #[tactic(auto, unfolding(crate::specs::Reply::framed))]
+    pub(crate) fn accepted(date: &[u8; 29], buffer: Vec<u8>) -> Reply
+        requires { spare ≤ length buffer.items }
+        ensures { result ≡ framed 200 (Some date.now) [] (drop spare buffer.items) }
+    {
+        let mut buffer = buffer;
+        let size = buffer.len() - SPARE_BYTES;
+        let head = head(200, Some(date), b"", size as u64);
+        let start = SPARE_BYTES - head.len();
+        buffer[start..SPARE_BYTES].copy_from_slice(head.as_slice());
+        Reply {
+            bytes: Bytes::Long { buffer, start },
+        }
     }
 
     /// All the bytes, from the status line to the end of the body.
@@ -171,7 +201,7 @@ impl Reply {
     {
         match &self.bytes {
             Bytes::Short(text) => text.as_slice(),
-            Bytes::Long(bytes) => bytes.as_slice(),
+            Bytes::Long { buffer, start } => &buffer[*start..],
         }
     }
 }

@@ -1,24 +1,54 @@
-//! The table of paths, and what a method on a path stands for.
-ghost use Rattle.std.specs.Prelude.{◌≡◌, IfOk, Some, None, option_map};
+//! The table of paths, and what a method on a path asks.
+ghost use Rattle.std.specs.Prelude.{◌≡◌, ◌≤◌, IfOk, Some, None, option_map, length};
 ghost use Rattle.matchit.specs.Seek.{first};
-ghost use Rattle.acvp_http.specs.Asks.{route_of, path_named};
+ghost use Rattle.acvp_http.specs.Paths.{path_named, route_on, route_of, allowed_on};
 
-use acvp_policy::Rule;
+use acvp_desk::Numbers;
+use acvp_policy::{Action, Rule};
 use matchit::Router;
 use std::alloc::{AllocError, Global};
 use std::marker::Model;
 use std::str;
 
-/// What a method on a path stands for.
+/// What a method on a path asks, with the numbers of the path.
 #[derive(Clone, Copy, Debug, PartialEq, Eq)]
-pub enum Route {
-    Login,
+pub struct Route {
+    pub action: Action,
+    pub numbers: Numbers,
 }
 
 /// A path of the table.
 #[derive(Clone, Copy, Debug, PartialEq, Eq)]
 pub(crate) enum Path {
     Login,
+}
+
+impl Path {
+    /// What the method asks on this path, where it is one of its methods.
+    pub(crate) fn route(self, method: &[u8]) -> Option<Route>
+        ensures { result ≡ route_on method.now self }
+    {
+        match self {
+            Path::Login if method == b"POST".as_slice() => Some(Route {
+                action: Action::Login,
+                numbers: Numbers {
+                    first: 0,
+                    second: 0,
+                },
+            }),
+            Path::Login => None,
+        }
+    }
+
+    /// The methods of this path, as the `Allow` field lists them (RFC 9110, section 10.2.1).
+    pub(crate) fn allowed(self) -> &'static str
+        ensures value { result.now ≡ allowed_on self }
+        ensures len { length result.now ≤ 32 }
+    {
+        match self {
+            Path::Login => "POST",
+        }
+    }
 }
 
 /// The table of paths. It is made once and never changes.
@@ -29,7 +59,7 @@ pub struct Routes {
 
 impl Model for Routes {
     ghost use Rattle.std.specs.Prelude.{Bool, true, ◌≡◌};
-    ghost use Rattle.acvp_http.specs.Private.Paths.{table};
+    ghost use Rattle.acvp_http.specs.Private.Rows.{table};
 
     ghost Value = { Bool };
 
@@ -60,7 +90,7 @@ impl Routes {
     }
 
     /// The path of the table that these bytes are.
-    fn path(&self, path: &[u8]) -> Option<Path>
+    pub(crate) fn path(&self, path: &[u8]) -> Option<Path>
         ensures { result ≡ path_named path.now }
     {
         let Ok(text) = str::from_utf8(path) else {
@@ -69,15 +99,17 @@ impl Routes {
         look_up(&self.router, text)
     }
 
-    /// The route of a method on a path: `NoRoute` where there is no such path, and `NoMethod` where the
-    /// path has no such method.
+    /// The route of a method on a path: `NoRoute` where there is no such path, and `NoMethod` where the path has no such
+    /// method.
     pub fn find(&self, method: &[u8], path: &[u8]) -> Result<Route, Rule>
         ensures { result ≡ route_of method.now path.now }
     {
-        match self.path(path) {
-            Some(Path::Login) if method == b"POST".as_slice() => Ok(Route::Login),
-            Some(_) => Err(Rule::NoMethod),
-            None => Err(Rule::NoRoute),
+        let Some(path) = self.path(path) else {
+            return Err(Rule::NoRoute);
+        };
+        match path.route(method) {
+            Some(route) => Ok(route),
+            None => Err(Rule::NoMethod),
         }
     }
 }

@@ -5,16 +5,17 @@ ghost use Rattle.acvp_http.specs.Private.Turns.{CanHappen};
 ghost use Rattle.acvp_http.specs.Private.Reading.{event_of};
 ghost use Rattle.acvp_http.specs.Run.{RunsScript, is_read_answer, is_write_answer};
 ghost use Rattle.acvp_http.specs.Script.{answer_text};
-ghost use Rattle.acvp_http.specs.Serve.{Takes};
+ghost use Rattle.acvp_http.specs.Serve.{GoesByTurn};
 ghost use Rattle.acvp_http.specs.Private.Writing.{WritesText};
 
-use crate::desk::Desk;
 use crate::reading::{ScriptEvent, next_event, read_byte};
 use crate::routes::Routes;
 use crate::script::ScriptFault;
 use crate::serve::handle_bytes;
 use crate::source::{Sink, Source};
 use crate::writing::{write_order, write_reply};
+use acvp_desk::{Desk, records_are_kept};
+use acvp_tables::Tables;
 use std::alloc::Global;
 
 const MOST_EVENTS: u64 = 100000;
@@ -22,26 +23,27 @@ const MOST_EVENTS: u64 = 100000;
 const MOST_READS: u64 = 1000000000;
 
 /// Handles an event, and writes its answer.
-fn take_turn<K: Sink>(
-    alloc: Global,
+fn take_turn<T: Tables, K: Sink>(
     routes: &Routes,
-    desk: &mut Desk,
+    desk: &mut Desk<T>,
     event: &ScriptEvent,
     writer: &mut K,
 ) -> Result<(), ScriptFault>
     requires clear { K.failed writer.old ≡ false }
     requires event { CanHappen (event_of event.now) }
     ensures keys { desk.new.keys ≡ desk.old.keys }
+    ensures was_live { T.is_live desk.new.tables → T.is_live desk.old.tables }
     ensures turn { (unavailable : Bool) × (answer : Answer)
-        × Takes desk.old (record { event = event_of event.now; unavailable = unavailable }) desk.new.accounts answer
+        × GoesByTurn T.stands T.is_live desk.old.keys (record { event = event_of event.now; unavailable = unavailable }) answer desk.old.tables desk.new.tables
         × WritesText (K.contents writer.old) (K.contents writer.new) (K.failed writer.new) (answer_text answer) result }
 {
     match event {
         ScriptEvent::Request { moment, bytes } => {
-            let reply = handle_bytes(alloc, routes, desk, *moment, bytes);
+            let reply = handle_bytes(routes, desk, *moment, bytes);
             write_reply(writer, reply.bytes())
         }
         ScriptEvent::Order { moment, order } => {
+            records_are_kept();
             let reply = desk.order(*moment, order);
             write_order(writer, reply)
         }
@@ -50,17 +52,18 @@ fn take_turn<K: Sink>(
 
 /// Runs a script. It ends at the input's end, or at the first fault; the event at fault isn't handled, but for a writer
 /// that fails, which does so after its event was handled. The number is how many events there were.
-pub fn run<S: Source, K: Sink>(
+pub fn run<T: Tables, S: Source, K: Sink>(
     alloc: Global,
     routes: &Routes,
-    desk: &mut Desk,
+    desk: &mut Desk<T>,
     reader: &mut S,
     writer: &mut K,
 ) -> Result<u64, ScriptFault>
     requires reader_clear { S.failed reader.old ≡ false }
     requires writer_clear { K.failed writer.old ≡ false }
     ensures keys { desk.new.keys ≡ desk.old.keys }
-    ensures run { RunsScript desk.old desk.new.accounts (S.held reader.old) (S.held reader.new) (S.reads reader.old)
+    ensures was_live { T.is_live desk.new.tables → T.is_live desk.old.tables }
+    ensures run { RunsScript T.stands T.is_live desk.old.keys desk.old.tables desk.new.tables (S.held reader.old) (S.held reader.new) (S.reads reader.old)
         (S.reads reader.new)
         (K.contents writer.old) (K.contents writer.new) result }
     ensures read_fault { S.failed reader.new ≡ is_read_answer result }
@@ -71,7 +74,7 @@ pub fn run<S: Source, K: Sink>(
         let Some(event) = next_event(alloc, reader, limit)? else {
             return Ok(count);
         };
-        take_turn(alloc, routes, desk, &event, writer)?;
+        take_turn(routes, desk, &event, writer)?;
     }
     match read_byte(reader, limit)? {
         None => Ok(MOST_EVENTS),

@@ -1,14 +1,12 @@
 //! The lines of a script.
 ghost use Rattle.std.specs.Prelude.{◌≡◌, ◌≢◌, ◌++◌, ◌∷◌, ◌≤◌, ℕ, List, MatchOption, decimal};
-ghost use Rattle.acvp_http.specs.Script.{IsSecretText};
-ghost use Rattle.acvp_http.specs.Records.{IsAccountNumber};
+ghost use Rattle.acvp_http.specs.Script.{IsAccountNumber, IsSecretText};
 ghost use Rattle.acvp_http.specs.Private.Lines.{Lacks, IsMoment, IsRequestTail, IsAddTail, IsDisableTail, IsLine, command_word};
 ghost use Rattle.acvp_http.specs.declared.script.Line.{Line};
 ghost use Rattle.acvp_http.specs.declared.script.Command.{Command};
 ghost use Rattle.acvp_http.specs.declared.script.ScriptFault.TheVariants.{Memory};
 
-use crate::records::Order;
-use acvp_registry::plain_number;
+use acvp_desk::{Order, plain_number};
 use std::alloc::AllocError;
 
 const REQUEST: &[u8] = b"request";
@@ -46,7 +44,7 @@ impl From<AllocError> for ScriptFault {
 }
 
 /// What a line of a script says. The bytes of a request come after its line.
-#[derive(Clone, Copy, PartialEq, Eq)]
+#[derive(Clone, Copy)]
 pub(crate) enum Line {
     Request { moment: u64, length: u64 },
     Order { moment: u64, order: Order },

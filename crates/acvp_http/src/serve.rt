@@ -1,19 +1,16 @@
 //! From the bytes of a request to the bytes of its reply.
-ghost use Rattle.std.specs.Prelude.{◌≡◌, ◌<◌, Bool};
-ghost use Rattle.acvp_http.specs.Event.{request, replied};
+ghost use Rattle.std.specs.Prelude.{◌≡◌, ◌<◌};
+ghost use Rattle.acvp_desk.specs.Answer.{end_of_moments};
 ghost use Rattle.acvp_http.specs.Reply.{IsDateOf};
-ghost use Rattle.acvp_http.specs.Serve.{end_of_moments, Takes, RequestTaken};
+ghost use Rattle.acvp_http.specs.Serve.{RequestTaken};
 
-use crate::desk::Desk;
 use crate::reply::Reply;
-use crate::request::parse_request;
+use crate::request::{Refusal, parse_request};
 use crate::routes::Routes;
+use acvp_desk::{Desk, DeskReply, END_OF_MOMENTS};
 use acvp_policy::Rule;
+use acvp_tables::Tables;
 use httpdate::HttpDate;
-use std::alloc::Global;
-
-/// The first moment that is no longer served: the year 2100, in seconds since 1970.
-pub const END_OF_MOMENTS: u64 = 4102444800;
 
 /// The date and time of a moment, as the `Date` field shows it.
 fn date_of(moment: u64) -> [u8; 29]
@@ -26,24 +23,29 @@ fn date_of(moment: u64) -> [u8; 29]
     }
 }
 
-/// Answers the request of these bytes at a moment, in seconds since 1970. Where the answer is 45,
-/// memory was refused, and the same bytes may be sent again.
-pub fn handle_bytes(
-    alloc: Global,
+/// Answers the request of these bytes at a moment, in seconds since 1970. Where the answer is 45, memory or the store was
+/// refused, and the same bytes may be sent again.
+pub fn handle_bytes<T: Tables>(
     routes: &Routes,
-    desk: &mut Desk,
+    desk: &mut Desk<T>,
     moment: u64,
     bytes: &[u8],
 ) -> Reply
     ensures keys { desk.new.keys ≡ desk.old.keys }
-    ensures served { RequestTaken desk.old moment bytes.now desk.new.accounts result }
+    ensures was_live { T.is_live desk.new.tables → T.is_live desk.old.tables }
+    ensures served { RequestTaken T.stands T.is_live desk.old.keys moment bytes.now result desk.old.tables desk.new.tables }
 {
     if moment >= END_OF_MOMENTS {
         return Reply::refusal(None, Rule::ClockOutOfRange);
     }
     let date = date_of(moment);
-    match parse_request(routes, bytes) {
-        Ok(body) => desk.log_in(alloc, moment, &date, body),
-        Err(rule) => Reply::refusal(Some(&date), rule),
+    let request = match parse_request(routes, bytes) {
+        Ok(request) => request,
+        Err(Refusal::ByRule(rule)) => return Reply::refusal(Some(&date), rule),
+        Err(Refusal::WrongMethod(path)) => return Reply::wrong_method(&date, path),
+    };
+    match desk.handle(moment, &request).reply {
+        DeskReply::Given(buffer) => Reply::accepted(&date, buffer),
+        DeskReply::Denied(rule) => Reply::refusal(Some(&date), rule),
     }
 }

@@ -4,10 +4,10 @@ ghost use Rattle.acvp_http.specs.Event.{replied, ordered};
 ghost use Rattle.acvp_http.specs.Script.{answer_text};
 ghost use Rattle.acvp_http.specs.Private.Writing.{WritesText};
 
-use crate::records::OrderReply;
 use crate::script::ScriptFault;
 use crate::source::Sink;
 use crate::text::Text;
+use acvp_desk::OrderReply;
 
 /// Writes all of the bytes.
 fn write_all<K: Sink>(writer: &mut K, bytes: &[u8]) -> Result<(), ScriptFault>
@@ -60,9 +60,10 @@ fn order_text(reply: OrderReply) -> &'static [u8]
     ensures { result.now ≡ answer_text (ordered reply) }
 {
     match reply {
-        OrderReply::Done => b"order done\n",
+        OrderReply::Done(_) => b"order done\n",
         OrderReply::Taken => b"order taken\n",
         OrderReply::Unknown => b"order unknown\n",
+        OrderReply::NotInitial => b"order notInitial\n",
         OrderReply::Unavailable => b"order unavailable\n",
     }
 }

@@ -1,4 +1,5 @@
 //! Why a command failed.
+use acvp_desk::NewFault;
 use acvp_http::ScriptFault;
 use std::alloc::AllocError;
 use std::io;
@@ -7,7 +8,7 @@ use thiserror::Error;
 /// Why a command failed: the word that is printed after `fault: `.
 #[derive(Debug, Drop, Error)]
 pub(crate) enum Fault {
-    /// The keys file can't be read, or isn't two lines of 64 hex digits.
+    /// The keys file can't be read, or isn't two lines of 64 hex digits; or a vector set was made under another seed.
     #[error("keys")]
     Keys,
     /// Standard input can't be read.
@@ -24,6 +25,9 @@ pub(crate) enum Fault {
     Limit,
     #[error("memory")]
     Memory,
+    /// The store refuses a statement, or has a row that stands for nothing.
+    #[error("unavailable")]
+    Unavailable,
 }
 
 impl From<AllocError> for Fault {
@@ -50,6 +54,21 @@ impl From<ScriptFault> for Fault {
             ScriptFault::Syntax => Fault::Syntax,
             ScriptFault::Limit => Fault::Limit,
             ScriptFault::Memory => Fault::Memory,
+        }
+    }
+}
+
+impl From<NewFault> for Fault {
+    ghost use Rattle.std.specs.Prelude.{◌≡◌};
+    ghost use Rattle.acvp_server.specs.Faults.{fault_of_desk};
+
+    ghost from_gives = { λ refused fault. fault ≡ fault_of_desk refused };
+
+    fn from(fault: NewFault) -> Fault {
+        match fault {
+            NewFault::Memory => Fault::Memory,
+            NewFault::Epoch => Fault::Keys,
+            NewFault::Store => Fault::Unavailable,
         }
     }
 }

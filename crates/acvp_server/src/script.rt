@@ -1,7 +1,9 @@
 //! Script mode: a script on standard input, over records in memory.
 use crate::fault::Fault;
 use crate::keys::keys_in;
-use acvp_http::{Desk, Flagged, Routes, run};
+use acvp_desk::Desk;
+use acvp_http::{Flagged, Routes, run};
+use acvp_tables::ListTables;
 use std::io::{self, BufReader};
 use std::rt::Files;
 
@@ -12,7 +14,10 @@ pub(crate) fn script<R: Files + Input + Print + AllocGlobal>(
 ) -> Result<(), Fault> {
     let keys = keys_in(rt, keys)?;
     let routes = Routes::new(rt.alloc())?;
-    let mut desk = Desk::new(rt.alloc(), keys);
+    let mut desk = match Desk::new(rt.alloc(), keys, ListTables::new(rt.alloc())) {
+        Ok(desk) => desk,
+        Err((_, fault)) => return Err(Fault::from(fault)),
+    };
     let Ok(input) = BufReader::new(rt.alloc(), rt.reader()) else {
         return Err(Fault::Memory);
     };

@@ -1,13 +1,12 @@
 -- The lines of a script, without their line feeds.
 use Rattle.std.specs.Prelude.{◌≡◌, ◌≢◌, ◌≤◌, ℕ, List, [], ◌∷◌, ◌++◌, codes, decimal, ⊤}
-use Rattle.acvp_http.specs.declared.records.Order.{Order}
-use Rattle.acvp_http.specs.declared.records.Order.TheVariants.{AddAccount, DisableAccount}
+use Rattle.acvp_desk.specs.declared.order.Order.{Order}
+use Rattle.acvp_desk.specs.declared.order.Order.TheVariants.{AddAccount, DisableAccount, ApproveRequest, RejectRequest}
 use Rattle.acvp_http.specs.declared.script.Line.{Line}
 use Rattle.acvp_http.specs.declared.script.Line.TheVariants as line
 use Rattle.acvp_http.specs.declared.script.Command.{Command}
 use Rattle.acvp_http.specs.declared.script.Command.TheVariants as command
-use Rattle.acvp_http.specs.Script.{IsNumber, IsSecretText}
-use Rattle.acvp_http.specs.Records.{IsAccountNumber}
+use Rattle.acvp_http.specs.Script.{IsNumber, IsAccountNumber, IsSecretText}
 
 -- no byte of the text is this one
 abbrev pub Lacks : ℕ → List ℕ → Type 0
@@ -44,6 +43,8 @@ IsOrderLine moment (AddAccount account secret) text =
     (rest : List ℕ) × (text ≡ command_word command.AddAccount ++ 32 ∷ rest) × IsAddTail moment account secret rest
 IsOrderLine moment (DisableAccount account) text =
     (rest : List ℕ) × (text ≡ command_word command.DisableAccount ++ 32 ∷ rest) × IsDisableTail moment account rest
+IsOrderLine moment (ApproveRequest number) text = ⊥
+IsOrderLine moment (RejectRequest number) text = ⊥
 
 -- what the line says
 abbrev pub IsLine : Line → List ℕ → Type 0

@@ -1,14 +1,33 @@
 //! Scripts over readers and writers in memory, some of which fail.
 
-use crate::{Desk, Flagged, Keys, Routes, ScriptFault, run};
+use crate::{Flagged, Routes, ScriptFault, run};
+use acvp_desk::{Desk, KeyRing, Keys, Seeds};
+use acvp_tables::{AccountRow, ListTables, Tables};
 use std::alloc::{AllocError, Global};
 use std::io::{self, ErrorKind, Read, Write};
+use std::process::Abort;
 use std::test::Fail;
 
-const KEYS: Keys = Keys {
-    token: [1; 32],
-    seed: [2; 32],
-};
+/// A desk without records.
+fn empty_desk(rt: &impl Abort, alloc: Global) -> Desk<ListTables> {
+    let keys = Keys {
+        token: KeyRing::of(&[Some([1; 32])]).expect(rt, "a ring"),
+        seed: Seeds::of(&[[2; 32]]).expect(rt, "seeds"),
+    };
+    Desk::new(alloc, keys, ListTables::new(alloc))
+        .ok()
+        .expect(rt, "a desk")
+}
+
+/// The account of a number.
+fn account_of(rt: &impl Abort, desk: Desk<ListTables>, number: u16) -> AccountRow {
+    let mut tables = desk.into_tables();
+    tables
+        .account(number)
+        .ok()
+        .expect(rt, "an answer")
+        .expect(rt, "an account")
+}
 
 /// The bytes from 0 to 31 in hex.
 const ORDERS: &[u8] =
@@ -30,7 +49,7 @@ struct Outcome<W> {
 
 fn run_over<R: Read + Drop, W: Write + Drop>(
     alloc: Global,
-    desk: &mut Desk,
+    desk: &mut Desk<ListTables>,
     reader: R,
     writer: W,
 ) -> Result<Outcome<W>, AllocError> {
@@ -99,16 +118,16 @@ impl Write for Narrow {
 
 #[test]
 fn orders_are_answered(rt: HostRuntime) -> Result<(), Fail> {
-    let mut desk = Desk::new(rt.alloc(), KEYS);
+    let mut desk = empty_desk(&rt, rt.alloc());
     let outcome = run_over(rt.alloc(), &mut desk, ORDERS, Vec::new(rt.alloc()))?;
     assert_eq!(rt; outcome.answer, Ok(4));
     assert_eq!(rt; outcome.writer.as_slice(), ANSWERS);
     assert!(rt; !outcome.has_read_fault && !outcome.has_write_fault);
-    let account = desk.accounts.row(7).ok_or("no account")?;
-    assert_eq!(rt; account.secret[31], 31);
-    assert!(rt; !account.enabled);
     let outcome = run_over(rt.alloc(), &mut desk, b"".as_slice(), Vec::new(rt.alloc()))?;
     assert_eq!(rt; outcome.answer, Ok(0));
+    let account = account_of(&rt, desk, 7);
+    assert_eq!(rt; account.secret[31], 31);
+    assert!(rt; !account.enabled);
     Ok(())
 }
 
@@ -116,10 +135,10 @@ fn orders_are_answered(rt: HostRuntime) -> Result<(), Fail> {
 fn hex_digits_of_either_case_are_read(rt: HostRuntime) -> Result<(), Fail> {
     let script: &[u8] = b"account-add 9999999999999999999 9999 \
         ABCDEFabcdef0102030405060708090A0B0C0D0E0F101112131415161718191A\n";
-    let mut desk = Desk::new(rt.alloc(), KEYS);
+    let mut desk = empty_desk(&rt, rt.alloc());
     let outcome = run_over(rt.alloc(), &mut desk, script, Vec::new(rt.alloc()))?;
     assert_eq!(rt; outcome.answer, Ok(1));
-    let account = desk.accounts.row(9999).ok_or("no account")?;
+    let account = account_of(&rt, desk, 9999);
     assert!(rt; account.secret.starts_with(&[0xab, 0xcd, 0xef, 0xab]));
     Ok(())
 }
@@ -150,7 +169,7 @@ fn other_lines_are_refused(rt: HostRuntime) -> Result<(), Fail> {
     ] {
         let mut script = ORDERS.to_vec(rt.alloc())?;
         script.extend_from_slice(line.as_bytes())?;
-        let mut desk = Desk::new(rt.alloc(), KEYS);
+        let mut desk = empty_desk(&rt, rt.alloc());
         let outcome = run_over(
             rt.alloc(),
             &mut desk,
@@ -170,7 +189,7 @@ fn a_failed_read_ends_the_run(rt: HostRuntime) -> Result<(), Fail> {
         place: 170,
         fault: Some(ErrorKind::ConnectionReset),
     };
-    let mut desk = Desk::new(rt.alloc(), KEYS);
+    let mut desk = empty_desk(&rt, rt.alloc());
     let outcome = run_over(rt.alloc(), &mut desk, reader, Vec::new(rt.alloc()))?;
     assert_eq!(rt; outcome.answer, Err(ScriptFault::Read));
     assert!(rt; outcome.has_read_fault && !outcome.has_write_fault);
@@ -192,7 +211,7 @@ fn an_interrupted_read_is_tried_again(rt: HostRuntime) -> Result<(), Fail> {
         held: Vec::new(rt.alloc()),
         room: usize::MAX,
     };
-    let mut desk = Desk::new(rt.alloc(), KEYS);
+    let mut desk = empty_desk(&rt, rt.alloc());
     let outcome = run_over(rt.alloc(), &mut desk, reader, writer)?;
     assert_eq!(rt; outcome.answer, Ok(4));
     assert!(rt; !outcome.has_read_fault);
@@ -206,7 +225,7 @@ fn a_failed_write_ends_the_run(rt: HostRuntime) -> Result<(), Fail> {
         held: Vec::new(rt.alloc()),
         room: 25,
     };
-    let mut desk = Desk::new(rt.alloc(), KEYS);
+    let mut desk = empty_desk(&rt, rt.alloc());
     let outcome = run_over(rt.alloc(), &mut desk, ORDERS, writer)?;
     assert_eq!(rt; outcome.answer, Err(ScriptFault::Write));
     assert!(rt; outcome.has_write_fault && !outcome.has_read_fault);
@@ -214,7 +233,7 @@ fn a_failed_write_ends_the_run(rt: HostRuntime) -> Result<(), Fail> {
         outcome.writer.held.as_slice(),
         b"order done\norder taken\nor".as_slice()
     );
-    let account = desk.accounts.row(7).ok_or("no account")?;
+    let account = account_of(&rt, desk, 7);
     assert!(rt; !account.enabled);
     Ok(())
 }
@@ -232,7 +251,7 @@ fn a_request_is_answered(rt: HostRuntime) -> Result<(), Fail> {
         HTTP/1.1 403 Forbidden\r\nDate: Thu, 01 Jan 1970 00:01:30 GMT\r\n\
         Content-Type: application/json\r\nContent-Length: 47\r\nConnection: close\r\n\r\n\
         [{\"acvVersion\":\"1.0\"},{\"error\":\"loginRefused\"}]\n";
-    let mut desk = Desk::new(rt.alloc(), KEYS);
+    let mut desk = empty_desk(&rt, rt.alloc());
     let outcome = run_over(rt.alloc(), &mut desk, script, Vec::new(rt.alloc()))?;
     assert_eq!(rt; outcome.answer, Ok(2));
     assert_eq!(rt; outcome.writer.as_slice(), output);

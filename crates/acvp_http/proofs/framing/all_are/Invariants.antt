@@ -1,7 +1,7 @@
 use Rattle.std.proofs.Common.{◌≡◌, map, drop, Some}
 use Rattle.std.specs.List.{list_all}
 use Rattle.httparse.specs.Spans.{span_bytes}
-use Rattle.acvp_registry.specs.Number.{digits_number_of}
+use Rattle.acvp_desk.specs.Number.{digits_number_of}
 use Rattle.acvp_http.specs.Asks.{same_number}
 use Rattle.acvp_http.proofs.framing.all_are.Given as goal
 

@@ -1,6 +1,6 @@
 use Rattle.std.proofs.Common.{codes, ◌∙◌, sym, ap, ◌++◌}
 use Rattle.acvp_policy.specs.Rule.{rule_word}
-use Rattle.acvp_http.proofs.ReplyLemmas.{body_of-error_object, written_thrice}
+use Rattle.acvp_http.proofs.ReplyLemmas.{written_thrice}
 use Rattle.acvp_http.proofs.reply.error_body.Goals as goal
 
 pub returns-clause-value : goal.returns-clause-value
@@ -10,4 +10,4 @@ returns-clause-value c =
     (codes "\"}]") c.new-body.ensures c.push.ensures.bytes
     (c.push-2.ensures.bytes ∙ ap (λ w. c.push.new.self ++ w) (c.as_bytes.ensures.value
     ∙ c.word.ensures.value)) c.push-3.ensures.bytes
-    ∙ sym (body_of-error_object c.args.rule)
+    ∙ sym (c.errors_are_named.ensures c.args.rule)

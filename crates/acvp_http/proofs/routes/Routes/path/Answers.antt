@@ -1,7 +1,7 @@
 use Rattle.std.proofs.Common.{sym, ap, ◌∙◌}
 use Rattle.std.specs.Prelude.{option_map}
 use Rattle.matchit.specs.Seek.{first}
-use Rattle.acvp_http.specs.Private.Paths.{table}
+use Rattle.acvp_http.specs.Private.Rows.{table}
 use Rattle.acvp_http.proofs.RouteLemmas.{first-table, path_named-no_text}
 use Rattle.acvp_http.proofs.routes.Routes.path.Goals as goal
 
