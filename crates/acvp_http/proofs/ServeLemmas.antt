@@ -14,75 +14,70 @@ use Rattle.acvp_desk.specs.Serves.{result_of}
 use Rattle.acvp_desk.specs.Serves as desk
 use Rattle.acvp_desk.specs.declared.desk.DeskReply.TheVariants.{Given, Denied}
 use Rattle.acvp_desk.specs.declared.keys.Keys.{Keys}
-use Rattle.acvp_http.specs.Asks.{ParsedRequest, typed, Asks}
+use Rattle.acvp_http.specs.Asks.{ParsedRequest, Asks}
 use Rattle.acvp_http.specs.Reply.{refusal, framed, IsDateOf}
-use Rattle.acvp_http.specs.Serve.{ServesRequest, IsUnavailableRequest, RequestAnswered, IsReplied, RequestTaken}
+use Rattle.acvp_http.specs.Serve.{RefusesAtOnce, IsRefused, AsksTheDesk, RequestAnswered, IsReplied, RequestTaken}
 
 -- a rule is that of an unavailable server, or another
 is_unavailable : (r : Rule) → (r ≡ rule.Unavailable) ⊎ (r ≡ rule.Unavailable → ⊥)
 is_unavailable rule.Unavailable = inl refl
 is_unavailable _ = inr (λ is. absurd (cc))
 
+-- past the last moment nobody is looked at
+pub refused_late : (m : ℕ) (bytes reply : List ℕ) → end_of_moments ≤ m → reply ≡ refusal None rule.ClockOutOfRange → RefusesAtOnce m bytes reply
+unfolding RefusesAtOnce
+refused_late m bytes reply late is = let over : nat_lt m end_of_moments ≡ false = le-ltb m end_of_moments late in rw over is
+
+-- a refusal before the records are looked at
+pub refused_early : (m : ℕ) (bytes : List ℕ) (parsed : ParsedRequest) (date reply : List ℕ) → m < end_of_moments → Asks bytes parsed → IsDateOf m date
+    → IsRefused date parsed reply → RefusesAtOnce m bytes reply
+unfolding RefusesAtOnce
+refused_early m bytes parsed date reply early asks dated is =
+    let in_time : nat_lt m end_of_moments ≡ true = lt-ltb m end_of_moments early in rw in_time (parsed, date, asks, dated, is)
+
 module _ {T : Type 0} (stands : T → Content → Type 0) (is_live is_clean : T → Type 0) (leaves : T → Content → Content → Type 0) (keys : Keys) (m : ℕ) (bytes : List ℕ) where
-  -- past the last moment nobody is looked at
-  pub taken_late : (t : T) (reply : List ℕ) → end_of_moments ≤ m → reply ≡ refusal None rule.ClockOutOfRange
-      → RequestTaken stands is_live keys m bytes reply t t
-  unfolding ServesRequest
-  taken_late t reply late is =
-      let over : nat_lt m end_of_moments ≡ false = le-ltb m end_of_moments late in
-      (false, λ live c kept h. (c, rw over (refl, is), h, kept))
+  -- nobody was looked at
+  pub taken_at_once : (t : T) (reply : List ℕ) → RefusesAtOnce m bytes reply → RequestTaken stands is_live keys m bytes reply t t
+  taken_at_once t reply refuses = (false, λ live c kept h. (c, inl (refl, refuses), h, kept))
 
-  module _ (early : m < end_of_moments) (date : List ℕ) (dated : IsDateOf m date) where
-    in_time : nat_lt m end_of_moments ≡ true
-    in_time = lt-ltb m end_of_moments early
+  module _ (r : RequestValue) (asks : AsksTheDesk m bytes r) (date : List ℕ) (dated : IsDateOf m date) (old new : T) (changed : Bool) where
+    unchanged : (c : Content) (told : Rule) (reply : List ℕ) → answer keys m r (state_of c) ≡ Err told → reply ≡ refusal (Some date) told
+        → RequestAnswered keys m r c c reply
+    unfolding accepted_change
+    unchanged c told reply is shown =
+        let same : c ≡ content_effect keys m r c = rw is refl in
+        let said : IsReplied date (answer keys m r (state_of c)) reply = rw is shown in
+        (date, dated, same, said)
 
-    -- what is asked is served
-    served : (parsed : ParsedRequest) → Asks bytes parsed → (c next : Content) (reply : List ℕ) → RequestAnswered keys m date parsed c next reply
-        → ServesRequest keys m bytes c next reply
-    unfolding ServesRequest
-    served parsed asks c next reply done = rw in_time (parsed, date, asks, dated, done)
-
-    -- a refusal before anyone is looked at
-    pub taken_refused : (parsed : ParsedRequest) → Asks bytes parsed → (t : T) (reply : List ℕ)
-        → ((c : Content) → RequestAnswered keys m date parsed c c reply) → RequestTaken stands is_live keys m bytes reply t t
-    taken_refused parsed asks t reply done = (false, λ live c kept h. (c, served parsed asks c c reply (done c), h, kept))
-
-    module _ (r : RequestValue) (asks : Asks bytes (typed r)) (old new : T) (changed : Bool) where
-      unchanged : (c : Content) (told : Rule) (reply : List ℕ) → answer keys m r (state_of c) ≡ Err told → reply ≡ refusal (Some date) told
-          → RequestAnswered keys m date (typed r) c c reply
-      unfolding accepted_change
-      unchanged c told reply is shown = rw is (refl, shown)
-
-      -- the desk has denied it
-      pub taken_denied : (told : Rule) (reply : List ℕ) → desk.Serves stands is_live is_clean leaves (result_of (Denied told) changed) old new keys m r
-          → reply ≡ refusal (Some date) told → RequestTaken stands is_live keys m bytes reply old new
-      unfolding IsUnavailableRequest
-      taken_denied told reply serves shown = elim (is_unavailable told) [
-        | inl is ↦ (true, λ live c kept h. (c, (refl, (early, (typed r, asks, refl), shown ∙ ap (λ x. refusal (Some date) x) is)), serves.same live c h, kept))
-        | inr other ↦ (
-          false,
-          λ live c kept h.
-              let refuses : answer keys m r (state_of c) ≡ Err told = elim (serves.denied live c kept h) [ inl is ↦ absurd (other is) | inr is ↦ is ] in
-              (c, served (typed r) asks c c reply (unchanged c told reply refuses shown), serves.same live c h, kept),
-        )
-      ]
-
-      shown_as : (a : Result (Option Data) Rule) (buffer reply : List ℕ) → Gives buffer a → reply ≡ framed 200 (Some date) [] (drop spare buffer)
-          → IsReplied date a reply
-      shown_as (Err told) buffer reply gives is = absurd gives
-      shown_as (Ok None) buffer reply gives is = absurd gives
-      shown_as (Ok (Some told)) buffer reply gives is = rw (← gives.1) is
-
-      -- the desk has given a reply
-      pub taken_given : (buffer : Vec ℕ Global) (reply : List ℕ) → desk.Serves stands is_live is_clean leaves (result_of (Given buffer) changed) old new keys m r
-          → reply ≡ framed 200 (Some date) [] (drop spare buffer.items) → RequestTaken stands is_live keys m bytes reply old new
-      taken_given buffer reply serves is = (
+    -- the desk has denied it
+    pub taken_denied : (told : Rule) (reply : List ℕ) → desk.Serves stands is_live is_clean leaves (result_of (Denied told) changed) old new keys m r
+        → reply ≡ refusal (Some date) told → RequestTaken stands is_live keys m bytes reply old new
+    taken_denied told reply serves shown = elim (is_unavailable told) [
+      | inl is ↦ (true, λ live c kept h. (c, (refl, ((r, asks), shown ∙ ap (λ x. refusal (Some date) x) is)), serves.same live c h, kept))
+      | inr other ↦ (
         false,
         λ live c kept h.
-            let (gives, stands_after, kept_after, told) = serves.given live c kept h in (
-              content_effect keys m r c,
-              served (typed r) asks c (content_effect keys m r c) reply (refl, shown_as (answer keys m r (state_of c)) buffer.items reply gives is),
-              stands_after,
-              kept_after,
-            ),
+            let refuses : answer keys m r (state_of c) ≡ Err told = elim (serves.denied live c kept h) [ inl is ↦ absurd (other is) | inr is ↦ is ] in
+            (c, inr (r, asks, unchanged c told reply refuses shown), serves.same live c h, kept),
       )
+    ]
+
+    shown_as : (a : Result (Option Data) Rule) (buffer reply : List ℕ) → Gives buffer a → reply ≡ framed 200 (Some date) [] (drop spare buffer)
+        → IsReplied date a reply
+    shown_as (Err told) buffer reply gives is = absurd gives
+    shown_as (Ok None) buffer reply gives is = absurd gives
+    shown_as (Ok (Some shown)) buffer reply gives is = rw (← gives.1) is
+
+    -- the desk has given a reply
+    pub taken_given : (buffer : Vec ℕ Global) (reply : List ℕ) → desk.Serves stands is_live is_clean leaves (result_of (Given buffer) changed) old new keys m r
+        → reply ≡ framed 200 (Some date) [] (drop spare buffer.items) → RequestTaken stands is_live keys m bytes reply old new
+    taken_given buffer reply serves is = (
+      false,
+      λ live c kept h.
+          let (gives, stands_after, kept_after, told) = serves.given live c kept h in (
+            content_effect keys m r c,
+            inr (r, asks, (date, dated, refl, shown_as (answer keys m r (state_of c)) buffer.items reply gives is)),
+            stands_after,
+            kept_after,
+          ),
+    )

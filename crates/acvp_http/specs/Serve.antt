@@ -1,12 +1,13 @@
 -- What an event does to the records, and what it is answered.
-use Rattle.std.specs.Prelude.{◌≡◌, ◌<◌, ℕ, List, [], ◌∷◌, Bool, true, false, nat_lt, MatchBool, Option, Some, None, Result, Ok, Err}
+use Rattle.std.specs.Prelude.{◌≡◌, ◌<◌, ◌⊎◌, ℕ, List, [], ◌∷◌, Bool, nat_lt, MatchBool, Option, Some, None, Result, Ok, Err}
 use Rattle.acvp_policy.specs.declared.rule.Rule.{Rule}
-use Rattle.acvp_policy.specs.declared.rule.Rule.TheVariants.{BadHead, HeadTooLarge, Truncated, LengthMissing, BadLength, BodyTooLarge, TransferCoding, HostMissing, ClockOutOfRange, Unavailable as UnavailableRule}
+use Rattle.acvp_policy.specs.declared.rule.Rule.TheVariants.{ClockOutOfRange, Unavailable as UnavailableRule}
 use Rattle.acvp_tables.specs.Content.{Content}
 use Rattle.acvp_tables.specs.State.{state_of}
 use Rattle.acvp_desk.specs.Answer.{end_of_moments, answer, content_effect}
 use Rattle.acvp_desk.specs.Data.{Data}
 use Rattle.acvp_desk.specs.Kept.{IsKept}
+use Rattle.acvp_desk.specs.Request.{RequestValue}
 use Rattle.acvp_desk.specs.Orders.{order_reply, content_order_effect}
 use Rattle.acvp_desk.specs.Written.{body_of}
 use Rattle.acvp_desk.specs.declared.keys.Keys.{Keys}
@@ -15,47 +16,49 @@ use Rattle.acvp_http.specs.Asks.{ParsedRequest, refused, wrong_method, typed, As
 use Rattle.acvp_http.specs.Event.{Event, request, order, Answer, replied, ordered, Turn}
 use Rattle.acvp_http.specs.Reply.{refusal, method_refusal, framed, IsDateOf}
 
+-- ---- a request
+
+-- what is answered where the records aren't looked at
+abbrev pub IsRefused : List ℕ → ParsedRequest → List ℕ → Type 0
+IsRefused date (refused rule) reply = reply ≡ refusal (Some date) rule
+IsRefused date (wrong_method path) reply = reply ≡ method_refusal date path
+IsRefused date (typed r) reply = ⊥
+
+-- the request of these bytes is refused before the records are looked at
+unfoldable pub RefusesAtOnce : ℕ → List ℕ → List ℕ → Type 0
+RefusesAtOnce moment bytes reply =
+    MatchBool (nat_lt moment end_of_moments)
+    ((parsed : ParsedRequest) × (date : List ℕ) × Asks bytes parsed × IsDateOf moment date × IsRefused date parsed reply)
+    (reply ≡ refusal None ClockOutOfRange)
+
+-- these bytes are a request of the desk at a moment that is served
+abbrev pub AsksTheDesk : ℕ → List ℕ → RequestValue → Type 0
+AsksTheDesk moment bytes r = (moment < end_of_moments) × Asks bytes (typed r)
+
 -- what the desk answers, in bytes, with this date
 abbrev pub IsReplied : List ℕ → Result (Option Data) Rule → List ℕ → Type 0
 IsReplied date (Err rule) reply = reply ≡ refusal (Some date) rule
 IsReplied date (Ok None) reply = ⊥
 IsReplied date (Ok (Some shown)) reply = reply ≡ framed 200 (Some date) [] (body_of shown)
 
--- what is asked is decided, carried out and answered
-abbrev pub RequestAnswered : Keys → ℕ → List ℕ → ParsedRequest → Content → Content → List ℕ → Type 0
-RequestAnswered keys moment date (refused rule) old new reply = (new ≡ old) × (reply ≡ refusal (Some date) rule)
-RequestAnswered keys moment date (wrong_method path) old new reply = (new ≡ old) × (reply ≡ method_refusal date path)
-RequestAnswered keys moment date (typed r) old new reply = (new ≡ content_effect keys moment r old)
+-- the request is decided, carried out and answered
+abbrev pub RequestAnswered : Keys → ℕ → RequestValue → Content → Content → List ℕ → Type 0
+RequestAnswered keys moment r old new reply =
+    (date : List ℕ) × IsDateOf moment date × (new ≡ content_effect keys moment r old)
     × IsReplied date (answer keys moment r (state_of old)) reply
 
 -- the request of these bytes is served: the records before it and after it, and the bytes of its reply
-unfoldable pub ServesRequest : Keys → ℕ → List ℕ → Content → Content → List ℕ → Type 0
+abbrev pub ServesRequest : Keys → ℕ → List ℕ → Content → Content → List ℕ → Type 0
 ServesRequest keys moment bytes old new reply =
-    MatchBool (nat_lt moment end_of_moments)
-    ((parsed : ParsedRequest) × (date : List ℕ) × Asks bytes parsed × IsDateOf moment date
-    × RequestAnswered keys moment date parsed old new reply)
-    ((new ≡ old) × (reply ≡ refusal None ClockOutOfRange))
+    ((new ≡ old) × RefusesAtOnce moment bytes reply)
+    ⊎ ((r : RequestValue) × AsksTheDesk moment bytes r × RequestAnswered keys moment r old new reply)
 
--- whether what is asked may be unavailable: not where a rule of the head or the framing is broken
-abbrev pub may_be_unavailable : ParsedRequest → Bool
-may_be_unavailable (typed r) = true
-may_be_unavailable (wrong_method path) = true
-may_be_unavailable (refused BadHead) = false
-may_be_unavailable (refused HeadTooLarge) = false
-may_be_unavailable (refused Truncated) = false
-may_be_unavailable (refused LengthMissing) = false
-may_be_unavailable (refused BadLength) = false
-may_be_unavailable (refused BodyTooLarge) = false
-may_be_unavailable (refused TransferCoding) = false
-may_be_unavailable (refused HostMissing) = false
-may_be_unavailable (refused _) = true
-
--- a request at a served moment that is unavailable, and its reply
-unfoldable pub IsUnavailableRequest : ℕ → List ℕ → List ℕ → Type 0
+-- a request of the desk that is unavailable, and its reply: no request that is refused at once is
+abbrev pub IsUnavailableRequest : ℕ → List ℕ → List ℕ → Type 0
 IsUnavailableRequest moment bytes reply =
-    (moment < end_of_moments)
-    × ((parsed : ParsedRequest) × Asks bytes parsed × (may_be_unavailable parsed ≡ true))
-    × (reply ≡ refusal None UnavailableRule)
+    ((r : RequestValue) × AsksTheDesk moment bytes r) × (reply ≡ refusal None UnavailableRule)
+
+-- ---- an event
 
 -- the event is served: the records before it and after it, and its answer
 abbrev pub Serves : Keys → Event → Content → Content → Answer → Type 0
@@ -76,6 +79,8 @@ IsUnavailableEvent (order moment o) old new (ordered reply) = (new ≡ old) × (
 abbrev pub Takes : Keys → Turn → Content → Content → Answer → Type 0
 Takes keys turn old new answer = MatchBool turn.unavailable (IsUnavailableEvent turn.event old new answer)
     (Serves keys turn.event old new answer)
+
+-- ---- a run
 
 -- the turns, one after another: the records before all of them and after them, and the answers in order
 abbrev pub Runs : Keys → List Turn → Content → Content → List Answer → Type 0

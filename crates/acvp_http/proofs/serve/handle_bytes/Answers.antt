@@ -1,36 +1,62 @@
-use Rattle.std.proofs.Common.{refl}
+use Rattle.std.proofs.Common.{refl, inl, inr}
 use Rattle.acvp_desk.specs.Request.{request_value}
 use Rattle.acvp_http.specs.Asks.{refused, wrong_method}
-use Rattle.acvp_http.proofs.ServeLemmas.{taken_late, taken_refused, taken_denied, taken_given}
+use Rattle.acvp_http.proofs.ServeLemmas.{refused_late, refused_early, taken_at_once, taken_denied, taken_given}
 use Rattle.acvp_http.proofs.serve.handle_bytes.Goals as goal
 
-pub returns-then-moment-ge-END_OF_MOMENTS-clause-served : goal.returns-then-moment-ge-END_OF_MOMENTS-clause-served
-returns-then-moment-ge-END_OF_MOMENTS-clause-served g c =
-    taken_late g.T.Tables.stands g.T.Tables.is_live g.T.Tables.is_clean g.T.Tables.leaves c.args.desk.now.keys c.args.moment c.args.bytes.now
-    c.args.desk.now.tables c.refusal.result c.if-moment-ge-END_OF_MOMENTS.true c.refusal.ensures
+pub returns-then-moment-ge-END_OF_MOMENTS : goal.returns-then-moment-ge-END_OF_MOMENTS
+returns-then-moment-ge-END_OF_MOMENTS g c =
+    let at_once = refused_late c.args.moment c.args.bytes.now c.refusal.result c.if-moment-ge-END_OF_MOMENTS.true c.refusal.ensures in
+    record {
+      keys = refl;
+      was_live = λ live. live;
+      at_once = inl (at_once, refl);
+      served = taken_at_once g.T.Tables.stands g.T.Tables.is_live g.T.Tables.is_clean g.T.Tables.leaves c.args.desk.now.keys c.args.moment c.args.bytes.now
+          c.args.desk.now.tables c.refusal.result at_once;
+    }
 
-pub returns-in-Err-ByRule-clause-served : goal.returns-in-Err-ByRule-clause-served
-returns-in-Err-ByRule-clause-served g c =
-    taken_refused g.T.Tables.stands g.T.Tables.is_live g.T.Tables.is_clean g.T.Tables.leaves c.args.desk.now.keys c.args.moment c.args.bytes.now
-    c.if-moment-ge-END_OF_MOMENTS.false c.date_of-date.result c.date_of-date.ensures (refused c.in-Err-ByRule.rule) (rw c.in-Err-ByRule.field-0-is at c.in-Err-ByRule.ensures)
-    c.args.desk.now.tables c.refusal-in-Err-ByRule.result (λ content. (refl, c.refusal-in-Err-ByRule.ensures))
+pub returns-in-Err-ByRule : goal.returns-in-Err-ByRule
+returns-in-Err-ByRule g c =
+    let at_once = refused_early c.args.moment c.args.bytes.now (refused c.in-Err-ByRule.rule) c.date_of-date.result c.refusal-in-Err-ByRule.result
+    c.if-moment-ge-END_OF_MOMENTS.false (rw c.in-Err-ByRule.field-0-is at c.in-Err-ByRule.ensures) c.date_of-date.ensures
+    c.refusal-in-Err-ByRule.ensures in
+    record {
+      keys = refl;
+      was_live = λ live. live;
+      at_once = inl (at_once, refl);
+      served = taken_at_once g.T.Tables.stands g.T.Tables.is_live g.T.Tables.is_clean g.T.Tables.leaves c.args.desk.now.keys c.args.moment c.args.bytes.now
+          c.args.desk.now.tables c.refusal-in-Err-ByRule.result at_once;
+    }
 
-pub returns-in-Err-WrongMethod-clause-served : goal.returns-in-Err-WrongMethod-clause-served
-returns-in-Err-WrongMethod-clause-served g c =
-    taken_refused g.T.Tables.stands g.T.Tables.is_live g.T.Tables.is_clean g.T.Tables.leaves c.args.desk.now.keys c.args.moment c.args.bytes.now
-    c.if-moment-ge-END_OF_MOMENTS.false c.date_of-date.result c.date_of-date.ensures (wrong_method c.in-Err-WrongMethod.path)
-    (rw c.in-Err-WrongMethod.field-0-is at c.in-Err-WrongMethod.ensures) c.args.desk.now.tables c.wrong_method.result (λ content. (refl, c.wrong_method.ensures))
+pub returns-in-Err-WrongMethod : goal.returns-in-Err-WrongMethod
+returns-in-Err-WrongMethod g c =
+    let at_once = refused_early c.args.moment c.args.bytes.now (wrong_method c.in-Err-WrongMethod.path) c.date_of-date.result c.wrong_method.result
+    c.if-moment-ge-END_OF_MOMENTS.false (rw c.in-Err-WrongMethod.field-0-is at c.in-Err-WrongMethod.ensures) c.date_of-date.ensures
+    c.wrong_method.ensures in
+    record {
+      keys = refl;
+      was_live = λ live. live;
+      at_once = inl (at_once, refl);
+      served = taken_at_once g.T.Tables.stands g.T.Tables.is_live g.T.Tables.is_clean g.T.Tables.leaves c.args.desk.now.keys c.args.moment c.args.bytes.now
+          c.args.desk.now.tables c.wrong_method.result at_once;
+    }
+
+pub returns-in-Given-clause-at_once : goal.returns-in-Given-clause-at_once
+returns-in-Given-clause-at_once g c = inr (request_value c.in-Ok.request, (c.if-moment-ge-END_OF_MOMENTS.false, c.in-Ok.ensures))
 
 pub returns-in-Given-clause-served : goal.returns-in-Given-clause-served
 returns-in-Given-clause-served g c =
     taken_given g.T.Tables.stands g.T.Tables.is_live g.T.Tables.is_clean g.T.Tables.leaves c.args.desk.now.keys c.args.moment c.args.bytes.now
-    c.if-moment-ge-END_OF_MOMENTS.false c.date_of-date.result c.date_of-date.ensures (request_value c.in-Ok.request) c.in-Ok.ensures
+    (request_value c.in-Ok.request) (c.if-moment-ge-END_OF_MOMENTS.false, c.in-Ok.ensures) c.date_of-date.result c.date_of-date.ensures
     c.args.desk.now.tables c.handle.new.self.tables c.handle.result.changed c.in-Given.buffer c.accepted.result
     (rw c.in-Given.is at c.handle.ensures.served) (rw c.in-Given.is at c.accepted.ensures)
+
+pub returns-in-Denied-clause-at_once : goal.returns-in-Denied-clause-at_once
+returns-in-Denied-clause-at_once g c = inr (request_value c.in-Ok.request, (c.if-moment-ge-END_OF_MOMENTS.false, c.in-Ok.ensures))
 
 pub returns-in-Denied-clause-served : goal.returns-in-Denied-clause-served
 returns-in-Denied-clause-served g c =
     taken_denied g.T.Tables.stands g.T.Tables.is_live g.T.Tables.is_clean g.T.Tables.leaves c.args.desk.now.keys c.args.moment c.args.bytes.now
-    c.if-moment-ge-END_OF_MOMENTS.false c.date_of-date.result c.date_of-date.ensures (request_value c.in-Ok.request) c.in-Ok.ensures
+    (request_value c.in-Ok.request) (c.if-moment-ge-END_OF_MOMENTS.false, c.in-Ok.ensures) c.date_of-date.result c.date_of-date.ensures
     c.args.desk.now.tables c.handle.new.self.tables c.handle.result.changed c.in-Denied.rule c.refusal-in-Denied.result
     (rw c.in-Denied.is at c.handle.ensures.served) c.refusal-in-Denied.ensures
