@@ -13,22 +13,12 @@ use Rattle.acvp_http.specs.declared.script.ScriptFault.TheVariants.{Read, Write,
 use Rattle.acvp_http.specs.Event.{Event, request, order, Answer, Turn}
 use Rattle.acvp_http.specs.Private.Turns.{CanHappen}
 use Rattle.acvp_http.specs.Script.{IsScript, IsWritten, IsAccountNumber, HasNoEvent, answer_text, output_of}
-use Rattle.acvp_http.specs.Serve.{Runs, Takes, GoesByTurn, GoesByTurns}
+use Rattle.acvp_http.specs.Serve.{GoesByTurn, GoesByTurns, GoesThrough}
 use Rattle.acvp_http.specs.Private.Reading.{TakesPart, StopsReading}
 use Rattle.acvp_http.specs.Private.Writing.{AppendsFront}
 use Rattle.acvp_http.specs.Run.{events_of, most_reads, BeginsWith, TakesInPart, StopsAfter, WritesAnswers, RunsScript}
 use Rattle.acvp_http.proofs.KnownLemmas.{consumes_consumes, consumes_nothing}
 use Rattle.acvp_http.proofs.WritingLemmas.{appends_appends}
-
--- a run, and one turn more
-pub runs_more : (keys : Keys) (turns : List Turn) (start c next : Content) (answers : List Answer) (turn : Turn) (answer : Answer)
-    → Runs keys turns start c answers → Takes keys turn c next answer → Runs keys (turns ++ turn ∷ []) start next (answers ++ answer ∷ [])
-runs_more keys [] start c next [] turn answer runs takes =
-    (next, (let same : c ≡ start = runs in rw same at takes), refl)
-runs_more keys [] start c next (a ∷ answers) turn answer runs takes = absurd runs
-runs_more keys (t ∷ turns) start c next [] turn answer runs takes = absurd runs
-runs_more keys (t ∷ turns) start c next (a ∷ answers) turn answer (mid, first, runs) takes =
-    (mid, first, runs_more keys turns mid c next answers turn answer runs takes)
 
 -- a script, and one event more
 pub script_more : (events : List Event) (text front : List ℕ) (e : Event) → IsScript events text → IsWritten e front
@@ -63,14 +53,48 @@ pub under : {T : Type 0} (stands : T → Content → Type 0) (is_live : T → Ty
     → GoesByTurn stands is_live now turn answer old new → GoesByTurn stands is_live keys turn answer old new
 under stands is_live now keys old new turn answer same takes = subst (λ (k : Keys). GoesByTurn stands is_live k turn answer old new) same takes
 
+-- tables that go through turns, and by one more
+module _ {T : Type 0} (stands : T → Content → Type 0) (is_live : T → Type 0) (keys : Keys) where
+  through_more : (turns : List Turn) (answers : List Answer) (start mid now : T) (turn : Turn) (answer : Answer)
+      → GoesThrough stands is_live keys turns answers start mid → (is_live now → is_live mid) → GoesByTurn stands is_live keys turn answer mid now
+      → GoesThrough stands is_live keys (turns ++ turn ∷ []) (answers ++ answer ∷ []) start now
+  through_more [] [] start mid now turn answer through was_live takes =
+      let same : mid ≡ start = through in (
+        now,
+        subst (λ (t : T). is_live now → is_live t) same was_live,
+        subst (λ (t : T). GoesByTurn stands is_live keys turn answer t now) same takes,
+        refl,
+      )
+  through_more [] (a ∷ answers) start mid now turn answer through was_live takes = absurd through
+  through_more (t ∷ turns) [] start mid now turn answer through was_live takes = absurd through
+  through_more (t ∷ turns) (a ∷ answers) start mid now turn answer (next, up, first, through) was_live takes =
+      (next, up, first, through_more turns answers next mid now turn answer through was_live takes)
+
+  -- tables that are live at the end were so at the start
+  through_live : (turns : List Turn) (answers : List Answer) (old new : T) → GoesThrough stands is_live keys turns answers old new → is_live new → is_live old
+  through_live [] [] old new through live = subst (λ (t : T). is_live t) through live
+  through_live [] (a ∷ answers) old new through live = absurd through
+  through_live (t ∷ turns) [] old new through live = absurd through
+  through_live (t ∷ turns) (a ∷ answers) old new (mid, up, first, through) live = up (through_live turns answers mid new through live)
+
+  -- and then they go by all turns
+  pub make_a_run : (turns : List Turn) (answers : List Answer) (old new : T) → GoesThrough stands is_live keys turns answers old new
+      → GoesByTurns stands is_live keys turns answers old new
+  make_a_run [] [] old new through = λ live c kept h. (c, refl, subst (λ (t : T). stands t c) (sym through) h, kept)
+  make_a_run [] (a ∷ answers) old new through = absurd through
+  make_a_run (t ∷ turns) [] old new through = absurd through
+  make_a_run (t ∷ turns) (a ∷ answers) old new (mid, up, first, through) = λ live c kept h.
+      let (c', taken, stands', kept') = first (through_live turns answers mid new through live) c kept h in
+      let (next, ran, stands-next, kept-next) = make_a_run turns answers mid new through live c' kept' stands' in
+      (next, (c', taken, ran), stands-next, kept-next)
+
 -- what a run over tables has done after so many turns
 module _ {T : Type 0} (stands : T → Content → Type 0) (is_live : T → Type 0) (keys : Keys) (start : T) where
   pub record Ran (now : T) (input left old new : Option (List ℕ)) (count : ℕ) : Type 0 where
     pub turns : List Turn
     pub answers : List Answer
     pub text : List ℕ
-    pub was_live : is_live now → is_live start
-    pub runs : GoesByTurns stands is_live keys turns answers start now
+    pub runs : GoesThrough stands is_live keys turns answers start now
     pub script : IsScript (events_of turns) text
     pub size : length turns ≡ count
     pub consumed : Consumes input left text
@@ -82,22 +106,12 @@ module _ {T : Type 0} (stands : T → Content → Type 0) (is_live : T → Type 
     turns = [];
     answers = [];
     text = [];
-    was_live = λ live. live;
-    runs = λ live c kept h. (c, refl, h, kept);
+    runs = refl;
     script = refl;
     size = refl;
     consumed = consumes_nothing input;
     appended = appends_nothing old;
   }
-
-  -- the tables go by the turns, and by one more
-  goes_on_by : (turns : List Turn) (answers : List Answer) (mid now : T) (turn : Turn) (answer : Answer)
-      → GoesByTurns stands is_live keys turns answers start mid → (is_live now → is_live mid) → GoesByTurn stands is_live keys turn answer mid now
-      → GoesByTurns stands is_live keys (turns ++ turn ∷ []) (answers ++ answer ∷ []) start now
-  goes_on_by turns answers mid now turn answer runs was_live takes = λ live c kept h.
-      let (c', ran, stands', kept') = runs (was_live live) c kept h in
-      let (next, taken, stands-next, kept-next) = takes live c' kept' stands' in
-      (next, runs_more keys turns c c' next answers turn answer ran taken, stands-next, kept-next)
 
   module _ (mid now : T) (input left left' old new new' : Option (List ℕ)) (turn : Turn) (answer : Answer) (front : List ℕ) where
     -- one turn more
@@ -109,8 +123,7 @@ module _ {T : Type 0} (stands : T → Content → Type 0) (is_live : T → Type 
           turns = ran.turns ++ turn ∷ [];
           answers = ran.answers ++ answer ∷ [];
           text = ran.text ++ front;
-          was_live = λ live. ran.was_live (was_live live);
-          runs = goes_on_by ran.turns ran.answers mid now turn answer ran.runs was_live takes;
+          runs = through_more stands is_live keys ran.turns ran.answers start mid now turn answer ran.runs was_live takes;
           script = rw (events_more ran.turns turn)
               (script_more (events_of ran.turns) ran.text front turn.event ran.script written);
           size = omega (arith, length-append ran.turns (turn ∷ []), ran.size);
@@ -128,7 +141,7 @@ module _ {T : Type 0} (stands : T → Content → Type 0) (is_live : T → Type 
           ran.turns ++ turn ∷ [],
           ran.answers ++ answer ∷ [],
           ran.text ++ front,
-          goes_on_by ran.turns ran.answers mid now turn answer ran.runs was_live takes,
+          through_more stands is_live keys ran.turns ran.answers start mid now turn answer ran.runs was_live takes,
           rw (events_more ran.turns turn) (script_more (events_of ran.turns) ran.text front turn.event ran.script written),
           consumes_consumes input left left' ran.text front ran.consumed consumed,
           (

@@ -16,7 +16,7 @@ use Rattle.acvp_desk.specs.declared.desk.DeskReply.TheVariants.{Given, Denied}
 use Rattle.acvp_desk.specs.declared.keys.Keys.{Keys}
 use Rattle.acvp_http.specs.Asks.{ParsedRequest, Asks}
 use Rattle.acvp_http.specs.Reply.{refusal, framed, IsDateOf}
-use Rattle.acvp_http.specs.Serve.{RefusesAtOnce, IsRefused, AsksTheDesk, RequestAnswered, IsReplied, RequestTaken}
+use Rattle.acvp_http.specs.Serve.{RefusesAtOnce, IsRefused, AsksTheDesk, RequestAnswered, IsReplied, ShowsReply, RequestTaken}
 
 -- a rule is that of an unavailable server, or another
 is_unavailable : (r : Rule) → (r ≡ rule.Unavailable) ⊎ (r ≡ rule.Unavailable → ⊥)
@@ -67,6 +67,15 @@ module _ {T : Type 0} (stands : T → Content → Type 0) (is_live is_clean : T 
     shown_as (Err told) buffer reply gives is = absurd gives
     shown_as (Ok None) buffer reply gives is = absurd gives
     shown_as (Ok (Some shown)) buffer reply gives is = rw (← gives.1) is
+
+    -- what is shown of a denial, and that what was live is unless it is unavailable
+    pub shown_denied : (told : Rule) (reply : List ℕ) → desk.Serves stands is_live is_clean leaves (result_of (Denied told) changed) old new keys m r
+        → reply ≡ refusal (Some date) told → ShowsReply stands is_live m reply old new
+    shown_denied told reply serves shown = (date, dated, inr (told, shown, serves.same))
+
+    pub live_denied : (told : Rule) (reply : List ℕ) → desk.Serves stands is_live is_clean leaves (result_of (Denied told) changed) old new keys m r
+        → reply ≡ refusal (Some date) told → (reply ≡ refusal None rule.Unavailable) ⊎ (is_clean new → is_live old → is_live new)
+    live_denied told reply serves shown = elim serves.live [ inl is ↦ inl (shown ∙ ap (λ x. refusal (Some date) x) is) | inr live ↦ inr live ]
 
     -- the desk has given a reply
     pub taken_given : (buffer : Vec ℕ Global) (reply : List ℕ) → desk.Serves stands is_live is_clean leaves (result_of (Given buffer) changed) old new keys m r

@@ -7,7 +7,7 @@ use Rattle.acvp_http.specs.declared.script.ScriptFault.{ScriptFault}
 use Rattle.acvp_http.specs.declared.script.ScriptFault.TheVariants.{Read, Write, Syntax, Limit, Memory}
 use Rattle.acvp_http.specs.Event.{Event, Answer, Turn}
 use Rattle.acvp_http.specs.Script.{IsScript, HasNoEvent, LeavesGrammar, answer_text, output_of}
-use Rattle.acvp_http.specs.Serve.{GoesByTurns}
+use Rattle.acvp_http.specs.Serve.{GoesThrough}
 
 -- the events of the turns
 abbrev pub events_of : List Turn → List Event
@@ -69,14 +69,14 @@ WritesAnswers old new answers (Err Syntax) = Appends old new (output_of answers)
 WritesAnswers old new answers (Err Limit) = Appends old new (output_of answers)
 WritesAnswers old new answers (Err Memory) = Appends old new (output_of answers)
 
--- The input begins with the script of some turns, which the tables went by and whose answers are written; `left` is what
+-- The input begins with the script of some turns, which the tables went through and whose answers are written; `left` is what
 -- was not taken of it, and the reader was read so often before the run and after it.
 module _ {T : Type 0} (stands : T → Content → Type 0) (is_live : T → Type 0) where
   abbrev pub RunsScript : Keys → T → T → Option (List ℕ) → Option (List ℕ) → ℕ → ℕ → Option (List ℕ)
       → Option (List ℕ) → Result ℕ ScriptFault → Type 0
   RunsScript keys tables last input left before after old new result =
       (turns : List Turn) × (answers : List Answer) × (text : List ℕ)
-      × GoesByTurns stands is_live keys turns answers tables last × IsScript (events_of turns) text
+      × GoesThrough stands is_live keys turns answers tables last × IsScript (events_of turns) text
       × StopsAfter input left before after turns text result × WritesAnswers old new answers result
       × (length turns ≤ most_events)
 

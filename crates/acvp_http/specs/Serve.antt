@@ -90,20 +90,40 @@ Runs keys (turn ∷ turns) old new [] = ⊥
 Runs keys (turn ∷ turns) old new (answer ∷ answers) =
     (next : Content) × Takes keys turn old next answer × Runs keys turns next new answers
 
--- The tables, where they are live after it, went by one turn, or by several: for every content that they stood for before
--- and that holds what holds at all times, they stand for the content after the turns, which holds it too.
-module _ {T : Type 0} (stands : T → Content → Type 0) (is_live : T → Type 0) where
-  abbrev pub GoesBy : Keys → (Content → Content → Type 0) → T → T → Type 0
-  GoesBy keys Turns old new = is_live new → (c : Content) → IsKept keys.seed c → stands old c
-      → (next : Content) × Turns c next × stands new next × IsKept keys.seed next
+-- ---- the tables
 
+module _ {T : Type 0} (stands : T → Content → Type 0) (is_live : T → Type 0) where
+  -- The tables, where they are live after it, went by something: for every content that they stood for before and that
+  -- holds what holds at all times, they stand for the content after it, which holds it too.
+  abbrev pub GoesBy : Keys → (Content → Content → Type 0) → T → T → Type 0
+  GoesBy keys Step old new = is_live new → (c : Content) → IsKept keys.seed c → stands old c
+      → (next : Content) × Step c next × stands new next × IsKept keys.seed next
+
+  -- they went by one turn
   abbrev pub GoesByTurn : Keys → Turn → Answer → T → T → Type 0
   GoesByTurn keys turn answer old new = GoesBy keys (λ c next. Takes keys turn c next answer) old new
 
+  -- by all turns at once
   abbrev pub GoesByTurns : Keys → List Turn → List Answer → T → T → Type 0
   GoesByTurns keys turns answers old new = GoesBy keys (λ c next. Runs keys turns c next answers) old new
+
+  -- and turn by turn, so that what a later turn does to them says nothing against an earlier one
+  abbrev pub GoesThrough : Keys → List Turn → List Answer → T → T → Type 0
+  GoesThrough keys [] [] old new = new ≡ old
+  GoesThrough keys [] (answer ∷ answers) old new = ⊥
+  GoesThrough keys (turn ∷ turns) [] old new = ⊥
+  GoesThrough keys (turn ∷ turns) (answer ∷ answers) old new =
+      (mid : T) × (is_live mid → is_live old) × GoesByTurn keys turn answer old mid × GoesThrough keys turns answers mid new
 
   -- a request is served, or it is unavailable
   abbrev pub RequestTaken : Keys → ℕ → List ℕ → List ℕ → T → T → Type 0
   RequestTaken keys moment bytes reply old new =
       (unavailable : Bool) × GoesByTurn keys (record { event = request moment bytes; unavailable = unavailable }) (replied reply) old new
+
+  -- What is shown of a request of the desk, whatever the tables stand for: a reply with a body, or a denial by some rule,
+  -- after which they stand for what they stood for.
+  abbrev pub ShowsReply : ℕ → List ℕ → T → T → Type 0
+  ShowsReply moment reply old new =
+      (date : List ℕ) × IsDateOf moment date
+      × (((body : List ℕ) × (reply ≡ framed 200 (Some date) [] body))
+      ⊎ ((rule : Rule) × (reply ≡ refusal (Some date) rule) × (is_live new → (c : Content) → stands old c → stands new c)))

@@ -23,7 +23,7 @@ pub use head::HEAD_BYTES;
 pub use reply::Reply;
 pub use request::asks_one_thing;
 pub use routes::{Route, Routes};
-pub use running::run;
+pub use running::{run, turns_make_a_run};
 pub use script::ScriptFault;
 pub use serve::handle_bytes;
 pub use source::{Flagged, Sink, Source};

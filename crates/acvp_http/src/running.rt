@@ -1,11 +1,12 @@
 //! A script from its bytes to the bytes of the replies.
-ghost use Rattle.std.specs.Prelude.{◌≡◌, Bool, false};
-ghost use Rattle.acvp_http.specs.Event.{Answer};
+ghost use Rattle.std.specs.Prelude.{◌≡◌, Bool, List, false};
+ghost use Rattle.acvp_http.specs.Event.{Answer, Turn};
+ghost use Rattle.acvp_desk.specs.declared.keys.Keys.{Keys};
 ghost use Rattle.acvp_http.specs.Private.Turns.{CanHappen};
 ghost use Rattle.acvp_http.specs.Private.Reading.{event_of};
 ghost use Rattle.acvp_http.specs.Run.{RunsScript, is_read_answer, is_write_answer};
 ghost use Rattle.acvp_http.specs.Script.{answer_text};
-ghost use Rattle.acvp_http.specs.Serve.{GoesByTurn};
+ghost use Rattle.acvp_http.specs.Serve.{GoesByTurn, GoesByTurns, GoesThrough};
 ghost use Rattle.acvp_http.specs.Private.Writing.{WritesText};
 
 use crate::reading::{ScriptEvent, next_event, read_byte};
@@ -33,6 +34,7 @@ fn take_turn<T: Tables, K: Sink>(
     requires event { CanHappen (event_of event.now) }
     ensures keys { desk.new.keys ≡ desk.old.keys }
     ensures was_live { T.is_live desk.new.tables → T.is_live desk.old.tables }
+    ensures was_clean { T.is_clean desk.new.tables → T.is_clean desk.old.tables }
     ensures turn { (unavailable : Bool) × (answer : Answer)
         × GoesByTurn T.stands T.is_live desk.old.keys (record { event = event_of event.now; unavailable = unavailable }) answer desk.old.tables desk.new.tables
         × WritesText (K.contents writer.old) (K.contents writer.new) (K.failed writer.new) (answer_text answer) result }
@@ -50,6 +52,13 @@ fn take_turn<T: Tables, K: Sink>(
     }
 }
 
+/// Tables that went through turns, one by one, went by all of them: for every content that they stood for, the answers
+/// are those of the run, and they stand for the content after it.
+pub fn turns_make_a_run<T: Tables>()
+    ensures { (keys : Keys) (turns : List Turn) (answers : List Answer) (old new : T) → GoesThrough T.stands T.is_live keys turns answers old new
+        → GoesByTurns T.stands T.is_live keys turns answers old new }
+{}
+
 /// Runs a script. It ends at the input's end, or at the first fault; the event at fault isn't handled, but for a writer
 /// that fails, which does so after its event was handled. The number is how many events there were.
 pub fn run<T: Tables, S: Source, K: Sink>(
@@ -63,6 +72,7 @@ pub fn run<T: Tables, S: Source, K: Sink>(
     requires writer_clear { K.failed writer.old ≡ false }
     ensures keys { desk.new.keys ≡ desk.old.keys }
     ensures was_live { T.is_live desk.new.tables → T.is_live desk.old.tables }
+    ensures was_clean { T.is_clean desk.new.tables → T.is_clean desk.old.tables }
     ensures run { RunsScript T.stands T.is_live desk.old.keys desk.old.tables desk.new.tables (S.held reader.old) (S.held reader.new) (S.reads reader.old)
         (S.reads reader.new)
         (K.contents writer.old) (K.contents writer.new) result }

@@ -1,9 +1,9 @@
 //! From the bytes of a request to the bytes of its reply.
-ghost use Rattle.std.specs.Prelude.{◌≡◌, ◌<◌, ◌⊎◌};
+ghost use Rattle.std.specs.Prelude.{◌≡◌, ◌<◌, ◌⊎◌, None};
 ghost use Rattle.acvp_desk.specs.Answer.{end_of_moments};
 ghost use Rattle.acvp_desk.specs.Request.{RequestValue};
-ghost use Rattle.acvp_http.specs.Reply.{IsDateOf};
-ghost use Rattle.acvp_http.specs.Serve.{RefusesAtOnce, AsksTheDesk, RequestTaken};
+ghost use Rattle.acvp_http.specs.Reply.{refusal, IsDateOf};
+ghost use Rattle.acvp_http.specs.Serve.{RefusesAtOnce, AsksTheDesk, ShowsReply, RequestTaken};
 
 use crate::reply::Reply;
 use crate::request::{Refusal, parse_request};
@@ -34,7 +34,10 @@ pub fn handle_bytes<T: Tables>(
 ) -> Reply
     ensures keys { desk.new.keys ≡ desk.old.keys }
     ensures was_live { T.is_live desk.new.tables → T.is_live desk.old.tables }
-    ensures at_once { (RefusesAtOnce moment bytes.now result × (desk.new ≡ desk.old)) ⊎ ((r : RequestValue) × AsksTheDesk moment bytes.now r) }
+    ensures was_clean { T.is_clean desk.new.tables → T.is_clean desk.old.tables }
+    ensures live { (result ≡ refusal None Rule.Unavailable) ⊎ (T.is_clean desk.new.tables → T.is_live desk.old.tables → T.is_live desk.new.tables) }
+    ensures shown { (RefusesAtOnce moment bytes.now result × (desk.new ≡ desk.old))
+        ⊎ ((r : RequestValue) × AsksTheDesk moment bytes.now r × ShowsReply T.stands T.is_live moment result desk.old.tables desk.new.tables) }
     ensures served { RequestTaken T.stands T.is_live desk.old.keys moment bytes.now result desk.old.tables desk.new.tables }
 {
     if moment >= END_OF_MOMENTS {

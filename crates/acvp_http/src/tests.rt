@@ -1,6 +1,7 @@
 //! Whole requests, and what they are answered.
+use crate::request::parse_request;
 use crate::{Routes, handle_bytes};
-use acvp_desk::{Desk, KeyRing, Keys, Order, OrderReply, Seeds, order_on};
+use acvp_desk::{Desk, KeyRing, Keys, Order, OrderReply, Seeds, TokenField, order_on};
 use acvp_tables::ListTables;
 use std::alloc::{AllocError, Global};
 use std::process::Abort;
@@ -187,6 +188,64 @@ fn another_method_is_told_the_paths_methods(rt: HostRuntime) -> Result<(), Fail>
         "noMethod",
     )?;
     assert_eq!(rt; reply.bytes(), wanted.as_bytes());
+    Ok(())
+}
+
+/// The login at this target with these further lines of its head.
+fn login_with(alloc: Global, target: &str, lines: &str) -> Result<String, AllocError> {
+    format!(in alloc;
+        "POST {target} HTTP/1.1\r\nHost: h\r\nContent-Length: 2\r\n{lines}\r\n{{}} and more"
+    )
+}
+
+#[test]
+fn a_head_gives_its_query_and_its_body(rt: HostRuntime) -> Result<(), Fail> {
+    let routes = Routes::new(rt.alloc())?;
+    for (target, query) in [
+        ("/acvp/v1/login", ""),
+        ("/acvp/v1/login?", ""),
+        ("/acvp/v1/login?limit=5&a?b", "limit=5&a?b"),
+    ] {
+        let text = login_with(rt.alloc(), target, "")?;
+        let request = parse_request(&routes, text.as_bytes())
+            .ok()
+            .ok_or("no request")?;
+        assert_eq!(rt; request.query, query.as_bytes());
+        assert_eq!(rt; request.body, b"{}".as_slice());
+    }
+    Ok(())
+}
+
+#[test]
+fn a_head_gives_its_token(rt: HostRuntime) -> Result<(), Fail> {
+    let routes = Routes::new(rt.alloc())?;
+    for (lines, wanted) in [
+        ("", None),
+        ("Authorization: Bearer\r\n", None),
+        ("Authorization: Basic abc\r\n", None),
+        ("Authorization: Bearers abc\r\n", None),
+        ("Authorization: Bearer a.b.c\r\n", Some("a.b.c")),
+        ("authorization: \t bEARER   a b  \t\r\n", Some("a b")),
+        ("Authorization: Bearer \ta\r\n", Some("\ta")),
+    ] {
+        let text = login_with(rt.alloc(), "/acvp/v1/login", lines)?;
+        let request = parse_request(&routes, text.as_bytes())
+            .ok()
+            .ok_or("no request")?;
+        match (request.token, wanted) {
+            (TokenField::Missing, None) => {}
+            (TokenField::Bearer(token), Some(wanted)) => {
+                assert_eq!(rt; token, wanted.as_bytes());
+            }
+            _ => assert!(rt; false, "{lines}"),
+        }
+    }
+    let twice = "Authorization: Bearer a\r\nAuthorization: Bearer a\r\n";
+    let text = login_with(rt.alloc(), "/acvp/v1/login", twice)?;
+    let request = parse_request(&routes, text.as_bytes())
+        .ok()
+        .ok_or("no request")?;
+    assert!(rt; matches!(request.token, TokenField::Doubled));
     Ok(())
 }
 

@@ -10,6 +10,8 @@ loop-count-init g c = record {
   reader_clear = c.requires.reader_clear;
   writer_clear = c.requires.writer_clear;
   keys = refl;
+  was_live = λ live. live;
+  was_clean = λ clean. clean;
   ran = ran_none g.T.Tables.stands g.T.Tables.is_live c.args.desk.now.keys c.args.desk.now.tables (g.S.Source.held c.args.reader.now)
       (g.K.Sink.contents c.args.writer.now);
 }
@@ -44,6 +46,8 @@ loop-count-preserved g c =
       reader_clear = clear;
       writer_clear = done.0;
       keys = c.take_turn.ensures.keys ∙ c.loop-count.invariant.keys;
+      was_live = λ live. c.loop-count.invariant.was_live (c.take_turn.ensures.was_live live);
+      was_clean = λ clean. c.loop-count.invariant.was_clean (c.take_turn.ensures.was_clean clean);
       ran = ran_more g.T.Tables.stands g.T.Tables.is_live c.args.desk.now.keys c.args.desk.now.tables c.loop-count.desk.tables c.take_turn.new.desk.tables
           (g.S.Source.held c.args.reader.now) (g.S.Source.held c.loop-count.reader)
           (g.S.Source.held c.next_event.new.reader) (g.K.Sink.contents c.args.writer.now)

@@ -1,7 +1,7 @@
 use Rattle.std.proofs.Common.{refl, inl, inr}
 use Rattle.acvp_desk.specs.Request.{request_value}
 use Rattle.acvp_http.specs.Asks.{refused, wrong_method}
-use Rattle.acvp_http.proofs.ServeLemmas.{refused_late, refused_early, taken_at_once, taken_denied, taken_given}
+use Rattle.acvp_http.proofs.ServeLemmas.{refused_late, refused_early, taken_at_once, taken_denied, taken_given, shown_denied, live_denied}
 use Rattle.acvp_http.proofs.serve.handle_bytes.Goals as goal
 
 pub returns-then-moment-ge-END_OF_MOMENTS : goal.returns-then-moment-ge-END_OF_MOMENTS
@@ -10,7 +10,9 @@ returns-then-moment-ge-END_OF_MOMENTS g c =
     record {
       keys = refl;
       was_live = λ live. live;
-      at_once = inl (at_once, refl);
+      was_clean = λ clean. clean;
+      live = inr (λ clean live. live);
+      shown = inl (at_once, refl);
       served = taken_at_once g.T.Tables.stands g.T.Tables.is_live g.T.Tables.is_clean g.T.Tables.leaves c.args.desk.now.keys c.args.moment c.args.bytes.now
           c.args.desk.now.tables c.refusal.result at_once;
     }
@@ -23,7 +25,9 @@ returns-in-Err-ByRule g c =
     record {
       keys = refl;
       was_live = λ live. live;
-      at_once = inl (at_once, refl);
+      was_clean = λ clean. clean;
+      live = inr (λ clean live. live);
+      shown = inl (at_once, refl);
       served = taken_at_once g.T.Tables.stands g.T.Tables.is_live g.T.Tables.is_clean g.T.Tables.leaves c.args.desk.now.keys c.args.moment c.args.bytes.now
           c.args.desk.now.tables c.refusal-in-Err-ByRule.result at_once;
     }
@@ -36,13 +40,22 @@ returns-in-Err-WrongMethod g c =
     record {
       keys = refl;
       was_live = λ live. live;
-      at_once = inl (at_once, refl);
+      was_clean = λ clean. clean;
+      live = inr (λ clean live. live);
+      shown = inl (at_once, refl);
       served = taken_at_once g.T.Tables.stands g.T.Tables.is_live g.T.Tables.is_clean g.T.Tables.leaves c.args.desk.now.keys c.args.moment c.args.bytes.now
           c.args.desk.now.tables c.wrong_method.result at_once;
     }
 
-pub returns-in-Given-clause-at_once : goal.returns-in-Given-clause-at_once
-returns-in-Given-clause-at_once g c = inr (request_value c.in-Ok.request, (c.if-moment-ge-END_OF_MOMENTS.false, c.in-Ok.ensures))
+pub returns-in-Given-clause-shown : goal.returns-in-Given-clause-shown
+returns-in-Given-clause-shown g c = inr (
+  request_value c.in-Ok.request,
+  (c.if-moment-ge-END_OF_MOMENTS.false, c.in-Ok.ensures),
+  (c.date_of-date.result, c.date_of-date.ensures, inl (_, rw c.in-Given.is at c.accepted.ensures)),
+)
+
+pub returns-in-Given-clause-live : goal.returns-in-Given-clause-live
+returns-in-Given-clause-live g c = let serves = rw c.in-Given.is at c.handle.ensures.served in inr serves.live
 
 pub returns-in-Given-clause-served : goal.returns-in-Given-clause-served
 returns-in-Given-clause-served g c =
@@ -51,8 +64,22 @@ returns-in-Given-clause-served g c =
     c.args.desk.now.tables c.handle.new.self.tables c.handle.result.changed c.in-Given.buffer c.accepted.result
     (rw c.in-Given.is at c.handle.ensures.served) (rw c.in-Given.is at c.accepted.ensures)
 
-pub returns-in-Denied-clause-at_once : goal.returns-in-Denied-clause-at_once
-returns-in-Denied-clause-at_once g c = inr (request_value c.in-Ok.request, (c.if-moment-ge-END_OF_MOMENTS.false, c.in-Ok.ensures))
+pub returns-in-Denied-clause-shown : goal.returns-in-Denied-clause-shown
+returns-in-Denied-clause-shown g c = inr (
+  request_value c.in-Ok.request,
+  (c.if-moment-ge-END_OF_MOMENTS.false, c.in-Ok.ensures),
+  shown_denied g.T.Tables.stands g.T.Tables.is_live g.T.Tables.is_clean g.T.Tables.leaves c.args.desk.now.keys c.args.moment c.args.bytes.now
+      (request_value c.in-Ok.request) (c.if-moment-ge-END_OF_MOMENTS.false, c.in-Ok.ensures) c.date_of-date.result c.date_of-date.ensures
+      c.args.desk.now.tables c.handle.new.self.tables c.handle.result.changed c.in-Denied.rule c.refusal-in-Denied.result
+      (rw c.in-Denied.is at c.handle.ensures.served) c.refusal-in-Denied.ensures,
+)
+
+pub returns-in-Denied-clause-live : goal.returns-in-Denied-clause-live
+returns-in-Denied-clause-live g c =
+    live_denied g.T.Tables.stands g.T.Tables.is_live g.T.Tables.is_clean g.T.Tables.leaves c.args.desk.now.keys c.args.moment c.args.bytes.now
+    (request_value c.in-Ok.request) (c.if-moment-ge-END_OF_MOMENTS.false, c.in-Ok.ensures) c.date_of-date.result c.date_of-date.ensures
+    c.args.desk.now.tables c.handle.new.self.tables c.handle.result.changed c.in-Denied.rule c.refusal-in-Denied.result
+    (rw c.in-Denied.is at c.handle.ensures.served) c.refusal-in-Denied.ensures
 
 pub returns-in-Denied-clause-served : goal.returns-in-Denied-clause-served
 returns-in-Denied-clause-served g c =
