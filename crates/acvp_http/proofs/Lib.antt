@@ -14,3 +14,4 @@ pub mod WritingLemmas
 pub mod TurnLemmas
 pub mod RunLemmas
 pub mod AsksLemmas
+pub mod OneLemmas

@@ -25,5 +25,5 @@ pub use request::asks_one_thing;
 pub use routes::{Route, Routes};
 pub use running::{run, turns_make_a_run};
 pub use script::ScriptFault;
-pub use serve::handle_bytes;
+pub use serve::{events_are_served_one_way, handle_bytes};
 pub use source::{Flagged, Sink, Source};

@@ -1,9 +1,12 @@
 //! From the bytes of a request to the bytes of its reply.
 ghost use Rattle.std.specs.Prelude.{◌≡◌, ◌<◌, ◌⊎◌, None};
 ghost use Rattle.acvp_desk.specs.Answer.{end_of_moments};
+ghost use Rattle.acvp_tables.specs.Content.{Content};
 ghost use Rattle.acvp_desk.specs.Request.{RequestValue};
+ghost use Rattle.acvp_desk.specs.declared.keys.Keys.{Keys};
+ghost use Rattle.acvp_http.specs.Event.{Event, Answer};
 ghost use Rattle.acvp_http.specs.Reply.{refusal, IsDateOf};
-ghost use Rattle.acvp_http.specs.Serve.{RefusesAtOnce, AsksTheDesk, ShowsReply, RequestTaken};
+ghost use Rattle.acvp_http.specs.Serve.{RefusesAtOnce, AsksTheDesk, ShowsReply, Serves, RequestTaken};
 
 use crate::reply::Reply;
 use crate::request::{Refusal, parse_request};
@@ -54,3 +57,9 @@ pub fn handle_bytes<T: Tables>(
         DeskReply::Denied(rule) => Reply::refusal(Some(&date), rule),
     }
 }
+
+/// The definitions give one answer to an event over the same records, and leave the same records after it.
+pub fn events_are_served_one_way()
+    ensures { (keys : Keys) (event : Event) (old new other : Content) (first second : Answer) → Serves keys event old new first
+        → Serves keys event old other second → (new ≡ other) × (first ≡ second) }
+{}
