@@ -86,6 +86,25 @@ impl Eq for Domains {
     ghost laws = { on_equiv parameter_lists (lists_equiv nat_list_eq_equiv) };
 }
 
+impl Domains {
+    /// Whether the others were given by the same items.
+    fn is_same(&self, other: &Domains) -> bool
+        ensures { IsTrue result → self.now ≡ other.now }
+    {
+        match (self, other) {
+            (Domains::Message(message), Domains::Message(other)) => message.is_same(other),
+            (
+                Domains::KeyAndMac { key, mac },
+                Domains::KeyAndMac {
+                    key: other_key,
+                    mac: other_mac,
+                },
+            ) => key.is_same(other_key) && mac.is_same(other_mac),
+            _ => false,
+        }
+    }
+}
+
 /// An algorithm and the domains of its parameters, which lie within what the algorithm is tested
 /// at. It is made by reading a registration, or a capability's text.
 #[derive(Drop, Debug)]
@@ -151,6 +170,15 @@ impl Capability {
         ensures fit { AreDomainsOf self.now.algorithm self.now.domains }
     {
         &self.domains
+    }
+
+    /// Whether the other is for the same algorithm and was given by the same items, and so is the
+    /// same capability. It may be false of equal capabilities, where other items have the same
+    /// members; but unlike `==` it walks to no member. It takes no memory.
+    pub fn is_same(&self, other: &Capability) -> bool
+        ensures { IsTrue result → self.now ≡ other.now }
+    {
+        self.algorithm == other.algorithm && self.domains.is_same(&other.domains)
     }
 
     /// The capability as compact JSON, with the items of its domains as they were given.

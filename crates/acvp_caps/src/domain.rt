@@ -89,6 +89,14 @@ impl Domain {
         nth_member(&self.items, i).unwrap_or(0)
     }
 
+    /// Whether the other was given by the same items, and so has the same members. No member is
+    /// walked to.
+    pub(crate) fn is_same(&self, other: &Domain) -> bool
+        ensures { IsTrue result → self.now ≡ other.now }
+    {
+        self.items == other.items
+    }
+
     /// The items as a JSON array.
     pub(crate) fn to_value(&self, alloc: Global) -> Result<Value, AllocError>
         ensures { IfOk result (λ v. IsDomainData self.now (view v)) }

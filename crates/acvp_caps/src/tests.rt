@@ -219,6 +219,55 @@ fn a_capability_of_hmac_is_none_of_its_hash_function(rt: HostRuntime) -> Result<
     Ok(())
 }
 
+// A capability for HMAC-SHA2-256 with these domains.
+fn hmac_sha2_256(alloc: Global, key: &str, mac: &str) -> Result<Capability, CapFault> {
+    let text = format!(in alloc;
+        "{{\"algorithm\":\"HMAC-SHA2-256\",\"revision\":\"1.0\",\"keyLen\":{key},\"macLen\":{mac}}}"
+    );
+    match text {
+        Ok(text) => Capability::from_text(alloc, text.as_str()),
+        Err(_) => Err(CapFault::Memory),
+    }
+}
+
+#[test]
+fn the_same_items_give_the_same_capability(rt: HostRuntime) -> Result<(), Fail> {
+    let alloc = rt.alloc();
+    for items in [SPREAD, SINGLES] {
+        let given = sha2_256(alloc, items)?;
+        let again = sha2_256(alloc, items)?;
+        assert!(rt; given.is_same(&again), "{items}");
+        assert!(rt; given.is_same(&again.clone()?), "{items}");
+    }
+    let hmac = hmac_sha2_256(alloc, "[32,64]", "[64]")?;
+    let again = hmac_sha2_256(alloc, "[32,64]", "[64]")?;
+    assert!(rt; hmac.is_same(&again));
+    Ok(())
+}
+
+#[test]
+fn another_algorithm_or_domain_is_not_the_same(rt: HostRuntime) -> Result<(), Fail> {
+    let alloc = rt.alloc();
+    let hmac = hmac_sha2_256(alloc, "[32,64]", "[64]")?;
+    for (key, mac) in [
+        ("[64]", "[64]"),
+        ("[32,64]", "[32,64]"),
+        ("[64]", "[32,64]"),
+    ] {
+        let other = hmac_sha2_256(alloc, key, mac)?;
+        assert!(rt; !hmac.is_same(&other), "{key} {mac}");
+    }
+    let hash = sha2_256(alloc, SPREAD)?;
+    let of_sha2_224 = Capability::from_text(
+        alloc,
+        r#"{"algorithm":"SHA2-224","revision":"1.0","messageLength":[{"min":0,"max":48,"increment":16}]}"#,
+    )?;
+    assert!(rt; !hash.is_same(&of_sha2_224));
+    assert!(rt; !hash.is_same(&sha2_256(alloc, "[{\"min\":0,\"max\":64,\"increment\":16}]")?));
+    assert!(rt; !hash.is_same(&hmac));
+    Ok(())
+}
+
 #[test]
 fn a_capability_is_written_and_read_back(rt: HostRuntime) -> Result<(), Fail> {
     for text in [

@@ -5,7 +5,7 @@ use Rattle.acvp_policy.specs.declared.rule.Rule.{Rule}
 use Rattle.acvp_tables.specs.State.{State}
 use Rattle.acvp_desk.specs.Answer.{first_conditions, ask_of, found_of, later_conditions, later_of, conditions, reply_of, reply_to, answer, change_of, change_by, change_on, accepted_change}
 use Rattle.acvp_desk.specs.declared.ask.Ask.{Ask}
-use Rattle.acvp_desk.specs.declared.find.Found.{Found}
+use Rattle.acvp_desk.specs.declared.found.Found.{Found}
 use Rattle.acvp_desk.specs.declared.keys.Keys.{Keys}
 use Rattle.acvp_desk.specs.Request.{RequestValue}
 use Rattle.acvp_desk.proofs.Judging.{front_broken, front_held}
@@ -13,11 +13,11 @@ use Rattle.acvp_desk.proofs.Judging.{front_broken, front_held}
 module _ (keys : Keys) (m : ℕ) (r : RequestValue) (s : State) where
   pub refused_first : (rule : Rule) → first_broken (first_conditions m r) ≡ Some rule → answer keys m r s ≡ Err rule
   unfolding answer
-  refused_first rule broken = ap (λ b. unless b (reply_to keys m (ask_of keys m r) s)) (front_broken (first_conditions m r) (later_of m (ask_of keys m r) s) rule broken)
+  refused_first rule broken = ap (λ b. unless b (reply_to keys m (ask_of keys m r) s)) (front_broken (first_conditions m r) (later_of keys.seed m (ask_of keys m r) s) rule broken)
 
-  module _ (it : Ask) (held : first_broken (first_conditions m r) ≡ None) (asked : ask_of keys m r ≡ Some it) (f : Found) (found : f ≡ found_of it s) where
+  module _ (it : Ask) (held : first_broken (first_conditions m r) ≡ None) (asked : ask_of keys m r ≡ Some it) (f : Found) (found : f ≡ found_of keys.seed it s) where
     later : first_broken (conditions keys m r s) ≡ first_broken (later_conditions m it f)
-    later = front_held (first_conditions m r) (later_of m (ask_of keys m r) s) held ∙ ap (λ a. first_broken (later_of m a s)) asked
+    later = front_held (first_conditions m r) (later_of keys.seed m (ask_of keys m r) s) held ∙ ap (λ a. first_broken (later_of keys.seed m a s)) asked
         ∙ ap (λ g. first_broken (later_conditions m it g)) (sym found)
 
     pub refused_later : (rule : Rule) → first_broken (later_conditions m it f) ≡ Some rule → answer keys m r s ≡ Err rule
@@ -31,5 +31,5 @@ module _ (keys : Keys) (m : ℕ) (r : RequestValue) (s : State) where
 
     pub makes : first_broken (later_conditions m it f) ≡ None → accepted_change keys m r s ≡ change_of m it f
     unfolding accepted_change
-    makes none = ap (λ a. change_on a (change_by m (ask_of keys m r) s)) (answered none)
-        ∙ ap (λ a. change_by m a s) asked ∙ ap (λ g. change_of m it g) (sym found)
+    makes none = ap (λ a. change_on a (change_by keys.seed m (ask_of keys m r) s)) (answered none)
+        ∙ ap (λ a. change_by keys.seed m a s) asked ∙ ap (λ g. change_of m it g) (sym found)

@@ -34,3 +34,15 @@ front_held {F = F} (c ∷ front) rest e = go c.0 (front_held front rest) e
         → first_broken ((b, c.1) ∷ front ++ rest) ≡ first_broken rest
     go true later e = later e
     go false later e = absurd (cc)
+
+pub back_held : {F : Type 0} (front rest : List (Condition F)) → first_broken (front ++ rest) ≡ None → first_broken rest ≡ None
+back_held [] rest e = e
+back_held {F = F} (c ∷ front) rest e = go c.0 (back_held front rest) e
+  where
+    go : (b : Bool) → (first_broken (front ++ rest) ≡ None → first_broken rest ≡ None) → first_broken ((b, c.1) ∷ front ++ rest) ≡ None → first_broken rest ≡ None
+    go true later e = later e
+    go false later e = absurd (cc)
+
+pub first_held : {F : Type 0} (b : Bool) (fault : F) (rest : List (Condition F)) → first_broken ((b, fault) ∷ rest) ≡ None → b ≡ true
+first_held true fault rest e = refl
+first_held false fault rest e = absurd (cc)

@@ -16,12 +16,16 @@ use Rattle.acvp_tables.specs.declared.change.OrderChange.{OrderChange}
 use Rattle.acvp_tables.specs.declared.change.OrderChange.TheVariants as order_change
 use Rattle.acvp_tables.specs.declared.change.UsedStep.{UsedStep}
 use Rattle.acvp_tables.specs.declared.rows.AccountRow.{AccountRow}
-use Rattle.acvp_desk.specs.Answer.{answer, ask_of, accepted_change, change_by, change_on, content_after, content_effect, state_after, effect}
+use Rattle.acvp_desk.specs.Answer.{answer, ask_of, found_of, accepted_change, change_by, change_on, content_after, content_effect, state_after, effect}
 use Rattle.acvp_desk.specs.Kept.{IsKept}
 use Rattle.acvp_desk.specs.Login.{step_of}
 use Rattle.acvp_desk.specs.Orders.{IsOrder, HasSecret, has_account, order_change as change_for, content_after_order, content_order_effect, state_after_order, order_effect}
 use Rattle.acvp_desk.specs.declared.ask.Ask.{Ask}
-use Rattle.acvp_desk.specs.declared.ask.Ask.TheVariants.{Login}
+use Rattle.acvp_desk.specs.declared.ask.Ask.TheVariants.{Login, Caller}
+use Rattle.acvp_desk.specs.declared.wish.SessionWish.TheVariants.{Read, Cancel, Results, ListSets, ListReviewers}
+use Rattle.acvp_desk.specs.declared.wish.Wish.{Wish}
+use Rattle.acvp_desk.specs.declared.wish.Wish.TheVariants.{Account, Algorithm, Session}
+use Rattle.acvp_desk.specs.Replies.{wish_change}
 use Rattle.acvp_desk.specs.declared.ask.LoginAsk.{LoginAsk}
 use Rattle.acvp_desk.specs.declared.keys.Keys.{Keys}
 use Rattle.acvp_desk.specs.declared.order.Order.{Order}
@@ -70,10 +74,30 @@ module _ (follows : (c : Content) (it : Change) → state_of (after it c) ≡ af
   found_kept seeds m login c None kept = kept
   found_kept seeds m login c (Some row) kept = login_kept seeds c row (step_of m login row) kept
 
+  -- where a session is cancelled
+  cancelled_kept : (seeds : List (List ℕ)) (n : ℕ) (c : Content) → IsKept seeds c → IsKept seeds (after (change.CancelSession n) c)
+  unfolding after
+  cancelled_kept seeds n c kept = record {
+    sound = subst (λ s. IsWellNumbered s) (sym (follows c (change.CancelSession n))) (numbers (change.CancelSession n) (state_of c) kept.sound (tt, tt));
+    counted = counts (change.CancelSession n) c kept.sound (tt, tt) tt kept.counted;
+    graded = kept.graded;
+  }
+
+  wish_kept : (seeds : List (List ℕ)) (it : Wish) (c : Content) → IsKept seeds c → IsKept seeds (content_after (wish_change it) c)
+  wish_kept seeds (Account it) c kept = kept
+  wish_kept seeds (Algorithm n) c kept = kept
+  wish_kept seeds (Session n Read) c kept = kept
+  wish_kept seeds (Session n Cancel) c kept = cancelled_kept seeds n c kept
+  wish_kept seeds (Session n Results) c kept = kept
+  wish_kept seeds (Session n ListSets) c kept = kept
+  wish_kept seeds (Session n ListReviewers) c kept = kept
+
   by_answer : (seeds : List (List ℕ)) (m : ℕ) (c : Content) (a : Result (Option Data) Rule) (it : Option Ask) → IsKept seeds c
-      → IsKept seeds (content_after (change_on a (change_by m it (state_of c))) c)
+      → IsKept seeds (content_after (change_on a (change_by seeds m it (state_of c))) c)
+  unfolding found_of
   by_answer seeds m c (Err rule) it kept = kept
   by_answer seeds m c (Ok reply) None kept = kept
+  by_answer seeds m c (Ok reply) (Some (Caller caller)) kept = wish_kept seeds caller.wish c kept
   by_answer seeds m c (Ok reply) (Some (Login login)) kept = found_kept seeds m login c (option_and_then (λ n. account_at n (state_of c).accounts) login.user) kept
 
   pub request_kept : (keys : Keys) (m : ℕ) (r : RequestValue) (c : Content) → IsKept keys.seed c → IsKept keys.seed (content_effect keys m r c)

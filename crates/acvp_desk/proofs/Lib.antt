@@ -6,3 +6,7 @@ pub mod Serving
 pub mod Ordering
 pub mod Keeping
 pub mod Naming
+pub mod Passing
+pub mod Finding
+pub mod Allowing
+pub mod CacheLemmas

@@ -10,7 +10,7 @@ use Rattle.acvp_desk.specs.Answer.{later_conditions}
 use Rattle.acvp_desk.specs.Login.{step_of}
 use Rattle.acvp_desk.specs.declared.ask.Ask.TheVariants.{Login}
 use Rattle.acvp_desk.specs.declared.ask.LoginAsk.{LoginAsk}
-use Rattle.acvp_desk.specs.declared.find.Found.{Found}
+use Rattle.acvp_desk.specs.declared.found.Found.{Found}
 
 -- without an account it isn't
 pub needs_account : (moment : ℕ) (login : LoginAsk) (found : Found) → first_broken (later_conditions moment (Login login) found) ≡ None → found.account ≡ None → ⊥

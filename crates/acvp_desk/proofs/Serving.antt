@@ -14,7 +14,7 @@ use Rattle.acvp_desk.specs.Answer.{end_of_moments, first_conditions, ask_of, fou
 use Rattle.acvp_desk.specs.Kept.{IsKept}
 use Rattle.acvp_desk.specs.Serves.{Looks, Serves}
 use Rattle.acvp_desk.specs.declared.ask.Ask.{Ask}
-use Rattle.acvp_desk.specs.declared.find.Found.{Found}
+use Rattle.acvp_desk.specs.declared.found.Found.{Found}
 use Rattle.acvp_desk.specs.declared.keys.Keys.{Keys}
 use Rattle.acvp_desk.specs.Request.{RequestValue}
 use Rattle.acvp_desk.proofs.Answering.{refused_first, refused_later, answered, makes}
@@ -44,9 +44,30 @@ module _ {T : Type 0} (stands : T → Content → Type 0) (is_live is_clean : T 
     kept = inr (λ clean c d left. left);
   }
 
+  -- refused on the caller, before anything is looked at that the path names
+  pub refused_caller : m < end_of_moments → (it : Ask) → first_broken (first_conditions m r) ≡ None → ask_of keys m r ≡ Some it → (old mid : T) (told : Rule) {X : Type 0}
+      → Looks stands is_live is_clean leaves {X = X} {E = Rule} (Err told) old mid
+      → (told ≡ rule.Unavailable) ⊎ ((is_clean mid → is_live old → is_live mid)
+      × (is_live mid → (seeds : List (List ℕ)) (c : Content) → IsKept seeds c → stands old c → first_broken (later_conditions m it (found_of seeds it (state_of c))) ≡ Some told))
+      → Serves stands is_live is_clean leaves (Err told) old mid keys m r
+  refused_caller served it held asked old mid told looks why = record {
+    was_live = looks.was_live;
+    was_clean = looks.was_clean;
+    clock = λ past. absurd (omega (arith, served, past));
+    room = tt;
+    given = tt;
+    denied = λ live c kept h.
+        elim why [ inl fault ↦ inl fault | inr refusal ↦ inr (refused_later keys m r (state_of c) it held asked (found_of keys.seed it (state_of c)) refl told (refusal.1 live keys.seed c kept h)) ];
+    same = λ live c h. looks.same live c h;
+    settled = tt;
+    unsettled = λ clean live c kept h. looks.left clean live c (content_effect keys m r c) h;
+    live = elim why [ inl fault ↦ inl fault | inr refusal ↦ inr refusal.0 ];
+    kept = inr looks.kept;
+  }
+
   module _ (served : m < end_of_moments) (it : Ask) (held : first_broken (first_conditions m r) ≡ None) (asked : ask_of keys m r ≡ Some it) (old mid : T) (f : Found) {E : Type 0}
       (looks : Looks stands is_live is_clean leaves {X = Found} {E = E} (Ok f) old mid)
-      (finds : is_live mid → (c : Content) → IsSound c → stands old c → f ≡ found_of it (state_of c)) where
+      (finds : is_live mid → (seeds : List (List ℕ)) (c : Content) → IsKept seeds c → stands old c → f ≡ found_of seeds it (state_of c)) where
     -- refused on what was found
     pub refused : (told : Rule) → (told ≡ rule.Unavailable) ⊎ (first_broken (later_conditions m it f) ≡ Some told)
         → Serves stands is_live is_clean leaves (Err told) old mid keys m r
@@ -57,7 +78,7 @@ module _ {T : Type 0} (stands : T → Content → Type 0) (is_live is_clean : T 
       room = tt;
       given = tt;
       denied = λ live c kept h.
-          elim why [ inl fault ↦ inl fault | inr broken ↦ inr (refused_later keys m r (state_of c) it held asked f (finds live c kept.sound h) told broken) ];
+          elim why [ inl fault ↦ inl fault | inr broken ↦ inr (refused_later keys m r (state_of c) it held asked f (finds live keys.seed c kept h) told broken) ];
       same = λ live c h. looks.same live c h;
       settled = tt;
       unsettled = λ clean live c kept h. looks.left clean live c (content_effect keys m r c) h;
@@ -67,11 +88,11 @@ module _ {T : Type 0} (stands : T → Content → Type 0) (is_live is_clean : T 
 
     module _ (bytes : Vec ℕ Global) (none : first_broken (later_conditions m it f) ≡ None) (reply : IsReply bytes.items (reply_of keys m it f)) where
       gives : is_live mid → (c : Content) → IsKept keys.seed c → stands old c → Gives bytes.items (answer keys m r (state_of c))
-      gives live c kept h = subst (λ a. Gives bytes.items a) (sym (answered keys m r (state_of c) it held asked f (finds live c kept.sound h) none)) reply
+      gives live c kept h = subst (λ a. Gives bytes.items a) (sym (answered keys m r (state_of c) it held asked f (finds live keys.seed c kept h) none)) reply
 
       accepts : (made : Option Change) → made ≡ change_of m it f → is_live mid → (c : Content) → IsKept keys.seed c → stands old c
           → accepted_change keys m r (state_of c) ≡ made
-      accepts made is live c kept h = makes keys m r (state_of c) it held asked f (finds live c kept.sound h) none ∙ sym is
+      accepts made is live c kept h = makes keys m r (state_of c) it held asked f (finds live keys.seed c kept h) none ∙ sym is
 
       becomes : (made : Option Change) → made ≡ change_of m it f → is_live mid → (c : Content) → IsKept keys.seed c → stands old c
           → content_effect keys m r c ≡ content_after made c

@@ -1,16 +1,20 @@
 -- What a request is answered, and what it changes.
-use Rattle.std.specs.Prelude.{◌≡◌, ◌⊎◌, ℕ, ◌≤◌, false, List, [], ◌∷◌, ◌++◌, length, drop, nat_lt, Option, Some, None, option_map, option_and_then, Result, Ok, Err, ⊤}
+use Rattle.std.specs.Prelude.{◌≡◌, ◌⊎◌, ℕ, ◌≤◌, Bool, false, List, [], ◌∷◌, ◌++◌, length, drop, nat_lt, true, Option, Some, None, option_map, option_and_then, is_some, if◌then◌else◌, Result, Ok, Err, ⊤}
 use Rattle.acvp_json.specs.Data.{Data}
 use Rattle.acvp_mac.specs.Conditions.{Condition, judged}
 use Rattle.acvp_token.specs.TokenText.{ring_token_text}
 use Rattle.acvp_json.specs.LoginBody.{login_body_conditions}
 use Rattle.acvp_json.specs.ReplyData.{token_data}
 use Rattle.acvp_json.specs.Written.{body_of}
+use Rattle.acvp_policy.specs.Conditions.{claims_of}
+use Rattle.acvp_policy.specs.Decision.{account_of_claims}
 use Rattle.acvp_policy.specs.Granted.{Granted}
 use Rattle.acvp_policy.specs.Policy.{policy}
+use Rattle.acvp_policy.specs.Resource.{resource_of}
 use Rattle.acvp_policy.specs.declared.action.Action.{Action}
 use Rattle.acvp_policy.specs.declared.action.Action.TheVariants as action
 use Rattle.acvp_policy.specs.declared.facts.Facts.{Facts}
+use Rattle.acvp_policy.specs.declared.facts.Standing.{Standing}
 use Rattle.acvp_policy.specs.declared.facts.Standing.TheVariants as standing
 use Rattle.acvp_policy.specs.declared.facts.Subject.TheVariants as subject
 use Rattle.acvp_policy.specs.declared.facts.Token.TheVariants as token
@@ -24,13 +28,19 @@ use Rattle.acvp_tables.specs.State.{State, state_of}
 use Rattle.acvp_tables.specs.StateChanges.{after_state}
 use Rattle.acvp_tables.specs.declared.change.Change.{Change}
 use Rattle.acvp_tables.specs.declared.change.Change.TheVariants as change
+use Rattle.acvp_tables.specs.declared.rows.AccountRow.{AccountRow}
 use Rattle.acvp_desk.specs.Bodies.{body_conditions}
 use Rattle.acvp_desk.specs.Login.{login_ask_at, login_facts, step_of, claims_at}
 use Rattle.acvp_desk.specs.declared.ask.Ask.{Ask}
 use Rattle.acvp_desk.specs.declared.ask.Ask.TheVariants as ask
-use Rattle.acvp_desk.specs.declared.find.Found.{Found}
+use Rattle.acvp_desk.specs.declared.found.Found.{Found}
+use Rattle.acvp_desk.specs.declared.found.Material.TheVariants as material
 use Rattle.acvp_desk.specs.declared.keys.Keys.{Keys}
+use Rattle.acvp_desk.specs.declared.wish.Wish.{Wish}
+use Rattle.acvp_desk.specs.Place.{unfound, subject_of, material_of, is_for, reviewed}
+use Rattle.acvp_desk.specs.Replies.{wish_reply, wish_change}
 use Rattle.acvp_desk.specs.Request.{RequestValue}
+use Rattle.acvp_desk.specs.Wish.{wish_of, action_of_wish, token_at}
 
 -- the first moment that is no longer served: the year 2100, in seconds since 1970
 abbrev pub end_of_moments : ℕ
@@ -41,30 +51,58 @@ end_of_moments = 4102444800
 -- the conditions on the body that are looked at before a row is: those on a login's. What has no case yet has no route
 abbrev pub first_conditions_on : Action → RequestValue → List (Condition Rule)
 first_conditions_on action.Login r = body_conditions login_body_conditions r.body
-first_conditions_on _ r = (false, rule.NoRoute) ∷ []
+first_conditions_on a r = (is_some (wish_of a r.numbers), rule.NoRoute) ∷ []
 
 -- the conditions that are looked at before a row is
 abbrev pub first_conditions : ℕ → RequestValue → List (Condition Rule)
 first_conditions moment r = (nat_lt moment end_of_moments, rule.ClockOutOfRange) ∷ first_conditions_on r.action r
 
+abbrev pub caller_ask : Keys → ℕ → RequestValue → Wish → Ask
+caller_ask keys moment r it = ask.Caller (record { token = token_at keys.token moment r.token; wish = it })
+
 abbrev pub ask_on : Action → Keys → ℕ → RequestValue → Option Ask
 ask_on action.Login keys moment r = option_map ask.Login (login_ask_at keys.token r.body)
-ask_on _ keys moment r = None
+ask_on a keys moment r = option_map (caller_ask keys moment r) (wish_of a r.numbers)
 
 abbrev pub ask_of : Keys → ℕ → RequestValue → Option Ask
 ask_of keys moment r = ask_on r.action keys moment r
 
 abbrev pub action_of : Ask → Action
 action_of (ask.Login login) = action.Login
+action_of (ask.Caller caller) = action_of_wish caller.wish
 
 -- ---- what is found
 
--- whose row is looked up
+-- whose row is looked up: the login's user's, or that of the token's claims
 abbrev pub who : Ask → Option ℕ
 who (ask.Login login) = login.user
+who (ask.Caller caller) = option_map (λ claims. claims.account) (claims_of caller.token)
 
-abbrev pub found_of : Ask → State → Found
-found_of it state = record { account = option_and_then (λ n. account_at n state.accounts) (who it) }
+abbrev pub account_found : Ask → State → Option AccountRow
+account_found it state = option_and_then (λ n. account_at n state.accounts) (who it)
+
+-- before anything is looked at that the path names
+abbrev pub unfound_of : Ask → Option AccountRow → Bool → Found
+unfound_of (ask.Login login) account reviewer = record { account = account; reviewer = reviewer; subject = subject.Account; material = material.Nothing }
+unfound_of (ask.Caller caller) account reviewer = record { account = account; reviewer = reviewer; subject = unfound caller.wish; material = material.Nothing }
+
+-- whether the account that acts reviews the session of the path, where that is asked
+abbrev pub reviewer_found : Ask → State → Bool
+reviewer_found (ask.Login login) state = false
+reviewer_found (ask.Caller caller) state = reviewed caller.wish (account_of_claims (claims_of caller.token)) state
+
+unfoldable pub found_of : List (List ℕ) → Ask → State → Found
+found_of seeds (ask.Login login) state = unfound_of (ask.Login login) (account_found (ask.Login login) state) (reviewer_found (ask.Login login) state)
+found_of seeds (ask.Caller caller) state = record {
+  account = account_found (ask.Caller caller) state;
+  reviewer = reviewer_found (ask.Caller caller) state;
+  subject = subject_of seeds state caller.wish;
+  material = material_of seeds (account_of_claims (claims_of caller.token)) state caller.wish;
+}
+
+abbrev pub standing_of : Option AccountRow → Standing
+standing_of None = standing.Absent
+standing_of (Some row) = if row.enabled then standing.Enabled else standing.Disabled
 
 abbrev pub facts_from : ℕ → Ask → Found → Facts
 facts_from moment (ask.Login login) found = record {
@@ -74,6 +112,18 @@ facts_from moment (ask.Login login) found = record {
   reviewer = false;
   subject = subject.Login (login_facts moment login found.account);
 }
+facts_from moment (ask.Caller caller) found = record {
+  moment = moment;
+  token = caller.token;
+  standing = standing_of found.account;
+  reviewer = found.reviewer;
+  subject = found.subject;
+}
+
+-- what was found is of what is asked: the path names it, and what the reply shows was read
+abbrev pub IsOf : Ask → Found → Type 0
+IsOf (ask.Login login) found = ⊤
+IsOf (ask.Caller caller) found = (resource_of found.subject ≡ resource_of (unfound caller.wish)) × (is_for caller.wish found.material ≡ true)
 
 -- ---- the answer
 
@@ -84,23 +134,25 @@ later_conditions moment it found = policy (action_of it) (facts_from moment it f
 -- the object of the reply
 abbrev pub reply_of : Keys → ℕ → Ask → Found → Option Data
 reply_of keys moment (ask.Login login) found = option_map (λ row. token_data (ring_token_text keys.token (claims_at moment login row))) found.account
+reply_of keys moment (ask.Caller caller) found = wish_reply moment (account_of_claims (claims_of caller.token)) found caller.wish
 
 -- the change that is made
 abbrev pub change_of : ℕ → Ask → Found → Option Change
 change_of moment (ask.Login login) found =
     option_and_then (λ row. option_map (λ step. change.UseStep (record { account = row.number; step = step })) (step_of moment login row)) found.account
+change_of moment (ask.Caller caller) found = wish_change caller.wish
 
-abbrev pub later_of : ℕ → Option Ask → State → List (Condition Rule)
-later_of moment None state = []
-later_of moment (Some it) state = later_conditions moment it (found_of it state)
+abbrev pub later_of : List (List ℕ) → ℕ → Option Ask → State → List (Condition Rule)
+later_of seeds moment None state = []
+later_of seeds moment (Some it) state = later_conditions moment it (found_of seeds it state)
 
 -- all conditions, in their order
 abbrev pub conditions : Keys → ℕ → RequestValue → State → List (Condition Rule)
-conditions keys moment r state = first_conditions moment r ++ later_of moment (ask_of keys moment r) state
+conditions keys moment r state = first_conditions moment r ++ later_of keys.seed moment (ask_of keys moment r) state
 
 abbrev pub reply_to : Keys → ℕ → Option Ask → State → Option Data
 reply_to keys moment None state = None
-reply_to keys moment (Some it) state = reply_of keys moment it (found_of it state)
+reply_to keys moment (Some it) state = reply_of keys moment it (found_of keys.seed it state)
 
 -- the rule of the first condition that doesn't hold, or the object of the reply
 unfoldable pub answer : Keys → ℕ → RequestValue → State → Result (Option Data) Rule
@@ -108,9 +160,9 @@ answer keys moment r state = judged (conditions keys moment r state) (reply_to k
 
 -- ---- the effect
 
-abbrev pub change_by : ℕ → Option Ask → State → Option Change
-change_by moment None state = None
-change_by moment (Some it) state = change_of moment it (found_of it state)
+abbrev pub change_by : List (List ℕ) → ℕ → Option Ask → State → Option Change
+change_by seeds moment None state = None
+change_by seeds moment (Some it) state = change_of moment it (found_of seeds it state)
 
 -- the change of a request that is accepted
 abbrev pub change_on : Result (Option Data) Rule → Option Change → Option Change
@@ -118,7 +170,7 @@ change_on (Ok reply) it = it
 change_on (Err rule) it = None
 
 unfoldable pub accepted_change : Keys → ℕ → RequestValue → State → Option Change
-accepted_change keys moment r state = change_on (answer keys moment r state) (change_by moment (ask_of keys moment r) state)
+accepted_change keys moment r state = change_on (answer keys moment r state) (change_by keys.seed moment (ask_of keys moment r) state)
 
 abbrev pub state_after : Option Change → State → State
 state_after None state = state

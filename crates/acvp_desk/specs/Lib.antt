@@ -1,12 +1,17 @@
 pub mod Request
 pub mod Bodies
 pub mod Login
+pub mod Wish
+pub mod Place
+pub mod Replies
 pub mod Answer
 pub mod Kept
 pub mod Serves
 pub mod Desk
 pub mod Orders
 pub mod Errors
+pub mod Cached
+pub mod CacheValue
 pub use Rattle.acvp_json.specs.Data
 pub use Rattle.acvp_json.specs.Written
 pub use Rattle.acvp_mac.specs.Conditions

@@ -1,5 +1,5 @@
 -- What serving a request does to what the tables stand for.
-use Rattle.std.specs.Prelude.{◌≡◌, ◌⊎◌, ◌≤◌, false, ℕ, length, Result, Ok, Err, OnOk, OnErr, IfOk, IfErr, Bool, is_some, ⊤}
+use Rattle.std.specs.Prelude.{◌≡◌, ◌⊎◌, ◌≤◌, false, ℕ, List, length, Result, Ok, Err, OnOk, OnErr, IfOk, IfErr, Bool, is_some, ⊤}
 use Rattle.acvp_policy.specs.declared.rule.Rule.{Rule}
 use Rattle.acvp_policy.specs.declared.rule.Rule.TheVariants.{ClockOutOfRange, Unavailable}
 use Rattle.acvp_tables.specs.Content.{Content}
@@ -41,6 +41,10 @@ module _ {T : Type 0} (stands : T → Content → Type 0) (is_live is_clean : T 
     pub same : is_live new → (c : Content) → stands old c → stands new c
     pub left : is_clean new → is_live old → (c d : Content) → stands old c → leaves new c d
     pub kept : is_clean new → (c d : Content) → leaves old c d → leaves new c d
+
+  -- What is seen is what is selected of each content that the tables stood for, whatever the seeds that it is kept under.
+  abbrev pub Sees : {X E : Type 0} → Result X E → T → T → (List (List ℕ) → Content → X) → Type 0
+  Sees result old new selected = is_live new → IfOk result (λ found. (seeds : List (List ℕ)) (c : Content) → IsKept seeds c → stands old c → found ≡ selected seeds c)
 
   -- For every content that the tables stand for: the reply is given, and the content after the request's effect stands and
   -- holds what holds at all times; or the request is refused, and all stands as it did. A crash finds the effect of what was

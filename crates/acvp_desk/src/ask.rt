@@ -8,11 +8,14 @@ ghost use Rattle.acvp_json.specs.View.{view};
 ghost use Rattle.acvp_json.specs.declared.fault.BodyFault.{BodyFault};
 ghost use Rattle.acvp_desk.specs.Request.{request_value};
 ghost use Rattle.acvp_desk.specs.Bodies.{rule_of, body_conditions};
+ghost use Rattle.acvp_desk.specs.Wish.{wish_of, token_at};
 ghost use Rattle.acvp_desk.specs.Login.{login_ask_at, login_at, password_of, user_of, renewal_of};
 ghost use Rattle.acvp_desk.specs.Answer.{ask_of, first_conditions, first_conditions_on, action_of, end_of_moments};
 
 use crate::keys::Keys;
 use crate::request::TypedRequest;
+use crate::token::token_at;
+use crate::wish::{CallerAsk, wish_of};
 use acvp_json::{BodyFault, LoginBody, Text, open_envelope, read_login};
 use acvp_mac::{joined_conditions, renamed_conditions};
 use acvp_policy::{Action, Renewal, Rule};
@@ -37,6 +40,9 @@ pub(crate) struct LoginAsk {
 #[derive(Clone, Copy)]
 pub(crate) enum Ask {
     Login(LoginAsk),
+
+    /// What a caller with a token asks.
+    Caller(CallerAsk),
 }
 
 impl Ask {
@@ -46,6 +52,7 @@ impl Ask {
     {
         match self {
             Ask::Login(_) => Action::Login,
+            Ask::Caller(caller) => caller.wish.action(),
         }
     }
 }
@@ -154,6 +161,23 @@ fn login_ask(alloc: Global, ring: &KeyRing, body: &[u8]) -> Result<LoginAsk, Rul
     })
 }
 
+/// What a caller asks.
+fn caller_ask(
+    alloc: Global,
+    ring: &KeyRing,
+    moment: u64,
+    request: &TypedRequest<'_>,
+) -> Result<CallerAsk, Rule>
+    ensures ok { IfOk result (λ ask. (wish_of request.now.action request.now.numbers ≡ Some ask.wish) × (ask.token ≡ token_at ring.now moment (request_value request.now).token)) }
+    ensures err { IfErr result (λ rule. (rule ≡ Rule.Unavailable) ⊎ ((wish_of request.now.action request.now.numbers ≡ None) × (rule ≡ Rule.NoRoute))) }
+{
+    let Some(wish) = wish_of(request.action, request.numbers) else {
+        return Err(Rule::NoRoute);
+    };
+    let token = token_at(alloc, ring, moment, &request.token)?;
+    Ok(CallerAsk { token, wish })
+}
+
 /// What a request asks, or the rule of the first condition on its body that is looked at before a row is and doesn't hold.
 fn ask_in(alloc: Global, keys: &Keys, moment: u64, request: &TypedRequest<'_>) -> Result<Ask, Rule>
     ensures ok { IfOk result (λ ask. (first_broken (first_conditions_on request.now.action (request_value request.now)) ≡ None) × (ask_of keys.now moment (request_value request.now) ≡ Some ask)) }
@@ -161,7 +185,7 @@ fn ask_in(alloc: Global, keys: &Keys, moment: u64, request: &TypedRequest<'_>) -
 {
     match request.action {
         Action::Login => Ok(Ask::Login(login_ask(alloc, &keys.token, request.body)?)),
-        _ => Err(Rule::NoRoute),
+        _ => Ok(Ask::Caller(caller_ask(alloc, &keys.token, moment, request)?)),
     }
 }
 

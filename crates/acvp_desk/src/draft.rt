@@ -1,18 +1,24 @@
 //! What is given where all conditions hold: the reply, and the change that is made.
 
-ghost use Rattle.std.specs.Prelude.{◌≡◌, ◌<◌, Some, None, IfOk};
+ghost use Rattle.std.specs.Prelude.{◌≡◌, ◌<◌, true, Some, None, IfOk, IfErr};
 ghost use Rattle.acvp_mac.specs.Conditions.{first_broken};
 ghost use Rattle.acvp_token.specs.TokenText.{ring_token_text};
 ghost use Rattle.acvp_json.specs.ReplyData.{reply_data, token_data};
-ghost use Rattle.acvp_desk.specs.Answer.{change_of, end_of_moments, later_conditions, reply_of, IsReply};
+ghost use Rattle.acvp_desk.specs.Answer.{change_of, end_of_moments, later_conditions, reply_of, IsOf, IsReply};
+ghost use Rattle.acvp_desk.specs.Place.{is_for, is_there};
+ghost use Rattle.acvp_desk.specs.Replies.{wish_change, wish_reply};
 ghost use Rattle.acvp_desk.specs.Login.{renewed_session};
 ghost use Rattle.acvp_desk.specs.declared.ask.Ask.TheVariants as ask;
 
+use crate::account::{draft_account, draft_algorithm};
 use crate::ask::{Ask, LoginAsk};
-use crate::find::{Found, step_of};
+use crate::find::acting;
+use crate::found::{Found, step_of};
 use crate::keys::Keys;
+use crate::session::draft_session;
+use crate::wish::Wish;
 use acvp_json::{ReplyObject, write_reply};
-use acvp_policy::Renewal;
+use acvp_policy::{Renewal, Rule};
 use acvp_tables::{Change, UsedStep};
 use acvp_token::{Claims, issue_ring};
 use std::alloc::{AllocError, Global};
@@ -41,6 +47,23 @@ fn written<'a>(alloc: Global, object: &'a ReplyObject<'a>) -> Result<Vec<u8>, Al
     reply.extend_from_slice(&SPARE)?;
     reply.extend_from_slice(&body)?;
     Ok(reply)
+}
+
+/// The reply with an object, and the change that it tells of.
+#[tactic(auto, unfolding(acvp_json::specs::ReplyData::reply_data))]
+pub(crate) fn told<'a>(
+    alloc: Global,
+    object: &'a ReplyObject<'a>,
+    change: Option<Change>,
+) -> Result<Draft, Rule>
+    ensures reply { IfOk result (λ draft. IsReply draft.reply.items (Some (reply_data object.now))) }
+    ensures change { IfOk result (λ draft. draft.change ≡ change) }
+    ensures denied { IfErr result (λ rule. rule ≡ Rule.Unavailable) }
+{
+    match written(alloc, object) {
+        Ok(reply) => Ok(Draft { reply, change }),
+        Err(_) => Err(Rule::Unavailable),
+    }
 }
 
 /// The reply with the new token of an account.
@@ -102,6 +125,47 @@ fn draft_login(
     })
 }
 
+/// What a login is given, or that memory was refused.
+fn draft_code(
+    alloc: Global,
+    keys: &Keys,
+    moment: u64,
+    login: &LoginAsk,
+    found: &Found,
+) -> Result<Draft, Rule>
+    requires moment { moment < end_of_moments }
+    requires held { first_broken (later_conditions moment (ask.Login login.now) found.now) ≡ None }
+    ensures reply { IfOk result (λ draft. IsReply draft.reply.items (reply_of keys.now moment (ask.Login login.now) found.now)) }
+    ensures change { IfOk result (λ draft. draft.change ≡ change_of moment (ask.Login login.now) found.now) }
+    ensures denied { IfErr result (λ rule. rule ≡ Rule.Unavailable) }
+{
+    match draft_login(alloc, keys, moment, login, found) {
+        Ok(draft) => Ok(draft),
+        Err(_) => Err(Rule::Unavailable),
+    }
+}
+
+/// What a caller is given.
+fn draft_wish(
+    alloc: Global,
+    moment: u64,
+    account: u16,
+    wish: &Wish,
+    found: &Found,
+) -> Result<Draft, Rule>
+    requires there { is_there wish.now found.now.subject ≡ true }
+    requires material { is_for wish.now found.now.material ≡ true }
+    ensures reply { IfOk result (λ draft. IsReply draft.reply.items (wish_reply moment account found.now wish.now)) }
+    ensures change { IfOk result (λ draft. draft.change ≡ wish_change wish.now) }
+    ensures denied { IfErr result (λ rule. rule ≡ Rule.Unavailable) }
+{
+    match *wish {
+        Wish::Account(it) => draft_account(alloc, account, it, found),
+        Wish::Algorithm(number) => draft_algorithm(alloc, number),
+        Wish::Session(number, it) => draft_session(alloc, moment, number, it, found),
+    }
+}
+
 /// What is given where all conditions hold.
 pub(crate) fn draft_for(
     alloc: Global,
@@ -109,13 +173,18 @@ pub(crate) fn draft_for(
     moment: u64,
     ask: &Ask,
     found: &Found,
-) -> Result<Draft, AllocError>
+) -> Result<Draft, Rule>
     requires moment { moment < end_of_moments }
     requires held { first_broken (later_conditions moment ask.now found.now) ≡ None }
+    requires of { IsOf ask.now found.now }
     ensures reply { IfOk result (λ draft. IsReply draft.reply.items (reply_of keys.now moment ask.now found.now)) }
     ensures change { IfOk result (λ draft. draft.change ≡ change_of moment ask.now found.now) }
+    ensures denied { IfErr result (λ rule. rule ≡ Rule.Unavailable) }
 {
     match ask {
-        Ask::Login(login) => draft_login(alloc, keys, moment, login, found),
+        Ask::Login(login) => draft_code(alloc, keys, moment, login, found),
+        Ask::Caller(caller) => {
+            draft_wish(alloc, moment, acting(&caller.token), &caller.wish, found)
+        },
     }
 }

@@ -1,23 +1,23 @@
-//! What the tables hold of a request.
+//! The tables are looked at.
 
-ghost use Rattle.std.specs.Prelude.{◌≡◌, IfOk, option_and_then};
-ghost use Rattle.acvp_tables.specs.Content.{Content, account_at};
-ghost use Rattle.acvp_tables.specs.State.{IsSound, state_of};
-ghost use Rattle.acvp_desk.specs.Answer.{found_of, facts_from, who};
-ghost use Rattle.acvp_desk.specs.Login.{step_of, login_facts};
-ghost use Rattle.acvp_desk.specs.Serves.{Looks};
+ghost use Rattle.std.specs.Prelude.{◌≡◌, ◌⊎◌, ℕ, List, ◌&&◌, ◌==◌, nat_le, true, Some, IfOk, IfErr, option_and_then};
+ghost use Rattle.acvp_mac.specs.Conditions.{first_broken};
+ghost use Rattle.acvp_policy.specs.Conditions.{claims_of};
+ghost use Rattle.acvp_policy.specs.Decision.{account_of_claims};
+ghost use Rattle.acvp_policy.specs.Resource.{resource_of};
+ghost use Rattle.acvp_tables.specs.Content.{Content, account_at, reviewers_of};
+ghost use Rattle.acvp_tables.specs.State.{state_of};
+ghost use Rattle.acvp_desk.specs.Answer.{found_of, later_conditions, reviewer_found, who, IsOf};
+ghost use Rattle.acvp_desk.specs.Kept.{IsKept};
+ghost use Rattle.acvp_desk.specs.Place.{certification_of, certification_status, session_facts, subject_of, material_of, account_material, session_material, is_for, is_for_account, is_for_session, place_of, set_numbers, set_outcomes, unfound};
+ghost use Rattle.acvp_desk.specs.Serves.{Looks, Sees};
 
-use crate::ask::{Ask, LoginAsk};
-use acvp_mac::accepted_step;
-use acvp_policy::{Facts, LoginFacts, Standing, Subject, Token, UserFacts};
-use acvp_tables::{AccountRow, StoreFault, Tables};
-
-/// What the tables hold of a request.
-#[derive(Clone, Copy)]
-pub(crate) struct Found {
-    /// The account that acts.
-    pub account: Option<AccountRow>,
-}
+use crate::ask::Ask;
+use crate::found::{Accounts, Found, Material, SetNumbers, SetOutcome, SetOutcomes, facts_for};
+use crate::wish::{AccountWish, CallerAsk, SessionWish, Wish};
+use acvp_policy::{CertificationStatus, Rule, SessionFacts, SessionSubject, Subject, Token, admit};
+use acvp_tables::{AccountRow, RequestStatus, SessionRow, StoreFault, Tables, selections_follow};
+use std::alloc::{AllocError, Global};
 
 /// The number of the account that acts, where there is one.
 fn who(ask: &Ask) -> Option<u16>
@@ -25,52 +25,26 @@ fn who(ask: &Ask) -> Option<u16>
 {
     match ask {
         Ask::Login(login) => login.user,
-    }
-}
-
-/// The step whose code the password is.
-pub(crate) fn step_of(moment: u64, login: &LoginAsk, row: &AccountRow) -> Option<u64>
-    ensures { result ≡ step_of moment login.now row.now }
-{
-    accepted_step(&row.secret, row.last_step, moment, login.password?)
-}
-
-/// What is found on a login.
-fn login_facts(moment: u64, login: &LoginAsk, found: &Option<AccountRow>) -> LoginFacts
-    ensures { result ≡ login_facts moment login.now found.now }
-{
-    let user = match found {
-        Some(row) => Some(UserFacts {
-            account: row.number,
-            enabled: row.enabled,
-            step: step_of(moment, login, row),
-        }),
-        None => None,
-    };
-    LoginFacts {
-        user,
-        renewal: login.renewal,
-    }
-}
-
-/// What the policy is asked about.
-pub(crate) fn facts_for(moment: u64, ask: &Ask, found: &Found) -> Facts
-    ensures { result ≡ facts_from moment ask.now found.now }
-{
-    match ask {
-        Ask::Login(login) => Facts {
-            moment,
-            token: Token::Missing,
-            standing: Standing::Absent,
-            reviewer: false,
-            subject: Subject::Login(login_facts(moment, login, &found.account)),
+        Ask::Caller(caller) => match caller.token {
+            Token::Verified(claims) => Some(claims.account),
+            _ => None,
         },
+    }
+}
+
+/// The number of the account that acts; 0 where the token names none.
+pub(crate) fn acting(token: &Token) -> u16
+    ensures { result ≡ account_of_claims (claims_of token.now) }
+{
+    match token {
+        Token::Verified(claims) => claims.account,
+        _ => 0,
     }
 }
 
 /// The row of an account, where one acts.
 fn account<T: Tables>(tables: &mut T, number: Option<u16>) -> Result<Option<AccountRow>, StoreFault>
-    ensures found { T.is_live tables.new → IfOk result (λ found. (c : Content) → IsSound c → T.stands tables.old c → found ≡ option_and_then (λ n. account_at n c.accounts) number) }
+    ensures found { Sees T.stands T.is_live T.is_clean T.leaves result tables.old tables.new (λ seeds c. option_and_then (λ n. account_at n c.accounts) number) }
     ensures looks { Looks T.stands T.is_live T.is_clean T.leaves result tables.old tables.new }
 {
     match number {
@@ -79,13 +53,265 @@ fn account<T: Tables>(tables: &mut T, number: Option<u16>) -> Result<Option<Acco
     }
 }
 
-/// What the tables hold of what is asked.
+/// Whether the account that acts reviews the session of the path, where that is asked.
 #[tactic(auto, unfolding(acvp_tables::specs::State::state_of))]
-pub(crate) fn find<T: Tables>(tables: &mut T, ask: &Ask) -> Result<Found, StoreFault>
-    ensures found { T.is_live tables.new → IfOk result (λ found. (c : Content) → IsSound c → T.stands tables.old c → found ≡ found_of ask.now (state_of c)) }
+fn reviewer<T: Tables>(tables: &mut T, ask: &Ask) -> Result<bool, StoreFault>
+    ensures found { Sees T.stands T.is_live T.is_clean T.leaves result tables.old tables.new (λ seeds c. reviewer_found ask.now (state_of c)) }
     ensures looks { Looks T.stands T.is_live T.is_clean T.leaves result tables.old tables.new }
 {
-    Ok(Found {
-        account: account(tables, who(ask))?,
+    match ask {
+        Ask::Caller(
+            CallerAsk {
+                token,
+                wish: Wish::Session(session, SessionWish::Results),
+            },
+        ) => tables.is_reviewer(*session, acting(token)),
+        _ => Ok(false),
+    }
+}
+
+fn certification_status(status: RequestStatus) -> CertificationStatus
+    ensures { result ≡ certification_status status }
+{
+    match status {
+        RequestStatus::Initial => CertificationStatus::Initial,
+        RequestStatus::Approved(_) => CertificationStatus::Approved,
+        RequestStatus::Rejected => CertificationStatus::Rejected,
+    }
+}
+
+/// The status of a session's last certification request.
+fn certification<T: Tables>(
+    tables: &mut T,
+    certify: Option<u64>,
+) -> Result<Option<CertificationStatus>, StoreFault>
+    ensures found { Sees T.stands T.is_live T.is_clean T.leaves result tables.old tables.new (λ seeds c. certification_of certify c.requests) }
+    ensures looks { Looks T.stands T.is_live T.is_clean T.leaves result tables.old tables.new }
+{
+    let Some(number) = certify else {
+        return Ok(None);
+    };
+    match tables.request(number)? {
+        Some(request) => Ok(Some(certification_status(request.status))),
+        None => Ok(None),
+    }
+}
+
+/// How the session of a row stands, whose last certification request stands so. It has passed where it has vector sets
+/// that aren't cancelled, and as many of them have.
+fn facts_of(row: &SessionRow, certification: Option<CertificationStatus>) -> SessionFacts
+    ensures { result ≡ (record { cancelled = row.now.cancelled; created = row.now.created; sample = row.now.sample; certification = certification; passed = nat_le 1 row.now.live && (row.now.passed == row.now.live) }) }
+{
+    SessionFacts {
+        cancelled: row.cancelled,
+        created: row.created,
+        sample: row.sample,
+        certification,
+        passed: row.live >= 1 && row.passed == row.live,
+    }
+}
+
+/// How the session of a number stands.
+#[tactic(auto, unfolding(acvp_tables::specs::State::state_of, crate::specs::Place::session_facts))]
+fn session_facts<T: Tables>(tables: &mut T, number: u64) -> Result<Option<SessionFacts>, StoreFault>
+    ensures found { Sees T.stands T.is_live T.is_clean T.leaves result tables.old tables.new (λ seeds c. session_facts seeds (state_of c) number) }
+    ensures looks { Looks T.stands T.is_live T.is_clean T.leaves result tables.old tables.new }
+{
+    selections_follow();
+    let Some(row) = tables.session(number)? else {
+        return Ok(None);
+    };
+    let certification = certification(tables, row.certify)?;
+    Ok(Some(facts_of(&row, certification)))
+}
+
+/// What a wish names, with what is found there.
+fn subject<T: Tables>(tables: &mut T, wish: &Wish) -> Result<Subject, StoreFault>
+    ensures found { Sees T.stands T.is_live T.is_clean T.leaves result tables.old tables.new (λ seeds c. subject_of seeds (state_of c) wish.now) }
+    ensures names { IfOk result (λ subject. resource_of subject ≡ resource_of (unfound wish.now)) }
+    ensures looks { Looks T.stands T.is_live T.is_clean T.leaves result tables.old tables.new }
+{
+    match *wish {
+        Wish::Account(_) => Ok(Subject::Account),
+        Wish::Algorithm(number) => Ok(Subject::Algorithm(number)),
+        Wish::Session(session, _) => {
+            let found = session_facts(tables, session)?;
+            Ok(Subject::Session(SessionSubject { session, found }))
+        }
+    }
+}
+
+/// The numbers of a session's vector sets that aren't cancelled.
+#[tactic(auto, unfolding(acvp_tables::specs::State::state_of))]
+fn set_numbers<T: Tables>(
+    alloc: Global,
+    tables: &mut T,
+    session: u64,
+) -> Result<SetNumbers, StoreFault>
+    ensures found { Sees T.stands T.is_live T.is_clean T.leaves result tables.old tables.new (λ seeds c. set_numbers session (state_of c)) }
+    ensures looks { Looks T.stands T.is_live T.is_clean T.leaves result tables.old tables.new }
+{
+    selections_follow();
+    let sets = tables.sets_of(session)?;
+    let mut numbers = Vec::with_capacity(alloc, sets.len())?;
+    for set in &sets {
+        if let Err(refused) = numbers.push(set.number) {
+            return Err(AllocError::from(refused).into());
+        }
+    }
+    Ok(SetNumbers { numbers })
+}
+
+/// A session's vector sets that aren't cancelled, with what their answers come to.
+#[tactic(auto, unfolding(acvp_tables::specs::State::state_of))]
+fn set_outcomes<T: Tables>(
+    alloc: Global,
+    tables: &mut T,
+    session: u64,
+) -> Result<SetOutcomes, StoreFault>
+    ensures found { Sees T.stands T.is_live T.is_clean T.leaves result tables.old tables.new (λ seeds c. set_outcomes seeds session (state_of c)) }
+    ensures looks { Looks T.stands T.is_live T.is_clean T.leaves result tables.old tables.new }
+{
+    selections_follow();
+    let found = tables.sets_of(session)?;
+    let mut sets = Vec::with_capacity(alloc, found.len())?;
+    for set in &found {
+        let outcome = SetOutcome {
+            vs: set.number,
+            disposition: set.disposition,
+        };
+        if let Err(refused) = sets.push(outcome) {
+            return Err(AllocError::from(refused).into());
+        }
+    }
+    Ok(SetOutcomes { sets })
+}
+
+/// The accounts that review a session.
+#[tactic(auto, unfolding(acvp_tables::specs::State::state_of))]
+fn reviewers<T: Tables>(tables: &mut T, session: u64) -> Result<Accounts, StoreFault>
+    ensures found { Sees T.stands T.is_live T.is_clean T.leaves result tables.old tables.new (λ seeds c. reviewers_of session (state_of c).reviewers) }
+    ensures looks { Looks T.stands T.is_live T.is_clean T.leaves result tables.old tables.new }
+{
+    Ok(Accounts {
+        numbers: tables.reviewers_of(session)?,
     })
+}
+
+/// What is read for the reply to who asks something of the account, or of all algorithms.
+#[tactic(auto, unfolding(acvp_tables::specs::State::state_of))]
+fn account_material<T: Tables>(
+    tables: &mut T,
+    account: u16,
+    wish: AccountWish,
+) -> Result<Material, StoreFault>
+    ensures found { Sees T.stands T.is_live T.is_clean T.leaves result tables.old tables.new (λ seeds c. account_material account (state_of c) wish) }
+    ensures fits { IfOk result (λ material. is_for_account wish material ≡ true) }
+    ensures looks { Looks T.stands T.is_live T.is_clean T.leaves result tables.old tables.new }
+{
+    selections_follow();
+    match wish {
+        AccountWish::Read => Ok(Material::Counts(tables.counts(account)?)),
+        AccountWish::ListAlgorithms => Ok(Material::Nothing),
+    }
+}
+
+/// What is read for the reply to who asks something of a session.
+fn session_material<T: Tables>(
+    alloc: Global,
+    tables: &mut T,
+    session: u64,
+    wish: SessionWish,
+) -> Result<Material, StoreFault>
+    ensures found { Sees T.stands T.is_live T.is_clean T.leaves result tables.old tables.new (λ seeds c. session_material seeds session (state_of c) wish) }
+    ensures fits { IfOk result (λ material. is_for_session wish material ≡ true) }
+    ensures looks { Looks T.stands T.is_live T.is_clean T.leaves result tables.old tables.new }
+{
+    match wish {
+        SessionWish::Read => Ok(Material::Sets(set_numbers(alloc, tables, session)?)),
+        SessionWish::Results => Ok(Material::Outcomes(set_outcomes(alloc, tables, session)?)),
+        SessionWish::ListSets => Ok(Material::Sets(set_numbers(alloc, tables, session)?)),
+        SessionWish::Cancel => Ok(Material::Nothing),
+        SessionWish::ListReviewers => Ok(Material::Reviewers(reviewers(tables, session)?)),
+    }
+}
+
+/// What is read of the records for a reply.
+fn material<T: Tables>(
+    alloc: Global,
+    tables: &mut T,
+    account: u16,
+    wish: &Wish,
+) -> Result<Material, StoreFault>
+    ensures found { Sees T.stands T.is_live T.is_clean T.leaves result tables.old tables.new (λ seeds c. material_of seeds account (state_of c) wish.now) }
+    ensures fits { IfOk result (λ material. is_for wish.now material ≡ true) }
+    ensures looks { Looks T.stands T.is_live T.is_clean T.leaves result tables.old tables.new }
+{
+    match *wish {
+        Wish::Account(it) => account_material(tables, account, it),
+        Wish::Algorithm(_) => Ok(Material::Nothing),
+        Wish::Session(session, it) => session_material(alloc, tables, session, it),
+    }
+}
+
+/// What a path names, with what is found there, and what is read for the reply.
+#[derive(Drop)]
+struct Place {
+    subject: Subject,
+    material: Material,
+}
+
+/// What is found of a wish of an account.
+fn look_at<T: Tables>(
+    alloc: Global,
+    tables: &mut T,
+    account: u16,
+    wish: &Wish,
+) -> Result<Place, StoreFault>
+    ensures found { Sees T.stands T.is_live T.is_clean T.leaves result tables.old tables.new (λ seeds c. place_of seeds account (state_of c) wish.now) }
+    ensures names { IfOk result (λ place. resource_of place.subject ≡ resource_of (unfound wish.now)) }
+    ensures fits { IfOk result (λ place. is_for wish.now place.material ≡ true) }
+    ensures looks { Looks T.stands T.is_live T.is_clean T.leaves result tables.old tables.new }
+{
+    let subject = subject(tables, wish)?;
+    let material = material(alloc, tables, account, wish)?;
+    Ok(Place { subject, material })
+}
+
+/// What the tables hold of what is asked; or the rule on the caller that is broken, before anything is looked at that the
+/// path names.
+#[tactic(auto, unfolding(acvp_tables::specs::State::state_of, crate::specs::Answer::found_of))]
+pub(crate) fn find<T: Tables>(
+    alloc: Global,
+    tables: &mut T,
+    moment: u64,
+    ask: &Ask,
+) -> Result<Found, Rule>
+    ensures found { Sees T.stands T.is_live T.is_clean T.leaves result tables.old tables.new (λ seeds c. found_of seeds ask.now (state_of c)) }
+    ensures of { IfOk result (λ found. IsOf ask.now found) }
+    ensures refused { IfErr result (λ rule. (rule ≡ Rule.Unavailable) ⊎ ((T.is_clean tables.new → T.is_live tables.old → T.is_live tables.new) × (T.is_live tables.new → (seeds : List (List ℕ)) (c : Content) → IsKept seeds c → T.stands tables.old c → first_broken (later_conditions moment ask.now (found_of seeds ask.now (state_of c))) ≡ Some rule))) }
+    ensures looks { Looks T.stands T.is_live T.is_clean T.leaves result tables.old tables.new }
+{
+    let Ok(account) = account(tables, who(ask)) else {
+        return Err(Rule::Unavailable);
+    };
+    let Ok(reviewer) = reviewer(tables, ask) else {
+        return Err(Rule::Unavailable);
+    };
+    let caller = Found::nothing(ask, account, reviewer);
+    if let Err(rule) = admit(ask.action(), &facts_for(moment, ask, &caller)) {
+        return Err(rule);
+    }
+    let Ask::Caller(asked) = ask else {
+        return Ok(caller);
+    };
+    match look_at(alloc, tables, acting(&asked.token), &asked.wish) {
+        Ok(Place { subject, material }) => Ok(Found {
+            account,
+            reviewer,
+            subject,
+            material,
+        }),
+        Err(_) => Err(Rule::Unavailable),
+    }
 }

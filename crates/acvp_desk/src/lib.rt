@@ -12,14 +12,27 @@ pub use laws::{effects_follow, errors_are_named, records_are_kept};
 pub use order::{Order, OrderReply, order_on};
 pub use request::{Numbers, TokenField, TypedRequest};
 
+mod account;
 mod ask;
+mod cache;
+#[cfg(test)]
+mod cache_tests;
+#[cfg(test)]
+mod caller_tests;
 mod desk;
 mod draft;
+mod entry;
 mod find;
+mod found;
 mod keys;
 mod laws;
 mod order;
 mod request;
 mod serve;
+mod session;
+#[cfg(test)]
+mod session_tests;
 #[cfg(test)]
 mod tests;
+mod token;
+mod wish;

@@ -2,17 +2,18 @@
 
 ghost use Rattle.std.specs.Prelude.{◌≡◌, ◌<◌, ◌⊎◌, None, Some, IfOk, IfErr};
 ghost use Rattle.acvp_mac.specs.Conditions.{first_broken};
-ghost use Rattle.acvp_desk.specs.Answer.{change_of, end_of_moments, later_conditions, reply_of, IsReply, CoversAny};
+ghost use Rattle.acvp_desk.specs.Answer.{change_of, end_of_moments, later_conditions, reply_of, IsOf, IsReply, CoversAny};
 ghost use Rattle.acvp_desk.specs.Request.{request_value};
 ghost use Rattle.acvp_desk.specs.Serves.{Serves};
 
 use crate::ask::{Ask, ask_for};
 use crate::draft::{Draft, draft_for};
-use crate::find::{Found, facts_for, find};
+use crate::find::find;
+use crate::found::{Found, facts_for};
 use crate::keys::Keys;
 use crate::laws::records_are_kept;
 use crate::request::TypedRequest;
-use acvp_policy::{Grant, Rule, decide, release};
+use acvp_policy::{Grant, Rule, decide, granted_resources, release};
 use acvp_tables::Tables;
 use std::alloc::Global;
 
@@ -24,22 +25,24 @@ struct Allowed {
 
 /// Decides, and then drafts: the one place that holds a grant while something can fail.
 fn plan(alloc: Global, keys: &Keys, moment: u64, ask: &Ask, found: &Found) -> Result<Allowed, Rule>
-    requires { moment < end_of_moments }
+    requires moment { moment < end_of_moments }
+    requires of { IsOf ask.now found.now }
     ensures held { IfOk result (λ _. first_broken (later_conditions moment ask.now found.now) ≡ None) }
     ensures reply { IfOk result (λ allowed. IsReply allowed.draft.reply.items (reply_of keys.now moment ask.now found.now)) }
     ensures change { IfOk result (λ allowed. allowed.draft.change ≡ change_of moment ask.now found.now) }
     ensures covers { IfOk result (λ allowed. CoversAny allowed.grant allowed.draft.change) }
     ensures denied { IfErr result (λ rule. (rule ≡ Rule.Unavailable) ⊎ (first_broken (later_conditions moment ask.now found.now) ≡ Some rule)) }
 {
+    granted_resources();
     let grant = match decide(ask.action(), &facts_for(moment, ask, found)) {
         Ok(grant) => grant,
         Err(rule) => return Err(rule),
     };
     match draft_for(alloc, keys, moment, ask, found) {
         Ok(draft) => Ok(Allowed { grant, draft }),
-        Err(_) => {
+        Err(rule) => {
             release(grant);
-            Err(Rule::Unavailable)
+            Err(rule)
         }
     }
 }
@@ -66,8 +69,9 @@ pub(crate) fn serve<T: Tables>(
         Ok(ask) => ask,
         Err(rule) => return Err(rule),
     };
-    let Ok(found) = find(tables, &ask) else {
-        return Err(Rule::Unavailable);
+    let found = match find(alloc, tables, moment, &ask) {
+        Ok(found) => found,
+        Err(rule) => return Err(rule),
     };
     let Allowed { grant, draft } = match plan(alloc, keys, moment, &ask, &found) {
         Ok(allowed) => allowed,

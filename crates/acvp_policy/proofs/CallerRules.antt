@@ -1,10 +1,11 @@
 -- The rules on a caller are broken in front of all others, and depend on the caller alone.
 use Rattle.std.proofs.Common.{◌≡◌, ℕ, ◌≤◌, nat_le, Bool, true, false, List, [], ◌∷◌, ◌++◌}
-use Rattle.std.proofs.Common.{Option, Some, None, Err, refl, arith}
+use Rattle.std.proofs.Common.{Option, Some, None, Result, Ok, Err, refl, sym, arith}
 use Rattle.std.proofs.lemmas.Bool.Decides.{nat_tests}
 use Rattle.std.specs.Option.{option_or}
+use Rattle.std.specs.Prelude.{IfErr}
 use Rattle.std.specs.List.{list_all}
-use Rattle.acvp_token.specs.Conditions.{Condition, first_broken}
+use Rattle.acvp_token.specs.Conditions.{Condition, first_broken, judged}
 use Rattle.acvp_token.proofs.ConditionLemmas.{first_broken-append}
 use Rattle.acvp_policy.specs.declared.rule.Rule.{Rule}
 use Rattle.acvp_policy.specs.declared.facts.Facts.{Facts}
@@ -17,7 +18,7 @@ use Rattle.acvp_policy.specs.Scope.{scope_of}
 use Rattle.acvp_policy.specs.Policy.{policy, claims_conditions, resource_conditions}
 use Rattle.acvp_policy.specs.Decision.{decision, granted}
 use Rattle.acvp_policy.specs.Callers.{AgreeOnCaller, IsCallerRule}
-use Rattle.acvp_policy.proofs.Refusals.{refused-is}
+use Rattle.acvp_policy.proofs.Refusals.{refused-is, refused-front}
 
 -- a condition of a rule that isn't on the caller
 abbrev pub is_late : Condition Rule → Bool
@@ -98,3 +99,17 @@ caller_rule-kept a one other r same on_caller h =
     let moved : first_broken (claims_conditions (scope_of a) other) ≡ Some r =
     rw (claims_conditions-agree (scope_of a) one other same) at front in
     rw (first_broken-append (claims_conditions (scope_of a) other) (resource_conditions a other), moved) refl
+
+-- what the rules on a caller refuse is decided so, whatever is found at the path
+pub caller-refused : (a : Action) (caller found : Facts) (r : Rule) → AgreeOnCaller caller found →
+    judged {X = Unit {0}} (claims_conditions (scope_of a) caller) tt ≡ Err r → decision a found ≡ Err r
+unfolding decision policy
+caller-refused a caller found r same h =
+    let nothing : Unit {0} = tt in
+    refused-front (claims_conditions (scope_of a) found) (resource_conditions a found) nothing (granted a found) r
+    (rw (← claims_conditions-agree (scope_of a) caller found same) h)
+
+pub caller-judged : (a : Action) (caller : Facts) (result : Result (Unit {0}) Rule) → result ≡ judged {X = Unit {0}} (claims_conditions (scope_of a) caller) tt →
+    IfErr result (λ rule. (found : Facts) → AgreeOnCaller caller found → decision a found ≡ Err rule)
+caller-judged a caller (Ok x) is = tt
+caller-judged a caller (Err rule) is = λ found same. caller-refused a caller found rule same (sym is)

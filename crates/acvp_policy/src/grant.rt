@@ -1,10 +1,15 @@
 //! Decisions and the grants that they give.
 
-ghost use Rattle.std.specs.Prelude.{◌≡◌, ◌↔◌, ◌⊎◌, ℕ, IsTrue, IfOk};
+ghost use Rattle.std.specs.Prelude.{◌≡◌, ◌↔◌, ◌⊎◌, ℕ, IsTrue, IfOk, IfErr, Err};
+ghost use Rattle.acvp_token.specs.Conditions.{judged};
 ghost use Rattle.acvp_token.specs.SessionNumber.{account_of_session};
+ghost use Rattle.acvp_policy.specs.Callers.{AgreeOnCaller};
 ghost use Rattle.acvp_policy.specs.Decision.{account_of, decision, granted};
 ghost use Rattle.acvp_policy.specs.Granted.{Granted};
 ghost use Rattle.acvp_policy.specs.Kinds.{IsOfItsKind, IsOfSession, IsReview};
+ghost use Rattle.acvp_policy.specs.Policy.{claims_conditions};
+ghost use Rattle.acvp_policy.specs.Scope.{scope_of};
+ghost use Rattle.acvp_policy.specs.declared.facts.Facts.{Facts};
 
 use crate::action::Action;
 use crate::caller::claims_allow;
@@ -28,6 +33,16 @@ impl Model for Grant {
     ghost Value = { Granted };
 
     ghost view = { λ g. record { action = g.action; account = g.account; resource = g.resource } };
+}
+
+/// Whether the caller may ask for an action, before anything is looked up that the path names. Whatever is found there,
+/// a refusal is what `decide` gives.
+pub fn admit(action: Action, facts: &Facts) -> Result<(), Rule>
+    ensures judged { result ≡ judged (claims_conditions (scope_of action) facts.now) tt }
+    ensures refused { IfErr result (λ rule. (found : Facts) → AgreeOnCaller facts.now found → decision action found ≡ Err rule) }
+{
+    let scope = action.scope();
+    claims_allow(scope, facts)
 }
 
 /// Decides whether an action may be taken: the first rule that is broken, or a grant.

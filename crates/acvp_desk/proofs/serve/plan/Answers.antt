@@ -19,5 +19,6 @@ returns-in-Ok-draft_for-clause-held c =
 
 pub returns-in-Ok-draft_for-clause-covers : goal.returns-in-Ok-draft_for-clause-covers
 returns-in-Ok-draft_for-clause-covers c =
-    covered_by c.args.moment c.args.ask.now c.args.found.now c.action.result c.facts_for.result c.in-Ok.grant c.in-Ok-draft_for.draft.change
-    c.action.ensures c.facts_for.ensures c.in-Ok.ensures.grant c.in-Ok-draft_for.ensures.change
+    covered_by c.granted_resources.ensures.own c.args.moment c.args.ask.now c.args.found.now c.action.result c.facts_for.result c.in-Ok.grant
+    c.in-Ok-draft_for.draft.change c.requires.of c.action.ensures c.facts_for.ensures c.in-Ok.ensures.decision c.in-Ok.ensures.grant
+    c.in-Ok-draft_for.ensures.change

@@ -1,6 +1,6 @@
 use Rattle.std.proofs.Common.{sym, ◌∙◌}
 use Rattle.acvp_desk.specs.Request.{request_value}
-use Rattle.acvp_desk.proofs.Serving.{refused_at_once, refused, given_read, given_changed, failed}
+use Rattle.acvp_desk.proofs.Serving.{refused_at_once, refused_caller, refused, given_read, given_changed, failed}
 use Rattle.acvp_desk.proofs.serve.serve.Goals as goal
 
 pub returns-in-Err : goal.returns-in-Err
@@ -8,6 +8,13 @@ returns-in-Err g c =
     refused_at_once g.T.Tables.stands g.T.Tables.is_live g.T.Tables.is_clean g.T.Tables.leaves c.args.keys.now c.args.moment (request_value c.args.request.now)
     (c.records_are_kept.ensures.request c.args.keys.now c.args.moment (request_value c.args.request.now))
     g.met.T.Tables.rests c.in-Err.rule c.args.tables.now c.in-Err.ensures.clock c.in-Err.ensures.err
+
+pub returns-in-Err-find : goal.returns-in-Err-find
+returns-in-Err-find g c =
+    refused_caller g.T.Tables.stands g.T.Tables.is_live g.T.Tables.is_clean g.T.Tables.leaves c.args.keys.now c.args.moment (request_value c.args.request.now)
+    (c.records_are_kept.ensures.request c.args.keys.now c.args.moment (request_value c.args.request.now))
+    c.in-Ok.ensures.moment c.in-Ok.ask c.in-Ok.ensures.ok.0 c.in-Ok.ensures.ok.1 c.args.tables.now c.find.new.tables c.in-Err-find.rule
+    c.in-Err-find.ensures.looks c.in-Err-find.ensures.refused
 
 pub returns-in-Err-plan : goal.returns-in-Err-plan
 returns-in-Err-plan g c =
@@ -33,8 +40,8 @@ returns-in-Ok-apply g c =
     c.in-Ok-plan.ensures.reply c.in-Some.change (sym c.in-Some.is ∙ c.in-Ok-plan.ensures.change) c.apply.new.self
     g.T.Tables.faults _ c.in-Ok-apply.ensures
 
-pub returns-in-Err-apply : goal.returns-in-Err-apply
-returns-in-Err-apply g c =
+pub returns : goal.returns
+returns g c =
     failed g.T.Tables.stands g.T.Tables.is_live g.T.Tables.is_clean g.T.Tables.leaves c.args.keys.now c.args.moment (request_value c.args.request.now)
     (c.records_are_kept.ensures.request c.args.keys.now c.args.moment (request_value c.args.request.now))
     c.in-Ok.ensures.moment c.in-Ok.ask c.in-Ok.ensures.ok.0 c.in-Ok.ensures.ok.1 c.args.tables.now c.find.new.tables c.in-Ok-find.found

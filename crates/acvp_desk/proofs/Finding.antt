@@ -1,0 +1,116 @@
+-- What is found is what the records hold; and what a caller is refused, whatever is found.
+use Rattle.std.proofs.Common.{◌≡◌, ℕ, List, map, Bool, ◌&&◌, ◌==◌, nat_le, Option, None, Some, refl, sym, ap, ◌∙◌, ◌≤◌, zero, suc, length, [], ◌∷◌, arith}
+use Rattle.std.specs.Prelude.{take, option_map, option_and_then, Result, Err}
+use Rattle.acvp_mac.specs.Conditions.{first_broken}
+use Rattle.acvp_policy.specs.Callers.{AgreeOnCaller}
+use Rattle.acvp_policy.specs.Conditions.{claims_of}
+use Rattle.acvp_policy.specs.Decision.{decision, account_of_claims}
+use Rattle.acvp_policy.specs.Resource.{resource_of}
+use Rattle.acvp_policy.specs.declared.action.Action.{Action}
+use Rattle.acvp_policy.specs.declared.facts.Facts.{Facts}
+use Rattle.acvp_policy.specs.declared.rule.Rule.{Rule}
+use Rattle.acvp_policy.specs.declared.facts.CertificationStatus.{CertificationStatus}
+use Rattle.acvp_policy.specs.declared.facts.SessionFacts.{SessionFacts}
+use Rattle.acvp_tables.specs.Content.{Content, live_sets, session_at}
+use Rattle.acvp_tables.specs.State.{State, state_of, session_record, set_record, SetRecord, session_record_at, live_records}
+use Rattle.acvp_tables.specs.declared.rows.SessionRow.{SessionRow}
+use Rattle.acvp_tables.specs.declared.rows.SetRow.{SetRow}
+use Rattle.acvp_tables.specs.declared.summary.SetSummary.{SetSummary}
+use Rattle.acvp_tables.specs.Content.{account_at, set_summary}
+use Rattle.acvp_tables.specs.declared.rows.AccountRow.{AccountRow}
+use Rattle.acvp_desk.specs.Answer.{account_found, action_of, facts_from, found_of, later_conditions, reviewer_found, standing_of, unfound_of, who}
+use Rattle.acvp_desk.specs.Kept.{IsKept}
+use Rattle.acvp_desk.specs.Place.{certification_of, facts_of_session, session_facts, set_numbers, set_outcome, set_outcomes, unfound, subject_of, place_of}
+use Rattle.acvp_desk.specs.declared.ask.Ask.{Ask}
+use Rattle.acvp_desk.specs.declared.ask.Ask.TheVariants.{Login, Caller}
+use Rattle.acvp_desk.specs.declared.ask.LoginAsk.{LoginAsk}
+use Rattle.acvp_desk.specs.declared.find.Place.{Place}
+use Rattle.acvp_desk.specs.declared.found.Found.{Found}
+use Rattle.acvp_desk.specs.declared.wish.CallerAsk.{CallerAsk}
+use Rattle.acvp_desk.specs.declared.wish.Wish.{Wish}
+use Rattle.acvp_desk.specs.declared.wish.Wish.TheVariants.{Account, Algorithm, Session}
+use Rattle.acvp_desk.proofs.Deciding.{denied_by}
+use Rattle.acvp_desk.specs.declared.found.SetOutcome.{SetOutcome}
+use Rattle.acvp_desk.proofs.Passing.{counters_tell, outcome_of, outcomes_among}
+
+module _ (follows : (n : ℕ) (c : Content) → session_record_at n (state_of c).sessions ≡ option_map session_record (session_at n c.sessions))
+    (sets : (s : ℕ) (c : Content) → live_records s (state_of c).sets ≡ map set_record (live_sets s c.sets)) where
+  pub no_session : (seeds : List (List ℕ)) (c : Content) (n : ℕ) → session_at n c.sessions ≡ None → None ≡ session_facts seeds (state_of c) n
+  unfolding session_facts
+  no_session seeds c n none = rw (follows n c, none) refl
+
+  pub session_stands : (seeds : List (List ℕ)) (c : Content) (n : ℕ) (row : SessionRow) (certification : Option CertificationStatus) (found : SessionFacts) → IsKept seeds c
+      → session_at n c.sessions ≡ Some row → certification ≡ certification_of row.certify (state_of c).requests
+      → found ≡ (record { cancelled = row.cancelled; created = row.created; sample = row.sample; certification = certification; passed = nat_le 1 row.live && (row.passed == row.live) })
+      → Some found ≡ session_facts seeds (state_of c) n
+  unfolding session_facts
+  session_stands seeds c n row certification found kept there certified is =
+      rw (follows n c, there, is, certified, counters_tell sets seeds c n row kept there) refl
+
+-- ---- vector sets
+
+all_taken : {X : Type 0} (i : ℕ) (xs : List X) → length xs ≤ i → take i xs ≡ xs
+all_taken i [] short = go i
+  where
+    go : {X : Type 0} (i : ℕ) → take {A = X} i [] ≡ []
+    go zero = refl
+    go (suc i) = refl
+all_taken zero (x ∷ xs) short = absurd (omega (arith, short))
+all_taken (suc i) (x ∷ xs) short = ap (λ rest. x ∷ rest) (all_taken i xs (omega (arith, short)))
+
+same_numbered : (rows : List SetRow) → map (λ (row : SetSummary). row.number) (map set_summary rows) ≡ map (λ (row : SetRecord). row.number) (map set_record rows)
+same_numbered [] = refl
+same_numbered (row ∷ rows) = ap (λ rest. row.number ∷ rest) (same_numbered rows)
+
+pub numbers_of_sets : (sets : (s : ℕ) (c : Content) → live_records s (state_of c).sets ≡ map set_record (live_sets s c.sets))
+    → (c : Content) (n i : ℕ) (found : List SetSummary) (numbers : List ℕ) → numbers ≡ map (λ row. row.number) (take i found) → length found ≤ i
+    → found ≡ map set_summary (live_sets n c.sets) → numbers ≡ set_numbers n (state_of c)
+numbers_of_sets sets c n i found numbers are all is =
+    are ∙ ap (map (λ row. row.number)) (all_taken i found all ∙ is) ∙ same_numbered (live_sets n c.sets) ∙ sym (ap (map (λ row. row.number)) (sets n c))
+
+pub outcomes_of_sets : (sets : (s : ℕ) (c : Content) → live_records s (state_of c).sets ≡ map set_record (live_sets s c.sets))
+    → (seeds : List (List ℕ)) (c : Content) (n i : ℕ) (found : List SetSummary) (outcomes : List SetOutcome) → IsKept seeds c
+    → outcomes ≡ map outcome_of (take i found) → length found ≤ i → found ≡ map set_summary (live_sets n c.sets) → outcomes ≡ set_outcomes seeds n (state_of c)
+outcomes_of_sets sets seeds c n i found outcomes kept are all is =
+    are ∙ ap (map outcome_of) (all_taken i found all ∙ is) ∙ outcomes_among seeds n c.sets kept.graded ∙ sym (ap (map (set_outcome seeds)) (sets n c))
+
+-- ---- the account
+
+pub account_is : (it : Ask) (c : Content) (account : Option AccountRow) (number : Option ℕ) → number ≡ who it
+    → account ≡ option_and_then (λ n. account_at n c.accounts) number → account ≡ account_found it (state_of c)
+unfolding state_of
+account_is it c account number is found = rw (← is) found
+
+-- ---- the caller
+
+same_numbers : (seeds : List (List ℕ)) (s : State) (it : Wish) → resource_of (unfound it) ≡ resource_of (subject_of seeds s it)
+same_numbers seeds s (Account it) = refl
+same_numbers seeds s (Algorithm n) = refl
+same_numbers seeds s (Session n it) = refl
+
+callers_agree : (moment : ℕ) (it : Ask) (account : Option AccountRow) (reviewer : Bool) (seeds : List (List ℕ)) (s : State) → account ≡ account_found it s
+    → reviewer ≡ reviewer_found it s → AgreeOnCaller (facts_from moment it (unfound_of it account reviewer)) (facts_from moment it (found_of seeds it s))
+unfolding found_of
+callers_agree moment (Login login) account reviewer seeds s is reviews = record { token = refl; standing = refl; reviewer = refl; numbers = refl }
+callers_agree moment (Caller caller) account reviewer seeds s is reviews =
+    record { token = refl; standing = ap standing_of is; reviewer = reviews; numbers = same_numbers seeds s caller.wish }
+
+pub refused_caller : (moment : ℕ) (it : Ask) (account : Option AccountRow) (reviewer : Bool) (seeds : List (List ℕ)) (s : State) (rule : Rule) (a : Action) (f : Facts) (caller : Found)
+    → account ≡ account_found it s → reviewer ≡ reviewer_found it s → a ≡ action_of it → f ≡ facts_from moment it caller → caller ≡ unfound_of it account reviewer
+    → ((found : Facts) → AgreeOnCaller f found → decision a found ≡ Err rule) → first_broken (later_conditions moment it (found_of seeds it s)) ≡ Some rule
+refused_caller moment it account reviewer seeds s rule a f caller is reviews action facts unfound refused =
+    denied_by moment it (found_of seeds it s) a (facts_from moment it (found_of seeds it s)) rule action refl
+    (sym (refused (facts_from moment it (found_of seeds it s)) (rw (facts, unfound) (callers_agree moment it account reviewer seeds s is reviews))))
+
+-- ---- what is found
+
+pub login_found : (it : Ask) (login : LoginAsk) (account : Option AccountRow) (reviewer : Bool) (found : Found) (seeds : List (List ℕ)) (s : State) → it ≡ Login login
+    → found ≡ unfound_of it account reviewer → account ≡ account_found it s → reviewer ≡ reviewer_found it s → found ≡ found_of seeds it s
+unfolding found_of
+login_found it login account reviewer found seeds s is unfound account_is reviews = rw (unfound, account_is, reviews, is) refl
+
+pub caller_found : (it : Ask) (caller : CallerAsk) (account : Option AccountRow) (reviewer : Bool) (place : Place) (u : ℕ) (seeds : List (List ℕ)) (s : State) → it ≡ Caller caller
+    → u ≡ account_of_claims (claims_of caller.token) → account ≡ account_found it s → reviewer ≡ reviewer_found it s → place ≡ place_of seeds u s caller.wish
+    → ◌≡◌ {A = Found} (record { account = account; reviewer = reviewer; subject = place.subject; material = place.material }) (found_of seeds it s)
+unfolding found_of
+caller_found it caller account reviewer place u seeds s is acts account_is reviews found = rw (found, acts, account_is, reviews, is) refl

@@ -1,0 +1,177 @@
+-- What the records hold of what a path names.
+use Rattle.std.specs.Prelude.{ℕ, List, [], ◌∷◌, map, Bool, true, false, ◌&&◌, nat_le, slice_get, Option, Some, None, option_map, option_and_then, is_some}
+use Rattle.std.specs.List.{list_all}
+use Rattle.acvp_answers.specs.Answer.{Answer}
+use Rattle.acvp_answers.specs.Standards.{standard_of}
+use Rattle.acvp_answers.specs.Verdicts.{verdicts_of, disposition_of}
+use Rattle.acvp_answers.specs.declared.verdict.Disposition.{Disposition}
+use Rattle.acvp_gen.specs.Prompts.{prompts_of}
+use Rattle.acvp_policy.specs.Conditions.{is_some_and, session_found}
+use Rattle.acvp_policy.specs.declared.facts.CertificationStatus.{CertificationStatus}
+use Rattle.acvp_policy.specs.declared.facts.CertificationStatus.TheVariants as certification
+use Rattle.acvp_policy.specs.declared.facts.SessionFacts.{SessionFacts}
+use Rattle.acvp_policy.specs.declared.facts.Subject.{Subject}
+use Rattle.acvp_policy.specs.declared.facts.Subject.TheVariants as subject
+use Rattle.acvp_tables.specs.Content.{is_reviewer, request_at, reviewers_of}
+use Rattle.acvp_tables.specs.Counted.{is_passed}
+use Rattle.acvp_tables.specs.State.{State, SessionRecord, SetRecord, session_record_at, live_records, record_counts}
+use Rattle.acvp_tables.specs.declared.rows.RequestRow.{RequestRow}
+use Rattle.acvp_tables.specs.declared.rows.RequestStatus.{RequestStatus}
+use Rattle.acvp_tables.specs.declared.rows.RequestStatus.TheVariants as status
+use Rattle.acvp_desk.specs.declared.find.Place.{Place}
+use Rattle.acvp_desk.specs.declared.found.SetOutcome.{SetOutcome}
+use Rattle.acvp_desk.specs.declared.found.Material.{Material}
+use Rattle.acvp_desk.specs.declared.found.Material.TheVariants as material
+use Rattle.acvp_desk.specs.declared.wish.Wish.{Wish}
+use Rattle.acvp_desk.specs.declared.wish.Wish.TheVariants as wish
+use Rattle.acvp_desk.specs.declared.wish.AccountWish.{AccountWish}
+use Rattle.acvp_desk.specs.declared.wish.AccountWish.TheVariants as on_account
+use Rattle.acvp_desk.specs.declared.wish.SessionWish.{SessionWish}
+use Rattle.acvp_desk.specs.declared.wish.SessionWish.TheVariants as on_session
+
+-- ---- a test session
+
+-- the disposition of answers to a vector set: their verdicts, worked out anew under the seed
+abbrev pub answers_disposition : List ℕ → SetRecord → List Answer → Disposition
+answers_disposition seed row answers = disposition_of (verdicts_of (standard_of (prompts_of seed row.number row.capability)) answers)
+
+abbrev pub disposition_under : SetRecord → Option (List ℕ) → Option (List Answer) → Option Disposition
+disposition_under row None answers = None
+disposition_under row (Some seed) None = None
+disposition_under row (Some seed) (Some answers) = Some (answers_disposition seed row answers)
+
+-- what the answers to a vector set come to under the seed of its epoch, where it has any
+unfoldable pub set_disposition : List (List ℕ) → SetRecord → Option Disposition
+set_disposition seeds row = disposition_under row (slice_get seeds row.epoch) row.answers
+
+-- whether a vector set has answers that pass
+abbrev pub set_passes : List (List ℕ) → SetRecord → Bool
+set_passes seeds row = is_some_and (set_disposition seeds row) is_passed
+
+abbrev pub is_any : {X : Type 0} → List X → Bool
+is_any [] = false
+is_any (x ∷ xs) = true
+
+-- a session has passed: there is a vector set that isn't cancelled, and each such set passes
+unfoldable pub session_passes : List (List ℕ) → ℕ → List SetRecord → Bool
+session_passes seeds n sets = is_any (live_records n sets) && list_all (set_passes seeds) (live_records n sets)
+
+abbrev pub certification_status : RequestStatus → CertificationStatus
+certification_status status.Initial = certification.Initial
+certification_status (status.Approved n) = certification.Approved
+certification_status status.Rejected = certification.Rejected
+
+-- the status of a session's last certification request
+abbrev pub certification_of : Option ℕ → List RequestRow → Option CertificationStatus
+certification_of certify requests = option_map (λ row. certification_status row.status) (option_and_then (λ n. request_at n requests) certify)
+
+abbrev pub facts_of_session : List (List ℕ) → State → SessionRecord → SessionFacts
+facts_of_session seeds state row = record {
+  cancelled = row.cancelled;
+  created = row.created;
+  sample = row.sample;
+  certification = certification_of row.certify state.requests;
+  passed = session_passes seeds row.number state.sets;
+}
+
+-- how the session of a number stands
+unfoldable pub session_facts : List (List ℕ) → State → ℕ → Option SessionFacts
+session_facts seeds state n = option_map (facts_of_session seeds state) (session_record_at n state.sessions)
+
+-- ---- who reviews
+
+abbrev pub session_reviewed : SessionWish → ℕ → ℕ → State → Bool
+session_reviewed on_session.Results n u state = is_reviewer n u state.reviewers
+session_reviewed _ n u state = false
+
+-- whether the account that acts reviews the session of the path, on the actions that reviewers are let in to
+abbrev pub reviewed : Wish → ℕ → State → Bool
+reviewed (wish.Session n it) u state = session_reviewed it n u state
+reviewed _ u state = false
+
+-- ---- what a path names
+
+-- by its numbers alone
+abbrev pub unfound : Wish → Subject
+unfound (wish.Account it) = subject.Account
+unfound (wish.Algorithm n) = subject.Algorithm n
+unfound (wish.Session n it) = subject.Session (record { session = n; found = None })
+
+-- with what is found there
+abbrev pub subject_of : List (List ℕ) → State → Wish → Subject
+subject_of seeds state (wish.Account it) = subject.Account
+subject_of seeds state (wish.Algorithm n) = subject.Algorithm n
+subject_of seeds state (wish.Session n it) = subject.Session (record { session = n; found = session_facts seeds state n })
+
+-- ---- what a reply shows besides
+
+abbrev pub account_material : ℕ → State → AccountWish → Material
+account_material u state on_account.Read = material.Counts (record_counts u state)
+account_material u state on_account.ListAlgorithms = material.Nothing
+
+-- the numbers of a session's vector sets that aren't cancelled
+abbrev pub set_numbers : ℕ → State → List ℕ
+set_numbers n state = map (λ row. row.number) (live_records n state.sets)
+
+-- each such set, with what its answers come to
+abbrev pub set_outcome : List (List ℕ) → SetRecord → SetOutcome
+set_outcome seeds row = record { vs = row.number; disposition = set_disposition seeds row }
+
+abbrev pub set_outcomes : List (List ℕ) → ℕ → State → List SetOutcome
+set_outcomes seeds n state = map (set_outcome seeds) (live_records n state.sets)
+
+abbrev pub session_material : List (List ℕ) → ℕ → State → SessionWish → Material
+session_material seeds n state on_session.Read = material.Sets (set_numbers n state)
+session_material seeds n state on_session.Cancel = material.Nothing
+session_material seeds n state on_session.Results = material.Outcomes (set_outcomes seeds n state)
+session_material seeds n state on_session.ListSets = material.Sets (set_numbers n state)
+session_material seeds n state on_session.ListReviewers = material.Reviewers (reviewers_of n state.reviewers)
+
+-- what is read of the records of the account that acts, and of what the path names
+abbrev pub material_of : List (List ℕ) → ℕ → State → Wish → Material
+material_of seeds u state (wish.Account it) = account_material u state it
+material_of seeds u state (wish.Algorithm n) = material.Nothing
+material_of seeds u state (wish.Session n it) = session_material seeds n state it
+
+-- both
+abbrev pub place_of : List (List ℕ) → ℕ → State → Wish → Place
+place_of seeds u state it = record { subject = subject_of seeds state it; material = material_of seeds u state it }
+
+-- ---- which material a wish has
+
+abbrev pub is_for_account : AccountWish → Material → Bool
+is_for_account on_account.Read (material.Counts n) = true
+is_for_account on_account.Read _ = false
+is_for_account on_account.ListAlgorithms m = true
+
+abbrev pub has_sets : Material → Bool
+has_sets (material.Sets sets) = true
+has_sets _ = false
+
+abbrev pub has_outcomes : Material → Bool
+has_outcomes (material.Outcomes sets) = true
+has_outcomes _ = false
+
+abbrev pub has_reviewers : Material → Bool
+has_reviewers (material.Reviewers accounts) = true
+has_reviewers _ = false
+
+abbrev pub is_for_session : SessionWish → Material → Bool
+is_for_session on_session.Read m = has_sets m
+is_for_session on_session.Cancel m = true
+is_for_session on_session.Results m = has_outcomes m
+is_for_session on_session.ListSets m = has_sets m
+is_for_session on_session.ListReviewers m = has_reviewers m
+
+abbrev pub is_for : Wish → Material → Bool
+is_for (wish.Account it) m = is_for_account it m
+is_for (wish.Algorithm n) m = true
+is_for (wish.Session n it) m = is_for_session it m
+
+-- ---- what is there where the policy lets through
+
+-- the algorithms are numbered from 1 to 12
+abbrev pub is_there : Wish → Subject → Bool
+is_there (wish.Account it) s = true
+is_there (wish.Algorithm n) s = nat_le 1 n && nat_le n 12
+is_there (wish.Session n it) s = is_some (session_found s)

@@ -1,0 +1,113 @@
+//! The cache of what was computed last of vector sets.
+
+ghost use Rattle.std.specs.Prelude.{◌≡◌, ◌<◌, ◌≤◌, length, IfOk, IfSome};
+ghost use Rattle.acvp_desk.specs.Cached.{seed_at, IsTrueTo};
+
+use crate::entry::Entry;
+use acvp_caps::Capability;
+use acvp_gen::Seeds;
+use lru::LruCache;
+use std::alloc::{AllocError, Global};
+use std::marker::Model;
+use std::num::NonZeroUsize;
+
+/// The most entries.
+const CAPACITY: usize = 64;
+
+/// The seeds of a server, and what was computed last under them, by the numbers of the vector sets. Each entry has the
+/// prompts, and the standard answers where they were made, of the vector set of its number. What isn't there is made
+/// anew, so an entry that is pushed out, or that memory is refused for, is lost without harm.
+#[derive(Drop)]
+pub(crate) struct Cache {
+    seeds: Seeds,
+    entries: LruCache<u64, Entry>,
+}
+
+impl Model for Cache {
+    ghost use Rattle.std.specs.Prelude.{◌≡◌, length};
+    ghost use Rattle.acvp_desk.specs.CacheValue.{CacheValue};
+    ghost use Rattle.acvp_desk.specs.Cached.{AreTrueTo};
+
+    ghost Value = { CacheValue };
+
+    ghost view = { λ c. record { seeds = c.seeds; len = length c.entries.entries } };
+
+    ghost invariant = { λ c. (c.entries.cap ≡ 64) × AreTrueTo c.seeds c.entries.entries };
+}
+
+/// The seed of an epoch that has one.
+fn seed_of(seeds: &Seeds, epoch: u64) -> &[u8; 32]
+    requires { epoch < length seeds.now }
+    ensures { result.now ≡ seed_at seeds.now epoch }
+{
+    seeds.get(epoch).unwrap()
+}
+
+impl Cache {
+    /// An empty cache under these seeds.
+    pub(crate) fn new(alloc: Global, seeds: Seeds) -> Result<Cache, AllocError>
+        ensures { IfOk result (λ c. c ≡ record { seeds = seeds; len = 0 }) }
+    {
+        let capacity = NonZeroUsize::new(CAPACITY).unwrap();
+        let entries = LruCache::new(alloc, capacity)?;
+        Ok(Cache { seeds, entries })
+    }
+
+    /// The seeds.
+    pub(crate) fn seeds(&self) -> &Seeds
+        ensures { result.now ≡ self.now.seeds }
+    {
+        &self.seeds
+    }
+
+    /// The number of entries. It takes no memory.
+    pub(crate) fn cached(&self) -> usize
+        ensures value { result ≡ self.now.len }
+        ensures most { result ≤ 64 }
+    {
+        self.entries.len()
+    }
+
+    /// Takes the entry of a vector set out of the cache, or makes it where there is none of this capability and epoch.
+    pub(crate) fn take(
+        &mut self,
+        alloc: Global,
+        number: u64,
+        capability: Capability,
+        epoch: u64,
+    ) -> Result<Entry, AllocError>
+        requires { epoch < length self.old.seeds }
+        ensures is_true { IfOk result (IsTrueTo self.old.seeds number) }
+        ensures capability { IfOk result (λ e. e.capability ≡ capability) }
+        ensures epoch { IfOk result (λ e. e.epoch ≡ epoch) }
+        ensures seeds { self.new.seeds ≡ self.old.seeds }
+    {
+        match self.take_kept(number) {
+            Some(entry) if entry.is_of(&capability, epoch) => Ok(entry),
+            _ => Entry::make(
+                alloc,
+                seed_of(&self.seeds, epoch),
+                number,
+                capability,
+                epoch,
+            ),
+        }
+    }
+
+    /// Takes the entry of a vector set out of the cache, whatever capability and epoch it is of.
+    fn take_kept(&mut self, number: u64) -> Option<Entry>
+        ensures is_true { IfSome result (IsTrueTo self.old.seeds number) }
+        ensures seeds { self.new.seeds ≡ self.old.seeds }
+    {
+        self.entries.pop(&number)
+    }
+
+    /// Puts the entry of a vector set in, as the most recently used. Of 64 others the least recently used is pushed out.
+    /// Where memory is refused the entry isn't kept.
+    pub(crate) fn keep(&mut self, number: u64, entry: Entry)
+        requires { IsTrueTo self.old.seeds number entry }
+        ensures { self.new.seeds ≡ self.old.seeds }
+    {
+        let _ = self.entries.put(number, entry);
+    }
+}

@@ -1,0 +1,80 @@
+//! An entry of the cache.
+
+ghost use Rattle.std.specs.Prelude.{◌≡◌, None, Some, IfOk, IsTrue, OnOk, OnErr, IsSome};
+ghost use Rattle.acvp_gen.specs.Prompts.{prompts_of};
+ghost use Rattle.acvp_answers.specs.Standards.{standard_of};
+ghost use Rattle.acvp_desk.specs.Cached.{HasItsStandard, StaysTrue};
+
+use acvp_answers::{Answers, standard};
+use acvp_caps::Capability;
+use acvp_gen::{Prompts, prompts};
+use std::alloc::{AllocError, Global};
+
+/// What was computed of a vector set, by its capability and under the seed of its epoch.
+#[derive(Drop)]
+pub(crate) struct Entry {
+    pub capability: Capability,
+    pub epoch: u64,
+    pub prompts: Prompts,
+
+    /// The standard answers, once they were asked for.
+    pub standard: Option<Answers>,
+}
+
+impl Entry {
+    /// The entry of the vector set of a number, without its standard answers.
+    pub(crate) fn make(
+        alloc: Global,
+        seed: &[u8; 32],
+        number: u64,
+        capability: Capability,
+        epoch: u64,
+    ) -> Result<Entry, AllocError>
+        ensures { IfOk result (λ e. e ≡ record { capability = capability; epoch = epoch; prompts = prompts_of seed.now number capability; standard = None }) }
+    {
+        let prompts = prompts(alloc, seed, number, &capability)?;
+        Ok(Entry {
+            capability,
+            epoch,
+            prompts,
+            standard: None,
+        })
+    }
+
+    /// Whether it is of this capability, as its items were given, and of this epoch.
+    pub(crate) fn is_of(&self, capability: &Capability, epoch: u64) -> bool
+        ensures capability { IsTrue result → self.now.capability ≡ capability.now }
+        ensures epoch { IsTrue result → self.now.epoch ≡ epoch }
+    {
+        self.epoch == epoch && self.capability.is_same(capability)
+    }
+
+    /// Makes the standard answers where they aren't there. Where memory is refused, the entry stays as it was.
+    pub(crate) fn complete(&mut self, alloc: Global) -> Result<(), AllocError>
+        requires { HasItsStandard self.old }
+        ensures ok { OnOk result (self.new.standard ≡ Some (standard_of self.old.prompts)) }
+        ensures err { OnErr result (self.new ≡ self.old) }
+        ensures prompts { self.new.prompts ≡ self.old.prompts }
+        ensures stays { StaysTrue self.old self.new }
+    {
+        if self.standard.is_none() {
+            self.standard = Some(standard(alloc, &self.prompts)?);
+        }
+        Ok(())
+    }
+
+    /// The prompts.
+    pub(crate) fn prompts(&self) -> &Prompts
+        ensures { result.now ≡ self.now.prompts }
+    {
+        &self.prompts
+    }
+
+    /// The standard answers, which were made.
+    pub(crate) fn standard(&self) -> &Answers
+        requires { IsSome self.now.standard }
+        ensures { self.now.standard ≡ Some result.now }
+    {
+        self.standard.as_ref().unwrap()
+    }
+}

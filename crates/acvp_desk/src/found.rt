@@ -1,0 +1,186 @@
+//! What the tables hold of a request.
+
+ghost use Rattle.std.specs.Prelude.{◌≡◌};
+ghost use Rattle.acvp_desk.specs.Answer.{facts_from, standing_of, unfound_of};
+ghost use Rattle.acvp_desk.specs.Login.{step_of, login_facts};
+ghost use Rattle.acvp_desk.specs.Place.{unfound};
+
+use crate::ask::{Ask, LoginAsk};
+use crate::wish::Wish;
+use acvp_answers::Disposition;
+use acvp_mac::accepted_step;
+use acvp_policy::{Facts, LoginFacts, SessionSubject, Standing, Subject, Token, UserFacts};
+use acvp_tables::{AccountRow, Counts};
+use std::marker::Model;
+
+/// The numbers of vector sets, in their order.
+#[derive(Drop)]
+pub(crate) struct SetNumbers {
+    pub numbers: Vec<u64>,
+}
+
+impl Model for SetNumbers {
+    ghost use Rattle.std.specs.Prelude.{ℕ, List};
+
+    ghost Value = { List ℕ };
+
+    ghost view = { λ s. s.numbers.items };
+}
+
+/// A vector set, and what its answers come to, where it has any.
+#[derive(Clone, Copy)]
+pub(crate) struct SetOutcome {
+    pub vs: u64,
+    pub disposition: Option<Disposition>,
+}
+
+/// Vector sets with what their answers come to, in the order of their numbers.
+#[derive(Drop)]
+pub(crate) struct SetOutcomes {
+    pub sets: Vec<SetOutcome>,
+}
+
+impl Model for SetOutcomes {
+    ghost use Rattle.std.specs.Prelude.{List};
+    ghost use Rattle.acvp_desk.specs.declared.found.SetOutcome.{SetOutcome};
+
+    ghost Value = { List SetOutcome };
+
+    ghost view = { λ s. s.sets.items };
+}
+
+/// The numbers of accounts, in their order.
+#[derive(Drop)]
+pub(crate) struct Accounts {
+    pub numbers: Vec<u16>,
+}
+
+impl Model for Accounts {
+    ghost use Rattle.std.specs.Prelude.{ℕ, List};
+
+    ghost Value = { List ℕ };
+
+    ghost view = { λ a. a.numbers.items };
+}
+
+/// What a reply shows of the records, beside how what the path names stands.
+#[derive(Drop)]
+pub(crate) enum Material {
+    Nothing,
+
+    /// How many rows the account that acts has.
+    Counts(Counts),
+
+    /// The vector sets of a session that aren't cancelled.
+    Sets(SetNumbers),
+
+    /// The same with what their answers come to.
+    Outcomes(SetOutcomes),
+
+    /// The accounts that review a session.
+    Reviewers(Accounts),
+}
+
+/// What the tables hold of a request.
+#[derive(Drop)]
+pub(crate) struct Found {
+    /// The account that acts.
+    pub account: Option<AccountRow>,
+
+    /// Whether it reviews the session of the path; looked up on the actions that reviewers are let in to.
+    pub reviewer: bool,
+
+    /// What the path names; of a login, the account.
+    pub subject: Subject,
+    pub material: Material,
+}
+
+/// What a wish names, by its numbers alone.
+fn unfound(wish: &Wish) -> Subject
+    ensures { result ≡ unfound wish.now }
+{
+    match *wish {
+        Wish::Account(_) => Subject::Account,
+        Wish::Algorithm(number) => Subject::Algorithm(number),
+        Wish::Session(session, _) => Subject::Session(SessionSubject {
+            session,
+            found: None,
+        }),
+    }
+}
+
+impl Found {
+    /// Before anything is looked at that the path names.
+    pub fn nothing(ask: &Ask, account: Option<AccountRow>, reviewer: bool) -> Found
+        ensures { result ≡ unfound_of ask.now account reviewer }
+    {
+        let subject = match ask {
+            Ask::Login(_) => Subject::Account,
+            Ask::Caller(caller) => unfound(&caller.wish),
+        };
+        Found {
+            account,
+            reviewer,
+            subject,
+            material: Material::Nothing,
+        }
+    }
+}
+
+/// The step whose code the password is.
+pub(crate) fn step_of(moment: u64, login: &LoginAsk, row: &AccountRow) -> Option<u64>
+    ensures { result ≡ step_of moment login.now row.now }
+{
+    accepted_step(&row.secret, row.last_step, moment, login.password?)
+}
+
+/// What is found on a login.
+fn login_facts(moment: u64, login: &LoginAsk, found: &Option<AccountRow>) -> LoginFacts
+    ensures { result ≡ login_facts moment login.now found.now }
+{
+    let user = match found {
+        Some(row) => Some(UserFacts {
+            account: row.number,
+            enabled: row.enabled,
+            step: step_of(moment, login, row),
+        }),
+        None => None,
+    };
+    LoginFacts {
+        user,
+        renewal: login.renewal,
+    }
+}
+
+/// How an account stands.
+fn standing_of(account: &Option<AccountRow>) -> Standing
+    ensures { result ≡ standing_of account.now }
+{
+    match account {
+        None => Standing::Absent,
+        Some(row) if row.enabled => Standing::Enabled,
+        Some(_) => Standing::Disabled,
+    }
+}
+
+/// What the policy is asked about.
+pub(crate) fn facts_for(moment: u64, ask: &Ask, found: &Found) -> Facts
+    ensures { result ≡ facts_from moment ask.now found.now }
+{
+    match ask {
+        Ask::Login(login) => Facts {
+            moment,
+            token: Token::Missing,
+            standing: Standing::Absent,
+            reviewer: false,
+            subject: Subject::Login(login_facts(moment, login, &found.account)),
+        },
+        Ask::Caller(caller) => Facts {
+            moment,
+            token: caller.token,
+            standing: standing_of(&found.account),
+            reviewer: found.reviewer,
+            subject: found.subject,
+        },
+    }
+}

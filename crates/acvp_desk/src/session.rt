@@ -1,0 +1,202 @@
+//! What is given to who reads a test session or its lists, or cancels it.
+
+ghost use Rattle.std.specs.Prelude.{◌≡◌, ◌<◌, map, true, Some, None, IfOk, IfErr, is_some};
+ghost use Rattle.acvp_policy.specs.Conditions.{session_found};
+ghost use Rattle.acvp_desk.specs.Answer.{end_of_moments, IsReply};
+ghost use Rattle.acvp_desk.specs.Place.{is_for_session, has_sets};
+ghost use Rattle.acvp_desk.specs.Replies.{disposition_at, facts_reply, result_shown, results_reply, session_reply, session_shown, session_status, sets_in_material, wish_change};
+ghost use Rattle.acvp_desk.specs.declared.wish.SessionWish.TheVariants as on_session;
+ghost use Rattle.acvp_desk.specs.declared.wish.Wish.TheVariants as wish;
+
+use crate::ask::END_OF_MOMENTS;
+use crate::draft::{Draft, told};
+use crate::found::{Found, Material, SetOutcome};
+use crate::wish::SessionWish;
+use acvp_answers::Disposition;
+use acvp_json::{Created, ReplyObject, Session, SessionStatus, SetResult};
+use acvp_policy::{CertificationStatus, Rule, SessionFacts, SessionSubject, Subject};
+use acvp_tables::Change;
+use std::alloc::{AllocError, Global};
+
+/// How long the vector sets of a session live, in seconds.
+const SET_LIFE: u64 = 604800;
+
+/// How a session stands: cancelled, or as its last certification request stands, or open.
+fn session_status(facts: &SessionFacts) -> SessionStatus
+    ensures { result ≡ session_status facts.now }
+{
+    match facts.certification {
+        _ if facts.cancelled => SessionStatus::Cancelled,
+        Some(CertificationStatus::Initial) => SessionStatus::Initial,
+        Some(CertificationStatus::Approved) => SessionStatus::Approved,
+        None | Some(CertificationStatus::Rejected) => SessionStatus::Open,
+    }
+}
+
+/// What is shown of a session. A row of a session that was created at a moment that isn't served stands for nothing.
+fn session_shown(number: u64, facts: &SessionFacts) -> Result<Session, Rule>
+    ensures shown { IfOk result (λ session. session ≡ session_shown number facts.now) }
+    ensures denied { IfErr result (λ rule. rule ≡ Rule.Unavailable) }
+{
+    if facts.created >= END_OF_MOMENTS {
+        return Err(Rule::Unavailable);
+    }
+    Ok(Session {
+        number,
+        created: Created::at(facts.created),
+        sample: facts.sample,
+        status: session_status(facts),
+    })
+}
+
+/// What is given to who reads a session.
+#[tactic(auto, unfolding(acvp_json::specs::ReplyData::reply_data))]
+fn draft_read(alloc: Global, number: u64, facts: &SessionFacts, sets: &[u64]) -> Result<Draft, Rule>
+    ensures reply { IfOk result (λ draft. IsReply draft.reply.items (facts_reply number (Some facts.now) (Some sets.now))) }
+    ensures change { IfOk result (λ draft. draft.change ≡ None) }
+    ensures denied { IfErr result (λ rule. rule ≡ Rule.Unavailable) }
+{
+    let session = session_shown(number, facts)?;
+    let object = ReplyObject::ReadSession {
+        session,
+        passed: facts.passed,
+        sets,
+    };
+    told(alloc, &object, None)
+}
+
+/// How the session of a path stands.
+fn found_facts(subject: &Subject) -> &SessionFacts
+    requires { is_some (session_found subject.now) ≡ true }
+    ensures { session_found subject.now ≡ Some result.now }
+{
+    let Subject::Session(
+        SessionSubject {
+            found: Some(facts),
+            ..
+        },
+    ) = subject
+    else {
+        unreachable!()
+    };
+    facts
+}
+
+/// The vector sets that were found.
+fn found_sets(material: &Material) -> &[u64]
+    requires { has_sets material.now ≡ true }
+    ensures { sets_in_material material.now ≡ Some result.now }
+{
+    let Material::Sets(sets) = material else {
+        unreachable!()
+    };
+    &sets.numbers
+}
+
+/// What a vector set comes to at a moment, by the creation of its session, which is so early that it ends before the end
+/// of all numbers.
+fn disposition_at(moment: u64, created: u64, disposition: Option<Disposition>) -> Disposition
+    requires { created < end_of_moments }
+    ensures { result ≡ disposition_at moment created disposition }
+{
+    match disposition {
+        Some(disposition) => disposition,
+        None if moment >= created + SET_LIFE => Disposition::Expired,
+        None => Disposition::Unreceived,
+    }
+}
+
+/// What each vector set comes to at a moment.
+fn results_at(
+    alloc: Global,
+    moment: u64,
+    facts: &SessionFacts,
+    outcomes: &[SetOutcome],
+) -> Result<Vec<SetResult>, AllocError>
+    requires { facts.now.created < end_of_moments }
+    ensures { IfOk result (λ results. results.items ≡ map (result_shown moment facts.now) outcomes.now) }
+{
+    let mut results = Vec::with_capacity(alloc, outcomes.len())?;
+    for outcome in outcomes {
+        let disposition = disposition_at(moment, facts.created, outcome.disposition);
+        results.push(SetResult {
+            vs: outcome.vs,
+            disposition,
+        })?;
+    }
+    Ok(results)
+}
+
+/// What is given to who reads the results of a session.
+#[tactic(auto, unfolding(acvp_json::specs::ReplyData::reply_data))]
+fn draft_results(
+    alloc: Global,
+    moment: u64,
+    facts: &SessionFacts,
+    outcomes: &[SetOutcome],
+) -> Result<Draft, Rule>
+    ensures reply { IfOk result (λ draft. IsReply draft.reply.items (results_reply moment (Some facts.now) (Some outcomes.now))) }
+    ensures change { IfOk result (λ draft. draft.change ≡ None) }
+    ensures denied { IfErr result (λ rule. rule ≡ Rule.Unavailable) }
+{
+    if facts.created >= END_OF_MOMENTS {
+        return Err(Rule::Unavailable);
+    }
+    let Ok(results) = results_at(alloc, moment, facts, outcomes) else {
+        return Err(Rule::Unavailable);
+    };
+    let object = ReplyObject::SessionResults {
+        passed: facts.passed,
+        sets: &results,
+    };
+    told(alloc, &object, None)
+}
+
+/// What is given on a session.
+#[tactic(auto, unfolding(acvp_json::specs::ReplyData::reply_data))]
+pub(crate) fn draft_session(
+    alloc: Global,
+    moment: u64,
+    number: u64,
+    it: SessionWish,
+    found: &Found,
+) -> Result<Draft, Rule>
+    requires there { is_some (session_found found.now.subject) ≡ true }
+    requires material { is_for_session it found.now.material ≡ true }
+    ensures reply { IfOk result (λ draft. IsReply draft.reply.items (session_reply moment number found.now it)) }
+    ensures change { IfOk result (λ draft. draft.change ≡ wish_change (wish.Session number it)) }
+    ensures denied { IfErr result (λ rule. rule ≡ Rule.Unavailable) }
+{
+    match it {
+        SessionWish::Read => {
+            let facts = found_facts(&found.subject);
+            draft_read(alloc, number, facts, found_sets(&found.material))
+        }
+        SessionWish::Cancel => {
+            let cancelled = Some(Change::CancelSession(number));
+            told(
+                alloc,
+                &ReplyObject::CancelSession { session: number },
+                cancelled,
+            )
+        }
+        SessionWish::Results => {
+            let facts = found_facts(&found.subject);
+            let Material::Outcomes(outcomes) = &found.material else {
+                unreachable!()
+            };
+            draft_results(alloc, moment, facts, &outcomes.sets)
+        }
+        SessionWish::ListSets => {
+            let sets = found_sets(&found.material);
+            told(alloc, &ReplyObject::ListSets { sets }, None)
+        }
+        SessionWish::ListReviewers => {
+            let Material::Reviewers(accounts) = &found.material else {
+                unreachable!()
+            };
+            let accounts = &accounts.numbers;
+            told(alloc, &ReplyObject::Reviewers { accounts }, None)
+        }
+    }
+}
