@@ -18,7 +18,7 @@ use Rattle.acvp_tables.specs.declared.rows.SetRow.{SetRow}
 use Rattle.acvp_tables.specs.declared.summary.SetSummary.{SetSummary}
 use Rattle.acvp_tables.specs.Content.{account_at, set_summary}
 use Rattle.acvp_tables.specs.declared.rows.AccountRow.{AccountRow}
-use Rattle.acvp_desk.specs.Answer.{account_found, action_of, facts_from, found_of, later_conditions, reviewer_found, standing_of, unfound_of, who}
+use Rattle.acvp_desk.specs.Answer.{account_found, action_of, facts_from, found_of, policy_conditions, reviewer_found, standing_of, unfound_of, who}
 use Rattle.acvp_desk.specs.Kept.{IsKept}
 use Rattle.acvp_desk.specs.Place.{certification_of, facts_of_session, session_facts, set_numbers, set_outcome, set_outcomes, unfound, subject_of, place_of}
 use Rattle.acvp_desk.specs.declared.ask.Ask.{Ask}
@@ -28,7 +28,7 @@ use Rattle.acvp_desk.specs.declared.find.Place.{Place}
 use Rattle.acvp_desk.specs.declared.found.Found.{Found}
 use Rattle.acvp_desk.specs.declared.wish.CallerAsk.{CallerAsk}
 use Rattle.acvp_desk.specs.declared.wish.Wish.{Wish}
-use Rattle.acvp_desk.specs.declared.wish.Wish.TheVariants.{Account, Algorithm, Session}
+use Rattle.acvp_desk.specs.declared.wish.Wish.TheVariants.{Account, Algorithm, Session, Reviewer, Set, NewSession, CancelSet, ListSessions}
 use Rattle.acvp_desk.proofs.Deciding.{denied_by}
 use Rattle.acvp_desk.specs.declared.found.SetOutcome.{SetOutcome}
 use Rattle.acvp_desk.proofs.Passing.{counters_tell, outcome_of, outcomes_among}
@@ -49,7 +49,7 @@ module _ (follows : (n : ℕ) (c : Content) → session_record_at n (state_of c)
 
 -- ---- vector sets
 
-all_taken : {X : Type 0} (i : ℕ) (xs : List X) → length xs ≤ i → take i xs ≡ xs
+pub all_taken : {X : Type 0} (i : ℕ) (xs : List X) → length xs ≤ i → take i xs ≡ xs
 all_taken i [] short = go i
   where
     go : {X : Type 0} (i : ℕ) → take {A = X} i [] ≡ []
@@ -87,6 +87,11 @@ same_numbers : (seeds : List (List ℕ)) (s : State) (it : Wish) → resource_of
 same_numbers seeds s (Account it) = refl
 same_numbers seeds s (Algorithm n) = refl
 same_numbers seeds s (Session n it) = refl
+same_numbers seeds s (Reviewer n m) = refl
+same_numbers seeds s NewSession = refl
+same_numbers seeds s (Set session n it) = refl
+same_numbers seeds s (CancelSet session n) = refl
+same_numbers seeds s (ListSessions page) = refl
 
 callers_agree : (moment : ℕ) (it : Ask) (account : Option AccountRow) (reviewer : Bool) (seeds : List (List ℕ)) (s : State) → account ≡ account_found it s
     → reviewer ≡ reviewer_found it s → AgreeOnCaller (facts_from moment it (unfound_of it account reviewer)) (facts_from moment it (found_of seeds it s))
@@ -97,7 +102,7 @@ callers_agree moment (Caller caller) account reviewer seeds s is reviews =
 
 pub refused_caller : (moment : ℕ) (it : Ask) (account : Option AccountRow) (reviewer : Bool) (seeds : List (List ℕ)) (s : State) (rule : Rule) (a : Action) (f : Facts) (caller : Found)
     → account ≡ account_found it s → reviewer ≡ reviewer_found it s → a ≡ action_of it → f ≡ facts_from moment it caller → caller ≡ unfound_of it account reviewer
-    → ((found : Facts) → AgreeOnCaller f found → decision a found ≡ Err rule) → first_broken (later_conditions moment it (found_of seeds it s)) ≡ Some rule
+    → ((found : Facts) → AgreeOnCaller f found → decision a found ≡ Err rule) → first_broken (policy_conditions moment it (found_of seeds it s)) ≡ Some rule
 refused_caller moment it account reviewer seeds s rule a f caller is reviews action facts unfound refused =
     denied_by moment it (found_of seeds it s) a (facts_from moment it (found_of seeds it s)) rule action refl
     (sym (refused (facts_from moment it (found_of seeds it s)) (rw (facts, unfound) (callers_agree moment it account reviewer seeds s is reviews))))

@@ -1,6 +1,8 @@
 pub mod Judging
 pub mod LoginLemmas
 pub mod Deciding
+pub mod Reviewing
+pub mod Registering
 pub mod Answering
 pub mod Serving
 pub mod Ordering
@@ -10,3 +12,8 @@ pub mod Passing
 pub mod Finding
 pub mod Allowing
 pub mod CacheLemmas
+pub mod SetLemmas
+pub mod Cancelling
+pub mod Submitting
+pub mod Paging
+pub mod Walking

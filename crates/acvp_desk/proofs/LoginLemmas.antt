@@ -6,21 +6,21 @@ use Rattle.acvp_policy.specs.Policy.{policy}
 use Rattle.acvp_tables.specs.declared.rows.AccountRow.{AccountRow}
 use Rattle.acvp_policy.specs.declared.rule.Rule.{Rule}
 use Rattle.acvp_policy.specs.declared.rule.Rule.TheVariants.{LoginRefused}
-use Rattle.acvp_desk.specs.Answer.{later_conditions}
+use Rattle.acvp_desk.specs.Answer.{policy_conditions}
 use Rattle.acvp_desk.specs.Login.{step_of}
 use Rattle.acvp_desk.specs.declared.ask.Ask.TheVariants.{Login}
 use Rattle.acvp_desk.specs.declared.ask.LoginAsk.{LoginAsk}
 use Rattle.acvp_desk.specs.declared.found.Found.{Found}
 
 -- without an account it isn't
-pub needs_account : (moment : ℕ) (login : LoginAsk) (found : Found) → first_broken (later_conditions moment (Login login) found) ≡ None → found.account ≡ None → ⊥
-unfolding later_conditions policy
+pub needs_account : (moment : ℕ) (login : LoginAsk) (found : Found) → first_broken (policy_conditions moment (Login login) found) ≡ None → found.account ≡ None → ⊥
+unfolding policy_conditions policy
 needs_account moment login found held none = absurd (let h = rw none at held in cc)
 
 -- nor without a step whose code was given
-pub needs_step : (moment : ℕ) (login : LoginAsk) (found : Found) (row : AccountRow) → first_broken (later_conditions moment (Login login) found) ≡ None → found.account ≡ Some row
+pub needs_step : (moment : ℕ) (login : LoginAsk) (found : Found) (row : AccountRow) → first_broken (policy_conditions moment (Login login) found) ≡ None → found.account ≡ Some row
     → step_of moment login row ≡ None → ⊥
-unfolding later_conditions policy
+unfolding policy_conditions policy
 needs_step moment login found row held some none = go row.enabled _ (rw (some, none) at held)
   where
     go : (b : Bool) (other : Condition Rule) → first_broken {F = Rule} ((b && false, LoginRefused) ∷ other ∷ []) ≡ None → ⊥

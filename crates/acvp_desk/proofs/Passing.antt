@@ -13,11 +13,12 @@ use Rattle.acvp_tables.specs.declared.rows.SessionRow.{SessionRow}
 use Rattle.acvp_tables.specs.declared.rows.SetRow.{SetRow}
 use Rattle.acvp_tables.specs.declared.summary.SetSummary.{SetSummary}
 use Rattle.acvp_desk.specs.Kept.{IsGradedSet, IsRightly, IsKept}
-use Rattle.acvp_desk.specs.Place.{disposition_under, set_disposition, set_outcome, set_passes, session_passes, is_any}
+use Rattle.acvp_desk.specs.Place.{set_outcome, session_passes, is_any}
+use Rattle.acvp_desk.specs.Sets.{disposition_under, set_disposition, set_passes}
 use Rattle.acvp_desk.specs.declared.found.SetOutcome.{SetOutcome}
 
 -- what holds of each row holds of the one that is found
-found_holds : {R : Type 0} (p q : R → Bool) (rows : List R) (x : R) → find p rows ≡ Some x → list_all q rows ≡ true → q x ≡ true
+pub found_holds : {R : Type 0} (p q : R → Bool) (rows : List R) (x : R) → find p rows ≡ Some x → list_all q rows ≡ true → q x ≡ true
 found_holds p q [] x found all = absurd (cc)
 found_holds {R = R} p q (r ∷ rows) x found all = go (p r) (q r) refl refl (found_holds p q rows x)
   where
@@ -39,11 +40,11 @@ graded_disposition : (seeds : List (List ℕ)) (row : SetRow) → IsGradedSet se
 unfolding IsGradedSet set_disposition
 graded_disposition seeds row right = rw (right.1) (disposed_at row right.0 row.graded right.2)
 
-passed_is : (graded : Option GradedValue) → has_passed graded ≡ is_some_and (option_map (λ (g : GradedValue). g.disposition) graded) is_passed
+pub passed_is : (graded : Option GradedValue) → has_passed graded ≡ is_some_and (option_map (λ (g : GradedValue). g.disposition) graded) is_passed
 passed_is None = refl
 passed_is (Some g) = refl
 
-graded_passes : (seeds : List (List ℕ)) (row : SetRow) → IsGradedSet seeds row → has_passed row.graded ≡ set_passes seeds (set_record row)
+pub graded_passes : (seeds : List (List ℕ)) (row : SetRow) → IsGradedSet seeds row → has_passed row.graded ≡ set_passes seeds (set_record row)
 graded_passes seeds row right = passed_is row.graded ∙ ap (λ d. is_some_and d is_passed) (graded_disposition seeds row right)
 
 -- what is read of a session's sets is what they come to

@@ -10,7 +10,7 @@ use Rattle.acvp_tables.specs.Changes.{after}
 use Rattle.acvp_tables.specs.Content.{Content}
 use Rattle.acvp_tables.specs.State.{IsSound, state_of}
 use Rattle.acvp_tables.specs.declared.change.Change.{Change}
-use Rattle.acvp_desk.specs.Answer.{end_of_moments, first_conditions, ask_of, found_of, later_conditions, reply_of, answer, accepted_change, change_of, content_after, content_effect, spare, Gives, IsReply}
+use Rattle.acvp_desk.specs.Answer.{end_of_moments, first_conditions, ask_of, found_of, later_conditions, own_conditions, policy_conditions, reply_of, answer, accepted_change, change_of, content_after, content_effect, spare, Gives, IsReply}
 use Rattle.acvp_desk.specs.Kept.{IsKept}
 use Rattle.acvp_desk.specs.Serves.{Looks, Serves}
 use Rattle.acvp_desk.specs.declared.ask.Ask.{Ask}
@@ -18,6 +18,7 @@ use Rattle.acvp_desk.specs.declared.found.Found.{Found}
 use Rattle.acvp_desk.specs.declared.keys.Keys.{Keys}
 use Rattle.acvp_desk.specs.Request.{RequestValue}
 use Rattle.acvp_desk.proofs.Answering.{refused_first, refused_later, answered, makes}
+use Rattle.acvp_desk.proofs.Judging.{front_broken}
 
 -- what is given has room for its head
 roomy : (buffer : List ℕ) (shown : Option Data) → IsReply buffer shown → spare ≤ length buffer
@@ -48,7 +49,7 @@ module _ {T : Type 0} (stands : T → Content → Type 0) (is_live is_clean : T 
   pub refused_caller : m < end_of_moments → (it : Ask) → first_broken (first_conditions m r) ≡ None → ask_of keys m r ≡ Some it → (old mid : T) (told : Rule) {X : Type 0}
       → Looks stands is_live is_clean leaves {X = X} {E = Rule} (Err told) old mid
       → (told ≡ rule.Unavailable) ⊎ ((is_clean mid → is_live old → is_live mid)
-      × (is_live mid → (seeds : List (List ℕ)) (c : Content) → IsKept seeds c → stands old c → first_broken (later_conditions m it (found_of seeds it (state_of c))) ≡ Some told))
+      × (is_live mid → (seeds : List (List ℕ)) (c : Content) → IsKept seeds c → stands old c → first_broken (policy_conditions m it (found_of seeds it (state_of c))) ≡ Some told))
       → Serves stands is_live is_clean leaves (Err told) old mid keys m r
   refused_caller served it held asked old mid told looks why = record {
     was_live = looks.was_live;
@@ -57,7 +58,11 @@ module _ {T : Type 0} (stands : T → Content → Type 0) (is_live is_clean : T 
     room = tt;
     given = tt;
     denied = λ live c kept h.
-        elim why [ inl fault ↦ inl fault | inr refusal ↦ inr (refused_later keys m r (state_of c) it held asked (found_of keys.seed it (state_of c)) refl told (refusal.1 live keys.seed c kept h)) ];
+        elim why [
+          | inl fault ↦ inl fault
+          | inr refusal ↦ inr (refused_later keys m r (state_of c) it held asked (found_of keys.seed it (state_of c)) refl told
+              (front_broken (policy_conditions m it (found_of keys.seed it (state_of c))) (own_conditions keys.seed r it (found_of keys.seed it (state_of c))) told (refusal.1 live keys.seed c kept h)))
+        ];
     same = λ live c h. looks.same live c h;
     settled = tt;
     unsettled = λ clean live c kept h. looks.left clean live c (content_effect keys m r c) h;
@@ -69,7 +74,7 @@ module _ {T : Type 0} (stands : T → Content → Type 0) (is_live is_clean : T 
       (looks : Looks stands is_live is_clean leaves {X = Found} {E = E} (Ok f) old mid)
       (finds : is_live mid → (seeds : List (List ℕ)) (c : Content) → IsKept seeds c → stands old c → f ≡ found_of seeds it (state_of c)) where
     -- refused on what was found
-    pub refused : (told : Rule) → (told ≡ rule.Unavailable) ⊎ (first_broken (later_conditions m it f) ≡ Some told)
+    pub refused : (told : Rule) → (told ≡ rule.Unavailable) ⊎ (first_broken (later_conditions keys.seed m r it f) ≡ Some told)
         → Serves stands is_live is_clean leaves (Err told) old mid keys m r
     refused told why = record {
       was_live = looks.was_live;
@@ -86,25 +91,25 @@ module _ {T : Type 0} (stands : T → Content → Type 0) (is_live is_clean : T 
       kept = inr looks.kept;
     }
 
-    module _ (bytes : Vec ℕ Global) (none : first_broken (later_conditions m it f) ≡ None) (reply : IsReply bytes.items (reply_of keys m it f)) where
+    module _ (bytes : Vec ℕ Global) (none : first_broken (later_conditions keys.seed m r it f) ≡ None) (reply : IsReply bytes.items (reply_of keys m r it f)) where
       gives : is_live mid → (c : Content) → IsKept keys.seed c → stands old c → Gives bytes.items (answer keys m r (state_of c))
       gives live c kept h = subst (λ a. Gives bytes.items a) (sym (answered keys m r (state_of c) it held asked f (finds live keys.seed c kept h) none)) reply
 
-      accepts : (made : Option Change) → made ≡ change_of m it f → is_live mid → (c : Content) → IsKept keys.seed c → stands old c
+      accepts : (made : Option Change) → made ≡ change_of keys m r it f → is_live mid → (c : Content) → IsKept keys.seed c → stands old c
           → accepted_change keys m r (state_of c) ≡ made
       accepts made is live c kept h = makes keys m r (state_of c) it held asked f (finds live keys.seed c kept h) none ∙ sym is
 
-      becomes : (made : Option Change) → made ≡ change_of m it f → is_live mid → (c : Content) → IsKept keys.seed c → stands old c
+      becomes : (made : Option Change) → made ≡ change_of keys m r it f → is_live mid → (c : Content) → IsKept keys.seed c → stands old c
           → content_effect keys m r c ≡ content_after made c
       becomes made is live c kept h = ap (λ x. content_after x c) (accepts made is live c kept h)
 
       -- given with no change
-      pub given_read : None ≡ change_of m it f → Serves stands is_live is_clean leaves (Ok (record { reply = bytes; changed = false })) old mid keys m r
+      pub given_read : None ≡ change_of keys m r it f → Serves stands is_live is_clean leaves (Ok (record { reply = bytes; changed = false })) old mid keys m r
       given_read is = record {
         was_live = looks.was_live;
         was_clean = looks.was_clean;
         clock = λ past. absurd (omega (arith, served, past));
-        room = roomy bytes.items (reply_of keys m it f) reply;
+        room = roomy bytes.items (reply_of keys m r it f) reply;
         given = λ live c kept h. (gives live c kept h, subst (λ d. stands mid d) (sym (becomes None is live c kept h)) (looks.same live c h), stay c kept, ap is_some (sym (accepts None is live c kept h)));
         denied = tt;
         settled = λ clean live c d kept h. let up = looks.live clean live in
@@ -115,7 +120,7 @@ module _ {T : Type 0} (stands : T → Content → Type 0) (is_live is_clean : T 
         kept = λ unchanged. looks.kept;
       }
 
-      module _ (it_changes : Change) (is : Some it_changes ≡ change_of m it f) (new : T) {X Fault : Type 0} (faults : Fault → Type 0) where
+      module _ (it_changes : Change) (is : Some it_changes ≡ change_of keys m r it f) (new : T) {X Fault : Type 0} (faults : Fault → Type 0) where
         -- given with its change
         pub given_changed : (x : X) → Changes IsSound faults stands is_live is_clean leaves {X = X} (Ok x) mid new (after it_changes)
             → Serves stands is_live is_clean leaves (Ok (record { reply = bytes; changed = true })) old new keys m r
@@ -123,7 +128,7 @@ module _ {T : Type 0} (stands : T → Content → Type 0) (is_live is_clean : T 
           was_live = λ live. looks.was_live (changes.was_live live);
           was_clean = λ clean. looks.was_clean (changes.was_clean clean);
           clock = λ past. absurd (omega (arith, served, past));
-          room = roomy bytes.items (reply_of keys m it f) reply;
+          room = roomy bytes.items (reply_of keys m r it f) reply;
           given = λ live c kept h. let up = changes.was_live live in
               (gives up c kept h, subst (λ d. stands new d) (sym (becomes (Some it_changes) is up c kept h)) (changes.ok live c kept.sound (looks.same up c h)), stay c kept, ap is_some (sym (accepts (Some it_changes) is up c kept h)));
           denied = tt;

@@ -2,6 +2,7 @@
 use Rattle.std.specs.Prelude.{◌≡◌, ◌⊎◌, ℕ, ◌≤◌, Bool, false, List, [], ◌∷◌, ◌++◌, length, drop, nat_lt, true, Option, Some, None, option_map, option_and_then, is_some, if◌then◌else◌, Result, Ok, Err, ⊤}
 use Rattle.acvp_json.specs.Data.{Data}
 use Rattle.acvp_mac.specs.Conditions.{Condition, judged}
+use Rattle.acvp_token.specs.Keys.{Ring}
 use Rattle.acvp_token.specs.TokenText.{ring_token_text}
 use Rattle.acvp_json.specs.LoginBody.{login_body_conditions}
 use Rattle.acvp_json.specs.ReplyData.{token_data}
@@ -29,15 +30,17 @@ use Rattle.acvp_tables.specs.StateChanges.{after_state}
 use Rattle.acvp_tables.specs.declared.change.Change.{Change}
 use Rattle.acvp_tables.specs.declared.change.Change.TheVariants as change
 use Rattle.acvp_tables.specs.declared.rows.AccountRow.{AccountRow}
-use Rattle.acvp_desk.specs.Bodies.{body_conditions}
+use Rattle.acvp_desk.specs.Bodies.{body_conditions, rule_of}
 use Rattle.acvp_desk.specs.Login.{login_ask_at, login_facts, step_of, claims_at}
 use Rattle.acvp_desk.specs.declared.ask.Ask.{Ask}
 use Rattle.acvp_desk.specs.declared.ask.Ask.TheVariants as ask
+use Rattle.acvp_desk.specs.declared.ask.LoginAsk.{LoginAsk}
 use Rattle.acvp_desk.specs.declared.found.Found.{Found}
 use Rattle.acvp_desk.specs.declared.found.Material.TheVariants as material
 use Rattle.acvp_desk.specs.declared.keys.Keys.{Keys}
 use Rattle.acvp_desk.specs.declared.wish.Wish.{Wish}
-use Rattle.acvp_desk.specs.Place.{unfound, subject_of, material_of, is_for, reviewed}
+use Rattle.acvp_desk.specs.Place.{unfound, subject_of, material_of, is_for, is_within, reviewed}
+use Rattle.acvp_desk.specs.OwnConditions.{wish_conditions}
 use Rattle.acvp_desk.specs.Replies.{wish_reply, wish_change}
 use Rattle.acvp_desk.specs.Request.{RequestValue}
 use Rattle.acvp_desk.specs.Wish.{wish_of, action_of_wish, token_at}
@@ -50,8 +53,8 @@ end_of_moments = 4102444800
 
 -- the conditions on the body that are looked at before a row is: those on a login's. What has no case yet has no route
 abbrev pub first_conditions_on : Action → RequestValue → List (Condition Rule)
-first_conditions_on action.Login r = body_conditions login_body_conditions r.body
-first_conditions_on a r = (is_some (wish_of a r.numbers), rule.NoRoute) ∷ []
+first_conditions_on action.Login r = body_conditions rule_of login_body_conditions r.body
+first_conditions_on a r = (is_some (wish_of a r.numbers r.query), rule.NoRoute) ∷ []
 
 -- the conditions that are looked at before a row is
 abbrev pub first_conditions : ℕ → RequestValue → List (Condition Rule)
@@ -62,7 +65,7 @@ caller_ask keys moment r it = ask.Caller (record { token = token_at keys.token m
 
 abbrev pub ask_on : Action → Keys → ℕ → RequestValue → Option Ask
 ask_on action.Login keys moment r = option_map ask.Login (login_ask_at keys.token r.body)
-ask_on a keys moment r = option_map (caller_ask keys moment r) (wish_of a r.numbers)
+ask_on a keys moment r = option_map (caller_ask keys moment r) (wish_of a r.numbers r.query)
 
 abbrev pub ask_of : Keys → ℕ → RequestValue → Option Ask
 ask_of keys moment r = ask_on r.action keys moment r
@@ -123,46 +126,64 @@ facts_from moment (ask.Caller caller) found = record {
 -- what was found is of what is asked: the path names it, and what the reply shows was read
 abbrev pub IsOf : Ask → Found → Type 0
 IsOf (ask.Login login) found = ⊤
-IsOf (ask.Caller caller) found = (resource_of found.subject ≡ resource_of (unfound caller.wish)) × (is_for caller.wish found.material ≡ true)
+IsOf (ask.Caller caller) found =
+    (resource_of found.subject ≡ resource_of (unfound caller.wish)) × (is_for caller.wish found.material ≡ true) × (is_within caller.wish found.subject ≡ true)
 
 -- ---- the answer
 
+-- what the policy asks of what was found
+unfoldable pub policy_conditions : ℕ → Ask → Found → List (Condition Rule)
+policy_conditions moment it found = policy (action_of it) (facts_from moment it found)
+
+-- and what the action itself does
+abbrev pub own_conditions : List (List ℕ) → RequestValue → Ask → Found → List (Condition Rule)
+own_conditions seeds r (ask.Login login) found = []
+own_conditions seeds r (ask.Caller caller) found = wish_conditions seeds r found caller.wish
+
 -- the conditions on what was found
-unfoldable pub later_conditions : ℕ → Ask → Found → List (Condition Rule)
-later_conditions moment it found = policy (action_of it) (facts_from moment it found)
+abbrev pub later_conditions : List (List ℕ) → ℕ → RequestValue → Ask → Found → List (Condition Rule)
+later_conditions seeds moment r it found = policy_conditions moment it found ++ own_conditions seeds r it found
+
+-- the object of a login's reply
+abbrev pub login_reply : Ring → ℕ → LoginAsk → Found → Option Data
+login_reply ring moment login found = option_map (λ row. token_data (ring_token_text ring (claims_at moment login row))) found.account
 
 -- the object of the reply
-abbrev pub reply_of : Keys → ℕ → Ask → Found → Option Data
-reply_of keys moment (ask.Login login) found = option_map (λ row. token_data (ring_token_text keys.token (claims_at moment login row))) found.account
-reply_of keys moment (ask.Caller caller) found = wish_reply moment (account_of_claims (claims_of caller.token)) found caller.wish
+abbrev pub reply_of : Keys → ℕ → RequestValue → Ask → Found → Option Data
+reply_of keys moment r (ask.Login login) found = login_reply keys.token moment login found
+reply_of keys moment r (ask.Caller caller) found = wish_reply keys moment (account_of_claims (claims_of caller.token)) r found caller.wish
+
+-- the change that a login makes
+abbrev pub login_change : ℕ → LoginAsk → Found → Option Change
+login_change moment login found =
+    option_and_then (λ row. option_map (λ step. change.UseStep (record { account = row.number; step = step })) (step_of moment login row)) found.account
 
 -- the change that is made
-abbrev pub change_of : ℕ → Ask → Found → Option Change
-change_of moment (ask.Login login) found =
-    option_and_then (λ row. option_map (λ step. change.UseStep (record { account = row.number; step = step })) (step_of moment login row)) found.account
-change_of moment (ask.Caller caller) found = wish_change caller.wish
+abbrev pub change_of : Keys → ℕ → RequestValue → Ask → Found → Option Change
+change_of keys moment r (ask.Login login) found = login_change moment login found
+change_of keys moment r (ask.Caller caller) found = wish_change keys.seed moment (account_of_claims (claims_of caller.token)) r found caller.wish
 
-abbrev pub later_of : List (List ℕ) → ℕ → Option Ask → State → List (Condition Rule)
-later_of seeds moment None state = []
-later_of seeds moment (Some it) state = later_conditions moment it (found_of seeds it state)
+abbrev pub later_of : List (List ℕ) → ℕ → RequestValue → Option Ask → State → List (Condition Rule)
+later_of seeds moment r None state = []
+later_of seeds moment r (Some it) state = later_conditions seeds moment r it (found_of seeds it state)
 
 -- all conditions, in their order
 abbrev pub conditions : Keys → ℕ → RequestValue → State → List (Condition Rule)
-conditions keys moment r state = first_conditions moment r ++ later_of keys.seed moment (ask_of keys moment r) state
+conditions keys moment r state = first_conditions moment r ++ later_of keys.seed moment r (ask_of keys moment r) state
 
-abbrev pub reply_to : Keys → ℕ → Option Ask → State → Option Data
-reply_to keys moment None state = None
-reply_to keys moment (Some it) state = reply_of keys moment it (found_of keys.seed it state)
+abbrev pub reply_to : Keys → ℕ → RequestValue → Option Ask → State → Option Data
+reply_to keys moment r None state = None
+reply_to keys moment r (Some it) state = reply_of keys moment r it (found_of keys.seed it state)
 
 -- the rule of the first condition that doesn't hold, or the object of the reply
 unfoldable pub answer : Keys → ℕ → RequestValue → State → Result (Option Data) Rule
-answer keys moment r state = judged (conditions keys moment r state) (reply_to keys moment (ask_of keys moment r) state)
+answer keys moment r state = judged (conditions keys moment r state) (reply_to keys moment r (ask_of keys moment r) state)
 
 -- ---- the effect
 
-abbrev pub change_by : List (List ℕ) → ℕ → Option Ask → State → Option Change
-change_by seeds moment None state = None
-change_by seeds moment (Some it) state = change_of moment it (found_of seeds it state)
+abbrev pub change_by : Keys → ℕ → RequestValue → Option Ask → State → Option Change
+change_by keys moment r None state = None
+change_by keys moment r (Some it) state = change_of keys moment r it (found_of keys.seed it state)
 
 -- the change of a request that is accepted
 abbrev pub change_on : Result (Option Data) Rule → Option Change → Option Change
@@ -170,7 +191,7 @@ change_on (Ok reply) it = it
 change_on (Err rule) it = None
 
 unfoldable pub accepted_change : Keys → ℕ → RequestValue → State → Option Change
-accepted_change keys moment r state = change_on (answer keys moment r state) (change_by keys.seed moment (ask_of keys moment r) state)
+accepted_change keys moment r state = change_on (answer keys moment r state) (change_by keys moment r (ask_of keys moment r) state)
 
 abbrev pub state_after : Option Change → State → State
 state_after None state = state

@@ -1,7 +1,12 @@
 -- What a desk holds.
 use Rattle.std.specs.Prelude.{ℕ, ◌<◌, List, length, Option, IfSome, Result, Ok, Err}
 use Rattle.acvp_desk.specs.declared.desk.NewFault.{NewFault}
+use Rattle.acvp_token.specs.Keys.{Ring}
 use Rattle.acvp_desk.specs.declared.keys.Keys.{Keys}
+
+-- the keys, by the tokens' and the seeds
+abbrev pub keys_of : Ring → List (List ℕ) → Keys
+keys_of ring seeds = record { token = ring; seed = seeds }
 
 pub record DeskValue (T : Type 0) : Type 0 where
   pub keys : Keys

@@ -2,8 +2,13 @@ pub mod Request
 pub mod Bodies
 pub mod Login
 pub mod Wish
+pub mod Sets
+pub mod Submissions
 pub mod Place
+pub mod Reviewers
+pub mod NewSessions
 pub mod Replies
+pub mod OwnConditions
 pub mod Answer
 pub mod Kept
 pub mod Serves
@@ -12,6 +17,7 @@ pub mod Orders
 pub mod Errors
 pub mod Cached
 pub mod CacheValue
+pub mod Pages
 pub use Rattle.acvp_json.specs.Data
 pub use Rattle.acvp_json.specs.Written
 pub use Rattle.acvp_mac.specs.Conditions

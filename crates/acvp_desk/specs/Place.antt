@@ -1,24 +1,20 @@
 -- What the records hold of what a path names.
-use Rattle.std.specs.Prelude.{ℕ, List, [], ◌∷◌, map, Bool, true, false, ◌&&◌, nat_le, slice_get, Option, Some, None, option_map, option_and_then, is_some}
+use Rattle.std.specs.Prelude.{ℕ, ◌/◌, List, [], ◌∷◌, map, length, Bool, true, false, not, ◌&&◌, ◌||◌, ◌==◌, nat_le, slice_get, if◌then◌else◌, Option, Some, None, option_map, option_and_then, is_some}
 use Rattle.std.specs.List.{list_all}
-use Rattle.acvp_answers.specs.Answer.{Answer}
-use Rattle.acvp_answers.specs.Standards.{standard_of}
-use Rattle.acvp_answers.specs.Verdicts.{verdicts_of, disposition_of}
-use Rattle.acvp_answers.specs.declared.verdict.Disposition.{Disposition}
-use Rattle.acvp_gen.specs.Prompts.{prompts_of}
-use Rattle.acvp_policy.specs.Conditions.{is_some_and, session_found}
+use Rattle.acvp_json.specs.declared.page.Page.{Page}
+use Rattle.acvp_policy.specs.Conditions.{session_found, reviewer_found, set_found}
 use Rattle.acvp_policy.specs.declared.facts.CertificationStatus.{CertificationStatus}
 use Rattle.acvp_policy.specs.declared.facts.CertificationStatus.TheVariants as certification
 use Rattle.acvp_policy.specs.declared.facts.SessionFacts.{SessionFacts}
 use Rattle.acvp_policy.specs.declared.facts.Subject.{Subject}
 use Rattle.acvp_policy.specs.declared.facts.Subject.TheVariants as subject
-use Rattle.acvp_tables.specs.Content.{is_reviewer, request_at, reviewers_of}
-use Rattle.acvp_tables.specs.Counted.{is_passed}
-use Rattle.acvp_tables.specs.State.{State, SessionRecord, SetRecord, session_record_at, live_records, record_counts}
+use Rattle.acvp_tables.specs.Content.{is_reviewer, page, request_at, reviewers_of}
+use Rattle.acvp_tables.specs.State.{State, SessionRecord, SetRecord, session_record_at, session_records_of, live_records, record_counts}
 use Rattle.acvp_tables.specs.declared.rows.RequestRow.{RequestRow}
 use Rattle.acvp_tables.specs.declared.rows.RequestStatus.{RequestStatus}
 use Rattle.acvp_tables.specs.declared.rows.RequestStatus.TheVariants as status
 use Rattle.acvp_desk.specs.declared.find.Place.{Place}
+use Rattle.acvp_desk.specs.declared.found.ListedSession.{ListedSession}
 use Rattle.acvp_desk.specs.declared.found.SetOutcome.{SetOutcome}
 use Rattle.acvp_desk.specs.declared.found.Material.{Material}
 use Rattle.acvp_desk.specs.declared.found.Material.TheVariants as material
@@ -28,25 +24,9 @@ use Rattle.acvp_desk.specs.declared.wish.AccountWish.{AccountWish}
 use Rattle.acvp_desk.specs.declared.wish.AccountWish.TheVariants as on_account
 use Rattle.acvp_desk.specs.declared.wish.SessionWish.{SessionWish}
 use Rattle.acvp_desk.specs.declared.wish.SessionWish.TheVariants as on_session
+use Rattle.acvp_desk.specs.Sets.{set_disposition, set_facts, set_material, set_passes, set_reviewed, is_for_set}
 
 -- ---- a test session
-
--- the disposition of answers to a vector set: their verdicts, worked out anew under the seed
-abbrev pub answers_disposition : List ℕ → SetRecord → List Answer → Disposition
-answers_disposition seed row answers = disposition_of (verdicts_of (standard_of (prompts_of seed row.number row.capability)) answers)
-
-abbrev pub disposition_under : SetRecord → Option (List ℕ) → Option (List Answer) → Option Disposition
-disposition_under row None answers = None
-disposition_under row (Some seed) None = None
-disposition_under row (Some seed) (Some answers) = Some (answers_disposition seed row answers)
-
--- what the answers to a vector set come to under the seed of its epoch, where it has any
-unfoldable pub set_disposition : List (List ℕ) → SetRecord → Option Disposition
-set_disposition seeds row = disposition_under row (slice_get seeds row.epoch) row.answers
-
--- whether a vector set has answers that pass
-abbrev pub set_passes : List (List ℕ) → SetRecord → Bool
-set_passes seeds row = is_some_and (set_disposition seeds row) is_passed
 
 abbrev pub is_any : {X : Type 0} → List X → Bool
 is_any [] = false
@@ -87,6 +67,7 @@ session_reviewed _ n u state = false
 -- whether the account that acts reviews the session of the path, on the actions that reviewers are let in to
 abbrev pub reviewed : Wish → ℕ → State → Bool
 reviewed (wish.Session n it) u state = session_reviewed it n u state
+reviewed (wish.Set session n it) u state = set_reviewed it session u state
 reviewed _ u state = false
 
 -- ---- what a path names
@@ -96,12 +77,28 @@ abbrev pub unfound : Wish → Subject
 unfound (wish.Account it) = subject.Account
 unfound (wish.Algorithm n) = subject.Algorithm n
 unfound (wish.Session n it) = subject.Session (record { session = n; found = None })
+unfound (wish.Reviewer n m) = subject.Reviewer (record { session = n; reviewer = m; found = None })
+unfound (wish.Set session n it) = subject.Set (record { session = session; set = n; found = None })
+unfound wish.NewSession = subject.Account
+unfound (wish.CancelSet session n) = subject.Set (record { session = session; set = n; found = None })
+unfound (wish.ListSessions page) = subject.Account
+
+-- how a session of an account's review stands, where the account is a reviewer of it
+abbrev pub reviewed_facts : List (List ℕ) → State → ℕ → ℕ → Option SessionFacts
+reviewed_facts seeds state n m = if is_reviewer n m state.reviewers then session_facts seeds state n else None
 
 -- with what is found there
 abbrev pub subject_of : List (List ℕ) → State → Wish → Subject
 subject_of seeds state (wish.Account it) = subject.Account
 subject_of seeds state (wish.Algorithm n) = subject.Algorithm n
 subject_of seeds state (wish.Session n it) = subject.Session (record { session = n; found = session_facts seeds state n })
+subject_of seeds state (wish.Reviewer n m) = subject.Reviewer (record { session = n; reviewer = m; found = reviewed_facts seeds state n m })
+subject_of seeds state (wish.Set session n it) =
+    subject.Set (record { session = session; set = n; found = set_facts (session_facts seeds state session) session n state.sets })
+subject_of seeds state wish.NewSession = subject.Account
+subject_of seeds state (wish.CancelSet session n) =
+    subject.Set (record { session = session; set = n; found = set_facts (session_facts seeds state session) session n state.sets })
+subject_of seeds state (wish.ListSessions page) = subject.Account
 
 -- ---- what a reply shows besides
 
@@ -126,12 +123,35 @@ session_material seeds n state on_session.Cancel = material.Nothing
 session_material seeds n state on_session.Results = material.Outcomes (set_outcomes seeds n state)
 session_material seeds n state on_session.ListSets = material.Sets (set_numbers n state)
 session_material seeds n state on_session.ListReviewers = material.Reviewers (reviewers_of n state.reviewers)
+session_material seeds n state on_session.AddReviewer = material.Reviewers (reviewers_of n state.reviewers)
+
+-- what a list shows of a session
+abbrev pub listed_session : List RequestRow → SessionRecord → ListedSession
+listed_session requests row = record {
+  number = row.number;
+  created = row.created;
+  sample = row.sample;
+  cancelled = row.cancelled;
+  certification = certification_of row.certify requests;
+}
+
+-- how many sessions an account has, and those of a page
+abbrev pub sessions_material : ℕ → State → Option Page → Material
+sessions_material u state None = material.Nothing
+sessions_material u state (Some at) =
+    material.Sessions (length (session_records_of u state.sessions))
+    (map (listed_session state.requests) (page at.offset at.limit (session_records_of u state.sessions)))
 
 -- what is read of the records of the account that acts, and of what the path names
 abbrev pub material_of : List (List ℕ) → ℕ → State → Wish → Material
 material_of seeds u state (wish.Account it) = account_material u state it
 material_of seeds u state (wish.Algorithm n) = material.Nothing
 material_of seeds u state (wish.Session n it) = session_material seeds n state it
+material_of seeds u state (wish.Reviewer n m) = material.Reviewers (reviewers_of n state.reviewers)
+material_of seeds u state wish.NewSession = material.Counts (record_counts u state)
+material_of seeds u state (wish.CancelSet session n) = material.Outcomes (set_outcomes seeds session state)
+material_of seeds u state (wish.Set session n it) = set_material seeds session n state.sets it
+material_of seeds u state (wish.ListSessions page) = sessions_material u state page
 
 -- both
 abbrev pub place_of : List (List ℕ) → ℕ → State → Wish → Place
@@ -139,9 +159,12 @@ place_of seeds u state it = record { subject = subject_of seeds state it; materi
 
 -- ---- which material a wish has
 
+abbrev pub has_counts : Material → Bool
+has_counts (material.Counts n) = true
+has_counts _ = false
+
 abbrev pub is_for_account : AccountWish → Material → Bool
-is_for_account on_account.Read (material.Counts n) = true
-is_for_account on_account.Read _ = false
+is_for_account on_account.Read m = has_counts m
 is_for_account on_account.ListAlgorithms m = true
 
 abbrev pub has_sets : Material → Bool
@@ -156,17 +179,42 @@ abbrev pub has_reviewers : Material → Bool
 has_reviewers (material.Reviewers accounts) = true
 has_reviewers _ = false
 
+abbrev pub reviewers_in_material : Material → Option (List ℕ)
+reviewers_in_material (material.Reviewers accounts) = Some accounts
+reviewers_in_material _ = None
+
 abbrev pub is_for_session : SessionWish → Material → Bool
 is_for_session on_session.Read m = has_sets m
 is_for_session on_session.Cancel m = true
 is_for_session on_session.Results m = has_outcomes m
 is_for_session on_session.ListSets m = has_sets m
 is_for_session on_session.ListReviewers m = has_reviewers m
+is_for_session on_session.AddReviewer m = has_reviewers m
+
+abbrev pub has_sessions : Material → Bool
+has_sessions (material.Sessions total sessions) = true
+has_sessions _ = false
+
+abbrev pub is_for_page : Option Page → Material → Bool
+is_for_page None m = true
+is_for_page (Some at) m = has_sessions m
 
 abbrev pub is_for : Wish → Material → Bool
 is_for (wish.Account it) m = is_for_account it m
 is_for (wish.Algorithm n) m = true
 is_for (wish.Session n it) m = is_for_session it m
+is_for (wish.Reviewer n a) m = has_reviewers m
+is_for (wish.Set session n it) m = is_for_set it m
+is_for wish.NewSession m = has_counts m
+is_for (wish.CancelSet session n) m = has_outcomes m
+is_for (wish.ListSessions page) m = is_for_page page m
+
+abbrev pub is_within : Wish → Subject → Bool
+is_within (wish.Reviewer n m) s = not (is_some (reviewer_found s)) || nat_le m 9999
+is_within (wish.CancelSet session n) s = not (is_some (set_found s)) || ((n / 100) == session)
+-- the number of a reviewer that is found is an account's, and that of a vector set names its session
+is_within (wish.Set session n it) s = not (is_some (set_found s)) || ((n / 100) == session)
+is_within _ s = true
 
 -- ---- what is there where the policy lets through
 
@@ -175,3 +223,8 @@ abbrev pub is_there : Wish → Subject → Bool
 is_there (wish.Account it) s = true
 is_there (wish.Algorithm n) s = nat_le 1 n && nat_le n 12
 is_there (wish.Session n it) s = is_some (session_found s)
+is_there (wish.Reviewer n m) s = is_some (reviewer_found s) && nat_le m 9999
+is_there (wish.Set session n it) s = is_some (set_found s)
+is_there wish.NewSession s = true
+is_there (wish.CancelSet session n) s = is_some (set_found s)
+is_there (wish.ListSessions page) s = true

@@ -9,6 +9,7 @@ use Rattle.acvp_policy.specs.declared.action.Action.{Action}
 use Rattle.acvp_policy.specs.declared.action.Action.TheVariants as action
 use Rattle.acvp_policy.specs.declared.facts.Token.{Token}
 use Rattle.acvp_policy.specs.declared.facts.Token.TheVariants as token
+use Rattle.acvp_desk.specs.Pages.{page_of}
 use Rattle.acvp_desk.specs.Request.{TokenValue, missing, doubled, bearer}
 use Rattle.acvp_desk.specs.declared.request.Numbers.{Numbers}
 use Rattle.acvp_desk.specs.declared.wish.Wish.{Wish}
@@ -16,18 +17,30 @@ use Rattle.acvp_desk.specs.declared.wish.Wish.TheVariants as wish
 use Rattle.acvp_desk.specs.declared.wish.AccountWish.TheVariants as on_account
 use Rattle.acvp_desk.specs.declared.wish.SessionWish.{SessionWish}
 use Rattle.acvp_desk.specs.declared.wish.SessionWish.TheVariants as on_session
+use Rattle.acvp_desk.specs.declared.wish.SetWish.{SetWish}
+use Rattle.acvp_desk.specs.declared.wish.SetWish.TheVariants as on_set
 
--- what each action asks, with the numbers of its path. What has no case yet has no route
-abbrev pub wish_of : Action → Numbers → Option Wish
-wish_of action.ReadAccount n = Some (wish.Account on_account.Read)
-wish_of action.ListAlgorithms n = Some (wish.Account on_account.ListAlgorithms)
-wish_of action.ReadAlgorithm n = Some (wish.Algorithm n.first)
-wish_of action.ReadSession n = Some (wish.Session n.first on_session.Read)
-wish_of action.CancelSession n = Some (wish.Session n.first on_session.Cancel)
-wish_of action.SessionResults n = Some (wish.Session n.first on_session.Results)
-wish_of action.ListSets n = Some (wish.Session n.first on_session.ListSets)
-wish_of action.ListReviewers n = Some (wish.Session n.first on_session.ListReviewers)
-wish_of _ n = None
+-- what each action asks, with the numbers of its path and the query. What has no case yet has no route
+abbrev pub wish_of : Action → Numbers → List ℕ → Option Wish
+wish_of action.ReadAccount n query = Some (wish.Account on_account.Read)
+wish_of action.ListAlgorithms n query = Some (wish.Account on_account.ListAlgorithms)
+wish_of action.ReadAlgorithm n query = Some (wish.Algorithm n.first)
+wish_of action.ReadSession n query = Some (wish.Session n.first on_session.Read)
+wish_of action.CancelSession n query = Some (wish.Session n.first on_session.Cancel)
+wish_of action.SessionResults n query = Some (wish.Session n.first on_session.Results)
+wish_of action.ListSets n query = Some (wish.Session n.first on_session.ListSets)
+wish_of action.ListReviewers n query = Some (wish.Session n.first on_session.ListReviewers)
+wish_of action.AddReviewer n query = Some (wish.Session n.first on_session.AddReviewer)
+wish_of action.RemoveReviewer n query = Some (wish.Reviewer n.first n.second)
+wish_of action.ReadSet n query = Some (wish.Set n.first n.second on_set.Read)
+wish_of action.Expected n query = Some (wish.Set n.first n.second on_set.Expected)
+wish_of action.SetResults n query = Some (wish.Set n.first n.second on_set.Results)
+wish_of action.NewSession n query = Some wish.NewSession
+wish_of action.CancelSet n query = Some (wish.CancelSet n.first n.second)
+wish_of action.Submit n query = Some (wish.Set n.first n.second on_set.Submit)
+wish_of action.Resubmit n query = Some (wish.Set n.first n.second on_set.Resubmit)
+wish_of action.ListSessions n query = Some (wish.ListSessions (page_of query))
+wish_of _ n query = None
 
 abbrev pub action_on_session : SessionWish → Action
 action_on_session on_session.Read = action.ReadSession
@@ -35,12 +48,25 @@ action_on_session on_session.Cancel = action.CancelSession
 action_on_session on_session.Results = action.SessionResults
 action_on_session on_session.ListSets = action.ListSets
 action_on_session on_session.ListReviewers = action.ListReviewers
+action_on_session on_session.AddReviewer = action.AddReviewer
+
+abbrev pub action_on_set : SetWish → Action
+action_on_set on_set.Read = action.ReadSet
+action_on_set on_set.Expected = action.Expected
+action_on_set on_set.Results = action.SetResults
+action_on_set on_set.Submit = action.Submit
+action_on_set on_set.Resubmit = action.Resubmit
 
 abbrev pub action_of_wish : Wish → Action
 action_of_wish (wish.Account on_account.Read) = action.ReadAccount
 action_of_wish (wish.Account on_account.ListAlgorithms) = action.ListAlgorithms
 action_of_wish (wish.Algorithm n) = action.ReadAlgorithm
 action_of_wish (wish.Session n it) = action_on_session it
+action_of_wish (wish.Reviewer n m) = action.RemoveReviewer
+action_of_wish wish.NewSession = action.NewSession
+action_of_wish (wish.Set session n it) = action_on_set it
+action_of_wish (wish.CancelSet session n) = action.CancelSet
+action_of_wish (wish.ListSessions page) = action.ListSessions
 
 -- ---- the token
 

@@ -1,27 +1,23 @@
 //! What a request asks, as far as it is known before a row is looked at.
 
-ghost use Rattle.std.specs.Prelude.{◌≡◌, ◌⊎◌, ◌<◌, ◌≤◌, Some, None, IfOk, IfErr};
+ghost use Rattle.std.specs.Prelude.{◌≡◌, ◌⊎◌, ◌<◌, ◌≤◌, ℕ, List, Some, None, IfOk, IfErr};
 ghost use Rattle.acvp_mac.specs.Conditions.{first_broken};
-ghost use Rattle.acvp_json.specs.Envelope.{envelope_conditions, object_of};
-ghost use Rattle.acvp_json.specs.LoginBody.{login_body_conditions, login_body_of};
-ghost use Rattle.acvp_json.specs.View.{view};
-ghost use Rattle.acvp_json.specs.declared.fault.BodyFault.{BodyFault};
+ghost use Rattle.acvp_json.specs.LoginBody.{login_body_conditions};
 ghost use Rattle.acvp_desk.specs.Request.{request_value};
 ghost use Rattle.acvp_desk.specs.Bodies.{rule_of, body_conditions};
 ghost use Rattle.acvp_desk.specs.Wish.{wish_of, token_at};
-ghost use Rattle.acvp_desk.specs.Login.{login_ask_at, login_at, password_of, user_of, renewal_of};
+ghost use Rattle.acvp_desk.specs.Login.{login_ask_at, password_of, user_of, renewal_of};
 ghost use Rattle.acvp_desk.specs.Answer.{ask_of, first_conditions, first_conditions_on, action_of, end_of_moments};
+ghost use Rattle.acvp_desk.specs.Desk.{keys_of};
 
-use crate::keys::Keys;
+use crate::body::login_body;
 use crate::request::TypedRequest;
 use crate::token::token_at;
 use crate::wish::{CallerAsk, wish_of};
-use acvp_json::{BodyFault, LoginBody, Text, open_envelope, read_login};
-use acvp_mac::{joined_conditions, renamed_conditions};
+use acvp_json::Text;
 use acvp_policy::{Action, Renewal, Rule};
 use acvp_registry::{digits_number, plain_number};
 use acvp_token::{KeyRing, TokenFault, verify_ring_for_renewal};
-use serde_json::Value;
 use std::alloc::Global;
 
 /// The first moment that is no longer served: the year 2100, in seconds since 1970.
@@ -93,64 +89,10 @@ fn renewal(alloc: Global, ring: &KeyRing, text: &Option<Text>) -> Result<Renewal
     }
 }
 
-/// The rule of a body's fault.
-fn rule_of(fault: BodyFault) -> Rule
-    ensures { result ≡ rule_of fault }
-{
-    match fault {
-        BodyFault::BodyNotJson => Rule::BodyNotJson,
-        BodyFault::BodyEnvelope => Rule::BodyEnvelope,
-        BodyFault::BodyField => Rule::BodyField,
-        BodyFault::UnknownTest => Rule::UnknownTest,
-        BodyFault::DuplicateTest => Rule::DuplicateTest,
-        BodyFault::SetMismatch => Rule::SetMismatch,
-        BodyFault::NoReference => Rule::NoReference,
-        BodyFault::Memory => Rule::Unavailable,
-    }
-}
-
-/// The object of a body, or the rule of the first condition on its envelope that doesn't hold.
-fn opened(alloc: Global, body: &[u8]) -> Result<Value, Rule>
-    ensures ok { IfOk result (λ object. (first_broken (envelope_conditions body.now) ≡ None) × (object_of body.now ≡ Some (view object))) }
-    ensures err { IfErr result (λ rule. (rule ≡ Rule.Unavailable)
-        ⊎ ((fault : BodyFault) × (first_broken (envelope_conditions body.now) ≡ Some fault) × (rule ≡ rule_of fault))) }
-{
-    match open_envelope(alloc, body) {
-        Ok(object) => Ok(object),
-        Err(fault) => Err(rule_of(fault)),
-    }
-}
-
-/// What the object of a login says, or the rule of the first condition on it that doesn't hold.
-fn said(alloc: Global, object: &Value) -> Result<LoginBody, Rule>
-    ensures ok { IfOk result (λ login. (first_broken (login_body_conditions (view object.now)) ≡ None) × (login_body_of (view object.now) ≡ Some login)) }
-    ensures err { IfErr result (λ rule. (rule ≡ Rule.Unavailable)
-        ⊎ ((fault : BodyFault) × (first_broken (login_body_conditions (view object.now)) ≡ Some fault) × (rule ≡ rule_of fault))) }
-{
-    match read_login(alloc, object) {
-        Ok(login) => Ok(login),
-        Err(fault) => Err(rule_of(fault)),
-    }
-}
-
-/// What the body of a login says, or the rule of the first condition on it that doesn't hold.
-fn login_body(alloc: Global, body: &[u8]) -> Result<LoginBody, Rule>
-    ensures ok { IfOk result (λ login. (first_broken (body_conditions login_body_conditions body.now) ≡ None) × (login_at body.now ≡ Some login)) }
-    ensures err { IfErr result (λ rule. (rule ≡ Rule.Unavailable) ⊎ (first_broken (body_conditions login_body_conditions body.now) ≡ Some rule)) }
-{
-    joined_conditions::<BodyFault>();
-    renamed_conditions::<BodyFault, Rule>();
-    let object = match opened(alloc, body) {
-        Ok(object) => object,
-        Err(rule) => return Err(rule),
-    };
-    said(alloc, &object)
-}
-
 /// What a login asks.
 fn login_ask(alloc: Global, ring: &KeyRing, body: &[u8]) -> Result<LoginAsk, Rule>
-    ensures ok { IfOk result (λ ask. (first_broken (body_conditions login_body_conditions body.now) ≡ None) × (login_ask_at ring.now body.now ≡ Some ask)) }
-    ensures err { IfErr result (λ rule. (rule ≡ Rule.Unavailable) ⊎ (first_broken (body_conditions login_body_conditions body.now) ≡ Some rule)) }
+    ensures ok { IfOk result (λ ask. (first_broken (body_conditions rule_of login_body_conditions body.now) ≡ None) × (login_ask_at ring.now body.now ≡ Some ask)) }
+    ensures err { IfErr result (λ rule. (rule ≡ Rule.Unavailable) ⊎ (first_broken (body_conditions rule_of login_body_conditions body.now) ≡ Some rule)) }
 {
     let login = login_body(alloc, body)?;
     let renewal = renewal(alloc, ring, &login.access_token)?;
@@ -168,10 +110,10 @@ fn caller_ask(
     moment: u64,
     request: &TypedRequest<'_>,
 ) -> Result<CallerAsk, Rule>
-    ensures ok { IfOk result (λ ask. (wish_of request.now.action request.now.numbers ≡ Some ask.wish) × (ask.token ≡ token_at ring.now moment (request_value request.now).token)) }
-    ensures err { IfErr result (λ rule. (rule ≡ Rule.Unavailable) ⊎ ((wish_of request.now.action request.now.numbers ≡ None) × (rule ≡ Rule.NoRoute))) }
+    ensures ok { IfOk result (λ ask. (wish_of request.now.action request.now.numbers request.now.query.now ≡ Some ask.wish) × (ask.token ≡ token_at ring.now moment (request_value request.now).token)) }
+    ensures err { IfErr result (λ rule. (rule ≡ Rule.Unavailable) ⊎ ((wish_of request.now.action request.now.numbers request.now.query.now ≡ None) × (rule ≡ Rule.NoRoute))) }
 {
-    let Some(wish) = wish_of(request.action, request.numbers) else {
+    let Some(wish) = wish_of(request.action, request.numbers, request.query) else {
         return Err(Rule::NoRoute);
     };
     let token = token_at(alloc, ring, moment, &request.token)?;
@@ -179,30 +121,35 @@ fn caller_ask(
 }
 
 /// What a request asks, or the rule of the first condition on its body that is looked at before a row is and doesn't hold.
-fn ask_in(alloc: Global, keys: &Keys, moment: u64, request: &TypedRequest<'_>) -> Result<Ask, Rule>
-    ensures ok { IfOk result (λ ask. (first_broken (first_conditions_on request.now.action (request_value request.now)) ≡ None) × (ask_of keys.now moment (request_value request.now) ≡ Some ask)) }
+fn ask_in(
+    alloc: Global,
+    ring: &KeyRing,
+    moment: u64,
+    request: &TypedRequest<'_>,
+) -> Result<Ask, Rule>
+    ensures ok { IfOk result (λ ask. (first_broken (first_conditions_on request.now.action (request_value request.now)) ≡ None) × ((seeds : List (List ℕ)) → ask_of (keys_of ring.now seeds) moment (request_value request.now) ≡ Some ask)) }
     ensures err { IfErr result (λ rule. (rule ≡ Rule.Unavailable) ⊎ (first_broken (first_conditions_on request.now.action (request_value request.now)) ≡ Some rule)) }
 {
     match request.action {
-        Action::Login => Ok(Ask::Login(login_ask(alloc, &keys.token, request.body)?)),
-        _ => Ok(Ask::Caller(caller_ask(alloc, &keys.token, moment, request)?)),
+        Action::Login => Ok(Ask::Login(login_ask(alloc, ring, request.body)?)),
+        _ => Ok(Ask::Caller(caller_ask(alloc, ring, moment, request)?)),
     }
 }
 
 /// What a request asks, or the rule of the first condition that is looked at before a row is and doesn't hold.
 pub(crate) fn ask_for(
     alloc: Global,
-    keys: &Keys,
+    ring: &KeyRing,
     moment: u64,
     request: &TypedRequest<'_>,
 ) -> Result<Ask, Rule>
     ensures moment { IfOk result (λ _. moment < end_of_moments) }
     ensures clock { IfErr result (λ rule. end_of_moments ≤ moment → rule ≡ Rule.ClockOutOfRange) }
-    ensures ok { IfOk result (λ ask. (first_broken (first_conditions moment (request_value request.now)) ≡ None) × (ask_of keys.now moment (request_value request.now) ≡ Some ask)) }
+    ensures ok { IfOk result (λ ask. (first_broken (first_conditions moment (request_value request.now)) ≡ None) × ((seeds : List (List ℕ)) → ask_of (keys_of ring.now seeds) moment (request_value request.now) ≡ Some ask)) }
     ensures err { IfErr result (λ rule. (rule ≡ Rule.Unavailable) ⊎ (first_broken (first_conditions moment (request_value request.now)) ≡ Some rule)) }
 {
     if moment >= END_OF_MOMENTS {
         return Err(Rule::ClockOutOfRange);
     }
-    ask_in(alloc, keys, moment, request)
+    ask_in(alloc, ring, moment, request)
 }

@@ -1,6 +1,6 @@
-//! The desk: the keys of a server, and its records.
+//! The desk: the keys of a server, what it computed last, and its records.
 
-ghost use Rattle.std.specs.Prelude.{◌≡◌, false, IfOk, IfErr};
+ghost use Rattle.std.specs.Prelude.{◌≡◌, ◌≤◌, false, IfOk, IfErr};
 ghost use Rattle.acvp_tables.specs.Content.{Content, greatest_epoch_of};
 ghost use Rattle.acvp_tables.specs.State.{IsSound};
 ghost use Rattle.acvp_desk.specs.Request.{request_value};
@@ -8,12 +8,14 @@ ghost use Rattle.acvp_desk.specs.Desk.{HasSeeds, tables_of};
 ghost use Rattle.acvp_desk.specs.Orders.{IsOrder, Orders};
 ghost use Rattle.acvp_desk.specs.Serves.{Looks, Serves, result_of, IfDenied};
 
+use crate::cache::Cache;
 use crate::keys::Keys;
 use crate::order::{Order, OrderReply, order_on};
 use crate::request::TypedRequest;
 use crate::serve::{Served, serve};
 use acvp_policy::Rule;
 use acvp_tables::{StoreFault, Tables};
+use acvp_token::KeyRing;
 use std::alloc::Global;
 use std::marker::Model;
 
@@ -34,20 +36,21 @@ pub struct Outcome {
     pub changed: bool,
 }
 
-/// The keys of a server, and its records.
+/// The keys of a server, the cache of what was computed last of vector sets, and the records.
 #[derive(Drop)]
 pub struct Desk<T: Tables> {
     alloc: Global,
-    keys: Keys,
+    ring: KeyRing,
+    cache: Cache,
     tables: T,
 }
 
 impl<T: Tables> Model for Desk<T> {
-    ghost use Rattle.acvp_desk.specs.Desk.{DeskValue};
+    ghost use Rattle.acvp_desk.specs.Desk.{DeskValue, keys_of};
 
     ghost Value = { DeskValue T };
 
-    ghost view = { λ d. record { keys = d.keys; tables = d.tables } };
+    ghost view = { λ d. record { keys = keys_of d.ring d.cache.seeds; tables = d.tables } };
 }
 
 /// Why there is no desk.
@@ -70,21 +73,25 @@ impl<T: Tables> Desk<T> {
         ensures keys { IfOk result (λ desk. desk.keys ≡ keys) }
         ensures looks { Looks T.stands T.is_live T.is_clean T.leaves result tables (tables_of result) }
         ensures seeded { T.is_live (tables_of result) → IfOk result (λ _. (c : Content) → IsSound c → T.stands tables c → HasSeeds keys.seed (greatest_epoch_of c.sets)) }
-        ensures memory { IfErr result (λ fault. fault.1 ≡ NewFault.Memory → T.faults StoreFault.Memory) }
         ensures store { IfErr result (λ fault. fault.1 ≡ NewFault.Store → T.faults StoreFault.Refused) }
         ensures epoch { T.is_live (tables_of result) → IfErr result (λ fault. fault.1 ≡ NewFault.Epoch → (c : Content) → IsSound c → T.stands tables c → ¬ HasSeeds keys.seed (greatest_epoch_of c.sets)) }
     {
         let mut tables = tables;
         let newest = keys.seed.newest();
         match tables.greatest_epoch() {
-            Ok(Some(epoch)) if epoch > newest => Err((tables, NewFault::Epoch)),
-            Ok(_) => Ok(Desk {
+            Ok(Some(epoch)) if epoch > newest => return Err((tables, NewFault::Epoch)),
+            Ok(_) => {}
+            Err(StoreFault::Memory) => return Err((tables, NewFault::Memory)),
+            Err(StoreFault::Refused) => return Err((tables, NewFault::Store)),
+        }
+        match Cache::new(alloc, keys.seed) {
+            Ok(cache) => Ok(Desk {
                 alloc,
-                keys,
+                ring: keys.token,
+                cache,
                 tables,
             }),
-            Err(StoreFault::Memory) => Err((tables, NewFault::Memory)),
-            Err(StoreFault::Refused) => Err((tables, NewFault::Store)),
+            Err(_) => Err((tables, NewFault::Memory)),
         }
     }
 
@@ -104,7 +111,14 @@ impl<T: Tables> Desk<T> {
         ensures served { Serves T.stands T.is_live T.is_clean T.leaves (result_of result.reply result.changed) self.old.tables self.new.tables self.old.keys moment (request_value request.now) }
         ensures denied { IfDenied result.reply (result.changed ≡ false) }
     {
-        match serve(self.alloc, &self.keys, &mut self.tables, moment, request) {
+        match serve(
+            self.alloc,
+            &self.ring,
+            &mut self.cache,
+            &mut self.tables,
+            moment,
+            request,
+        ) {
             Ok(Served { reply, changed }) => Outcome {
                 reply: DeskReply::Given(reply),
                 changed,
@@ -114,6 +128,13 @@ impl<T: Tables> Desk<T> {
                 changed: false,
             },
         }
+    }
+
+    /// How many vector sets the cache holds something of. It takes no memory.
+    pub fn cached(&self) -> usize
+        ensures { result ≤ 64 }
+    {
+        self.cache.cached()
     }
 
     /// The records.

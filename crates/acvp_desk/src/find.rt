@@ -1,23 +1,38 @@
 //! The tables are looked at.
 
-ghost use Rattle.std.specs.Prelude.{◌≡◌, ◌⊎◌, ℕ, List, ◌&&◌, ◌==◌, nat_le, true, Some, IfOk, IfErr, option_and_then};
+ghost use Rattle.std.specs.Prelude.{◌≡◌, ◌⊎◌, ◌/◌, ℕ, List, map, ◌&&◌, ◌||◌, ◌==◌, not, nat_le, true, Some, is_some, IfOk, IfErr, option_and_then};
 ghost use Rattle.acvp_mac.specs.Conditions.{first_broken};
 ghost use Rattle.acvp_policy.specs.Conditions.{claims_of};
 ghost use Rattle.acvp_policy.specs.Decision.{account_of_claims};
 ghost use Rattle.acvp_policy.specs.Resource.{resource_of};
 ghost use Rattle.acvp_tables.specs.Content.{Content, account_at, reviewers_of};
-ghost use Rattle.acvp_tables.specs.State.{state_of};
-ghost use Rattle.acvp_desk.specs.Answer.{found_of, later_conditions, reviewer_found, who, IsOf};
+ghost use Rattle.acvp_tables.specs.State.{session_record, state_of, set_record_at};
+ghost use Rattle.acvp_desk.specs.Answer.{found_of, policy_conditions, reviewer_found, who, IsOf};
 ghost use Rattle.acvp_desk.specs.Kept.{IsKept};
-ghost use Rattle.acvp_desk.specs.Place.{certification_of, certification_status, session_facts, subject_of, material_of, account_material, session_material, is_for, is_for_account, is_for_session, place_of, set_numbers, set_outcomes, unfound};
+ghost use Rattle.acvp_desk.specs.Place.{certification_of, certification_status, listed_session, sessions_material, is_for_page, session_facts, reviewed_facts, is_within, subject_of, material_of, account_material, session_material, is_for, is_for_account, is_for_session, place_of, set_numbers, set_outcomes, unfound};
+ghost use Rattle.acvp_desk.specs.Sets.{set_facts, set_material, set_source, submission_for, verdicts_on_set, is_for_set};
 ghost use Rattle.acvp_desk.specs.Serves.{Looks, Sees};
 
 use crate::ask::Ask;
-use crate::found::{Accounts, Found, Material, SetNumbers, SetOutcome, SetOutcomes, facts_for};
-use crate::wish::{AccountWish, CallerAsk, SessionWish, Wish};
-use acvp_policy::{CertificationStatus, Rule, SessionFacts, SessionSubject, Subject, Token, admit};
-use acvp_tables::{AccountRow, RequestStatus, SessionRow, StoreFault, Tables, selections_follow};
+use crate::found::{
+    Accounts, Found, ListedSession, ListedSessions, Material, SetNumbers, SetOutcome, SetOutcomes,
+    SetSource, SetVerdicts, Submission, facts_for,
+};
+use crate::submit::one_if_passed;
+use crate::wish::{AccountWish, CallerAsk, SessionWish, SetWish, Wish};
+use acvp_json::Page;
+use acvp_policy::{
+    CertificationStatus, ReviewerSubject, Rule, SessionFacts, SessionSubject, SetFacts, SetSubject,
+    Subject, Token, admit,
+};
+use acvp_tables::{
+    AccountRow, RequestStatus, SessionRow, StoreFault, Tables, numbers_name, numbers_tell,
+    selections_follow, sets_are_there_once,
+};
 use std::alloc::{AllocError, Global};
+
+/// The number of a vector set is its session's and two digits.
+const SETS_OF_A_SESSION: u64 = 100;
 
 /// The number of the account that acts, where there is one.
 fn who(ask: &Ask) -> Option<u16>
@@ -66,6 +81,12 @@ fn reviewer<T: Tables>(tables: &mut T, ask: &Ask) -> Result<bool, StoreFault>
                 wish: Wish::Session(session, SessionWish::Results),
             },
         ) => tables.is_reviewer(*session, acting(token)),
+        Ask::Caller(
+            CallerAsk {
+                token,
+                wish: Wish::Set(of, _, SetWish::Results),
+            },
+        ) => tables.is_reviewer(*of, acting(token)),
         _ => Ok(false),
     }
 }
@@ -125,18 +146,95 @@ fn session_facts<T: Tables>(tables: &mut T, number: u64) -> Result<Option<Sessio
     Ok(Some(facts_of(&row, certification)))
 }
 
+/// How the session of a number stands, where the account of another is a reviewer of it.
+#[tactic(auto, unfolding(acvp_tables::specs::State::state_of))]
+fn reviewed_facts<T: Tables>(
+    tables: &mut T,
+    session: u64,
+    reviewer: u64,
+) -> Result<Option<SessionFacts>, StoreFault>
+    ensures found { Sees T.stands T.is_live T.is_clean T.leaves result tables.old tables.new (λ seeds c. reviewed_facts seeds (state_of c) session reviewer) }
+    ensures within { IfOk result (λ found. (not (is_some found) || nat_le reviewer 9999) ≡ true) }
+    ensures looks { Looks T.stands T.is_live T.is_clean T.leaves result tables.old tables.new }
+{
+    numbers_tell();
+    if reviewer > 9999 {
+        return Ok(None);
+    }
+    if !tables.is_reviewer(session, reviewer as u16)? {
+        return Ok(None);
+    }
+    session_facts(tables, session)
+}
+
+/// How the vector set of a number stands, where it is of the session of a number.
+#[tactic(auto, unfolding(acvp_tables::specs::State::state_of, crate::specs::Sets::set_facts))]
+fn set_facts<T: Tables>(
+    tables: &mut T,
+    session: u64,
+    number: u64,
+) -> Result<Option<SetFacts>, StoreFault>
+    ensures found { Sees T.stands T.is_live T.is_clean T.leaves result tables.old tables.new (λ seeds c. set_facts (session_facts seeds (state_of c) session) session number (state_of c).sets) }
+    ensures within { IfOk result (λ found. (not (is_some found) || ((number / 100) == session)) ≡ true) }
+    ensures looks { Looks T.stands T.is_live T.is_clean T.leaves result tables.old tables.new }
+{
+    selections_follow();
+    numbers_name();
+    if number / SETS_OF_A_SESSION != session {
+        return Ok(None);
+    }
+    let Some(facts) = session_facts(tables, session)? else {
+        return Ok(None);
+    };
+    match tables.set(number)? {
+        Some(row) if row.session == session => Ok(Some(SetFacts {
+            session: facts,
+            cancelled: row.cancelled,
+            answered: row.disposition.is_some(),
+        })),
+        _ => Ok(None),
+    }
+}
+
 /// What a wish names, with what is found there.
 fn subject<T: Tables>(tables: &mut T, wish: &Wish) -> Result<Subject, StoreFault>
     ensures found { Sees T.stands T.is_live T.is_clean T.leaves result tables.old tables.new (λ seeds c. subject_of seeds (state_of c) wish.now) }
     ensures names { IfOk result (λ subject. resource_of subject ≡ resource_of (unfound wish.now)) }
+    ensures within { IfOk result (λ subject. is_within wish.now subject ≡ true) }
     ensures looks { Looks T.stands T.is_live T.is_clean T.leaves result tables.old tables.new }
 {
     match *wish {
         Wish::Account(_) => Ok(Subject::Account),
+        Wish::NewSession => Ok(Subject::Account),
+        Wish::ListSessions(_) => Ok(Subject::Account),
         Wish::Algorithm(number) => Ok(Subject::Algorithm(number)),
         Wish::Session(session, _) => {
             let found = session_facts(tables, session)?;
             Ok(Subject::Session(SessionSubject { session, found }))
+        }
+        Wish::Reviewer(session, reviewer) => {
+            let found = reviewed_facts(tables, session, reviewer)?;
+            Ok(Subject::Reviewer(ReviewerSubject {
+                session,
+                reviewer,
+                found,
+            }))
+        }
+        Wish::Set(session, set, _) => {
+            let found = set_facts(tables, session, set)?;
+            Ok(Subject::Set(SetSubject {
+                session,
+                set,
+                found,
+            }))
+        }
+        Wish::CancelSet(session, set) => {
+            let found = set_facts(tables, session, set)?;
+            Ok(Subject::Set(SetSubject {
+                session,
+                set,
+                found,
+            }))
         }
     }
 }
@@ -233,7 +331,155 @@ fn session_material<T: Tables>(
         SessionWish::ListSets => Ok(Material::Sets(set_numbers(alloc, tables, session)?)),
         SessionWish::Cancel => Ok(Material::Nothing),
         SessionWish::ListReviewers => Ok(Material::Reviewers(reviewers(tables, session)?)),
+        SessionWish::AddReviewer => Ok(Material::Reviewers(reviewers(tables, session)?)),
     }
+}
+
+/// What the prompts of a vector set are made from.
+#[tactic(auto, unfolding(acvp_tables::specs::State::state_of))]
+fn set_source<T: Tables>(tables: &mut T, number: u64) -> Result<Option<SetSource>, StoreFault>
+    ensures found { Sees T.stands T.is_live T.is_clean T.leaves result tables.old tables.new (λ seeds c. set_source number (state_of c).sets) }
+    ensures looks { Looks T.stands T.is_live T.is_clean T.leaves result tables.old tables.new }
+{
+    selections_follow();
+    let Some(row) = tables.set(number)? else {
+        return Ok(None);
+    };
+    match tables.capability(number)? {
+        Some(capability) => Ok(Some(SetSource {
+            capability,
+            epoch: row.epoch,
+        })),
+        None => Ok(None),
+    }
+}
+
+/// The verdicts on the answers to a vector set, where it has any.
+#[tactic(auto, unfolding(acvp_tables::specs::State::state_of))]
+fn set_verdicts<T: Tables>(tables: &mut T, number: u64) -> Result<Option<SetVerdicts>, StoreFault>
+    ensures found { Sees T.stands T.is_live T.is_clean T.leaves result tables.old tables.new (λ seeds c. option_and_then (verdicts_on_set seeds) (set_record_at number (state_of c).sets)) }
+    ensures looks { Looks T.stands T.is_live T.is_clean T.leaves result tables.old tables.new }
+{
+    selections_follow();
+    match tables.verdicts(number)? {
+        Some(verdicts) => Ok(Some(SetVerdicts { verdicts })),
+        None => Ok(None),
+    }
+}
+
+/// What answers to the vector set of a number are graded by and counted with, where it is of the session of a number and
+/// isn't cancelled. A set whose session isn't there or doesn't count it stands for nothing.
+#[tactic(auto, unfolding(acvp_tables::specs::State::state_of))]
+fn submission<T: Tables>(
+    tables: &mut T,
+    session: u64,
+    number: u64,
+) -> Result<Option<Submission>, StoreFault>
+    ensures found { Sees T.stands T.is_live T.is_clean T.leaves result tables.old tables.new (λ seeds c. submission_for seeds session number (state_of c).sets) }
+    ensures looks { Looks T.stands T.is_live T.is_clean T.leaves result tables.old tables.new }
+{
+    selections_follow();
+    sets_are_there_once();
+    let Some(set) = tables.set(number)? else {
+        return Ok(None);
+    };
+    if set.session != session || set.cancelled {
+        return Ok(None);
+    }
+    let Some(capability) = tables.capability(number)? else {
+        return Ok(None);
+    };
+    let Some(row) = tables.session(session)? else {
+        return Err(StoreFault::Refused);
+    };
+    let Some(others) = row.passed.checked_sub(one_if_passed(set.disposition)) else {
+        return Err(StoreFault::Refused);
+    };
+    let source = SetSource {
+        capability,
+        epoch: set.epoch,
+    };
+    Ok(Some(Submission { source, others }))
+}
+
+/// What is read for the reply to who asks something of a vector set.
+#[tactic(auto, unfolding(acvp_tables::specs::State::state_of))]
+fn set_material<T: Tables>(
+    tables: &mut T,
+    session: u64,
+    number: u64,
+    wish: SetWish,
+) -> Result<Material, StoreFault>
+    ensures found { Sees T.stands T.is_live T.is_clean T.leaves result tables.old tables.new (λ seeds c. set_material seeds session number (state_of c).sets wish) }
+    ensures fits { IfOk result (λ material. is_for_set wish material ≡ true) }
+    ensures looks { Looks T.stands T.is_live T.is_clean T.leaves result tables.old tables.new }
+{
+    match wish {
+        SetWish::Read => Ok(Material::Source(set_source(tables, number)?)),
+        SetWish::Expected => Ok(Material::Source(set_source(tables, number)?)),
+        SetWish::Results => match set_verdicts(tables, number)? {
+            Some(verdicts) => Ok(Material::Verdicts(verdicts)),
+            None => Ok(Material::Source(set_source(tables, number)?)),
+        },
+        SetWish::Submit => Ok(Material::Submission(submission(tables, session, number)?)),
+        SetWish::Resubmit => Ok(Material::Submission(submission(tables, session, number)?)),
+    }
+}
+
+/// What a list shows of a session.
+fn listed_session<T: Tables>(tables: &mut T, row: &SessionRow) -> Result<ListedSession, StoreFault>
+    ensures found { Sees T.stands T.is_live T.is_clean T.leaves result tables.old tables.new (λ seeds c. listed_session c.requests (session_record row.now)) }
+    ensures looks { Looks T.stands T.is_live T.is_clean T.leaves result tables.old tables.new }
+{
+    let certification = certification(tables, row.certify)?;
+    Ok(ListedSession {
+        number: row.number,
+        created: row.created,
+        sample: row.sample,
+        cancelled: row.cancelled,
+        certification,
+    })
+}
+
+/// What a list shows of sessions.
+fn listed_sessions<T: Tables>(
+    alloc: Global,
+    tables: &mut T,
+    rows: &[SessionRow],
+) -> Result<ListedSessions, StoreFault>
+    ensures found { Sees T.stands T.is_live T.is_clean T.leaves result tables.old tables.new (λ seeds c. map (listed_session c.requests) (map session_record rows.now)) }
+    ensures looks { Looks T.stands T.is_live T.is_clean T.leaves result tables.old tables.new }
+{
+    let mut sessions = Vec::with_capacity(alloc, rows.len())?;
+    for row in rows {
+        let session = listed_session(tables, row)?;
+        if let Err(refused) = sessions.push(session) {
+            return Err(AllocError::from(refused).into());
+        }
+    }
+    Ok(ListedSessions { sessions })
+}
+
+/// What is read for the reply to who lists the sessions of an account.
+#[tactic(auto, unfolding(acvp_tables::specs::State::state_of))]
+fn sessions_material<T: Tables>(
+    alloc: Global,
+    tables: &mut T,
+    account: u16,
+    page: Option<Page>,
+) -> Result<Material, StoreFault>
+    ensures found { Sees T.stands T.is_live T.is_clean T.leaves result tables.old tables.new (λ seeds c. sessions_material account (state_of c) page) }
+    ensures fits { IfOk result (λ material. is_for_page page material ≡ true) }
+    ensures looks { Looks T.stands T.is_live T.is_clean T.leaves result tables.old tables.new }
+{
+    selections_follow();
+    let Some(page) = page else {
+        return Ok(Material::Nothing);
+    };
+    let counts = tables.counts(account)?;
+    let rows = tables.sessions(account, page.offset, page.limit)?;
+    let sessions = listed_sessions(alloc, tables, &rows)?;
+    Ok(Material::Sessions(counts.sessions, sessions))
 }
 
 /// What is read of the records for a reply.
@@ -251,6 +497,13 @@ fn material<T: Tables>(
         Wish::Account(it) => account_material(tables, account, it),
         Wish::Algorithm(_) => Ok(Material::Nothing),
         Wish::Session(session, it) => session_material(alloc, tables, session, it),
+        Wish::Reviewer(session, _) => Ok(Material::Reviewers(reviewers(tables, session)?)),
+        Wish::Set(session, set, it) => set_material(tables, session, set, it),
+        Wish::NewSession => account_material(tables, account, AccountWish::Read),
+        Wish::CancelSet(session, _) => Ok(Material::Outcomes(set_outcomes(
+            alloc, tables, session,
+        )?)),
+        Wish::ListSessions(page) => sessions_material(alloc, tables, account, page),
     }
 }
 
@@ -270,6 +523,7 @@ fn look_at<T: Tables>(
 ) -> Result<Place, StoreFault>
     ensures found { Sees T.stands T.is_live T.is_clean T.leaves result tables.old tables.new (λ seeds c. place_of seeds account (state_of c) wish.now) }
     ensures names { IfOk result (λ place. resource_of place.subject ≡ resource_of (unfound wish.now)) }
+    ensures within { IfOk result (λ place. is_within wish.now place.subject ≡ true) }
     ensures fits { IfOk result (λ place. is_for wish.now place.material ≡ true) }
     ensures looks { Looks T.stands T.is_live T.is_clean T.leaves result tables.old tables.new }
 {
@@ -289,7 +543,7 @@ pub(crate) fn find<T: Tables>(
 ) -> Result<Found, Rule>
     ensures found { Sees T.stands T.is_live T.is_clean T.leaves result tables.old tables.new (λ seeds c. found_of seeds ask.now (state_of c)) }
     ensures of { IfOk result (λ found. IsOf ask.now found) }
-    ensures refused { IfErr result (λ rule. (rule ≡ Rule.Unavailable) ⊎ ((T.is_clean tables.new → T.is_live tables.old → T.is_live tables.new) × (T.is_live tables.new → (seeds : List (List ℕ)) (c : Content) → IsKept seeds c → T.stands tables.old c → first_broken (later_conditions moment ask.now (found_of seeds ask.now (state_of c))) ≡ Some rule))) }
+    ensures refused { IfErr result (λ rule. (rule ≡ Rule.Unavailable) ⊎ ((T.is_clean tables.new → T.is_live tables.old → T.is_live tables.new) × (T.is_live tables.new → (seeds : List (List ℕ)) (c : Content) → IsKept seeds c → T.stands tables.old c → first_broken (policy_conditions moment ask.now (found_of seeds ask.now (state_of c))) ≡ Some rule))) }
     ensures looks { Looks T.stands T.is_live T.is_clean T.leaves result tables.old tables.new }
 {
     let Ok(account) = account(tables, who(ask)) else {

@@ -7,9 +7,13 @@ ghost use Rattle.acvp_desk.specs.Place.{unfound};
 
 use crate::ask::{Ask, LoginAsk};
 use crate::wish::Wish;
-use acvp_answers::Disposition;
+use acvp_answers::{Disposition, Verdict};
+use acvp_caps::Capability;
 use acvp_mac::accepted_step;
-use acvp_policy::{Facts, LoginFacts, SessionSubject, Standing, Subject, Token, UserFacts};
+use acvp_policy::{
+    CertificationStatus, Facts, LoginFacts, ReviewerSubject, SessionSubject, SetSubject, Standing,
+    Subject, Token, UserFacts,
+};
 use acvp_tables::{AccountRow, Counts};
 use std::marker::Model;
 
@@ -63,6 +67,66 @@ impl Model for Accounts {
     ghost view = { λ a. a.numbers.items };
 }
 
+/// What the prompts of a vector set are made from, beside its number and the seed of the epoch.
+#[derive(Drop)]
+pub(crate) struct SetSource {
+    pub capability: Capability,
+    pub epoch: u64,
+}
+
+/// The verdicts on the last answers to a vector set, in the order of its tests.
+#[derive(Drop)]
+pub(crate) struct SetVerdicts {
+    pub verdicts: Vec<Verdict>,
+}
+
+impl Model for SetVerdicts {
+    ghost use Rattle.std.specs.Prelude.{List};
+    ghost use Rattle.acvp_answers.specs.declared.verdict.Verdict.{Verdict};
+
+    ghost Value = { List Verdict };
+
+    ghost view = { λ s. s.verdicts.items };
+}
+
+/// What answers to a vector set are graded by, and counted with.
+#[derive(Drop)]
+pub(crate) struct Submission {
+    pub source: SetSource,
+
+    /// How many other vector sets of its session that aren't cancelled have passed.
+    pub others: u64,
+}
+
+/// What a list shows of a test session.
+#[derive(Clone, Copy)]
+pub(crate) struct ListedSession {
+    pub number: u64,
+
+    /// In seconds since 1970.
+    pub created: u64,
+    pub sample: bool,
+    pub cancelled: bool,
+
+    /// The status of its last certification request.
+    pub certification: Option<CertificationStatus>,
+}
+
+/// Test sessions in the order of their numbers.
+#[derive(Drop)]
+pub(crate) struct ListedSessions {
+    pub sessions: Vec<ListedSession>,
+}
+
+impl Model for ListedSessions {
+    ghost use Rattle.std.specs.Prelude.{List};
+    ghost use Rattle.acvp_desk.specs.declared.found.ListedSession.{ListedSession};
+
+    ghost Value = { List ListedSession };
+
+    ghost view = { λ s. s.sessions.items };
+}
+
 /// What a reply shows of the records, beside how what the path names stands.
 #[derive(Drop)]
 pub(crate) enum Material {
@@ -79,6 +143,18 @@ pub(crate) enum Material {
 
     /// The accounts that review a session.
     Reviewers(Accounts),
+
+    /// What the prompts of a vector set are made from.
+    Source(Option<SetSource>),
+
+    /// The verdicts on the answers to a vector set.
+    Verdicts(SetVerdicts),
+
+    /// What answers to a vector set of the session that isn't cancelled come to.
+    Submission(Option<Submission>),
+
+    /// How many sessions an account has, and those of a page.
+    Sessions(u64, ListedSessions),
 }
 
 /// What the tables hold of a request.
@@ -101,9 +177,21 @@ fn unfound(wish: &Wish) -> Subject
 {
     match *wish {
         Wish::Account(_) => Subject::Account,
+        Wish::NewSession => Subject::Account,
+        Wish::ListSessions(_) => Subject::Account,
         Wish::Algorithm(number) => Subject::Algorithm(number),
         Wish::Session(session, _) => Subject::Session(SessionSubject {
             session,
+            found: None,
+        }),
+        Wish::Reviewer(session, reviewer) => Subject::Reviewer(ReviewerSubject {
+            session,
+            reviewer,
+            found: None,
+        }),
+        Wish::Set(session, set, _) | Wish::CancelSet(session, set) => Subject::Set(SetSubject {
+            session,
+            set,
             found: None,
         }),
     }

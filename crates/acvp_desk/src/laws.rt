@@ -13,7 +13,10 @@ ghost use Rattle.acvp_desk.specs.declared.keys.Keys.{Keys};
 ghost use Rattle.acvp_desk.specs.declared.order.Order.{Order};
 ghost use Rattle.acvp_desk.specs.Request.{RequestValue};
 
-use acvp_tables::{counts_are_kept, numbers_are_kept, records_begin_well, state_follows};
+use acvp_tables::{
+    counts_are_kept, counts_differ_by_one, numbers_are_kept, numbers_count, numbers_name,
+    numbers_tell, records_begin_well, selections_follow, sets_are_there_once, state_follows,
+};
 
 /// What a request or an order makes of what is kept is what it makes of the records of it.
 pub fn effects_follow()
@@ -33,6 +36,12 @@ pub fn records_are_kept()
     state_follows();
     numbers_are_kept();
     counts_are_kept();
+    numbers_tell();
+    numbers_count();
+    sets_are_there_once();
+    selections_follow();
+    numbers_name();
+    counts_differ_by_one();
 }
 
 /// The bytes of the body that names a rule.

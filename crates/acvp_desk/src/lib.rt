@@ -14,11 +14,15 @@ pub use request::{Numbers, TokenField, TypedRequest};
 
 mod account;
 mod ask;
+mod body;
 mod cache;
 #[cfg(test)]
 mod cache_tests;
 #[cfg(test)]
 mod caller_tests;
+mod cancel;
+#[cfg(test)]
+mod cancel_tests;
 mod desk;
 mod draft;
 mod entry;
@@ -26,12 +30,28 @@ mod find;
 mod found;
 mod keys;
 mod laws;
+mod listing;
+mod new_session;
+#[cfg(test)]
+mod new_session_tests;
 mod order;
+mod page;
+#[cfg(test)]
+mod page_tests;
 mod request;
+#[cfg(test)]
+mod reviewer_tests;
+mod reviewers;
 mod serve;
 mod session;
 #[cfg(test)]
 mod session_tests;
+mod set;
+#[cfg(test)]
+mod set_tests;
+mod submit;
+#[cfg(test)]
+mod submit_tests;
 #[cfg(test)]
 mod tests;
 mod token;

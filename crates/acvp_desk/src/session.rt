@@ -1,16 +1,20 @@
 //! What is given to who reads a test session or its lists, or cancels it.
 
-ghost use Rattle.std.specs.Prelude.{◌≡◌, ◌<◌, map, true, Some, None, IfOk, IfErr, is_some};
+ghost use Rattle.std.specs.Prelude.{◌≡◌, ◌⊎◌, ◌<◌, map, true, Some, None, IfOk, IfErr, is_some};
 ghost use Rattle.acvp_policy.specs.Conditions.{session_found};
 ghost use Rattle.acvp_desk.specs.Answer.{end_of_moments, IsReply};
 ghost use Rattle.acvp_desk.specs.Place.{is_for_session, has_sets};
-ghost use Rattle.acvp_desk.specs.Replies.{disposition_at, facts_reply, result_shown, results_reply, session_reply, session_shown, session_status, sets_in_material, wish_change};
+ghost use Rattle.acvp_mac.specs.Conditions.{first_broken};
+ghost use Rattle.acvp_desk.specs.OwnConditions.{session_conditions};
+ghost use Rattle.acvp_desk.specs.Request.{request_value};
+ghost use Rattle.acvp_desk.specs.Replies.{disposition_at, facts_reply, result_shown, results_reply, session_reply, session_shown, session_status, session_change, sets_in_material};
 ghost use Rattle.acvp_desk.specs.declared.wish.SessionWish.TheVariants as on_session;
-ghost use Rattle.acvp_desk.specs.declared.wish.Wish.TheVariants as wish;
 
 use crate::ask::END_OF_MOMENTS;
 use crate::draft::{Draft, told};
 use crate::found::{Found, Material, SetOutcome};
+use crate::request::TypedRequest;
+use crate::reviewers::{draft_added, found_reviewers};
 use crate::wish::SessionWish;
 use acvp_answers::Disposition;
 use acvp_json::{Created, ReplyObject, Session, SessionStatus, SetResult};
@@ -95,7 +99,11 @@ fn found_sets(material: &Material) -> &[u64]
 
 /// What a vector set comes to at a moment, by the creation of its session, which is so early that it ends before the end
 /// of all numbers.
-fn disposition_at(moment: u64, created: u64, disposition: Option<Disposition>) -> Disposition
+pub(crate) fn disposition_at(
+    moment: u64,
+    created: u64,
+    disposition: Option<Disposition>,
+) -> Disposition
     requires { created < end_of_moments }
     ensures { result ≡ disposition_at moment created disposition }
 {
@@ -158,14 +166,16 @@ pub(crate) fn draft_session(
     alloc: Global,
     moment: u64,
     number: u64,
+    request: &TypedRequest<'_>,
     it: SessionWish,
     found: &Found,
 ) -> Result<Draft, Rule>
     requires there { is_some (session_found found.now.subject) ≡ true }
     requires material { is_for_session it found.now.material ≡ true }
-    ensures reply { IfOk result (λ draft. IsReply draft.reply.items (session_reply moment number found.now it)) }
-    ensures change { IfOk result (λ draft. draft.change ≡ wish_change (wish.Session number it)) }
-    ensures denied { IfErr result (λ rule. rule ≡ Rule.Unavailable) }
+    ensures held { IfOk result (λ _. first_broken (session_conditions (request_value request.now) found.now it) ≡ None) }
+    ensures reply { IfOk result (λ draft. IsReply draft.reply.items (session_reply moment number (request_value request.now) found.now it)) }
+    ensures change { IfOk result (λ draft. draft.change ≡ session_change number (request_value request.now) it) }
+    ensures denied { IfErr result (λ rule. (rule ≡ Rule.Unavailable) ⊎ (first_broken (session_conditions (request_value request.now) found.now it) ≡ Some rule)) }
 {
     match it {
         SessionWish::Read => {
@@ -192,11 +202,9 @@ pub(crate) fn draft_session(
             told(alloc, &ReplyObject::ListSets { sets }, None)
         }
         SessionWish::ListReviewers => {
-            let Material::Reviewers(accounts) = &found.material else {
-                unreachable!()
-            };
-            let accounts = &accounts.numbers;
+            let accounts = found_reviewers(&found.material);
             told(alloc, &ReplyObject::Reviewers { accounts }, None)
         }
+        SessionWish::AddReviewer => draft_added(alloc, number, request.body, &found.material),
     }
 }

@@ -4,7 +4,7 @@ ghost use Rattle.acvp_policy.specs.Granted.{Granted};
 ghost use Rattle.acvp_registry.specs.declared.kind.Kind.{Kind};
 ghost use Rattle.acvp_tables.specs.Content.{Content, no_rows, account_at, session_at, set_at, object_at, request_at, live_sets, is_reviewer, reviewers_of, sessions_of, objects_of, requests_of, page, counts_of, greatest_epoch_of};
 ghost use Rattle.acvp_tables.specs.State.{State, SessionRecord, SetRecord, session_record, set_record, state_of, own, seen, may_see, owner_of, first_of_account, first_of_session, session_record_at, set_record_at, sets_in, live_records, objects_in, session_records_of, record_counts, IsNumbered, IsWellNumbered, IsSound};
-ghost use Rattle.acvp_tables.specs.Changes.{after, after_order};
+ghost use Rattle.acvp_tables.specs.Changes.{after, after_order, is_set};
 ghost use Rattle.acvp_tables.specs.StateChanges.{after_state, after_order_state};
 ghost use Rattle.acvp_tables.specs.Counted.{IsCounted, IsNextCount, AreThere, one_if, has_passed, is_passed};
 ghost use Rattle.acvp_tables.specs.Covers.{Covers};
@@ -148,4 +148,9 @@ pub fn counters_allow()
 pub fn epochs_are_bounded()
     ensures greatest { (rows : List SetRow) → IfSome (greatest_epoch_of rows) (λ greatest. All (λ row. row.epoch ≤ greatest) rows) }
     ensures none { (rows : List SetRow) → greatest_epoch_of rows ≡ None → rows ≡ [] }
+{}
+
+/// No two vector sets have the same number.
+pub fn sets_are_there_once()
+    ensures { (n : ℕ) (c : Content) → IsSound c → length (filter (is_set n) c.sets) ≤ 1 }
 {}

@@ -4,4 +4,4 @@ use Rattle.acvp_desk.proofs.ask.ask_in.Goals as goal
 
 pub returns-in_ok-login_ask-in-Login-clause-ok : goal.returns-in_ok-login_ask-in-Login-clause-ok
 returns-in_ok-login_ask-in-Login-clause-ok c =
-    rw (c.in-Login.is) (c.in_ok-login_ask-in-Login.ensures.ok.0, ap (option_map Login) c.in_ok-login_ask-in-Login.ensures.ok.1)
+    rw (c.in-Login.is) (c.in_ok-login_ask-in-Login.ensures.ok.0, λ seeds. ap (option_map Login) c.in_ok-login_ask-in-Login.ensures.ok.1)

@@ -17,3 +17,7 @@ returns-in_ok-reviewers-in-ListReviewers-clause-found g c =
 pub returns-in_ok-set_outcomes-in-Results-clause-found : goal.returns-in_ok-set_outcomes-in-Results-clause-found
 returns-in_ok-set_outcomes-in-Results-clause-found g c =
     λ live seeds content kept h. rw (c.in-Results.is) (ap Outcomes (c.in_ok-set_outcomes-in-Results.ensures.found live seeds content kept h))
+
+pub returns-in_ok-reviewers-in-AddReviewer-clause-found : goal.returns-in_ok-reviewers-in-AddReviewer-clause-found
+returns-in_ok-reviewers-in-AddReviewer-clause-found g c =
+    λ live seeds content kept h. rw (c.in-AddReviewer.is) (ap Reviewers (c.in_ok-reviewers-in-AddReviewer.ensures.found live seeds content kept h))

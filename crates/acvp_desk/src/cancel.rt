@@ -1,0 +1,68 @@
+//! What is given to who cancels a vector set.
+
+ghost use Rattle.std.specs.Prelude.{◌≡◌, ◌&&◌, true, Some, IfOk, IfErr, codes, filter, length, option_map};
+ghost use Rattle.acvp_json.specs.Session.{outcome_data};
+ghost use Rattle.acvp_json.specs.Urls.{set_url};
+ghost use Rattle.acvp_tables.specs.declared.change.Change.TheVariants as change;
+ghost use Rattle.acvp_desk.specs.Answer.{IsReply};
+ghost use Rattle.acvp_desk.specs.Place.{has_outcomes};
+ghost use Rattle.acvp_desk.specs.Replies.{cancelled_set, has_passed, is_other, outcomes_in_material};
+
+use crate::draft::{Draft, told};
+use crate::found::{Material, SetOutcome};
+use acvp_answers::Disposition;
+use acvp_json::ReplyObject;
+use acvp_policy::Rule;
+use acvp_tables::{CancelledSet, Change};
+use std::alloc::Global;
+
+fn has_passed(set: &SetOutcome) -> bool
+    ensures { result ≡ has_passed set.now }
+{
+    set.disposition == Some(Disposition::Passed)
+}
+
+/// How many vector sets there are beside one.
+fn others(sets: &[SetOutcome], number: u64) -> usize
+    ensures { result ≡ length (filter (is_other number) sets.now) }
+{
+    sets.iter().filter(|set| set.vs != number).count()
+}
+
+/// How many of these have passed.
+fn others_passed(sets: &[SetOutcome], number: u64) -> usize
+    ensures { result ≡ length (filter (λ set. is_other number set && has_passed set) sets.now) }
+{
+    sets.iter()
+        .filter(|set| set.vs != number && has_passed(set))
+        .count()
+}
+
+/// What is given to who cancels a vector set.
+#[tactic(auto, unfolding(acvp_json::specs::ReplyData::reply_data))]
+pub(crate) fn draft_cancelled(
+    alloc: Global,
+    session: u64,
+    set: u64,
+    material: &Material,
+) -> Result<Draft, Rule>
+    requires { has_outcomes material.now ≡ true }
+    ensures reply { IfOk result (λ draft. IsReply draft.reply.items (Some (outcome_data (codes "cancelled") (set_url set)))) }
+    ensures change { IfOk result (λ draft. draft.change ≡ option_map (λ sets. change.CancelSet (cancelled_set session set sets)) (outcomes_in_material material.now)) }
+    ensures denied { IfErr result (λ rule. rule ≡ Rule.Unavailable) }
+{
+    let Material::Outcomes(outcomes) = material else {
+        unreachable!()
+    };
+    let cancelled = CancelledSet {
+        session,
+        set,
+        live: others(&outcomes.sets, set) as u64,
+        passed: others_passed(&outcomes.sets, set) as u64,
+    };
+    told(
+        alloc,
+        &ReplyObject::CancelSet { vs: set },
+        Some(Change::CancelSet(cancelled)),
+    )
+}

@@ -1,0 +1,98 @@
+//! What is given to who lists the test sessions of its account.
+
+ghost use Rattle.std.specs.Prelude.{◌≡◌, ◌⊎◌, map, codes, true, Some, None, IfOk, IfErr};
+ghost use Rattle.acvp_json.specs.Page.{page_data};
+ghost use Rattle.acvp_json.specs.Session.{session_row_data};
+ghost use Rattle.acvp_mac.specs.Conditions.{first_broken};
+ghost use Rattle.acvp_desk.specs.Answer.{IsReply};
+ghost use Rattle.acvp_desk.specs.OwnConditions.{page_conditions};
+ghost use Rattle.acvp_desk.specs.Place.{is_for_page};
+ghost use Rattle.acvp_desk.specs.Replies.{listed_shown, sessions_reply};
+
+use crate::ask::END_OF_MOMENTS;
+use crate::draft::{Draft, told};
+use crate::found::{ListedSession, Material};
+use acvp_json::{Created, Page, ReplyObject, Session, SessionStatus};
+use acvp_policy::{CertificationStatus, Rule};
+use std::alloc::Global;
+
+/// What is shown of a session. A row of a session that was created at a moment that isn't served stands for nothing.
+fn listed_shown(row: &ListedSession) -> Result<Session, Rule>
+    ensures shown { IfOk result (λ session. session ≡ listed_shown row.now) }
+    ensures denied { IfErr result (λ rule. rule ≡ Rule.Unavailable) }
+{
+    if row.created >= END_OF_MOMENTS {
+        return Err(Rule::Unavailable);
+    }
+    let status = match row.certification {
+        _ if row.cancelled => SessionStatus::Cancelled,
+        Some(CertificationStatus::Initial) => SessionStatus::Initial,
+        Some(CertificationStatus::Approved) => SessionStatus::Approved,
+        None | Some(CertificationStatus::Rejected) => SessionStatus::Open,
+    };
+    Ok(Session {
+        number: row.number,
+        created: Created::at(row.created),
+        sample: row.sample,
+        status,
+    })
+}
+
+/// What is shown of sessions.
+fn all_shown(alloc: Global, rows: &[ListedSession]) -> Result<Vec<Session>, Rule>
+    ensures shown { IfOk result (λ sessions. sessions.items ≡ map listed_shown rows.now) }
+    ensures denied { IfErr result (λ rule. rule ≡ Rule.Unavailable) }
+{
+    let Ok(mut sessions) = Vec::with_capacity(alloc, rows.len()) else {
+        return Err(Rule::Unavailable);
+    };
+    for row in rows {
+        let session = listed_shown(row)?;
+        if sessions.push(session).is_err() {
+            return Err(Rule::Unavailable);
+        }
+    }
+    Ok(sessions)
+}
+
+/// What is given to who lists sessions.
+#[tactic(auto, unfolding(acvp_json::specs::ReplyData::reply_data))]
+fn told_sessions(
+    alloc: Global,
+    page: Page,
+    total: u64,
+    listed: &[ListedSession],
+) -> Result<Draft, Rule>
+    ensures reply { IfOk result (λ draft. IsReply draft.reply.items (Some (page_data session_row_data (codes "/acvp/v1/testSessions") page total (map listed_shown listed.now)))) }
+    ensures change { IfOk result (λ draft. draft.change ≡ None) }
+    ensures denied { IfErr result (λ rule. rule ≡ Rule.Unavailable) }
+{
+    let sessions = all_shown(alloc, listed)?;
+    let object = ReplyObject::ListSessions {
+        page,
+        total,
+        sessions: &sessions,
+    };
+    told(alloc, &object, None)
+}
+
+/// What is given to who lists sessions, or the rule that says that the query is no page.
+pub(crate) fn draft_sessions(
+    alloc: Global,
+    page: Option<Page>,
+    material: &Material,
+) -> Result<Draft, Rule>
+    requires { is_for_page page material.now ≡ true }
+    ensures held { IfOk result (λ _. first_broken (page_conditions page) ≡ None) }
+    ensures reply { IfOk result (λ draft. IsReply draft.reply.items (sessions_reply page material.now)) }
+    ensures change { IfOk result (λ draft. draft.change ≡ None) }
+    ensures denied { IfErr result (λ rule. (rule ≡ Rule.Unavailable) ⊎ (first_broken (page_conditions page) ≡ Some rule)) }
+{
+    let Some(page) = page else {
+        return Err(Rule::BadPage);
+    };
+    let Material::Sessions(total, listed) = material else {
+        unreachable!()
+    };
+    told_sessions(alloc, page, *total, &listed.sessions)
+}
