@@ -4,7 +4,13 @@ pub mod ReplyLemmas
 pub mod HeadLemmas
 pub mod FramingLemmas
 pub mod ServeLemmas
-pub mod RouteLemmas
+pub mod DigitLemmas
+pub mod WalkLemmas
+pub mod TableLemmas
+pub mod NumberLemmas
+pub mod RowLemmas
+pub mod PathLemmas
+pub mod RequestLemmas
 pub mod LineLemmas
 pub mod KnownLemmas
 pub mod ReadingLemmas

@@ -7,9 +7,9 @@ use Rattle.httparse.specs.Spans.{name_and_value}
 use Rattle.acvp_desk.specs.Conditions.{Condition, judged}
 use Rattle.acvp_desk.specs.Number.{digits_number_of}
 use Rattle.acvp_desk.specs.Request.{RequestValue, TokenValue, missing, doubled, bearer}
-use Rattle.acvp_http.specs.Paths.{path_named, route_on}
-use Rattle.acvp_http.specs.declared.routes.Route.{Route}
-use Rattle.acvp_http.specs.declared.routes.Path.{Path}
+use Rattle.acvp_http.specs.Paths.{Names, route_on}
+use Rattle.acvp_http.specs.declared.path.Route.{Route}
+use Rattle.acvp_http.specs.declared.path.Path.{Path}
 use Rattle.acvp_policy.specs.declared.rule.Rule.{Rule}
 use Rattle.acvp_policy.specs.declared.rule.Rule.TheVariants.{BadHead, HeadTooLarge, Truncated, LengthMissing, BadLength, BodyTooLarge, TransferCoding, HostMissing, NoRoute}
 
@@ -158,12 +158,13 @@ asked_path head body None = refused NoRoute
 asked_path head body (Some path) = asked_route head body path (route_on head.method path)
 
 -- what a head asks, where rest follows it and its body has this size
-abbrev pub asked_by : RequestHead → List ℕ → Result ℕ Rule → ParsedRequest
-asked_by head rest (Err rule) = refused rule
-asked_by head rest (Ok size) = asked_path head (take size rest) (path_named (path_of head.target))
+abbrev pub AskedBy : RequestHead → List ℕ → Result ℕ Rule → ParsedRequest → Type 0
+AskedBy head rest (Err rule) parsed = parsed ≡ refused rule
+AskedBy head rest (Ok size) parsed =
+    (named : Option Path) × Names (path_of head.target) named × (parsed ≡ asked_path head (take size rest) named)
 
-abbrev pub asked : RequestHead → List ℕ → ParsedRequest
-asked head rest = asked_by head rest (body_size head.method head.minor (fields_of head) (length rest))
+abbrev pub AskedOf : RequestHead → List ℕ → ParsedRequest → Type 0
+AskedOf head rest parsed = AskedBy head rest (body_size head.method head.minor (fields_of head) (length rest)) parsed
 
 -- what a block asks, where rest follows it
 abbrev pub AsksBlock : List ℕ → List ℕ → ParsedRequest → Type 0
@@ -171,7 +172,7 @@ AsksBlock block rest parsed =
     MatchBool (nat_lt 64 (line_count block - 2))
     (parsed ≡ refused HeadTooLarge)
     (((parsed ≡ refused BadHead) × ((head : RequestHead) → ReadsRequest block head [] → ⊥))
-    ⊎ ((head : RequestHead) × ReadsRequest block head [] × (parsed ≡ asked head rest)))
+    ⊎ ((head : RequestHead) × ReadsRequest block head [] × AskedOf head rest parsed))
 
 -- the most bytes of a head
 abbrev pub head_limit : ℕ

@@ -5,7 +5,7 @@ use Rattle.httpdate.specs.Date.{unix_secs, date_text}
 use Rattle.httpdate.specs.declared.date.HttpDate.{HttpDate}
 use Rattle.acvp_desk.specs.Errors.{error_body}
 use Rattle.acvp_http.specs.Paths.{allowed_on}
-use Rattle.acvp_http.specs.declared.routes.Path.{Path}
+use Rattle.acvp_http.specs.declared.path.Path.{Path}
 use Rattle.acvp_policy.specs.declared.rule.Rule.{Rule}
 use Rattle.acvp_policy.specs.declared.rule.Rule.TheVariants.{NoMethod, TokenMissing, TokenMalformed, TokenSignature, TokenClaims, TokenExpired, ClockOutOfRange, Unavailable}
 use Rattle.acvp_policy.specs.Rule.{rule_status}

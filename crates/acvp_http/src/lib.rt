@@ -3,6 +3,7 @@
 
 mod framing;
 mod head;
+mod path;
 mod reading;
 mod reply;
 mod request;
@@ -20,9 +21,10 @@ mod writing;
 
 pub use framing::BODY_BYTES;
 pub use head::HEAD_BYTES;
+pub use path::Route;
 pub use reply::Reply;
 pub use request::asks_one_thing;
-pub use routes::{Route, Routes};
+pub use routes::{Routes, finds_one_thing};
 pub use running::{run, turns_make_a_run};
 pub use script::ScriptFault;
 pub use serve::{events_are_served_one_way, handle_bytes};

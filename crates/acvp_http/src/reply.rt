@@ -7,7 +7,7 @@ ghost use Rattle.acvp_desk.specs.Errors.{error_body};
 ghost use Rattle.acvp_http.specs.Paths.{allowed_on};
 ghost use Rattle.acvp_http.specs.Reply.{phrase_of, line, date_line, rule_line, head_text, framed, date_shown, refusal, method_refusal};
 
-use crate::routes::Path;
+use crate::path::Path;
 use crate::text::Text;
 use acvp_desk::{SPARE_BYTES, errors_are_named};
 use acvp_policy::Rule;

@@ -5,7 +5,8 @@ ghost use Rattle.acvp_http.specs.Private.Head.{parsed_of};
 
 use crate::framing::body_size;
 use crate::head::{HEAD_BYTES, block_end, line_count, whole_head};
-use crate::routes::{Path, Routes};
+use crate::path::Path;
+use crate::routes::Routes;
 use crate::target::path_and_query;
 use crate::token::token_of;
 use acvp_desk::TypedRequest;

@@ -1,75 +1,134 @@
-//! The table of paths, and what a method on a path asks.
-ghost use Rattle.std.specs.Prelude.{◌≡◌, ◌≤◌, IfOk, Some, None, option_map, length};
+//! The table of paths: which path the bytes of a request name.
+ghost use Rattle.std.specs.Prelude.{Result, ◌≡◌, ◌≢◌, ◌<◌, ℕ, List, MatchOption, OnOk, None, IfSome, option_map, slice_index, length, position, ◌==◌};
 ghost use Rattle.matchit.specs.Seek.{first};
-ghost use Rattle.acvp_http.specs.Paths.{path_named, route_on, route_of, allowed_on};
+ghost use Rattle.acvp_policy.specs.declared.rule.Rule.{Rule};
+ghost use Rattle.acvp_http.specs.Paths.{Fits, written, IsPath, Names, Finds};
+ghost use Rattle.acvp_http.specs.declared.path.Route.{Route};
+ghost use Rattle.acvp_http.specs.Private.Rows.{IsLeading, IsLast, IsInner, AreLast, AreInner, HasPattern, added_all, general_routes, session_routes, registry_routes};
 
-use acvp_desk::Numbers;
-use acvp_policy::{Action, Rule};
-use matchit::Router;
+use crate::path::{Path, Route};
+use acvp_desk::plain_number;
+use acvp_policy::Rule;
+use matchit::{InsertError, Router};
 use std::alloc::{AllocError, Global};
 use std::marker::Model;
 use std::str;
 
-/// What a method on a path asks, with the numbers of the path.
+/// The pattern of a path: the path without its numbers.
 #[derive(Clone, Copy, Debug, PartialEq, Eq)]
-pub struct Route {
-    pub action: Action,
-    pub numbers: Numbers,
-}
-
-/// A path of the table.
-#[derive(Clone, Copy, Debug, PartialEq, Eq)]
-pub(crate) enum Path {
+pub(crate) enum Pattern {
     Login,
-}
-
-impl Path {
-    /// What the method asks on this path, where it is one of its methods.
-    pub(crate) fn route(self, method: &[u8]) -> Option<Route>
-        ensures { result ≡ route_on method.now self }
-    {
-        match self {
-            Path::Login if method == b"POST".as_slice() => Some(Route {
-                action: Action::Login,
-                numbers: Numbers {
-                    first: 0,
-                    second: 0,
-                },
-            }),
-            Path::Login => None,
-        }
-    }
-
-    /// The methods of this path, as the `Allow` field lists them (RFC 9110, section 10.2.1).
-    pub(crate) fn allowed(self) -> &'static str
-        ensures value { result.now ≡ allowed_on self }
-        ensures len { length result.now ≤ 32 }
-    {
-        match self {
-            Path::Login => "POST",
-        }
-    }
+    Account,
+    Algorithms,
+    Algorithm,
+    Sessions,
+    Session,
+    SessionResults,
+    Sets,
+    Set,
+    SetResults,
+    Expected,
+    Reviewers,
+    Reviewer,
+    Vendors,
+    Vendor,
+    Modules,
+    Module,
+    Environments,
+    Environment,
+    Requests,
+    Request,
 }
 
 /// The table of paths. It is made once and never changes.
 #[derive(Drop)]
 pub struct Routes {
-    router: Router<Path>,
+    router: Router<Pattern>,
 }
 
 impl Model for Routes {
     ghost use Rattle.std.specs.Prelude.{Bool, true, ◌≡◌};
-    ghost use Rattle.acvp_http.specs.Private.Rows.{table};
+    ghost use Rattle.acvp_http.specs.Private.Rows.{rows};
 
     ghost Value = { Bool };
 
     ghost view = { λ _. true };
 
-    ghost invariant = { λ a. a.router ≡ table };
+    ghost invariant = { λ a. a.router ≡ rows };
+}
+
+/// Adds the routes that need no other.
+fn add_general_routes(router: &mut Router<Pattern>) -> Result<(), InsertError>
+    ensures { OnOk result (router.new ≡ added_all general_routes router.old) }
+{
+    router.insert("/acvp/v1/login", Pattern::Login)?;
+    router.insert("/acvp/v1/account", Pattern::Account)?;
+    router.insert("/acvp/v1/algorithms", Pattern::Algorithms)?;
+    router.insert("/acvp/v1/algorithms/{number}", Pattern::Algorithm)?;
+    Ok(())
+}
+
+/// Adds the routes of test sessions.
+fn add_session_routes(router: &mut Router<Pattern>) -> Result<(), InsertError>
+    ensures { OnOk result (router.new ≡ added_all session_routes router.old) }
+{
+    router.insert("/acvp/v1/testSessions", Pattern::Sessions)?;
+    router.insert("/acvp/v1/testSessions/{session}", Pattern::Session)?;
+    router.insert(
+        "/acvp/v1/testSessions/{session}/results",
+        Pattern::SessionResults,
+    )?;
+    router.insert("/acvp/v1/testSessions/{session}/vectorSets", Pattern::Sets)?;
+    router.insert(
+        "/acvp/v1/testSessions/{session}/vectorSets/{set}",
+        Pattern::Set,
+    )?;
+    router.insert(
+        "/acvp/v1/testSessions/{session}/vectorSets/{set}/results",
+        Pattern::SetResults,
+    )?;
+    router.insert(
+        "/acvp/v1/testSessions/{session}/vectorSets/{set}/expected",
+        Pattern::Expected,
+    )?;
+    router.insert(
+        "/acvp/v1/testSessions/{session}/reviewers",
+        Pattern::Reviewers,
+    )?;
+    router.insert(
+        "/acvp/v1/testSessions/{session}/reviewers/{number}",
+        Pattern::Reviewer,
+    )?;
+    Ok(())
+}
+
+/// Adds the routes of what is registered.
+fn add_registry_routes(router: &mut Router<Pattern>) -> Result<(), InsertError>
+    ensures { OnOk result (router.new ≡ added_all registry_routes router.old) }
+{
+    router.insert("/acvp/v1/vendors", Pattern::Vendors)?;
+    router.insert("/acvp/v1/vendors/{number}", Pattern::Vendor)?;
+    router.insert("/acvp/v1/modules", Pattern::Modules)?;
+    router.insert("/acvp/v1/modules/{number}", Pattern::Module)?;
+    router.insert("/acvp/v1/oes", Pattern::Environments)?;
+    router.insert("/acvp/v1/oes/{number}", Pattern::Environment)?;
+    router.insert("/acvp/v1/requests", Pattern::Requests)?;
+    router.insert("/acvp/v1/requests/{number}", Pattern::Request)?;
+    Ok(())
+}
+
+/// Adds all the routes.
+fn add_all(router: &mut Router<Pattern>) -> Result<(), InsertError>
+    ensures { OnOk result (router.new
+        ≡ added_all registry_routes (added_all session_routes (added_all general_routes router.old))) }
+{
+    add_general_routes(router)?;
+    add_session_routes(router)?;
+    add_registry_routes(router)
 }
 
 /// What the router has for a path.
-fn look_up(router: &Router<Path>, path: &str) -> Option<Path>
+fn look_up(router: &Router<Pattern>, path: &str) -> Option<Pattern>
     ensures { result ≡ option_map (λ route. route.value) (first router.now path.now) }
 {
     let Ok(found) = router.at(path) else {
@@ -78,31 +137,146 @@ fn look_up(router: &Router<Path>, path: &str) -> Option<Path>
     Some(*found.value)
 }
 
+/// This path, where it is what the text is.
+fn whole(text: &[u8], all: &[u8], path: Path) -> Option<Path>
+    requires fits { Fits path }
+    requires all { all.now ≡ written path }
+    ensures { MatchOption result (text.now ≢ all.now) (IsPath text.now) }
+{
+    if text == all { Some(path) } else { None }
+}
+
+/// The number behind a front.
+fn last(text: &[u8], front: &[u8]) -> Option<u64>
+    ensures { MatchOption result (((n : ℕ) × IsLast text.now front.now n) → ⊥) (IsLast text.now front.now) }
+{
+    let digits = text.strip_prefix(front)?;
+    plain_number(digits)
+}
+
+/// The number between a front and a back.
+fn inner(text: &[u8], front: &[u8], back: &[u8]) -> Option<u64>
+    ensures { MatchOption result (((n : ℕ) × IsInner text.now front.now back.now n) → ⊥)
+        (IsInner text.now front.now back.now) }
+{
+    let whole = text.strip_suffix(back)?;
+    last(whole, front)
+}
+
+/// Where the first slash is.
+fn slash(text: &[u8]) -> Option<usize>
+    ensures place { result ≡ position (λ b. b == 47) text.now }
+    ensures within { IfSome result (λ end. end < length text.now) }
+{
+    text.iter().position(|b| *b == b'/')
+}
+
+/// The number in front of the first slash, and what stands from there on.
+fn leading(text: &[u8]) -> Option<(u64, &[u8])>
+    ensures { IsLeading text.now (option_map (λ found. (found.0, found.1.now)) result) }
+{
+    let end = slash(text)?;
+    let (digits, rest) = text.split_at(end);
+    let number = plain_number(digits)?;
+    Some((number, rest))
+}
+
+/// The two numbers behind a front, with a middle between them.
+fn both_last(text: &[u8], front: &[u8], middle: &[u8]) -> Option<(u64, u64)>
+    requires { slice_index middle.now 0 ≡ 47 }
+    ensures { MatchOption result (((n : ℕ) × (m : ℕ) × AreLast text.now front.now middle.now n m) → ⊥)
+        (λ both. AreLast text.now front.now middle.now both.0 both.1) }
+{
+    let behind = text.strip_prefix(front)?;
+    let (first, rest) = leading(behind)?;
+    let second = last(rest, middle)?;
+    Some((first, second))
+}
+
+/// The two numbers behind a front, with a middle between them and a back behind them.
+fn both_inner(text: &[u8], front: &[u8], middle: &[u8], back: &[u8]) -> Option<(u64, u64)>
+    requires { slice_index middle.now 0 ≡ 47 }
+    ensures { MatchOption result (((n : ℕ) × (m : ℕ) × AreInner text.now front.now middle.now back.now n m) → ⊥)
+        (λ both. AreInner text.now front.now middle.now back.now both.0 both.1) }
+{
+    let whole = text.strip_suffix(back)?;
+    both_last(whole, front, middle)
+}
+
+/// What stands in front of a session's number.
+const SESSION: &[u8] = b"/acvp/v1/testSessions/";
+
+/// What stands between a session's number and that of its vector set.
+const SET: &[u8] = b"/vectorSets/";
+
+/// The path of this pattern that a text is.
+fn read(pattern: Pattern, text: &[u8]) -> Option<Path>
+    ensures none { result ≡ None → HasPattern pattern text.now → ⊥ }
+    ensures some { IfSome result (IsPath text.now) }
+{
+    match pattern {
+        Pattern::Login => whole(text, b"/acvp/v1/login", Path::Login),
+        Pattern::Account => whole(text, b"/acvp/v1/account", Path::Account),
+        Pattern::Algorithms => whole(text, b"/acvp/v1/algorithms", Path::Algorithms),
+        Pattern::Algorithm => Some(Path::Algorithm(last(text, b"/acvp/v1/algorithms/")?)),
+        Pattern::Sessions => whole(text, b"/acvp/v1/testSessions", Path::Sessions),
+        Pattern::Session => Some(Path::Session(last(text, SESSION)?)),
+        Pattern::SessionResults => Some(Path::SessionResults(inner(text, SESSION, b"/results")?)),
+        Pattern::Sets => Some(Path::Sets(inner(text, SESSION, b"/vectorSets")?)),
+        Pattern::Set => {
+            let (session, set) = both_last(text, SESSION, SET)?;
+            Some(Path::Set(session, set))
+        },
+        Pattern::SetResults => {
+            let (session, set) = both_inner(text, SESSION, SET, b"/results")?;
+            Some(Path::SetResults(session, set))
+        },
+        Pattern::Expected => {
+            let (session, set) = both_inner(text, SESSION, SET, b"/expected")?;
+            Some(Path::Expected(session, set))
+        },
+        Pattern::Reviewers => Some(Path::Reviewers(inner(text, SESSION, b"/reviewers")?)),
+        Pattern::Reviewer => {
+            let (session, number) = both_last(text, SESSION, b"/reviewers/")?;
+            Some(Path::Reviewer(session, number))
+        },
+        Pattern::Vendors => whole(text, b"/acvp/v1/vendors", Path::Vendors),
+        Pattern::Vendor => Some(Path::Vendor(last(text, b"/acvp/v1/vendors/")?)),
+        Pattern::Modules => whole(text, b"/acvp/v1/modules", Path::Modules),
+        Pattern::Module => Some(Path::Module(last(text, b"/acvp/v1/modules/")?)),
+        Pattern::Environments => whole(text, b"/acvp/v1/oes", Path::Environments),
+        Pattern::Environment => Some(Path::Environment(last(text, b"/acvp/v1/oes/")?)),
+        Pattern::Requests => whole(text, b"/acvp/v1/requests", Path::Requests),
+        Pattern::Request => Some(Path::Request(last(text, b"/acvp/v1/requests/")?)),
+    }
+}
+
 impl Routes {
     /// The table of the protocol's paths, which the type's invariant pins: there is no other. That it
     /// succeeds where memory is there is only tested.
     pub fn new(alloc: Global) -> Result<Routes, AllocError> {
         let mut router = Router::new(alloc);
-        match router.insert("/acvp/v1/login", Path::Login) {
+        match add_all(&mut router) {
             Ok(()) => Ok(Routes { router }),
             Err(_) => Err(AllocError),
         }
     }
 
     /// The path of the table that these bytes are.
-    pub(crate) fn path(&self, path: &[u8]) -> Option<Path>
-        ensures { result ≡ path_named path.now }
+    pub(crate) fn path(&self, text: &[u8]) -> Option<Path>
+        ensures { Names text.now result }
     {
-        let Ok(text) = str::from_utf8(path) else {
+        let Ok(utf8) = str::from_utf8(text) else {
             return None;
         };
-        look_up(&self.router, text)
+        let pattern = look_up(&self.router, utf8)?;
+        read(pattern, text)
     }
 
     /// The route of a method on a path: `NoRoute` where there is no such path, and `NoMethod` where the path has no such
     /// method.
     pub fn find(&self, method: &[u8], path: &[u8]) -> Result<Route, Rule>
-        ensures { result ≡ route_of method.now path.now }
+        ensures { Finds method.now path.now result }
     {
         let Some(path) = self.path(path) else {
             return Err(Rule::NoRoute);
@@ -113,3 +287,9 @@ impl Routes {
         }
     }
 }
+
+/// The definition of what a method on a text finds gives one answer.
+pub fn finds_one_thing()
+    ensures { (method text : List ℕ) (first second : Result Route Rule) → Finds method text first
+        → Finds method text second → first ≡ second }
+{}

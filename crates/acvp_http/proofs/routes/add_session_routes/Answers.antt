@@ -1,0 +1,17 @@
+use Rattle.acvp_http.specs.Private.Rows.{session_routes}
+use Rattle.acvp_http.proofs.RowLemmas.{inserts-added}
+use Rattle.acvp_http.proofs.routes.add_session_routes.Goals as goal
+
+pub returns : goal.returns
+unfolding session_routes
+returns c =
+    let e1 = inserts-added _ _ _ _ _ c.in_ok-insert.ensures in
+    let e2 = inserts-added _ _ _ _ _ c.in_ok-insert-2.ensures in
+    let e3 = inserts-added _ _ _ _ _ c.in_ok-insert-3.ensures in
+    let e4 = inserts-added _ _ _ _ _ c.in_ok-insert-4.ensures in
+    let e5 = inserts-added _ _ _ _ _ c.in_ok-insert-5.ensures in
+    let e6 = inserts-added _ _ _ _ _ c.in_ok-insert-6.ensures in
+    let e7 = inserts-added _ _ _ _ _ c.in_ok-insert-7.ensures in
+    let e8 = inserts-added _ _ _ _ _ c.in_ok-insert-8.ensures in
+    let e9 = inserts-added _ _ _ _ _ c.in_ok-insert-9.ensures in
+    cc
