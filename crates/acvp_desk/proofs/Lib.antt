@@ -17,3 +17,4 @@ pub mod Cancelling
 pub mod Submitting
 pub mod Paging
 pub mod Walking
+pub mod Telling

@@ -8,9 +8,11 @@ use Rattle.acvp_desk.specs.declared.keys.Keys.{Keys}
 abbrev pub keys_of : Ring → List (List ℕ) → Keys
 keys_of ring seeds = record { token = ring; seed = seeds }
 
+-- the keys, the records, and how many vector sets the cache holds something of
 pub record DeskValue (T : Type 0) : Type 0 where
   pub keys : Keys
   pub tables : T
+  pub cached : ℕ
 
 -- the seed of the greatest epoch is there, and so is that of each other
 abbrev pub HasSeeds : List (List ℕ) → Option ℕ → Type 0

@@ -50,7 +50,7 @@ impl<T: Tables> Model for Desk<T> {
 
     ghost Value = { DeskValue T };
 
-    ghost view = { λ d. record { keys = keys_of d.ring d.cache.seeds; tables = d.tables } };
+    ghost view = { λ d. record { keys = keys_of d.ring d.cache.seeds; tables = d.tables; cached = d.cache.len } };
 }
 
 /// Why there is no desk.
@@ -71,6 +71,7 @@ impl<T: Tables> Desk<T> {
     /// handed back.
     pub fn new(alloc: Global, keys: Keys, tables: T) -> Result<Desk<T>, (T, NewFault)>
         ensures keys { IfOk result (λ desk. desk.keys ≡ keys) }
+        ensures empty { IfOk result (λ desk. desk.cached ≡ 0) }
         ensures looks { Looks T.stands T.is_live T.is_clean T.leaves result tables (tables_of result) }
         ensures seeded { T.is_live (tables_of result) → IfOk result (λ _. (c : Content) → IsSound c → T.stands tables c → HasSeeds keys.seed (greatest_epoch_of c.sets)) }
         ensures store { IfErr result (λ fault. fault.1 ≡ NewFault.Store → T.faults StoreFault.Refused) }
@@ -132,7 +133,8 @@ impl<T: Tables> Desk<T> {
 
     /// How many vector sets the cache holds something of. It takes no memory.
     pub fn cached(&self) -> usize
-        ensures { result ≤ 64 }
+        ensures value { result ≡ self.now.cached }
+        ensures most { result ≤ 64 }
     {
         self.cache.cached()
     }

@@ -1,11 +1,15 @@
 //! What holds of the records after requests and orders, whoever keeps them.
 
-ghost use Rattle.std.specs.Prelude.{◌≡◌, ◌++◌, ℕ, List, codes};
-ghost use Rattle.acvp_tables.specs.Content.{Content, no_rows};
-ghost use Rattle.acvp_tables.specs.State.{state_of};
+ghost use Rattle.std.specs.Prelude.{◌≡◌, ◌++◌, ℕ, List, codes, true};
+ghost use Rattle.acvp_tables.specs.Changes.{reviewers_after};
+ghost use Rattle.acvp_tables.specs.Content.{Content, no_rows, reviewers_of};
+ghost use Rattle.acvp_tables.specs.State.{is_account_number, state_of};
+ghost use Rattle.acvp_tables.specs.declared.change.Change.TheVariants as change;
+ghost use Rattle.acvp_tables.specs.declared.rows.ReviewerRow.{ReviewerRow};
 ghost use Rattle.acvp_desk.specs.Answer.{effect, content_effect};
 ghost use Rattle.acvp_desk.specs.Errors.{error_body};
 ghost use Rattle.acvp_desk.specs.Kept.{IsKept};
+ghost use Rattle.acvp_desk.specs.Reviewers.{with_account, without_account};
 ghost use Rattle.acvp_desk.specs.Orders.{IsOrder, HasSecret, order_effect, content_order_effect};
 ghost use Rattle.acvp_policy.specs.Rule.{rule_word};
 ghost use Rattle.acvp_policy.specs.declared.rule.Rule.{Rule};
@@ -43,6 +47,12 @@ pub fn records_are_kept()
     numbers_name();
     counts_differ_by_one();
 }
+
+/// The list that is told to who adds or removes a reviewer of a session is that of its reviewers after the change.
+pub fn reviewers_are_told()
+    ensures added { (session account : ℕ) (rows : List ReviewerRow) → is_account_number account ≡ true → with_account account (reviewers_of session rows) ≡ reviewers_of session (reviewers_after (change.AddReviewer (record { session = session; account = account })) rows) }
+    ensures removed { (session account : ℕ) (rows : List ReviewerRow) → without_account account (reviewers_of session rows) ≡ reviewers_of session (reviewers_after (change.RemoveReviewer (record { session = session; account = account })) rows) }
+{}
 
 /// The bytes of the body that names a rule.
 pub fn errors_are_named()

@@ -8,7 +8,7 @@ pub use ask::END_OF_MOMENTS;
 pub use desk::{Desk, DeskReply, NewFault, Outcome};
 pub use draft::SPARE_BYTES;
 pub use keys::Keys;
-pub use laws::{effects_follow, errors_are_named, records_are_kept};
+pub use laws::{effects_follow, errors_are_named, records_are_kept, reviewers_are_told};
 pub use order::{Order, OrderReply, order_on};
 pub use request::{Numbers, TokenField, TypedRequest};
 
@@ -18,11 +18,9 @@ mod body;
 mod cache;
 #[cfg(test)]
 mod cache_tests;
-#[cfg(test)]
-mod caller_tests;
 mod cancel;
 #[cfg(test)]
-mod cancel_tests;
+mod cases;
 mod desk;
 mod draft;
 mod entry;
@@ -32,26 +30,14 @@ mod keys;
 mod laws;
 mod listing;
 mod new_session;
-#[cfg(test)]
-mod new_session_tests;
 mod order;
 mod page;
-#[cfg(test)]
-mod page_tests;
 mod request;
-#[cfg(test)]
-mod reviewer_tests;
 mod reviewers;
 mod serve;
 mod session;
-#[cfg(test)]
-mod session_tests;
 mod set;
-#[cfg(test)]
-mod set_tests;
 mod submit;
-#[cfg(test)]
-mod submit_tests;
 #[cfg(test)]
 mod tests;
 mod token;

@@ -1,25 +1,23 @@
-//! What is answered to who submits answers to vector sets, over lists. Messages are words of ChaCha20 under a key of zeros,
-//! and digests those of Python's hashlib.
+//! What is answered to who submits answers to vector sets.
 
-use crate::caller_tests::{shows, with_token};
-use crate::session_tests::{
-    OF_NINE, OF_THE_SESSION, OF_THE_SESSION_LATE, add_reviewer, records_with_a_session,
+use crate::cases::set::UNRECEIVED;
+use crate::cases::{
+    NINE, NINE_REVIEWS, OF_NINE, OF_THE_SESSION, OF_THE_SESSION_LATE, REGISTERED, add, denied,
+    desk_with_session, made, meets, meets_each, on_set, shown, with_answers, with_token,
 };
-use crate::set_tests::{UNRECEIVED, on_set};
-use crate::tests::{denies, keys};
-use crate::{Desk, DeskReply, TypedRequest};
 use acvp_policy::{Action, Rule};
-use acvp_tables::ListTables;
+use acvp_tables::Tables;
+use std::alloc::Global;
 use std::process::Abort;
-use std::test::Fail;
 
-const RECEIVED: &[u8] =
+pub(crate) const RECEIVED: &[u8] =
     br#"[{"acvVersion":"1.0"},{"status":"received","url":"/acvp/v1/testSessions/7000001/vectorSets/700000101/results"}]"#;
 
-const SECOND_RECEIVED: &[u8] =
+pub(crate) const SECOND_RECEIVED: &[u8] =
     br#"[{"acvVersion":"1.0"},{"status":"received","url":"/acvp/v1/testSessions/7000001/vectorSets/700000102/results"}]"#;
 
-/// Right answers to the first set, one of them in upper case; with a wrong one, without the third, and the third alone.
+/// Right answers to the first set, one of them in upper case; with a wrong one, without the third, and the third
+/// alone.
 const ALL_RIGHT: &[u8] =
     br#"[{"acvVersion":"1.0"},{"testGroups":[{"tests":[{"md":"F67AB10AD4E4C53121B6A5FE4DA9C10DDEE905B978D3788D2723D7BFACBE28A9","tcId":1},{"md":"454349e422f05297191ead13e21d3db520e5abef52055e4964b82fb213f593a1","tcId":2},{"md":"7941cb07924fdc7b710e11d98d82850e89566e1c3cb980517ffe4b430f86dfd5","tcId":3},{"md":"0bfe935e70c321c7ca3afc75ce0d0ca2f98b5422e008bb31c00c6d7f1f1c0ad6","tcId":4},{"md":"1f184f101c67d585ba00d24cfde36863f747fbab9e84af7760ec771e9b36ca51","tcId":5},{"md":"a9f51566bd6705f7ea6ad54bb9deb449f795582d6529a0e22207b8981233ec58","tcId":6},{"md":"782e02029374527bd2a5fe7b9545df6c2911078e337a62573970b178d93db481","tcId":7},{"md":"a9253dc8529dd214e5f22397888e78d3390daa47593e26f68c18f97fd7a3876b","tcId":8},{"md":"19152ddfba193b5b09fcb80d1bba5248f36027c06e81670db5a7146fb654d4ec","tcId":9},{"md":"8a331fdde7032f33a71e1b2e257d80166e348e00fcb17914f48bdb57a1c63007","tcId":10},{"md":"88aa3e3b1f22c616b1817981215e7d1e75fa32b22233ebb8477f64600a5ace1f","tcId":11},{"md":"2b4c342f5433ebe591a1da77e013d1b72475562d48578dca8b84bac6651c3cb9","tcId":12},{"md":"6e340b9cffb37a989ca544e6bb780a2c78901d3fb33738768511a30617afa01d","tcId":13},{"md":"32ebb1abcc1c601ceb9c4e3c4faba0caa5b85bb98c4f1e6612c40faa528a91c9","tcId":14},{"md":"bb7208bc9b5d7c04f1236a82a0093a5e33f40423d5ba8d4266f7092c3ba43b62","tcId":15},{"md":"3cbdaf66b3dd2b174788a2f17f938b52dda93a2a97440cead19332cbfacba7c8","tcId":16},{"md":"4e07408562bedb8b60ce05c1decfe3ad16b72230967de01f640b7e4729b49fce","tcId":17}],"tgId":1}],"vsId":700000101}]"#;
 
@@ -66,122 +64,108 @@ const MISSING: &[u8] =
 const MISSING_BUT_THE_THIRD: &[u8] =
     br#"[{"acvVersion":"1.0"},{"disposition":"missing","tests":[{"result":"missing","tcId":1},{"result":"missing","tcId":2},{"result":"passed","tcId":3},{"result":"missing","tcId":4},{"result":"missing","tcId":5},{"result":"missing","tcId":6},{"result":"missing","tcId":7},{"result":"missing","tcId":8},{"result":"missing","tcId":9},{"result":"missing","tcId":10},{"result":"missing","tcId":11},{"result":"missing","tcId":12},{"result":"missing","tcId":13},{"result":"missing","tcId":14},{"result":"missing","tcId":15},{"result":"missing","tcId":16},{"result":"missing","tcId":17}],"vsId":700000101}]"#;
 
-/// A request with answers to a vector set of the session.
-fn with_answers<'a>(action: Action, set: u64, token: &'a [u8], body: &'a [u8]) -> TypedRequest<'a> {
-    TypedRequest {
-        body,
-        ..on_set(action, set, token)
-    }
-}
-
-/// Asserts that answers are kept, and that this is told.
-fn keeps(
+/// Answers are graded and kept whole, and each takes the place of all those before it.
+pub(crate) fn answers_are_graded_and_kept_whole<T: Tables + Drop>(
     rt: &impl Abort,
-    desk: &mut Desk<ListTables>,
-    moment: u64,
-    request: &TypedRequest<'_>,
-    wanted: &[u8],
+    alloc: Global,
+    tables: T,
 ) {
-    let outcome = desk.handle(moment, request);
-    assert!(rt; outcome.changed);
-    match outcome.reply {
-        DeskReply::Given(reply) => assert_eq!(rt; reply.get(256..), Some(wanted)),
-        DeskReply::Denied(rule) => assert_eq!(rt; rule.word(), ""),
-    }
-}
-
-#[test]
-fn answers_are_graded_and_kept_whole(rt: HostRuntime) -> Result<(), Fail> {
-    let alloc = rt.alloc();
-    let tables = records_with_a_session(&rt, alloc, 0);
-    let mut desk = Desk::new(alloc, keys(&rt), tables)
-        .ok()
-        .expect(&rt, "a desk");
+    let mut desk = desk_with_session(rt, alloc, tables, REGISTERED);
     let results = on_set(Action::SetResults, 700000101, OF_THE_SESSION);
     let again = with_answers(Action::Resubmit, 700000101, OF_THE_SESSION, ALL_RIGHT);
-    denies(&rt, &mut desk, 61, &again, Rule::NotSubmitted);
     let first = with_answers(Action::Submit, 700000101, OF_THE_SESSION, ALL_RIGHT);
-    keeps(&rt, &mut desk, 61, &first, RECEIVED);
-    shows(&rt, &mut desk, 62, &results, PASSED);
-    denies(&rt, &mut desk, 62, &first, Rule::AlreadySubmitted);
-    // Each takes the place of all those before it.
-    let cases: [(&[u8], &[u8]); 5] = [
+    let cases = [
+        denied(61, again, Rule::NotSubmitted),
+        made(61, first, RECEIVED),
+        shown(62, results, PASSED),
+        denied(62, first, Rule::AlreadySubmitted),
+    ];
+    meets_each(rt, &mut desk, &cases);
+    let bodies: [(&[u8], &[u8]); 5] = [
         (ONE_WRONG, FAILED),
         (ONE_MISSING, MISSING),
         (THE_THIRD, MISSING_BUT_THE_THIRD),
         (OF_THE_SECONDS_MESSAGES, ALL_FAILED),
         (ALL_RIGHT, PASSED),
     ];
-    for (body, wanted) in cases {
+    for (body, wanted) in bodies {
         let again = with_answers(Action::Resubmit, 700000101, OF_THE_SESSION, body);
-        keeps(&rt, &mut desk, 63, &again, RECEIVED);
-        shows(&rt, &mut desk, 64, &results, wanted);
+        let cases = [made(63, again, RECEIVED), shown(64, results, wanted)];
+        meets_each(rt, &mut desk, &cases);
     }
     assert_eq!(rt; desk.cached(), 1);
-    Ok(())
 }
 
-#[test]
-fn a_session_passes_with_its_sets_alone(rt: HostRuntime) -> Result<(), Fail> {
-    let alloc = rt.alloc();
-    let tables = records_with_a_session(&rt, alloc, 0);
-    let mut desk = Desk::new(alloc, keys(&rt), tables)
-        .ok()
-        .expect(&rt, "a desk");
+/// Two sets of a session, each with whether it passed: what is told of the session.
+const ONE_OF_TWO: &[u8] =
+    br#"[{"acvVersion":"1.0"},{"passed":false,"results":[{"status":"passed","vectorSetUrl":"/acvp/v1/testSessions/7000001/vectorSets/700000101"},{"status":"unreceived","vectorSetUrl":"/acvp/v1/testSessions/7000001/vectorSets/700000102"}]}]"#;
+
+const BOTH: &[u8] =
+    br#"[{"acvVersion":"1.0"},{"passed":true,"results":[{"status":"passed","vectorSetUrl":"/acvp/v1/testSessions/7000001/vectorSets/700000101"},{"status":"passed","vectorSetUrl":"/acvp/v1/testSessions/7000001/vectorSets/700000102"}]}]"#;
+
+const THE_SECOND: &[u8] =
+    br#"[{"acvVersion":"1.0"},{"passed":false,"results":[{"status":"fail","vectorSetUrl":"/acvp/v1/testSessions/7000001/vectorSets/700000101"},{"status":"passed","vectorSetUrl":"/acvp/v1/testSessions/7000001/vectorSets/700000102"}]}]"#;
+
+const THE_FIRST: &[u8] =
+    br#"[{"acvVersion":"1.0"},{"passed":false,"results":[{"status":"passed","vectorSetUrl":"/acvp/v1/testSessions/7000001/vectorSets/700000101"},{"status":"fail","vectorSetUrl":"/acvp/v1/testSessions/7000001/vectorSets/700000102"}]}]"#;
+
+const THE_FIRST_ALONE: &[u8] =
+    br#"[{"acvVersion":"1.0"},{"passed":true,"results":[{"status":"passed","vectorSetUrl":"/acvp/v1/testSessions/7000001/vectorSets/700000101"}]}]"#;
+
+/// The reply to who cancels the second set.
+const CANCELLED: &[u8] =
+    br#"[{"acvVersion":"1.0"},{"status":"cancelled","url":"/acvp/v1/testSessions/7000001/vectorSets/700000102"}]"#;
+
+/// A session has passed where each of its sets that isn't cancelled has.
+pub(crate) fn a_session_passes_with_its_sets_alone<T: Tables + Drop>(
+    rt: &impl Abort,
+    alloc: Global,
+    tables: T,
+) {
+    let mut desk = desk_with_session(rt, alloc, tables, REGISTERED);
     let results = with_token(Action::SessionResults, 7000001, OF_THE_SESSION);
-    let cases: [(Action, u64, &[u8], &[u8], &[u8]); 5] = [
-        (
-            Action::Submit,
-            700000101,
-            ALL_RIGHT,
-            RECEIVED,
-            br#"[{"acvVersion":"1.0"},{"passed":false,"results":[{"status":"passed","vectorSetUrl":"/acvp/v1/testSessions/7000001/vectorSets/700000101"},{"status":"unreceived","vectorSetUrl":"/acvp/v1/testSessions/7000001/vectorSets/700000102"}]}]"#,
-        ),
+    let steps: [(Action, u64, &[u8], &[u8], &[u8]); 5] = [
+        (Action::Submit, 700000101, ALL_RIGHT, RECEIVED, ONE_OF_TWO),
         (
             Action::Submit,
             700000102,
             SECOND_RIGHT,
             SECOND_RECEIVED,
-            br#"[{"acvVersion":"1.0"},{"passed":true,"results":[{"status":"passed","vectorSetUrl":"/acvp/v1/testSessions/7000001/vectorSets/700000101"},{"status":"passed","vectorSetUrl":"/acvp/v1/testSessions/7000001/vectorSets/700000102"}]}]"#,
+            BOTH,
         ),
-        (
-            Action::Resubmit,
-            700000101,
-            ONE_WRONG,
-            RECEIVED,
-            br#"[{"acvVersion":"1.0"},{"passed":false,"results":[{"status":"fail","vectorSetUrl":"/acvp/v1/testSessions/7000001/vectorSets/700000101"},{"status":"passed","vectorSetUrl":"/acvp/v1/testSessions/7000001/vectorSets/700000102"}]}]"#,
-        ),
-        (
-            Action::Resubmit,
-            700000101,
-            ALL_RIGHT,
-            RECEIVED,
-            br#"[{"acvVersion":"1.0"},{"passed":true,"results":[{"status":"passed","vectorSetUrl":"/acvp/v1/testSessions/7000001/vectorSets/700000101"},{"status":"passed","vectorSetUrl":"/acvp/v1/testSessions/7000001/vectorSets/700000102"}]}]"#,
-        ),
+        (Action::Resubmit, 700000101, ONE_WRONG, RECEIVED, THE_SECOND),
+        (Action::Resubmit, 700000101, ALL_RIGHT, RECEIVED, BOTH),
         (
             Action::Resubmit,
             700000102,
             SECOND_WRONG,
             SECOND_RECEIVED,
-            br#"[{"acvVersion":"1.0"},{"passed":false,"results":[{"status":"passed","vectorSetUrl":"/acvp/v1/testSessions/7000001/vectorSets/700000101"},{"status":"fail","vectorSetUrl":"/acvp/v1/testSessions/7000001/vectorSets/700000102"}]}]"#,
+            THE_FIRST,
         ),
     ];
-    for (action, set, body, received, wanted) in cases {
-        let answers = with_answers(action, set, OF_THE_SESSION, body);
-        keeps(&rt, &mut desk, 61, &answers, received);
-        shows(&rt, &mut desk, 62, &results, wanted);
+    for (action, set, body, received, wanted) in steps {
+        let sent = with_answers(action, set, OF_THE_SESSION, body);
+        meets_each(
+            rt,
+            &mut desk,
+            &[made(61, sent, received), shown(62, results, wanted)],
+        );
     }
-    Ok(())
+    let cancel = on_set(Action::CancelSet, 700000102, OF_THE_SESSION);
+    let cases = [
+        made(63, cancel, CANCELLED),
+        shown(63, results, THE_FIRST_ALONE),
+    ];
+    meets_each(rt, &mut desk, &cases);
 }
 
-#[test]
-fn answers_that_are_refused_are_not_kept(rt: HostRuntime) -> Result<(), Fail> {
-    let alloc = rt.alloc();
-    let mut tables = records_with_a_session(&rt, alloc, 0);
-    assert!(rt; add_reviewer(&mut tables));
-    let mut desk = Desk::new(alloc, keys(&rt), tables)
-        .ok()
-        .expect(&rt, "a desk");
+/// The rule of each body that is refused; none of them is kept.
+pub(crate) fn answers_that_are_refused_are_not_kept<T: Tables + Drop>(
+    rt: &impl Abort,
+    alloc: Global,
+    tables: T,
+) {
+    let mut desk = desk_with_session(rt, alloc, tables, REGISTERED);
     let bodies: [(&[u8], Rule); 6] = [
         (b"answers", Rule::BodyNotJson),
         (b"{}", Rule::BodyEnvelope),
@@ -194,17 +178,20 @@ fn answers_that_are_refused_are_not_kept(rt: HostRuntime) -> Result<(), Fail> {
         (UNKNOWN, Rule::UnknownTest),
     ];
     for (body, rule) in bodies {
-        let answers = with_answers(Action::Submit, 700000101, OF_THE_SESSION, body);
-        denies(&rt, &mut desk, 61, &answers, rule);
+        let sent = with_answers(Action::Submit, 700000101, OF_THE_SESSION, body);
+        meets(rt, &mut desk, &denied(61, sent, rule));
     }
-    let elsewhere = with_answers(Action::Submit, 700000201, OF_THE_SESSION, ALL_RIGHT);
-    denies(&rt, &mut desk, 61, &elsewhere, Rule::NoResource);
+    let elsewhere = with_answers(Action::Submit, 900000101, OF_THE_SESSION, ALL_RIGHT);
     let reviewed = with_answers(Action::Submit, 700000101, OF_NINE, ALL_RIGHT);
-    denies(&rt, &mut desk, 61, &reviewed, Rule::SessionTokenNeeded);
-    let results = on_set(Action::SetResults, 700000101, OF_THE_SESSION);
-    shows(&rt, &mut desk, 62, &results, UNRECEIVED);
     let late = with_answers(Action::Submit, 700000101, OF_THE_SESSION_LATE, ALL_RIGHT);
-    denies(&rt, &mut desk, 604860, &late, Rule::SetExpired);
-    keeps(&rt, &mut desk, 604859, &late, RECEIVED);
-    Ok(())
+    let results = on_set(Action::SetResults, 700000101, OF_THE_SESSION);
+    let cases = [
+        denied(61, elsewhere, Rule::NoResource),
+        made(61, add(NINE), NINE_REVIEWS),
+        denied(61, reviewed, Rule::SessionTokenNeeded),
+        shown(62, results, UNRECEIVED),
+        denied(604860, late, Rule::SetExpired),
+        made(604859, late, RECEIVED),
+    ];
+    meets_each(rt, &mut desk, &cases);
 }

@@ -1,21 +1,25 @@
-//! What is answered to who lists sessions by pages, over lists.
+//! What is answered to who lists sessions by pages.
 
-use crate::caller_tests::{OF_SEVEN, shows, with_token};
-use crate::new_session_tests::{ONE, new_session};
-use crate::session_tests::OF_NINE;
-use crate::tests::{SECRET, denies, desk_of_seven, keys};
-use crate::{Order, OrderReply, TypedRequest};
+use crate::TypedRequest;
+use crate::cases::new_session::SECOND;
+use crate::cases::{
+    FIRST, OF_NINE, OF_SEVEN, ONE, REGISTERED, denied, made, meets, meets_each, new_desk,
+    registers, shown, with_token,
+};
 use acvp_policy::{Action, Rule};
-use std::test::Fail;
+use acvp_tables::Tables;
+use std::alloc::Global;
+use std::process::Abort;
 
-/// Two sessions of account 7, on one page, the first by itself, the second by itself, and past both; and none of account 9.
+/// Two sessions of account 7, on one page, the first by itself, the second by itself, and past both; and none of
+/// account 9.
 const BOTH: &[u8] =
     br#"[{"acvVersion":"1.0"},{"data":[{"createdOn":"1970-01-01T00:01:00Z","expiresOn":"1970-01-31T00:01:00Z","isSample":false,"status":"open","url":"/acvp/v1/testSessions/7000001"},{"createdOn":"1970-01-01T00:01:01Z","expiresOn":"1970-01-31T00:01:01Z","isSample":false,"status":"open","url":"/acvp/v1/testSessions/7000002"}],"incomplete":false,"links":{"first":"/acvp/v1/testSessions?offset=0&limit=20","last":"/acvp/v1/testSessions?offset=0&limit=20","next":null,"prev":null},"totalCount":2}]"#;
 
-const FIRST: &[u8] =
+const FIRST_ALONE: &[u8] =
     br#"[{"acvVersion":"1.0"},{"data":[{"createdOn":"1970-01-01T00:01:00Z","expiresOn":"1970-01-31T00:01:00Z","isSample":false,"status":"open","url":"/acvp/v1/testSessions/7000001"}],"incomplete":true,"links":{"first":"/acvp/v1/testSessions?offset=0&limit=1","last":"/acvp/v1/testSessions?offset=1&limit=1","next":"/acvp/v1/testSessions?offset=1&limit=1","prev":null},"totalCount":2}]"#;
 
-const SECOND: &[u8] =
+const SECOND_ALONE: &[u8] =
     br#"[{"acvVersion":"1.0"},{"data":[{"createdOn":"1970-01-01T00:01:01Z","expiresOn":"1970-01-31T00:01:01Z","isSample":false,"status":"open","url":"/acvp/v1/testSessions/7000002"}],"incomplete":false,"links":{"first":"/acvp/v1/testSessions?offset=0&limit=1","last":"/acvp/v1/testSessions?offset=1&limit=1","next":null,"prev":"/acvp/v1/testSessions?offset=0&limit=1"},"totalCount":2}]"#;
 
 const PAST: &[u8] =
@@ -32,37 +36,34 @@ fn list<'a>(token: &'a [u8], query: &'a [u8]) -> TypedRequest<'a> {
     }
 }
 
-#[test]
-fn an_account_lists_its_own_sessions_by_pages(rt: HostRuntime) -> Result<(), Fail> {
-    let alloc = rt.alloc();
-    let mut desk = desk_of_seven(&rt, alloc, keys(&rt));
-    let nine = Order::AddAccount {
-        account: 9,
-        secret: SECRET,
-    };
-    assert_eq!(rt; desk.order(0, &nine), OrderReply::Done(None));
-    for moment in [60, 61] {
-        assert!(rt; desk.handle(moment, &new_session(OF_SEVEN, ONE)).changed);
-    }
-    let cases: [(&[u8], &[u8]); 5] = [
-        (b"", BOTH),
-        (b"limit=1", FIRST),
-        (b"offset=1&limit=1", SECOND),
-        (b"limit=1&offset=1", SECOND),
-        (b"offset=5", PAST),
+/// The pages of an account with two sessions, and of one with none.
+pub(crate) fn an_account_lists_its_own_sessions_by_pages<T: Tables + Drop>(
+    rt: &impl Abort,
+    alloc: Global,
+    tables: T,
+) {
+    let mut desk = new_desk(rt, alloc, tables);
+    let cases = [
+        made(60, registers(OF_SEVEN, REGISTERED), FIRST),
+        made(61, registers(OF_SEVEN, ONE), SECOND),
+        shown(62, list(OF_SEVEN, b""), BOTH),
+        shown(62, list(OF_SEVEN, b"limit=1"), FIRST_ALONE),
+        shown(62, list(OF_SEVEN, b"offset=1&limit=1"), SECOND_ALONE),
+        shown(62, list(OF_SEVEN, b"limit=1&offset=1"), SECOND_ALONE),
+        shown(62, list(OF_SEVEN, b"offset=5"), PAST),
+        shown(62, list(OF_NINE, b""), NONE),
     ];
-    for (query, wanted) in cases {
-        shows(&rt, &mut desk, 62, &list(OF_SEVEN, query), wanted);
-    }
-    shows(&rt, &mut desk, 62, &list(OF_NINE, b""), NONE);
-    Ok(())
+    meets_each(rt, &mut desk, &cases);
 }
 
-#[test]
-fn what_no_page_is_is_refused(rt: HostRuntime) -> Result<(), Fail> {
-    let alloc = rt.alloc();
-    let mut desk = desk_of_seven(&rt, alloc, keys(&rt));
-    let cases: [&[u8]; 9] = [
+/// What is no page is refused, after the caller was looked at.
+pub(crate) fn what_no_page_is_is_refused<T: Tables + Drop>(
+    rt: &impl Abort,
+    alloc: Global,
+    tables: T,
+) {
+    let mut desk = new_desk(rt, alloc, tables);
+    let queries: [&[u8]; 9] = [
         b"limit=0",
         b"limit=101",
         b"limit=1&limit=1",
@@ -70,19 +71,16 @@ fn what_no_page_is_is_refused(rt: HostRuntime) -> Result<(), Fail> {
         b"offset=",
         b"offset=12345678901",
         b"limit=1&",
-        b"page=1",
+        b"name=x",
         b"limit",
     ];
-    for query in cases {
-        denies(&rt, &mut desk, 62, &list(OF_SEVEN, query), Rule::BadPage);
+    for query in queries {
+        meets(
+            rt,
+            &mut desk,
+            &denied(62, list(OF_SEVEN, query), Rule::BadPage),
+        );
     }
-    // The caller is looked at first.
-    denies(
-        &rt,
-        &mut desk,
-        1859,
-        &list(OF_SEVEN, b"page=1"),
-        Rule::TokenExpired,
-    );
-    Ok(())
+    let expired = list(OF_SEVEN, b"name=x");
+    meets(rt, &mut desk, &denied(1859, expired, Rule::TokenExpired));
 }

@@ -1,0 +1,162 @@
+//! A vector set with a Monte Carlo test, and one for HMAC with keys of many lengths: their prompts and expected
+//! answers, and what is answered to who sends these back. Digests are of bodies that a program in Python makes with
+//! ChaCha20 of its `cryptography`, hashlib and hmac.
+
+use crate::Desk;
+use crate::cases::answers::{RECEIVED, SECOND_RECEIVED};
+use crate::cases::{
+    OF_THE_SESSION, body_of, desk_with_session, digested, made, meets_each, on_set, reply_of,
+    with_answers,
+};
+use acvp_policy::Action;
+use acvp_tables::Tables;
+use std::alloc::{AllocError, Global};
+use std::process::Abort;
+
+/// SHA2-256 over 0 to 1024 bits, and HMAC-SHA2-256 with keys of 8 to 1024 bits, of a sample.
+const WIDE: &[u8] =
+    br#"[{"acvVersion":"1.0"},{"algorithms":[{"algorithm":"SHA2-256","messageLength":[{"increment":8,"max":1024,"min":0}],"performLargeDataTest":[],"revision":"1.0"},{"algorithm":"HMAC-SHA2-256","keyLen":[{"increment":8,"max":1024,"min":8}],"macLen":[128],"revision":"1.0"}],"isSample":true}]"#;
+
+/// The prompts of the first set, which has 25 tests, and the expected answers to them.
+const PROMPTS: &[u8] =
+    b"\xc5\x4d\x95\x61\xe9\x70\x6d\xb5\x95\xae\x3d\xdb\xb9\x3d\x1d\xf7\x87\x29\xe0\x15\xfe\xa0\x0c\x61\x4e\x77\x6b\x02\x3b\x5d\x0b\x32";
+
+const EXPECTED: &[u8] =
+    b"\xed\xe8\xca\x08\xa7\xb3\xf8\xa9\x85\xaa\x6f\x3b\xb5\x48\x47\xbb\x0f\xa9\xbf\xbf\xa7\x63\xb5\xd8\x8d\x71\x1c\x97\x87\xdb\x6a\x31";
+
+/// Its results where all answers are right, where the last alone is wrong, and where it is missing.
+const PASSED: &[u8] =
+    b"\xe1\xc6\xed\x4c\x1c\xf7\x9b\xa0\x5d\x69\x63\x5b\xf6\x35\xd5\x31\x81\x55\x86\x2d\x7b\x82\xac\x2f\x54\x5b\x01\x7f\x57\xac\x18\xe8";
+
+const LAST_FAILED: &[u8] =
+    b"\x32\xfc\xd9\x62\x72\x44\x2f\x97\x9f\x47\xd7\xb5\x1a\xa0\xa8\x08\xfa\x1b\x96\xa3\x70\xfa\x43\x34\x16\x3a\x4f\x2f\x02\x4a\x0e\x76";
+
+const LAST_MISSING: &[u8] =
+    b"\x4a\x59\xac\x8a\xc4\xc6\x02\xfc\x1f\x0b\x41\xe7\x3f\xdb\x7d\xbc\x58\xf0\x4e\xa8\xcf\xfb\x8e\x61\x06\xc1\x53\x7b\xf6\x4a\x3a\x16";
+
+/// The prompts of the second set, which has 21 tests, the expected answers to them, and its results where all are
+/// right.
+const HMAC_PROMPTS: &[u8] =
+    b"\x74\xae\xd9\x31\x26\x34\x31\x91\x64\xf0\x1c\x98\x4a\x97\x50\xdd\x37\x5e\x53\x9a\x08\x5f\x85\xa0\x99\x96\x39\x80\x68\xcc\xa4\x1d";
+
+const HMAC_EXPECTED: &[u8] =
+    b"\x83\x5e\x49\xe0\x92\xa5\xae\xdb\xc3\xf5\xda\x72\x78\x80\x22\x1b\xe4\xb5\xdc\x79\x72\x34\xc8\xa0\xd7\xa9\xb4\x87\xe4\x9a\x2c\x7b";
+
+const HMAC_PASSED: &[u8] =
+    b"\xda\xe6\x21\x6f\x64\xeb\xc0\xd9\x0e\x84\x52\xe2\x1d\x27\x32\x90\x54\x89\xcc\x30\x01\xe8\xd4\x6c\x8a\xad\xec\x02\x08\x25\xf6\xc3";
+
+/// Lengths of what the expected answers of the first set end with: what follows the last entry of the Monte Carlo
+/// test, that entry with the comma before it, all entries, and its group up to them.
+const END: usize = 43;
+
+const ENTRY: usize = 74;
+
+const ENTRIES: usize = 7399;
+
+const GROUP: usize = 28;
+
+/// A text without its last bytes, so many, and these.
+fn parted<'a>(rt: &impl Abort, text: &'a [u8], last: usize) -> (&'a [u8], &'a [u8]) {
+    let place = text.len().checked_sub(last).expect(rt, "a longer text");
+    let first = text.get(..place).expect(rt, "a place of the text");
+    (first, text.get(place..).expect(rt, "a place of the text"))
+}
+
+/// Two texts, one after the other.
+fn joined(alloc: Global, first: &[u8], second: &[u8]) -> Result<Vec<u8>, AllocError> {
+    let mut text = Vec::new(alloc);
+    text.extend_from_slice(first)?;
+    text.extend_from_slice(second)?;
+    Ok(text)
+}
+
+/// Sends answers to the first set again, and asserts what its results are.
+fn again<T: Tables + Drop>(rt: &impl Abort, desk: &mut Desk<T>, body: &[u8], wanted: &[u8]) {
+    let sent = with_answers(Action::Resubmit, 700000101, OF_THE_SESSION, body);
+    let results = on_set(Action::SetResults, 700000101, OF_THE_SESSION);
+    meets_each(
+        rt,
+        desk,
+        &[made(62, sent, RECEIVED), digested(62, results, wanted)],
+    );
+}
+
+/// The prompts and the expected answers of both sets.
+pub(crate) fn wide_sets_are_made_by_their_standards<T: Tables + Drop>(
+    rt: &impl Abort,
+    alloc: Global,
+    tables: T,
+) {
+    let mut desk = desk_with_session(rt, alloc, tables, WIDE);
+    let cases = [
+        digested(
+            61,
+            on_set(Action::ReadSet, 700000101, OF_THE_SESSION),
+            PROMPTS,
+        ),
+        digested(
+            61,
+            on_set(Action::Expected, 700000101, OF_THE_SESSION),
+            EXPECTED,
+        ),
+        digested(
+            61,
+            on_set(Action::ReadSet, 700000102, OF_THE_SESSION),
+            HMAC_PROMPTS,
+        ),
+        digested(
+            61,
+            on_set(Action::Expected, 700000102, OF_THE_SESSION),
+            HMAC_EXPECTED,
+        ),
+    ];
+    meets_each(rt, &mut desk, &cases);
+}
+
+/// The expected answers to a Monte Carlo test pass when they are sent. With an entry too few, one too many or none it
+/// fails, and without its group it is missing.
+pub(crate) fn a_monte_carlo_test_needs_its_hundred_entries<T: Tables + Drop>(
+    rt: &impl Abort,
+    alloc: Global,
+    tables: T,
+) -> Result<(), AllocError> {
+    let mut desk = desk_with_session(rt, alloc, tables, WIDE);
+    let expected = on_set(Action::Expected, 700000101, OF_THE_SESSION);
+    let reply = reply_of(rt, &mut desk, 61, &expected);
+    let right = body_of(rt, &reply);
+    let first = with_answers(Action::Submit, 700000101, OF_THE_SESSION, right);
+    let results = on_set(Action::SetResults, 700000101, OF_THE_SESSION);
+    let cases = [made(61, first, RECEIVED), digested(62, results, PASSED)];
+    meets_each(rt, &mut desk, &cases);
+    let (all, end) = parted(rt, right, END);
+    let (but_one, last) = parted(rt, all, ENTRY);
+    let (front, _) = parted(rt, all, ENTRIES);
+    let (first_group, _) = parted(rt, front, GROUP);
+    again(rt, &mut desk, &joined(alloc, but_one, end)?, LAST_FAILED);
+    let one_more = joined(alloc, all, last)?;
+    again(rt, &mut desk, &joined(alloc, &one_more, end)?, LAST_FAILED);
+    again(rt, &mut desk, &joined(alloc, front, end)?, LAST_FAILED);
+    let without = joined(alloc, first_group, br#"],"vsId":700000101}]"#)?;
+    again(rt, &mut desk, &without, LAST_MISSING);
+    again(rt, &mut desk, right, PASSED);
+    Ok(())
+}
+
+/// The expected answers to the set for HMAC pass when they are sent.
+pub(crate) fn expected_results_of_hmac_pass<T: Tables + Drop>(
+    rt: &impl Abort,
+    alloc: Global,
+    tables: T,
+) {
+    let mut desk = desk_with_session(rt, alloc, tables, WIDE);
+    let expected = on_set(Action::Expected, 700000102, OF_THE_SESSION);
+    let reply = reply_of(rt, &mut desk, 61, &expected);
+    let right = body_of(rt, &reply);
+    let sent = with_answers(Action::Submit, 700000102, OF_THE_SESSION, right);
+    let results = on_set(Action::SetResults, 700000102, OF_THE_SESSION);
+    let cases = [
+        made(61, sent, SECOND_RECEIVED),
+        digested(62, results, HMAC_PASSED),
+    ];
+    meets_each(rt, &mut desk, &cases);
+}
