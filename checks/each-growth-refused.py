@@ -11,6 +11,7 @@ import hashlib
 import hmac
 import json
 import os
+import struct
 import subprocess
 import sys
 import tempfile
@@ -59,7 +60,8 @@ def reply(status, phrase, thing, moment=None, besides=b""):
 
 class Event:
     """An event of a script. Its answer is a function of the accounts, which it changes: each number has whether the
-    account is enabled and the last step that it has used."""
+    account is enabled and the last step that it has used; `session` has when that of account 7 was created and whether
+    the answers to its set pass."""
 
     def __init__(self, what, text, unavailable, answer):
         self.what, self.text, self.unavailable, self.answer = what, text, unavailable, answer
@@ -119,6 +121,112 @@ def login(what, moment, step, access=None, renews=True, session=None, number=7):
     return request(what, moment, posting(compact([{"acvVersion": "1.0"}, members])), answer)
 
 
+def key_stream(seed, stream, count):
+    """So many words of ChaCha20 (RFC 8439) under a seed, with a counter and the number of the stream of 64 bits each."""
+    def rotated(word, by):
+        return (word << by | word >> 32 - by) & 0xffffffff
+
+    def quarter(state, a, b, c, d):
+        for x, y, z, by in ((a, b, d, 16), (c, d, b, 12), (a, b, d, 8), (c, d, b, 7)):
+            state[x] = (state[x] + state[y]) & 0xffffffff
+            state[z] = rotated(state[z] ^ state[x], by)
+
+    words, block = [], 0
+    while len(words) < count:
+        start = [0x61707865, 0x3320646e, 0x79622d32, 0x6b206574, *struct.unpack("<8I", seed), block, 0,
+                 stream & 0xffffffff, stream >> 32]
+        state = list(start)
+        for _ in range(10):
+            for places in ((0, 4, 8, 12), (1, 5, 9, 13), (2, 6, 10, 14), (3, 7, 11, 15),
+                           (0, 5, 10, 15), (1, 6, 11, 12), (2, 7, 8, 13), (3, 4, 9, 14)):
+                quarter(state, *places)
+        words += [(x + y) & 0xffffffff for x, y in zip(state, start)]
+        block += 1
+    return words[:count]
+
+
+# The one vector set of the first session of account 7: SHA2-256 over messages of one byte. The greatest length and 16 drawn
+# ones are the same; the words of the draws come first.
+SESSION, SET = 7000001, 700000101
+MESSAGES = [bytes([word & 255]) for word in key_stream(SEED, SET, 33)[16:]]
+SESSION_URL = f"/acvp/v1/testSessions/{SESSION}"
+SET_URL = f"{SESSION_URL}/vectorSets/{SET}"
+REGISTERED = {"algorithms": [{"algorithm": "SHA2-256", "messageLength": [8], "revision": "1.0"}]}
+ANSWERS = [{"md": hashlib.sha256(message).hexdigest(), "tcId": n + 1} for n, message in enumerate(MESSAGES)]
+
+
+def called(what, moment, method, path, shown, body=None, bound=True):
+    """A request with a token of account 7, which is bound to its first session or to none. It is answered by what is
+    shown, a status with its phrase and an object, where its caller is let in and what it names is there."""
+    bearer = token(moment, SESSION if bound else None)
+    head = f"{method} {path} HTTP/1.1\r\nHost: localhost\r\nAuthorization: Bearer {bearer}\r\n".encode()
+    if body is None:
+        text = head + b"\r\n"
+    else:
+        sent = compact([{"acvVersion": "1.0"}, body])
+        text = head + b"Content-Length: %d\r\n\r\n%s" % (len(sent), sent)
+
+    def answer(accounts):
+        if not accounts.get(7, {"enabled": False})["enabled"]:
+            return reply(403, "Forbidden", {"error": "accountRefused"}, moment)
+        if bound and "session" not in accounts:
+            return reply(404, "Not Found", {"error": "noResource"}, moment)
+        status, phrase, thing = shown(accounts, moment)
+        return reply(status, phrase, thing, moment)
+    return request(what, moment, text, answer)
+
+
+def time_text(moment):
+    return time.strftime("%Y-%m-%dT%H:%M:%SZ", time.gmtime(moment))
+
+
+def new_session(accounts, moment):
+    accounts["session"] = {"created": moment, "passed": None}
+    return 200, "OK", {"accessToken": token(moment, SESSION), "createdOn": time_text(moment),
+                       "expiresOn": time_text(moment + 2592000), "url": SESSION_URL, "vectorSetUrls": [SET_URL]}
+
+
+def prompts(accounts, moment):
+    tests = [{"len": 8, "msg": message.hex(), "tcId": n + 1} for n, message in enumerate(MESSAGES)]
+    return 200, "OK", {"algorithm": "SHA2-256", "isSample": False, "revision": "1.0", "vsId": SET,
+                       "testGroups": [{"testType": "AFT", "tests": tests, "tgId": 1}]}
+
+
+def submitted(is_first, passed):
+    def answer(accounts, moment):
+        session = accounts["session"]
+        if is_first and session["passed"] is not None:
+            return 409, "Conflict", {"error": "alreadySubmitted"}
+        if not is_first and session["passed"] is None:
+            return 409, "Conflict", {"error": "notSubmitted"}
+        session["passed"] = passed
+        return 200, "OK", {"status": "received", "url": f"{SET_URL}/results"}
+    return answer
+
+
+def results(accounts, moment):
+    passed = accounts["session"]["passed"]
+    result = "missing" if passed is None else "passed"
+    tests = [{"result": result, "tcId": test["tcId"]} for test in ANSWERS]
+    if passed is False:
+        tests[0]["result"] = "fail"
+    disposition = {None: "unreceived", True: "passed", False: "fail"}[passed]
+    return 200, "OK", {"disposition": disposition, "tests": tests, "vsId": SET}
+
+
+def session_results(accounts, moment):
+    passed = accounts["session"]["passed"]
+    status = {None: "unreceived", True: "passed", False: "fail"}[passed]
+    return 200, "OK", {"passed": passed is True, "results": [{"status": status, "vectorSetUrl": SET_URL}]}
+
+
+def sent(tests):
+    return {"testGroups": [{"tests": tests, "tgId": 1}], "vsId": SET}
+
+
+WRONG = [{"md": ANSWERS[0]["md"][::-1], "tcId": 1}] + ANSWERS[1:]
+
+
 def refused_body(moment, body, word):
     return refused("refused body", moment, posting(body), 400, "Bad Request", word)
 
@@ -142,12 +250,21 @@ EVENTS = [
             b"Allow: POST\r\n"),
     refused("head", 90, b"POST /acvp/v1/login HTTP/1.1\r\n", 400, "Bad Request", "truncated"),
     refused("clock", 4102444800, posting(b"[]"), 503, "Service Unavailable", "clockOutOfRange", dated=False),
+    called("new session", 100060, "POST", "/acvp/v1/testSessions", new_session, REGISTERED, bound=False),
+    called("prompts", 100061, "GET", SET_URL, prompts),
+    called("resubmission", 100062, "PUT", f"{SET_URL}/results", submitted(False, True), sent(ANSWERS)),
+    called("submission", 100063, "POST", f"{SET_URL}/results", submitted(True, False), sent(WRONG)),
+    called("results", 100064, "GET", f"{SET_URL}/results", results),
+    called("resubmission", 100065, "PUT", f"{SET_URL}/results", submitted(False, True), sent(ANSWERS)),
+    called("results", 100066, "GET", f"{SET_URL}/results", results),
+    called("session's results", 100067, "GET", f"{SESSION_URL}/results", session_results),
     disable(7), login("login", 100080, 3336), login("login", 100081, 3336, number=8),
 ]
 # What no memory can be refused to: the moment and the head are judged before any is asked for.
 NEVER_UNAVAILABLE = {"head", "clock"}
 # What asks for memory, so that the refusals must have met it.
-MET = {"add", "refused body", "login", "renewal", "refused renewal"}
+MET = {"add", "refused body", "login", "renewal", "refused renewal", "new session", "prompts", "submission", "resubmission",
+       "results", "session's results"}
 
 
 def right_answers(events, without=None):

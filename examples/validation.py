@@ -1,0 +1,184 @@
+#!/usr/bin/env python3
+"""A client that validates Python's own hashlib and hmac, by standard Python alone.
+
+    examples/validation.py COMMAND..
+
+COMMAND runs the server in script mode with a keys file, as in `acvp_server script --keys keys.txt`. The client hands it
+each event through a pipe, stands for the network and the clock, and reads the reply before it goes on. It prints what
+happens, and stops with status 1 where anything isn't as it must be."""
+import hashlib
+import hmac
+import json
+import os
+import subprocess
+import sys
+import time
+
+ACCOUNT = 7
+HASHES = {"SHA2-256": "sha256", "HMAC-SHA2-256": "sha256"}
+REGISTRATION = {"algorithms": [
+    {"algorithm": "SHA2-256", "messageLength": [{"increment": 8, "max": 1024, "min": 0}], "revision": "1.0"},
+    {"algorithm": "HMAC-SHA2-256", "keyLen": [{"increment": 8, "max": 1024, "min": 8}], "macLen": [128, 256],
+     "revision": "1.0"}]}
+
+
+def stop(what):
+    sys.exit(f"This isn't as it must be: {what}")
+
+
+def tell(who, what, outcome=""):
+    print(f"{who:9} {what:58} {outcome}".rstrip(), flush=True)
+
+
+class Server:
+    """The server behind a pipe, as its operator and its network see it."""
+
+    def __init__(self, command):
+        self.process = subprocess.Popen(command, stdin=subprocess.PIPE, stdout=subprocess.PIPE)
+
+    def send(self, event):
+        self.process.stdin.write(event)
+        self.process.stdin.flush()
+
+    def line(self):
+        line = self.process.stdout.readline()
+        if not line:
+            stop("the server has ended")
+        return line.decode().rstrip("\n")
+
+    def order(self, text):
+        """Hands an order of the operator over, and gives its answer."""
+        self.send(text.encode() + b"\n")
+        return self.line()
+
+    def call(self, method, path, token=None, thing=None):
+        """Sends a request, and gives the status and the second object of the reply's body."""
+        lines = [f"{method} /acvp/v1{path} HTTP/1.1", "Host: laboratory.example"]
+        body = b""
+        if token is not None:
+            lines.append(f"Authorization: Bearer {token}")
+        if thing is not None:
+            body = json.dumps([{"acvVersion": "1.0"}, thing]).encode()
+            lines.append(f"Content-Length: {len(body)}")
+        text = "\r\n".join(lines + ["", ""]).encode() + body
+        self.send(b"request %d %d\n%s\n" % (time.time(), len(text), text))
+        word, size = self.line().split(" ")
+        if word != "reply":
+            stop(f"a request is answered by {word}")
+        reply = self.process.stdout.read(int(size))
+        self.line()
+        head, _, content = reply.partition(b"\r\n\r\n")
+        return int(head.split(b" ")[1]), json.loads(content)[1]
+
+    def must(self, method, path, token=None, thing=None):
+        """The object of a reply whose status must be 200."""
+        status, reply = self.call(method, path, token, thing)
+        if status != 200:
+            stop(f"{method} {path} is answered {status} {reply}")
+        return reply
+
+    def end(self):
+        self.process.stdin.close()
+        if self.process.wait() != 0:
+            stop(f"the server ended with status {self.process.returncode}")
+
+
+def one_time_code(secret):
+    """The code of this moment (RFC 6238), of 8 digits under HMAC-SHA-256."""
+    mac = hmac.new(secret, int(time.time() // 30).to_bytes(8, "big"), hashlib.sha256).digest()
+    place = mac[-1] & 15
+    return "%08d" % ((int.from_bytes(mac[place:place + 4], "big") & 0x7fffffff) % 10**8)
+
+
+def monte_carlo(name, seed):
+    """The hundred checkpoints of a Monte Carlo test: each turn hashes the last three digests a thousand times."""
+    checkpoints = []
+    for _ in range(100):
+        three = [seed] * 3
+        for _ in range(1000):
+            three = [three[1], three[2], hashlib.new(name, b"".join(three)).digest()]
+        seed = three[2]
+        checkpoints.append({"md": seed.hex()})
+    return checkpoints
+
+
+def answer(vector_set, group, test):
+    """What the implementation under test, which is Python's, makes of a test."""
+    name = HASHES[vector_set["algorithm"]]
+    message = bytes.fromhex(test["msg"])
+    if "key" in test:
+        mac = hmac.new(bytes.fromhex(test["key"]), message, name).digest()
+        return {"mac": mac[:group["macLen"] // 8].hex(), "tcId": test["tcId"]}
+    if group["testType"] == "MCT":
+        return {"resultsArray": monte_carlo(name, message), "tcId": test["tcId"]}
+    return {"md": hashlib.new(name, message).hexdigest(), "tcId": test["tcId"]}
+
+
+def answers(vector_set):
+    groups = [{"tests": [answer(vector_set, group, test) for test in group["tests"]], "tgId": group["tgId"]}
+              for group in vector_set["testGroups"]]
+    return {"testGroups": groups, "vsId": vector_set["vsId"]}
+
+
+def judged(server, path, token, wanted):
+    """The results of a vector set, whose disposition must be this one."""
+    results = server.must("GET", f"{path}/results", token)
+    if results["disposition"] != wanted:
+        stop(f"{path} is {results['disposition']} and not {wanted}")
+    return [test["tcId"] for test in results["tests"] if test["result"] != "passed"]
+
+
+def validate(server, token, path):
+    """Fetches a vector set, answers it, first with one wrong digest, and reads what the answers come to."""
+    vector_set = server.must("GET", path, token)
+    count = sum(len(group["tests"]) for group in vector_set["testGroups"])
+    kinds = {group["testType"] for group in vector_set["testGroups"]}
+    tell("client", f"fetches vector set {vector_set['vsId']}",
+         f"{count} tests of {vector_set['algorithm']}" + (", one of them Monte Carlo" if "MCT" in kinds else ""))
+    right = answers(vector_set)
+    wrong = json.loads(json.dumps(right))
+    first = wrong["testGroups"][0]["tests"][0]
+    member = "mac" if "mac" in first else "md"
+    first[member] = ("0" if first[member][0] != "0" else "1") + first[member][1:]
+    server.must("POST", f"{path}/results", token, wrong)
+    tell("client", "submits Python's answers, one digit of them changed", "received")
+    failed = judged(server, path, token, "fail")
+    if failed != [first["tcId"]]:
+        stop(f"the tests {failed} fail, and not test {first['tcId']} alone")
+    tell("client", "reads the results", f"fail: test {failed[0]} alone")
+    server.must("PUT", f"{path}/results", token, right)
+    judged(server, path, token, "passed")
+    tell("client", "submits them as they are, and reads the results", "passed")
+
+
+def main():
+    if len(sys.argv) < 2:
+        sys.exit(__doc__)
+    server = Server(sys.argv[1:])
+    secret = os.urandom(32)
+    if server.order(f"account-add {int(time.time())} {ACCOUNT} {secret.hex()}") != "order done":
+        stop("the account isn't added")
+    tell("operator", f"adds account {ACCOUNT} with a secret of its own", "done")
+    code = one_time_code(secret)
+    login = {"password": code, "user": str(ACCOUNT)}
+    token = server.must("POST", "/login", thing=login)["accessToken"]
+    tell("client", f"logs in with the one-time code {code}", "a token for half an hour")
+    status, refusal = server.call("POST", "/login", thing=login)
+    if (status, refusal) != (403, {"error": "loginRefused"}):
+        stop(f"the same code again is answered {status} {refusal}")
+    tell("client", "logs in with the same code again", f"{status} {refusal['error']}")
+    session = server.must("POST", "/testSessions", token, REGISTRATION)
+    names = ", ".join(capability["algorithm"] for capability in REGISTRATION["algorithms"])
+    tell("client", f"registers {names}", session["url"])
+    bound = session["accessToken"]
+    for url in session["vectorSetUrls"]:
+        validate(server, bound, url[len("/acvp/v1"):])
+    results = server.must("GET", session["url"][len("/acvp/v1"):] + "/results", bound)
+    if results["passed"] is not True:
+        stop("the session hasn't passed")
+    tell("client", "reads the results of the test session", "passed")
+    server.end()
+
+
+if __name__ == "__main__":
+    main()
