@@ -2,7 +2,7 @@
 use Rattle.std.specs.Prelude.{ℕ, List, codes, Option, Some, None, unwrap_or}
 use Rattle.serde_json.specs.Data.{Data, null, string, object, no_members, member}
 use Rattle.acvp_registry.specs.Json.{without_float}
-use Rattle.acvp_registry.specs.Object.{with_url_data}
+use Rattle.acvp_registry.specs.Object.{KeptObject, with_url_data}
 use Rattle.acvp_registry.specs.declared.request.PendingRequest.{PendingRequest}
 use Rattle.acvp_registry.specs.declared.request.Status.{Status}
 use Rattle.acvp_registry.specs.declared.request.Status.TheVariants.{Initial, Approved, Rejected}
@@ -12,9 +12,12 @@ use Rattle.acvp_json.specs.Urls.{request_url, approved_url}
 
 -- ---- what is registered
 
--- the kept object with its own URL; null would stand for one that holds a float, and none is kept
+-- the kept object with the URL of its number; null would stand for one that holds a float, and none is kept
+abbrev pub object_data : KeptObject → ℕ → Data
+object_data kept n = unwrap_or (without_float (with_url_data kept n)) null
+
 abbrev pub registered_data : Registered → Data
-registered_data row = unwrap_or (without_float (with_url_data row.object.now row.number)) null
+registered_data row = object_data row.object.now row.number
 
 -- ---- requests
 
