@@ -1,7 +1,7 @@
 -- What holds of what a caller is allowed.
-use Rattle.std.proofs.Common.{◌≡◌, ℕ, Bool, true, false, None, [], ◌∷◌, refl, arith}
+use Rattle.std.proofs.Common.{◌≡◌, ℕ, Bool, true, false, Option, None, Some, [], ◌∷◌, refl, arith}
 use Rattle.std.proofs.lemmas.Bool.Decides.{nat_tests}
-use Rattle.std.specs.Prelude.{◌++◌, ◌&&◌, ◌||◌, not, nat_le, is_some}
+use Rattle.std.specs.Prelude.{◌++◌, ◌==◌, ◌&&◌, ◌||◌, not, nat_le, is_some}
 use Rattle.acvp_mac.specs.Conditions.{first_broken}
 use Rattle.acvp_policy.specs.Conditions.{is_account, is_enabled, account_there, account_enabled, without_session, token_there, token_shaped, token_signed, token_read, token_lasts, session_found, reviewer_found, algorithm_of, is_some_and, session_live, session_thawed, set_found, is_sample, session_lasts, set_lasts, set_live, is_unanswered, is_answered}
 use Rattle.acvp_policy.specs.Conditions.{session_found, reviewer_found, algorithm_of, is_some_and, session_live, session_thawed, set_found, is_sample, session_lasts, set_lasts, set_live}
@@ -26,7 +26,16 @@ use Rattle.acvp_desk.specs.declared.wish.CallerAsk.{CallerAsk}
 use Rattle.acvp_desk.specs.declared.wish.SessionWish.{SessionWish}
 use Rattle.acvp_desk.specs.declared.wish.SessionWish.TheVariants.{Read, Cancel, Results, ListSets, ListReviewers, AddReviewer}
 use Rattle.acvp_desk.specs.declared.wish.Wish.{Wish}
-use Rattle.acvp_desk.specs.declared.wish.Wish.TheVariants.{Account, Algorithm, Session, Reviewer, Set, NewSession, CancelSet, ListSessions}
+use Rattle.acvp_desk.specs.declared.wish.Wish.TheVariants.{Account, Algorithm, Session, Reviewer, Set, NewSession, CancelSet, ListSessions, Certify, Registry}
+use Rattle.acvp_desk.specs.declared.wish.Registry.{Registry as RegistryOf}
+use Rattle.acvp_desk.specs.declared.wish.Registry.TheVariants as registry
+use Rattle.acvp_desk.specs.Registries.{new_action}
+use Rattle.acvp_policy.specs.Conditions.{are_of_session, claims_of, has_passed, is_no_sample, this_session, with_session}
+use Rattle.acvp_policy.specs.Decision.{account_of_claims}
+use Rattle.acvp_policy.specs.Policy.{session_conditions}
+use Rattle.acvp_policy.specs.Resource.{session_number}
+use Rattle.acvp_policy.specs.SessionNumber.{account_of_session}
+use Rattle.acvp_token.specs.declared.Claims.{Claims}
 use Rattle.acvp_desk.specs.declared.wish.SetWish.{SetWish}
 use Rattle.acvp_desk.specs.declared.wish.SetWish.TheVariants as on_set
 use Rattle.acvp_desk.proofs.Judging.{back_held, first_held}
@@ -70,6 +79,11 @@ set_there on_set.Resubmit f held = first_held (is_some (set_found f.subject)) ru
 pub cancelled_there : (f : Facts) → first_broken (policy action.CancelSet f) ≡ None → is_some (set_found f.subject) ≡ true
 cancelled_there f held = first_held (is_some (set_found f.subject)) rule.NoResource (session_live f ∷ session_thawed f ∷ set_live f ∷ []) (on_resource action.CancelSet f held)
 
+pub certified_there : (f : Facts) → first_broken (policy action.Certify f) ≡ None → is_some (session_found f.subject) ≡ true
+certified_there f held =
+    first_held (is_some (session_found f.subject)) rule.NoResource (session_live f ∷ session_lasts f ∷ session_thawed f ∷ is_no_sample f ∷ has_passed f ∷ [])
+    (on_resource action.Certify f held)
+
 at_wish : (moment : ℕ) (caller : CallerAsk) (found : Found) (w : Wish) → caller.wish ≡ w → IsOf (Caller caller) found
     → first_broken (policy (action_of_wish w) (facts_from moment (Caller caller) found)) ≡ None → is_there w found.subject ≡ true
 at_wish moment caller found (Account it) same of held = refl
@@ -86,6 +100,8 @@ at_wish moment caller found NewSession same of held = refl
 at_wish moment caller found (Set session n it) same of held = set_there it (facts_from moment (Caller caller) found) held
 at_wish moment caller found (CancelSet session n) same of held = cancelled_there (facts_from moment (Caller caller) found) held
 at_wish moment caller found (ListSessions page) same of held = refl
+at_wish moment caller found (Certify n) same of held = certified_there (facts_from moment (Caller caller) found) held
+at_wish moment caller found (Registry it) same of held = refl
 
 -- what the path names is there
 pub named_there : (moment : ℕ) (it : Ask) (caller : CallerAsk) (found : Found) → it ≡ Caller caller → IsOf it found → first_broken (policy_conditions moment it found) ≡ None
@@ -101,6 +117,38 @@ new_allowed f held = (
   first_held (is_enabled f.standing) rule.AccountRefused (without_session f ∷ account_there f ∷ [])
       (back_held (token_there f ∷ token_shaped f ∷ token_signed f ∷ token_read f ∷ token_lasts f ∷ []) (account_enabled f ∷ without_session f ∷ account_there f ∷ []) held),
 )
+
+-- and where a registration is
+pub registration_allowed : (of : RegistryOf) (f : Facts) → first_broken (policy (new_action of) f) ≡ None → (is_account f.subject ≡ true) × (is_enabled f.standing ≡ true)
+unfolding policy
+registration_allowed registry.Vendors f held = new_allowed f held
+registration_allowed registry.Modules f held = new_allowed f held
+registration_allowed registry.Environments f held = new_allowed f held
+
+-- where a certification is, the account acts that the session is of, and is enabled
+pub certification_enabled : (f : Facts) → first_broken (policy action.Certify f) ≡ None → is_enabled f.standing ≡ true
+unfolding policy
+certification_enabled f held = first_held (is_enabled f.standing) rule.AccountRefused (session_conditions f ++ resource_conditions action.Certify f)
+    (back_held (token_there f ∷ token_shaped f ∷ token_signed f ∷ token_read f ∷ token_lasts f ∷ []) (account_enabled f ∷ session_conditions f ++ resource_conditions action.Certify f) held)
+
+pub certification_owned : (f : Facts) (n : ℕ) → resource_of f.subject ≡ resource.Session n → first_broken (policy action.Certify f) ≡ None
+    → account_of_session n ≡ account_of_claims (claims_of f.token)
+unfolding policy
+certification_owned f n names held = go (claims_of f.token) (rw names at own)
+  where
+    own : is_some_and (session_number (resource_of f.subject)) (λ s. is_some_and (claims_of f.token) (are_of_session s)) ≡ true
+    own = first_held (is_some_and (session_number (resource_of f.subject)) (λ s. is_some_and (claims_of f.token) (are_of_session s))) rule.OtherSession (resource_conditions action.Certify f)
+        (back_held (caller_conditions f ++ with_session f ∷ []) (this_session f ∷ resource_conditions action.Certify f) held)
+
+    at : (bound same : Bool) → (bound && same) ≡ true → same ≡ true
+    at true same e = e
+    at false same e = absurd (cc)
+
+    go : (claims : Option Claims) → is_some_and claims (are_of_session n) ≡ true → account_of_session n ≡ account_of_claims claims
+    go None e = absurd (cc)
+    go (Some claims) e =
+        let same : (account_of_session n == claims.account) ≡ true = at (is_some_and claims.session (λ bound. bound == n)) (account_of_session n == claims.account) e in
+        grind (arith, nat_tests, same)
 
 -- each number from 1 to 12 is an algorithm's
 pub each_algorithm : (n : ℕ) → (nat_le 1 n && nat_le n 12) ≡ true → algorithm_at n ≡ None → ⊥

@@ -27,7 +27,7 @@ module _ (keys : Keys) (m : ℕ) (r : RequestValue) (s : State) where
       go None e = (first_held (nat_lt m end_of_moments) rule.ClockOutOfRange (first_conditions_on r.action r ++ later_of keys.seed m r (ask_of keys m r) s) e, back_held (first_conditions m r) (later_of keys.seed m r (ask_of keys m r) s) e)
       go (Some rule) e = tt
 
-  module _ (it : Ask) (held : first_broken (first_conditions m r) ≡ None) (asked : ask_of keys m r ≡ Some it) (f : Found) (found : f ≡ found_of keys.seed it s) where
+  module _ (it : Ask) (held : first_broken (first_conditions m r) ≡ None) (asked : ask_of keys m r ≡ Some it) (f : Found) (found : f ≡ found_of keys.seed r.body it s) where
     later : first_broken (conditions keys m r s) ≡ first_broken (later_conditions keys.seed m r it f)
     later = front_held (first_conditions m r) (later_of keys.seed m r (ask_of keys m r) s) held ∙ ap (λ a. first_broken (later_of keys.seed m r a s)) asked
         ∙ ap (λ g. first_broken (later_conditions keys.seed m r it g)) (sym found)

@@ -1,11 +1,10 @@
 -- A vector set that is cancelled: its number is of its session, and what is told of the session's counters is so after it.
-use Rattle.std.proofs.Common.{◌≡◌, ◌≢◌, ℕ, suc, ◌/◌, List, [], ◌∷◌, map, length, filter, Bool, true, false, ◌&&◌, ◌||◌, ◌==◌, Option, None, Some, refl, sym, ap, arith}
+use Rattle.std.proofs.Common.{◌≡◌, ℕ, suc, ◌/◌, List, [], ◌∷◌, map, length, filter, Bool, true, false, ◌&&◌, ◌||◌, ◌==◌, Option, None, Some, refl, sym, ap, arith}
 use Rattle.std.specs.Prelude.{IfSome, not, is_some, option_map, option_and_then, if◌then◌else◌}
 use Rattle.std.specs.List.{All}
 use Rattle.std.proofs.lemmas.Bool.Decides.{nat_tests}
 use Rattle.std.proofs.lemmas.List.Elements.{All-nil, All-cons, All-head, All-tail}
 use Rattle.acvp_policy.specs.declared.facts.SessionFacts.{SessionFacts}
-use Rattle.acvp_policy.specs.declared.facts.SetFacts.{SetFacts}
 use Rattle.acvp_tables.specs.Changes.{changed, is_set, cancelled_set as with_cancelled}
 use Rattle.acvp_tables.specs.Content.{Content, is_live_in, live_sets}
 use Rattle.acvp_tables.specs.Counted.{IsNextCount, has_passed as grades_pass, live_count, passed_count}

@@ -1,6 +1,6 @@
 -- What the policy decides on what was found.
-use Rattle.std.proofs.Common.{◌≡◌, ◌⊎◌, ℕ, List, [], ◌∷◌, true, None, Some, Option, Ok, Err, inl, inr, refl, sym, ap, ◌/◌, ◌==◌, arith, ◌||◌}
-use Rattle.std.specs.Prelude.{option_map, option_and_then, is_some, ◌/◌, not}
+use Rattle.std.proofs.Common.{◌≡◌, ◌⊎◌, ℕ, List, [], ◌∷◌, true, None, Some, Option, Ok, Err, inl, inr, refl, sym, ap, ◌∙◌, ◌/◌, ◌==◌, arith, ◌||◌}
+use Rattle.std.specs.Prelude.{option_map, option_and_then, is_some, ◌/◌, not, nat_lt}
 use Rattle.acvp_mac.specs.Conditions.{first_broken}
 use Rattle.acvp_caps.specs.Registered.{registration_conditions}
 use Rattle.acvp_policy.specs.Conditions.{claims_of, is_account, set_found}
@@ -33,7 +33,7 @@ use Rattle.acvp_desk.specs.declared.ask.LoginAsk.{LoginAsk}
 use Rattle.acvp_desk.specs.declared.wish.SessionWish.{SessionWish}
 use Rattle.acvp_desk.specs.declared.wish.SessionWish.TheVariants.{Read, Cancel, Results, ListSets, ListReviewers, AddReviewer}
 use Rattle.acvp_desk.specs.declared.wish.Wish.{Wish}
-use Rattle.acvp_desk.specs.declared.wish.Wish.TheVariants.{Account, Algorithm, Session, Reviewer, Set, NewSession, CancelSet, ListSessions}
+use Rattle.acvp_desk.specs.declared.wish.Wish.TheVariants.{Account, Algorithm, Session, Reviewer, Set, NewSession, CancelSet, ListSessions, Certify, Registry}
 use Rattle.acvp_desk.specs.Place.{unfound, is_within, is_for}
 use Rattle.acvp_desk.specs.Replies.{session_change, wish_change, cancelled_set, outcomes_in_material, answers_change, prompts_from, set_change, submission_change}
 use Rattle.acvp_desk.specs.declared.wish.SetWish.{SetWish}
@@ -48,7 +48,13 @@ use Rattle.acvp_desk.specs.declared.found.Found.{Found}
 use Rattle.acvp_desk.specs.Bodies.{body_conditions, registration_rule}
 use Rattle.acvp_desk.specs.NewSessions.{counts_in_material, has_number_left, new_session_in}
 use Rattle.acvp_desk.specs.OwnConditions.{wish_conditions}
-use Rattle.acvp_desk.proofs.Allowing.{new_allowed, cancelled_there, set_there}
+use Rattle.acvp_desk.proofs.Allowing.{new_allowed, cancelled_there, set_there, registration_allowed, certification_owned}
+use Rattle.acvp_desk.proofs.Asking.{few_asked, registration_covered, certification_covered}
+use Rattle.acvp_desk.specs.Asked.{asked_conditions, asked_in, certification_change, certification_conditions_on, certified_conditions, registered_conditions, registration_change, registration_conditions_on}
+use Rattle.acvp_desk.specs.Registries.{kind_of, new_action}
+use Rattle.acvp_desk.specs.declared.found.Asked.{Asked}
+use Rattle.acvp_desk.specs.declared.wish.Registry.{Registry as RegistryOf}
+use Rattle.acvp_desk.specs.declared.wish.RegistryWish.TheVariants as on_registry
 use Rattle.acvp_desk.proofs.Judging.{broken, held, back_held, first_held}
 use Rattle.acvp_desk.proofs.Registering.{registers}
 use Rattle.acvp_desk.specs.declared.found.SetOutcome.{SetOutcome}
@@ -213,6 +219,49 @@ set_covers owns seeds session n body it f g names fits decided is (material.Revi
 set_covers owns seeds session n body it f g names fits decided is (material.Source source) for = tt
 set_covers owns seeds session n body it f g names fits decided is (material.Verdicts verdicts) for = tt
 set_covers owns seeds session n body it f g names fits decided is (material.Sessions total listed) for = tt
+set_covers owns seeds session n body it f g names fits decided is (material.Object row) for = tt
+set_covers owns seeds session n body it f g names fits decided is (material.Objects total rows) for = tt
+set_covers owns seeds session n body it f g names fits decided is (material.Request row) for = tt
+set_covers owns seeds session n body it f g names fits decided is (material.Requests total rows) for = tt
+set_covers owns seeds session n body it f g names fits decided is (material.Asked asked) for = tt
+
+-- a registration
+registration_covers : (of : RegistryOf) (u : ℕ) (body : List ℕ) (asked : Option Asked) (f : Facts) (g : Granted)
+    → first_broken (registration_conditions_on (kind_of of) body asked) ≡ None → u ≡ account_of_claims (claims_of f.token)
+    → Ok g ≡ decision (new_action of) f → g ≡ granted (new_action of) f → CoversAny g (registration_change (kind_of of) u body asked)
+unfolding granted
+registration_covers of u body None f g own acts decided is = tt
+registration_covers of u body (Some asked) f g own acts decided is =
+    let allowed = registration_allowed of f (through (new_action of) f g decided) in
+    let few = few_asked asked (back_held (registered_conditions (kind_of of) body) (asked_conditions (Some asked)) own) in
+    go f.subject refl allowed.0 few
+  where
+    go : (s : Subject) → f.subject ≡ s → is_account s ≡ true → nat_lt asked.requests 999999 ≡ true → CoversAny g (registration_change (kind_of of) u body (Some asked))
+    go subject.Account e account few = registration_covered of u body asked g (ap (λ x. x.action) is) (rw (is, e) refl) (rw (is, e, acts) refl) few
+    go (subject.Login it) e account few = absurd (cc)
+    go (subject.Algorithm it) e account few = absurd (cc)
+    go (subject.Session it) e account few = absurd (cc)
+    go (subject.Set it) e account few = absurd (cc)
+    go (subject.Reviewer it) e account few = absurd (cc)
+    go (subject.Vendor it) e account few = absurd (cc)
+    go (subject.Module it) e account few = absurd (cc)
+    go (subject.Environment it) e account few = absurd (cc)
+    go (subject.Request it) e account few = absurd (cc)
+
+-- a certification
+certify_covers : (owns : Owns) (u n : ℕ) (body : List ℕ) (asked : Option Asked) (f : Facts) (g : Granted) → resource_of f.subject ≡ resource.Session n
+    → first_broken (certification_conditions_on body asked) ≡ None → u ≡ account_of_claims (claims_of f.token)
+    → Ok g ≡ decision action.Certify f → g ≡ granted action.Certify f → CoversAny g (certification_change u n body asked)
+unfolding granted
+certify_covers owns u n body None f g names own acts decided is = tt
+certify_covers owns u n body (Some asked) f g names own acts decided is =
+    let on_it : g.resource ≡ resource.Session n = rw is names in
+    let few = few_asked asked (back_held (certified_conditions body) (asked_conditions (Some asked)) own) in
+    elim (owns action.Certify f g (sym decided) n (rw on_it refl)) [
+      | inl mine ↦ certification_covered u n body asked g (ap (λ x. x.action) is) on_it
+          (sym mine ∙ certification_owned f n names (through action.Certify f g decided) ∙ sym acts) (sym mine) few
+      | inr review ↦ absurd (elim review.results [ inl e ↦ cc | inr e ↦ cc ])
+    ]
 
 -- the number of a set that is there names its session
 fits_there : (session n : ℕ) (s : Subject) → is_some (set_found s) ≡ true → (not (is_some (set_found s)) || ((n / 100) == session)) ≡ true → (n / 100) ≡ session
@@ -231,6 +280,13 @@ wish_covers owns keys moment u r found (Set session n it) f g names for within o
 wish_covers owns keys moment u r found NewSession f g names for within own acts decided is = new_covers keys.seed moment u r found f g own acts decided is
 wish_covers owns keys moment u r found (CancelSet session n) f g names for within own acts decided is = cancel_covers owns session n (outcomes_in_material found.material) f g names within decided is
 wish_covers owns keys moment u r found (ListSessions page) f g names for within own acts decided is = tt
+wish_covers owns keys moment u r found (Certify n) f g names for within own acts decided is = certify_covers owns u n r.body (asked_in found.material) f g names own acts decided is
+wish_covers owns keys moment u r found (Registry (on_registry.New of)) f g names for within own acts decided is =
+    registration_covers of u r.body (asked_in found.material) f g own acts decided is
+wish_covers owns keys moment u r found (Registry (on_registry.Read of n)) f g names for within own acts decided is = tt
+wish_covers owns keys moment u r found (Registry (on_registry.List of page)) f g names for within own acts decided is = tt
+wish_covers owns keys moment u r found (Registry (on_registry.ReadRequest n)) f g names for within own acts decided is = tt
+wish_covers owns keys moment u r found (Registry (on_registry.ListRequests page)) f g names for within own acts decided is = tt
 
 covers : (owns : Owns) (keys : Keys) (moment : ℕ) (r : RequestValue) (it : Ask) (found : Found) (g : Granted) → IsOf it found
     → first_broken (own_conditions keys.seed r it found) ≡ None → Ok g ≡ decision (action_of it) (facts_from moment it found) → g ≡ granted (action_of it) (facts_from moment it found)

@@ -1,6 +1,6 @@
 -- What is found is what the records hold; and what a caller is refused, whatever is found.
-use Rattle.std.proofs.Common.{◌≡◌, ℕ, List, map, Bool, ◌&&◌, ◌==◌, nat_le, Option, None, Some, refl, sym, ap, ◌∙◌, ◌≤◌, zero, suc, length, [], ◌∷◌, arith}
-use Rattle.std.specs.Prelude.{take, option_map, option_and_then, Result, Err}
+use Rattle.std.proofs.Common.{◌≡◌, ℕ, List, map, Bool, false, ◌&&◌, ◌==◌, nat_le, Option, None, Some, refl, sym, ap, ◌∙◌, ◌≤◌, zero, suc, length, [], ◌∷◌, arith}
+use Rattle.std.specs.Prelude.{take, option_map, option_and_then, is_some, Err}
 use Rattle.acvp_mac.specs.Conditions.{first_broken}
 use Rattle.acvp_policy.specs.Callers.{AgreeOnCaller}
 use Rattle.acvp_policy.specs.Conditions.{claims_of}
@@ -20,7 +20,7 @@ use Rattle.acvp_tables.specs.Content.{account_at, set_summary}
 use Rattle.acvp_tables.specs.declared.rows.AccountRow.{AccountRow}
 use Rattle.acvp_desk.specs.Answer.{account_found, action_of, facts_from, found_of, policy_conditions, reviewer_found, standing_of, unfound_of, who}
 use Rattle.acvp_desk.specs.Kept.{IsKept}
-use Rattle.acvp_desk.specs.Place.{certification_of, facts_of_session, session_facts, set_numbers, set_outcome, set_outcomes, unfound, subject_of, place_of}
+use Rattle.acvp_desk.specs.Place.{certification_of, session_facts, set_numbers, set_outcome, set_outcomes, unfound, subject_of, place_of}
 use Rattle.acvp_desk.specs.declared.ask.Ask.{Ask}
 use Rattle.acvp_desk.specs.declared.ask.Ask.TheVariants.{Login, Caller}
 use Rattle.acvp_desk.specs.declared.ask.LoginAsk.{LoginAsk}
@@ -28,7 +28,12 @@ use Rattle.acvp_desk.specs.declared.find.Place.{Place}
 use Rattle.acvp_desk.specs.declared.found.Found.{Found}
 use Rattle.acvp_desk.specs.declared.wish.CallerAsk.{CallerAsk}
 use Rattle.acvp_desk.specs.declared.wish.Wish.{Wish}
-use Rattle.acvp_desk.specs.declared.wish.Wish.TheVariants.{Account, Algorithm, Session, Reviewer, Set, NewSession, CancelSet, ListSessions}
+use Rattle.acvp_desk.specs.declared.wish.Wish.TheVariants.{Account, Algorithm, Session, Reviewer, Set, NewSession, CancelSet, ListSessions, Certify, Registry}
+use Rattle.acvp_desk.specs.declared.wish.Registry.{Registry as RegistryOf}
+use Rattle.acvp_desk.specs.declared.wish.Registry.TheVariants as registry
+use Rattle.acvp_desk.specs.declared.wish.RegistryWish.{RegistryWish}
+use Rattle.acvp_desk.specs.declared.wish.RegistryWish.TheVariants as on_registry
+use Rattle.acvp_desk.specs.Registries.{has_row, registry_subject, row_subject}
 use Rattle.acvp_desk.proofs.Deciding.{denied_by}
 use Rattle.acvp_desk.specs.declared.found.SetOutcome.{SetOutcome}
 use Rattle.acvp_desk.proofs.Passing.{counters_tell, outcome_of, outcomes_among}
@@ -74,6 +79,12 @@ pub outcomes_of_sets : (sets : (s : ℕ) (c : Content) → live_records s (state
 outcomes_of_sets sets seeds c n i found outcomes kept are all is =
     are ∙ ap (map outcome_of) (all_taken i found all ∙ is) ∙ outcomes_among seeds n c.sets kept.graded ∙ sym (ap (map (set_outcome seeds)) (sets n c))
 
+-- ---- what an account owns
+
+pub mapped_there : {X Y : Type 0} (f : X → Y) (x : Option X) → is_some (option_map f x) ≡ is_some x
+mapped_there f None = refl
+mapped_there f (Some x) = refl
+
 -- ---- the account
 
 pub account_is : (it : Ask) (c : Content) (account : Option AccountRow) (number : Option ℕ) → number ≡ who it
@@ -83,39 +94,53 @@ account_is it c account number is found = rw (← is) found
 
 -- ---- the caller
 
-same_numbers : (seeds : List (List ℕ)) (s : State) (it : Wish) → resource_of (unfound it) ≡ resource_of (subject_of seeds s it)
-same_numbers seeds s (Account it) = refl
-same_numbers seeds s (Algorithm n) = refl
-same_numbers seeds s (Session n it) = refl
-same_numbers seeds s (Reviewer n m) = refl
-same_numbers seeds s NewSession = refl
-same_numbers seeds s (Set session n it) = refl
-same_numbers seeds s (CancelSet session n) = refl
-same_numbers seeds s (ListSessions page) = refl
+row_numbers : (of : RegistryOf) (n : ℕ) (found : Bool) → resource_of (row_subject of (record { number = n; found = false })) ≡ resource_of (row_subject of (record { number = n; found = found }))
+row_numbers registry.Vendors n found = refl
+row_numbers registry.Modules n found = refl
+row_numbers registry.Environments n found = refl
 
-callers_agree : (moment : ℕ) (it : Ask) (account : Option AccountRow) (reviewer : Bool) (seeds : List (List ℕ)) (s : State) → account ≡ account_found it s
-    → reviewer ≡ reviewer_found it s → AgreeOnCaller (facts_from moment it (unfound_of it account reviewer)) (facts_from moment it (found_of seeds it s))
+registry_numbers : (it : RegistryWish) (found : Bool) → resource_of (registry_subject false it) ≡ resource_of (registry_subject found it)
+registry_numbers (on_registry.Read of n) found = row_numbers of n found
+registry_numbers (on_registry.New of) found = refl
+registry_numbers (on_registry.List of at) found = refl
+registry_numbers (on_registry.ReadRequest n) found = refl
+registry_numbers (on_registry.ListRequests at) found = refl
+
+same_numbers : (seeds : List (List ℕ)) (u : ℕ) (s : State) (it : Wish) → resource_of (unfound it) ≡ resource_of (subject_of seeds u s it)
+same_numbers seeds u s (Account it) = refl
+same_numbers seeds u s (Algorithm n) = refl
+same_numbers seeds u s (Session n it) = refl
+same_numbers seeds u s (Reviewer n m) = refl
+same_numbers seeds u s NewSession = refl
+same_numbers seeds u s (Set session n it) = refl
+same_numbers seeds u s (CancelSet session n) = refl
+same_numbers seeds u s (ListSessions page) = refl
+same_numbers seeds u s (Certify n) = refl
+same_numbers seeds u s (Registry it) = registry_numbers it (has_row u s it)
+
+callers_agree : (moment : ℕ) (body : List ℕ) (it : Ask) (account : Option AccountRow) (reviewer : Bool) (seeds : List (List ℕ)) (s : State) → account ≡ account_found it s
+    → reviewer ≡ reviewer_found it s → AgreeOnCaller (facts_from moment it (unfound_of it account reviewer)) (facts_from moment it (found_of seeds body it s))
 unfolding found_of
-callers_agree moment (Login login) account reviewer seeds s is reviews = record { token = refl; standing = refl; reviewer = refl; numbers = refl }
-callers_agree moment (Caller caller) account reviewer seeds s is reviews =
-    record { token = refl; standing = ap standing_of is; reviewer = reviews; numbers = same_numbers seeds s caller.wish }
+callers_agree moment body (Login login) account reviewer seeds s is reviews = record { token = refl; standing = refl; reviewer = refl; numbers = refl }
+callers_agree moment body (Caller caller) account reviewer seeds s is reviews =
+    record { token = refl; standing = ap standing_of is; reviewer = reviews; numbers = same_numbers seeds (account_of_claims (claims_of caller.token)) s caller.wish }
 
-pub refused_caller : (moment : ℕ) (it : Ask) (account : Option AccountRow) (reviewer : Bool) (seeds : List (List ℕ)) (s : State) (rule : Rule) (a : Action) (f : Facts) (caller : Found)
+pub refused_caller : (moment : ℕ) (body : List ℕ) (it : Ask) (account : Option AccountRow) (reviewer : Bool) (seeds : List (List ℕ)) (s : State) (rule : Rule) (a : Action) (f : Facts) (caller : Found)
     → account ≡ account_found it s → reviewer ≡ reviewer_found it s → a ≡ action_of it → f ≡ facts_from moment it caller → caller ≡ unfound_of it account reviewer
-    → ((found : Facts) → AgreeOnCaller f found → decision a found ≡ Err rule) → first_broken (policy_conditions moment it (found_of seeds it s)) ≡ Some rule
-refused_caller moment it account reviewer seeds s rule a f caller is reviews action facts unfound refused =
-    denied_by moment it (found_of seeds it s) a (facts_from moment it (found_of seeds it s)) rule action refl
-    (sym (refused (facts_from moment it (found_of seeds it s)) (rw (facts, unfound) (callers_agree moment it account reviewer seeds s is reviews))))
+    → ((found : Facts) → AgreeOnCaller f found → decision a found ≡ Err rule) → first_broken (policy_conditions moment it (found_of seeds body it s)) ≡ Some rule
+refused_caller moment body it account reviewer seeds s rule a f caller is reviews action facts unfound refused =
+    denied_by moment it (found_of seeds body it s) a (facts_from moment it (found_of seeds body it s)) rule action refl
+    (sym (refused (facts_from moment it (found_of seeds body it s)) (rw (facts, unfound) (callers_agree moment body it account reviewer seeds s is reviews))))
 
 -- ---- what is found
 
-pub login_found : (it : Ask) (login : LoginAsk) (account : Option AccountRow) (reviewer : Bool) (found : Found) (seeds : List (List ℕ)) (s : State) → it ≡ Login login
-    → found ≡ unfound_of it account reviewer → account ≡ account_found it s → reviewer ≡ reviewer_found it s → found ≡ found_of seeds it s
+pub login_found : (it : Ask) (login : LoginAsk) (account : Option AccountRow) (reviewer : Bool) (found : Found) (seeds : List (List ℕ)) (body : List ℕ) (s : State) → it ≡ Login login
+    → found ≡ unfound_of it account reviewer → account ≡ account_found it s → reviewer ≡ reviewer_found it s → found ≡ found_of seeds body it s
 unfolding found_of
-login_found it login account reviewer found seeds s is unfound account_is reviews = rw (unfound, account_is, reviews, is) refl
+login_found it login account reviewer found seeds body s is unfound account_is reviews = rw (unfound, account_is, reviews, is) refl
 
-pub caller_found : (it : Ask) (caller : CallerAsk) (account : Option AccountRow) (reviewer : Bool) (place : Place) (u : ℕ) (seeds : List (List ℕ)) (s : State) → it ≡ Caller caller
-    → u ≡ account_of_claims (claims_of caller.token) → account ≡ account_found it s → reviewer ≡ reviewer_found it s → place ≡ place_of seeds u s caller.wish
-    → ◌≡◌ {A = Found} (record { account = account; reviewer = reviewer; subject = place.subject; material = place.material }) (found_of seeds it s)
+pub caller_found : (it : Ask) (caller : CallerAsk) (account : Option AccountRow) (reviewer : Bool) (place : Place) (u : ℕ) (seeds : List (List ℕ)) (body : List ℕ) (s : State) → it ≡ Caller caller
+    → u ≡ account_of_claims (claims_of caller.token) → account ≡ account_found it s → reviewer ≡ reviewer_found it s → place ≡ place_of seeds u body s caller.wish
+    → ◌≡◌ {A = Found} (record { account = account; reviewer = reviewer; subject = place.subject; material = place.material }) (found_of seeds body it s)
 unfolding found_of
-caller_found it caller account reviewer place u seeds s is acts account_is reviews found = rw (found, acts, account_is, reviews, is) refl
+caller_found it caller account reviewer place u seeds body s is acts account_is reviews found = rw (found, acts, account_is, reviews, is) refl

@@ -1,5 +1,5 @@
 -- What holds of the records at all times holds after a change that is next.
-use Rattle.std.proofs.Common.{◌≡◌, ℕ, List, [], ◌∷◌, Bool, true, false, Option, None, Some, Result, Ok, Err, OnOk, refl, sym, ap, subst, length, arith, ◌/◌, map, ◌≤◌, ◌+◌}
+use Rattle.std.proofs.Common.{◌≡◌, ℕ, List, [], ◌∷◌, Bool, true, false, Option, None, Some, Result, Ok, Err, OnOk, refl, sym, ap, ◌∙◌, subst, length, arith, ◌/◌, map, ◌≤◌, ◌+◌}
 use Rattle.std.specs.Prelude.{option_map, option_and_then, is_some, filter, nat_lt, ◌==◌, ◌&&◌, if◌then◌else◌, ◌/◌}
 use Rattle.std.proofs.lemmas.Bool.Decides.{nat_tests}
 use Rattle.acvp_json.specs.Data.{Data}
@@ -16,10 +16,10 @@ use Rattle.acvp_policy.specs.declared.rule.Rule.TheVariants as rule
 use Rattle.acvp_answers.specs.declared.verdict.Verdict.{Verdict}
 use Rattle.acvp_tables.specs.Changes.{after, after_order, is_set}
 use Rattle.acvp_tables.specs.StateChanges.{after_state, after_order_state}
-use Rattle.acvp_tables.specs.Content.{Content, account_at, is_reviewer, live_sets, reviewers_of, session_at, set_at}
+use Rattle.acvp_tables.specs.Content.{Content, account_at, object_at, objects_of, request_at, is_reviewer, live_sets, reviewers_of, session_at, set_at}
 use Rattle.acvp_tables.specs.Counted.{IsCounted, IsNextCount, AreThere, has_passed, is_passed, one_if}
 use Rattle.acvp_tables.specs.Next.{IsNext, IsNextFor, IsNextOrder}
-use Rattle.acvp_tables.specs.State.{State, state_of, own, owner_of, session_record_at, record_counts, IsWellNumbered, IsSound, SetRecord, set_record, set_record_at, live_records, session_record}
+use Rattle.acvp_tables.specs.State.{State, state_of, objects_in, own, owner_of, session_record_at, record_counts, IsWellNumbered, IsSound, SetRecord, set_record, set_record_at, live_records, session_record}
 use Rattle.acvp_tables.specs.declared.change.Change.{Change}
 use Rattle.acvp_tables.specs.declared.change.Change.TheVariants as change
 use Rattle.acvp_tables.specs.declared.change.OrderChange.{OrderChange}
@@ -33,16 +33,28 @@ use Rattle.acvp_desk.specs.Bodies.{body_conditions, registration_rule, rule_of}
 use Rattle.acvp_desk.specs.NewSessions.{counts_in_material, has_number_left, new_session_in, newest_epoch, registration_in, session_made}
 use Rattle.acvp_desk.specs.Kept.{IsKept}
 use Rattle.acvp_desk.specs.Login.{step_of}
-use Rattle.acvp_desk.specs.Orders.{IsOrder, HasSecret, has_account, order_change as change_for, content_after_order, content_order_effect, state_after_order, order_effect}
+use Rattle.acvp_tables.specs.declared.rows.RequestRow.{RequestRow}
+use Rattle.acvp_desk.proofs.Approving.{approved_next, rejected_next}
+use Rattle.acvp_desk.specs.Orders.{approval, waiting_request, IsOrder, HasSecret, has_account, order_change as change_for, content_after_order, content_order_effect, state_after_order, order_effect}
 use Rattle.acvp_desk.specs.declared.ask.Ask.{Ask}
 use Rattle.acvp_desk.specs.declared.ask.Ask.TheVariants.{Login, Caller}
 use Rattle.acvp_desk.specs.declared.wish.SessionWish.{SessionWish}
 use Rattle.acvp_desk.specs.declared.wish.SessionWish.TheVariants.{Read, Cancel, Results, ListSets, ListReviewers, AddReviewer}
 use Rattle.acvp_desk.specs.declared.wish.Wish.{Wish}
-use Rattle.acvp_desk.specs.declared.wish.Wish.TheVariants.{Account, Algorithm, Session, Reviewer, Set, NewSession, CancelSet, ListSessions}
-use Rattle.acvp_desk.specs.OwnConditions.{session_conditions, wish_conditions}
-use Rattle.acvp_desk.specs.Place.{session_facts, set_outcomes, session_material, subject_of, material_of, reviewers_in_material}
-use Rattle.acvp_desk.specs.Replies.{cancelled_set, session_change, wish_change, set_change}
+use Rattle.acvp_desk.specs.declared.wish.Wish.TheVariants.{Account, Algorithm, Session, Reviewer, Set, NewSession, CancelSet, ListSessions, Certify, Registry}
+use Rattle.acvp_desk.specs.declared.wish.Registry.{Registry as RegistryOf}
+use Rattle.acvp_desk.specs.declared.wish.RegistryWish.{RegistryWish}
+use Rattle.acvp_desk.specs.declared.wish.RegistryWish.TheVariants as on_registry
+use Rattle.acvp_desk.specs.Asked.{asked_conditions, asked_in, certification_asked, certification_change, certification_conditions_on, certification_made, certified_conditions, certified_in, object_in, registered_conditions, registration_asked, registration_change, registration_conditions_on, request_made}
+use Rattle.acvp_desk.specs.Registries.{action_on_registry, kind_of}
+use Rattle.acvp_json.specs.declared.certify_body.CertifyBody.{CertifyBody}
+use Rattle.acvp_policy.specs.Resource.{resource_of}
+use Rattle.acvp_registry.specs.Object.{KeptObject}
+use Rattle.acvp_registry.specs.declared.kind.Kind.{Kind}
+use Rattle.acvp_tables.specs.declared.rows.ObjectRow.{ObjectRow}
+use Rattle.acvp_desk.specs.OwnConditions.{registry_conditions, session_conditions, wish_conditions}
+use Rattle.acvp_desk.specs.Place.{registry_material, session_facts, set_outcomes, session_material, subject_of, material_of, reviewers_in_material}
+use Rattle.acvp_desk.specs.Replies.{cancelled_set, registry_change, session_change, wish_change, set_change}
 use Rattle.acvp_desk.specs.Reviewers.{reviewer_at, has_room}
 use Rattle.acvp_desk.specs.Sets.{results_material, set_facts, set_material, set_source, verdicts_on_set}
 use Rattle.acvp_desk.specs.Wish.{action_of_wish, action_on_session, action_on_set}
@@ -58,7 +70,8 @@ use Rattle.acvp_desk.specs.declared.keys.Keys.{Keys}
 use Rattle.acvp_desk.specs.declared.order.Order.{Order}
 use Rattle.acvp_desk.specs.declared.order.Order.TheVariants as order
 use Rattle.acvp_desk.specs.Request.{RequestValue}
-use Rattle.acvp_desk.proofs.Allowing.{session_there, new_allowed, cancelled_there, set_there}
+use Rattle.acvp_desk.proofs.Allowing.{session_there, new_allowed, cancelled_there, set_there, certified_there, certification_enabled, certification_owned, registration_allowed}
+use Rattle.acvp_desk.proofs.Asking.{few_asked, next_certification, next_registration}
 use Rattle.acvp_desk.proofs.Answering.{holds}
 use Rattle.acvp_desk.proofs.Cancelling.{number_fits, next_count, graded_stay}
 use Rattle.acvp_desk.proofs.Judging.{back_held, first_held, whole_held}
@@ -97,6 +110,8 @@ module _ (follows : (c : Content) (it : Change) → state_of (after it c) ≡ af
     (live : (s : ℕ) (c : Content) → live_records s (state_of c).sets ≡ map set_record (live_sets s c.sets))
     (set_follows : (n : ℕ) (c : Content) → set_record_at n (state_of c).sets ≡ option_map set_record (set_at n c.sets))
     (session_follows : (n : ℕ) (c : Content) → session_record_at n (state_of c).sessions ≡ option_map session_record (session_at n c.sessions))
+    (objects : (u n : ℕ) (kind : Kind) (state : State) → IsWellNumbered state → object_at kind n (own u state).objects ≡ (if owner_of n == u then object_at kind n state.objects else None))
+    (names_object : (n : ℕ) (kind : Kind) (state : State) (row : ObjectRow) → IsWellNumbered state → object_at kind n state.objects ≡ Some row → row.account ≡ owner_of n)
     (names_set : (n : ℕ) (state : State) (row : SetRecord) → IsWellNumbered state → set_record_at n state.sets ≡ Some row → row.session ≡ n / 100)
     (differ : (k : KeptAnswers) (c : Content) → IsSound c → IsCounted c → (there : AreThere k.session k.set c)
     → k.passed + one_if (has_passed there.set_row.graded) ≡ there.row.passed + one_if (is_passed k.graded.disposition) → IsNextCount c (change.KeepAnswers k)) where
@@ -220,22 +235,79 @@ module _ (follows : (c : Content) (it : Change) → state_of (after it c) ≡ af
   set_kept seeds session n body f m on_set.Resubmit c names shows allowed kept =
       rw shows (submitted_kept once live set_follows session_follows names_set follows numbers counts differ seeds session n c kept body (rw (← names) (set_there on_set.Resubmit f allowed)))
 
+  -- where an object is asked to be registered
+  registration_kept : (seeds : List (List ℕ)) (of : RegistryOf) (u : ℕ) (bytes : List ℕ) (m : Material) (c : Content)
+      → m ≡ material.Asked (registration_asked (kind_of of) u bytes (state_of c)) → is_some (account_at u (state_of c).accounts) ≡ true
+      → first_broken (registration_conditions_on (kind_of of) bytes (asked_in m)) ≡ None
+      → IsKept seeds c → IsKept seeds (content_after (registration_change (kind_of of) u bytes (asked_in m)) c)
+  unfolding after
+  registration_kept seeds of u bytes m c shows there held kept = rw shows (go (object_in (kind_of of) bytes) refl)
+    where
+      fit : first_broken (asked_conditions (Some (registration_asked (kind_of of) u bytes (state_of c)))) ≡ None
+      fit = back_held (registered_conditions (kind_of of) bytes) (asked_conditions (Some (registration_asked (kind_of of) u bytes (state_of c)))) (rw shows at held)
+
+      go : (object : Option KeptObject) → object_in (kind_of of) bytes ≡ object
+          → IsKept seeds (content_after (option_map (λ object. change.NewRequest (request_made u (registration_asked (kind_of of) u bytes (state_of c)) object)) object) c)
+      go None e = kept
+      go (Some object) e =
+          simply_kept seeds (change.NewRequest (request_made u (registration_asked (kind_of of) u bytes (state_of c)) object)) c refl (
+            number_of u (registration_asked (kind_of of) u bytes (state_of c)).requests (few_asked (registration_asked (kind_of of) u bytes (state_of c)) fit),
+            next_registration accounts objects names_object (state_of c) kept.sound u (kind_of of) bytes object there e fit,
+          ) tt kept
+
+  -- where a session is asked to be certified
+  certification_kept : (seeds : List (List ℕ)) (u n : ℕ) (bytes : List ℕ) (m : Material) (c : Content)
+      → m ≡ material.Asked (certification_asked u bytes (state_of c)) → is_some (account_at u (state_of c).accounts) ≡ true → owner_of n ≡ u
+      → is_some (session_facts seeds (state_of c) n) ≡ true → first_broken (certification_conditions_on bytes (asked_in m)) ≡ None
+      → IsKept seeds c → IsKept seeds (content_after (certification_change u n bytes (asked_in m)) c)
+  unfolding after
+  certification_kept seeds u n bytes m c shows there owned found held kept = rw shows (go (certified_in bytes) refl)
+    where
+      fit : first_broken (asked_conditions (Some (certification_asked u bytes (state_of c)))) ≡ None
+      fit = back_held (certified_conditions bytes) (asked_conditions (Some (certification_asked u bytes (state_of c)))) (rw shows at held)
+
+      go : (parts : Option CertifyBody) → certified_in bytes ≡ parts
+          → IsKept seeds (content_after (option_map (λ parts. change.Certify (certification_made u n (certification_asked u bytes (state_of c)) parts)) parts) c)
+      go None e = kept
+      go (Some parts) e =
+          let next = next_certification accounts objects names_object (state_of c) kept.sound u sessions seeds bytes n parts there owned found e fit in
+          let numbered = number_of u (certification_asked u bytes (state_of c)).requests (few_asked (certification_asked u bytes (state_of c)) fit) in
+          simply_kept seeds (change.Certify (certification_made u n (certification_asked u bytes (state_of c)) parts)) c refl
+          ((sym owned, numbered), rw owned next) tt kept
+
+  registry_kept : (seeds : List (List ℕ)) (u : ℕ) (bytes : List ℕ) (f : Facts) (m : Material) (it : RegistryWish) (c : Content)
+      → m ≡ registry_material u bytes (state_of c) it → (is_enabled f.standing ≡ true → is_some (account_at u (state_of c).accounts) ≡ true)
+      → first_broken (policy (action_on_registry it) f) ≡ None → first_broken (registry_conditions bytes m it) ≡ None
+      → IsKept seeds c → IsKept seeds (content_after (registry_change u bytes m it) c)
+  registry_kept seeds u bytes f m (on_registry.Read of n) c shows acts allowed held kept = kept
+  registry_kept seeds u bytes f m (on_registry.New of) c shows acts allowed held kept =
+      registration_kept seeds of u bytes m c shows (acts (registration_allowed of f allowed).1) held kept
+  registry_kept seeds u bytes f m (on_registry.List of page) c shows acts allowed held kept = kept
+  registry_kept seeds u bytes f m (on_registry.ReadRequest n) c shows acts allowed held kept = kept
+  registry_kept seeds u bytes f m (on_registry.ListRequests page) c shows acts allowed held kept = kept
+
   wish_kept : (keys : Keys) (m u : ℕ) (r : RequestValue) (f : Facts) (found : Found) (it : Wish) (c : Content)
-      → f.subject ≡ subject_of keys.seed (state_of c) it → found.material ≡ material_of keys.seed u (state_of c) it
+      → f.subject ≡ subject_of keys.seed u (state_of c) it → found.material ≡ material_of keys.seed u r.body (state_of c) it
+      → u ≡ account_of_claims (claims_of f.token)
       → (is_enabled f.standing ≡ true → is_some (account_at u (state_of c).accounts) ≡ true) → nat_lt m end_of_moments ≡ true
       → first_broken (policy (action_of_wish it) f) ≡ None → first_broken (wish_conditions keys.seed r found it) ≡ None
       → IsKept keys.seed c → IsKept keys.seed (content_after (wish_change keys.seed m u r found it) c)
-  wish_kept keys m u r f found (Account it) c names shows acts served allowed held kept = kept
-  wish_kept keys m u r f found (Algorithm n) c names shows acts served allowed held kept = kept
-  wish_kept keys m u r f found (Session n it) c names shows acts served allowed held kept = session_kept keys.seed n r f found it c (ap session_found names) shows allowed held kept
-  wish_kept keys m u r f found (Reviewer n a) c names shows acts served allowed held kept = removed_kept keys.seed (record { session = n; account = a }) c kept
-  wish_kept keys m u r f found (Set session n it) c names shows acts served allowed held kept =
+  wish_kept keys m u r f found (Account it) c names shows own acts served allowed held kept = kept
+  wish_kept keys m u r f found (Algorithm n) c names shows own acts served allowed held kept = kept
+  wish_kept keys m u r f found (Session n it) c names shows own acts served allowed held kept = session_kept keys.seed n r f found it c (ap session_found names) shows allowed held kept
+  wish_kept keys m u r f found (Reviewer n a) c names shows own acts served allowed held kept = removed_kept keys.seed (record { session = n; account = a }) c kept
+  wish_kept keys m u r f found (Set session n it) c names shows own acts served allowed held kept =
       set_kept keys.seed session n r.body f found.material it c (ap set_found names) shows allowed kept
-  wish_kept keys m u r f found NewSession c names shows acts served allowed held kept = new_kept keys.seed m u r found c shows (acts (new_allowed f allowed).1) served held kept
-  wish_kept keys m u r f found (CancelSet session n) c names shows acts served allowed held kept =
+  wish_kept keys m u r f found NewSession c names shows own acts served allowed held kept = new_kept keys.seed m u r found c shows (acts (new_allowed f allowed).1) served held kept
+  wish_kept keys m u r f found (CancelSet session n) c names shows own acts served allowed held kept =
       rw shows (left_kept keys.seed session n c
       (number_fits names_set (session_facts keys.seed (state_of c) session) session n (state_of c) kept.sound (rw names at (cancelled_there f allowed))) kept)
-  wish_kept keys m u r f found (ListSessions page) c names shows acts served allowed held kept = kept
+  wish_kept keys m u r f found (ListSessions page) c names shows own acts served allowed held kept = kept
+  wish_kept keys m u r f found (Certify n) c names shows own acts served allowed held kept =
+      certification_kept keys.seed u n r.body found.material c shows (acts (certification_enabled f allowed))
+      (certification_owned f n (ap resource_of names) allowed ∙ sym own) (rw (names) at (certified_there f allowed)) held kept
+  wish_kept keys m u r f found (Registry it) c names shows own acts served allowed held kept =
+      registry_kept keys.seed u r.body f found.material it c shows acts allowed held kept
 
   -- an account that is enabled is there
   acts_there : (caller : CallerAsk) (state : State) → is_enabled (standing_of (account_found (Caller caller) state)) ≡ true
@@ -259,10 +331,10 @@ module _ (follows : (c : Content) (it : Change) → state_of (after it c) ≡ af
   by_answer keys m r c (Err rule) it held kept = kept
   by_answer keys m r c (Ok reply) None held kept = kept
   by_answer keys m r c (Ok reply) (Some (Caller caller)) held kept =
-      let found = found_of keys.seed (Caller caller) (state_of c) in
+      let found = found_of keys.seed r.body (Caller caller) (state_of c) in
       let front = policy_conditions m (Caller caller) found in
       let rest = wish_conditions keys.seed r found caller.wish in
-      wish_kept keys m (account_of_claims (claims_of caller.token)) r (facts_from m (Caller caller) found) found caller.wish c refl refl (acts_there caller (state_of c)) (held.0)
+      wish_kept keys m (account_of_claims (claims_of caller.token)) r (facts_from m (Caller caller) found) found caller.wish c refl refl refl (acts_there caller (state_of c)) (held.0)
       (whole_held front rest held.1) (back_held front rest held.1) kept
   by_answer keys m r c (Ok reply) (Some (Login login)) held kept = found_kept keys.seed m login c (option_and_then (λ n. account_at n (state_of c).accounts) login.user) kept
 
@@ -278,7 +350,10 @@ none_kept n (r ∷ rows) none = grind (arith, nat_tests, none, none_kept n rows)
 
 module _ (follows : (c : Content) (it : OrderChange) → state_of (after_order it c) ≡ after_order_state it (state_of c))
     (numbers : (it : OrderChange) (state : State) → IsWellNumbered state → IsNextOrder state it → IsWellNumbered (after_order_state it state))
-    (counts : (it : OrderChange) (c : Content) → IsCounted c → IsCounted (after_order it c)) where
+    (counts : (it : OrderChange) (c : Content) → IsCounted c → IsCounted (after_order it c))
+    (requests : (u n : ℕ) (state : State) → IsWellNumbered state → request_at n (own u state).requests ≡ (if owner_of n == u then request_at n state.requests else None))
+    (names : (n : ℕ) (state : State) (row : RequestRow) → IsWellNumbered state → request_at n state.requests ≡ Some row → row.account ≡ owner_of n)
+    (objects : (u : ℕ) (kind : Kind) (state : State) → objects_in kind (own u state).objects ≡ objects_of kind u state.objects) where
   changed_kept : (seeds : List (List ℕ)) (it : OrderChange) (c : Content) → IsKept seeds c → IsNextOrder (state_of c) it → IsKept seeds (after_order it c)
   unfolding after_order
   changed_kept seeds it c kept next = record {
@@ -301,5 +376,13 @@ module _ (follows : (c : Content) (it : OrderChange) → state_of (after_order i
       go : (b : Bool) → IsKept seeds (content_after_order (if b then Some (order_change.DisableAccount a) else None) c)
       go true = changed_kept seeds (order_change.DisableAccount a) c kept tt
       go false = kept
-  order_kept seeds (order.ApproveRequest n) c is has kept = kept
-  order_kept seeds (order.RejectRequest n) c is has kept = kept
+  order_kept seeds (order.ApproveRequest n) c is has kept = go (waiting_request n (state_of c)) refl
+    where
+      go : (found : Option RequestRow) → waiting_request n (state_of c) ≡ found → IsKept seeds (content_after_order (option_map (approval (state_of c) n) found) c)
+      go None e = kept
+      go (Some row) e = changed_kept seeds (approval (state_of c) n row) c kept (approved_next requests names objects (state_of c) kept.sound n row e)
+  order_kept seeds (order.RejectRequest n) c is has kept = go (waiting_request n (state_of c)) refl
+    where
+      go : (found : Option RequestRow) → waiting_request n (state_of c) ≡ found → IsKept seeds (content_after_order (option_map (λ row. order_change.Reject n) found) c)
+      go None e = kept
+      go (Some row) e = changed_kept seeds (order_change.Reject n) c kept (rejected_next requests names objects (state_of c) kept.sound n row e)

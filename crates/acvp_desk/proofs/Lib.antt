@@ -3,9 +3,11 @@ pub mod LoginLemmas
 pub mod Deciding
 pub mod Reviewing
 pub mod Registering
+pub mod Asking
 pub mod Answering
 pub mod Serving
 pub mod Ordering
+pub mod Approving
 pub mod Keeping
 pub mod Naming
 pub mod Passing

@@ -1,14 +1,14 @@
 -- A session has passed exactly where its counters say so.
-use Rattle.std.proofs.Common.{◌≡◌, ◌≤◌, ℕ, suc, List, [], ◌∷◌, map, length, filter, find, Bool, true, false, ◌&&◌, ◌==◌, nat_le, Option, None, Some, refl, sym, ap, ◌∙◌, subst, arith}
-use Rattle.std.specs.Prelude.{slice_get, option_map, IfSome}
+use Rattle.std.proofs.Common.{◌≡◌, ◌≤◌, ℕ, suc, List, [], ◌∷◌, map, length, find, Bool, true, false, ◌&&◌, ◌==◌, nat_le, Option, None, Some, refl, sym, ap, ◌∙◌, arith}
+use Rattle.std.specs.Prelude.{option_map, IfSome}
 use Rattle.std.specs.List.{All, list_all}
 use Rattle.std.proofs.lemmas.Bool.Decides.{nat_tests}
 use Rattle.std.proofs.lemmas.List.Elements.{All-head, All-tail}
 use Rattle.acvp_policy.specs.Conditions.{is_some_and}
 use Rattle.acvp_tables.specs.Content.{Content, is_live_in, live_sets, session_at, set_summary}
-use Rattle.acvp_tables.specs.Counted.{IsCounted, is_counted, is_passed, is_passed_in, has_passed, live_count, passed_count}
+use Rattle.acvp_tables.specs.Counted.{is_counted, is_passed, has_passed, live_count, passed_count}
 use Rattle.acvp_tables.specs.Graded.{GradedValue}
-use Rattle.acvp_tables.specs.State.{State, state_of, set_record, SetRecord, live_records}
+use Rattle.acvp_tables.specs.State.{state_of, set_record, live_records}
 use Rattle.acvp_tables.specs.declared.rows.SessionRow.{SessionRow}
 use Rattle.acvp_tables.specs.declared.rows.SetRow.{SetRow}
 use Rattle.acvp_tables.specs.declared.summary.SetSummary.{SetSummary}

@@ -1,14 +1,13 @@
 -- A new test session is next, and the grant of its action is leave for it.
-use Rattle.std.proofs.Common.{◌≡◌, ℕ, zero, suc, ◌+◌, ◌*◌, ◌≤◌, ◌<◌, List, [], ◌∷◌, ◌++◌, map, Bool, true, false, Option, None, Some, refl, sym, ap, ◌∙◌, length, arith}
+use Rattle.std.proofs.Common.{◌≡◌, ℕ, zero, suc, ◌+◌, ◌*◌, ◌≤◌, List, [], ◌∷◌, ◌++◌, map, Bool, true, false, Option, None, Some, refl, ap, length, arith}
 use Rattle.std.proofs.lemmas.Bool.Decides.{nat_tests}
 use Rattle.std.proofs.lemmas.List.Elements.{All-nil, All-cons, All-append}
-use Rattle.std.specs.Prelude.{◌/◌, ◌&&◌, ◌==◌, All, nat_le, nat_lt, not, codes, is_some, option_map, option_and_then, unwrap_or, if◌then◌else◌, slice_get}
+use Rattle.std.specs.Prelude.{◌&&◌, ◌==◌, All, nat_le, nat_lt, not, codes, is_some, option_map, option_and_then, unwrap_or, if◌then◌else◌, slice_get}
 use Rattle.std.specs.List.{filter_map, flat_map, range_with_len}
 use Rattle.acvp_caps.specs.Capability.{CapabilityValue}
 use Rattle.acvp_caps.specs.Json.{is_text, text_at}
 use Rattle.acvp_caps.specs.Registered.{algorithm_at, algorithm_conditions, capabilities_at, capability_at, capability_conditions, encryption_at, registration_at, registration_conditions, sample_at}
 use Rattle.acvp_caps.specs.Registration.{RegistrationValue}
-use Rattle.acvp_caps.specs.declared.CapFault.{CapFault}
 use Rattle.acvp_caps.specs.declared.CapFault.TheVariants as cap
 use Rattle.acvp_json.specs.Data.{Data}
 use Rattle.acvp_json.specs.Envelope.{envelope_conditions, object_of}
@@ -16,13 +15,11 @@ use Rattle.acvp_mac.specs.Conditions.{Condition, first_broken, with_fault}
 use Rattle.acvp_policy.specs.Granted.{Granted}
 use Rattle.acvp_policy.specs.declared.action.Action.TheVariants as action
 use Rattle.acvp_policy.specs.declared.resource.Resource.TheVariants as resource
-use Rattle.acvp_policy.specs.declared.rule.Rule.{Rule}
 use Rattle.acvp_tables.specs.Changes.{new_sets}
 use Rattle.acvp_tables.specs.Content.{account_at}
 use Rattle.acvp_tables.specs.Next.{IsNextFor}
 use Rattle.acvp_tables.specs.State.{State, own, owner_of, first_of_account, is_account_there, record_counts}
 use Rattle.acvp_tables.specs.declared.change.Change.TheVariants as change
-use Rattle.acvp_tables.specs.declared.rows.AccountRow.{AccountRow}
 use Rattle.acvp_tables.specs.declared.rows.SetRow.{SetRow}
 use Rattle.acvp_tables.specs.declared.summary.Counts.{Counts}
 use Rattle.acvp_desk.specs.Answer.{CoversAny}
@@ -34,7 +31,7 @@ use Rattle.acvp_desk.proofs.Judging.{back_held, first_held, whole_held}
 
 -- ---- what is registered
 
-renamed_held : {F G : Type 0} (told : F → G) (conditions : List (Condition F)) → first_broken (map (with_fault told) conditions) ≡ None → first_broken conditions ≡ None
+pub renamed_held : {F G : Type 0} (told : F → G) (conditions : List (Condition F)) → first_broken (map (with_fault told) conditions) ≡ None → first_broken conditions ≡ None
 renamed_held told [] held = refl
 renamed_held {F = F} told (c ∷ conditions) held = go c.0 (renamed_held told conditions) held
   where
@@ -43,11 +40,11 @@ renamed_held {F = F} told (c ∷ conditions) held = go c.0 (renamed_held told co
     go true later e = later e
     go false later e = absurd (cc)
 
-left_true : (a b : Bool) → (a && b) ≡ true → a ≡ true
+pub left_true : (a b : Bool) → (a && b) ≡ true → a ≡ true
 left_true true b e = refl
 left_true false b e = absurd (cc)
 
-right_true : (a b : Bool) → (a && b) ≡ true → b ≡ true
+pub right_true : (a b : Bool) → (a && b) ≡ true → b ≡ true
 right_true true b e = e
 right_true false b e = absurd (cc)
 

@@ -1,14 +1,14 @@
 -- A reviewer that is added is next, and the list that is told is the one after it.
-use Rattle.std.proofs.Common.{◌≡◌, ℕ, zero, suc, ◌+◌, ◌≤◌, ◌<◌, List, [], ◌∷◌, Bool, true, false, Option, None, Some, refl, sym, ap, ◌∙◌, length, filter, arith}
+use Rattle.std.proofs.Common.{◌≡◌, ℕ, ◌≤◌, ◌<◌, List, [], ◌∷◌, Bool, true, false, Option, None, Some, refl, ◌∙◌, length, filter, arith}
 use Rattle.std.proofs.lemmas.Bool.Decides.{nat_tests}
-use Rattle.std.specs.Prelude.{◌++◌, ◌==◌, ◌||◌, ◌&&◌, not, nat_le, nat_lt, codes, is_some, option_map, option_and_then, if◌then◌else◌}
+use Rattle.std.specs.Prelude.{◌==◌, ◌||◌, ◌&&◌, nat_le, nat_lt, codes, is_some, option_map, option_and_then, if◌then◌else◌}
 use Rattle.std.specs.List.{list_all, list_any}
 use Rattle.acvp_json.specs.Data.{Data}
 use Rattle.acvp_json.specs.Envelope.{object_of}
 use Rattle.acvp_json.specs.Members.{number_at}
 use Rattle.acvp_json.specs.ReviewerBody.{reviewer_body_of, account_number}
 use Rattle.acvp_tables.specs.Content.{is_reviewer, account_numbers, reviewers_of}
-use Rattle.acvp_tables.specs.Next.{IsNextFor, has_room as has_room_there}
+use Rattle.acvp_tables.specs.Next.{IsNextFor}
 use Rattle.acvp_tables.specs.State.{State, SessionRecord, own, owner_of, session_record_at, is_account_number, IsWellNumbered}
 use Rattle.acvp_tables.specs.declared.change.Change.TheVariants as change
 use Rattle.acvp_tables.specs.declared.rows.ReviewerRow.{ReviewerRow}
@@ -55,7 +55,7 @@ named_account body a is = go (object_of body) is
     go None e = absurd (cc)
     go (Some d) e = at (number_at (codes "account") d) e
 
-own_session : (seeds : List (List ℕ)) (n : ℕ) (state : State) (mine : Option SessionRecord)
+pub own_session : (seeds : List (List ℕ)) (n : ℕ) (state : State) (mine : Option SessionRecord)
     → mine ≡ (if owner_of n == owner_of n then session_record_at n state.sessions else None) → is_some (session_facts seeds state n) ≡ true → is_some mine ≡ true
 unfolding session_facts
 own_session seeds n state mine is there =

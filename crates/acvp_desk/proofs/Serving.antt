@@ -49,7 +49,7 @@ module _ {T : Type 0} (stands : T → Content → Type 0) (is_live is_clean : T 
   pub refused_caller : m < end_of_moments → (it : Ask) → first_broken (first_conditions m r) ≡ None → ask_of keys m r ≡ Some it → (old mid : T) (told : Rule) {X : Type 0}
       → Looks stands is_live is_clean leaves {X = X} {E = Rule} (Err told) old mid
       → (told ≡ rule.Unavailable) ⊎ ((is_clean mid → is_live old → is_live mid)
-      × (is_live mid → (seeds : List (List ℕ)) (c : Content) → IsKept seeds c → stands old c → first_broken (policy_conditions m it (found_of seeds it (state_of c))) ≡ Some told))
+      × (is_live mid → (seeds : List (List ℕ)) (c : Content) → IsKept seeds c → stands old c → first_broken (policy_conditions m it (found_of seeds r.body it (state_of c))) ≡ Some told))
       → Serves stands is_live is_clean leaves (Err told) old mid keys m r
   refused_caller served it held asked old mid told looks why = record {
     was_live = looks.was_live;
@@ -60,8 +60,8 @@ module _ {T : Type 0} (stands : T → Content → Type 0) (is_live is_clean : T 
     denied = λ live c kept h.
         elim why [
           | inl fault ↦ inl fault
-          | inr refusal ↦ inr (refused_later keys m r (state_of c) it held asked (found_of keys.seed it (state_of c)) refl told
-              (front_broken (policy_conditions m it (found_of keys.seed it (state_of c))) (own_conditions keys.seed r it (found_of keys.seed it (state_of c))) told (refusal.1 live keys.seed c kept h)))
+          | inr refusal ↦ inr (refused_later keys m r (state_of c) it held asked (found_of keys.seed r.body it (state_of c)) refl told
+              (front_broken (policy_conditions m it (found_of keys.seed r.body it (state_of c))) (own_conditions keys.seed r it (found_of keys.seed r.body it (state_of c))) told (refusal.1 live keys.seed c kept h)))
         ];
     same = λ live c h. looks.same live c h;
     settled = tt;
@@ -72,7 +72,7 @@ module _ {T : Type 0} (stands : T → Content → Type 0) (is_live is_clean : T 
 
   module _ (served : m < end_of_moments) (it : Ask) (held : first_broken (first_conditions m r) ≡ None) (asked : ask_of keys m r ≡ Some it) (old mid : T) (f : Found) {E : Type 0}
       (looks : Looks stands is_live is_clean leaves {X = Found} {E = E} (Ok f) old mid)
-      (finds : is_live mid → (seeds : List (List ℕ)) (c : Content) → IsKept seeds c → stands old c → f ≡ found_of seeds it (state_of c)) where
+      (finds : is_live mid → (seeds : List (List ℕ)) (c : Content) → IsKept seeds c → stands old c → f ≡ found_of seeds r.body it (state_of c)) where
     -- refused on what was found
     pub refused : (told : Rule) → (told ≡ rule.Unavailable) ⊎ (first_broken (later_conditions keys.seed m r it f) ≡ Some told)
         → Serves stands is_live is_clean leaves (Err told) old mid keys m r

@@ -1,12 +1,10 @@
 -- What is read of a vector set for a submission, and that the records are kept right where its answers are kept.
 use Rattle.std.proofs.Common.{◌≡◌, ◌≤◌, ℕ, ◌+◌, List, [], ◌∷◌, map, length, filter, find, Bool, true, false, ◌&&◌, ◌==◌, Option, None, Some, refl, sym, ap, ◌∙◌, subst, arith}
-use Rattle.std.specs.Prelude.{◌/◌, not, slice_get, option_map, option_and_then, is_some, if◌then◌else◌}
+use Rattle.std.specs.Prelude.{◌/◌, not, option_map, option_and_then, is_some, if◌then◌else◌}
 use Rattle.std.specs.List.{All}
 use Rattle.std.proofs.lemmas.Bool.Decides.{nat_tests}
-use Rattle.std.proofs.lemmas.List.Elements.{All-cons, All-head, All-nil, All-tail}
+use Rattle.std.proofs.lemmas.List.Elements.{All-cons, All-head, All-tail}
 use Rattle.acvp_answers.specs.Answer.{Answer}
-use Rattle.acvp_answers.specs.Standards.{standard_of}
-use Rattle.acvp_answers.specs.Verdicts.{verdicts_of}
 use Rattle.acvp_caps.specs.Capability.{CapabilityValue}
 use Rattle.acvp_gen.specs.Prompt.{PromptsValue}
 use Rattle.acvp_gen.specs.Prompts.{prompts_of}
@@ -14,7 +12,7 @@ use Rattle.acvp_policy.specs.Conditions.{is_some_and}
 use Rattle.acvp_policy.specs.declared.facts.SessionFacts.{SessionFacts}
 use Rattle.acvp_tables.specs.Changes.{after, changed, is_set, with_graded}
 use Rattle.acvp_tables.specs.Content.{Content, is_live_in, live_sets, session_at, set_at, set_summary}
-use Rattle.acvp_tables.specs.Counted.{AreThere, IsCounted, IsNextCount, is_counted, is_passed, is_passed_in, has_passed, one_if, live_count, passed_count}
+use Rattle.acvp_tables.specs.Counted.{AreThere, IsCounted, IsNextCount, is_counted, is_passed, is_passed_in, has_passed, one_if, passed_count}
 use Rattle.acvp_tables.specs.Graded.{GradedValue}
 use Rattle.acvp_tables.specs.Next.{IsNext}
 use Rattle.acvp_tables.specs.State.{State, SetRecord, state_of, session_record, session_record_at, set_record, set_record_at, live_records, IsSound, IsWellNumbered}
@@ -25,7 +23,7 @@ use Rattle.acvp_tables.specs.declared.change.KeptAnswers.{KeptAnswers}
 use Rattle.acvp_tables.specs.declared.rows.SessionRow.{SessionRow}
 use Rattle.acvp_tables.specs.declared.rows.SetRow.{SetRow}
 use Rattle.acvp_tables.specs.declared.summary.SetSummary.{SetSummary}
-use Rattle.acvp_desk.specs.Kept.{IsGradedSet, IsGraded, IsKept}
+use Rattle.acvp_desk.specs.Kept.{IsGradedSet, IsKept}
 use Rattle.acvp_desk.specs.Answer.{content_after}
 use Rattle.acvp_desk.specs.Place.{facts_of_session, session_facts}
 use Rattle.acvp_desk.specs.Replies.{answers_change, prompts_from, set_change}

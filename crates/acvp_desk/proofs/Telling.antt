@@ -1,8 +1,8 @@
 -- The list that is told to who adds or removes a reviewer is the list of reviewers after the change.
 use Rattle.std.proofs.Common.{◌≡◌, ℕ, zero, suc, ◌+◌, ◌≤◌, ◌<◌, List, [], ◌∷◌, Bool, true, false, refl, sym, ap, ◌∙◌, filter, arith}
 use Rattle.std.proofs.lemmas.Bool.Decides.{nat_tests}
-use Rattle.std.specs.Prelude.{◌++◌, ◌==◌, ◌||◌, ◌&&◌, not, nat_lt, nat_le, if◌then◌else◌}
-use Rattle.std.specs.List.{list_any, range_with_len}
+use Rattle.std.specs.Prelude.{◌++◌, ◌==◌, ◌||◌, ◌&&◌, not, nat_lt, if◌then◌else◌}
+use Rattle.std.specs.List.{range_with_len}
 use Rattle.acvp_tables.specs.Changes.{is_pair, with_reviewer}
 use Rattle.acvp_tables.specs.Content.{is_reviewer, account_numbers, reviewers_of}
 use Rattle.acvp_tables.specs.State.{is_account_number}

@@ -51,7 +51,7 @@ end_of_moments = 4102444800
 
 -- ---- what is asked
 
--- the conditions on the body that are looked at before a row is: those on a login's. What has no case yet has no route
+-- the conditions on the body that are looked at before a row is: those on a login's. Each other action asks something
 abbrev pub first_conditions_on : Action → RequestValue → List (Condition Rule)
 first_conditions_on action.Login r = body_conditions rule_of login_body_conditions r.body
 first_conditions_on a r = (is_some (wish_of a r.numbers r.query), rule.NoRoute) ∷ []
@@ -94,13 +94,14 @@ abbrev pub reviewer_found : Ask → State → Bool
 reviewer_found (ask.Login login) state = false
 reviewer_found (ask.Caller caller) state = reviewed caller.wish (account_of_claims (claims_of caller.token)) state
 
-unfoldable pub found_of : List (List ℕ) → Ask → State → Found
-found_of seeds (ask.Login login) state = unfound_of (ask.Login login) (account_found (ask.Login login) state) (reviewer_found (ask.Login login) state)
-found_of seeds (ask.Caller caller) state = record {
+-- by the body, too, where it names rows
+unfoldable pub found_of : List (List ℕ) → List ℕ → Ask → State → Found
+found_of seeds body (ask.Login login) state = unfound_of (ask.Login login) (account_found (ask.Login login) state) (reviewer_found (ask.Login login) state)
+found_of seeds body (ask.Caller caller) state = record {
   account = account_found (ask.Caller caller) state;
   reviewer = reviewer_found (ask.Caller caller) state;
-  subject = subject_of seeds state caller.wish;
-  material = material_of seeds (account_of_claims (claims_of caller.token)) state caller.wish;
+  subject = subject_of seeds (account_of_claims (claims_of caller.token)) state caller.wish;
+  material = material_of seeds (account_of_claims (claims_of caller.token)) body state caller.wish;
 }
 
 abbrev pub standing_of : Option AccountRow → Standing
@@ -165,7 +166,7 @@ change_of keys moment r (ask.Caller caller) found = wish_change keys.seed moment
 
 abbrev pub later_of : List (List ℕ) → ℕ → RequestValue → Option Ask → State → List (Condition Rule)
 later_of seeds moment r None state = []
-later_of seeds moment r (Some it) state = later_conditions seeds moment r it (found_of seeds it state)
+later_of seeds moment r (Some it) state = later_conditions seeds moment r it (found_of seeds r.body it state)
 
 -- all conditions, in their order
 abbrev pub conditions : Keys → ℕ → RequestValue → State → List (Condition Rule)
@@ -173,7 +174,7 @@ conditions keys moment r state = first_conditions moment r ++ later_of keys.seed
 
 abbrev pub reply_to : Keys → ℕ → RequestValue → Option Ask → State → Option Data
 reply_to keys moment r None state = None
-reply_to keys moment r (Some it) state = reply_of keys moment r it (found_of keys.seed it state)
+reply_to keys moment r (Some it) state = reply_of keys moment r it (found_of keys.seed r.body it state)
 
 -- the rule of the first condition that doesn't hold, or the object of the reply
 unfoldable pub answer : Keys → ℕ → RequestValue → State → Result (Option Data) Rule
@@ -183,7 +184,7 @@ answer keys moment r state = judged (conditions keys moment r state) (reply_to k
 
 abbrev pub change_by : Keys → ℕ → RequestValue → Option Ask → State → Option Change
 change_by keys moment r None state = None
-change_by keys moment r (Some it) state = change_of keys moment r it (found_of keys.seed it state)
+change_by keys moment r (Some it) state = change_of keys moment r it (found_of keys.seed r.body it state)
 
 -- the change of a request that is accepted
 abbrev pub change_on : Result (Option Data) Rule → Option Change → Option Change

@@ -9,6 +9,8 @@ use Rattle.acvp_json.specs.declared.fault.BodyFault.{BodyFault}
 use Rattle.acvp_json.specs.declared.fault.BodyFault.TheVariants as fault
 use Rattle.acvp_policy.specs.declared.rule.Rule.{Rule}
 use Rattle.acvp_policy.specs.declared.rule.Rule.TheVariants as rule
+use Rattle.acvp_registry.specs.declared.fault.RegFault.{RegFault}
+use Rattle.acvp_registry.specs.declared.fault.RegFault.TheVariants as reg
 
 -- the rule of a body's fault
 abbrev pub rule_of : BodyFault → Rule
@@ -28,6 +30,12 @@ registration_rule cap.NotByteOriented = rule.NotByteOriented
 registration_rule cap.OutOfRange = rule.LengthOutOfRange
 registration_rule cap.Unsupported = rule.Unsupported
 registration_rule cap.Memory = rule.Unavailable
+
+-- the rule of the fault of an object that is to be registered
+abbrev pub object_rule : RegFault → Rule
+object_rule reg.Field = rule.BodyField
+object_rule reg.NoReference = rule.NoReference
+object_rule reg.Memory = rule.Unavailable
 
 -- what is asked of the object of a body, where there is one
 abbrev pub object_conditions : {F : Type 0} → (Data → List (Condition F)) → Option Data → List (Condition F)

@@ -7,6 +7,8 @@ pub mod Submissions
 pub mod Place
 pub mod Reviewers
 pub mod NewSessions
+pub mod Registries
+pub mod Asked
 pub mod Replies
 pub mod OwnConditions
 pub mod Answer
@@ -14,6 +16,7 @@ pub mod Kept
 pub mod Serves
 pub mod Desk
 pub mod Orders
+pub mod Private
 pub mod Errors
 pub mod Cached
 pub mod CacheValue

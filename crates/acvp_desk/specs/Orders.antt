@@ -1,15 +1,24 @@
 -- The operator's orders: what each is answered, and what it changes.
-use Rattle.std.specs.Prelude.{◌≡◌, ℕ, length, Bool, true, Option, Some, None, is_some, if◌then◌else◌, ⊤}
+use Rattle.std.specs.Prelude.{◌≡◌, ℕ, ◌+◌, length, Bool, true, false, Option, Some, None, option_map, option_and_then, is_some, if◌then◌else◌, ⊤}
 use Rattle.acvp_tables.specs.Changes.{after_order}
-use Rattle.acvp_tables.specs.Content.{Content, account_at}
-use Rattle.acvp_tables.specs.State.{State, is_account_number, state_of, IsSound}
+use Rattle.acvp_registry.specs.declared.kind.Kind.{Kind}
+use Rattle.acvp_registry.specs.declared.kind.Kind.TheVariants.{Vendor, Module, Environment, Certification}
+use Rattle.acvp_tables.specs.Content.{Content, account_at, request_at, subject_of}
+use Rattle.acvp_tables.specs.State.{State, first_of_account, is_account_number, record_counts, state_of, IsSound}
 use Rattle.acvp_tables.specs.StateChanges.{after_order_state}
 use Rattle.acvp_tables.specs.declared.change.OrderChange.{OrderChange}
 use Rattle.acvp_tables.specs.declared.tables.StoreFault.{StoreFault}
 use Rattle.acvp_tables.specs.declared.change.OrderChange.TheVariants as change
+use Rattle.acvp_tables.specs.declared.rows.RequestRow.{RequestRow}
+use Rattle.acvp_tables.specs.declared.rows.RequestStatus.{RequestStatus}
+use Rattle.acvp_tables.specs.declared.rows.RequestStatus.TheVariants as status
+use Rattle.acvp_tables.specs.declared.summary.Counts.{Counts}
+use Rattle.acvp_tables.specs.declared.summary.RequestSubject.{RequestSubject}
+use Rattle.acvp_tables.specs.declared.summary.RequestSubject.TheVariants as asks
 use Rattle.acvp_desk.specs.declared.order.Order.{Order}
 use Rattle.acvp_desk.specs.declared.order.Order.TheVariants as order
 use Rattle.acvp_desk.specs.declared.order.OrderReply.{OrderReply}
+use Rattle.acvp_desk.specs.Registries.{kind_asked}
 use Rattle.acvp_desk.specs.declared.order.OrderReply.TheVariants.{Done, Taken, Unknown, NotInitial, Unavailable}
 
 -- the account that is named has a number from 1 to 9999
@@ -27,20 +36,64 @@ HasSecret _ = ⊤
 abbrev pub has_account : ℕ → State → Bool
 has_account account state = is_some (account_at account state.accounts)
 
--- what an order is answered. What has no case yet knows no request
+-- ---- requests
+
+-- the operator hasn't decided yet
+abbrev pub is_initial : RequestStatus → Bool
+is_initial status.Initial = true
+is_initial (status.Approved n) = false
+is_initial status.Rejected = false
+
+-- how many objects of a kind an account has; a certification registers none
+abbrev pub count_of : Kind → Counts → ℕ
+count_of Vendor n = n.vendors
+count_of Module n = n.modules
+count_of Environment n = n.environments
+count_of Certification n = 0
+
+-- the number that an approval gives: the account's next of the kind, or that of the session that is certified
+abbrev pub approved_as : State → ℕ → RequestSubject → ℕ
+approved_as state account (asks.Registration kind) = first_of_account account + count_of kind (record_counts account state)
+approved_as state account (asks.Certification c) = c.session
+
+abbrev pub approved_number : State → RequestRow → ℕ
+approved_number state row = approved_as state row.account (subject_of row.body)
+
+-- with the kind of what is approved
+abbrev pub approved_reply : State → RequestRow → OrderReply
+approved_reply state row = Done (Some (kind_asked (subject_of row.body), approved_number state row))
+
+-- a request that isn't there is unknown, and one that was decided isn't decided again
+abbrev pub on_request : (RequestRow → OrderReply) → Option RequestRow → OrderReply
+on_request decide None = Unknown
+on_request decide (Some row) = if is_initial row.status then decide row else NotInitial
+
+abbrev pub if_initial : RequestRow → Option RequestRow
+if_initial row = if is_initial row.status then Some row else None
+
+-- the request of a number that waits for the operator's decision
+abbrev pub waiting_request : ℕ → State → Option RequestRow
+waiting_request n state = option_and_then if_initial (request_at n state.requests)
+
+abbrev pub approval : State → ℕ → RequestRow → OrderChange
+approval state n row = change.Approve (record { request = n; approved = approved_number state row })
+
+-- ---- each order
+
+-- what it is answered
 unfoldable pub order_reply : Order → State → OrderReply
 order_reply (order.AddAccount account secret) state = if has_account account state then Taken else Done None
 order_reply (order.DisableAccount account) state = if has_account account state then Done None else Unknown
-order_reply (order.ApproveRequest request) state = Unknown
-order_reply (order.RejectRequest request) state = Unknown
+order_reply (order.ApproveRequest n) state = on_request (approved_reply state) (request_at n state.requests)
+order_reply (order.RejectRequest n) state = on_request (λ row. Done None) (request_at n state.requests)
 
 -- the change that it makes, unless it is refused
 unfoldable pub order_change : Order → State → Option OrderChange
 order_change (order.AddAccount account secret) state =
     if has_account account state then None else Some (change.AddAccount (record { account = account; secret = secret }))
 order_change (order.DisableAccount account) state = if has_account account state then Some (change.DisableAccount account) else None
-order_change (order.ApproveRequest request) state = None
-order_change (order.RejectRequest request) state = None
+order_change (order.ApproveRequest n) state = option_map (approval state n) (waiting_request n state)
+order_change (order.RejectRequest n) state = option_map (λ row. change.Reject n) (waiting_request n state)
 
 abbrev pub state_after_order : Option OrderChange → State → State
 state_after_order None state = state

@@ -7,9 +7,11 @@ use Rattle.acvp_json.specs.declared.page.Page.{Page}
 use Rattle.acvp_mac.specs.Conditions.{Condition}
 use Rattle.acvp_policy.specs.declared.rule.Rule.{Rule}
 use Rattle.acvp_policy.specs.declared.rule.Rule.TheVariants as rule
+use Rattle.acvp_desk.specs.Asked.{asked_in, registration_conditions_on, certification_conditions_on}
 use Rattle.acvp_desk.specs.Bodies.{body_conditions, rule_of, registration_rule}
 use Rattle.acvp_desk.specs.NewSessions.{counts_in_material, has_number_left}
 use Rattle.acvp_desk.specs.Place.{reviewers_in_material}
+use Rattle.acvp_desk.specs.Registries.{kind_of}
 use Rattle.acvp_desk.specs.Replies.{prompts_from}
 use Rattle.acvp_desk.specs.Request.{RequestValue}
 use Rattle.acvp_desk.specs.Reviewers.{reviewer_at, has_room}
@@ -17,6 +19,8 @@ use Rattle.acvp_desk.specs.Submissions.{answers_conditions}
 use Rattle.acvp_desk.specs.declared.found.Found.{Found}
 use Rattle.acvp_desk.specs.declared.found.Material.{Material}
 use Rattle.acvp_desk.specs.declared.found.Material.TheVariants as material
+use Rattle.acvp_desk.specs.declared.wish.RegistryWish.{RegistryWish}
+use Rattle.acvp_desk.specs.declared.wish.RegistryWish.TheVariants as on_registry
 use Rattle.acvp_desk.specs.declared.wish.SessionWish.{SessionWish}
 use Rattle.acvp_desk.specs.declared.wish.SessionWish.TheVariants as on_session
 use Rattle.acvp_desk.specs.declared.wish.Wish.{Wish}
@@ -41,6 +45,13 @@ set_conditions seeds n body _ = []
 abbrev pub page_conditions : Option Page → List (Condition Rule)
 page_conditions page = (is_some page, rule.BadPage) ∷ []
 
+-- on the registries and requests of the account
+abbrev pub registry_conditions : List ℕ → Material → RegistryWish → List (Condition Rule)
+registry_conditions body m (on_registry.New of) = registration_conditions_on (kind_of of) body (asked_in m)
+registry_conditions body m (on_registry.List of at) = page_conditions at
+registry_conditions body m (on_registry.ListRequests at) = page_conditions at
+registry_conditions body m _ = []
+
 -- of what a caller asks
 abbrev pub wish_conditions : List (List ℕ) → RequestValue → Found → Wish → List (Condition Rule)
 wish_conditions seeds r found (wish.Session n it) = session_conditions r found it
@@ -49,4 +60,6 @@ wish_conditions seeds r found wish.NewSession =
     body_conditions registration_rule registration_conditions r.body
     ++ (has_number_left (counts_in_material found.material), rule.AccountFull) ∷ []
 wish_conditions seeds r found (wish.ListSessions page) = page_conditions page
+wish_conditions seeds r found (wish.Certify n) = certification_conditions_on r.body (asked_in found.material)
+wish_conditions seeds r found (wish.Registry it) = registry_conditions r.body found.material it
 wish_conditions seeds r found _ = []

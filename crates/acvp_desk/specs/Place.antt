@@ -1,5 +1,5 @@
 -- What the records hold of what a path names.
-use Rattle.std.specs.Prelude.{ℕ, ◌/◌, List, [], ◌∷◌, map, length, Bool, true, false, not, ◌&&◌, ◌||◌, ◌==◌, nat_le, slice_get, if◌then◌else◌, Option, Some, None, option_map, option_and_then, is_some}
+use Rattle.std.specs.Prelude.{ℕ, ◌/◌, List, [], ◌∷◌, map, length, Bool, true, false, not, ◌&&◌, ◌||◌, ◌==◌, nat_le, if◌then◌else◌, Option, Some, None, option_map, option_and_then, is_some}
 use Rattle.std.specs.List.{list_all}
 use Rattle.acvp_json.specs.declared.page.Page.{Page}
 use Rattle.acvp_policy.specs.Conditions.{session_found, reviewer_found, set_found}
@@ -8,7 +8,7 @@ use Rattle.acvp_policy.specs.declared.facts.CertificationStatus.TheVariants as c
 use Rattle.acvp_policy.specs.declared.facts.SessionFacts.{SessionFacts}
 use Rattle.acvp_policy.specs.declared.facts.Subject.{Subject}
 use Rattle.acvp_policy.specs.declared.facts.Subject.TheVariants as subject
-use Rattle.acvp_tables.specs.Content.{is_reviewer, page, request_at, reviewers_of}
+use Rattle.acvp_tables.specs.Content.{is_reviewer, page, request_at, request_summary, reviewers_of}
 use Rattle.acvp_tables.specs.State.{State, SessionRecord, SetRecord, session_record_at, session_records_of, live_records, record_counts}
 use Rattle.acvp_tables.specs.declared.rows.RequestRow.{RequestRow}
 use Rattle.acvp_tables.specs.declared.rows.RequestStatus.{RequestStatus}
@@ -24,6 +24,10 @@ use Rattle.acvp_desk.specs.declared.wish.AccountWish.{AccountWish}
 use Rattle.acvp_desk.specs.declared.wish.AccountWish.TheVariants as on_account
 use Rattle.acvp_desk.specs.declared.wish.SessionWish.{SessionWish}
 use Rattle.acvp_desk.specs.declared.wish.SessionWish.TheVariants as on_session
+use Rattle.acvp_desk.specs.declared.wish.RegistryWish.{RegistryWish}
+use Rattle.acvp_desk.specs.declared.wish.RegistryWish.TheVariants as on_registry
+use Rattle.acvp_desk.specs.Asked.{registration_asked, certification_asked}
+use Rattle.acvp_desk.specs.Registries.{has_row, kind_of, objects_material, own_object, own_request, registry_subject, requests_material}
 use Rattle.acvp_desk.specs.Sets.{set_disposition, set_facts, set_material, set_passes, set_reviewed, is_for_set}
 
 -- ---- a test session
@@ -82,23 +86,27 @@ unfound (wish.Set session n it) = subject.Set (record { session = session; set =
 unfound wish.NewSession = subject.Account
 unfound (wish.CancelSet session n) = subject.Set (record { session = session; set = n; found = None })
 unfound (wish.ListSessions page) = subject.Account
+unfound (wish.Certify n) = subject.Session (record { session = n; found = None })
+unfound (wish.Registry it) = registry_subject false it
 
 -- how a session of an account's review stands, where the account is a reviewer of it
 abbrev pub reviewed_facts : List (List ℕ) → State → ℕ → ℕ → Option SessionFacts
 reviewed_facts seeds state n m = if is_reviewer n m state.reviewers then session_facts seeds state n else None
 
--- with what is found there
-abbrev pub subject_of : List (List ℕ) → State → Wish → Subject
-subject_of seeds state (wish.Account it) = subject.Account
-subject_of seeds state (wish.Algorithm n) = subject.Algorithm n
-subject_of seeds state (wish.Session n it) = subject.Session (record { session = n; found = session_facts seeds state n })
-subject_of seeds state (wish.Reviewer n m) = subject.Reviewer (record { session = n; reviewer = m; found = reviewed_facts seeds state n m })
-subject_of seeds state (wish.Set session n it) =
+-- with what is found there, of the account that acts where it is of no session
+abbrev pub subject_of : List (List ℕ) → ℕ → State → Wish → Subject
+subject_of seeds u state (wish.Account it) = subject.Account
+subject_of seeds u state (wish.Algorithm n) = subject.Algorithm n
+subject_of seeds u state (wish.Session n it) = subject.Session (record { session = n; found = session_facts seeds state n })
+subject_of seeds u state (wish.Reviewer n m) = subject.Reviewer (record { session = n; reviewer = m; found = reviewed_facts seeds state n m })
+subject_of seeds u state (wish.Set session n it) =
     subject.Set (record { session = session; set = n; found = set_facts (session_facts seeds state session) session n state.sets })
-subject_of seeds state wish.NewSession = subject.Account
-subject_of seeds state (wish.CancelSet session n) =
+subject_of seeds u state wish.NewSession = subject.Account
+subject_of seeds u state (wish.CancelSet session n) =
     subject.Set (record { session = session; set = n; found = set_facts (session_facts seeds state session) session n state.sets })
-subject_of seeds state (wish.ListSessions page) = subject.Account
+subject_of seeds u state (wish.ListSessions page) = subject.Account
+subject_of seeds u state (wish.Certify n) = subject.Session (record { session = n; found = session_facts seeds state n })
+subject_of seeds u state (wish.Registry it) = registry_subject (has_row u state it) it
 
 -- ---- what a reply shows besides
 
@@ -142,20 +150,30 @@ sessions_material u state (Some at) =
     material.Sessions (length (session_records_of u state.sessions))
     (map (listed_session state.requests) (page at.offset at.limit (session_records_of u state.sessions)))
 
--- what is read of the records of the account that acts, and of what the path names
-abbrev pub material_of : List (List ℕ) → ℕ → State → Wish → Material
-material_of seeds u state (wish.Account it) = account_material u state it
-material_of seeds u state (wish.Algorithm n) = material.Nothing
-material_of seeds u state (wish.Session n it) = session_material seeds n state it
-material_of seeds u state (wish.Reviewer n m) = material.Reviewers (reviewers_of n state.reviewers)
-material_of seeds u state wish.NewSession = material.Counts (record_counts u state)
-material_of seeds u state (wish.CancelSet session n) = material.Outcomes (set_outcomes seeds session state)
-material_of seeds u state (wish.Set session n it) = set_material seeds session n state.sets it
-material_of seeds u state (wish.ListSessions page) = sessions_material u state page
+-- of the account's registries and requests
+abbrev pub registry_material : ℕ → List ℕ → State → RegistryWish → Material
+registry_material u body state (on_registry.Read of n) = material.Object (own_object (kind_of of) u n state.objects)
+registry_material u body state (on_registry.New of) = material.Asked (registration_asked (kind_of of) u body state)
+registry_material u body state (on_registry.List of at) = objects_material (kind_of of) u state.objects at
+registry_material u body state (on_registry.ReadRequest n) = material.Request (option_map request_summary (own_request u n state.requests))
+registry_material u body state (on_registry.ListRequests at) = requests_material u state.requests at
+
+-- what is read of the records of the account that acts, and of what the path and the body name
+abbrev pub material_of : List (List ℕ) → ℕ → List ℕ → State → Wish → Material
+material_of seeds u body state (wish.Account it) = account_material u state it
+material_of seeds u body state (wish.Algorithm n) = material.Nothing
+material_of seeds u body state (wish.Session n it) = session_material seeds n state it
+material_of seeds u body state (wish.Reviewer n m) = material.Reviewers (reviewers_of n state.reviewers)
+material_of seeds u body state wish.NewSession = material.Counts (record_counts u state)
+material_of seeds u body state (wish.CancelSet session n) = material.Outcomes (set_outcomes seeds session state)
+material_of seeds u body state (wish.Set session n it) = set_material seeds session n state.sets it
+material_of seeds u body state (wish.ListSessions page) = sessions_material u state page
+material_of seeds u body state (wish.Certify n) = material.Asked (certification_asked u body state)
+material_of seeds u body state (wish.Registry it) = registry_material u body state it
 
 -- both
-abbrev pub place_of : List (List ℕ) → ℕ → State → Wish → Place
-place_of seeds u state it = record { subject = subject_of seeds state it; material = material_of seeds u state it }
+abbrev pub place_of : List (List ℕ) → ℕ → List ℕ → State → Wish → Place
+place_of seeds u body state it = record { subject = subject_of seeds u state it; material = material_of seeds u body state it }
 
 -- ---- which material a wish has
 
@@ -199,6 +217,33 @@ abbrev pub is_for_page : Option Page → Material → Bool
 is_for_page None m = true
 is_for_page (Some at) m = has_sessions m
 
+abbrev pub is_asked : Material → Bool
+is_asked (material.Asked asked) = true
+is_asked _ = false
+
+abbrev pub has_object : Material → Bool
+has_object (material.Object row) = true
+has_object _ = false
+
+abbrev pub has_request : Material → Bool
+has_request (material.Request row) = true
+has_request _ = false
+
+abbrev pub has_objects : Material → Bool
+has_objects (material.Objects total rows) = true
+has_objects _ = false
+
+abbrev pub has_requests : Material → Bool
+has_requests (material.Requests total rows) = true
+has_requests _ = false
+
+abbrev pub is_for_registry : RegistryWish → Material → Bool
+is_for_registry (on_registry.Read of n) m = has_object m
+is_for_registry (on_registry.New of) m = is_asked m
+is_for_registry (on_registry.List of at) m = not (is_some at) || has_objects m
+is_for_registry (on_registry.ReadRequest n) m = has_request m
+is_for_registry (on_registry.ListRequests at) m = not (is_some at) || has_requests m
+
 abbrev pub is_for : Wish → Material → Bool
 is_for (wish.Account it) m = is_for_account it m
 is_for (wish.Algorithm n) m = true
@@ -208,6 +253,8 @@ is_for (wish.Set session n it) m = is_for_set it m
 is_for wish.NewSession m = has_counts m
 is_for (wish.CancelSet session n) m = has_outcomes m
 is_for (wish.ListSessions page) m = is_for_page page m
+is_for (wish.Certify n) m = is_asked m
+is_for (wish.Registry it) m = is_for_registry it m
 
 abbrev pub is_within : Wish → Subject → Bool
 is_within (wish.Reviewer n m) s = not (is_some (reviewer_found s)) || nat_le m 9999
@@ -228,3 +275,5 @@ is_there (wish.Set session n it) s = is_some (set_found s)
 is_there wish.NewSession s = true
 is_there (wish.CancelSet session n) s = is_some (set_found s)
 is_there (wish.ListSessions page) s = true
+is_there (wish.Certify n) s = is_some (session_found s)
+is_there (wish.Registry it) s = true

@@ -29,12 +29,15 @@ use Rattle.acvp_policy.specs.declared.facts.CertificationStatus.{CertificationSt
 use Rattle.acvp_policy.specs.declared.facts.CertificationStatus.TheVariants as certification
 use Rattle.acvp_policy.specs.declared.facts.SessionFacts.{SessionFacts}
 use Rattle.acvp_policy.specs.declared.facts.SetFacts.{SetFacts}
+use Rattle.acvp_registry.specs.declared.kind.Kind.TheVariants.{Certification}
 use Rattle.acvp_tables.specs.Counted.{is_passed}
 use Rattle.acvp_tables.specs.declared.change.CancelledSet.{CancelledSet}
 use Rattle.acvp_tables.specs.declared.change.Change.{Change}
 use Rattle.acvp_tables.specs.declared.change.Change.TheVariants as change
 use Rattle.acvp_tables.specs.declared.summary.Counts.{Counts}
+use Rattle.acvp_desk.specs.Asked.{asked_in, asked_reply, registration_change, certification_change}
 use Rattle.acvp_desk.specs.NewSessions.{new_session_in, session_made_data}
+use Rattle.acvp_desk.specs.Registries.{kind_of, object_reply, objects_reply, request_reply, requests_reply}
 use Rattle.acvp_desk.specs.Place.{reviewers_in_material}
 use Rattle.acvp_desk.specs.Request.{RequestValue}
 use Rattle.acvp_desk.specs.Reviewers.{reviewer_at, with_account, without_account}
@@ -49,6 +52,8 @@ use Rattle.acvp_desk.specs.declared.found.Material.TheVariants as material
 use Rattle.acvp_desk.specs.declared.keys.Keys.{Keys}
 use Rattle.acvp_desk.specs.declared.wish.AccountWish.{AccountWish}
 use Rattle.acvp_desk.specs.declared.wish.AccountWish.TheVariants as on_account
+use Rattle.acvp_desk.specs.declared.wish.RegistryWish.{RegistryWish}
+use Rattle.acvp_desk.specs.declared.wish.RegistryWish.TheVariants as on_registry
 use Rattle.acvp_desk.specs.declared.wish.SessionWish.{SessionWish}
 use Rattle.acvp_desk.specs.declared.wish.SessionWish.TheVariants as on_session
 use Rattle.acvp_desk.specs.declared.wish.SetWish.{SetWish}
@@ -194,6 +199,19 @@ sessions_reply (Some at) (material.Sessions total sessions) =
     Some (page_data session_row_data (codes "/acvp/v1/testSessions") at total (map listed_shown sessions))
 sessions_reply _ _ = None
 
+-- ---- registries, requests and certification
+
+abbrev pub registry_reply : ℕ → Material → RegistryWish → Option Data
+registry_reply u m (on_registry.Read of n) = object_reply m
+registry_reply u m (on_registry.New of) = asked_reply (kind_of of) u (asked_in m)
+registry_reply u m (on_registry.List of at) = objects_reply (kind_of of) at m
+registry_reply u m (on_registry.ReadRequest n) = request_reply m
+registry_reply u m (on_registry.ListRequests at) = requests_reply at m
+
+abbrev pub registry_change : ℕ → List ℕ → Material → RegistryWish → Option Change
+registry_change u body m (on_registry.New of) = registration_change (kind_of of) u body (asked_in m)
+registry_change u body m _ = None
+
 -- ---- each
 
 -- at a moment, to the account that acts
@@ -206,6 +224,8 @@ wish_reply keys moment u r found (wish.Set session n it) = set_reply keys.seed m
 wish_reply keys moment u r found wish.NewSession = option_map (session_made_data keys.token) (new_session_in keys.seed moment u r.body found.material)
 wish_reply keys moment u r found (wish.CancelSet session n) = Some (outcome_data (codes "cancelled") (set_url n))
 wish_reply keys moment u r found (wish.ListSessions page) = sessions_reply page found.material
+wish_reply keys moment u r found (wish.Certify n) = asked_reply Certification u (asked_in found.material)
+wish_reply keys moment u r found (wish.Registry it) = registry_reply u found.material it
 
 abbrev pub session_change : ℕ → RequestValue → SessionWish → Option Change
 session_change n r on_session.Cancel = Some (change.CancelSession n)
@@ -234,3 +254,5 @@ wish_change seeds moment u r found wish.NewSession = option_map change.NewSessio
 wish_change seeds moment u r found (wish.CancelSet session n) =
     option_map (λ sets. change.CancelSet (cancelled_set session n sets)) (outcomes_in_material found.material)
 wish_change seeds moment u r found (wish.ListSessions page) = None
+wish_change seeds moment u r found (wish.Certify n) = certification_change u n r.body (asked_in found.material)
+wish_change seeds moment u r found (wish.Registry it) = registry_change u r.body found.material it

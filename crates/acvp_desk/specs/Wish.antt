@@ -19,8 +19,11 @@ use Rattle.acvp_desk.specs.declared.wish.SessionWish.{SessionWish}
 use Rattle.acvp_desk.specs.declared.wish.SessionWish.TheVariants as on_session
 use Rattle.acvp_desk.specs.declared.wish.SetWish.{SetWish}
 use Rattle.acvp_desk.specs.declared.wish.SetWish.TheVariants as on_set
+use Rattle.acvp_desk.specs.declared.wish.Registry.TheVariants as registry
+use Rattle.acvp_desk.specs.declared.wish.RegistryWish.TheVariants as on_registry
+use Rattle.acvp_desk.specs.Registries.{action_on_registry}
 
--- what each action asks, with the numbers of its path and the query. What has no case yet has no route
+-- what each action asks, with the numbers of its path and the query
 abbrev pub wish_of : Action → Numbers → List ℕ → Option Wish
 wish_of action.ReadAccount n query = Some (wish.Account on_account.Read)
 wish_of action.ListAlgorithms n query = Some (wish.Account on_account.ListAlgorithms)
@@ -40,7 +43,20 @@ wish_of action.CancelSet n query = Some (wish.CancelSet n.first n.second)
 wish_of action.Submit n query = Some (wish.Set n.first n.second on_set.Submit)
 wish_of action.Resubmit n query = Some (wish.Set n.first n.second on_set.Resubmit)
 wish_of action.ListSessions n query = Some (wish.ListSessions (page_of query))
-wish_of _ n query = None
+wish_of action.Certify n query = Some (wish.Certify n.first)
+wish_of action.ListVendors n query = Some (wish.Registry (on_registry.List registry.Vendors (page_of query)))
+wish_of action.NewVendor n query = Some (wish.Registry (on_registry.New registry.Vendors))
+wish_of action.ReadVendor n query = Some (wish.Registry (on_registry.Read registry.Vendors n.first))
+wish_of action.ListModules n query = Some (wish.Registry (on_registry.List registry.Modules (page_of query)))
+wish_of action.NewModule n query = Some (wish.Registry (on_registry.New registry.Modules))
+wish_of action.ReadModule n query = Some (wish.Registry (on_registry.Read registry.Modules n.first))
+wish_of action.ListEnvironments n query = Some (wish.Registry (on_registry.List registry.Environments (page_of query)))
+wish_of action.NewEnvironment n query = Some (wish.Registry (on_registry.New registry.Environments))
+wish_of action.ReadEnvironment n query = Some (wish.Registry (on_registry.Read registry.Environments n.first))
+wish_of action.ListRequests n query = Some (wish.Registry (on_registry.ListRequests (page_of query)))
+wish_of action.ReadRequest n query = Some (wish.Registry (on_registry.ReadRequest n.first))
+-- a login is asked by its body
+wish_of action.Login n query = None
 
 abbrev pub action_on_session : SessionWish → Action
 action_on_session on_session.Read = action.ReadSession
@@ -67,6 +83,8 @@ action_of_wish wish.NewSession = action.NewSession
 action_of_wish (wish.Set session n it) = action_on_set it
 action_of_wish (wish.CancelSet session n) = action.CancelSet
 action_of_wish (wish.ListSessions page) = action.ListSessions
+action_of_wish (wish.Certify n) = action.Certify
+action_of_wish (wish.Registry it) = action_on_registry it
 
 -- ---- the token
 

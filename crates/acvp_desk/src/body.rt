@@ -4,11 +4,14 @@ ghost use Rattle.std.specs.Prelude.{◌≡◌, ◌⊎◌, map, Some, None, IfOk,
 ghost use Rattle.acvp_mac.specs.Conditions.{first_broken, with_fault};
 ghost use Rattle.acvp_caps.specs.Registered.{registration_at, registration_conditions};
 ghost use Rattle.acvp_json.specs.AnswersBody.{answers_body_conditions, answers_body_of};
+ghost use Rattle.acvp_json.specs.CertifyBody.{certify_body_conditions, certify_body_of};
 ghost use Rattle.acvp_json.specs.Envelope.{envelope_conditions, object_of};
 ghost use Rattle.acvp_json.specs.LoginBody.{login_body_conditions, login_body_of};
 ghost use Rattle.acvp_json.specs.ReviewerBody.{reviewer_body_conditions, reviewer_body_of};
 ghost use Rattle.acvp_json.specs.View.{view};
-ghost use Rattle.acvp_desk.specs.Bodies.{rule_of, registration_rule, body_conditions};
+ghost use Rattle.acvp_registry.specs.Object.{object_conditions};
+ghost use Rattle.acvp_desk.specs.Asked.{certified_conditions, certified_in, kept_as, object_in, registered_conditions};
+ghost use Rattle.acvp_desk.specs.Bodies.{rule_of, registration_rule, object_rule, body_conditions};
 ghost use Rattle.acvp_desk.specs.Login.{login_at};
 ghost use Rattle.acvp_desk.specs.NewSessions.{registration_in};
 ghost use Rattle.acvp_desk.specs.Reviewers.{reviewer_at};
@@ -17,11 +20,15 @@ ghost use Rattle.acvp_desk.specs.Submissions.{answers_at, answers_conditions};
 use acvp_answers::Answers;
 use acvp_caps::{CapFault, Registration, read_registration};
 use acvp_gen::Prompts;
-use acvp_json::{BodyFault, LoginBody, open_envelope, read_answers, read_login, read_reviewer};
+use acvp_json::{
+    BodyFault, CertifyBody, LoginBody, open_envelope, read_answers, read_certify, read_login,
+    read_reviewer,
+};
 use acvp_mac::{joined_conditions, renamed_conditions};
 use acvp_policy::Rule;
+use acvp_registry::{Kind, Object, RegFault, read_object};
 use serde_json::Value;
-use std::alloc::Global;
+use std::alloc::{AllocError, Global};
 
 /// The rule of a body's fault.
 fn rule_of(fault: BodyFault) -> Rule
@@ -164,4 +171,93 @@ pub(crate) fn answers_body(alloc: Global, body: &[u8], prompts: &Prompts) -> Res
         Err(rule) => return Err(rule),
     };
     answers_said(alloc, &object, prompts)
+}
+
+// ---- bodies that name rows, which are read before the rows are looked up: want of memory is told apart
+
+/// The object of a body, or the rule of the first condition on its envelope that doesn't hold.
+fn opened_read(alloc: Global, body: &[u8]) -> Result<Result<Value, Rule>, AllocError>
+    ensures ok { IfOk result (λ read. IfOk read (λ object. (first_broken (map (with_fault rule_of) (envelope_conditions body.now)) ≡ None) × (object_of body.now ≡ Some (view object)))) }
+    ensures err { IfOk result (λ read. IfErr read (λ rule. first_broken (map (with_fault rule_of) (envelope_conditions body.now)) ≡ Some rule)) }
+{
+    renamed_conditions::<BodyFault, Rule>();
+    match open_envelope(alloc, body) {
+        Ok(object) => Ok(Ok(object)),
+        Err(BodyFault::Memory) => Err(AllocError),
+        Err(fault) => Ok(Err(rule_of(fault))),
+    }
+}
+
+/// The rule of the fault of an object that is to be registered.
+fn object_rule(fault: RegFault) -> Rule
+    ensures { result ≡ object_rule fault }
+{
+    match fault {
+        RegFault::Field => Rule::BodyField,
+        RegFault::NoReference => Rule::NoReference,
+        RegFault::Memory => Rule::Unavailable,
+    }
+}
+
+/// What is kept of the object of a registration, or the rule of the first condition on it that doesn't hold.
+#[tactic(auto, unfolding(acvp_registry::specs::Object::object_fault))]
+fn object_said(
+    alloc: Global,
+    kind: Kind,
+    object: &Value,
+) -> Result<Result<Object, Rule>, AllocError>
+    ensures ok { IfOk result (λ read. IfOk read (λ kept. (first_broken (map (with_fault object_rule) (object_conditions kind (view object.now))) ≡ None) × (kept ≡ kept_as kind (view object.now)))) }
+    ensures err { IfOk result (λ read. IfErr read (λ rule. first_broken (map (with_fault object_rule) (object_conditions kind (view object.now))) ≡ Some rule)) }
+{
+    renamed_conditions::<RegFault, Rule>();
+    match read_object(alloc, kind, object) {
+        Ok(kept) => Ok(Ok(kept)),
+        Err(RegFault::Memory) => Err(AllocError),
+        Err(fault) => Ok(Err(object_rule(fault))),
+    }
+}
+
+/// The object of a kind that a body asks to register, or the rule of the first condition on it that doesn't hold.
+#[tactic(auto, unfolding(crate::specs::Asked::object_in))]
+pub(crate) fn object_read(
+    alloc: Global,
+    kind: Kind,
+    body: &[u8],
+) -> Result<Result<Object, Rule>, AllocError>
+    ensures ok { IfOk result (λ read. IfOk read (λ object. (first_broken (registered_conditions kind body.now) ≡ None) × (object_in kind body.now ≡ Some object))) }
+    ensures err { IfOk result (λ read. IfErr read (λ rule. (first_broken (registered_conditions kind body.now) ≡ Some rule) × (object_in kind body.now ≡ None))) }
+{
+    joined_conditions::<Rule>();
+    match opened_read(alloc, body)? {
+        Ok(object) => object_said(alloc, kind, &object),
+        Err(rule) => Ok(Err(rule)),
+    }
+}
+
+/// What the object of a certification names, or the rule of the first condition on it that doesn't hold.
+fn certify_said(object: &Value) -> Result<CertifyBody, Rule>
+    ensures ok { IfOk result (λ parts. (first_broken (map (with_fault rule_of) (certify_body_conditions (view object.now))) ≡ None) × (certify_body_of (view object.now) ≡ Some parts)) }
+    ensures err { IfErr result (λ rule. first_broken (map (with_fault rule_of) (certify_body_conditions (view object.now))) ≡ Some rule) }
+{
+    renamed_conditions::<BodyFault, Rule>();
+    match read_certify(object) {
+        Ok(parts) => Ok(parts),
+        Err(fault) => Err(rule_of(fault)),
+    }
+}
+
+/// The module and the environment that a body asks to certify, or the rule of the first condition on it that doesn't hold.
+#[tactic(auto, unfolding(crate::specs::Asked::certified_in))]
+pub(crate) fn certify_read(
+    alloc: Global,
+    body: &[u8],
+) -> Result<Result<CertifyBody, Rule>, AllocError>
+    ensures ok { IfOk result (λ read. IfOk read (λ parts. (first_broken (certified_conditions body.now) ≡ None) × (certified_in body.now ≡ Some parts))) }
+    ensures err { IfOk result (λ read. IfErr read (λ rule. (first_broken (certified_conditions body.now) ≡ Some rule) × (certified_in body.now ≡ None))) }
+{
+    joined_conditions::<Rule>();
+    match opened_read(alloc, body)? {
+        Ok(object) => Ok(certify_said(&object)),
+        Err(rule) => Ok(Err(rule)),
+    }
 }

@@ -4,10 +4,13 @@
 pub(crate) mod answers;
 pub(crate) mod caller;
 pub(crate) mod cancel;
+pub(crate) mod certification;
+pub(crate) mod every_action;
 pub(crate) mod login;
 pub(crate) mod monte_carlo;
 pub(crate) mod new_session;
 pub(crate) mod page;
+pub(crate) mod registry;
 pub(crate) mod reviewer;
 pub(crate) mod seed;
 pub(crate) mod session;
@@ -70,6 +73,9 @@ pub(crate) enum Answer<'a> {
     /// A body, with a change of the records.
     Made(&'a [u8]),
 
+    /// Some body, with a change of the records or without.
+    Accepted(bool),
+
     /// A rule, with the records as they were.
     Denied(Rule),
 }
@@ -103,6 +109,14 @@ pub(crate) fn made<'a>(moment: u64, request: TypedRequest<'a>, body: &'a [u8]) -
         moment,
         request,
         answer: Answer::Made(body),
+    }
+}
+
+pub(crate) fn accepted(moment: u64, request: TypedRequest<'_>, changed: bool) -> Case<'_> {
+    Case {
+        moment,
+        request,
+        answer: Answer::Accepted(changed),
     }
 }
 
@@ -153,20 +167,27 @@ pub(crate) fn with_answers<'a>(
     }
 }
 
-/// A request for a new session.
-pub(crate) fn registers<'a>(token: &'a [u8], body: &'a [u8]) -> TypedRequest<'a> {
+/// A request with a token, a number in its path and a body.
+pub(crate) fn with_body<'a>(
+    action: Action,
+    first: u64,
+    token: &'a [u8],
+    body: &'a [u8],
+) -> TypedRequest<'a> {
     TypedRequest {
         body,
-        ..with_token(Action::NewSession, 0, token)
+        ..with_token(action, first, token)
     }
+}
+
+/// A request for a new session.
+pub(crate) fn registers<'a>(token: &'a [u8], body: &'a [u8]) -> TypedRequest<'a> {
+    with_body(Action::NewSession, 0, token, body)
 }
 
 /// A request that adds the account of a body to the reviewers of the first session of account 7.
 pub(crate) fn add(body: &[u8]) -> TypedRequest<'_> {
-    TypedRequest {
-        body,
-        ..with_token(Action::AddReviewer, 7000001, OF_THE_SESSION)
-    }
+    with_body(Action::AddReviewer, 7000001, OF_THE_SESSION, body)
 }
 
 /// The body that names account 9, and what is told where it is the one reviewer.
@@ -212,6 +233,9 @@ pub(crate) fn meets<T: Tables>(rt: &impl Abort, desk: &mut Desk<T>, case: &Case<
         (DeskReply::Given(reply), Answer::Made(body)) => {
             assert!(rt; outcome.changed);
             assert_eq!(rt; reply.get(256..), Some(body));
+        }
+        (DeskReply::Given(_), Answer::Accepted(changed)) => {
+            assert_eq!(rt; outcome.changed, changed);
         }
         (DeskReply::Given(_), Answer::Denied(rule)) => assert_eq!(rt; "a reply", rule.word()),
         (DeskReply::Denied(rule), Answer::Denied(wanted)) => {
@@ -261,6 +285,26 @@ pub(crate) fn new_desk<T: Tables + Drop>(rt: &impl Abort, alloc: Global, tables:
     };
     assert_eq!(rt; order_on(&mut tables, &nine), OrderReply::Done(None));
     desk_with(rt, alloc, keys(rt), tables)
+}
+
+/// Asserts what the approval of a request is answered.
+pub(crate) fn approves<T: Tables>(
+    rt: &impl Abort,
+    desk: &mut Desk<T>,
+    request: u64,
+    wanted: OrderReply,
+) {
+    assert_eq!(rt; desk.order(0, &Order::ApproveRequest { request }), wanted);
+}
+
+/// Asserts what the rejection of a request is answered.
+pub(crate) fn rejects<T: Tables>(
+    rt: &impl Abort,
+    desk: &mut Desk<T>,
+    request: u64,
+    wanted: OrderReply,
+) {
+    assert_eq!(rt; desk.order(0, &Order::RejectRequest { request }), wanted);
 }
 
 /// A desk over empty tables, to which those accounts and the first session of account 7 are added, with the two

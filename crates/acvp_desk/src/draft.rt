@@ -21,11 +21,14 @@ use crate::find::acting;
 use crate::found::{Found, step_of};
 use crate::listing::draft_sessions;
 use crate::new_session::draft_new_session;
+use crate::registration::draft_certification;
+use crate::registry::draft_registry;
 use crate::request::TypedRequest;
 use crate::reviewers::draft_removed;
 use crate::session::draft_session;
 use crate::set::draft_set;
 use crate::wish::Wish;
+use acvp_gen::Seeds;
 use acvp_json::{ReplyObject, write_reply};
 use acvp_policy::{Renewal, Rule};
 use acvp_tables::{Change, UsedStep};
@@ -134,6 +137,45 @@ fn draft_login(
     token_told(alloc, ring, &claims, Change::UseStep(used))
 }
 
+/// What a caller is given beside vector sets, or the rule of the first condition of the action's own that doesn't hold.
+fn draft_beside_sets(
+    alloc: Global,
+    ring: &KeyRing,
+    seeds: &Seeds,
+    moment: u64,
+    account: u16,
+    request: &TypedRequest<'_>,
+    wish: &Wish,
+    found: &Found,
+) -> Result<Draft, Rule>
+    requires moment { moment < end_of_moments }
+    requires there { is_there wish.now found.now.subject ≡ true }
+    requires material { is_for wish.now found.now.material ≡ true }
+    ensures held { IfOk result (λ _. first_broken (wish_conditions seeds.now (request_value request.now) found.now wish.now) ≡ None) }
+    ensures reply { IfOk result (λ draft. IsReply draft.reply.items (wish_reply (keys_of ring.now seeds.now) moment account (request_value request.now) found.now wish.now)) }
+    ensures change { IfOk result (λ draft. draft.change ≡ wish_change seeds.now moment account (request_value request.now) found.now wish.now) }
+    ensures denied { IfErr result (λ rule. (rule ≡ Rule.Unavailable) ⊎ (first_broken (wish_conditions seeds.now (request_value request.now) found.now wish.now) ≡ Some rule)) }
+{
+    let material = &found.material;
+    match *wish {
+        Wish::Account(it) => draft_account(alloc, account, it, found),
+        Wish::Algorithm(number) => draft_algorithm(alloc, number),
+        Wish::Session(number, it) => draft_session(alloc, moment, number, request, it, found),
+        Wish::Reviewer(session, reviewer) => draft_removed(alloc, session, reviewer, material),
+        Wish::NewSession => {
+            draft_new_session(alloc, ring, seeds, moment, account, request.body, material)
+        }
+        Wish::CancelSet(session, set) => draft_cancelled(alloc, session, set, material),
+        Wish::ListSessions(page) => draft_sessions(alloc, page, material),
+        Wish::Certify(session) => {
+            draft_certification(alloc, account, session, request.body, material)
+        }
+        Wish::Registry(it) => draft_registry(alloc, account, request.body, material, it),
+        // What is given on a vector set is drafted of what it owns.
+        Wish::Set(_, _, _) => Err(Rule::Unavailable),
+    }
+}
+
 /// What a caller is given, or the rule of the first condition of the action's own that doesn't hold.
 fn draft_wish(
     alloc: Global,
@@ -154,43 +196,34 @@ fn draft_wish(
     ensures seeds { cache.new.seeds ≡ cache.old.seeds }
     ensures denied { IfErr result (λ rule. (rule ≡ Rule.Unavailable) ⊎ (first_broken (wish_conditions cache.old.seeds (request_value request.now) found wish.now) ≡ Some rule)) }
 {
-    match *wish {
-        Wish::Account(it) => draft_account(alloc, account, it, &found),
-        Wish::Algorithm(number) => draft_algorithm(alloc, number),
-        Wish::Session(number, it) => draft_session(alloc, moment, number, request, it, &found),
-        Wish::Reviewer(session, reviewer) => {
-            draft_removed(alloc, session, reviewer, &found.material)
-        }
-        Wish::NewSession => draft_new_session(
+    let Wish::Set(session, number, it) = *wish else {
+        return draft_beside_sets(
             alloc,
             ring,
             cache.seeds(),
             moment,
             account,
-            request.body,
-            &found.material,
-        ),
-        Wish::Set(session, number, it) => {
-            let Found {
-                subject,
-                material,
-                ..
-            } = found;
-            draft_set(
-                alloc,
-                cache,
-                moment,
-                session,
-                number,
-                it,
-                request.body,
-                &subject,
-                material,
-            )
-        }
-        Wish::CancelSet(session, set) => draft_cancelled(alloc, session, set, &found.material),
-        Wish::ListSessions(page) => draft_sessions(alloc, page, &found.material),
-    }
+            request,
+            wish,
+            &found,
+        );
+    };
+    let Found {
+        subject,
+        material,
+        ..
+    } = found;
+    draft_set(
+        alloc,
+        cache,
+        moment,
+        session,
+        number,
+        it,
+        request.body,
+        &subject,
+        material,
+    )
 }
 
 /// What is given where the policy lets through, or the rule of the first condition of the action's own that doesn't hold.

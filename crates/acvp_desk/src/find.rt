@@ -18,6 +18,7 @@ use crate::found::{
     Accounts, Found, ListedSession, ListedSessions, Material, SetNumbers, SetOutcome, SetOutcomes,
     SetSource, SetVerdicts, Submission, facts_for,
 };
+use crate::own_rows::{certification_asked, has_row, registry_material, registry_subject};
 use crate::submit::one_if_passed;
 use crate::wish::{AccountWish, CallerAsk, SessionWish, SetWish, Wish};
 use acvp_json::Page;
@@ -196,9 +197,9 @@ fn set_facts<T: Tables>(
     }
 }
 
-/// What a wish names, with what is found there.
-fn subject<T: Tables>(tables: &mut T, wish: &Wish) -> Result<Subject, StoreFault>
-    ensures found { Sees T.stands T.is_live T.is_clean T.leaves result tables.old tables.new (λ seeds c. subject_of seeds (state_of c) wish.now) }
+/// What a wish of an account names, with what is found there.
+fn subject<T: Tables>(tables: &mut T, account: u16, wish: &Wish) -> Result<Subject, StoreFault>
+    ensures found { Sees T.stands T.is_live T.is_clean T.leaves result tables.old tables.new (λ seeds c. subject_of seeds account (state_of c) wish.now) }
     ensures names { IfOk result (λ subject. resource_of subject ≡ resource_of (unfound wish.now)) }
     ensures within { IfOk result (λ subject. is_within wish.now subject ≡ true) }
     ensures looks { Looks T.stands T.is_live T.is_clean T.leaves result tables.old tables.new }
@@ -208,7 +209,11 @@ fn subject<T: Tables>(tables: &mut T, wish: &Wish) -> Result<Subject, StoreFault
         Wish::NewSession => Ok(Subject::Account),
         Wish::ListSessions(_) => Ok(Subject::Account),
         Wish::Algorithm(number) => Ok(Subject::Algorithm(number)),
-        Wish::Session(session, _) => {
+        Wish::Registry(it) => {
+            let found = has_row(tables, account, it)?;
+            Ok(registry_subject(found, it))
+        }
+        Wish::Session(session, _) | Wish::Certify(session) => {
             let found = session_facts(tables, session)?;
             Ok(Subject::Session(SessionSubject { session, found }))
         }
@@ -487,9 +492,10 @@ fn material<T: Tables>(
     alloc: Global,
     tables: &mut T,
     account: u16,
+    body: &[u8],
     wish: &Wish,
 ) -> Result<Material, StoreFault>
-    ensures found { Sees T.stands T.is_live T.is_clean T.leaves result tables.old tables.new (λ seeds c. material_of seeds account (state_of c) wish.now) }
+    ensures found { Sees T.stands T.is_live T.is_clean T.leaves result tables.old tables.new (λ seeds c. material_of seeds account body.now (state_of c) wish.now) }
     ensures fits { IfOk result (λ material. is_for wish.now material ≡ true) }
     ensures looks { Looks T.stands T.is_live T.is_clean T.leaves result tables.old tables.new }
 {
@@ -504,6 +510,8 @@ fn material<T: Tables>(
             alloc, tables, session,
         )?)),
         Wish::ListSessions(page) => sessions_material(alloc, tables, account, page),
+        Wish::Certify(_) => Ok(Material::Asked(certification_asked(alloc, tables, account, body)?)),
+        Wish::Registry(it) => registry_material(alloc, tables, account, body, it),
     }
 }
 
@@ -519,16 +527,17 @@ fn look_at<T: Tables>(
     alloc: Global,
     tables: &mut T,
     account: u16,
+    body: &[u8],
     wish: &Wish,
 ) -> Result<Place, StoreFault>
-    ensures found { Sees T.stands T.is_live T.is_clean T.leaves result tables.old tables.new (λ seeds c. place_of seeds account (state_of c) wish.now) }
+    ensures found { Sees T.stands T.is_live T.is_clean T.leaves result tables.old tables.new (λ seeds c. place_of seeds account body.now (state_of c) wish.now) }
     ensures names { IfOk result (λ place. resource_of place.subject ≡ resource_of (unfound wish.now)) }
     ensures within { IfOk result (λ place. is_within wish.now place.subject ≡ true) }
     ensures fits { IfOk result (λ place. is_for wish.now place.material ≡ true) }
     ensures looks { Looks T.stands T.is_live T.is_clean T.leaves result tables.old tables.new }
 {
-    let subject = subject(tables, wish)?;
-    let material = material(alloc, tables, account, wish)?;
+    let subject = subject(tables, account, wish)?;
+    let material = material(alloc, tables, account, body, wish)?;
     Ok(Place { subject, material })
 }
 
@@ -539,11 +548,12 @@ pub(crate) fn find<T: Tables>(
     alloc: Global,
     tables: &mut T,
     moment: u64,
+    body: &[u8],
     ask: &Ask,
 ) -> Result<Found, Rule>
-    ensures found { Sees T.stands T.is_live T.is_clean T.leaves result tables.old tables.new (λ seeds c. found_of seeds ask.now (state_of c)) }
+    ensures found { Sees T.stands T.is_live T.is_clean T.leaves result tables.old tables.new (λ seeds c. found_of seeds body.now ask.now (state_of c)) }
     ensures of { IfOk result (λ found. IsOf ask.now found) }
-    ensures refused { IfErr result (λ rule. (rule ≡ Rule.Unavailable) ⊎ ((T.is_clean tables.new → T.is_live tables.old → T.is_live tables.new) × (T.is_live tables.new → (seeds : List (List ℕ)) (c : Content) → IsKept seeds c → T.stands tables.old c → first_broken (policy_conditions moment ask.now (found_of seeds ask.now (state_of c))) ≡ Some rule))) }
+    ensures refused { IfErr result (λ rule. (rule ≡ Rule.Unavailable) ⊎ ((T.is_clean tables.new → T.is_live tables.old → T.is_live tables.new) × (T.is_live tables.new → (seeds : List (List ℕ)) (c : Content) → IsKept seeds c → T.stands tables.old c → first_broken (policy_conditions moment ask.now (found_of seeds body.now ask.now (state_of c))) ≡ Some rule))) }
     ensures looks { Looks T.stands T.is_live T.is_clean T.leaves result tables.old tables.new }
 {
     let Ok(account) = account(tables, who(ask)) else {
@@ -559,7 +569,7 @@ pub(crate) fn find<T: Tables>(
     let Ask::Caller(asked) = ask else {
         return Ok(caller);
     };
-    match look_at(alloc, tables, acting(&asked.token), &asked.wish) {
+    match look_at(alloc, tables, acting(&asked.token), body, &asked.wish) {
         Ok(Place { subject, material }) => Ok(Found {
             account,
             reviewer,

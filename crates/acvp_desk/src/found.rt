@@ -6,6 +6,7 @@ ghost use Rattle.acvp_desk.specs.Login.{step_of, login_facts};
 ghost use Rattle.acvp_desk.specs.Place.{unfound};
 
 use crate::ask::{Ask, LoginAsk};
+use crate::own_rows::registry_subject;
 use crate::wish::Wish;
 use acvp_answers::{Disposition, Verdict};
 use acvp_caps::Capability;
@@ -14,7 +15,7 @@ use acvp_policy::{
     CertificationStatus, Facts, LoginFacts, ReviewerSubject, SessionSubject, SetSubject, Standing,
     Subject, Token, UserFacts,
 };
-use acvp_tables::{AccountRow, Counts};
+use acvp_tables::{AccountRow, Counts, ObjectRow, RequestSummary};
 use std::marker::Model;
 
 /// The numbers of vector sets, in their order.
@@ -127,6 +128,50 @@ impl Model for ListedSessions {
     ghost view = { λ s. s.sessions.items };
 }
 
+/// Objects of a registry in the order of their numbers.
+#[derive(Drop)]
+pub(crate) struct ObjectRows {
+    pub rows: Vec<ObjectRow>,
+}
+
+impl Model for ObjectRows {
+    ghost use Rattle.std.specs.Prelude.{List};
+    ghost use Rattle.std.specs.Coded.{codes};
+    ghost use Rattle.acvp_tables.specs.contracts.rows.ObjectRow as object_row;
+    ghost use Rattle.acvp_tables.specs.declared.rows.ObjectRow.{ObjectRow};
+
+    ghost Value = { List ObjectRow };
+
+    ghost coded = { Prim.hlevel (codes, object_row.the_row.coded) };
+
+    ghost view = { λ o. o.rows.items };
+}
+
+/// Requests in the order of their numbers.
+#[derive(Drop)]
+pub(crate) struct RequestRows {
+    pub rows: Vec<RequestSummary>,
+}
+
+impl Model for RequestRows {
+    ghost use Rattle.std.specs.Prelude.{List};
+    ghost use Rattle.acvp_tables.specs.declared.summary.RequestSummary.{RequestSummary};
+
+    ghost Value = { List RequestSummary };
+
+    ghost view = { λ r. r.rows.items };
+}
+
+/// What a request for registration or certification is judged by, beside its body.
+#[derive(Clone, Copy)]
+pub(crate) struct Asked {
+    /// How many requests the account has.
+    pub requests: u64,
+
+    /// Whether all that the body names is there, and the account's; of a body that isn't read, nothing is asked.
+    pub named: bool,
+}
+
 /// What a reply shows of the records, beside how what the path names stands.
 #[derive(Drop)]
 pub(crate) enum Material {
@@ -155,6 +200,21 @@ pub(crate) enum Material {
 
     /// How many sessions an account has, and those of a page.
     Sessions(u64, ListedSessions),
+
+    /// The object that the path names, where it is the account's.
+    Object(Option<ObjectRow>),
+
+    /// How many objects of a kind an account has, and those of a page.
+    Objects(u64, ObjectRows),
+
+    /// The request that the path names, where it is the account's.
+    Request(Option<RequestSummary>),
+
+    /// How many requests an account has, and those of a page.
+    Requests(u64, RequestRows),
+
+    /// What a request for registration or certification is judged by.
+    Asked(Asked),
 }
 
 /// What the tables hold of a request.
@@ -180,10 +240,11 @@ fn unfound(wish: &Wish) -> Subject
         Wish::NewSession => Subject::Account,
         Wish::ListSessions(_) => Subject::Account,
         Wish::Algorithm(number) => Subject::Algorithm(number),
-        Wish::Session(session, _) => Subject::Session(SessionSubject {
+        Wish::Session(session, _) | Wish::Certify(session) => Subject::Session(SessionSubject {
             session,
             found: None,
         }),
+        Wish::Registry(it) => registry_subject(false, it),
         Wish::Reviewer(session, reviewer) => Subject::Reviewer(ReviewerSubject {
             session,
             reviewer,

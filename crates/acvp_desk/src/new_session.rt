@@ -15,6 +15,7 @@ ghost use Rattle.acvp_desk.specs.Place.{has_counts};
 use crate::body::registration_body;
 use crate::draft::{Draft, TOKEN_LIFE, told};
 use crate::found::Material;
+use crate::numbers::{MOST_ROWS, next_number};
 use acvp_gen::Seeds;
 use acvp_json::{Created, ReplyObject};
 use acvp_mac::joined_conditions;
@@ -22,12 +23,6 @@ use acvp_policy::Rule;
 use acvp_tables::{Change, Counts, NewSession};
 use acvp_token::{Claims, KeyRing, issue_ring};
 use std::alloc::{AllocError, Global};
-
-/// How many sessions an account may have.
-const MOST_SESSIONS: u64 = 999999;
-
-/// How many numbers each account has for its sessions.
-const NUMBERS_OF_ACCOUNT: u64 = 1000000;
 
 /// How many numbers each session has for its vector sets.
 const NUMBERS_OF_SESSION: u64 = 100;
@@ -119,11 +114,11 @@ pub(crate) fn draft_new_session(
         Err(rule) => return Err(rule),
     };
     let sessions = found_counts(material).sessions;
-    if sessions >= MOST_SESSIONS {
+    if sessions >= MOST_ROWS {
         return Err(Rule::AccountFull);
     }
     let session = NewSession {
-        number: account as u64 * NUMBERS_OF_ACCOUNT + 1 + sessions,
+        number: next_number(account, sessions),
         account,
         created: moment,
         epoch: newest_epoch(seeds),

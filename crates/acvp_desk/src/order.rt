@@ -1,10 +1,20 @@
 //! The operator's orders.
 
-ghost use Rattle.acvp_desk.specs.Orders.{IsOrder, Orders};
+ghost use Rattle.std.specs.Prelude.{◌≡◌, ◌+◌, ◌≤◌, IfOk, option_map};
+ghost use Rattle.acvp_tables.specs.Calls.{Reads};
+ghost use Rattle.acvp_tables.specs.Content.{Content, counts_of, request_at};
+ghost use Rattle.acvp_tables.specs.State.{first_of_account, state_of, IsSound};
+ghost use Rattle.acvp_desk.specs.Orders.{approved_as, count_of, is_initial, IsOrder, Orders};
+ghost use Rattle.acvp_desk.specs.Private.Waiting.{waiting_in};
 ghost use Rattle.acvp_desk.specs.declared.order.Order.TheVariants as order;
 
+use crate::numbers::NUMBERS_OF_ACCOUNT;
+use crate::registry::kind_asked;
 use acvp_registry::Kind;
-use acvp_tables::{NewAccount, OrderChange, Tables};
+use acvp_tables::{
+    Approval, Counts, NewAccount, OrderChange, RequestStatus, RequestSubject, RequestSummary,
+    StoreFault, Tables, numbers_count, numbers_name, selections_follow,
+};
 
 /// What the operator of the laboratory asks for. An account's number is 1 to 9999.
 #[derive(Clone, Copy)]
@@ -67,6 +77,120 @@ fn disable<T: Tables>(tables: &mut T, account: u16) -> OrderReply
     }
 }
 
+/// Whether a request waits for the operator's decision.
+fn is_initial(status: RequestStatus) -> bool
+    ensures { result ≡ is_initial status }
+{
+    match status {
+        RequestStatus::Initial => true,
+        RequestStatus::Approved(_) | RequestStatus::Rejected => false,
+    }
+}
+
+/// How many objects of a kind an account has.
+fn count_of(kind: Kind, counts: &Counts) -> u64
+    ensures { result ≡ count_of kind counts.now }
+{
+    match kind {
+        Kind::Vendor => counts.vendors,
+        Kind::Module => counts.modules,
+        Kind::Environment => counts.environments,
+        Kind::Certification => 0,
+    }
+}
+
+/// A request, as far as the operator's decision goes.
+#[derive(Clone, Copy)]
+struct Waiting {
+    /// Whether the request waits for the decision.
+    initial: bool,
+    kind: Kind,
+
+    /// The number that an approval gives.
+    approved: u64,
+}
+
+/// The account's next number of a kind, of which it has so many: 999999 at most, in sound records.
+fn next_of_kind(account: u16, so_many: u64) -> u64
+    ensures { so_many ≤ 999999 → result ≡ first_of_account account + so_many }
+{
+    (u64::from(account) * NUMBERS_OF_ACCOUNT + 1).saturating_add(so_many)
+}
+
+/// The number that an approval of a request gives.
+#[tactic(auto, unfolding(acvp_tables::specs::State::state_of))]
+fn approved_number<T: Tables>(tables: &mut T, request: &RequestSummary) -> Result<u64, StoreFault>
+    ensures found { T.is_live tables.new → IfOk result (λ number. (c : Content) → IsSound c → T.stands tables.old c → number ≡ approved_as (state_of c) request.now.account request.now.subject) }
+    ensures reads { Reads T.faults T.stands T.is_live T.is_clean T.leaves result tables.old tables.new }
+{
+    selections_follow();
+    numbers_count();
+    let counts = tables.counts(request.account)?;
+    match request.subject {
+        RequestSubject::Registration(kind) => {
+            Ok(next_of_kind(request.account, count_of(kind, &counts)))
+        }
+        RequestSubject::Certification(certification) => Ok(certification.session),
+    }
+}
+
+/// The request of a number, as far as the operator's decision goes.
+#[tactic(auto, unfolding(acvp_tables::specs::State::state_of))]
+fn find_waiting<T: Tables>(tables: &mut T, number: u64) -> Result<Option<Waiting>, StoreFault>
+    ensures found { T.is_live tables.new → IfOk result (λ waiting. (c : Content) → IsSound c → T.stands tables.old c → waiting ≡ option_map (waiting_in (state_of c)) (request_at number c.requests)) }
+    ensures reads { Reads T.faults T.stands T.is_live T.is_clean T.leaves result tables.old tables.new }
+{
+    let Some(request) = tables.request(number)? else {
+        return Ok(None);
+    };
+    let approved = approved_number(tables, &request)?;
+    Ok(Some(Waiting {
+        initial: is_initial(request.status),
+        kind: kind_asked(request.subject),
+        approved,
+    }))
+}
+
+/// Approves a request that waits.
+fn approve<T: Tables>(tables: &mut T, number: u64) -> OrderReply
+    ensures { Orders T.faults T.stands T.is_live T.is_clean T.leaves result tables.old tables.new (order.ApproveRequest number) }
+{
+    let waiting = match find_waiting(tables, number) {
+        Err(_) => return OrderReply::Unavailable,
+        Ok(None) => return OrderReply::Unknown,
+        Ok(Some(waiting)) => waiting,
+    };
+    if !waiting.initial {
+        return OrderReply::NotInitial;
+    }
+    let approval = Approval {
+        request: number,
+        approved: waiting.approved,
+    };
+    match tables.order(&OrderChange::Approve(approval)) {
+        Ok(()) => OrderReply::Done(Some((waiting.kind, waiting.approved))),
+        Err(_) => OrderReply::Unavailable,
+    }
+}
+
+/// Rejects a request that waits.
+fn reject<T: Tables>(tables: &mut T, number: u64) -> OrderReply
+    ensures { Orders T.faults T.stands T.is_live T.is_clean T.leaves result tables.old tables.new (order.RejectRequest number) }
+{
+    let request = match tables.request(number) {
+        Err(_) => return OrderReply::Unavailable,
+        Ok(None) => return OrderReply::Unknown,
+        Ok(Some(request)) => request,
+    };
+    if !is_initial(request.status) {
+        return OrderReply::NotInitial;
+    }
+    match tables.order(&OrderChange::Reject(number)) {
+        Ok(()) => OrderReply::Done(None),
+        Err(_) => OrderReply::Unavailable,
+    }
+}
+
 /// Carries an operator's order out.
 #[tactic(auto, unfolding(crate::specs::Orders::order_reply, crate::specs::Orders::order_change))]
 pub fn order_on<T: Tables>(tables: &mut T, order: &Order) -> OrderReply
@@ -76,6 +200,7 @@ pub fn order_on<T: Tables>(tables: &mut T, order: &Order) -> OrderReply
     match *order {
         Order::AddAccount { account, secret } => add(tables, account, secret),
         Order::DisableAccount { account } => disable(tables, account),
-        Order::ApproveRequest { .. } | Order::RejectRequest { .. } => OrderReply::Unknown,
+        Order::ApproveRequest { request } => approve(tables, request),
+        Order::RejectRequest { request } => reject(tables, request),
     }
 }

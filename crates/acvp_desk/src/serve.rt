@@ -82,7 +82,7 @@ pub(crate) fn serve<T: Tables>(
         Ok(ask) => ask,
         Err(rule) => return Err(rule),
     };
-    let found = match find(alloc, tables, moment, &ask) {
+    let found = match find(alloc, tables, moment, request.body, &ask) {
         Ok(found) => found,
         Err(rule) => return Err(rule),
     };

@@ -1,7 +1,8 @@
 //! Each case over lists.
 
 use crate::cases::{
-    answers, caller, cancel, login, monte_carlo, new_session, page, reviewer, seed, session, set,
+    answers, caller, cancel, certification, every_action, login, monte_carlo, new_session, page,
+    registry, reviewer, seed, session, set,
 };
 use acvp_tables::ListTables;
 use std::test::Fail;
@@ -252,5 +253,120 @@ fn expected_results_of_hmac_pass(rt: HostRuntime) -> Result<(), Fail> {
 fn sets_keep_the_seed_they_were_made_under(rt: HostRuntime) -> Result<(), Fail> {
     let alloc = rt.alloc();
     seed::sets_keep_the_seed_they_were_made_under(&rt, alloc, ListTables::new(alloc));
+    Ok(())
+}
+
+#[test]
+fn a_vendor_is_registered_by_approval(rt: HostRuntime) -> Result<(), Fail> {
+    let alloc = rt.alloc();
+    registry::a_vendor_is_registered_by_approval(&rt, alloc, ListTables::new(alloc));
+    Ok(())
+}
+
+#[test]
+fn a_rejected_request_registers_nothing(rt: HostRuntime) -> Result<(), Fail> {
+    let alloc = rt.alloc();
+    registry::a_rejected_request_registers_nothing(&rt, alloc, ListTables::new(alloc));
+    Ok(())
+}
+
+#[test]
+fn what_is_registered_is_read(rt: HostRuntime) -> Result<(), Fail> {
+    let alloc = rt.alloc();
+    registry::what_is_registered_is_read(&rt, alloc, ListTables::new(alloc));
+    Ok(())
+}
+
+#[test]
+fn each_list_has_its_pages(rt: HostRuntime) -> Result<(), Fail> {
+    let alloc = rt.alloc();
+    registry::each_list_has_its_pages(&rt, alloc, ListTables::new(alloc));
+    Ok(())
+}
+
+#[test]
+fn what_no_object_is_has_its_rule(rt: HostRuntime) -> Result<(), Fail> {
+    let alloc = rt.alloc();
+    registry::what_no_object_is_has_its_rule(&rt, alloc, ListTables::new(alloc));
+    Ok(())
+}
+
+#[test]
+fn a_certification_freezes_its_session(rt: HostRuntime) -> Result<(), Fail> {
+    let alloc = rt.alloc();
+    certification::a_certification_freezes_its_session(&rt, alloc, ListTables::new(alloc));
+    Ok(())
+}
+
+#[test]
+fn a_session_is_certified_when_its_sets_have_passed(rt: HostRuntime) -> Result<(), Fail> {
+    let alloc = rt.alloc();
+    certification::a_session_is_certified_when_its_sets_have_passed(
+        &rt,
+        alloc,
+        ListTables::new(alloc),
+    );
+    Ok(())
+}
+
+#[test]
+fn a_session_without_sets_is_not_certified(rt: HostRuntime) -> Result<(), Fail> {
+    let alloc = rt.alloc();
+    certification::a_session_without_sets_is_not_certified(&rt, alloc, ListTables::new(alloc));
+    Ok(())
+}
+
+#[test]
+fn samples_and_ended_sessions_are_not_certified(rt: HostRuntime) -> Result<(), Fail> {
+    let alloc = rt.alloc();
+    certification::samples_and_ended_sessions_are_not_certified(&rt, alloc, ListTables::new(alloc));
+    Ok(())
+}
+
+#[test]
+fn a_certification_names_what_is_there(rt: HostRuntime) -> Result<(), Fail> {
+    let alloc = rt.alloc();
+    certification::a_certification_names_what_is_there(&rt, alloc, ListTables::new(alloc));
+    Ok(())
+}
+
+#[test]
+fn every_caller_is_looked_at_first(rt: HostRuntime) -> Result<(), Fail> {
+    let alloc = rt.alloc();
+    every_action::every_caller_is_looked_at_first(&rt, alloc, ListTables::new(alloc));
+    Ok(())
+}
+
+#[test]
+fn every_token_is_for_its_actions(rt: HostRuntime) -> Result<(), Fail> {
+    let alloc = rt.alloc();
+    every_action::every_token_is_for_its_actions(&rt, alloc, ListTables::new(alloc));
+    Ok(())
+}
+
+#[test]
+fn what_is_cancelled_is_refused(rt: HostRuntime) -> Result<(), Fail> {
+    let alloc = rt.alloc();
+    every_action::what_is_cancelled_is_refused(&rt, alloc, ListTables::new(alloc));
+    Ok(())
+}
+
+#[test]
+fn what_has_ended_is_refused(rt: HostRuntime) -> Result<(), Fail> {
+    let alloc = rt.alloc();
+    every_action::what_has_ended_is_refused(&rt, alloc, ListTables::new(alloc));
+    Ok(())
+}
+
+#[test]
+fn every_action_is_accepted(rt: HostRuntime) -> Result<(), Fail> {
+    let alloc = rt.alloc();
+    every_action::every_action_is_accepted(&rt, alloc, ListTables::new(alloc));
+    Ok(())
+}
+
+#[test]
+fn requests_end_with_the_numbers(rt: HostRuntime) -> Result<(), Fail> {
+    registry::requests_end_with_the_numbers(&rt);
     Ok(())
 }

@@ -1,12 +1,17 @@
 //! What a caller with a token asks.
 
 ghost use Rattle.std.specs.Prelude.{◌≡◌};
+ghost use Rattle.acvp_desk.specs.Registries.{kind_of, list_action, new_action, read_action, action_on_registry};
+ghost use Rattle.acvp_desk.specs.Pages.{page_of};
 ghost use Rattle.acvp_desk.specs.Wish.{wish_of, action_of_wish};
+ghost use Rattle.acvp_desk.specs.declared.wish.RegistryWish.TheVariants as on_registry;
+ghost use Rattle.acvp_desk.specs.declared.wish.Wish.TheVariants as wish;
 
 use crate::page::page_of;
 use crate::request::Numbers;
 use acvp_json::Page;
 use acvp_policy::{Action, Token};
+use acvp_registry::Kind;
 
 /// What is asked of the account that acts, or of what every account sees.
 #[derive(Clone, Copy)]
@@ -40,6 +45,35 @@ pub(crate) enum SetWish {
     Resubmit,
 }
 
+/// A registry of the account that acts. What it holds is of one kind.
+#[derive(Clone, Copy)]
+pub(crate) enum Registry {
+    Vendors,
+    Modules,
+
+    /// Of operational environments.
+    Environments,
+}
+
+/// What is asked of the registries and requests of the account that acts.
+#[derive(Clone, Copy)]
+pub(crate) enum RegistryWish {
+    /// What a registry holds under a number.
+    Read(Registry, u64),
+
+    /// That the operator registers an object.
+    New(Registry),
+
+    /// What a registry holds, by a page; none where the query is no page.
+    List(Registry, Option<Page>),
+
+    /// The request of a number.
+    ReadRequest(u64),
+
+    /// The requests, by a page; none where the query is no page.
+    ListRequests(Option<Page>),
+}
+
 /// What is asked, by what the path names.
 #[derive(Clone, Copy)]
 pub(crate) enum Wish {
@@ -56,6 +90,7 @@ pub(crate) enum Wish {
 
     /// A new test session of the account that acts.
     NewSession,
+
     /// Of the test session of a number the vector set of a number.
     Set(u64, u64, SetWish),
 
@@ -64,6 +99,12 @@ pub(crate) enum Wish {
 
     /// The sessions of the account that acts, by a page; none where the query is no page.
     ListSessions(Option<Page>),
+
+    /// That the operator certifies the test session of a number.
+    Certify(u64),
+
+    /// What is of the registries and requests of the account that acts.
+    Registry(RegistryWish),
 }
 
 /// What a caller asks, with what its token came to.
@@ -71,6 +112,67 @@ pub(crate) enum Wish {
 pub(crate) struct CallerAsk {
     pub token: Token,
     pub wish: Wish,
+}
+
+impl Registry {
+    /// The kind of what it holds.
+    pub fn kind(self) -> Kind
+        ensures { result ≡ kind_of self }
+    {
+        match self {
+            Registry::Vendors => Kind::Vendor,
+            Registry::Modules => Kind::Module,
+            Registry::Environments => Kind::Environment,
+        }
+    }
+
+    /// The action that reads what it holds under a number.
+    fn read_action(self) -> Action
+        ensures { result ≡ read_action self }
+    {
+        match self {
+            Registry::Vendors => Action::ReadVendor,
+            Registry::Modules => Action::ReadModule,
+            Registry::Environments => Action::ReadEnvironment,
+        }
+    }
+
+    /// The action that asks for a registration in it.
+    fn new_action(self) -> Action
+        ensures { result ≡ new_action self }
+    {
+        match self {
+            Registry::Vendors => Action::NewVendor,
+            Registry::Modules => Action::NewModule,
+            Registry::Environments => Action::NewEnvironment,
+        }
+    }
+
+    /// The action that lists what it holds.
+    fn list_action(self) -> Action
+        ensures { result ≡ list_action self }
+    {
+        match self {
+            Registry::Vendors => Action::ListVendors,
+            Registry::Modules => Action::ListModules,
+            Registry::Environments => Action::ListEnvironments,
+        }
+    }
+}
+
+impl RegistryWish {
+    /// The action that it is.
+    fn action(self) -> Action
+        ensures { result ≡ action_on_registry self }
+    {
+        match self {
+            RegistryWish::Read(registry, _) => registry.read_action(),
+            RegistryWish::New(registry) => registry.new_action(),
+            RegistryWish::List(registry, _) => registry.list_action(),
+            RegistryWish::ReadRequest(_) => Action::ReadRequest,
+            RegistryWish::ListRequests(_) => Action::ListRequests,
+        }
+    }
 }
 
 impl Wish {
@@ -97,8 +199,31 @@ impl Wish {
             Wish::Set(_, _, SetWish::Submit) => Action::Submit,
             Wish::Set(_, _, SetWish::Resubmit) => Action::Resubmit,
             Wish::ListSessions(_) => Action::ListSessions,
+            Wish::Certify(_) => Action::Certify,
+            Wish::Registry(it) => it.action(),
         }
     }
+}
+
+/// That what a registry holds is listed, by the page that a query asks for.
+fn list_of(registry: Registry, query: &[u8]) -> Wish
+    ensures { result ≡ wish.Registry (on_registry.List registry (page_of query.now)) }
+{
+    Wish::Registry(RegistryWish::List(registry, page_of(query)))
+}
+
+/// That an object is registered.
+fn new_in(registry: Registry) -> Wish
+    ensures { result ≡ wish.Registry (on_registry.New registry) }
+{
+    Wish::Registry(RegistryWish::New(registry))
+}
+
+/// What a registry holds under the number of a path.
+fn row_of(registry: Registry, numbers: Numbers) -> Wish
+    ensures { result ≡ wish.Registry (on_registry.Read registry numbers.first) }
+{
+    Wish::Registry(RegistryWish::Read(registry, numbers.first))
 }
 
 /// What a path, its method and its query ask.
@@ -124,6 +249,18 @@ pub(crate) fn wish_of(action: Action, numbers: Numbers, query: &[u8]) -> Option<
         Action::Submit => Some(Wish::Set(numbers.first, numbers.second, SetWish::Submit)),
         Action::Resubmit => Some(Wish::Set(numbers.first, numbers.second, SetWish::Resubmit)),
         Action::ListSessions => Some(Wish::ListSessions(page_of(query))),
-        _ => None,
+        Action::Certify => Some(Wish::Certify(numbers.first)),
+        Action::ListVendors => Some(list_of(Registry::Vendors, query)),
+        Action::NewVendor => Some(new_in(Registry::Vendors)),
+        Action::ReadVendor => Some(row_of(Registry::Vendors, numbers)),
+        Action::ListModules => Some(list_of(Registry::Modules, query)),
+        Action::NewModule => Some(new_in(Registry::Modules)),
+        Action::ReadModule => Some(row_of(Registry::Modules, numbers)),
+        Action::ListEnvironments => Some(list_of(Registry::Environments, query)),
+        Action::NewEnvironment => Some(new_in(Registry::Environments)),
+        Action::ReadEnvironment => Some(row_of(Registry::Environments, numbers)),
+        Action::ListRequests => Some(Wish::Registry(RegistryWish::ListRequests(page_of(query)))),
+        Action::ReadRequest => Some(Wish::Registry(RegistryWish::ReadRequest(numbers.first))),
+        Action::Login => None,
     }
 }

@@ -113,12 +113,6 @@ pub(crate) fn tokens_are_asked_for_before_what_a_path_names<T: Tables + Drop>(
             Rule::OtherSession,
         ),
         denied(61, read_session(7000002, OF_THE_SECOND), Rule::NoResource),
-        // What has no case yet.
-        denied(
-            61,
-            request(Action::ListRequests, 0, 0, TokenField::Missing),
-            Rule::NoRoute,
-        ),
     ];
     meets_each(rt, &mut desk, &cases);
 }

@@ -176,7 +176,7 @@ pub(crate) fn an_expired_token_is_renewed_with_its_session<T: Tables + Drop>(
     meets_each(rt, &mut desk, &cases);
 }
 
-/// What orders on accounts and on a request that isn't there are answered.
+/// What orders on accounts are answered.
 pub(crate) fn orders_are_answered<T: Tables + Drop>(rt: &impl Abort, alloc: Global, tables: T) {
     let mut desk = new_desk(rt, alloc, tables);
     let added = Order::AddAccount {
@@ -190,6 +190,4 @@ pub(crate) fn orders_are_answered<T: Tables + Drop>(rt: &impl Abort, alloc: Glob
     assert_eq!(rt; desk.order(0, &disabled), OrderReply::Done(None));
     assert_eq!(rt; desk.order(0, &disabled), OrderReply::Done(None));
     meets(rt, &mut desk, &denied(59, login(LOGIN), Rule::LoginRefused));
-    let unknown = Order::ApproveRequest { request: 7000009 };
-    assert_eq!(rt; desk.order(0, &unknown), OrderReply::Unknown);
 }

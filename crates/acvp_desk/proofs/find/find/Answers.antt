@@ -8,7 +8,7 @@ returns-in-Err-clause-refused g c =
     inr (
       λ clean live. c.in-Ok-reviewer.ensures.looks.live clean (c.in-Ok.ensures.looks.live (c.in-Ok-reviewer.ensures.looks.was_clean clean) live),
       λ live seeds content kept h. let up = c.in-Ok-reviewer.ensures.looks.was_live live in
-          refused_caller c.args.moment c.args.ask.now c.in-Ok.account c.in-Ok-reviewer.reviewer seeds (state_of content) c.in-Err.rule
+          refused_caller c.args.moment c.args.body.now c.args.ask.now c.in-Ok.account c.in-Ok-reviewer.reviewer seeds (state_of content) c.in-Err.rule
           c.action.result c.facts_for.result c.nothing-caller.result
           (account_is c.args.ask.now content c.in-Ok.account c.who.result c.who.ensures (c.in-Ok.ensures.found up seeds content kept h))
           (c.in-Ok-reviewer.ensures.found live seeds content kept (c.in-Ok.ensures.looks.same up content h))
@@ -18,7 +18,7 @@ returns-in-Err-clause-refused g c =
 pub returns-in_default-ask-clause-found : goal.returns-in_default-ask-clause-found
 returns-in_default-ask-clause-found g c =
     λ live seeds content kept h. let up = c.in-Ok-reviewer.ensures.looks.was_live live in
-    login_found c.args.ask.now c.in_default-ask.field-0 c.in-Ok.account c.in-Ok-reviewer.reviewer c.nothing-caller.result seeds (state_of content)
+    login_found c.args.ask.now c.in_default-ask.field-0 c.in-Ok.account c.in-Ok-reviewer.reviewer c.nothing-caller.result seeds c.args.body.now (state_of content)
     c.in_default-ask.is c.nothing-caller.ensures
     (account_is c.args.ask.now content c.in-Ok.account c.who.result c.who.ensures (c.in-Ok.ensures.found up seeds content kept h))
     (c.in-Ok-reviewer.ensures.found live seeds content kept (c.in-Ok.ensures.looks.same up content h))
@@ -27,7 +27,7 @@ pub returns-in-Ok-look_at-clause-found : goal.returns-in-Ok-look_at-clause-found
 returns-in-Ok-look_at-clause-found g c =
     λ live seeds content kept h. let late = c.in-Ok-look_at.ensures.looks.was_live live in let up = c.in-Ok-reviewer.ensures.looks.was_live late in
     let there = c.in-Ok.ensures.looks.same up content h in
-    caller_found c.args.ask.now c.in-Caller.asked c.in-Ok.account c.in-Ok-reviewer.reviewer c.in-Ok-look_at.field-0 c.acting.result seeds (state_of content)
+    caller_found c.args.ask.now c.in-Caller.asked c.in-Ok.account c.in-Ok-reviewer.reviewer c.in-Ok-look_at.field-0 c.acting.result seeds c.args.body.now (state_of content)
     c.in-Caller.is c.acting.ensures
     (account_is c.args.ask.now content c.in-Ok.account c.who.result c.who.ensures (c.in-Ok.ensures.found up seeds content kept h))
     (c.in-Ok-reviewer.ensures.found late seeds content kept there)

@@ -1,6 +1,5 @@
-use Rattle.std.proofs.Common.{◌≡◌, ℕ, List, map, Ok}
+use Rattle.std.proofs.Common.{List, map, Ok}
 use Rattle.std.specs.Prelude.{take}
-use Rattle.acvp_tables.specs.Content.{Content}
 use Rattle.acvp_tables.specs.State.{session_record}
 use Rattle.acvp_tables.specs.declared.tables.StoreFault.{StoreFault}
 use Rattle.acvp_desk.specs.Place.{listed_session}

@@ -1,5 +1,5 @@
 use Rattle.std.proofs.Common.{ap}
-use Rattle.acvp_desk.specs.declared.found.Material.TheVariants.{Reviewers}
+use Rattle.acvp_desk.specs.declared.found.Material.TheVariants.{Asked, Reviewers}
 use Rattle.acvp_desk.proofs.find.material.Goals as goal
 
 pub returns-in-Account-clause-found : goal.returns-in-Account-clause-found
@@ -17,3 +17,10 @@ returns-in-NewSession-clause-found g c = rw (c.in-NewSession.is) c.account_mater
 
 pub returns-in-ListSessions-clause-found : goal.returns-in-ListSessions-clause-found
 returns-in-ListSessions-clause-found g c = rw (c.in-ListSessions.is) c.sessions_material.ensures.found
+
+pub returns-in_ok-certification_asked-in-Certify-clause-found : goal.returns-in_ok-certification_asked-in-Certify-clause-found
+returns-in_ok-certification_asked-in-Certify-clause-found g c =
+    λ live seeds content kept h. rw (c.in-Certify.is) (ap Asked (c.in_ok-certification_asked-in-Certify.ensures.found live seeds content kept h))
+
+pub returns-in-Registry-clause-found : goal.returns-in-Registry-clause-found
+returns-in-Registry-clause-found g c = rw (c.in-Registry.is) c.registry_material.ensures.found

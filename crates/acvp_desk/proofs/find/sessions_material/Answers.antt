@@ -1,5 +1,4 @@
 use Rattle.std.proofs.Common.{◌∙◌}
-use Rattle.acvp_tables.specs.State.{state_of}
 use Rattle.acvp_desk.proofs.Walking.{sessions_there}
 use Rattle.acvp_desk.proofs.find.sessions_material.Goals as goal
 

@@ -1,4 +1,4 @@
-use Rattle.std.proofs.Common.{Some, sym, ◌∙◌, arith}
+use Rattle.std.proofs.Common.{sym, ◌∙◌, arith}
 use Rattle.std.proofs.lemmas.Bool.Decides.{nat_tests}
 use Rattle.acvp_desk.proofs.Submitting.{no_set_is, set_is, set_is_off}
 use Rattle.acvp_desk.proofs.find.submission.Goals as goal

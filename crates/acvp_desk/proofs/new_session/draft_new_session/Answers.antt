@@ -12,4 +12,4 @@ returns-in-Err-clause-denied c =
     ((has_number_left (counts_in_material c.args.material.now), rule.AccountFull) ∷ []) rule.Unavailable c.in-Err.rule c.in-Err.ensures.err
 
 pub returns-clause-reply : goal.returns-clause-reply
-returns-clause-reply c = rw (c.found_counts.ensures, c.newest_epoch.ensures, c.in-Ok.ensures.ok.1) c.told_session.ensures.reply
+returns-clause-reply c = rw (c.found_counts.ensures, c.newest_epoch.ensures, c.in-Ok.ensures.ok.1, ← c.next_number.ensures) c.told_session.ensures.reply

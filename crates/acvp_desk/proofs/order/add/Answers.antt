@@ -1,4 +1,4 @@
-use Rattle.std.proofs.Common.{sym, ◌∙◌}
+use Rattle.std.proofs.Common.{None, sym, ◌∙◌}
 use Rattle.acvp_tables.specs.declared.change.OrderChange.TheVariants.{AddAccount as add_account}
 use Rattle.acvp_desk.specs.declared.order.Order.TheVariants as order
 use Rattle.acvp_desk.specs.declared.order.OrderReply.TheVariants.{Taken}
@@ -19,7 +19,7 @@ pub returns-in-Ok : goal.returns-in-Ok
 returns-in-Ok g c =
     carried_out g.T.Tables.faults g.T.Tables.stands g.T.Tables.is_live g.T.Tables.is_clean g.T.Tables.leaves
     (order.AddAccount c.args.account c.args.secret) c.in-Ok-None.field-0 c.args.tables.now c.account.new.self c.order.new.self
-    (add_account (record { account = c.args.account; secret = c.args.secret })) c.in-Ok-None.ensures.reads
+    (add_account (record { account = c.args.account; secret = c.args.secret })) c.in-Ok-None.ensures.reads None
     (λ live content sound h. added c.args.account c.args.secret content
     (sym c.in-Ok-None.field-0-is ∙ c.in-Ok-None.ensures.found live content sound h)) _ c.in-Ok.ensures
 
@@ -27,6 +27,6 @@ pub returns-in-Err-order : goal.returns-in-Err-order
 returns-in-Err-order g c =
     failed g.T.Tables.faults g.T.Tables.stands g.T.Tables.is_live g.T.Tables.is_clean g.T.Tables.leaves
     (order.AddAccount c.args.account c.args.secret) c.in-Ok-None.field-0 c.args.tables.now c.account.new.self c.order.new.self
-    (add_account (record { account = c.args.account; secret = c.args.secret })) c.in-Ok-None.ensures.reads
+    (add_account (record { account = c.args.account; secret = c.args.secret })) c.in-Ok-None.ensures.reads None
     (λ live content sound h. added c.args.account c.args.secret content
     (sym c.in-Ok-None.field-0-is ∙ c.in-Ok-None.ensures.found live content sound h)) _ c.in-Err-order.ensures

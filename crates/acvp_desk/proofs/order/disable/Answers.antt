@@ -1,4 +1,4 @@
-use Rattle.std.proofs.Common.{sym, ◌∙◌}
+use Rattle.std.proofs.Common.{None, sym, ◌∙◌}
 use Rattle.acvp_tables.specs.declared.change.OrderChange.TheVariants.{DisableAccount as disable_account}
 use Rattle.acvp_desk.specs.declared.order.Order.TheVariants as order
 use Rattle.acvp_desk.specs.declared.order.OrderReply.TheVariants.{Unknown}
@@ -19,7 +19,7 @@ pub returns-in-Ok : goal.returns-in-Ok
 returns-in-Ok g c =
     carried_out g.T.Tables.faults g.T.Tables.stands g.T.Tables.is_live g.T.Tables.is_clean g.T.Tables.leaves
     (order.DisableAccount c.args.account) c.in-Ok-Some.field-0 c.args.tables.now c.account.new.self c.order.new.self
-    (disable_account c.args.account) c.in-Ok-Some.ensures.reads
+    (disable_account c.args.account) c.in-Ok-Some.ensures.reads None
     (λ live content sound h. disabled c.args.account c.in-Ok-Some.field-0-0 content
     (sym c.in-Ok-Some.field-0-is ∙ c.in-Ok-Some.ensures.found live content sound h)) _ c.in-Ok.ensures
 
@@ -27,6 +27,6 @@ pub returns-in-Err-order : goal.returns-in-Err-order
 returns-in-Err-order g c =
     failed g.T.Tables.faults g.T.Tables.stands g.T.Tables.is_live g.T.Tables.is_clean g.T.Tables.leaves
     (order.DisableAccount c.args.account) c.in-Ok-Some.field-0 c.args.tables.now c.account.new.self c.order.new.self
-    (disable_account c.args.account) c.in-Ok-Some.ensures.reads
+    (disable_account c.args.account) c.in-Ok-Some.ensures.reads None
     (λ live content sound h. disabled c.args.account c.in-Ok-Some.field-0-0 content
     (sym c.in-Ok-Some.field-0-is ∙ c.in-Ok-Some.ensures.found live content sound h)) _ c.in-Err-order.ensures

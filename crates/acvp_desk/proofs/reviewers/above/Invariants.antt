@@ -1,5 +1,5 @@
-use Rattle.std.proofs.Common.{◌≡◌, List, ◌∷◌, ◌++◌, take, filter}
-use Rattle.std.specs.Prelude.{◌==◌, not, nat_lt}
+use Rattle.std.proofs.Common.{◌≡◌, take, filter}
+use Rattle.std.specs.Prelude.{nat_lt}
 use Rattle.acvp_desk.proofs.reviewers.above.Given as goal
 
 abbrev pub invariant-loop-other : goal.invariant-loop-other
