@@ -23,8 +23,8 @@ regroup_add : (d e h : List ℕ) → (((((d ++ 32 ∷ []) ++ e) ++ 32 ∷ []) ++
     ++ 10 ∷ []
 regroup_add d e h = simp append_assoc
 
-regroup_disable : (d e : List ℕ) → (((d ++ 32 ∷ []) ++ e) ++ 10 ∷ []) ≡ (d ++ 32 ∷ e) ++ 10 ∷ []
-regroup_disable d e = simp append_assoc
+regroup_number : (d e : List ℕ) → (((d ++ 32 ∷ []) ++ e) ++ 10 ∷ []) ≡ (d ++ 32 ∷ e) ++ 10 ∷ []
+regroup_number d e = simp append_assoc
 
 -- the line of a request, and its bytes
 pub request_parts : (m : ℕ) (bytes front : List ℕ) → IsWritten (request m bytes) front →
@@ -46,10 +46,18 @@ order_parts m (kind.AddAccount account secret) front (number, named, (digits, he
 order_parts m (kind.DisableAccount account) front (number, named, is) = (
   codes "account-disable" ++ 32 ∷ (decimal m ++ 32 ∷ decimal account),
   (decimal m ++ 32 ∷ decimal account, refl, (named, (number, refl))),
-  is ∙ ap (λ rest. codes "account-disable " ++ rest) (regroup_disable (decimal m) (decimal account)),
+  is ∙ ap (λ rest. codes "account-disable " ++ rest) (regroup_number (decimal m) (decimal account)),
 )
-order_parts m (kind.ApproveRequest number) front written = absurd written
-order_parts m (kind.RejectRequest number) front written = absurd written
+order_parts m (kind.ApproveRequest decided) front (number, named, is) = (
+  codes "request-approve" ++ 32 ∷ (decimal m ++ 32 ∷ decimal decided),
+  (decimal m ++ 32 ∷ decimal decided, refl, (named, (number, refl))),
+  is ∙ ap (λ rest. codes "request-approve " ++ rest) (regroup_number (decimal m) (decimal decided)),
+)
+order_parts m (kind.RejectRequest decided) front (number, named, is) = (
+  codes "request-reject" ++ 32 ∷ (decimal m ++ 32 ∷ decimal decided),
+  (decimal m ++ 32 ∷ decimal decided, refl, (named, (number, refl))),
+  is ∙ ap (λ rest. codes "request-reject " ++ rest) (regroup_number (decimal m) (decimal decided)),
+)
 
 -- a request's line, its bytes and their line feeds are the request, written
 pub request_written : (m n : ℕ) (bytes text : List ℕ) → length bytes ≡ n → IsLine (line.Request m n) text
@@ -86,6 +94,8 @@ word_lacks_ten : (w : Command) → Lacks 10 (command_word w)
 word_lacks_ten command.Request = search rules
 word_lacks_ten command.AddAccount = search rules
 word_lacks_ten command.DisableAccount = search rules
+word_lacks_ten command.ApproveRequest = search rules
+word_lacks_ten command.RejectRequest = search rules
 
 after_word_lacks : (w : Command) (rest text : List ℕ) → text ≡ command_word w ++ 32 ∷ rest → Lacks 10 rest
     → Lacks 10 text
@@ -105,8 +115,12 @@ line_lacks (line.Order m (kind.AddAccount account secret)) text (rest, is, (name
 line_lacks (line.Order m (kind.DisableAccount account)) text (rest, is, (named, moment)) =
     after_word_lacks command.DisableAccount rest text is
     (moment_lacks m (decimal account) rest moment (decimal_lacks 10 account (omega arith) (omega (arith, named))))
-line_lacks (line.Order m (kind.ApproveRequest number)) text is = absurd is
-line_lacks (line.Order m (kind.RejectRequest number)) text is = absurd is
+line_lacks (line.Order m (kind.ApproveRequest decided)) text (rest, is, (named, moment)) =
+    after_word_lacks command.ApproveRequest rest text is
+    (moment_lacks m (decimal decided) rest moment (decimal_lacks 10 decided (omega arith) named))
+line_lacks (line.Order m (kind.RejectRequest decided)) text (rest, is, (named, moment)) =
+    after_word_lacks command.RejectRequest rest text is
+    (moment_lacks m (decimal decided) rest moment (decimal_lacks 10 decided (omega arith) named))
 
 length_moment : (m : ℕ) (rest text : List ℕ) → IsMoment m rest text → length text ≤ 20 + length rest
 length_moment m rest text is =
@@ -129,8 +143,14 @@ line_short (line.Order m (kind.DisableAccount account)) text (rest, is, (named, 
     length-decimal-le 4 account (omega arith) (omega (arith, named)) (omega (arith, named)) in
     let tail = length_moment m (decimal account) rest moment in
     rw is (omega arith)
-line_short (line.Order m (kind.ApproveRequest number)) text is = absurd is
-line_short (line.Order m (kind.RejectRequest number)) text is = absurd is
+line_short (line.Order m (kind.ApproveRequest decided)) text (rest, is, (named, moment)) =
+    let low : length (decimal decided) ≤ 19 = length-decimal-le 19 decided (omega arith) named (omega (arith, named)) in
+    let tail = length_moment m (decimal decided) rest moment in
+    rw is (omega arith)
+line_short (line.Order m (kind.RejectRequest decided)) text (rest, is, (named, moment)) =
+    let low : length (decimal decided) ≤ 19 = length-decimal-le 19 decided (omega arith) named (omega (arith, named)) in
+    let tail = length_moment m (decimal decided) rest moment in
+    rw is (omega arith)
 
 -- an event's text begins with its line
 pub event_front : (e : Event) (front : List ℕ) → IsWritten e front → (said : Line) × (text : List ℕ) × (tail : List ℕ)

@@ -92,8 +92,10 @@ no_line_empty (line.Order m (kind.AddAccount account secret)) (rest, is, tail) =
     no_gap (command_word command.AddAccount) rest is
 no_line_empty (line.Order m (kind.DisableAccount account)) (rest, is, tail) =
     no_gap (command_word command.DisableAccount) rest is
-no_line_empty (line.Order m (kind.ApproveRequest number)) is = is
-no_line_empty (line.Order m (kind.RejectRequest number)) is = is
+no_line_empty (line.Order m (kind.ApproveRequest decided)) (rest, is, tail) =
+    no_gap (command_word command.ApproveRequest) rest is
+no_line_empty (line.Order m (kind.RejectRequest decided)) (rest, is, tail) =
+    no_gap (command_word command.RejectRequest) rest is
 
 pub no_event_byte : (byte : ℕ) → HasNoEvent (byte ∷ [])
 no_event_byte byte = λ e front more written is.
@@ -130,8 +132,18 @@ not_order text m n m' (kind.DisableAccount account) (rest, is, tail) (rest', is'
       word_lacks command.Request,
       is,
     ) is').0 in cc
-not_order text m n m' (kind.ApproveRequest number) says is = is
-not_order text m n m' (kind.RejectRequest number) says is = is
+not_order text m n m' (kind.ApproveRequest decided) (rest, is, tail) (rest', is', tail') =
+    let same : command_word command.Request ≡ command_word command.ApproveRequest =
+    (word_is text (command_word command.Request) rest rest' command.ApproveRequest (
+      word_lacks command.Request,
+      is,
+    ) is').0 in cc
+not_order text m n m' (kind.RejectRequest decided) (rest, is, tail) (rest', is', tail') =
+    let same : command_word command.Request ≡ command_word command.RejectRequest =
+    (word_is text (command_word command.Request) rest rest' command.RejectRequest (
+      word_lacks command.Request,
+      is,
+    ) is').0 in cc
 
 -- a request's line without its bytes
 no_bytes : (xs ys text : List ℕ) (m n : ℕ) → xs ≡ (text ++ 10 ∷ []) ++ ys → IsLine (line.Request m n) text

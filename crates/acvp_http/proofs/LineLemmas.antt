@@ -10,7 +10,7 @@ use Rattle.acvp_http.specs.declared.script.Command.{Command}
 use Rattle.acvp_http.specs.declared.script.Command.TheVariants as command
 use Rattle.acvp_http.specs.declared.script.Line.{Line}
 use Rattle.acvp_http.specs.declared.script.Line.TheVariants as line
-use Rattle.acvp_http.specs.Private.Lines.{Lacks, IsMoment, IsRequestTail, IsAddTail, IsDisableTail, IsLine, command_word}
+use Rattle.acvp_http.specs.Private.Lines.{Lacks, IsMoment, IsRequestTail, IsAddTail, IsDisableTail, IsDecisionTail, IsLine, command_word}
 use Rattle.acvp_http.specs.Script.{IsNumber, IsAccountNumber, IsSecretText}
 
 -- the kit's test of digits and the number that they write
@@ -100,6 +100,12 @@ pub no_disable : (text r : List ℕ) (m : ℕ) → IsMoment m r text → ((n : �
 no_disable text r m first other moment account tail =
     other account tail.0 (same_moment text r (decimal account) m moment first tail.1).1
 
+-- why a text is not that of a request that is decided
+pub no_decision : (text r : List ℕ) (m : ℕ) → IsMoment m r text → ((n : ℕ) → n < 10 ^ 19 → r ≢ decimal n)
+    → (moment number : ℕ) → IsDecisionTail moment number text → ⊥
+no_decision text r m first other moment number tail =
+    other number tail.0 (same_moment text r (decimal number) m moment first tail.1).1
+
 -- why a text is not that of a new account
 pub no_add_space : (text r : List ℕ) (m : ℕ) → IsMoment m r text → Lacks 32 r → (moment account : ℕ) (secret : List ℕ)
     → IsAddTail moment account secret text → ⊥
@@ -131,6 +137,8 @@ pub word_lacks : (w : Command) → Lacks 32 (command_word w)
 word_lacks command.Request = search rules
 word_lacks command.AddAccount = search rules
 word_lacks command.DisableAccount = search rules
+word_lacks command.ApproveRequest = search rules
+word_lacks command.RejectRequest = search rules
 
 -- the word of a line, and what stands after it
 pub word_is : (text a b rest : List ℕ) (w : Command) → Lacks 32 a × (text ≡ a ++ 32 ∷ b) → text ≡ command_word w ++ 32
@@ -145,8 +153,10 @@ no_line_word text a b cut none (line.Order m (order.AddAccount n s)) (rest, is, 
     none command.AddAccount (word_is text a b rest command.AddAccount cut is).0
 no_line_word text a b cut none (line.Order m (order.DisableAccount n)) (rest, is, tail) =
     none command.DisableAccount (word_is text a b rest command.DisableAccount cut is).0
-no_line_word text a b cut none (line.Order m (order.ApproveRequest n)) is = is
-no_line_word text a b cut none (line.Order m (order.RejectRequest n)) is = is
+no_line_word text a b cut none (line.Order m (order.ApproveRequest n)) (rest, is, tail) =
+    none command.ApproveRequest (word_is text a b rest command.ApproveRequest cut is).0
+no_line_word text a b cut none (line.Order m (order.RejectRequest n)) (rest, is, tail) =
+    none command.RejectRequest (word_is text a b rest command.RejectRequest cut is).0
 
 pub no_add_line : (text a b : List ℕ) → Lacks 32 a × (text ≡ a ++ 32 ∷ b) → a ≡ command_word command.AddAccount
     → ((m n : ℕ) (s : List ℕ) → IsAddTail m n s b → ⊥) → (other : Line) → IsLine other text → ⊥
@@ -156,5 +166,7 @@ no_add_line text a b cut word none (line.Order m (order.AddAccount n s)) (rest, 
     let same : b ≡ rest = (word_is text a b rest command.AddAccount cut is).1 in none m n s (rw same tail)
 no_add_line text a b cut word none (line.Order m (order.DisableAccount n)) (rest, is, tail) =
     let same : a ≡ command_word command.DisableAccount = (word_is text a b rest command.DisableAccount cut is).0 in cc
-no_add_line text a b cut word none (line.Order m (order.ApproveRequest n)) is = is
-no_add_line text a b cut word none (line.Order m (order.RejectRequest n)) is = is
+no_add_line text a b cut word none (line.Order m (order.ApproveRequest n)) (rest, is, tail) =
+    let same : a ≡ command_word command.ApproveRequest = (word_is text a b rest command.ApproveRequest cut is).0 in cc
+no_add_line text a b cut word none (line.Order m (order.RejectRequest n)) (rest, is, tail) =
+    let same : a ≡ command_word command.RejectRequest = (word_is text a b rest command.RejectRequest cut is).0 in cc

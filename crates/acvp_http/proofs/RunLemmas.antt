@@ -189,5 +189,5 @@ can_happen (request moment bytes) text written = tt
 can_happen (order moment (AddAccount account secret)) text (number, named, (digits, hex, is)) =
     (is_number account named, omega (arith, hex.0, (decode_of-ok digits secret hex.1).2))
 can_happen (order moment (DisableAccount account)) text written = (is_number account written.1, tt)
-can_happen (order moment (ApproveRequest number)) text written = absurd written
-can_happen (order moment (RejectRequest number)) text written = absurd written
+can_happen (order moment (ApproveRequest number)) text written = (tt, tt)
+can_happen (order moment (RejectRequest number)) text written = (tt, tt)

@@ -23,7 +23,7 @@ IsSecretText text secret = (length text ≡ 64) × (decode_of text ≡ Ok secret
 abbrev pub longest_request : ℕ
 longest_request = 4194304
 
--- the event is written so; a request has no order's line
+-- the event is written so
 abbrev pub IsWritten : Event → List ℕ → Type 0
 IsWritten (request moment bytes) text =
     IsNumber moment × (length bytes ≤ longest_request)
@@ -37,8 +37,12 @@ IsWritten (order moment (AddAccount account secret)) text =
 IsWritten (order moment (DisableAccount account)) text =
     IsNumber moment × IsAccountNumber account
     × (text ≡ codes "account-disable " ++ decimal moment ++ codes " " ++ decimal account ++ codes "\n")
-IsWritten (order moment (ApproveRequest number)) text = ⊥
-IsWritten (order moment (RejectRequest number)) text = ⊥
+IsWritten (order moment (ApproveRequest number)) text =
+    IsNumber moment × IsNumber number
+    × (text ≡ codes "request-approve " ++ decimal moment ++ codes " " ++ decimal number ++ codes "\n")
+IsWritten (order moment (RejectRequest number)) text =
+    IsNumber moment × IsNumber number
+    × (text ≡ codes "request-reject " ++ decimal moment ++ codes " " ++ decimal number ++ codes "\n")
 
 -- the text is these events, one after another
 abbrev pub IsScript : List Event → List ℕ → Type 0

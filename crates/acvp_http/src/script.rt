@@ -1,7 +1,7 @@
 //! The lines of a script.
 ghost use Rattle.std.specs.Prelude.{◌≡◌, ◌≢◌, ◌++◌, ◌∷◌, ◌≤◌, ℕ, List, MatchOption, decimal};
 ghost use Rattle.acvp_http.specs.Script.{IsAccountNumber, IsSecretText};
-ghost use Rattle.acvp_http.specs.Private.Lines.{Lacks, IsMoment, IsRequestTail, IsAddTail, IsDisableTail, IsLine, command_word};
+ghost use Rattle.acvp_http.specs.Private.Lines.{Lacks, IsMoment, IsRequestTail, IsAddTail, IsDisableTail, IsDecisionTail, IsLine, command_word};
 ghost use Rattle.acvp_http.specs.declared.script.Line.{Line};
 ghost use Rattle.acvp_http.specs.declared.script.Command.{Command};
 ghost use Rattle.acvp_http.specs.declared.script.ScriptFault.TheVariants.{Memory};
@@ -14,6 +14,10 @@ const REQUEST: &[u8] = b"request";
 const ADD: &[u8] = b"account-add";
 
 const DISABLE: &[u8] = b"account-disable";
+
+const APPROVE: &[u8] = b"request-approve";
+
+const REJECT: &[u8] = b"request-reject";
 
 const GREATEST_ACCOUNT: u64 = 9999;
 
@@ -130,12 +134,24 @@ fn read_disable(text: &[u8]) -> Option<(u64, u16)>
     Some((moment, account))
 }
 
+/// The moment of an order, and the request's number.
+fn read_decision(text: &[u8]) -> Option<(u64, u64)>
+    ensures { MatchOption result ((moment number : ℕ) → IsDecisionTail moment number text.now → ⊥)
+        (λ parts. IsDecisionTail parts.0 parts.1 text.now) }
+{
+    let (moment, rest) = read_moment(text)?;
+    let request = plain_number(rest)?;
+    Some((moment, request))
+}
+
 /// The first word of a line.
 #[derive(Clone, Copy, PartialEq, Eq)]
 enum Command {
     Request,
     AddAccount,
     DisableAccount,
+    ApproveRequest,
+    RejectRequest,
 }
 
 fn command_of(word: &[u8]) -> Option<Command>
@@ -148,6 +164,10 @@ fn command_of(word: &[u8]) -> Option<Command>
         Some(Command::AddAccount)
     } else if word == DISABLE {
         Some(Command::DisableAccount)
+    } else if word == APPROVE {
+        Some(Command::ApproveRequest)
+    } else if word == REJECT {
+        Some(Command::RejectRequest)
     } else {
         None
     }
@@ -171,6 +191,16 @@ pub(crate) fn read_line(line: &[u8]) -> Option<Line>
         Command::DisableAccount => {
             let (moment, account) = read_disable(rest)?;
             let order = Order::DisableAccount { account };
+            Some(Line::Order { moment, order })
+        }
+        Command::ApproveRequest => {
+            let (moment, request) = read_decision(rest)?;
+            let order = Order::ApproveRequest { request };
+            Some(Line::Order { moment, order })
+        }
+        Command::RejectRequest => {
+            let (moment, request) = read_decision(rest)?;
+            let order = Order::RejectRequest { request };
             Some(Line::Order { moment, order })
         }
     }

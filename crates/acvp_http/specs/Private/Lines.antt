@@ -31,11 +31,17 @@ IsAddTail moment account secret text =
 abbrev pub IsDisableTail : ℕ → ℕ → List ℕ → Type 0
 IsDisableTail moment account text = IsAccountNumber account × IsMoment moment (decimal account) text
 
+-- a moment and a request's number
+abbrev pub IsDecisionTail : ℕ → ℕ → List ℕ → Type 0
+IsDecisionTail moment number text = IsNumber number × IsMoment moment (decimal number) text
+
 -- the command's word
 abbrev pub command_word : Command → List ℕ
 command_word command.Request = codes "request"
 command_word command.AddAccount = codes "account-add"
 command_word command.DisableAccount = codes "account-disable"
+command_word command.ApproveRequest = codes "request-approve"
+command_word command.RejectRequest = codes "request-reject"
 
 -- the order's word, and then the rest of its line
 abbrev pub IsOrderLine : ℕ → Order → List ℕ → Type 0
@@ -43,8 +49,10 @@ IsOrderLine moment (AddAccount account secret) text =
     (rest : List ℕ) × (text ≡ command_word command.AddAccount ++ 32 ∷ rest) × IsAddTail moment account secret rest
 IsOrderLine moment (DisableAccount account) text =
     (rest : List ℕ) × (text ≡ command_word command.DisableAccount ++ 32 ∷ rest) × IsDisableTail moment account rest
-IsOrderLine moment (ApproveRequest number) text = ⊥
-IsOrderLine moment (RejectRequest number) text = ⊥
+IsOrderLine moment (ApproveRequest number) text =
+    (rest : List ℕ) × (text ≡ command_word command.ApproveRequest ++ 32 ∷ rest) × IsDecisionTail moment number rest
+IsOrderLine moment (RejectRequest number) text =
+    (rest : List ℕ) × (text ≡ command_word command.RejectRequest ++ 32 ∷ rest) × IsDecisionTail moment number rest
 
 -- what the line says
 abbrev pub IsLine : Line → List ℕ → Type 0

@@ -144,6 +144,17 @@ fn hex_digits_of_either_case_are_read(rt: HostRuntime) -> Result<(), Fail> {
 }
 
 #[test]
+fn requests_are_decided_by_lines(rt: HostRuntime) -> Result<(), Fail> {
+    let script: &[u8] = b"request-approve 4 7000001\nrequest-reject 0 9999999999999999999\n";
+    let mut desk = empty_desk(&rt, rt.alloc());
+    let outcome = run_over(rt.alloc(), &mut desk, script, Vec::new(rt.alloc()))?;
+    assert_eq!(rt; outcome.answer, Ok(2));
+    let wanted: &[u8] = b"order unknown\norder unknown\n";
+    assert_eq!(rt; outcome.writer.as_slice(), wanted);
+    Ok(())
+}
+
+#[test]
 fn other_lines_are_refused(rt: HostRuntime) -> Result<(), Fail> {
     for line in [
         "request 59",
@@ -162,7 +173,10 @@ fn other_lines_are_refused(rt: HostRuntime) -> Result<(), Fail> {
         "account-disable 2 7\r\n",
         "account-disable 2 7",
         "account-add 2 7 00\n",
-        "request-approve 2 7\n",
+        "request-approve 2 07\n",
+        "request-approve 2\n",
+        "request-reject 2 10000000000000000000\n",
+        "request-rejects 2 7\n",
         "\n",
         "account-add 9999999999999999999 9999 \
          00000000000000000000000000000000000000000000000000000000000000000\n",
