@@ -1,6 +1,6 @@
 #!/usr/bin/env bash
-# Has Python's own hashlib and hmac validated by the proved program: a wrong digest fails its test alone, and right
-# answers pass. The client stands alone in examples/.
+# Has Python's own hashlib and hmac validated and certified by the proved program: a wrong digest fails its test alone,
+# right answers pass, and a certification that is rejected is asked for again. The client stands alone in examples/.
 set -eu
 cd "$(dirname "$0")/.."
 command -v python3 >/dev/null || { echo "this check needs python3: apt-get install python3"; exit 1; }

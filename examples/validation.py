@@ -1,5 +1,5 @@
 #!/usr/bin/env python3
-"""A client that validates Python's own hashlib and hmac, by standard Python alone.
+"""A client that has Python's own hashlib and hmac validated and certified, by standard Python alone.
 
     examples/validation.py COMMAND..
 
@@ -151,6 +151,52 @@ def validate(server, token, path):
     tell("client", "submits them as they are, and reads the results", "passed")
 
 
+def path_of(url):
+    return url[len("/acvp/v1"):]
+
+
+def decided(server, word, url, wanted):
+    """The operator decides on a request, which then must be so."""
+    number = url.split("/")[-1]
+    outcome = server.order(f"request-{word} {int(time.time())} {number}")
+    if outcome != "order done":
+        stop(f"request {number} is answered {outcome}")
+    tell("operator", f"{word}s request {number}", wanted)
+
+
+def registered(server, token, kind, thing):
+    """Asks for a vendor, a module or an environment, has it approved, and gives its URL."""
+    request = server.must("POST", f"/{kind}", token, thing)
+    if request["status"] != "initial":
+        stop(f"a new request is {request['status']}")
+    tell("client", f"asks to register \"{thing['name']}\" in /{kind}", request["url"])
+    decided(server, "approve", request["url"], "done")
+    url = server.must("GET", path_of(request["url"]), token)["approvedUrl"]
+    if server.must("GET", path_of(url), token) != {**thing, "url": url}:
+        stop(f"{url} isn't what was asked for")
+    return url
+
+
+def certify(server, token, bound, session):
+    """Asks for certification, is rejected, asks again and is approved."""
+    vendor = registered(server, token, "vendors", {"name": "Python Software Foundation"})
+    parts = {"moduleUrl": registered(server, token, "modules", {"name": "hashlib and hmac", "vendorUrl": vendor}),
+             "oeUrl": registered(server, token, "oes", {"name": sys.platform})}
+    for word, status in [("reject", "open"), ("approve", "approved")]:
+        request = server.must("PUT", path_of(session), bound, parts)
+        tell("client", "asks for the certification of the test session", request["url"])
+        frozen = server.call("DELETE", path_of(session), bound)
+        if frozen != (409, {"error": "sessionFrozen"}):
+            stop(f"the session, which must be frozen, is cancelled: {frozen}")
+        decided(server, word, request["url"], "done")
+        if server.must("GET", path_of(session), bound)["status"] != status:
+            stop(f"the session isn't {status}")
+    approved = server.must("GET", path_of(request["url"]), token)
+    if approved["approvedUrl"] != session:
+        stop(f"{approved} isn't of the session {session}")
+    tell("client", "reads the request", f"approved: {approved['approvedUrl']}")
+
+
 def main():
     if len(sys.argv) < 2:
         sys.exit(__doc__)
@@ -172,11 +218,12 @@ def main():
     tell("client", f"registers {names}", session["url"])
     bound = session["accessToken"]
     for url in session["vectorSetUrls"]:
-        validate(server, bound, url[len("/acvp/v1"):])
-    results = server.must("GET", session["url"][len("/acvp/v1"):] + "/results", bound)
+        validate(server, bound, path_of(url))
+    results = server.must("GET", path_of(session["url"]) + "/results", bound)
     if results["passed"] is not True:
         stop("the session hasn't passed")
     tell("client", "reads the results of the test session", "passed")
+    certify(server, token, bound, session["url"])
     server.end()
 
 
