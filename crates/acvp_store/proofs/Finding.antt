@@ -1,0 +1,47 @@
+-- The row that a query by a number finds.
+use Rattle.std.proofs.Common.{◌≡◌, ◌≤◌, ℕ, List, [], ◌∷◌, map, Option, Some, None, Ok, Err, Result, IfOk, IsOk, OnOk, slice_get, length, refl, sym, ap, subst, ◌∙◌, arith}
+use Rattle.std.specs.Prelude.{◌==◌, find}
+use Rattle.std.specs.List.{filter}
+use Rattle.std.specs.List.Sorted.{IsPermutation}
+use Rattle.std.proofs.lemmas.List.Sorted.{length_permutation}
+use Rattle.sqlite.proofs.Callers.{one_permutation}
+use Rattle.sqlite.specs.Order.{Row}
+use Rattle.sqlite.specs.State.{State}
+use Rattle.acvp_store.specs.Kept.{IsKept}
+use Rattle.acvp_store.specs.Connection.{IsRead}
+use Rattle.acvp_store.proofs.Keyed.{keyed, keyed_same, find_is}
+
+-- what is made of a query's answer was read as the query was
+pub read_as : {X Y E F : Type 0} (r : Result X E) (q : Result Y F) (old new : State) → (IsOk q → IsOk r) → IsRead r old new → IsRead q old new
+read_as (Ok x) (Ok y) old new same h = record { stays = h.stays; was_clean = h.was_clean; live = h.live; left = h.left }
+read_as (Err e) (Ok y) old new same h = absurd (let impossible = same refl in cc)
+read_as r (Err f) old new same h = record { stays = h.stays; was_clean = h.was_clean; live = tt; left = h.left }
+
+-- ---- one row at most
+
+pub none_found : {A : Type 0} (shown : A → Row) (xs : List A) (rows : List Row) → IsPermutation (map shown xs) rows → slice_get rows 0 ≡ None → None ≡ slice_get xs 0
+none_found shown [] rows same none = refl
+none_found shown (x ∷ xs) [] same none = absurd (omega (arith, length_permutation _ _ same))
+none_found shown (x ∷ xs) (r ∷ rows) same none = absurd (cc)
+
+pub one_found : {A : Type 0} (shown : A → Row) (xs : List A) (rows : List Row) (row : Row) (a : A) → IsPermutation (map shown xs) rows → length rows ≤ 1 → slice_get rows 0 ≡ Some row → ((y : A) → row ≡ shown y → a ≡ y) → Some a ≡ slice_get xs 0
+one_found shown xs [] row a same few head is = absurd (cc)
+one_found shown xs (r ∷ s ∷ rows) row a same few head is = absurd (omega arith)
+one_found shown [] (r ∷ []) row a same few head is = absurd (omega (arith, length_permutation _ _ same))
+one_found shown (x ∷ y ∷ xs) (r ∷ []) row a same few head is = absurd (omega (arith, length_permutation _ _ same))
+one_found shown (x ∷ []) (r ∷ []) row a same few head is =
+    let back = one_permutation (shown x) (r ∷ []) same in
+    let it : row ≡ shown x = cc in
+    ap Some (is x it)
+
+-- ---- by a number
+
+module _ {A X E F : Type 0} (key : A → ℕ) (stored shown : A → Row) (n : ℕ) (table : List Row) where
+  pub find_one : (outcome : Result X E) (rows_of : X → List Row) (result : Result (Option A) F) → (IsOk result → IsOk outcome)
+      → IfOk result (λ found. IfOk outcome (λ x. (list : List A) → IsPermutation (map shown list) (rows_of x) → found ≡ slice_get list 0))
+      → IfOk outcome (λ x. (list : List A) (kept : IsKept key stored table list) → IsPermutation (map shown (keyed key n kept.ordered)) (rows_of x))
+      → IfOk result (λ found. (list : List A) → IsKept key stored table list → found ≡ find (λ a. key a == n) list)
+  find_one outcome rows_of (Err f) ok found rows = tt
+  find_one (Err e) rows_of (Ok r) ok found rows = absurd (let impossible = ok refl in cc)
+  find_one (Ok x) rows_of (Ok r) ok found rows = λ list kept.
+      found (keyed key n kept.ordered) (rows list kept) ∙ ap (λ l. slice_get l 0) (keyed_same key n kept.ordered list kept.rising kept.same) ∙ sym (find_is key n list)

@@ -1,0 +1,43 @@
+-- No statement sets off another: each reference of the store's tables has NO ACTION.
+use Rattle.std.proofs.Common.{◌≡◌, ℕ, List, [], ◌∷◌, ◌++◌, Bool, true, false, Option, None, Some, Ok, refl, ap, ◌∙◌}
+use Rattle.std.specs.List.{AllByRecursion, flat_map, filter_map}
+use Rattle.sqlite.specs.Order.{Row}
+use Rattle.sqlite.specs.Schema.{Schema}
+use Rattle.sqlite.specs.Table.{Table}
+use Rattle.sqlite.specs.Edit.{Edit}
+use Rattle.sqlite.specs.Tree.{Trees}
+use Rattle.sqlite.proofs.Callers.{one_step}
+use Rattle.sqlite_schema.specs.declared.schema.Reference.{Reference}
+use Rattle.sqlite_schema.specs.declared.schema.Action.TheVariants.{NoAction}
+use Rattle.sqlite_schema.specs.declared.schema.Keys.TheVariants.{Enforced}
+use Rattle.sqlite_schema.specs.Rules.{parent_key}
+use Rattle.sqlite_rules.specs.Action.{works, work_for, work_by, pairs, deed_for, Writes}
+use Rattle.sqlite_rules.specs.Edit.{Applies, taken_by}
+use Rattle.acvp_store.specs.Schema.{store_schema}
+
+abbrev IsQuiet : Reference → Type 0
+IsQuiet ref = (ref.on_delete ≡ NoAction) × (ref.on_update ≡ NoAction)
+
+quiet_deed : (deletes : Bool) (ref : Reference) → IsQuiet ref → deed_for Enforced deletes ref ≡ None
+quiet_deed true ref h = rw h.0 refl
+quiet_deed false ref h = rw h.1 refl
+
+module _ (schema : Schema) (depth tree : ℕ) (olds news : List Row) where
+  quiet_work : (child : Table) (ref : Reference) → IsQuiet ref → work_for schema Enforced depth tree olds news child ref ≡ None
+  quiet_work child ref h = ap (λ d. work_by depth tree (pairs olds news) child ref d (parent_key schema.tables ref)) (quiet_deed _ ref h)
+
+  quiet_references : (child : Table) (refs : List Reference) → AllByRecursion IsQuiet refs → filter_map (work_for schema Enforced depth tree olds news child) refs ≡ []
+  quiet_references child [] h = refl
+  quiet_references child (r ∷ refs) h = rw (quiet_work child r h.0) (quiet_references child refs h.1)
+
+  quiet_tables : (tables : List Table) → AllByRecursion (λ t. AllByRecursion IsQuiet t.references) tables → flat_map (λ child. filter_map (work_for schema Enforced depth tree olds news child) child.references) tables ≡ []
+  quiet_tables [] h = refl
+  quiet_tables (t ∷ tables) h = rw (quiet_references t t.references h.0) (quiet_tables tables h.1)
+
+idle : (depth tree : ℕ) (olds news : List Row) → works store_schema Enforced depth tree olds news ≡ []
+idle depth tree olds news = quiet_tables store_schema depth tree olds news store_schema.tables
+    (tt, (tt, (((refl, refl), ((refl, refl), tt)), (((refl, refl), tt), (((refl, refl), tt), (((refl, refl), tt), (((refl, refl), tt), tt)))))))
+
+-- so a write is its one step
+pub applied : (trees next : Trees) (edit : Edit) → Writes store_schema Enforced trees edit (Ok next) → Applies store_schema Enforced trees edit next
+applied trees next edit wrote = one_step store_schema Enforced trees next edit (idle 0 edit.table.tree (taken_by trees edit) edit.news) wrote

@@ -1,0 +1,14 @@
+pub mod Keyed
+pub mod Silent
+pub mod Reading
+pub mod Together
+pub mod Parts
+pub mod Texts
+pub mod Making
+pub mod Idle
+pub mod Selecting
+pub mod Inserting
+pub mod Updating
+pub mod Finding
+pub mod AccountRows
+pub mod SessionRows

@@ -1,0 +1,84 @@
+-- What a query leaves, whatever its text.
+use Rattle.std.proofs.Common.{◌≡◌, ◌≤◌, ◌⊎◌, inl, inr, ℕ, List, Bool, true, false, Option, None, Some, Ok, Err, Result, IsTrue, IfOk, IfErr, OnOk, refl, sym, ap, subst, ◌∙◌, arith}
+use Rattle.sqlite.specs.Order.{Row}
+use Rattle.sqlite.specs.declared.error.Error.{Error}
+use Rattle.sqlite_trees.specs.Tree.{Trees}
+use Rattle.sqlite_trees.specs.View.{doubt}
+use Rattle.sqlite_trees.proofs.Doubt.{no_doubt}
+use Rattle.sqlite_schema.specs.declared.command.Returning.{Returning}
+use Rattle.sqlite_resolve.specs.Compile.{first}
+use Rattle.sqlite.specs.State.{State, HasCleanDisk, Survives, IsUnchanged, IsRolledBack, Shown, ShowsRows, FailsToQuery, FailsToShow, IsNotRun, CommitsShowing}
+use Rattle.sqlite.specs.Clock.{timed}
+use Rattle.acvp_store.specs.Connection.{IsSettled, IsReady, Stays, LeavesNoMore, IsRead}
+use Rattle.acvp_store.proofs.Silent.{asks, silent, commits_nothing}
+
+-- an open store is clean, by the law of each store
+pub clean_if_open : (is_clean is_open : Bool) → (is_clean ≡ false → is_open ≡ false) → IsTrue is_open → doubt is_clean ≡ 0
+clean_if_open true is_open law h = no_doubt true refl
+clean_if_open false is_open law h = absurd (let e = law refl in cc)
+
+pub clean_before : (a b : Bool) → doubt a ≤ doubt b → doubt b ≡ 0 → doubt a ≡ 0
+clean_before a b low clean = omega arith
+
+-- nothing changed
+same_unchanged : (old new : State) → IsReady old → IsUnchanged old new → Stays old new
+same_unchanged old new ready same =
+    let was = ready same.0.was_open in
+    record {
+      was_open = λ _. same.0.was_open;
+      now = λ _. same.0.now_is;
+      settled = λ _. record { settled = same.0.now_is ∙ was.settled ∙ sym same.0.committed_is; autocommit = same.0.mode ∙ was.autocommit };
+    }
+
+same_undone : (old new : State) → IsReady old → IsRolledBack old new → Stays old new
+same_undone old new ready back = record {
+  was_open = back.was_open;
+  now = λ h. (back.undone h).0 ∙ sym (ready (back.was_open h)).settled;
+  settled = λ h. record { settled = (back.undone h).0 ∙ sym (back.undone h).1; autocommit = back.autocommit };
+}
+
+stays_failed : (sql : List ℕ) (params : Row) (old new : State) (e : Error) → IsReady old → FailsToQuery sql params old new e → Stays old new
+unfolding FailsToQuery IsNotRun
+stays_failed sql params old new e ready (inl (inl h)) = same_unchanged old new ready h.1
+stays_failed sql params old new e ready (inl (inr h)) = same_undone old new ready h.3
+stays_failed sql params old new e ready (inr h) = go h.0.returning h.2
+  where
+    go : (what : Option Returning) → FailsToShow old new sql h.0 (timed params h.0.formats h.1.now) e what → Stays old new
+    go None it = same_unchanged old new ready it.3
+    go (Some what) (inl it) = same_unchanged old new ready it.1
+    go (Some what) (inr it) = same_undone old new ready it.3
+
+pub unchanged_shown : (sql : List ℕ) (params : Row) (old new : State) (rows : List Row) → asks (first sql) ≡ true → Shown sql params old new rows → IsUnchanged old new
+unfolding Shown
+unchanged_shown sql params old new rows is h = (subst (ShowsRows old new sql h.0 (timed params h.0.formats h.1.now) rows) (silent old.now.schema sql h.0 is h.1.is) h.2).3
+
+-- what `query_all` ensures, of a text that is a SELECT
+module _ (sql : List ℕ) (params : Row) (old new : State) (law : new.is_clean ≡ false → new.is_open ≡ false) (ready : IsReady old) (is : asks (first sql) ≡ true)
+    (kept : Survives old new (CommitsShowing sql params old)) where
+  later : (HasCleanDisk new → Stays old new) → Stays old new
+  later h = let clean = clean_if_open new.is_clean new.is_open law in record {
+    was_open = λ live. (h (clean live)).was_open live;
+    now = λ live. (h (clean live)).now live;
+    settled = λ live. (h (clean live)).settled live;
+  }
+
+  left : LeavesNoMore old new
+  left clean db may = elim (kept.crash clean db may) [
+    | inl was ↦ was
+    | inr commits ↦ absurd (commits_nothing sql params old db is commits)
+  ]
+
+  pub read : {X : Type 0} (result : Result X Error) (rows_of : X → List Row) → (HasCleanDisk new → IfOk result (λ x. Shown sql params old new (rows_of x)))
+      → (HasCleanDisk new → IfErr result (FailsToQuery sql params old new)) → IsRead result old new
+  read (Ok x) rows_of ok err = record {
+    stays = later (λ clean. same_unchanged old new ready (unchanged_shown sql params old new (rows_of x) is (ok clean)));
+    was_clean = clean_before old.is_clean new.is_clean kept.clean;
+    live = λ clean. let same = unchanged_shown sql params old new (rows_of x) is (ok clean) in (same.0.was_open, same.0.is_open);
+    left = left;
+  }
+  read (Err e) rows_of ok err = record {
+    stays = later (λ clean. stays_failed sql params old new e ready (err clean));
+    was_clean = clean_before old.is_clean new.is_clean kept.clean;
+    live = tt;
+    left = left;
+  }

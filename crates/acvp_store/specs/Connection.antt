@@ -1,0 +1,84 @@
+-- What a call leaves of a connection, and what a crash at its end leaves of the store.
+use Rattle.std.specs.Prelude.{◌≡◌, ◌⊎◌, false, List, Result, OnOk, OnErr, IsTrue}
+use Rattle.sqlite.specs.Effect.{Database}
+use Rattle.sqlite.specs.State.{State, HasCleanDisk, Survives}
+use Rattle.sqlite_schema.specs.declared.schema.Schema.{Schema}
+use Rattle.sqlite_trees.specs.Tree.{Trees}
+use Rattle.acvp_store.specs.Schema.{store_schema}
+
+-- nothing waits to be committed
+pub record IsSettled (s : State) : Type 0 where
+  pub settled : s.now ≡ s.committed
+  pub autocommit : s.in_transaction ≡ false
+
+-- an open connection is settled
+abbrev pub IsReady : State → Type 0
+IsReady s = IsTrue s.is_open → IsSettled s
+
+-- a connection to the store's tables that is settled
+pub record IsStore (s : State) : Type 0 where
+  pub ready : IsSettled s
+  pub schema : s.now.schema ≡ store_schema
+
+-- an open connection is to the store's tables
+abbrev pub ServesStore : State → Type 0
+ServesStore s = IsTrue s.is_open → IsStore s
+
+-- where it is still open, it was, and shows the same
+pub record Stays (old new : State) : Type 0 where
+  pub was_open : IsTrue new.is_open → IsTrue old.is_open
+  pub now : IsTrue new.is_open → new.now ≡ old.now
+  pub settled : IsTrue new.is_open → IsSettled new
+
+-- after a crash an open finds nothing that it wouldn't have found before the call
+abbrev pub LeavesNoMore : State → State → Type 0
+LeavesNoMore old new = HasCleanDisk new → (db : Trees) → new.may_leave db → old.may_leave db
+
+-- after a crash an open finds a database that is so
+abbrev pub LeavesSo : State → State → (Trees → Type 0) → Type 0
+LeavesSo old new P = HasCleanDisk new → IsTrue old.is_open → (db : Trees) → new.may_leave db → P db
+
+-- these are the trees of a database with that change
+abbrev pub IsAfter : (Database → Database → Type 0) → Database → Trees → Type 0
+IsAfter Change old db = (after : Database) × (after.trees ≡ db) × Change old after
+
+-- a query: it commits nothing, and succeeds of an open connection alone, which stays open
+pub record IsRead {X E : Type 0} (result : Result X E) (old new : State) : Type 0 where
+  pub stays : Stays old new
+  pub was_clean : HasCleanDisk new → HasCleanDisk old
+  pub live : OnOk result (HasCleanDisk new → IsTrue old.is_open × IsTrue new.is_open)
+  pub left : LeavesNoMore old new
+
+-- a change that is made whole or not at all
+pub record IsWritten {X E : Type 0} (result : Result X E) (old new : State) (Change : Database → Database → Type 0) : Type 0 where
+  pub was_open : IsTrue new.is_open → IsTrue old.is_open
+  pub was_clean : HasCleanDisk new → HasCleanDisk old
+  pub live : OnOk result (HasCleanDisk new → IsTrue old.is_open → IsTrue new.is_open)
+  pub settled : IsReady new
+  pub ok : OnOk result (IsTrue new.is_open → Change old.now new.now)
+  pub err : OnErr result (IsTrue new.is_open → new.now ≡ old.now)
+  pub left_ok : OnOk result (LeavesSo old new (IsAfter Change old.now))
+  pub left_err : OnErr result (LeavesSo old new (λ db. (db ≡ old.now.trees) ⊎ IsAfter Change old.now db))
+
+-- ---- inside a transaction
+
+-- the last commit stands
+pub record Kept (old new : State) : Type 0 where
+  pub was_open : IsTrue new.is_open → IsTrue old.is_open
+  pub committed : IsTrue new.is_open → new.committed ≡ old.committed
+
+-- a part of a transaction, which commits nothing
+pub record IsInside {X E : Type 0} (result : Result X E) (old new : State) (Change : Database → Database → Type 0) : Type 0 where
+  pub kept : IsTrue new.is_open → Kept old new
+  pub ok : OnOk result (IsTrue old.is_open → IsTrue old.in_transaction → HasCleanDisk new → IsTrue new.is_open × IsTrue new.in_transaction × Change old.now new.now)
+  pub survives : Survives old new (λ _. ⊥)
+
+-- ---- changes
+
+-- what a change makes of a database with this schema
+abbrev pub Under : Schema → (Database → Database → Type 0) → Database → Database → Type 0
+Under schema Change old new = old.schema ≡ schema → Change old new
+
+-- one change, and then another
+abbrev pub Both : (Database → Database → Type 0) → (Database → Database → Type 0) → Database → Database → Type 0
+Both First Second old new = (between : Database) × First old between × Second between new

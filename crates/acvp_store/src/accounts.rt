@@ -1,0 +1,115 @@
+//! The table of accounts.
+ghost use Rattle.std.specs.Prelude.{◌≡◌, ◌++◌, ◌∷◌, [], IsTrue, IfOk, List};
+ghost use Rattle.sqlite.specs.Held.{state};
+ghost use Rattle.acvp_tables.specs.Content.{account_at};
+ghost use Rattle.acvp_tables.specs.Changes.{changed, is_account, with_step, disabled, new_account};
+ghost use Rattle.acvp_tables.specs.declared.rows.AccountRow.{AccountRow as Account};
+ghost use Rattle.acvp_store.specs.Alters.{Alters};
+ghost use Rattle.acvp_store.specs.Connection.{ServesStore, IsRead, IsInside, Under};
+ghost use Rattle.acvp_store.specs.Kept.{IsKept};
+ghost use Rattle.acvp_store.specs.Rows.{account_tree, account_key, account_row, account_shown};
+ghost use Rattle.acvp_store.specs.Schema.{store_schema};
+
+use crate::fault::done;
+use crate::shown::{Shown, account_number, answered, field, key, truth};
+use crate::work::Work;
+use acvp_tables::{AccountRow, NewAccount, StoreFault, UsedStep};
+use sqlite::{Alter, Connection, Row, Transaction, params};
+
+impl Shown for AccountRow {
+    ghost use Rattle.acvp_store.specs.Rows.{account_shown};
+
+    ghost shown = { account_shown };
+
+    fn read(row: &Row) -> Result<AccountRow, StoreFault> {
+        let number = account_number(row, 0)?;
+        let secret: Vec<u8> = field(row, 1)?;
+        let Ok(secret) = <[u8; 32]>::try_from(secret.as_slice()) else {
+            return Err(StoreFault::Refused);
+        };
+        let enabled = truth(row, 2)?;
+        let last_step: Option<u64> = field(row, 3)?;
+        Ok(AccountRow {
+            number,
+            secret,
+            enabled,
+            last_step,
+        })
+    }
+}
+
+/// The account of a number.
+pub(crate) fn find_account<S: Alter>(
+    conn: &mut Connection<S>,
+    number: u16,
+) -> Result<Option<AccountRow>, StoreFault>
+    requires { ServesStore (state S.Store conn.old) }
+    ensures found { IsTrue (state S.Store conn.new).is_open → IfOk result (λ found. (accounts : List Account) → IsKept account_key account_row ((state S.Store conn.old).now.trees account_tree) accounts → found ≡ account_at number accounts) }
+    ensures read { IsRead result (state S.Store conn.old) (state S.Store conn.new) }
+{
+    answered(conn.query_all(
+        "SELECT account, secret, enabled, last_step FROM account WHERE account = ?1",
+        params![u32::from(number)],
+    ))
+}
+
+impl Work for NewAccount {
+    ghost use Rattle.std.specs.Prelude.{◌++◌, ◌∷◌, []};
+    ghost use Rattle.acvp_tables.specs.Changes.{new_account};
+    ghost use Rattle.acvp_store.specs.Alters.{Alters};
+    ghost use Rattle.acvp_store.specs.Connection.{Under};
+    ghost use Rattle.acvp_store.specs.Rows.{account_tree, account_key, account_row};
+    ghost use Rattle.acvp_store.specs.Schema.{store_schema};
+
+    ghost change = { λ a. Under store_schema (Alters account_tree account_key account_row (λ accounts. accounts ++ new_account a ∷ [])) };
+
+    fn run<S: Alter>(&self, tx: &mut Transaction<'_, S>) -> Result<(), StoreFault> {
+        done(tx.execute(
+            "INSERT INTO account (account, secret, enabled, last_step) VALUES (?1, ?2, 1, NULL)",
+            params![u32::from(self.account), self.secret.as_slice()],
+        ))
+    }
+}
+
+impl Work for UsedStep {
+    ghost use Rattle.acvp_tables.specs.Changes.{changed, is_account, with_step};
+    ghost use Rattle.acvp_store.specs.Alters.{Alters};
+    ghost use Rattle.acvp_store.specs.Connection.{Under};
+    ghost use Rattle.acvp_store.specs.Rows.{account_tree, account_key, account_row};
+    ghost use Rattle.acvp_store.specs.Schema.{store_schema};
+
+    ghost change = { λ u. Under store_schema (Alters account_tree account_key account_row (changed (is_account u.account) (with_step u.step))) };
+
+    fn run<S: Alter>(&self, tx: &mut Transaction<'_, S>) -> Result<(), StoreFault> {
+        if 9223372036854775807 < self.step {
+            return Err(StoreFault::Refused);
+        }
+        done(tx.execute(
+            "UPDATE account SET last_step = ?2 WHERE account = ?1",
+            params![u32::from(self.account), key(self.step)],
+        ))
+    }
+}
+
+/// An account that is disabled.
+#[derive(Clone, Copy)]
+pub(crate) struct DisabledAccount {
+    pub account: u16,
+}
+
+impl Work for DisabledAccount {
+    ghost use Rattle.acvp_tables.specs.Changes.{changed, is_account, disabled};
+    ghost use Rattle.acvp_store.specs.Alters.{Alters};
+    ghost use Rattle.acvp_store.specs.Connection.{Under};
+    ghost use Rattle.acvp_store.specs.Rows.{account_tree, account_key, account_row};
+    ghost use Rattle.acvp_store.specs.Schema.{store_schema};
+
+    ghost change = { λ d. Under store_schema (Alters account_tree account_key account_row (changed (is_account d.account) disabled)) };
+
+    fn run<S: Alter>(&self, tx: &mut Transaction<'_, S>) -> Result<(), StoreFault> {
+        done(tx.execute(
+            "UPDATE account SET enabled = 0 WHERE account = ?1",
+            params![u32::from(self.account)],
+        ))
+    }
+}
