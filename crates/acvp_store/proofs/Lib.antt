@@ -12,3 +12,4 @@ pub mod Updating
 pub mod Finding
 pub mod AccountRows
 pub mod SessionRows
+pub mod Standing

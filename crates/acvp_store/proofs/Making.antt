@@ -26,9 +26,10 @@ use Rattle.sqlite_schema.specs.declared.schema.Keys.TheVariants.{Enforced}
 use Rattle.acvp_store.specs.Values.{whole}
 use Rattle.acvp_store.specs.Schema.{store_schema, meta_table}
 use Rattle.acvp_store.specs.Alters.{SparesOthers}
-use Rattle.acvp_store.specs.Private.Creating.{text_of, table_of, before, Makes, version_row, WritesVersion}
-use Rattle.acvp_store.specs.declared.create.StoreTable.{StoreTable}
-use Rattle.acvp_store.specs.declared.create.StoreTable.TheVariants as table
+use Rattle.acvp_store.specs.Stands.{version_row}
+use Rattle.acvp_store.specs.Private.Creating.{text_of, table_of, before, Makes, WritesVersion}
+use Rattle.acvp_store.specs.declared.setup.StoreTable.{StoreTable}
+use Rattle.acvp_store.specs.declared.setup.StoreTable.TheVariants as table
 use Rattle.acvp_store.proofs.Texts.{is_making, add_version, version_terms}
 use Rattle.acvp_store.proofs.Parts.{went, same_value, cast_null, cast_whole}
 

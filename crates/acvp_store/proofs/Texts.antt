@@ -17,8 +17,8 @@ use Rattle.sqlite_tied.specs.Compute.{everything}
 use Rattle.sqlite.proofs.Callers.{IsPlain, command_of, statement_of}
 use Rattle.acvp_store.specs.Schema.{store_schema}
 use Rattle.acvp_store.specs.Private.Creating.{text_of, table_of, before}
-use Rattle.acvp_store.specs.declared.create.StoreTable.{StoreTable}
-use Rattle.acvp_store.specs.declared.create.StoreTable.TheVariants as table
+use Rattle.acvp_store.specs.declared.setup.StoreTable.{StoreTable}
+use Rattle.acvp_store.specs.declared.setup.StoreTable.TheVariants as table
 use Rattle.acvp_store.proofs.Silent.{asks}
 
 -- ---- the tables

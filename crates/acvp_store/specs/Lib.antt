@@ -1,7 +1,9 @@
-pub mod Schema
-pub mod Connection
 pub mod Values
 pub mod Kept
 pub mod Rows
+pub mod Stands
+pub mod Schema
+pub mod Connection
 pub mod Alters
+pub mod Store
 pub mod Private

@@ -2,9 +2,12 @@
 #![tactic(auto)]
 
 mod accounts;
-mod create;
+
 mod fault;
 mod sessions;
+mod setup;
 mod shown;
+mod store;
 mod work;
 
+pub use store::{SqlTables, create};

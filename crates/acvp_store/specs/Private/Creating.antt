@@ -4,13 +4,11 @@ use Rattle.sqlite.specs.Change.{created, next_tree, KeepsRows}
 use Rattle.sqlite.specs.Effect.{Database}
 use Rattle.sqlite.specs.Schema.{Schema}
 use Rattle.sqlite.specs.Table.{Table}
-use Rattle.sqlite_value.specs.declared.value.Value.TheVariants.{Text}
-use Rattle.sqlite_value.specs.Order.{Row}
 use Rattle.acvp_store.specs.Schema.{no_schema, store_schema, meta_table, account_table, session_table, set_table, object_table, request_table, reviewer_table}
-use Rattle.acvp_store.specs.Values.{whole}
+use Rattle.acvp_store.specs.Stands.{version_row}
 use Rattle.acvp_store.specs.Alters.{SparesOthers}
-use Rattle.acvp_store.specs.declared.create.StoreTable.{StoreTable}
-use Rattle.acvp_store.specs.declared.create.StoreTable.TheVariants.{Meta, Account, Session, Set, Object, Request, Reviewer}
+use Rattle.acvp_store.specs.declared.setup.StoreTable.{StoreTable}
+use Rattle.acvp_store.specs.declared.setup.StoreTable.TheVariants.{Meta, Account, Session, Set, Object, Request, Reviewer}
 
 abbrev pub text_of : StoreTable → List ℕ
 text_of Meta = codes "CREATE TABLE meta (name TEXT PRIMARY KEY NOT NULL, value INTEGER NOT NULL) STRICT"
@@ -65,10 +63,6 @@ pub record Makes (table : StoreTable) (old new : Database) : Type 0 where
   pub schema : new.schema ≡ created (before table) (table_of table)
   pub empty : new.trees (next_tree (before table)) ≡ []
   pub others : KeepsRows (before table).tables old.trees new.trees
-
--- the row that names the schema's version
-abbrev pub version_row : ℕ → Row
-version_row version = whole 1 ∷ Text (codes "schema") ∷ whole version ∷ []
 
 -- the version is written into the table `meta`, which was empty
 pub record WritesVersion (version : ℕ) (old new : Database) : Type 0 where

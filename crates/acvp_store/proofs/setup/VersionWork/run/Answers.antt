@@ -7,7 +7,7 @@ use Rattle.acvp_store.proofs.Texts.{add_version, version_is, version_plain}
 use Rattle.acvp_store.proofs.Reading.{clean_if_open}
 use Rattle.acvp_store.proofs.Together.{inside, inside_as}
 use Rattle.acvp_store.proofs.Making.{version_effect}
-use Rattle.acvp_store.proofs.create.VersionWork.run.Goals as goal
+use Rattle.acvp_store.proofs.setup.VersionWork.run.Goals as goal
 
 pub returns-clause-inside : goal.returns-clause-inside
 returns-clause-inside g c =

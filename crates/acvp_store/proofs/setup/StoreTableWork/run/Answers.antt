@@ -6,7 +6,7 @@ use Rattle.acvp_store.proofs.Texts.{is_making}
 use Rattle.acvp_store.proofs.Reading.{clean_if_open}
 use Rattle.acvp_store.proofs.Together.{inside, inside_as}
 use Rattle.acvp_store.proofs.Making.{make_effect}
-use Rattle.acvp_store.proofs.create.StoreTableWork.run.Goals as goal
+use Rattle.acvp_store.proofs.setup.StoreTableWork.run.Goals as goal
 
 pub returns-clause-inside : goal.returns-clause-inside
 returns-clause-inside g c =

@@ -1,0 +1,9 @@
+use Rattle.sqlite.specs.Held.{state}
+use Rattle.acvp_store.specs.Connection.{Under}
+use Rattle.acvp_store.specs.Schema.{no_schema}
+use Rattle.acvp_store.specs.Store.{Begins}
+use Rattle.acvp_store.proofs.Standing.{MakesAll, begins, written_as}
+use Rattle.acvp_store.proofs.store.make_tables.Goals as goal
+
+pub returns : goal.returns
+returns g c = written_as c.commit.result (state g.S.Store c.args.connection.now) (state g.S.Store c.commit.new.conn) MakesAll (Under no_schema Begins) begins c.commit.ensures

@@ -1,0 +1,136 @@
+-- Which rows of the tables stand for a content.
+use Rattle.std.specs.Prelude.{◌≡◌, ℕ, Bool, List, [], ◌∷◌, map, codes, Option, Some, None, Ok, unwrap_or}
+use Rattle.std.specs.List.{AllZip}
+use Rattle.serde_json.specs.Data.{Data, number, unsigned, string, object, member, no_members}
+use Rattle.serde_json.specs.Written.{compact_text}
+use Rattle.sqlite.specs.Values.{or_null}
+use Rattle.sqlite_value.specs.declared.value.Value.TheVariants.{Null, Text}
+use Rattle.sqlite_value.specs.Order.{Row}
+use Rattle.sqlite_trees.specs.Tree.{Trees}
+use Rattle.acvp_caps.specs.Registered.{registered_text}
+use Rattle.acvp_answers.specs.VerdictText.{verdicts_text}
+use Rattle.acvp_answers.specs.declared.verdict.Disposition.{Disposition}
+use Rattle.acvp_answers.specs.declared.verdict.Disposition.TheVariants.{Passed, Fail, Missing, Expired, Unreceived}
+use Rattle.acvp_registry.specs.declared.kind.Kind.TheVariants.{Module, Environment}
+use Rattle.acvp_registry.specs.Object.{object_text}
+use Rattle.acvp_registry.specs.Url.{url_of}
+use Rattle.acvp_json.specs.KeptAnswers.{kept_text}
+use Rattle.acvp_tables.specs.Content.{Content, kind_number}
+use Rattle.acvp_tables.specs.Graded.{GradedValue}
+use Rattle.acvp_tables.specs.State.{given_number}
+use Rattle.acvp_tables.specs.declared.rows.SetRow.{SetRow}
+use Rattle.acvp_tables.specs.declared.rows.ObjectRow.{ObjectRow}
+use Rattle.acvp_tables.specs.declared.rows.RequestRow.{RequestRow}
+use Rattle.acvp_tables.specs.declared.rows.RequestBody.{RequestBody}
+use Rattle.acvp_tables.specs.declared.rows.RequestBody.TheVariants as body
+use Rattle.acvp_tables.specs.declared.rows.RequestStatus.{RequestStatus}
+use Rattle.acvp_tables.specs.declared.rows.RequestStatus.TheVariants as status
+use Rattle.acvp_tables.specs.declared.rows.Certification.{Certification}
+use Rattle.acvp_tables.specs.declared.rows.ReviewerRow.{ReviewerRow}
+use Rattle.acvp_store.specs.Values.{whole, flag}
+use Rattle.acvp_store.specs.Kept.{IsKept}
+use Rattle.acvp_store.specs.Rows.{account_tree, account_key, account_row, session_tree, session_key, session_row}
+
+-- ---- the version
+
+-- the row of the table `meta` that names the schema's version
+abbrev pub version_row : ℕ → Row
+version_row version = whole 1 ∷ Text (codes "schema") ∷ whole version ∷ []
+
+-- ---- vector sets
+
+pub record SetColumns : Type 0 where
+  pub number : ℕ
+  pub session : ℕ
+  pub capability : List ℕ
+  pub cancelled : Bool
+  pub answers : Option (List ℕ)
+  pub verdicts : Option (List ℕ)
+  pub disposition : Option ℕ
+  pub epoch : ℕ
+
+abbrev pub set_row : SetColumns → Row
+set_row c = whole c.number ∷ Null ∷ whole c.session ∷ Text c.capability ∷ flag c.cancelled ∷ or_null Text c.answers
+    ∷ or_null Text c.verdicts ∷ or_null whole c.disposition ∷ whole c.epoch ∷ []
+
+-- only these three are kept
+abbrev pub disposition_number : Disposition → Option ℕ
+disposition_number Fail = Some 0
+disposition_number Missing = Some 1
+disposition_number Passed = Some 2
+disposition_number Expired = None
+disposition_number Unreceived = None
+
+-- answers, verdicts and disposition are there together
+abbrev pub IsGradedAs : SetColumns → Option GradedValue → Type 0
+IsGradedAs c None = (c.answers ≡ None) × (c.verdicts ≡ None) × (c.disposition ≡ None)
+IsGradedAs c (Some g) = (c.answers ≡ Some (kept_text g.answers)) × (c.verdicts ≡ Some (verdicts_text g.verdicts))
+    × (n : ℕ) × (c.disposition ≡ Some n) × (disposition_number g.disposition ≡ Some n)
+
+-- the columns are those of the set: the text of the capability reads as it
+pub record IsSet (c : SetColumns) (row : SetRow) : Type 0 where
+  pub number : c.number ≡ row.number
+  pub session : c.session ≡ row.session
+  pub capability : registered_text c.capability ≡ Ok (Some row.capability)
+  pub cancelled : c.cancelled ≡ row.cancelled
+  pub graded : IsGradedAs c row.graded
+  pub epoch : c.epoch ≡ row.epoch
+
+pub record HoldsSets (rows : List Row) (sets : List SetRow) : Type 0 where
+  pub columns : List SetColumns
+  pub kept : IsKept (λ c. c.number) set_row rows columns
+  pub same : AllZip IsSet columns sets
+
+-- ---- tables under a key of two columns: each row has a number in its tree that the database chose
+
+pub record Entry (A : Type 0) : Type 0 where
+  pub id : ℕ
+  pub row : A
+
+pub record HoldsEntries {A : Type 0} (stored : Entry A → Row) (rows : List Row) (list : List A) : Type 0 where
+  pub entries : List (Entry A)
+  pub kept : IsKept (λ e. e.id) stored rows entries
+  pub same : map (λ (e : Entry A). e.row) entries ≡ list
+
+abbrev pub object_row : Entry ObjectRow → Row
+object_row e = whole e.id ∷ whole (kind_number e.row.object.kind) ∷ whole e.row.number ∷ whole e.row.account ∷ Text (object_text e.row.object) ∷ []
+
+abbrev pub reviewer_row : Entry ReviewerRow → Row
+reviewer_row e = whole e.id ∷ whole e.row.session ∷ whole e.row.account ∷ []
+
+-- ---- requests
+
+abbrev pub body_number : RequestBody → ℕ
+body_number (body.Registration o) = kind_number o.kind
+body_number (body.Certification c) = 4
+
+-- a certification as it is kept: its module and its environment by their URLs, and its session by its number
+abbrev pub certification_data : Certification → Data
+certification_data c =
+    object (member (codes "moduleUrl") (string (unwrap_or (url_of Module c.«module») []))
+    (member (codes "oeUrl") (string (unwrap_or (url_of Environment c.environment) []))
+    (member (codes "session") (number (unsigned c.session)) no_members)))
+
+abbrev pub body_text : RequestBody → List ℕ
+body_text (body.Registration o) = object_text o
+body_text (body.Certification c) = compact_text (certification_data c)
+
+abbrev pub status_number : RequestStatus → ℕ
+status_number status.Initial = 0
+status_number (status.Approved n) = 1
+status_number status.Rejected = 2
+
+abbrev pub request_row : RequestRow → Row
+request_row r = whole r.number ∷ Null ∷ whole r.account ∷ whole (body_number r.body) ∷ Text (body_text r.body)
+    ∷ whole (status_number r.status) ∷ or_null whole (given_number r.status) ∷ []
+
+-- ---- the whole
+
+pub record Stands (trees : Trees) (c : Content) : Type 0 where
+  pub version : trees 0 ≡ version_row 3 ∷ []
+  pub accounts : IsKept account_key account_row (trees account_tree) c.accounts
+  pub sessions : IsKept session_key session_row (trees session_tree) c.sessions
+  pub sets : HoldsSets (trees 4) c.sets
+  pub objects : HoldsEntries object_row (trees 5) c.objects
+  pub requests : IsKept (λ (r : RequestRow). r.number) request_row (trees 7) c.requests
+  pub reviewers : HoldsEntries reviewer_row (trees 8) c.reviewers

@@ -1,0 +1,147 @@
+//! The records in SQL tables.
+ghost use Rattle.std.specs.Prelude.{◌≡◌, IsTrue, IfOk, IfErr};
+ghost use Rattle.sqlite.specs.Held.{state};
+ghost use Rattle.sqlite.specs.State.{HasCleanDisk};
+ghost use Rattle.acvp_tables.specs.Calls.{Finds, Reads, Changes};
+ghost use Rattle.acvp_tables.specs.Content.{no_rows, account_at, session_at};
+ghost use Rattle.acvp_tables.specs.Changes.{after, after_order};
+ghost use Rattle.acvp_tables.specs.State.{IsSound};
+ghost use Rattle.acvp_tables.specs.declared.change.Change.TheVariants as change;
+ghost use Rattle.acvp_tables.specs.declared.change.OrderChange.TheVariants as order;
+ghost use Rattle.acvp_store.specs.Connection.{IsReady, ServesStore, IsWritten, Under};
+ghost use Rattle.acvp_store.specs.Schema.{no_schema, store_schema};
+ghost use Rattle.acvp_store.specs.Store.{may_fail, Begins, stands, IsLive, is_clean, leaves};
+
+use crate::accounts::{DisabledAccount, find_account};
+use crate::setup::{StoreTable, Version};
+use crate::sessions::find_session;
+use crate::work::{Then, commit};
+use acvp_tables::{AccountRow, NewAccount, SessionRow, StoreFault, UsedStep};
+use sqlite::{Alter, Connection};
+use std::marker::Model;
+
+/// The records in the tables of a database, in memory or in a file.
+#[derive(Drop)]
+pub struct SqlTables<S: Alter> {
+    connection: Connection<S>,
+}
+
+impl<S: Alter> Model for SqlTables<S> {
+    ghost use Rattle.sqlite.specs.Held.{Held, held_code, state};
+    ghost use Rattle.acvp_store.specs.Connection.{ServesStore};
+
+    ghost Value = { Held S };
+
+    ghost coded = { held_code S.code };
+
+    ghost view = { λ t. t.connection };
+
+    ghost invariant = { λ t. ServesStore (state S.Store t.connection) };
+}
+
+/// Whether the database has no table, no index and no view.
+fn is_empty<S: Alter>(connection: &Connection<S>) -> bool
+    ensures { IsTrue result → (state S.Store connection.now).now.schema ≡ no_schema }
+{
+    let schema = connection.schema();
+    schema.tables.as_slice().is_empty()
+        && schema.indexes.as_slice().is_empty()
+        && schema.views.as_slice().is_empty()
+}
+
+/// Makes the tables, and the row that names the schema's version, in one transaction.
+fn make_tables<S: Alter>(connection: &mut Connection<S>) -> Result<(), StoreFault>
+    requires { IsReady (state S.Store connection.old) }
+    ensures { IsWritten result (state S.Store connection.old) (state S.Store connection.new) (Under no_schema Begins) }
+{
+    let last = Then {
+        first: StoreTable::Reviewer,
+        second: Version,
+    };
+    let requests = Then {
+        first: StoreTable::Object,
+        second: Then {
+            first: StoreTable::Request,
+            second: last,
+        },
+    };
+    let sessions = Then {
+        first: StoreTable::Session,
+        second: Then {
+            first: StoreTable::Set,
+            second: requests,
+        },
+    };
+    let tables = Then {
+        first: StoreTable::Meta,
+        second: Then {
+            first: StoreTable::Account,
+            second: sessions,
+        },
+    };
+    commit(connection, &tables)
+}
+
+/// Makes the tables of a new store in a database that has none, without a row in them. A fault hands the connection
+/// back, and the database is as it was.
+pub fn create<S: Alter>(
+    mut connection: Connection<S>,
+) -> Result<SqlTables<S>, (Connection<S>, StoreFault)>
+    ensures begins { IfOk result (λ t. IsTrue (state S.Store t).is_open → stands S.Store t no_rows) }
+    ensures live { IfOk result (λ t. HasCleanDisk (state S.Store t) → IsTrue (state S.Store connection).is_open → IsLive S.Store t) }
+    ensures unchanged { IfErr result (λ e. IsTrue (state S.Store e.0).is_open → (state S.Store e.0).now ≡ (state S.Store connection).now) }
+{
+    if !connection.is_autocommit() || !is_empty(&connection) {
+        return Err((connection, StoreFault::Refused));
+    }
+    match make_tables(&mut connection) {
+        Ok(()) => Ok(SqlTables { connection }),
+        Err(fault) => Err((connection, fault)),
+    }
+}
+
+impl<S: Alter> SqlTables<S> {
+    /// The connection, with the same rows.
+    pub fn into_connection(self) -> Connection<S>
+        ensures { result ≡ self }
+    {
+        self.connection
+    }
+
+    /// The account of a number.
+    pub fn account(&mut self, number: u16) -> Result<Option<AccountRow>, StoreFault>
+        ensures found { Finds IsSound (stands S.Store) (IsLive S.Store) (λ x. x) result self.old self.new (λ c. account_at number c.accounts) }
+        ensures reads { Reads may_fail (stands S.Store) (IsLive S.Store) (is_clean S.Store) (leaves S.Store) result self.old self.new }
+    {
+        find_account(&mut self.connection, number)
+    }
+
+    /// The test session of a number.
+    pub fn session(&mut self, number: u64) -> Result<Option<SessionRow>, StoreFault>
+        ensures found { Finds IsSound (stands S.Store) (IsLive S.Store) (λ x. x) result self.old self.new (λ c. session_at number c.sessions) }
+        ensures reads { Reads may_fail (stands S.Store) (IsLive S.Store) (is_clean S.Store) (leaves S.Store) result self.old self.new }
+    {
+        find_session(&mut self.connection, number)
+    }
+
+    /// Adds an account.
+    pub fn add_account(&mut self, account: &NewAccount) -> Result<(), StoreFault>
+        ensures { Changes IsSound may_fail (stands S.Store) (IsLive S.Store) (is_clean S.Store) (leaves S.Store) result self.old self.new (after_order (order.AddAccount account.now)) }
+    {
+        commit(&mut self.connection, account)
+    }
+
+    /// Disables the account of a number.
+    pub fn disable_account(&mut self, account: u16) -> Result<(), StoreFault>
+        ensures { Changes IsSound may_fail (stands S.Store) (IsLive S.Store) (is_clean S.Store) (leaves S.Store) result self.old self.new (after_order (order.DisableAccount account)) }
+    {
+        commit(&mut self.connection, &DisabledAccount { account })
+    }
+
+    /// Notes the time step of a one-time code that an account has used.
+    pub fn use_step(&mut self, used: &UsedStep) -> Result<(), StoreFault>
+        ensures { Changes IsSound may_fail (stands S.Store) (IsLive S.Store) (is_clean S.Store) (leaves S.Store) result self.old self.new (after (change.UseStep used.now)) }
+    {
+        commit(&mut self.connection, used)
+    }
+}
