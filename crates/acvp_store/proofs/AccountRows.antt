@@ -1,9 +1,9 @@
 -- The statements on accounts.
-use Rattle.std.proofs.Common.{◌≡◌, ◌<◌, ◌^◌, ℕ, pos, List, [], ◌∷◌, ◌++◌, map, Bool, true, false, Option, Some, None, Ok, refl, sym, ap, subst, ◌∙◌}
-use Rattle.std.specs.Prelude.{◌==◌, ◌&&◌, drop}
+use Rattle.std.proofs.Common.{◌≡◌, ◌<◌, ◌^◌, ℕ, List, [], ◌∷◌, ◌++◌, map, false, Option, None, Ok, refl, sym, ap, subst, ◌∙◌}
+use Rattle.std.specs.Prelude.{◌==◌, drop}
 use Rattle.std.specs.List.{list_all}
 use Rattle.std.specs.List.Sorted.{IsPermutation}
-use Rattle.sqlite.specs.declared.types.Value.TheVariants.{Null, Int, Blob}
+use Rattle.sqlite.specs.declared.types.Value.TheVariants.{Null, Blob}
 use Rattle.sqlite.specs.Order.{Row}
 use Rattle.sqlite.specs.Values.{or_null}
 use Rattle.sqlite.specs.Program.{overlay}
@@ -75,7 +75,7 @@ adds limit text a trees low tally after does =
     record {
       schema = ap (λ (d : Database). d.schema) now;
       kept = λ list kept. subst (λ (t : Trees). IsKept account_key account_row (t account_tree) (list ++ new_account a ∷ [])) next
-        (inserts account_key account_row (λ x. refl) (account_table 2) (new_account a) (given a) (cast_given a) trees written.0 low wrote list kept);
+          (inserts account_key account_row (λ x. refl) (account_table 2) (new_account a) (given a) (cast_given a) trees written.0 low wrote list kept);
       others = subst (SparesOthers account_tree trees) next (applied trees written.0 (edit_of trees (account_table 2) [] Chosen 0 (given a ∷ [])) wrote).tables;
     }
 
@@ -115,7 +115,7 @@ steps limit text n step trees tally after does =
     record {
       schema = ap (λ (d : Database). d.schema) now;
       kept = λ list kept. subst (λ (t : Trees). IsKept account_key account_row (t account_tree) (changed (is_account n) (with_step step) list)) next
-        (updates account_key account_row (λ x. refl) (account_table 2) n (with_step step) (λ a. refl) (stepped step) (λ a. refl) (cast_stepped step) trees written.0 list kept found.0
+          (updates account_key account_row (λ x. refl) (account_table 2) n (with_step step) (λ a. refl) (stepped step) (λ a. refl) (cast_stepped step) trees written.0 list kept found.0
           (selected (step_params n step) account_row (λ a. a.number == n) step_query.filter (step_tests n step) account_tree step_query.project (stepped step) (λ a. refl) (overlay trees []) kept.ordered found.0 kept.rows_are (found.1.answer Null)) written.1);
       others = subst (SparesOthers account_tree trees) next (applied trees written.0 (edit_for (account_table 2) trees found.0) written.1).tables;
     }
@@ -153,7 +153,7 @@ disables limit text n trees tally after does =
     record {
       schema = ap (λ (d : Database). d.schema) now;
       kept = λ list kept. subst (λ (t : Trees). IsKept account_key account_row (t account_tree) (changed (is_account n) disabled list)) next
-        (updates account_key account_row (λ x. refl) (account_table 2) n disabled (λ a. refl) turned_off (λ a. refl) cast_off trees written.0 list kept found.0
+          (updates account_key account_row (λ x. refl) (account_table 2) n disabled (λ a. refl) turned_off (λ a. refl) cast_off trees written.0 list kept found.0
           (selected (whole n ∷ []) account_row (λ a. a.number == n) disable_query.filter (disable_tests n) account_tree disable_query.project turned_off (λ a. refl) (overlay trees []) kept.ordered found.0 kept.rows_are (found.1.answer Null)) written.1);
       others = subst (SparesOthers account_tree trees) next (applied trees written.0 (edit_for (account_table 2) trees found.0) written.1).tables;
     }

@@ -1,5 +1,5 @@
 -- No statement sets off another: each reference of the store's tables has NO ACTION.
-use Rattle.std.proofs.Common.{◌≡◌, ℕ, List, [], ◌∷◌, ◌++◌, Bool, true, false, Option, None, Some, Ok, refl, ap, ◌∙◌}
+use Rattle.std.proofs.Common.{◌≡◌, ℕ, List, [], ◌∷◌, Bool, true, false, None, Ok, refl, ap}
 use Rattle.std.specs.List.{AllByRecursion, flat_map, filter_map}
 use Rattle.sqlite.specs.Order.{Row}
 use Rattle.sqlite.specs.Schema.{Schema}

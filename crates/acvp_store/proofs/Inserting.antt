@@ -1,5 +1,5 @@
 -- The insertion of one row under a number that it brings, into whichever table has numbers as keys.
-use Rattle.std.proofs.Common.{◌≡◌, ◌<◌, ◌^◌, ℕ, pos, List, [], ◌∷◌, ◌++◌, map, Bool, true, false, not, Ok, refl, sym, ap, subst, ◌∙◌}
+use Rattle.std.proofs.Common.{◌≡◌, ◌<◌, ◌^◌, ℕ, List, [], ◌∷◌, ◌++◌, map, Bool, true, false, not, Ok, refl, ap, subst, ◌∙◌}
 use Rattle.std.specs.Prelude.{◌&&◌}
 use Rattle.std.specs.List.{list_any}
 use Rattle.std.specs.Ordering.{is_eq}
@@ -9,9 +9,7 @@ use Rattle.sqlite.specs.Table.{Table}
 use Rattle.sqlite.specs.Edit.{edit_of}
 use Rattle.sqlite.specs.Rowids.TheVariants.{Chosen}
 use Rattle.sqlite.specs.Cast.{cast_row}
-use Rattle.sqlite.specs.Ops.{is_null}
 use Rattle.sqlite.specs.Tree.{Trees, rowid}
-use Rattle.sqlite.specs.Effect.{Database}
 use Rattle.sqlite_rules.specs.Edit.{put_all, are_fresh, numbered as numbered_rows}
 use Rattle.sqlite_rules.specs.Action.{Writes}
 use Rattle.sqlite_schema.specs.declared.schema.Keys.TheVariants.{Enforced}
@@ -19,7 +17,7 @@ use Rattle.acvp_store.specs.Schema.{store_schema}
 use Rattle.acvp_store.specs.Values.{whole}
 use Rattle.acvp_store.specs.Kept.{IsKept}
 use Rattle.acvp_store.proofs.Idle.{applied}
-use Rattle.acvp_store.proofs.Keyed.{keyed, with_row, free_key, put_new, kept_with}
+use Rattle.acvp_store.proofs.Keyed.{free_key, put_new, kept_with}
 
 not_false : (b : Bool) → (not b && true) ≡ true → b ≡ false
 not_false true h = absurd (cc)
@@ -38,4 +36,4 @@ module _ {A : Type 0} (key : A → ℕ) (stored : A → Row) (rowid_is : (a : A)
       let fresh = not_false _ (subst (λ rows. are_fresh rows (stored new ∷ []) ≡ true) kept.rows_are one) in
       let free = free_key key stored rowid_is (key new) kept.ordered (subst (λ v. list_any (λ r. is_eq (value_cmp (rowid r) v)) (map stored kept.ordered) ≡ false) (rowid_is new) fresh) in
       kept_with key stored rowid_is (trees table.tree) (next table.tree) list new kept free
-        (it.rows ∙ ap (put_all (trees table.tree)) news ∙ rw kept.rows_are (put_new key stored rowid_is new kept.ordered free)) low
+      (it.rows ∙ ap (put_all (trees table.tree)) news ∙ rw kept.rows_are (put_new key stored rowid_is new kept.ordered free)) low

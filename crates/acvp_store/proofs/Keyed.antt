@@ -1,5 +1,5 @@
 -- Rows of a tree by the numbers that are their keys.
-use Rattle.std.proofs.Common.{◌≡◌, ◌≢◌, ◌⊎◌, inl, inr, ℕ, ◌<◌, ◌≤◌, ◌^◌, pos, List, [], ◌∷◌, ◌++◌, map, length, Bool, true, false, not, Option, Some, None, slice_get, refl, sym, ap, subst, ◌∙◌, arith}
+use Rattle.std.proofs.Common.{◌≡◌, ◌⊎◌, inl, inr, ℕ, ◌<◌, ◌≤◌, ◌^◌, pos, List, [], ◌∷◌, ◌++◌, map, Bool, true, false, not, slice_get, refl, sym, ap, subst, ◌∙◌, arith}
 use Rattle.std.specs.Prelude.{◌==◌, nat_lt, if◌then◌else◌, find}
 use Rattle.std.specs.List.{filter, list_any, AllByRecursion}
 use Rattle.std.specs.List.Sorted.{IsPermutation}
@@ -75,9 +75,9 @@ module _ {A : Type 0} (key : A → ℕ) where
   few_keyed n [] rise = inl refl
   few_keyed n (x ∷ all) rise = elim (cases_Bool (key x == n)) [
     | inl same ↦
-      let e = eq_of (key x) n same in
-      let none = none_beyond n all (subst (λ k. AllByRecursion (λ y. k < key y) all) e rise.0) in
-      inr (x, rw (same, none) refl, e)
+        let e = eq_of (key x) n same in
+        let none = none_beyond n all (subst (λ k. AllByRecursion (λ y. k < key y) all) e rise.0) in
+        inr (x, rw (same, none) refl, e)
     | inr apart ↦ rw apart (few_keyed n all rise.1)
   ]
 
@@ -101,20 +101,20 @@ module _ {A : Type 0} (key : A → ℕ) where
     rechanged [] a rise one = absurd (cc)
     rechanged (x ∷ all) a rise one = elim (cases_Bool (key x == n)) [
       | inl same ↦
-        let e = eq_of (key x) n same in
-        let up = subst (λ k. AllByRecursion (λ y. k < key y) all) e rise.0 in
-        let none = none_beyond n all up in
-        let it : x ≡ a = let o = rw same at one in cc in
-        let rest = all_beyond n all up in
-        let still = none_changing n f all none in
-        let low : key (f a) ≡ key x = keeps a ∙ ap key (sym it) in
-        let head : with_row (f a) all ≡ f a ∷ all = first_beyond (f a) all (subst (λ k. AllByRecursion (λ y. k < key y) all) (sym low) rise.0) in
-        grind (arith, nat_tests, same, it, rest, still, head)
+          let e = eq_of (key x) n same in
+          let up = subst (λ k. AllByRecursion (λ y. k < key y) all) e rise.0 in
+          let none = none_beyond n all up in
+          let it : x ≡ a = let o = rw same at one in cc in
+          let rest = all_beyond n all up in
+          let still = none_changing n f all none in
+          let low : key (f a) ≡ key x = keeps a ∙ ap key (sym it) in
+          let head : with_row (f a) all ≡ f a ∷ all = first_beyond (f a) all (subst (λ k. AllByRecursion (λ y. k < key y) all) (sym low) rise.0) in
+          grind (arith, nat_tests, same, it, rest, still, head)
       | inr apart ↦
-        let low = above (key x) n all a rise.0 (rw apart at one) in
-        let more = rechanged all a rise.1 (rw apart at one) in
-        let its : key (f a) ≡ n = keeps a ∙ keyed_is n all a (rw apart at one) in
-        grind (arith, nat_tests, apart, low, more, its)
+          let low = above (key x) n all a rise.0 (rw apart at one) in
+          let more = rechanged all a rise.1 (rw apart at one) in
+          let its : key (f a) ≡ n = keeps a ∙ keyed_is n all a (rw apart at one) in
+          grind (arith, nat_tests, apart, low, more, its)
     ]
 
     key_changing : (x : A) → key (changing n f x) ≡ key x
@@ -162,8 +162,8 @@ module _ {A : Type 0} (key : A → ℕ) where
       let apart = apart_from new x all free in
       let more = rise_with new all (rw apart at free) rise.1 in
       elim (cases_Bool (nat_lt (key x) (key new))) [
-      | inl low ↦ let below : key x < key new = grind (arith, nat_tests, low) in rw low (all_with (λ y. key x < key y) new all below rise.0, more)
-      | inr high ↦ let over : key new < key x = grind (arith, nat_tests, high, apart) in rw high ((over, all_above (key new) (key x) all over rise.0), rise)
+        | inl low ↦ let below : key x < key new = grind (arith, nat_tests, low) in rw low (all_with (λ y. key x < key y) new all below rise.0, more)
+        | inr high ↦ let over : key new < key x = grind (arith, nat_tests, high, apart) in rw high ((over, all_above (key new) (key x) all over rise.0), rise)
       ]
 
   -- ---- in any order
@@ -179,7 +179,7 @@ module _ {A : Type 0} (key : A → ℕ) where
   pub same_with : (new : A) (ordered list : List A) → IsPermutation ordered list → IsPermutation (with_row new ordered) (list ++ new ∷ [])
   same_with new ordered list same =
       IsPermutation-trans _ (new ∷ ordered) _ (IsPermutation-sym _ _ (with_shuffles new ordered))
-        (IsPermutation-trans _ (new ∷ list) _ (IsPermutation-cons new _ _ same) (IsPermutation-sym _ _ (IsPermutation-to_front list new)))
+      (IsPermutation-trans _ (new ∷ list) _ (IsPermutation-cons new _ _ same) (IsPermutation-sym _ _ (IsPermutation-to_front list new)))
 
   -- what is found of a list is the one row that has the number
   pub find_is : (n : ℕ) (list : List A) → find (λ a. key a == n) list ≡ slice_get (keyed n list) 0
@@ -193,8 +193,8 @@ module _ {A : Type 0} (key : A → ℕ) where
   keyed_same n ordered list rise same =
       let its = IsPermutation-filter (λ a. key a == n) ordered list same in
       elim (few_keyed n ordered rise) [
-      | inl none ↦ none ∙ sym (none_left (keyed n list) (rw none at its))
-      | inr one ↦ one.1 ∙ sym (one_permutation one.0 (keyed n list) (rw one.1 at its))
+        | inl none ↦ none ∙ sym (none_left (keyed n list) (rw none at its))
+        | inr one ↦ one.1 ∙ sym (one_permutation one.0 (keyed n list) (rw one.1 at its))
       ]
 
 -- ---- rows that stand for members
@@ -216,8 +216,8 @@ module _ {A : Type 0} (key : A → ℕ) (stored : A → Row) (rowid_is : (a : A)
   put_new new (a ∷ all) none =
       let later : (key a == key new) ≡ false → keyed key (key new) all ≡ [] = λ apart. rw apart at none in
       order_rows a new _ _ _ ∙ elim (cases_Bool (key a == key new)) [
-      | inl same ↦ absurd (let e = rw same at none in cc)
-      | inr apart ↦ let more = put_new new all (later apart) in grind (arith, nat_tests, apart, more)
+        | inl same ↦ absurd (let e = rw same at none in cc)
+        | inr apart ↦ let more = put_new new all (later apart) in grind (arith, nat_tests, apart, more)
       ]
 
   pub free_key : (n : ℕ) (all : List A) → list_any (λ r. is_eq (value_cmp (rowid r) (whole n))) (map stored all) ≡ false → keyed key n all ≡ []

@@ -1,7 +1,6 @@
 -- What the statements that make the tables do.
-use Rattle.std.proofs.Common.{◌≡◌, ◌≢◌, ℕ, pos, List, [], ◌∷◌, true, false, Option, None, Some, Ok, codes, refl, sym, ap, subst, ◌∙◌}
-use Rattle.std.specs.List.{AllByRecursion}
-use Rattle.sqlite.specs.declared.types.Value.TheVariants.{Null, Int, Text}
+use Rattle.std.proofs.Common.{◌≡◌, ℕ, List, [], ◌∷◌, false, Option, None, Ok, codes, refl, sym, ap, subst, ◌∙◌}
+use Rattle.sqlite.specs.declared.types.Value.TheVariants.{Null, Text}
 use Rattle.sqlite.specs.Order.{Row}
 use Rattle.sqlite.specs.Table.{Table}
 use Rattle.sqlite.specs.Schema.{Schema}
@@ -63,7 +62,7 @@ pub make_effect : (old : State) (t : StoreTable) → old.now.schema ≡ before t
 make_effect old t schema tally after does =
     let text = is_making t in
     let it = subst (λ s. Does old.step_limit (mode_of old) [] (record old.now { schema = s }) (text_of t) None CreateTable (Ok (tally, after))) schema
-        (subst (λ x. Does old.step_limit (mode_of old) [] old.now x None CreateTable (Ok (tally, after))) text.1 does) in
+    (subst (λ x. Does old.step_limit (mode_of old) [] old.now x None CreateTable (Ok (tally, after))) text.1 does) in
     let made = makes old.step_limit (mode_of old) [] (text_of t) (table_of t) (before t) old.now.trees tally after text.2 (unsequenced t) it in
     record { schema = made.0; empty = made.1; others = made.2 }
 

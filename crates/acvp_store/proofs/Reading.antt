@@ -1,15 +1,14 @@
 -- What a query leaves, whatever its text.
-use Rattle.std.proofs.Common.{◌≡◌, ◌≤◌, ◌⊎◌, inl, inr, ℕ, List, Bool, true, false, Option, None, Some, Ok, Err, Result, IsTrue, IfOk, IfErr, OnOk, refl, sym, ap, subst, ◌∙◌, arith}
+use Rattle.std.proofs.Common.{◌≡◌, ◌≤◌, inl, inr, ℕ, List, Bool, true, false, Option, None, Some, Ok, Err, Result, IsTrue, IfOk, IfErr, refl, sym, subst, ◌∙◌, arith}
 use Rattle.sqlite.specs.Order.{Row}
 use Rattle.sqlite.specs.declared.error.Error.{Error}
-use Rattle.sqlite_trees.specs.Tree.{Trees}
 use Rattle.sqlite_trees.specs.View.{doubt}
 use Rattle.sqlite_trees.proofs.Doubt.{no_doubt}
 use Rattle.sqlite_schema.specs.declared.command.Returning.{Returning}
 use Rattle.sqlite_resolve.specs.Compile.{first}
 use Rattle.sqlite.specs.State.{State, HasCleanDisk, Survives, IsUnchanged, IsRolledBack, Shown, ShowsRows, FailsToQuery, FailsToShow, IsNotRun, CommitsShowing}
 use Rattle.sqlite.specs.Clock.{timed}
-use Rattle.acvp_store.specs.Connection.{IsSettled, IsReady, Stays, LeavesNoMore, IsRead}
+use Rattle.acvp_store.specs.Connection.{IsReady, Stays, LeavesNoMore, IsRead}
 use Rattle.acvp_store.proofs.Silent.{asks, silent, commits_nothing}
 
 -- an open store is clean, by the law of each store

@@ -1,16 +1,16 @@
 -- From what statements do to what the tables promise.
-use Rattle.std.proofs.Common.{◌≡◌, ◌≢◌, ◌⊎◌, inl, inr, ℕ, List, [], ◌∷◌, ◌++◌, Bool, true, false, Result, Ok, Err, IsTrue, IfOk, IfErr, OnOk, OnErr, refl, sym, ap, subst, ◌∙◌, arith}
+use Rattle.std.proofs.Common.{◌≡◌, ◌≢◌, inl, inr, ℕ, List, [], ◌∷◌, ◌++◌, true, false, Result, Ok, Err, IsTrue, IfErr, OnOk, refl, sym, ap, subst, ◌∙◌, arith}
 use Rattle.std.specs.Prelude.{◌==◌}
 use Rattle.std.proofs.lemmas.Bool.Decides.{nat_tests}
 use Rattle.std.proofs.lemmas.List.Sorted.{IsPermutation-refl}
 use Rattle.sqlite.specs.Effect.{Database}
 use Rattle.sqlite.specs.Held.{Held, state}
 use Rattle.sqlite.specs.Order.{Row}
-use Rattle.sqlite.specs.State.{State, HasCleanDisk}
+use Rattle.sqlite.specs.State.{State}
 use Rattle.sqlite_trees.specs.declared.store.Store.{Ghosts}
 use Rattle.sqlite_trees.specs.Tree.{Trees}
 use Rattle.acvp_tables.specs.Calls.{Reads, Changes}
-use Rattle.acvp_tables.specs.Content.{Content, no_rows}
+use Rattle.acvp_tables.specs.Content.{Content}
 use Rattle.acvp_tables.specs.Changes.{after, after_order, changed, is_account, with_step, disabled, new_account}
 use Rattle.acvp_tables.specs.State.{IsSound}
 use Rattle.acvp_tables.specs.declared.rows.AccountRow.{AccountRow}
@@ -24,8 +24,8 @@ use Rattle.acvp_store.specs.Kept.{IsKept}
 use Rattle.acvp_store.specs.Rows.{account_tree, account_key, account_row, session_key, session_row}
 use Rattle.acvp_store.specs.Schema.{no_schema, store_schema}
 use Rattle.acvp_store.specs.Stands.{Stands, HoldsSets, HoldsEntries, object_row, reviewer_row, request_row}
-use Rattle.acvp_store.specs.Connection.{IsSettled, IsReady, IsStore, ServesStore, IsRead, IsWritten, IsAfter, Under, Both}
-use Rattle.acvp_store.specs.Alters.{Alters, SparesOthers}
+use Rattle.acvp_store.specs.Connection.{ServesStore, IsRead, IsWritten, Under, Both}
+use Rattle.acvp_store.specs.Alters.{Alters}
 use Rattle.acvp_store.specs.Store.{may_fail, Begins, stands, IsLive, is_clean, leaves}
 use Rattle.acvp_store.specs.Private.Creating.{Makes, WritesVersion, before}
 use Rattle.acvp_store.specs.declared.setup.StoreTable.TheVariants as table
@@ -45,16 +45,17 @@ module _ {S : Type 0} (g : Ghosts S) (a b : Held S) (serves : ServesStore (state
     live = lives r h;
     same = λ live c st. subst (λ (d : Database). Stands d.trees c) (sym (h.stays.now live.is_open)) st;
     left = λ clean live c d st clean' db may.
-      inl (subst (λ t. Stands t c) (sym (settled db live.is_open (h.left clean db may) ∙ ap (λ (x : Database). x.trees) (sym (live.store.ready.settled)))) st);
+        inl (subst (λ t. Stands t c) (sym (settled db live.is_open (h.left clean db may) ∙ ap (λ (x : Database). x.trees) (sym (live.store.ready.settled)))) st);
     kept = λ clean c d was clean' db may. was (h.was_clean clean) db (h.left clean db may);
   }
     where
       any : {X : Type 0} (r : Result X StoreFault) → IfErr r may_fail
       any (Ok x) = tt
       any (Err e) = tt
+
       lives : {X : Type 0} (r : Result X StoreFault) → IsRead r (state g a) (state g b) → OnOk r (is_clean g b → IsLive g a × IsLive g b)
       lives (Ok x) h = λ clean. let open_both = h.live clean in
-        (record { is_open = open_both.0; store = serves open_both.0 }, record { is_open = open_both.1; store = serves_read (Ok x) (state g a) (state g b) serves h open_both.1 })
+          (record { is_open = open_both.0; store = serves open_both.0 }, record { is_open = open_both.1; store = serves_read (Ok x) (state g a) (state g b) serves h open_both.1 })
       lives (Err e) h = tt
 
 -- ---- changes
@@ -97,7 +98,7 @@ module _ {S : Type 0} (g : Ghosts S) (a b : Held S) (Change : Database → Datab
     ok = λ live c sound st. turns _ _ (h.ok live.is_open (serves (h.was_open live.is_open)).schema) c st;
     err = tt;
     settled = λ clean live c d sound st clean' db may. let it = h.left_ok clean live.is_open db may in
-      inl (subst (λ t. Stands t (change c)) it.1 (turns _ _ (it.2 live.store.schema) c st));
+        inl (subst (λ t. Stands t (change c)) it.1 (turns _ _ (it.2 live.store.schema) c st));
     unsettled = tt;
   }
   changes (Err e) h = record {

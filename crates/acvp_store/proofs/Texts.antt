@@ -1,5 +1,5 @@
 -- What the texts of the statements mean.
-use Rattle.std.proofs.Common.{◌≡◌, refl, Ok, None, Some, [], ◌∷◌, List, ℕ, codes, pos, negsuc, true, false}
+use Rattle.std.proofs.Common.{◌≡◌, refl, Ok, None, [], ◌∷◌, List, ℕ, codes, pos, negsuc, true, false}
 use Rattle.std.specs.Fmt.{digits}
 use Rattle.sqlite.specs.Collation.TheVariants.{Binary}
 use Rattle.sqlite.specs.Change.{created}

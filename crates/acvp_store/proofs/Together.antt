@@ -1,11 +1,11 @@
 -- The parts of a transaction, and the whole of one.
-use Rattle.std.proofs.Common.{◌≡◌, ◌⊎◌, inl, inr, ℕ, List, [], ◌∷◌, Bool, true, false, None, Some, Ok, Err, Result, IsTrue, IsErr, IsOk, OnErr, OnOk, refl, sym, ap, subst, ◌∙◌, ◌≤◌, arith}
+use Rattle.std.proofs.Common.{◌≡◌, inl, inr, ℕ, List, true, false, None, Ok, Err, Result, IsTrue, IsOk, OnOk, refl, sym, ap, subst, ◌∙◌}
 use Rattle.std.proofs.lemmas.Bool.{cases_Bool}
 use Rattle.sqlite.specs.Order.{Row}
 use Rattle.sqlite.specs.declared.error.Error.{Error}
 use Rattle.sqlite_trees.specs.Tree.{Trees}
 use Rattle.sqlite.specs.Effect.{Database}
-use Rattle.sqlite.specs.State.{State, HasCleanDisk, Survives, IsUnchanged, IsRolledBack, ExecutesInside, Shows, Runs, Writes, mode_of}
+use Rattle.sqlite.specs.State.{State, HasCleanDisk, Survives, IsRolledBack, ExecutesInside, Shows, Runs, Writes, mode_of}
 use Rattle.sqlite.specs.Steps.{FailsToCommit}
 use Rattle.sqlite.specs.Does.{Tally, Does}
 use Rattle.sqlite.specs.Listing.{understood}
@@ -14,7 +14,7 @@ use Rattle.sqlite.proofs.StateLemmas.{survives_then}
 use Rattle.sqlite.proofs.Callers.{command_of, statement_of, runs_as}
 use Rattle.sqlite_schema.specs.declared.command.Command.{Command}
 use Rattle.sqlite_schema.specs.declared.schema.Schema.{Schema}
-use Rattle.acvp_store.specs.Connection.{IsSettled, IsReady, Stays, LeavesSo, IsAfter, IsWritten, Kept, IsInside, Under, Both}
+use Rattle.acvp_store.specs.Connection.{IsReady, Stays, IsWritten, Kept, IsInside, Under, Both}
 use Rattle.acvp_store.proofs.Reading.{clean_before}
 
 inside_kept : (sql : List ℕ) (params : Row) (old new : State) (r : Result ℕ Error) → ExecutesInside 0 sql params old new r → Kept old new
@@ -50,6 +50,7 @@ module _ (schema : Schema) (sql : List ℕ) (params : Row) (old new : State) (cl
         | inl on ↦ inside_kept sql params old new r (runs (clean live) on)
         | inr off ↦ let same = ended off in record { was_open = λ h. rw same at h; committed = λ _. ap (λ (s : State). s.committed) same }
       ]
+
       ok : (r : Result ℕ Error) → (HasCleanDisk new → IsTrue old.in_transaction → ExecutesInside 0 sql params old new r)
           → OnOk r (IsTrue old.is_open → IsTrue old.in_transaction → HasCleanDisk new → IsTrue new.is_open × IsTrue new.in_transaction × Under schema Effect old.now new.now)
       ok (Ok count) runs = did count runs
@@ -71,9 +72,9 @@ module _ {X Y Z E F G : Type 0} (a b c : State) (First Second : Database → Dat
   inside_then x y z p q = record {
     kept = λ live. let k = q.kept live in kept_then a b c (p.kept (k.was_open live)) k;
     ok = λ live on clean.
-      let was = p.ok live on (clean_before b.is_clean c.is_clean q.survives.clean clean) in
-      let now = q.ok was.0 was.1 clean in
-      (now.0, now.1, (b.now, was.2, now.2));
+        let was = p.ok live on (clean_before b.is_clean c.is_clean q.survives.clean clean) in
+        let now = q.ok was.0 was.1 clean in
+        (now.0, now.1, (b.now, was.2, now.2));
     survives = survives_both a b c p.survives q.survives;
   }
 
@@ -155,8 +156,8 @@ module _ (old begun last new : State) (begins : begun ≡ record old { in_transa
         back live = elim (fails (clean live)) [
           | inl failed ↦ failed.3
           | inr late ↦
-            let was = late.2.0.was_open in
-            absurd (let on = (made_so y h ((kept_so (Ok y) h was).was_open was) (sure_last (clean live))).1 in let off = late.1 in cc)
+              let was = late.2.0.was_open in
+              absurd (let on = (made_so y h ((kept_so (Ok y) h was).was_open was) (sure_last (clean live))).1 in let off = late.1 in cc)
         ]
 
     -- the commit succeeded
@@ -171,7 +172,7 @@ module _ (old begun last new : State) (begins : begun ≡ record old { in_transa
           ok = λ live. subst (Change old.now) (sym (shown (clean live)).now_is) (made_so y h (was live) (sure_last (clean live))).2;
           err = tt;
           left_ok = λ sure live db may.
-            let s = shown sure in
-            (last.now, sym (settled_new db s.is_open may ∙ ap (λ (d : Database). d.trees) s.committed_is), (made_so y h live (sure_last sure)).2);
+              let s = shown sure in
+              (last.now, sym (settled_new db s.is_open may ∙ ap (λ (d : Database). d.trees) s.committed_is), (made_so y h live (sure_last sure)).2);
           left_err = tt;
         }

@@ -1,5 +1,5 @@
 -- The update of the row under one number, in whichever table has numbers as keys.
-use Rattle.std.proofs.Common.{◌≡◌, ◌⊎◌, inl, inr, ℕ, pos, ℤ, List, [], ◌∷◌, map, not, Ok, refl, sym, ap, subst, ◌∙◌, arith}
+use Rattle.std.proofs.Common.{◌≡◌, inl, inr, ℕ, pos, List, [], ◌∷◌, map, not, Ok, refl, sym, ap, subst, ◌∙◌, arith}
 use Rattle.std.specs.Prelude.{◌==◌, drop}
 use Rattle.std.specs.List.{filter}
 use Rattle.std.specs.List.Sorted.{IsPermutation}
@@ -19,7 +19,7 @@ use Rattle.acvp_store.specs.Schema.{store_schema}
 use Rattle.acvp_store.specs.Values.{whole}
 use Rattle.acvp_store.specs.Kept.{IsKept}
 use Rattle.acvp_store.proofs.Idle.{applied}
-use Rattle.acvp_store.proofs.Keyed.{keyed, changing, with_row, few_keyed, none_changing, rechanged, gone_keyed, without_key, put_new, kept_changed}
+use Rattle.acvp_store.proofs.Keyed.{keyed, changing, few_keyed, none_changing, rechanged, gone_keyed, without_key, put_new, kept_changed}
 
 none_left : {X : Type 0} (ys : List X) → IsPermutation [] ys → ys ≡ []
 none_left [] h = refl
@@ -43,10 +43,10 @@ module _ {A : Type 0} (key : A → ℕ) (stored : A → Row) (rowid_is : (a : A)
       let rest = filter (λ (x : A). not (key x == n)) kept.ordered in
       let gone : ids_of (renewed a ∷ []) ≡ pos n ∷ [] = ids a ∙ ap (λ k. pos k ∷ []) same in
       let left : left_by trees (edit_for table trees (renewed a ∷ [])) ≡ map stored rest =
-          ap (without_all (trees table.tree)) gone ∙ ap (λ rows. without_all rows (pos n ∷ [])) kept.rows_are ∙ without_key key stored rowid_is n kept.ordered in
+      ap (without_all (trees table.tree)) gone ∙ ap (λ rows. without_all rows (pos n ∷ [])) kept.rows_are ∙ without_key key stored rowid_is n kept.ordered in
       let free : keyed key (key (f a)) rest ≡ [] = subst (λ k. keyed key k rest ≡ []) (sym (keeps a ∙ same)) (gone_keyed key n kept.ordered) in
       it.rows ∙ ap (put_row (cast_row table (drop 1 (renewed a)))) left ∙ ap (λ r. put_row r (map stored rest)) (casts a)
-        ∙ put_new key stored rowid_is (f a) rest free ∙ ap (map stored) (rechanged key n f keeps kept.ordered a kept.rising one)
+      ∙ put_new key stored rowid_is (f a) rest free ∙ ap (map stored) (rechanged key n f keeps kept.ordered a kept.rising one)
 
   pub rows_updated : (rows : List Row) → IsPermutation (map renewed (keyed key n kept.ordered)) rows → Writes store_schema Enforced trees (edit_for table trees rows) (Ok next) → next table.tree ≡ map stored (map (changing key n f) kept.ordered)
   rows_updated rows found wrote = elim (few_keyed key n kept.ordered kept.rising) [

@@ -1,5 +1,5 @@
 -- What a call leaves of a connection, and what a crash at its end leaves of the store.
-use Rattle.std.specs.Prelude.{◌≡◌, ◌⊎◌, false, List, Result, OnOk, OnErr, IsTrue}
+use Rattle.std.specs.Prelude.{◌≡◌, ◌⊎◌, false, Result, OnOk, OnErr, IsTrue}
 use Rattle.sqlite.specs.Effect.{Database}
 use Rattle.sqlite.specs.State.{State, HasCleanDisk, Survives}
 use Rattle.sqlite_schema.specs.declared.schema.Schema.{Schema}

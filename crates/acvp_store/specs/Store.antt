@@ -1,13 +1,13 @@
 -- What the store's tables are to those who call them.
 use Rattle.std.specs.Prelude.{◌≡◌, ◌⊎◌, IsTrue, ⊤}
 use Rattle.sqlite.specs.Held.{Held, state}
-use Rattle.sqlite.specs.State.{State, HasCleanDisk}
+use Rattle.sqlite.specs.State.{HasCleanDisk}
 use Rattle.sqlite_trees.specs.declared.store.Store.{Ghosts}
 use Rattle.sqlite_trees.specs.Tree.{Trees}
 use Rattle.acvp_tables.specs.Content.{Content, no_rows}
 use Rattle.acvp_tables.specs.declared.tables.StoreFault.{StoreFault}
 use Rattle.acvp_store.specs.Connection.{IsStore}
-use Rattle.acvp_store.specs.Schema.{no_schema, store_schema}
+use Rattle.acvp_store.specs.Schema.{store_schema}
 use Rattle.acvp_store.specs.Stands.{Stands}
 use Rattle.sqlite.specs.Effect.{Database}
 

@@ -2,12 +2,13 @@
 #![tactic(auto)]
 
 mod accounts;
-
 mod fault;
 mod sessions;
 mod setup;
 mod shown;
 mod store;
+#[cfg(test)]
+mod tests;
 mod work;
 
 pub use store::{SqlTables, create};

@@ -5,8 +5,8 @@ ghost use Rattle.acvp_store.specs.Values.{flag, whole};
 
 use crate::fault::fault_of;
 use acvp_tables::StoreFault;
-use sqlite::{Error, Row};
 use sqlite::types::FromSql;
+use sqlite::{Error, Row};
 
 /// What a query shows as one row.
 pub(crate) trait Shown {

@@ -13,8 +13,8 @@ ghost use Rattle.acvp_store.specs.Schema.{no_schema, store_schema};
 ghost use Rattle.acvp_store.specs.Store.{may_fail, Begins, stands, IsLive, is_clean, leaves};
 
 use crate::accounts::{DisabledAccount, find_account};
-use crate::setup::{StoreTable, Version};
 use crate::sessions::find_session;
+use crate::setup::{StoreTable, Version};
 use crate::work::{Then, commit};
 use acvp_tables::{AccountRow, NewAccount, SessionRow, StoreFault, UsedStep};
 use sqlite::{Alter, Connection};

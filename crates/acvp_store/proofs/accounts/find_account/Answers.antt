@@ -1,8 +1,6 @@
-use Rattle.std.proofs.Common.{IsTrue, [], ◌∷◌}
 use Rattle.std.proofs.lemmas.Result.{IfOk-weaker}
 use Rattle.sqlite.specs.Held.{state}
 use Rattle.acvp_store.specs.Rows.{account_tree, account_key, account_row, account_shown}
-use Rattle.acvp_store.specs.Values.{whole}
 use Rattle.acvp_store.proofs.Texts.{find_account, account_asks}
 use Rattle.acvp_store.proofs.Reading.{clean_if_open, read}
 use Rattle.acvp_store.proofs.Finding.{read_as, find_one}
@@ -14,7 +12,7 @@ returns-clause-read g c =
     let old = state g.S.Store c.args.conn.now in
     let new = state g.S.Store c.query_all.new.self in
     read_as c.query_all.result c.answered.result old new c.answered.ensures.ok
-      (read find_account _ old new (g.met.S.Store.shut_if_dirty c.query_all.new.self.store) (λ live. (c.requires live).ready) account_asks c.query_all.ensures.survives c.query_all.result (λ v. v.items) c.query_all.ensures.ok c.query_all.ensures.err)
+    (read find_account _ old new (g.met.S.Store.shut_if_dirty c.query_all.new.self.store) (λ live. (c.requires live).ready) account_asks c.query_all.ensures.survives c.query_all.result (λ v. v.items) c.query_all.ensures.ok c.query_all.ensures.err)
 
 pub returns-clause-found : goal.returns-clause-found
 returns-clause-found g c live =
@@ -23,4 +21,4 @@ returns-clause-found g c live =
     let clean = clean_if_open new.is_clean new.is_open (g.met.S.Store.shut_if_dirty c.query_all.new.self.store) live in
     let was = (returns-clause-read g c).stays.was_open live in
     find_one account_key account_row account_shown c.args.number (old.now.trees account_tree) c.query_all.result (λ v. v.items) c.answered.result c.answered.ensures.ok c.answered.ensures.found
-      (IfOk-weaker c.query_all.result _ _ (λ rows shown. account_rows c.args.number old new rows.items (c.requires was).schema (rw (c.params-to_sql.ensures, c.from.ensures) at shown)) (c.query_all.ensures.ok clean))
+    (IfOk-weaker c.query_all.result _ _ (λ rows shown. account_rows c.args.number old new rows.items (c.requires was).schema (rw (c.params-to_sql.ensures, c.from.ensures) at shown)) (c.query_all.ensures.ok clean))

@@ -1,9 +1,8 @@
-use Rattle.std.proofs.Common.{IsTrue, [], ◌∷◌, rules, w64, to_z-of_z}
+use Rattle.std.proofs.Common.{rules, w64, to_z-of_z}
 use mir.Val.{SFits}
 use Rattle.std.proofs.lemmas.Result.{IfOk-weaker}
 use Rattle.sqlite.specs.Held.{state}
 use Rattle.acvp_store.specs.Rows.{session_tree, session_key, session_row, session_shown}
-use Rattle.acvp_store.specs.Values.{whole}
 use Rattle.acvp_store.proofs.Texts.{find_session, session_asks}
 use Rattle.acvp_store.proofs.Reading.{clean_if_open, read}
 use Rattle.acvp_store.proofs.Finding.{read_as, find_one}
@@ -15,7 +14,7 @@ returns-clause-read g c =
     let old = state g.S.Store c.args.conn.now in
     let new = state g.S.Store c.query_all.new.self in
     read_as c.query_all.result c.answered.result old new c.answered.ensures.ok
-      (read find_session _ old new (g.met.S.Store.shut_if_dirty c.query_all.new.self.store) (λ live. (c.requires live).ready) session_asks c.query_all.ensures.survives c.query_all.result (λ v. v.items) c.query_all.ensures.ok c.query_all.ensures.err)
+    (read find_session _ old new (g.met.S.Store.shut_if_dirty c.query_all.new.self.store) (λ live. (c.requires live).ready) session_asks c.query_all.ensures.survives c.query_all.result (λ v. v.items) c.query_all.ensures.ok c.query_all.ensures.err)
 
 pub returns-clause-found : goal.returns-clause-found
 returns-clause-found g c live =
@@ -25,4 +24,4 @@ returns-clause-found g c live =
     let fit : SFits w64 c.key.result = search rules in
     let was = (returns-clause-read g c).stays.was_open live in
     find_one session_key session_row session_shown c.args.number (old.now.trees session_tree) c.query_all.result (λ v. v.items) c.answered.result c.answered.ensures.ok c.answered.ensures.found
-      (IfOk-weaker c.query_all.result _ _ (λ rows shown. session_rows c.args.number c.key.result c.key.ensures.fits c.key.ensures.too_large old new rows.items (c.requires was).schema (rw (c.params-to_sql.ensures, to_z-of_z fit) at shown)) (c.query_all.ensures.ok clean))
+    (IfOk-weaker c.query_all.result _ _ (λ rows shown. session_rows c.args.number c.key.result c.key.ensures.fits c.key.ensures.too_large old new rows.items (c.requires was).schema (rw (c.params-to_sql.ensures, to_z-of_z fit) at shown)) (c.query_all.ensures.ok clean))

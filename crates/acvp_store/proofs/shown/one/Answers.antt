@@ -1,4 +1,4 @@
-use Rattle.std.proofs.Common.{rules, ◌≡◌, arith}
+use Rattle.std.proofs.Common.{rules, arith}
 use Rattle.acvp_store.proofs.Finding.{none_found, one_found}
 use Rattle.acvp_store.proofs.shown.one.Goals as goal
 

@@ -1,7 +1,6 @@
-use Rattle.std.proofs.Common.{◌<◌, ◌^◌, ap, [], ◌∷◌, ◌++◌, arith, rules}
-use Rattle.sqlite.specs.declared.types.Value.TheVariants.{Blob}
+use Rattle.std.proofs.Common.{ap, [], ◌∷◌}
 use Rattle.sqlite.specs.Held.{state}
-use Rattle.acvp_tables.specs.Changes.{changed, is_account, with_step, disabled, new_account}
+use Rattle.acvp_tables.specs.Changes.{changed, is_account, disabled}
 use Rattle.acvp_store.specs.Alters.{Alters}
 use Rattle.acvp_store.specs.Connection.{Under}
 use Rattle.acvp_store.specs.Rows.{account_tree, account_key, account_row}
@@ -20,6 +19,6 @@ returns-clause-inside g c =
     let n = c.args.self.now.account in
     let Change = Alters account_tree account_key account_row (changed (is_account n) disabled) in
     inside_as c.execute.result c.done.result old new (Under store_schema Change) c.done.ensures
-      (inside store_schema disable_account (whole n ∷ []) old new (clean_if_open new.is_clean new.is_open (g.met.S.Store.shut_if_dirty c.execute.new.self.conn.now.store))
-        _ disable_is disable_plain (λ count w. w) Change (disable_effect old n) c.execute.result
-        (λ clean on. rw (c.params-to_sql.ensures, c.from.ensures) at (c.execute.ensures.runs clean on)) (λ off. ap (state g.S.Store) (c.execute.ensures.ended off).1) c.execute.ensures.survives)
+    (inside store_schema disable_account (whole n ∷ []) old new (clean_if_open new.is_clean new.is_open (g.met.S.Store.shut_if_dirty c.execute.new.self.conn.now.store))
+    _ disable_is disable_plain (λ count w. w) Change (disable_effect old n) c.execute.result
+    (λ clean on. rw (c.params-to_sql.ensures, c.from.ensures) at (c.execute.ensures.runs clean on)) (λ off. ap (state g.S.Store) (c.execute.ensures.ended off).1) c.execute.ensures.survives)

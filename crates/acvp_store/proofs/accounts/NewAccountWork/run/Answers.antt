@@ -1,7 +1,7 @@
-use Rattle.std.proofs.Common.{◌<◌, ◌^◌, ap, [], ◌∷◌, ◌++◌, arith, rules}
+use Rattle.std.proofs.Common.{◌<◌, ◌^◌, ap, [], ◌∷◌, ◌++◌, arith}
 use Rattle.sqlite.specs.declared.types.Value.TheVariants.{Blob}
 use Rattle.sqlite.specs.Held.{state}
-use Rattle.acvp_tables.specs.Changes.{changed, is_account, with_step, disabled, new_account}
+use Rattle.acvp_tables.specs.Changes.{new_account}
 use Rattle.acvp_store.specs.Alters.{Alters}
 use Rattle.acvp_store.specs.Connection.{Under}
 use Rattle.acvp_store.specs.Rows.{account_tree, account_key, account_row}
@@ -21,6 +21,6 @@ returns-clause-inside g c =
     let low : a.account < 2 ^ 63 = omega (arith, c.from.ensures) in
     let Change = Alters account_tree account_key account_row (λ accounts. accounts ++ new_account a ∷ []) in
     inside_as c.execute.result c.done.result old new (Under store_schema Change) c.done.ensures
-      (inside store_schema add_account (whole a.account ∷ Blob a.secret ∷ []) old new (clean_if_open new.is_clean new.is_open (g.met.S.Store.shut_if_dirty c.execute.new.self.conn.now.store))
-        _ add_account_is add_account_plain (λ count w. w) Change (add_effect old a low) c.execute.result
-        (λ clean on. rw (c.params-to_sql.ensures, c.params-to_sql-2.ensures, c.as_slice.ensures, c.from.ensures) at (c.execute.ensures.runs clean on)) (λ off. ap (state g.S.Store) (c.execute.ensures.ended off).1) c.execute.ensures.survives)
+    (inside store_schema add_account (whole a.account ∷ Blob a.secret ∷ []) old new (clean_if_open new.is_clean new.is_open (g.met.S.Store.shut_if_dirty c.execute.new.self.conn.now.store))
+    _ add_account_is add_account_plain (λ count w. w) Change (add_effect old a low) c.execute.result
+    (λ clean on. rw (c.params-to_sql.ensures, c.params-to_sql-2.ensures, c.as_slice.ensures, c.from.ensures) at (c.execute.ensures.runs clean on)) (λ off. ap (state g.S.Store) (c.execute.ensures.ended off).1) c.execute.ensures.survives)

@@ -1,8 +1,7 @@
-use Rattle.std.proofs.Common.{◌<◌, ◌^◌, ap, [], ◌∷◌, ◌++◌, arith, rules, w64, to_z-of_z}
+use Rattle.std.proofs.Common.{◌<◌, ◌^◌, ap, [], ◌∷◌, arith, rules, w64, to_z-of_z}
 use mir.Val.{SFits}
-use Rattle.sqlite.specs.declared.types.Value.TheVariants.{Blob}
 use Rattle.sqlite.specs.Held.{state}
-use Rattle.acvp_tables.specs.Changes.{changed, is_account, with_step, disabled, new_account}
+use Rattle.acvp_tables.specs.Changes.{changed, is_account, with_step}
 use Rattle.acvp_store.specs.Alters.{Alters}
 use Rattle.acvp_store.specs.Connection.{Under}
 use Rattle.acvp_store.specs.Rows.{account_tree, account_key, account_row}
@@ -23,6 +22,6 @@ returns-clause-inside g c =
     let fit : SFits w64 c.key.result = search rules in
     let Change = Alters account_tree account_key account_row (changed (is_account u.account) (with_step u.step)) in
     inside_as c.execute.result c.done.result old new (Under store_schema Change) c.done.ensures
-      (inside store_schema set_step (whole u.account ∷ whole u.step ∷ []) old new (clean_if_open new.is_clean new.is_open (g.met.S.Store.shut_if_dirty c.execute.new.self.conn.now.store))
-        _ step_is step_plain (λ count w. w) Change (step_effect old u.account u.step) c.execute.result
-        (λ clean on. rw (c.params-to_sql.ensures, c.params-to_sql-2.ensures, to_z-of_z fit, c.key.ensures.fits low, c.from.ensures) at (c.execute.ensures.runs clean on)) (λ off. ap (state g.S.Store) (c.execute.ensures.ended off).1) c.execute.ensures.survives)
+    (inside store_schema set_step (whole u.account ∷ whole u.step ∷ []) old new (clean_if_open new.is_clean new.is_open (g.met.S.Store.shut_if_dirty c.execute.new.self.conn.now.store))
+    _ step_is step_plain (λ count w. w) Change (step_effect old u.account u.step) c.execute.result
+    (λ clean on. rw (c.params-to_sql.ensures, c.params-to_sql-2.ensures, to_z-of_z fit, c.key.ensures.fits low, c.from.ensures) at (c.execute.ensures.runs clean on)) (λ off. ap (state g.S.Store) (c.execute.ensures.ended off).1) c.execute.ensures.survives)

@@ -15,6 +15,6 @@ returns-clause-inside g c =
     let t = c.args.self.now in
     let text = is_making t in
     inside_as c.execute.result c.done.result old new (Under (before t) (Makes t)) c.done.ensures
-      (inside (before t) (text_of t) [] old new (clean_if_open new.is_clean new.is_open (g.met.S.Store.shut_if_dirty c.execute.new.self.conn.now.store))
-        _ text.0 text.3 (λ count w. w) (Makes t) (make_effect old t) c.execute.result
-        (rw c.text.ensures at c.execute.ensures.runs) (λ off. ap (state g.S.Store) (c.execute.ensures.ended off).1) c.execute.ensures.survives)
+    (inside (before t) (text_of t) [] old new (clean_if_open new.is_clean new.is_open (g.met.S.Store.shut_if_dirty c.execute.new.self.conn.now.store))
+    _ text.0 text.3 (λ count w. w) (Makes t) (make_effect old t) c.execute.result
+    (rw c.text.ensures at c.execute.ensures.runs) (λ off. ap (state g.S.Store) (c.execute.ensures.ended off).1) c.execute.ensures.survives)

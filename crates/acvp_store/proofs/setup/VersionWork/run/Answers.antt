@@ -14,6 +14,6 @@ returns-clause-inside g c =
     let old = state g.S.Store c.args.tx.now.conn.now in
     let new = state g.S.Store c.execute.new.self.conn.now in
     inside_as c.execute.result c.done.result old new (Under store_schema (WritesVersion 3)) c.done.ensures
-      (inside store_schema add_version [] old new (clean_if_open new.is_clean new.is_open (g.met.S.Store.shut_if_dirty c.execute.new.self.conn.now.store))
-        _ version_is version_plain (λ count w. w) (WritesVersion 3) (version_effect old) c.execute.result
-        c.execute.ensures.runs (λ off. ap (state g.S.Store) (c.execute.ensures.ended off).1) c.execute.ensures.survives)
+    (inside store_schema add_version [] old new (clean_if_open new.is_clean new.is_open (g.met.S.Store.shut_if_dirty c.execute.new.self.conn.now.store))
+    _ version_is version_plain (λ count w. w) (WritesVersion 3) (version_effect old) c.execute.result
+    c.execute.ensures.runs (λ off. ap (state g.S.Store) (c.execute.ensures.ended off).1) c.execute.ensures.survives)

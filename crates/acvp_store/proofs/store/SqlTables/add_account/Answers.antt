@@ -1,6 +1,5 @@
 use Rattle.std.proofs.Common.{◌++◌, ◌∷◌, []}
-use Rattle.acvp_tables.specs.Changes.{after, after_order, changed, is_account, with_step, disabled, new_account}
-use Rattle.acvp_tables.specs.declared.change.Change.TheVariants as change
+use Rattle.acvp_tables.specs.Changes.{after_order, new_account}
 use Rattle.acvp_tables.specs.declared.change.OrderChange.TheVariants as order
 use Rattle.acvp_store.specs.Alters.{Alters}
 use Rattle.acvp_store.specs.Rows.{account_tree, account_key, account_row}
