@@ -12,4 +12,5 @@ pub mod Updating
 pub mod Finding
 pub mod AccountRows
 pub mod SessionRows
+pub mod ObjectRows
 pub mod Standing

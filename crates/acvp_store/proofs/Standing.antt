@@ -11,17 +11,18 @@ use Rattle.sqlite_trees.specs.declared.store.Store.{Ghosts}
 use Rattle.sqlite_trees.specs.Tree.{Trees}
 use Rattle.acvp_tables.specs.Calls.{Reads, Changes}
 use Rattle.acvp_tables.specs.Content.{Content}
-use Rattle.acvp_tables.specs.Changes.{after, after_order, changed, is_account, with_step, disabled, new_account}
+use Rattle.acvp_tables.specs.Changes.{after, after_order, changed, is_account, with_step, disabled, new_account, is_session, cancelled_session}
 use Rattle.acvp_tables.specs.State.{IsSound}
 use Rattle.acvp_tables.specs.declared.rows.AccountRow.{AccountRow}
 use Rattle.acvp_tables.specs.declared.rows.RequestRow.{RequestRow}
+use Rattle.acvp_tables.specs.declared.rows.SessionRow.{SessionRow}
 use Rattle.acvp_tables.specs.declared.change.NewAccount.{NewAccount}
 use Rattle.acvp_tables.specs.declared.change.UsedStep.{UsedStep}
 use Rattle.acvp_tables.specs.declared.change.Change.TheVariants as change
 use Rattle.acvp_tables.specs.declared.change.OrderChange.TheVariants as order
 use Rattle.acvp_tables.specs.declared.tables.StoreFault.{StoreFault}
 use Rattle.acvp_store.specs.Kept.{IsKept}
-use Rattle.acvp_store.specs.Rows.{account_tree, account_key, account_row, session_key, session_row}
+use Rattle.acvp_store.specs.Rows.{account_tree, account_key, account_row, session_tree, session_key, session_row}
 use Rattle.acvp_store.specs.Schema.{no_schema, store_schema}
 use Rattle.acvp_store.specs.Stands.{Stands, HoldsSets, HoldsEntries, object_row, reviewer_row, request_row}
 use Rattle.acvp_store.specs.Connection.{ServesStore, IsRead, IsWritten, Under, Both}
@@ -127,9 +128,26 @@ accounts_altered change d e h c st = record {
   sessions = subst (λ rows. IsKept session_key session_row rows c.sessions) (sym (h.others.1.1.0 (apart 3 2 refl))) st.sessions;
   sets = subst (λ rows. HoldsSets rows c.sets) (sym (h.others.1.1.1.0 (apart 4 2 refl))) st.sets;
   objects = subst (λ rows. HoldsEntries object_row rows c.objects) (sym (h.others.1.1.1.1.0 (apart 5 2 refl))) st.objects;
+  object_numbers = st.object_numbers;
   requests = subst (λ rows. IsKept (λ (r : RequestRow). r.number) request_row rows c.requests) (sym (h.others.1.1.1.1.1.0 (apart 7 2 refl))) st.requests;
   reviewers = subst (λ rows. HoldsEntries reviewer_row rows c.reviewers) (sym (h.others.1.1.1.1.1.1.0 (apart 8 2 refl))) st.reviewers;
 }
+
+pub sessions_altered : (change : List SessionRow → List SessionRow) (d e : Database) → Alters session_tree session_key session_row change d e → (c : Content) → Stands d.trees c → Stands e.trees (record c { sessions = change c.sessions })
+sessions_altered change d e h c st = record {
+  version = h.others.0 (apart 0 3 refl) ∙ st.version;
+  accounts = subst (λ rows. IsKept account_key account_row rows c.accounts) (sym (h.others.1.0 (apart 2 3 refl))) st.accounts;
+  sessions = h.kept c.sessions st.sessions;
+  sets = subst (λ rows. HoldsSets rows c.sets) (sym (h.others.1.1.1.0 (apart 4 3 refl))) st.sets;
+  objects = subst (λ rows. HoldsEntries object_row rows c.objects) (sym (h.others.1.1.1.1.0 (apart 5 3 refl))) st.objects;
+  object_numbers = st.object_numbers;
+  requests = subst (λ rows. IsKept (λ (r : RequestRow). r.number) request_row rows c.requests) (sym (h.others.1.1.1.1.1.0 (apart 7 3 refl))) st.requests;
+  reviewers = subst (λ rows. HoldsEntries reviewer_row rows c.reviewers) (sym (h.others.1.1.1.1.1.1.0 (apart 8 3 refl))) st.reviewers;
+}
+
+pub cancelled : (n : ℕ) (d e : Database) → Alters session_tree session_key session_row (changed (is_session n) cancelled_session) d e → (c : Content) → Stands d.trees c → Stands e.trees (after (change.CancelSession n) c)
+unfolding after
+cancelled n d e h c st = sessions_altered (changed (is_session n) cancelled_session) d e h c st
 
 pub added : (a : NewAccount) (d e : Database) → Alters account_tree account_key account_row (λ rows. rows ++ new_account a ∷ []) d e → (c : Content) → Stands d.trees c → Stands e.trees (after_order (order.AddAccount a) c)
 unfolding after_order
@@ -179,6 +197,7 @@ begins old new h start =
         sessions = kept_none _ _ _ sessions;
         sets = record { columns = []; kept = kept_none _ _ _ sets; same = tt };
         objects = record { entries = []; kept = kept_none _ _ _ objects; same = refl };
+        object_numbers = tt;
         requests = kept_none _ _ _ requests;
         reviewers = record { entries = []; kept = kept_none _ _ _ reviewers; same = refl };
       };

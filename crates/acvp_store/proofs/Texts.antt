@@ -166,3 +166,44 @@ session_plain = (refl, refl)
 pub session_asks : asks (first find_session) ≡ true
 unfolding first everything
 session_asks = refl
+
+abbrev pub cancel_session : List ℕ
+cancel_session = codes "UPDATE session SET cancelled = 1 WHERE session = ?1"
+
+abbrev pub cancel_terms : List Term
+cancel_terms = equals 0 0 ∷ []
+
+abbrev pub cancel_columns : List Term
+cancel_columns = col 1 0 ∷ col 1 0 ∷ lit Null ∷ col 1 2 ∷ col 1 3 ∷ col 1 4 ∷ lit (Int (pos 1)) ∷ col 1 6 ∷ col 1 7 ∷ col 1 8 ∷ []
+
+pub cancel_is : command_of (understood store_schema cancel_session) ≡ Update 2 (record { lets = []; body = simple 3 cancel_terms cancel_columns })
+unfolding understood everything
+cancel_is = refl
+
+pub cancel_plain : IsPlain (understood store_schema cancel_session)
+unfolding understood everything
+cancel_plain = (refl, refl)
+
+-- ---- registered objects
+
+abbrev pub find_owner : List ℕ
+find_owner = codes "SELECT account FROM object WHERE kind = ?1 AND number = ?2"
+
+abbrev pub owner_query : Query
+owner_query = simple 5 (equals 1 0 ∷ equals 2 1 ∷ []) (col 1 3 ∷ [])
+
+pub owner_is : command_of (understood store_schema find_owner) ≡ Select (record { lets = []; body = owner_query }) (codes "account" ∷ [])
+unfolding understood everything
+owner_is = refl
+
+pub owner_unlisted : reads_listing store_schema find_owner ≡ false
+unfolding understood everything
+owner_unlisted = refl
+
+pub owner_plain : IsPlain (understood store_schema find_owner)
+unfolding understood everything
+owner_plain = (refl, refl)
+
+pub owner_asks : asks (first find_owner) ≡ true
+unfolding first everything
+owner_asks = refl

@@ -1,6 +1,6 @@
 -- Which rows of the tables stand for a content.
-use Rattle.std.specs.Prelude.{◌≡◌, ℕ, Bool, List, [], ◌∷◌, map, codes, Option, Some, None, Ok, unwrap_or}
-use Rattle.std.specs.List.{AllZip}
+use Rattle.std.specs.Prelude.{◌≡◌, ◌<◌, ◌^◌, ℕ, Bool, List, [], ◌∷◌, map, codes, Option, Some, None, Ok, unwrap_or}
+use Rattle.std.specs.List.{AllZip, AllByRecursion}
 use Rattle.serde_json.specs.Data.{Data, number, unsigned, string, object, member, no_members}
 use Rattle.serde_json.specs.Written.{compact_text}
 use Rattle.sqlite.specs.Values.{or_null}
@@ -92,8 +92,15 @@ pub record HoldsEntries {A : Type 0} (stored : Entry A → Row) (rows : List Row
   pub kept : IsKept (λ e. e.id) stored rows entries
   pub same : map (λ (e : Entry A). e.row) entries ≡ list
 
+abbrev pub object_tree : ℕ
+object_tree = 5
+
 abbrev pub object_row : Entry ObjectRow → Row
 object_row e = whole e.id ∷ whole (kind_number e.row.object.kind) ∷ whole e.row.number ∷ whole e.row.account ∷ Text (object_text e.row.object) ∷ []
+
+-- each number fits a column
+abbrev pub FitColumns : List ObjectRow → Type 0
+FitColumns objects = AllByRecursion (λ (o : ObjectRow). o.number < 2 ^ 63) objects
 
 abbrev pub reviewer_row : Entry ReviewerRow → Row
 reviewer_row e = whole e.id ∷ whole e.row.session ∷ whole e.row.account ∷ []
@@ -131,6 +138,7 @@ pub record Stands (trees : Trees) (c : Content) : Type 0 where
   pub accounts : IsKept account_key account_row (trees account_tree) c.accounts
   pub sessions : IsKept session_key session_row (trees session_tree) c.sessions
   pub sets : HoldsSets (trees 4) c.sets
-  pub objects : HoldsEntries object_row (trees 5) c.objects
+  pub objects : HoldsEntries object_row (trees object_tree) c.objects
+  pub object_numbers : FitColumns c.objects
   pub requests : IsKept (λ (r : RequestRow). r.number) request_row (trees 7) c.requests
   pub reviewers : HoldsEntries reviewer_row (trees 8) c.reviewers

@@ -3,6 +3,7 @@
 
 mod accounts;
 mod fault;
+mod objects;
 mod sessions;
 mod setup;
 mod shown;

@@ -1,9 +1,9 @@
 //! The records in SQL tables.
-ghost use Rattle.std.specs.Prelude.{◌≡◌, IsTrue, IfOk, IfErr};
+ghost use Rattle.std.specs.Prelude.{◌≡◌, IsTrue, IfOk, IfErr, option_map};
 ghost use Rattle.sqlite.specs.Held.{state};
 ghost use Rattle.sqlite.specs.State.{HasCleanDisk};
 ghost use Rattle.acvp_tables.specs.Calls.{Finds, Reads, Changes};
-ghost use Rattle.acvp_tables.specs.Content.{no_rows, account_at, session_at};
+ghost use Rattle.acvp_tables.specs.Content.{no_rows, account_at, session_at, object_at};
 ghost use Rattle.acvp_tables.specs.Changes.{after, after_order};
 ghost use Rattle.acvp_tables.specs.State.{IsSound};
 ghost use Rattle.acvp_tables.specs.declared.change.Change.TheVariants as change;
@@ -13,9 +13,11 @@ ghost use Rattle.acvp_store.specs.Schema.{no_schema, store_schema};
 ghost use Rattle.acvp_store.specs.Store.{may_fail, Begins, stands, IsLive, is_clean, leaves};
 
 use crate::accounts::{DisabledAccount, find_account};
-use crate::sessions::find_session;
+use crate::objects::find_owner;
+use crate::sessions::{CancelledSession, find_session};
 use crate::setup::{StoreTable, Version};
 use crate::work::{Then, commit};
+use acvp_registry::Kind;
 use acvp_tables::{AccountRow, NewAccount, SessionRow, StoreFault, UsedStep};
 use sqlite::{Alter, Connection};
 use std::marker::Model;
@@ -124,6 +126,14 @@ impl<S: Alter> SqlTables<S> {
         find_session(&mut self.connection, number)
     }
 
+    /// The account of the registered object of a kind and number.
+    pub fn owner(&mut self, kind: Kind, number: u64) -> Result<Option<u16>, StoreFault>
+        ensures found { Finds IsSound (stands S.Store) (IsLive S.Store) (λ x. x) result self.old self.new (λ c. option_map (λ row. row.account) (object_at kind number c.objects)) }
+        ensures reads { Reads may_fail (stands S.Store) (IsLive S.Store) (is_clean S.Store) (leaves S.Store) result self.old self.new }
+    {
+        find_owner(&mut self.connection, kind, number)
+    }
+
     /// Adds an account.
     pub fn add_account(&mut self, account: &NewAccount) -> Result<(), StoreFault>
         ensures { Changes IsSound may_fail (stands S.Store) (IsLive S.Store) (is_clean S.Store) (leaves S.Store) result self.old self.new (after_order (order.AddAccount account.now)) }
@@ -143,5 +153,12 @@ impl<S: Alter> SqlTables<S> {
         ensures { Changes IsSound may_fail (stands S.Store) (IsLive S.Store) (is_clean S.Store) (leaves S.Store) result self.old self.new (after (change.UseStep used.now)) }
     {
         commit(&mut self.connection, used)
+    }
+
+    /// Cancels the test session of a number.
+    pub fn cancel_session(&mut self, number: u64) -> Result<(), StoreFault>
+        ensures { Changes IsSound may_fail (stands S.Store) (IsLive S.Store) (is_clean S.Store) (leaves S.Store) result self.old self.new (after (change.CancelSession number)) }
+    {
+        commit(&mut self.connection, &CancelledSession { number })
     }
 }

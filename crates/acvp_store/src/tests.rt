@@ -2,6 +2,7 @@
 //! crate itself doesn't have.
 
 use crate::{SqlTables, create};
+use acvp_registry::Kind;
 use acvp_tables::{NewAccount, StoreFault, UsedStep};
 use sqlite::{Connection, MemStore, params};
 use std::test::Fail;
@@ -69,6 +70,10 @@ fn what_a_column_cannot_keep_is_refused(rt: HostRuntime) -> Result<(), Fail> {
     );
     assert!(rt; tables.session(9999000001)?.is_none());
     assert!(rt; tables.session(18446744073709551615)?.is_none());
+    assert!(rt; tables.owner(Kind::Vendor, 9999000001)?.is_none());
+    assert!(rt; tables.owner(Kind::Module, 18446744073709551615)?.is_none());
+    tables.cancel_session(9999000001)?;
+    assert!(rt; tables.session(9999000001)?.is_none());
     Ok(())
 }
 

@@ -1,0 +1,104 @@
+-- The statements on registered objects.
+use Rattle.std.proofs.Common.{◌≡◌, ◌⊎◌, inl, inr, ◌<◌, ◌≤◌, ◌^◌, ℕ, ℤ, pos, negsuc, List, [], ◌∷◌, map, Bool, true, false, Option, Some, None, Ok, Err, Result, IfOk, IsOk, slice_get, refl, sym, ap, subst, ◌∙◌, arith}
+use Rattle.std.specs.Prelude.{◌==◌, ◌&&◌, find, option_map}
+use Rattle.std.specs.List.{filter, AllByRecursion}
+use Rattle.std.specs.List.Sorted.{IsPermutation}
+use Rattle.std.proofs.lemmas.Bool.{cases_Bool}
+use Rattle.std.proofs.lemmas.Bool.Decides.{nat_tests}
+use Rattle.std.proofs.lemmas.List.Sorted.{IsPermutation-map, IsPermutation-trans, IsPermutation-sym}
+use Rattle.sqlite.specs.declared.types.Value.TheVariants.{Null, Int}
+use Rattle.sqlite.specs.Order.{Row}
+use Rattle.sqlite.specs.Ops.{is_true, binary}
+use Rattle.sqlite.specs.Collation.TheVariants.{Binary}
+use Rattle.sqlite.specs.Program.{overlay}
+use Rattle.sqlite.specs.State.{State, Shown}
+use Rattle.sqlite.proofs.Callers.{reads_as}
+use Rattle.sqlite_sql.specs.declared.ops.BinaryOp.TheVariants.{Compare}
+use Rattle.sqlite_sql.specs.declared.ops.CompareOp.TheVariants.{Eq}
+use Rattle.sqlite_trees.proofs.ListLemmas.{IsPermutation-filter}
+use Rattle.acvp_registry.specs.declared.kind.Kind.{Kind}
+use Rattle.acvp_tables.specs.Content.{kind_number, is_kind, object_at}
+use Rattle.acvp_tables.specs.declared.rows.ObjectRow.{ObjectRow}
+use Rattle.acvp_store.specs.Values.{whole}
+use Rattle.acvp_store.specs.Schema.{store_schema}
+use Rattle.acvp_store.specs.Stands.{Entry, HoldsEntries, object_row, object_tree, FitColumns}
+use Rattle.acvp_store.proofs.Parts.{and_true}
+use Rattle.acvp_store.proofs.Selecting.{test_equals, test_none, selected}
+use Rattle.acvp_store.proofs.Texts.{find_owner, owner_query, owner_is, owner_plain, owner_unlisted}
+
+abbrev is_it : Kind → ℕ → ObjectRow → Bool
+is_it kind n o = is_kind o.object.kind kind && (o.number == n)
+
+abbrev owner_shown : ℕ → Row
+owner_shown account = whole account ∷ []
+
+abbrev owners : Kind → ℕ → List ObjectRow → List ℕ
+owners kind n objects = map (λ o. o.account) (filter (is_it kind n) objects)
+
+both : (a b c d : Bool) → a ≡ c → b ≡ d → (a && (b && true)) ≡ (c && d)
+both true b true d e f = and_true b ∙ f
+both false b false d e f = refl
+both true b false d e f = absurd (cc)
+both false b true d e f = absurd (cc)
+
+neither : (b : Bool) → (b && false) ≡ false
+neither true = refl
+neither false = refl
+
+-- the rows that pass, in the order of the list
+module _ (k : ℕ) (n : ℤ) (p : ObjectRow → Bool) (tests : (o : ObjectRow) → (is_true (binary (Compare Eq Binary) (whole (kind_number o.object.kind)) (whole k)) && (is_true (binary (Compare Eq Binary) (whole o.number) (Int n)) && true)) ≡ p o) where
+  rows_of : (old new : State) (rows : List Row) → old.now.schema ≡ store_schema → Shown find_owner (whole k ∷ Int n ∷ []) old new rows → (objects : List ObjectRow) (h : HoldsEntries object_row (old.now.trees object_tree) objects)
+      → IsPermutation (map (λ (e : Entry ObjectRow). owner_shown e.row.account) (filter (λ e. p e.row) h.entries)) rows
+  rows_of old new rows schema shown objects h =
+      let found = selected (whole k ∷ Int n ∷ []) object_row (λ e. p e.row) owner_query.filter (λ e. tests e.row) object_tree owner_query.project (λ e. owner_shown e.row.account) (λ e. refl) (overlay old.now.trees []) h.kept.ordered rows h.kept.rows_are
+      ((reads_as find_owner (whole k ∷ Int n ∷ []) old new store_schema schema _ owner_is owner_plain owner_unlisted rows shown).answer Null) in
+      let same = IsPermutation-map (λ (e : Entry ObjectRow). owner_shown e.row.account) _ _ (IsPermutation-filter (λ (e : Entry ObjectRow). p e.row) h.kept.ordered h.entries h.kept.same) in
+      IsPermutation-trans _ _ _ (IsPermutation-sym _ _ same) found
+
+  shown_of : (entries : List (Entry ObjectRow)) → map (λ (e : Entry ObjectRow). owner_shown e.row.account) (filter (λ e. p e.row) entries) ≡ map owner_shown (map (λ (o : ObjectRow). o.account) (filter p (map (λ (e : Entry ObjectRow). e.row) entries)))
+  shown_of [] = refl
+  shown_of (e ∷ entries) = elim (cases_Bool (p e.row)) [
+    | inl same ↦ rw same (ap (λ rows. owner_shown e.row.account ∷ rows) (shown_of entries))
+    | inr apart ↦ rw apart (shown_of entries)
+  ]
+
+none_passes : {A : Type 0} (xs : List A) → filter (λ x. false) xs ≡ []
+none_passes [] = refl
+none_passes (x ∷ xs) = none_passes xs
+
+none_fits : (kind : Kind) (n : ℕ) (objects : List ObjectRow) → 2 ^ 63 ≤ n → FitColumns objects → filter (is_it kind n) objects ≡ []
+none_fits kind n [] high fits = refl
+none_fits kind n (o ∷ objects) high fits =
+    let other : (o.number == n) ≡ false = let low = fits.0 in grind (arith, nat_tests, low, high) in
+    rw (other, neither (is_kind o.object.kind kind)) (none_fits kind n objects high fits.1)
+
+pub owner_rows : (kind : Kind) (n : ℕ) (k : ℤ) → (n < 2 ^ 63 → k ≡ pos n) → (2 ^ 63 ≤ n → k ≡ negsuc 0) → (old new : State) (rows : List Row) → old.now.schema ≡ store_schema → Shown find_owner (whole (kind_number kind) ∷ Int k ∷ []) old new rows
+    → (objects : List ObjectRow) → HoldsEntries object_row (old.now.trees object_tree) objects → FitColumns objects → IsPermutation (map owner_shown (owners kind n objects)) rows
+owner_rows kind n k fits large old new rows schema shown objects h fit = elim (small_or_large n) [
+  | inl low ↦
+      let p = is_it kind n in
+      let found = rows_of (kind_number kind) k p (λ o. both _ _ (is_kind o.object.kind kind) (o.number == n) (test_equals (kind_number o.object.kind) (kind_number kind)) (rw (fits low) (test_equals o.number n))) old new rows schema shown objects h in
+      subst (λ xs. IsPermutation (map owner_shown (map (λ (o : ObjectRow). o.account) (filter p xs))) rows) h.same
+      (subst (λ xs. IsPermutation xs rows) (shown_of (kind_number kind) k p (λ o. both _ _ (is_kind o.object.kind kind) (o.number == n) (test_equals (kind_number o.object.kind) (kind_number kind)) (rw (fits low) (test_equals o.number n))) h.entries) found)
+  | inr high ↦
+      let found = rows_of (kind_number kind) k (λ o. false) (λ o. both _ _ (is_kind o.object.kind kind) false (test_equals (kind_number o.object.kind) (kind_number kind)) (rw (large high) (test_none o.number)) ∙ neither _) old new rows schema shown objects h in
+      rw (none_fits kind n objects high fit) (rw (none_passes h.entries) at found)
+]
+  where
+    small_or_large : (n : ℕ) → (n < 2 ^ 63) ⊎ (2 ^ 63 ≤ n)
+    small_or_large n = search arith
+
+first_owner : (kind : Kind) (n : ℕ) (objects : List ObjectRow) → slice_get (owners kind n objects) 0 ≡ option_map (λ (o : ObjectRow). o.account) (object_at kind n objects)
+first_owner kind n [] = refl
+first_owner kind n (o ∷ objects) = elim (cases_Bool (is_it kind n o)) [
+  | inl same ↦ rw same refl
+  | inr apart ↦ rw apart (first_owner kind n objects)
+]
+
+pub find_owned : {X E F : Type 0} (kind : Kind) (n : ℕ) (table : List Row) (outcome : Result X E) (rows_in : X → List Row) (result : Result (Option ℕ) F) → (IsOk result → IsOk outcome)
+    → IfOk result (λ found. IfOk outcome (λ x. (list : List ℕ) → IsPermutation (map owner_shown list) (rows_in x) → found ≡ slice_get list 0))
+    → IfOk outcome (λ x. (objects : List ObjectRow) → HoldsEntries object_row table objects → FitColumns objects → IsPermutation (map owner_shown (owners kind n objects)) (rows_in x))
+    → IfOk result (λ found. (objects : List ObjectRow) → HoldsEntries object_row table objects → FitColumns objects → found ≡ option_map (λ (o : ObjectRow). o.account) (object_at kind n objects))
+find_owned kind n table outcome rows_in (Err f) ok found rows = tt
+find_owned kind n table (Err e) rows_in (Ok r) ok found rows = absurd (let impossible = ok refl in cc)
+find_owned kind n table (Ok x) rows_in (Ok r) ok found rows = λ objects h fit. found (owners kind n objects) (rows objects h fit) ∙ first_owner kind n objects
