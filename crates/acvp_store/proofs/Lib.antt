@@ -13,4 +13,5 @@ pub mod Finding
 pub mod AccountRows
 pub mod SessionRows
 pub mod ObjectRows
+pub mod SetRows
 pub mod Standing

@@ -207,3 +207,27 @@ owner_plain = (refl, refl)
 pub owner_asks : asks (first find_owner) ≡ true
 unfolding first everything
 owner_asks = refl
+
+-- ---- vector sets
+
+abbrev pub find_set : List ℕ
+find_set = codes "SELECT vs, session, cancelled, disposition, epoch FROM vset2 WHERE vs = ?1"
+
+abbrev pub set_query : Query
+set_query = simple 4 (equals 0 0 ∷ []) (col 1 0 ∷ col 1 2 ∷ col 1 4 ∷ col 1 7 ∷ col 1 8 ∷ [])
+
+pub set_is : command_of (understood store_schema find_set) ≡ Select (record { lets = []; body = set_query }) (codes "vs" ∷ codes "session" ∷ codes "cancelled" ∷ codes "disposition" ∷ codes "epoch" ∷ [])
+unfolding understood everything
+set_is = refl
+
+pub set_unlisted : reads_listing store_schema find_set ≡ false
+unfolding understood everything
+set_unlisted = refl
+
+pub set_plain : IsPlain (understood store_schema find_set)
+unfolding understood everything
+set_plain = (refl, refl)
+
+pub set_asks : asks (first find_set) ≡ true
+unfolding first everything
+set_asks = refl

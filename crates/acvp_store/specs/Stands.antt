@@ -49,6 +49,9 @@ pub record SetColumns : Type 0 where
   pub disposition : Option ℕ
   pub epoch : ℕ
 
+abbrev pub set_tree : ℕ
+set_tree = 4
+
 abbrev pub set_row : SetColumns → Row
 set_row c = whole c.number ∷ Null ∷ whole c.session ∷ Text c.capability ∷ flag c.cancelled ∷ or_null Text c.answers
     ∷ or_null Text c.verdicts ∷ or_null whole c.disposition ∷ whole c.epoch ∷ []
@@ -137,7 +140,7 @@ pub record Stands (trees : Trees) (c : Content) : Type 0 where
   pub version : trees 0 ≡ version_row 3 ∷ []
   pub accounts : IsKept account_key account_row (trees account_tree) c.accounts
   pub sessions : IsKept session_key session_row (trees session_tree) c.sessions
-  pub sets : HoldsSets (trees 4) c.sets
+  pub sets : HoldsSets (trees set_tree) c.sets
   pub objects : HoldsEntries object_row (trees object_tree) c.objects
   pub object_numbers : FitColumns c.objects
   pub requests : IsKept (λ (r : RequestRow). r.number) request_row (trees 7) c.requests

@@ -5,6 +5,7 @@ mod accounts;
 mod fault;
 mod objects;
 mod sessions;
+mod sets;
 mod setup;
 mod shown;
 mod store;

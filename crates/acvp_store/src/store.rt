@@ -3,7 +3,7 @@ ghost use Rattle.std.specs.Prelude.{◌≡◌, IsTrue, IfOk, IfErr, option_map};
 ghost use Rattle.sqlite.specs.Held.{state};
 ghost use Rattle.sqlite.specs.State.{HasCleanDisk};
 ghost use Rattle.acvp_tables.specs.Calls.{Finds, Reads, Changes};
-ghost use Rattle.acvp_tables.specs.Content.{no_rows, account_at, session_at, object_at};
+ghost use Rattle.acvp_tables.specs.Content.{no_rows, account_at, session_at, set_at, set_summary, object_at};
 ghost use Rattle.acvp_tables.specs.Changes.{after, after_order};
 ghost use Rattle.acvp_tables.specs.State.{IsSound};
 ghost use Rattle.acvp_tables.specs.declared.change.Change.TheVariants as change;
@@ -15,10 +15,11 @@ ghost use Rattle.acvp_store.specs.Store.{may_fail, Begins, stands, IsLive, is_cl
 use crate::accounts::{DisabledAccount, find_account};
 use crate::objects::find_owner;
 use crate::sessions::{CancelledSession, find_session};
+use crate::sets::find_set;
 use crate::setup::{StoreTable, Version};
 use crate::work::{Then, commit};
 use acvp_registry::Kind;
-use acvp_tables::{AccountRow, NewAccount, SessionRow, StoreFault, UsedStep};
+use acvp_tables::{AccountRow, NewAccount, SessionRow, SetSummary, StoreFault, UsedStep};
 use sqlite::{Alter, Connection};
 use std::marker::Model;
 
@@ -124,6 +125,14 @@ impl<S: Alter> SqlTables<S> {
         ensures reads { Reads may_fail (stands S.Store) (IsLive S.Store) (is_clean S.Store) (leaves S.Store) result self.old self.new }
     {
         find_session(&mut self.connection, number)
+    }
+
+    /// The vector set of a number, without its capability and answers.
+    pub fn set(&mut self, number: u64) -> Result<Option<SetSummary>, StoreFault>
+        ensures found { Finds IsSound (stands S.Store) (IsLive S.Store) (λ x. x) result self.old self.new (λ c. option_map set_summary (set_at number c.sets)) }
+        ensures reads { Reads may_fail (stands S.Store) (IsLive S.Store) (is_clean S.Store) (leaves S.Store) result self.old self.new }
+    {
+        find_set(&mut self.connection, number)
     }
 
     /// The account of the registered object of a kind and number.

@@ -72,6 +72,7 @@ fn what_a_column_cannot_keep_is_refused(rt: HostRuntime) -> Result<(), Fail> {
     assert!(rt; tables.session(18446744073709551615)?.is_none());
     assert!(rt; tables.owner(Kind::Vendor, 9999000001)?.is_none());
     assert!(rt; tables.owner(Kind::Module, 18446744073709551615)?.is_none());
+    assert!(rt; tables.set(999900000101)?.is_none());
     tables.cancel_session(9999000001)?;
     assert!(rt; tables.session(9999000001)?.is_none());
     Ok(())

@@ -1,4 +1,4 @@
-use Rattle.std.proofs.Common.{IsTrue, [], ◌∷◌, rules, w64, to_z-of_z}
+use Rattle.std.proofs.Common.{rules, w64, to_z-of_z}
 use mir.Val.{SFits}
 use Rattle.std.proofs.lemmas.Result.{IfOk-weaker}
 use Rattle.sqlite.specs.Held.{state}
