@@ -62,7 +62,7 @@ def scripts(keys):
     expect("orders", orders.stdout.split(b"\n")[:4], [b"order done", b"order taken", b"order unknown", b"order done"])
     expect("a disabled account", json.loads(orders.stdout.split(b"\r\n\r\n")[-1])[1], {"error": "loginRefused"})
     for what, text in [("a line without a length", b"request 59\n"), ("an end within an event", add()[:-1]),
-                       ("an unknown order", b"request-approve 1 7000001\n"), ("account 0", b"account-disable 1 0\n"),
+                       ("an unknown order", b"request-approved 1 7000001\n"), ("account 0", b"account-disable 1 0\n"),
                        ("a short request", b"request 1 5\nabc\n"), ("two spaces", b"account-disable  1 7\n")]:
         stopped = run(script, add() + text)
         expect(what, (stopped.returncode, stopped.stdout, stopped.stderr), (1, b"order done\n", b"fault: syntax\n"))

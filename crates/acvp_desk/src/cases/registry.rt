@@ -42,6 +42,13 @@ const FIRST_APPROVED: &[u8] =
 
 const VENDOR: &[u8] = br#"[{"acvVersion":"1.0"},{"name":"Acme","url":"/acvp/v1/vendors/7000001"}]"#;
 
+/// The account's vendors when there is no other, and a second one.
+const THE_VENDOR_ALONE: &[u8] =
+    br#"[{"acvVersion":"1.0"},{"data":[{"name":"Acme","url":"/acvp/v1/vendors/7000001"}],"incomplete":false,"links":{"first":"/acvp/v1/vendors?offset=0&limit=1","last":"/acvp/v1/vendors?offset=0&limit=1","next":null,"prev":null},"totalCount":1}]"#;
+
+const SECOND_VENDOR: &[u8] =
+    br#"[{"acvVersion":"1.0"},{"name":"Beta","url":"/acvp/v1/vendors/7000002"}]"#;
+
 /// The first request when it is rejected.
 const FIRST_REJECTED: &[u8] =
     br#"[{"acvVersion":"1.0"},{"status":"rejected","url":"/acvp/v1/requests/7000001"}]"#;
@@ -92,6 +99,11 @@ pub(crate) fn a_vendor_is_registered_by_approval<T: Tables + Drop>(
     let cases = [
         shown(100, request, FIRST_APPROVED),
         shown(100, vendor, VENDOR),
+        shown(
+            100,
+            list(Action::ListVendors, OF_SEVEN, b"limit=1"),
+            THE_VENDOR_ALONE,
+        ),
         shown(
             100,
             with_token(Action::ReadVendor, 7000001, OF_THE_SESSION),
@@ -190,6 +202,11 @@ pub(crate) fn what_is_registered_is_read<T: Tables + Drop>(
             100,
             with_token(Action::ReadVendor, 7000001, OF_SEVEN),
             VENDOR,
+        ),
+        shown(
+            100,
+            with_token(Action::ReadVendor, 7000002, OF_SEVEN),
+            SECOND_VENDOR,
         ),
         shown(
             100,
