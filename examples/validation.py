@@ -83,9 +83,9 @@ class Server:
             stop(f"the server ended with status {self.process.returncode}")
 
 
-def one_time_code(secret):
-    """The code of this moment (RFC 6238), of 8 digits under HMAC-SHA-256."""
-    mac = hmac.new(secret, int(time.time() // 30).to_bytes(8, "big"), hashlib.sha256).digest()
+def one_time_code(secret, moment):
+    """The code of a moment (RFC 6238), of 8 digits under HMAC-SHA-256."""
+    mac = hmac.new(secret, int(moment // 30).to_bytes(8, "big"), hashlib.sha256).digest()
     place = mac[-1] & 15
     return "%08d" % ((int.from_bytes(mac[place:place + 4], "big") & 0x7fffffff) % 10**8)
 
@@ -205,7 +205,7 @@ def main():
     if server.order(f"account-add {int(time.time())} {ACCOUNT} {secret.hex()}") != "order done":
         stop("the account isn't added")
     tell("operator", f"adds account {ACCOUNT} with a secret of its own", "done")
-    code = one_time_code(secret)
+    code = one_time_code(secret, time.time())
     login = {"password": code, "user": str(ACCOUNT)}
     token = server.must("POST", "/login", thing=login)["accessToken"]
     tell("client", f"logs in with the one-time code {code}", "a token for half an hour")

@@ -159,7 +159,7 @@ abbrev pub material_reply : List (List ℕ) → ℕ → ℕ → SetFacts → Set
 material_reply seeds moment n facts it (material.Source source) = source_reply seeds moment n facts it source
 material_reply seeds moment n facts it (material.Verdicts verdicts) = verdicts_reply moment n facts it verdicts
 -- that the answers are kept
-material_reply seeds moment n facts it (material.Submission submission) = Some (outcome_data (codes "received") (results_url n))
+material_reply seeds moment n facts it (material.Submission (Some submission)) = Some (outcome_data (codes "received") (results_url n))
 material_reply seeds moment n facts it _ = None
 
 abbrev pub set_reply : List (List ℕ) → ℕ → ℕ → SetWish → Option SetFacts → Material → Option Data

@@ -366,6 +366,12 @@ fn every_action_is_accepted(rt: HostRuntime) -> Result<(), Fail> {
 }
 
 #[test]
+fn sessions_end_with_the_numbers(rt: HostRuntime) -> Result<(), Fail> {
+    new_session::sessions_end_with_the_numbers(&rt, rt.alloc());
+    Ok(())
+}
+
+#[test]
 fn requests_end_with_the_numbers(rt: HostRuntime) -> Result<(), Fail> {
     registry::requests_end_with_the_numbers(&rt);
     Ok(())

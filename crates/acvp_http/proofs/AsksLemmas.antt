@@ -48,13 +48,13 @@ end_le bytes n m x y less =
     let other : ends_empty (take n bytes) ≡ false = y.2 n less in
     cc
 
-end_unique : (bytes : List ℕ) (n m : ℕ) → IsBlockEnd bytes n → IsBlockEnd bytes m → n ≡ m
+pub end_unique : (bytes : List ℕ) (n m : ℕ) → IsBlockEnd bytes n → IsBlockEnd bytes m → n ≡ m
 end_unique bytes n m x y =
     let low : n < m → ⊥ = end_le bytes n m x y in
     let high : m < n → ⊥ = end_le bytes m n y x in
     omega (arith, low, high)
 
-end_or_none : (bytes : List ℕ) (n : ℕ) → HasNoEmptyLine bytes → IsBlockEnd bytes n → ⊥
+pub end_or_none : (bytes : List ℕ) (n : ℕ) → HasNoEmptyLine bytes → IsBlockEnd bytes n → ⊥
 end_or_none bytes n none x =
     let ends : ends_empty (take n bytes) ≡ true = x.1 in
     let other : ends_empty (take n bytes) ≡ false = none n x.0 in

@@ -21,3 +21,6 @@ pub mod TurnLemmas
 pub mod RunLemmas
 pub mod AsksLemmas
 pub mod OneLemmas
+pub mod NeededLemmas
+pub mod ReceivingLemmas
+pub mod HeadlineLemmas

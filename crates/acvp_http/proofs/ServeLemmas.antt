@@ -16,7 +16,7 @@ use Rattle.acvp_desk.specs.declared.desk.DeskReply.TheVariants.{Given, Denied}
 use Rattle.acvp_desk.specs.declared.keys.Keys.{Keys}
 use Rattle.acvp_http.specs.Asks.{ParsedRequest, Asks}
 use Rattle.acvp_http.specs.Reply.{refusal, framed, IsDateOf}
-use Rattle.acvp_http.specs.Serve.{RefusesAtOnce, IsRefused, AsksTheDesk, RequestAnswered, IsReplied, ShowsReply, RequestTaken}
+use Rattle.acvp_http.specs.Serve.{RefusesAtOnce, IsRefused, AsksTheDesk, RequestAnswered, IsReplied, ShowsReply, RequestTaken, LeavesRequest}
 
 -- a rule is that of an unavailable server, or another
 is_unavailable : (r : Rule) → (r ≡ rule.Unavailable) ⊎ (r ≡ rule.Unavailable → ⊥)
@@ -39,6 +39,11 @@ module _ {T : Type 0} (stands : T → Content → Type 0) (is_live is_clean : T 
   -- nobody was looked at
   pub taken_at_once : (t : T) (reply : List ℕ) → RefusesAtOnce m bytes reply → RequestTaken stands is_live keys m bytes reply t t
   taken_at_once t reply refuses = (false, λ live c kept h. (c, inl (refl, refuses), h, kept))
+
+  -- and a crash finds what there was
+  pub left_at_once : (rests : (t : T) (c d : Content) → is_live t → stands t c → leaves t c d) (t : T) (reply : List ℕ) → RefusesAtOnce m bytes reply
+      → LeavesRequest stands is_live is_clean leaves keys m bytes reply t t
+  left_at_once rests t reply refuses = λ clean live c kept h. inl (c, inl (refl, refuses), λ d. rests t c d live h)
 
   module _ (r : RequestValue) (asks : AsksTheDesk m bytes r) (date : List ℕ) (dated : IsDateOf m date) (old new : T) (changed : Bool) where
     unchanged : (c : Content) (told : Rule) (reply : List ℕ) → answer keys m r (state_of c) ≡ Err told → reply ≡ refusal (Some date) told
@@ -90,3 +95,30 @@ module _ {T : Type 0} (stands : T → Content → Type 0) (is_live is_clean : T 
             kept_after,
           ),
     )
+
+    -- what a crash finds after a denial
+    pub left_denied : (rests : (t : T) (c d : Content) → is_live t → stands t c → leaves t c d) (told : Rule) (reply : List ℕ)
+        → desk.Serves stands is_live is_clean leaves (result_of (Denied told) changed) old new keys m r → reply ≡ refusal (Some date) told
+        → LeavesRequest stands is_live is_clean leaves keys m bytes reply old new
+    left_denied rests told reply serves shown = λ clean live c kept h. elim (is_unavailable told) [
+      | inl is ↦ inr (r, asks, shown ∙ ap (λ x. refusal (Some date) x) is, serves.unsettled clean live c kept h)
+      | inr other ↦
+          let is_live_still : is_live new = elim serves.live [ inl is ↦ absurd (other is) | inr stays ↦ stays clean live ] in
+          let refuses : answer keys m r (state_of c) ≡ Err told = elim (serves.denied is_live_still c kept h) [ inl is ↦ absurd (other is) | inr is ↦ is ] in
+          let as_it_was : (d : Content) → leaves new c d = elim serves.kept [
+            | inl is ↦ absurd (other is)
+            | inr same ↦ λ d. same clean c d (rests old c d live h)
+          ] in
+          inl (c, inr (r, asks, unchanged c told reply refuses shown), as_it_was)
+    ]
+
+    -- and after a reply that was given
+    pub left_given : (buffer : Vec ℕ Global) (reply : List ℕ) → desk.Serves stands is_live is_clean leaves (result_of (Given buffer) changed) old new keys m r
+        → reply ≡ framed 200 (Some date) [] (drop spare buffer.items) → LeavesRequest stands is_live is_clean leaves keys m bytes reply old new
+    left_given buffer reply serves is = λ clean live c kept h.
+        let (gives, stands_after, kept_after, told) = serves.given (serves.live clean live) c kept h in
+        inl (
+          content_effect keys m r c,
+          inr (r, asks, (date, dated, refl, shown_as (answer keys m r (state_of c)) buffer.items reply gives is)),
+          λ d. serves.settled clean live c d kept h,
+        )

@@ -6,6 +6,9 @@ pub mod Script
 pub mod Asks
 pub mod Source
 pub mod Run
+pub mod Headline
+pub mod Needed
+pub mod Connection
 pub mod Private
 pub use Rattle.acvp_policy.specs.Rule
 pub use Rattle.acvp_desk.specs.Request

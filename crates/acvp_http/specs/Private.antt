@@ -1,6 +1,7 @@
 -- Words of private clauses and of the types' views: no public clause speaks in them.
 pub mod Lines
 pub mod Reading
+pub mod Receiving
 pub mod Writing
 pub mod Head
 pub mod ReplyBytes

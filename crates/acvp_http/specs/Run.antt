@@ -1,5 +1,5 @@
 -- The run of a script: what it makes of the records and of the input, and what it writes.
-use Rattle.std.specs.Prelude.{◌≡◌, ◌≢◌, ◌⊎◌, ◌≤◌, ◌<◌, ℕ, ◌+◌, ◌-◌, ◌^◌, min, List, [], ◌∷◌, ◌++◌, length, map, Bool, true, false, Option, None, Some, Result, Ok, Err, ⊤}
+use Rattle.std.specs.Prelude.{◌≡◌, ◌≢◌, ◌⊎◌, ◌≤◌, ◌<◌, ℕ, List, [], ◌∷◌, ◌++◌, length, map, Bool, true, false, Option, None, Some, Result, Ok, Err, ⊤}
 use Rattle.std.specs.Io.KnownBytes.{Appends, Consumes, IsAtEnd}
 use Rattle.acvp_desk.specs.declared.keys.Keys.{Keys}
 use Rattle.acvp_tables.specs.Content.{Content}
@@ -8,6 +8,7 @@ use Rattle.acvp_http.specs.declared.script.ScriptFault.TheVariants.{Read, Write,
 use Rattle.acvp_http.specs.Event.{Event, Answer, Turn}
 use Rattle.acvp_http.specs.Script.{IsScript, HasNoEvent, LeavesGrammar, answer_text, output_of}
 use Rattle.acvp_http.specs.Serve.{GoesThrough}
+use Rattle.acvp_http.specs.Source.{ReadsTooOften}
 
 -- the events of the turns
 abbrev pub events_of : List Turn → List Event
@@ -29,15 +30,11 @@ most_events = 100000
 abbrev pub most_reads : ℕ
 most_reads = 1000000000
 
--- The reads between these two counts are as many as there may be, or more than are counted.
-abbrev pub ReadsTooOften : ℕ → ℕ → Type 0
-ReadsTooOften before after = min (before + most_reads) (2 ^ 64 - 1) ≤ after
-
 -- The two reasons for Limit: there were 100000 turns, and the known input goes on after their script; or the reads were
 -- too many.
 abbrev pub ReachesLimit : Option (List ℕ) → ℕ → ℕ → List Turn → List ℕ → Type 0
 ReachesLimit input before after turns text =
-    ((length turns ≡ most_events) × BeginsWith input text (λ rest. rest ≢ [])) ⊎ ReadsTooOften before after
+    ((length turns ≡ most_events) × BeginsWith input text (λ rest. rest ≢ [])) ⊎ ReadsTooOften most_reads before after
 
 -- How much of the input was taken by a run whose turns have this script, what comes after the script, and how many
 -- turns there are: after 100000 events nothing is read as an event. The reader was read so often before the run and

@@ -127,3 +127,11 @@ module _ {T : Type 0} (stands : T → Content → Type 0) (is_live : T → Type 
       (date : List ℕ) × IsDateOf moment date
       × (((body : List ℕ) × (reply ≡ framed 200 (Some date) [] body))
       ⊎ ((rule : Rule) × (reply ≡ refusal (Some date) rule) × (is_live new → (c : Content) → stands old c → stands new c)))
+
+module _ {T : Type 0} (stands : T → Content → Type 0) (is_live is_clean : T → Type 0) (leaves : T → Content → Content → Type 0) where
+  -- What a crash finds after the bytes of a request, while the disk tells no lie, of tables that were live: the records after it
+  -- alone where it was answered; where it was unavailable, those before it, or those with its effect.
+  abbrev pub LeavesRequest : Keys → ℕ → List ℕ → List ℕ → T → T → Type 0
+  LeavesRequest keys moment bytes reply old new = is_clean new → is_live old → (c : Content) → IsKept keys.seed c → stands old c
+      → ((next : Content) × ServesRequest keys moment bytes c next reply × ((d : Content) → leaves new next d))
+      ⊎ ((r : RequestValue) × AsksTheDesk moment bytes r × (reply ≡ refusal None UnavailableRule) × leaves new c (content_effect keys moment r c))

@@ -1,5 +1,5 @@
 -- Readers and writers that remember whether they have failed.
-use Rattle.std.specs.Prelude.{ℕ, ◌+◌, ◌-◌, ◌^◌, min, List, Bool, Result, true, false, Ok, Err, not, ◌&&◌, ◌==◌, nat_lt, length}
+use Rattle.std.specs.Prelude.{ℕ, ◌+◌, ◌-◌, ◌^◌, ◌≤◌, min, List, Bool, Result, true, false, Ok, Err, not, ◌&&◌, ◌==◌, nat_lt, length}
 use Rattle.std.specs.IoError.{error_kind}
 use Rattle.std.specs.declared.io.Error.{Error}
 use Rattle.std.specs.declared.io.ErrorKind.{ErrorKind}
@@ -24,6 +24,10 @@ is_write_fault (Err error) buf = true
 -- one read more, in a count that stops at the greatest number of 64 bits
 abbrev pub one_more : ℕ → ℕ
 one_more reads = min (reads + 1) (2 ^ 64 - 1)
+
+-- the reads between these two counts are as many as there may be, or more than are counted
+abbrev pub ReadsTooOften : ℕ → ℕ → ℕ → Type 0
+ReadsTooOften most before after = min (before + most) (2 ^ 64 - 1) ≤ after
 
 -- the reader or the writer itself
 abbrev pub flagged_inner : {T : Type 0} → Flagged T → T

@@ -10,7 +10,7 @@ use httparse::spans::{EMPTY_HEADER_SPAN, HeaderSpan, RequestSpans, parse_request
 pub const HEAD_BYTES: usize = 16384;
 
 /// Whether the text ends in a line feed and an empty line.
-fn ends_with_empty_line(text: &[u8]) -> bool
+pub(crate) fn ends_with_empty_line(text: &[u8]) -> bool
     ensures { result ≡ ends_empty text.now }
 {
     text.ends_with(b"\n\n") || text.ends_with(b"\n\r\n")

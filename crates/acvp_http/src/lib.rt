@@ -1,10 +1,13 @@
 //! From the bytes of a request, or of a script, to the bytes of the replies.
 #![tactic(auto)]
 
+mod connection;
 mod framing;
 mod head;
 mod path;
+mod promise;
 mod reading;
+mod receiving;
 mod reply;
 mod request;
 mod routes;
@@ -12,6 +15,8 @@ mod running;
 mod script;
 mod serve;
 mod source;
+#[cfg(test)]
+mod streams;
 mod target;
 #[cfg(test)]
 mod tests;
@@ -19,9 +24,11 @@ mod text;
 mod token;
 mod writing;
 
+pub use connection::{ServeFault, serve_one};
 pub use framing::BODY_BYTES;
 pub use head::HEAD_BYTES;
 pub use path::Route;
+pub use promise::headline;
 pub use reply::Reply;
 pub use request::asks_one_thing;
 pub use routes::{Routes, finds_one_thing};

@@ -14,7 +14,7 @@ use acvp_policy::Rule;
 use httparse::spans::EMPTY_HEADER_SPAN;
 
 /// The most fields that a head may have.
-const MOST_FIELDS: usize = 64;
+pub(crate) const MOST_FIELDS: usize = 64;
 
 /// Why an input is refused before anyone is looked at.
 #[derive(Clone, Copy, Debug, PartialEq, Eq)]

@@ -6,7 +6,7 @@ ghost use Rattle.acvp_desk.specs.Request.{RequestValue};
 ghost use Rattle.acvp_desk.specs.declared.keys.Keys.{Keys};
 ghost use Rattle.acvp_http.specs.Event.{Event, Answer};
 ghost use Rattle.acvp_http.specs.Reply.{refusal, IsDateOf};
-ghost use Rattle.acvp_http.specs.Serve.{RefusesAtOnce, AsksTheDesk, ShowsReply, Serves, RequestTaken};
+ghost use Rattle.acvp_http.specs.Serve.{RefusesAtOnce, AsksTheDesk, ShowsReply, Serves, RequestTaken, LeavesRequest};
 
 use crate::reply::Reply;
 use crate::request::{Refusal, parse_request};
@@ -42,6 +42,7 @@ pub fn handle_bytes<T: Tables>(
     ensures shown { (RefusesAtOnce moment bytes.now result × (desk.new ≡ desk.old))
         ⊎ ((r : RequestValue) × AsksTheDesk moment bytes.now r × ShowsReply T.stands T.is_live moment result desk.old.tables desk.new.tables) }
     ensures served { RequestTaken T.stands T.is_live desk.old.keys moment bytes.now result desk.old.tables desk.new.tables }
+    ensures left { LeavesRequest T.stands T.is_live T.is_clean T.leaves desk.old.keys moment bytes.now result desk.old.tables desk.new.tables }
 {
     if moment >= END_OF_MOMENTS {
         return Reply::refusal(None, Rule::ClockOutOfRange);

@@ -10,7 +10,7 @@ use crate::text::Text;
 use acvp_desk::OrderReply;
 
 /// Writes all of the bytes.
-fn write_all<K: Sink>(writer: &mut K, bytes: &[u8]) -> Result<(), ScriptFault>
+pub(crate) fn write_all<K: Sink>(writer: &mut K, bytes: &[u8]) -> Result<(), ScriptFault>
     requires { K.failed writer.old ≡ false }
     ensures { WritesText (K.contents writer.old) (K.contents writer.new) (K.failed writer.new) bytes.now result }
 {

@@ -1,10 +1,11 @@
 //! Scripts over readers and writers in memory, some of which fail.
 
+use crate::streams::{FailsOnce, Narrow};
 use crate::{Flagged, Routes, ScriptFault, run};
 use acvp_desk::{Desk, KeyRing, Keys, Seeds};
 use acvp_tables::{AccountRow, ListTables, Tables};
 use std::alloc::{AllocError, Global};
-use std::io::{self, ErrorKind, Read, Write};
+use std::io::{ErrorKind, Read, Write};
 use std::process::Abort;
 use std::test::Fail;
 
@@ -63,57 +64,6 @@ fn run_over<R: Read + Drop, W: Write + Drop>(
         has_write_fault: writer.failed(),
         writer: writer.into_inner(),
     })
-}
-
-/// Gives a byte at a time, and fails once, before the byte at this place.
-#[derive(Drop)]
-struct FailsOnce<'a> {
-    bytes: &'a [u8],
-    place: usize,
-    fault: Option<ErrorKind>,
-}
-
-impl Read for FailsOnce<'_> {
-    fn read(&mut self, buf: &mut [u8]) -> io::Result<usize> {
-        if self.place == 0
-            && let Some(kind) = self.fault.take()
-        {
-            return Err(io::Error::from(kind));
-        }
-        match (self.bytes.split_first(), buf.first_mut()) {
-            (Some((first, rest)), Some(slot)) => {
-                *slot = *first;
-                self.bytes = rest;
-                self.place = self.place.saturating_sub(1);
-                Ok(1)
-            }
-            _ => Ok(0),
-        }
-    }
-}
-
-/// Takes a byte at a time, and fails once it holds so many.
-#[derive(Drop)]
-struct Narrow {
-    held: Vec<u8>,
-    room: usize,
-}
-
-impl Write for Narrow {
-    fn write(&mut self, buf: &[u8]) -> io::Result<usize> {
-        match buf.first() {
-            None => Ok(0),
-            Some(_) if self.held.len() >= self.room => Err(io::Error::from(ErrorKind::BrokenPipe)),
-            Some(byte) => {
-                self.held.push(*byte)?;
-                Ok(1)
-            }
-        }
-    }
-
-    fn flush(&mut self) -> io::Result<()> {
-        Ok(())
-    }
 }
 
 #[test]
@@ -196,21 +146,35 @@ fn other_lines_are_refused(rt: HostRuntime) -> Result<(), Fail> {
     Ok(())
 }
 
+/// So many lines from the front.
+fn lines_of(text: &[u8], count: usize) -> &[u8] {
+    let mut left = count;
+    for (place, byte) in text.iter().enumerate() {
+        if left == 0 {
+            return &text[..place];
+        }
+        if *byte == b'\n' {
+            left -= 1;
+        }
+    }
+    text
+}
+
 #[test]
 fn a_failed_read_ends_the_run(rt: HostRuntime) -> Result<(), Fail> {
-    let reader = FailsOnce {
-        bytes: ORDERS,
-        place: 170,
-        fault: Some(ErrorKind::ConnectionReset),
-    };
-    let mut desk = empty_desk(&rt, rt.alloc());
-    let outcome = run_over(rt.alloc(), &mut desk, reader, Vec::new(rt.alloc()))?;
-    assert_eq!(rt; outcome.answer, Err(ScriptFault::Read));
-    assert!(rt; outcome.has_read_fault && !outcome.has_write_fault);
-    assert_eq!(rt;
-        outcome.writer.as_slice(),
-        b"order done\norder taken\n".as_slice()
-    );
+    for place in 0..=ORDERS.len() {
+        let reader = FailsOnce {
+            bytes: ORDERS,
+            place,
+            fault: Some(ErrorKind::ConnectionReset),
+        };
+        let mut desk = empty_desk(&rt, rt.alloc());
+        let outcome = run_over(rt.alloc(), &mut desk, reader, Vec::new(rt.alloc()))?;
+        assert_eq!(rt; outcome.answer, Err(ScriptFault::Read));
+        assert!(rt; outcome.has_read_fault && !outcome.has_write_fault);
+        let handled = ORDERS[..place].iter().filter(|b| **b == b'\n').count();
+        assert_eq!(rt; outcome.writer.as_slice(), lines_of(ANSWERS, handled));
+    }
     Ok(())
 }
 
@@ -235,20 +199,19 @@ fn an_interrupted_read_is_tried_again(rt: HostRuntime) -> Result<(), Fail> {
 
 #[test]
 fn a_failed_write_ends_the_run(rt: HostRuntime) -> Result<(), Fail> {
-    let writer = Narrow {
-        held: Vec::new(rt.alloc()),
-        room: 25,
-    };
-    let mut desk = empty_desk(&rt, rt.alloc());
-    let outcome = run_over(rt.alloc(), &mut desk, ORDERS, writer)?;
-    assert_eq!(rt; outcome.answer, Err(ScriptFault::Write));
-    assert!(rt; outcome.has_write_fault && !outcome.has_read_fault);
-    assert_eq!(rt;
-        outcome.writer.held.as_slice(),
-        b"order done\norder taken\nor".as_slice()
-    );
-    let account = account_of(&rt, desk, 7);
-    assert!(rt; !account.enabled);
+    for room in 0..ANSWERS.len() {
+        let writer = Narrow {
+            held: Vec::new(rt.alloc()),
+            room,
+        };
+        let mut desk = empty_desk(&rt, rt.alloc());
+        let outcome = run_over(rt.alloc(), &mut desk, ORDERS, writer)?;
+        assert_eq!(rt; outcome.answer, Err(ScriptFault::Write));
+        assert!(rt; outcome.has_write_fault && !outcome.has_read_fault);
+        assert_eq!(rt; outcome.writer.held.as_slice(), &ANSWERS[..room]);
+        let account = account_of(&rt, desk, 7);
+        assert_eq!(rt; account.enabled, room < 23);
+    }
     Ok(())
 }
 

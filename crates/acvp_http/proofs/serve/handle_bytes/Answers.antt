@@ -1,7 +1,7 @@
 use Rattle.std.proofs.Common.{refl, inl, inr}
 use Rattle.acvp_desk.specs.Request.{request_value}
 use Rattle.acvp_http.specs.Asks.{refused, wrong_method}
-use Rattle.acvp_http.proofs.ServeLemmas.{refused_late, refused_early, taken_at_once, taken_denied, taken_given, shown_denied, live_denied}
+use Rattle.acvp_http.proofs.ServeLemmas.{refused_late, refused_early, taken_at_once, taken_denied, taken_given, shown_denied, live_denied, left_at_once, left_denied, left_given}
 use Rattle.acvp_http.proofs.serve.handle_bytes.Goals as goal
 
 pub returns-then-moment-ge-END_OF_MOMENTS : goal.returns-then-moment-ge-END_OF_MOMENTS
@@ -15,6 +15,8 @@ returns-then-moment-ge-END_OF_MOMENTS g c =
       shown = inl (at_once, refl);
       served = taken_at_once g.T.Tables.stands g.T.Tables.is_live g.T.Tables.is_clean g.T.Tables.leaves c.args.desk.now.keys c.args.moment c.args.bytes.now
           c.args.desk.now.tables c.refusal.result at_once;
+      left = left_at_once g.T.Tables.stands g.T.Tables.is_live g.T.Tables.is_clean g.T.Tables.leaves c.args.desk.now.keys c.args.moment c.args.bytes.now
+          g.met.T.Tables.rests c.args.desk.now.tables c.refusal.result at_once;
     }
 
 pub returns-in-Err-ByRule : goal.returns-in-Err-ByRule
@@ -30,6 +32,8 @@ returns-in-Err-ByRule g c =
       shown = inl (at_once, refl);
       served = taken_at_once g.T.Tables.stands g.T.Tables.is_live g.T.Tables.is_clean g.T.Tables.leaves c.args.desk.now.keys c.args.moment c.args.bytes.now
           c.args.desk.now.tables c.refusal-in-Err-ByRule.result at_once;
+      left = left_at_once g.T.Tables.stands g.T.Tables.is_live g.T.Tables.is_clean g.T.Tables.leaves c.args.desk.now.keys c.args.moment c.args.bytes.now
+          g.met.T.Tables.rests c.args.desk.now.tables c.refusal-in-Err-ByRule.result at_once;
     }
 
 pub returns-in-Err-WrongMethod : goal.returns-in-Err-WrongMethod
@@ -45,6 +49,8 @@ returns-in-Err-WrongMethod g c =
       shown = inl (at_once, refl);
       served = taken_at_once g.T.Tables.stands g.T.Tables.is_live g.T.Tables.is_clean g.T.Tables.leaves c.args.desk.now.keys c.args.moment c.args.bytes.now
           c.args.desk.now.tables c.wrong_method.result at_once;
+      left = left_at_once g.T.Tables.stands g.T.Tables.is_live g.T.Tables.is_clean g.T.Tables.leaves c.args.desk.now.keys c.args.moment c.args.bytes.now
+          g.met.T.Tables.rests c.args.desk.now.tables c.wrong_method.result at_once;
     }
 
 pub returns-in-Given-clause-shown : goal.returns-in-Given-clause-shown
@@ -86,4 +92,18 @@ returns-in-Denied-clause-served g c =
     taken_denied g.T.Tables.stands g.T.Tables.is_live g.T.Tables.is_clean g.T.Tables.leaves c.args.desk.now.keys c.args.moment c.args.bytes.now
     (request_value c.in-Ok.request) (c.if-moment-ge-END_OF_MOMENTS.false, c.in-Ok.ensures) c.date_of-date.result c.date_of-date.ensures
     c.args.desk.now.tables c.handle.new.self.tables c.handle.result.changed c.in-Denied.rule c.refusal-in-Denied.result
+    (rw c.in-Denied.is at c.handle.ensures.served) c.refusal-in-Denied.ensures
+
+pub returns-in-Given-clause-left : goal.returns-in-Given-clause-left
+returns-in-Given-clause-left g c =
+    left_given g.T.Tables.stands g.T.Tables.is_live g.T.Tables.is_clean g.T.Tables.leaves c.args.desk.now.keys c.args.moment c.args.bytes.now
+    (request_value c.in-Ok.request) (c.if-moment-ge-END_OF_MOMENTS.false, c.in-Ok.ensures) c.date_of-date.result c.date_of-date.ensures
+    c.args.desk.now.tables c.handle.new.self.tables c.handle.result.changed c.in-Given.buffer c.accepted.result
+    (rw c.in-Given.is at c.handle.ensures.served) (rw c.in-Given.is at c.accepted.ensures)
+
+pub returns-in-Denied-clause-left : goal.returns-in-Denied-clause-left
+returns-in-Denied-clause-left g c =
+    left_denied g.T.Tables.stands g.T.Tables.is_live g.T.Tables.is_clean g.T.Tables.leaves c.args.desk.now.keys c.args.moment c.args.bytes.now
+    (request_value c.in-Ok.request) (c.if-moment-ge-END_OF_MOMENTS.false, c.in-Ok.ensures) c.date_of-date.result c.date_of-date.ensures
+    c.args.desk.now.tables c.handle.new.self.tables c.handle.result.changed g.met.T.Tables.rests c.in-Denied.rule c.refusal-in-Denied.result
     (rw c.in-Denied.is at c.handle.ensures.served) c.refusal-in-Denied.ensures

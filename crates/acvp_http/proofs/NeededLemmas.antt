@@ -1,0 +1,277 @@
+-- What an input asks is what the front of it asks that its request needs.
+use Rattle.std.proofs.Common.{◌≡◌, ◌<◌, ◌≤◌, ◌⊎◌, ⊎_elim, inl, inr, ℕ, zero, suc, ◌+◌, ◌-◌, ◌==◌, ◌||◌, min, not, codes, List, [], ◌∷◌, ◌++◌, length, take, drop, Bool, true, false, if◌then◌else◌, Option, None, Some, IfSome, Result, refl, sym, ap, ◌∙◌, arith, subst, below_more, take-take, length-append}
+use Rattle.std.specs.Prelude.{nat_lt, nat_le, MatchBool}
+use Rattle.std.specs.Io.KnownBytes.{Consumes}
+use Rattle.std.proofs.Math.Seq.{take-append_seam, take-append-add, take-length}
+use Rattle.std.proofs.lemmas.Bool.{le-leb, leb-true, lt-ltb, le-ltb}
+use Rattle.std.proofs.lemmas.Bool.Decides.{nat_tests}
+use Rattle.std.proofs.lemmas.List.{length-take, drop-take, take-append-le}
+use Rattle.httparse.specs.Grammar.{RequestHead, ReadsRequest}
+use Rattle.httparse.proofs.GrammarLemmas.{request_unique}
+use Rattle.acvp_desk.specs.Answer.{end_of_moments}
+use Rattle.acvp_desk.specs.Conditions.{Condition, first_broken, judged}
+use Rattle.acvp_desk.specs.declared.keys.Keys.{Keys}
+use Rattle.acvp_policy.specs.declared.rule.Rule.{Rule}
+use Rattle.acvp_policy.specs.declared.rule.Rule.TheVariants.{BadHead, HeadTooLarge, Truncated, TransferCoding, LengthMissing, BadLength, BodyTooLarge, HostMissing, ClockOutOfRange}
+use Rattle.acvp_tables.specs.Content.{Content}
+use Rattle.acvp_http.specs.Asks.{ParsedRequest, refused, Asks, AsksBlock, AskedBy, AskedOf, IsBlockEnd, HasNoEmptyLine, asked_path, body_length, body_limit, ends_empty, fields_of, head_limit, hosts_fit, is_nil, lengths_agree, line_count, needs_length, values_of, window}
+use Rattle.acvp_http.specs.Connection.{AnswersInput}
+use Rattle.acvp_http.specs.Event.{request, replied}
+use Rattle.acvp_http.specs.Needed.{IsNeeded, IsNeededAt, NeedsBody, needed_size, told_by}
+use Rattle.acvp_http.specs.Private.Receiving.{IsHeadTaken, IsBodyTaken}
+use Rattle.acvp_http.specs.Reply.{refusal, IsDateOf}
+use Rattle.acvp_http.specs.Serve.{IsRefused, RefusesAtOnce, RequestTaken, Takes}
+use Rattle.acvp_http.proofs.AsksLemmas.{end_or_none, end_unique}
+use Rattle.acvp_http.proofs.KnownLemmas.{consumes_consumes}
+
+-- ---- the framing
+
+-- conditions that don't look at what follows, and then that the body is there
+abbrev sized : List (Condition Rule) → ℕ → ℕ → Result ℕ Rule
+sized conditions size available = judged (conditions ++ (nat_le size available, Truncated) ∷ []) size
+
+-- a front that long has as much of the body as the whole has
+as_much : (size : ℕ) (rest : List ℕ) → nat_le size (length (take size rest)) ≡ nat_le size (length rest)
+as_much size rest =
+    let some : length (take size rest) ≡ min size (length rest) = length-take size rest in
+    grind (arith, nat_tests)
+
+asked_there : (head : RequestHead) (size : ℕ) (rest : List ℕ) (parsed : ParsedRequest) (b : Bool)
+    → AskedBy head (take size rest) (judged ((b, Truncated) ∷ []) size) parsed → AskedBy head rest (judged ((b, Truncated) ∷ []) size) parsed
+asked_there head size rest parsed true (named, names, is) =
+    (named, names, is ∙ ap (λ body. asked_path head body named) (take-take size size rest (omega arith)))
+asked_there head size rest parsed false is = is
+
+-- the size that the conditions tell needs no more of the rest, since they let no body pass that is longer than the limit
+asked_sized : (head : RequestHead) (conditions : List (Condition Rule)) (size limit : ℕ) (rest : List ℕ) (parsed : ParsedRequest)
+    → (first_broken conditions ≡ None → size ≤ limit)
+    → AskedBy head (take (needed_size (sized conditions size limit)) rest)
+    (sized conditions size (length (take (needed_size (sized conditions size limit)) rest))) parsed
+    → AskedBy head rest (sized conditions size (length rest)) parsed
+asked_sized head [] size limit rest parsed low asked =
+    let fits : nat_le size limit ≡ true = le-leb size limit (low refl) in
+    let front : AskedBy head (take size rest) (judged ((nat_le size (length (take size rest)), Truncated) ∷ []) size) parsed = rw fits at asked in
+    let same : AskedBy head (take size rest) (judged ((nat_le size (length rest), Truncated) ∷ []) size) parsed =
+    subst (λ (b : Bool). AskedBy head (take size rest) (judged ((b, Truncated) ∷ []) size) parsed) (as_much size rest) front in
+    asked_there head size rest parsed (nat_le size (length rest)) same
+asked_sized head ((true, fault) ∷ conditions) size limit rest parsed low asked = asked_sized head conditions size limit rest parsed low asked
+asked_sized head ((false, fault) ∷ conditions) size limit rest parsed low asked = asked
+
+-- the conditions on the framing that don't look at what follows
+abbrev five : Bool → Bool → Bool → Bool → Bool → List (Condition Rule)
+five coding told agree fits hosts =
+    (coding, TransferCoding) ∷ (told, LengthMissing) ∷ (agree, BadLength) ∷ (fits, BodyTooLarge) ∷ (hosts, HostMissing) ∷ []
+
+fourth : (a b c d e : Bool) → first_broken (five a b c d e) ≡ None → d ≡ true
+fourth a b c true e none = refl
+fourth false b c false e none = absurd (cc)
+fourth true false c false e none = absurd (cc)
+fourth true true false false e none = absurd (cc)
+fourth true true true false e none = absurd (cc)
+
+asked_of : (head : RequestHead) (rest : List ℕ) (parsed : ParsedRequest) → AskedOf head (take (told_by head) rest) parsed → AskedOf head rest parsed
+asked_of head rest parsed asked =
+    let lengths = values_of (codes "content-length") (fields_of head) in
+    let coding = is_nil (values_of (codes "transfer-encoding") (fields_of head)) in
+    let told = not (needs_length head.method) || not (is_nil lengths) in
+    let fits = nat_le (body_length lengths) body_limit in
+    let hosts = hosts_fit head.minor (length (values_of (codes "host") (fields_of head))) in
+    asked_sized head (five coding told (lengths_agree lengths) fits hosts) (body_length lengths) body_limit rest parsed
+    (λ none. leb-true (body_length lengths) body_limit (fourth coding told (lengths_agree lengths) fits hosts none)) asked
+
+-- ---- the block
+
+asks_block_by : (block rest : List ℕ) (size : ℕ) (parsed : ParsedRequest) (long : Bool)
+    → MatchBool long (size ≡ 0)
+    (((size ≡ 0) × ((head : RequestHead) → ReadsRequest block head [] → ⊥))
+    ⊎ ((head : RequestHead) × ReadsRequest block head [] × (size ≡ told_by head)))
+    → MatchBool long (parsed ≡ refused HeadTooLarge)
+    (((parsed ≡ refused BadHead) × ((head : RequestHead) → ReadsRequest block head [] → ⊥))
+    ⊎ ((head : RequestHead) × ReadsRequest block head [] × AskedOf head (take size rest) parsed))
+    → MatchBool long (parsed ≡ refused HeadTooLarge)
+    (((parsed ≡ refused BadHead) × ((head : RequestHead) → ReadsRequest block head [] → ⊥))
+    ⊎ ((head : RequestHead) × ReadsRequest block head [] × AskedOf head rest parsed))
+asks_block_by block rest size parsed true needs asks = asks
+asks_block_by block rest size parsed false needs asks =
+    ⊎_elim (λ bad. inl bad)
+    (λ q. ⊎_elim (λ none. absurd (none.1 q.0 q.1))
+    (λ p. let is : size ≡ told_by q.0 = p.2 ∙ ap told_by (request_unique block p.0 q.0 [] [] p.1 q.1).0 in
+    inr (q.0, q.1, asked_of q.0 rest parsed (subst (λ (n : ℕ). AskedOf q.0 (take n rest) parsed) is q.2))) needs) asks
+
+asks_block : (block rest : List ℕ) (size : ℕ) (parsed : ParsedRequest) → NeedsBody block size → AsksBlock block (take size rest) parsed
+    → AsksBlock block rest parsed
+asks_block block rest size parsed needs asks = asks_block_by block rest size parsed (nat_lt 64 (line_count block - 2)) needs asks
+
+-- ---- the input
+
+-- the first bytes of a front are those of the whole
+fronts : (input : List ℕ) (n size k : ℕ) → n ≤ head_limit → k ≤ n → take k (window (take (n + size) input)) ≡ take k (window input)
+unfolding window
+fronts input n size k low within =
+    take-take k 16384 (take (n + size) input) (omega arith) ∙ take-take k (n + size) input (omega arith)
+    ∙ sym (take-take k 16384 input (omega arith))
+
+window_low : (input : List ℕ) (n : ℕ) → n ≤ length (window input) → (n ≤ head_limit) × (n ≤ length input)
+unfolding window
+window_low input n low = (omega (arith, length-take 16384 input), omega (arith, length-take 16384 input))
+
+window_high : (input : List ℕ) (n size : ℕ) → n ≤ head_limit → n ≤ length input → n ≤ length (window (take (n + size) input))
+unfolding window
+window_high input n size low there = omega (arith, length-take 16384 (take (n + size) input), length-take (n + size) input)
+
+-- a front that has the block has its end
+front_end : (input : List ℕ) (n size : ℕ) → IsBlockEnd (window input) n → IsBlockEnd (window (take (n + size) input)) n
+front_end input n size (low, ends, first) =
+    let lows = window_low input n low in (
+      window_high input n size lows.0 lows.1,
+      ap ends_empty (fronts input n size n lows.0 (omega arith)) ∙ ends,
+      λ k below. ap ends_empty (fronts input n size k lows.0 (omega arith)) ∙ first k below,
+    )
+
+asks_front : (input : List ℕ) (n size : ℕ) (parsed : ParsedRequest) → IsBlockEnd (window input) n → NeedsBody (take n input) size
+    → Asks (take (n + size) input) parsed → Asks input parsed
+asks_front input n size parsed end needs asks =
+    let front = take (n + size) input in
+    let front_ends : IsBlockEnd (window front) n = front_end input n size end in
+    let block : take n front ≡ take n input = take-take n (n + size) input (omega arith) in
+    let body : drop n front ≡ take size (drop n input) = drop-take n size input in
+    ⊎_elim (λ none. absurd (end_or_none (window front) n none.0 front_ends))
+    (λ q. let here : AsksBlock (take n front) (drop n front) parsed =
+    subst (λ (m : ℕ). AsksBlock (take m front) (drop m front) parsed) (end_unique (window front) q.0 n q.1 front_ends) q.2 in
+    let there : AsksBlock (take n input) (take size (drop n input)) parsed =
+    subst (λ (rest : List ℕ). AsksBlock (take n input) rest parsed) body (subst (λ (b : List ℕ). AsksBlock b (drop n front) parsed) block here) in
+    inr (n, end, asks_block (take n input) (drop n input) size parsed needs there)) asks
+
+window_twice : (input : List ℕ) → window (window input) ≡ window input
+unfolding window
+window_twice input = take-take 16384 16384 input (omega arith)
+
+asks_window : (input : List ℕ) (parsed : ParsedRequest) → HasNoEmptyLine (window input) → Asks (window input) parsed → Asks input parsed
+asks_window input parsed none asks =
+    ⊎_elim (λ q. inl (none, subst (λ (w : List ℕ). parsed ≡ refused (if length w == head_limit then HeadTooLarge else Truncated)) (window_twice input) q.1))
+    (λ q. absurd (end_or_none (window input) q.0 none (subst (λ (w : List ℕ). IsBlockEnd w q.0) (window_twice input) q.1))) asks
+
+pub asks_needed : (input front : List ℕ) (parsed : ParsedRequest) → IsNeeded input front → Asks front parsed → Asks input parsed
+asks_needed input front parsed needed asks =
+    ⊎_elim (λ none. asks_window input parsed none.0 (subst (λ (f : List ℕ). Asks f parsed) none.1 asks))
+    (λ b. asks_front input b.0 b.1 parsed b.2 b.3 (subst (λ (f : List ℕ). Asks f parsed) b.4 asks)) needed
+
+-- ---- what is read of a known input
+
+-- as much as there may be, or all that there is
+full : (most : ℕ) (text rest : List ℕ) → length text ≤ most → (length text < most → rest ≡ []) → take most (text ++ rest) ≡ text
+full zero [] rest low whole = refl
+full zero (x ∷ text) rest low whole = absurd (omega arith)
+full (suc most) [] rest low whole = rw (whole (omega arith)) refl
+full (suc most) (x ∷ text) rest low whole =
+    ap (λ l. x ∷ l) (full most text rest (omega arith) (λ less. whole (omega (arith, less))))
+
+pub needed_window : (input left : Option (List ℕ)) (text : List ℕ) → Consumes input left text → IsHeadTaken left text → ends_empty text ≡ false
+    → IfSome input (λ bytes. IsNeeded bytes text)
+unfolding window
+needed_window None left text consumed taken none = tt
+needed_window (Some xs) None text consumed taken none = absurd consumed
+needed_window (Some xs) (Some ys) text consumed taken none =
+    let all : ends_empty (take (length text) text) ≡ false = ap ends_empty (take-length text) ∙ none in
+    let is : window xs ≡ text = ap (λ l. take 16384 l) consumed ∙ full 16384 text ys taken.few (taken.whole none) in
+    let lacks : HasNoEmptyLine text = λ k low. below_more (λ k. ends_empty (take k text) ≡ false) (length text) taken.first all k (omega arith) in
+    inl (subst HasNoEmptyLine (sym is) lacks, sym is)
+
+block_front : (text ys : List ℕ) (k : ℕ) → length text ≤ head_limit → k ≤ length text → take k (window (text ++ ys)) ≡ take k text
+unfolding window
+block_front text ys k low within = take-take k 16384 (text ++ ys) (omega arith) ∙ take-append-le k text ys within
+
+block_low : (text ys : List ℕ) → length text ≤ head_limit → length text ≤ length (window (text ++ ys))
+unfolding window
+block_low text ys low = omega (arith, length-take 16384 (text ++ ys), length-append text ys)
+
+needed_block : (text part rest : List ℕ) (size : ℕ) (left : Option (List ℕ)) → IsHeadTaken left text → ends_empty text ≡ true → NeedsBody text size
+    → length part ≤ size → (length part < size → rest ≡ []) → IsNeeded (text ++ (part ++ rest)) (text ++ part)
+needed_block text part rest size left taken ends needs few whole =
+    let ys = part ++ rest in
+    let end : IsBlockEnd (window (text ++ ys)) (length text) = (
+      block_low text ys taken.few,
+      ap ends_empty (block_front text ys (length text) taken.few (omega arith) ∙ take-length text) ∙ ends,
+      λ k below. ap ends_empty (block_front text ys k taken.few (omega arith)) ∙ taken.first k below,
+    ) in
+    let front : text ++ part ≡ take (length text + size) (text ++ ys) =
+    sym (take-append-add text ys size ∙ ap (λ l. text ++ l) (full size part rest few whole)) in
+    inr (length text, size, end, subst (λ (b : List ℕ). NeedsBody b size) (sym (take-append_seam text ys)) needs, front)
+
+needed_whole : (input left after : Option (List ℕ)) (text part : List ℕ) (size : ℕ) → Consumes input left text → Consumes left after part
+    → IsHeadTaken left text → ends_empty text ≡ true → NeedsBody text size → IsBodyTaken size after part
+    → IfSome input (λ bytes. IsNeeded bytes (text ++ part))
+needed_whole None left after text part size consumed more taken ends needs body = tt
+needed_whole (Some xs) None after text part size consumed more taken ends needs body = absurd consumed
+needed_whole (Some xs) (Some ys) None text part size consumed more taken ends needs body = absurd more
+needed_whole (Some xs) (Some ys) (Some zs) text part size consumed more taken ends needs body =
+    subst (λ (input : List ℕ). IsNeeded input (text ++ part)) (sym (consumed ∙ ap (λ l. text ++ l) more))
+    (needed_block text part zs size (Some ys) taken ends needs body.few body.whole)
+
+-- the block and what was taken behind it
+pub received : (input left after : Option (List ℕ)) (text part bytes : List ℕ) (size : ℕ) → Consumes input left text → Consumes left after part
+    → bytes ≡ text ++ part → IsHeadTaken left text → ends_empty text ≡ true → NeedsBody text size → IsBodyTaken size after part
+    → Consumes input after bytes × IfSome input (λ whole. IsNeeded whole bytes)
+received input left after text part bytes size consumed more is taken ends needs body = rw is (
+  consumes_consumes input left after text part consumed more,
+  needed_whole input left after text part size consumed more taken ends needs body,
+)
+
+-- ---- what is served
+
+module _ {T : Type 0} (stands : T → Content → Type 0) (is_live : T → Type 0) (keys : Keys) (m : ℕ) (input front reply : List ℕ) where
+  abbrev IsNeededBy : Bool → Type 0
+  IsNeededBy b = MatchBool b (IsNeeded input front) (front ≡ [])
+
+  refuses_by : (b : Bool) → IsNeededBy b
+      → MatchBool b ((parsed : ParsedRequest) × (date : List ℕ) × Asks front parsed × IsDateOf m date × IsRefused date parsed reply)
+      (reply ≡ refusal None ClockOutOfRange)
+      → MatchBool b ((parsed : ParsedRequest) × (date : List ℕ) × Asks input parsed × IsDateOf m date × IsRefused date parsed reply)
+      (reply ≡ refusal None ClockOutOfRange)
+  refuses_by true needed (parsed, date, asks, dated, is) = (parsed, date, asks_needed input front parsed needed asks, dated, is)
+  refuses_by false needed is = is
+
+  refuses : IsNeededAt m input front → RefusesAtOnce m front reply → RefusesAtOnce m input reply
+  unfolding RefusesAtOnce
+  refuses needed given = refuses_by (nat_lt m end_of_moments) needed given
+
+  in_time : m < end_of_moments → IsNeededAt m input front → IsNeeded input front
+  in_time early needed = rw (lt-ltb m end_of_moments early) at needed
+
+  takes_by : (unavailable : Bool) (c next : Content) → IsNeededAt m input front
+      → Takes keys (record { event = request m front; unavailable = unavailable }) c next (replied reply)
+      → Takes keys (record { event = request m input; unavailable = unavailable }) c next (replied reply)
+  takes_by true c next needed (same, ((r, (early, asks)), is)) = (same, ((r, (early, asks_needed input front _ (in_time early needed) asks)), is))
+  takes_by false c next needed serves = elim serves [
+    | inl (same, given) ↦ inl (same, refuses needed given)
+    | inr (r, (early, asks), answered) ↦ inr (r, (early, asks_needed input front _ (in_time early needed) asks), answered)
+  ]
+
+  -- what is served of the front is served of the whole
+  pub taken_needed : (old new : T) → IsNeededAt m input front → RequestTaken stands is_live keys m front reply old new
+      → RequestTaken stands is_live keys m input reply old new
+  taken_needed old new needed (unavailable, goes) = (
+    unavailable,
+    λ live c kept h.
+        let (next, takes, stands_after, kept_after) = goes live c kept h in
+        (next, takes_by unavailable c next needed takes, stands_after, kept_after),
+  )
+
+-- ---- what a connection is answered
+
+module _ {T : Type 0} (stands : T → Content → Type 0) (is_live : T → Type 0) (keys : Keys) (m : ℕ) (reply : List ℕ) (old new : T) where
+  -- at a moment that isn't served nothing is needed
+  pub answers_late : (input : Option (List ℕ)) → end_of_moments ≤ m → RequestTaken stands is_live keys m [] reply old new
+      → AnswersInput stands is_live keys m input input reply old new
+  answers_late None late taken = inl ([], tt, taken, tt)
+  answers_late (Some bytes) late taken =
+      let needed : IsNeededAt m bytes [] = rw (le-ltb m end_of_moments late) refl in
+      inl ([], refl, taken, (needed, taken_needed stands is_live keys m bytes [] reply old new needed taken))
+
+  pub answers_early : (input left : Option (List ℕ)) (front : List ℕ) → m < end_of_moments → Consumes input left front
+      → IfSome input (λ bytes. IsNeeded bytes front) → RequestTaken stands is_live keys m front reply old new
+      → AnswersInput stands is_live keys m input left reply old new
+  answers_early None left front early consumed needed taken = inl (front, consumed, taken, tt)
+  answers_early (Some bytes) left front early consumed needed taken =
+      let needed_then : IsNeededAt m bytes front = rw (lt-ltb m end_of_moments early) needed in
+      inl (front, consumed, taken, (needed_then, taken_needed stands is_live keys m bytes front reply old new needed_then taken))

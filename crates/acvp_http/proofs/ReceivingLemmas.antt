@@ -1,0 +1,40 @@
+-- Lemmas on taking the bytes of a head one after another.
+use Rattle.std.proofs.Common.{◌≡◌, ◌<◌, ℕ, ◌+◌, List, [], ◌∷◌, ◌++◌, length, take, Bool, true, false, Option, ap, sym, ◌∙◌, arith, below_more, length-append, take_all}
+use Rattle.std.specs.Io.KnownBytes.{Consumes}
+use Rattle.std.proofs.lemmas.List.{take-append-le}
+use Rattle.acvp_http.specs.Asks.{ends_empty}
+use Rattle.acvp_http.specs.declared.script.ScriptFault.{ScriptFault}
+use Rattle.acvp_http.specs.Private.Receiving.{StopsReceiving, TakesSome, TakesByte, IsHeadTaken}
+use Rattle.acvp_http.proofs.KnownLemmas.{consumes_consumes}
+
+-- what was taken before the stop, and then
+pub stops_after : (a b c : Option (List ℕ)) (text : List ℕ) (fault : ScriptFault) (failed : Bool) (reads limit : ℕ) → Consumes a b text
+    → StopsReceiving fault failed reads limit × TakesSome b c → StopsReceiving fault failed reads limit × TakesSome a c
+stops_after a b c text fault failed reads limit taken (stops, (more, took)) = (stops, (text ++ more, consumes_consumes a b c text more taken took))
+
+pub byte_taken : (more : Bool) (old new : Option (List ℕ)) (before after : List ℕ) → more ≡ true → TakesByte more old new before after
+    → (byte : ℕ) × (after ≡ before ++ byte ∷ []) × Consumes old new (byte ∷ [])
+byte_taken true old new before after is takes = takes
+byte_taken false old new before after is takes = absurd (cc)
+
+module _ (before after : List ℕ) (byte n : ℕ) (is : after ≡ before ++ byte ∷ []) (long : length before ≡ n)
+    (first : (k : ℕ) → k < n + 1 → ends_empty (take k before) ≡ false) where
+  pub one_longer : length after ≡ n + 1
+  one_longer = let size : length after ≡ length (before ++ byte ∷ []) = ap length is in omega (arith, size, length-append before (byte ∷ []))
+
+  none_before : (k : ℕ) → k < n + 1 → ends_empty (take k after) ≡ false
+  none_before k low = ap (λ l. ends_empty (take k l)) is ∙ ap ends_empty (take-append-le k before (byte ∷ []) (omega arith)) ∙ first k low
+
+  -- and none with that byte
+  pub none_yet : ends_empty after ≡ false → (k : ℕ) → k < n + 1 + 1 → ends_empty (take k after) ≡ false
+  none_yet none k low =
+      let all : ends_empty (take (n + 1) after) ≡ false = ap ends_empty (take_all (n + 1) after (omega (arith, one_longer))) ∙ none in
+      below_more (λ k. ends_empty (take k after) ≡ false) (n + 1) none_before all k low
+
+  -- or the block ends with it
+  pub head_ended : (left : Option (List ℕ)) → n < 16384 → ends_empty after ≡ true → IsHeadTaken left after
+  head_ended left low ends = record {
+    few = omega (arith, one_longer);
+    first = λ k below. none_before k (omega (arith, one_longer));
+    whole = λ none. absurd (let both_ways : true ≡ false = sym ends ∙ none in cc);
+  }

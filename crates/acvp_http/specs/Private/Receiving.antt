@@ -1,0 +1,43 @@
+-- What reads of a request do, and why they stop.
+use Rattle.std.specs.Prelude.{◌≡◌, ◌<◌, ◌≤◌, ℕ, List, [], ◌∷◌, ◌++◌, length, take, Bool, true, false, Option, MatchBool}
+use Rattle.std.specs.Io.KnownBytes.{Consumes, IsAtEnd}
+use Rattle.acvp_http.specs.declared.script.ScriptFault.{ScriptFault}
+use Rattle.acvp_http.specs.declared.script.ScriptFault.TheVariants.{Memory}
+use Rattle.acvp_http.specs.declared.connection.ServeFault.{ServeFault}
+use Rattle.acvp_http.specs.declared.connection.ServeFault.TheVariants.{Turns, Read as Unread, Write as Unwritten}
+use Rattle.acvp_http.specs.Asks.{ends_empty, head_limit}
+use Rattle.acvp_http.specs.Connection.{most_turns}
+use Rattle.acvp_http.specs.Private.Reading.{StopsReading}
+use Rattle.acvp_http.specs.Source.{ReadsTooOften}
+
+-- some bytes were taken
+abbrev pub TakesSome : Option (List ℕ) → Option (List ℕ) → Type 0
+TakesSome old new = (part : List ℕ) × Consumes old new part
+
+-- a read has failed or there were too many, or memory was refused
+abbrev pub StopsReceiving : ScriptFault → Bool → ℕ → ℕ → Type 0
+StopsReceiving Memory failed reads limit = failed ≡ false
+StopsReceiving fault failed reads limit = StopsReading fault failed reads limit
+
+-- one more byte was taken, or there was none
+abbrev pub TakesByte : Bool → Option (List ℕ) → Option (List ℕ) → List ℕ → List ℕ → Type 0
+TakesByte more old new before after = MatchBool more
+    ((byte : ℕ) × (after ≡ before ++ byte ∷ []) × Consumes old new (byte ∷ []))
+    ((after ≡ before) × Consumes old new [] × IsAtEnd new)
+
+-- The text is the block of a head, or there is no empty line in it and no more of it is to be taken; so much is left.
+pub record IsHeadTaken (left : Option (List ℕ)) (text : List ℕ) : Type 0 where
+  pub few : length text ≤ head_limit
+  pub first : (k : ℕ) → k < length text → ends_empty (take k text) ≡ false
+  pub whole : ends_empty text ≡ false → length text < head_limit → IsAtEnd left
+
+-- So many more bytes were taken, or as many as there were.
+pub record IsBodyTaken (wanted : ℕ) (left : Option (List ℕ)) (part : List ℕ) : Type 0 where
+  pub few : length part ≤ wanted
+  pub whole : length part < wanted → IsAtEnd left
+
+-- a read has failed, or there were too many
+abbrev pub StopsConnection : ServeFault → Bool → ℕ → ℕ → Type 0
+StopsConnection Unread failed before after = failed ≡ true
+StopsConnection Turns failed before after = (failed ≡ false) × ReadsTooOften most_turns before after
+StopsConnection Unwritten failed before after = ⊥

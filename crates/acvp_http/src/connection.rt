@@ -1,0 +1,92 @@
+//! One request of a connection, from its reader to its writer.
+ghost use Rattle.std.specs.Prelude.{◌≡◌, false, MatchResult};
+ghost use Rattle.acvp_http.specs.Connection.{AnswersInput, ServesOne, is_read_end, is_write_end};
+ghost use Rattle.acvp_http.specs.Private.Receiving.{StopsConnection, TakesSome};
+
+use crate::receiving::receive;
+use crate::reply::Reply;
+use crate::routes::Routes;
+use crate::script::ScriptFault;
+use crate::serve::handle_bytes;
+use crate::source::{Sink, Source};
+use crate::writing::write_all;
+use acvp_desk::{Desk, END_OF_MOMENTS};
+use acvp_policy::Rule;
+use acvp_tables::Tables;
+use std::alloc::Global;
+
+/// The most reads for one request.
+const MOST_TURNS: u64 = 2200000;
+
+/// Why a connection got no whole reply.
+#[derive(Clone, Copy, PartialEq, Eq, Debug)]
+pub enum ServeFault {
+    /// 1: the reader has failed. The request wasn't handled.
+    Read,
+    /// 2: the writer has failed. The request was handled, and a front of its reply went out.
+    Write,
+    /// 3: there were 2200000 reads. The request wasn't handled.
+    Turns,
+}
+
+/// The reply to the request that the reader holds.
+fn answer_input<T: Tables, S: Source>(
+    alloc: Global,
+    routes: &Routes,
+    desk: &mut Desk<T>,
+    reader: &mut S,
+    moment: u64,
+) -> Result<Reply, ServeFault>
+    requires { S.failed reader.old ≡ false }
+    ensures keys { desk.new.keys ≡ desk.old.keys }
+    ensures was_live { T.is_live desk.new.tables → T.is_live desk.old.tables }
+    ensures was_clean { T.is_clean desk.new.tables → T.is_clean desk.old.tables }
+    ensures answered { MatchResult result
+        (λ reply. (S.failed reader.new ≡ false)
+        × AnswersInput T.stands T.is_live desk.old.keys moment (S.held reader.old) (S.held reader.new) reply desk.old.tables desk.new.tables)
+        (λ fault. StopsConnection fault (S.failed reader.new) (S.reads reader.old) (S.reads reader.new)
+        × (desk.new ≡ desk.old) × TakesSome (S.held reader.old) (S.held reader.new)) }
+{
+    if moment >= END_OF_MOMENTS {
+        return Ok(handle_bytes(routes, desk, moment, b""));
+    }
+    let limit = reader.reads().saturating_add(MOST_TURNS);
+    match receive(alloc, reader, limit) {
+        Ok(bytes) => Ok(handle_bytes(routes, desk, moment, &bytes)),
+        Err(ScriptFault::Memory) => Ok(Reply::refusal(None, Rule::Unavailable)),
+        Err(ScriptFault::Read) => Err(ServeFault::Read),
+        Err(ScriptFault::Limit) => Err(ServeFault::Turns),
+        Err(ScriptFault::Syntax) => unreachable!(),
+        Err(ScriptFault::Write) => unreachable!(),
+    }
+}
+
+/// Serves one request at a moment, in seconds since 1970: reads no more than it needs, handles it and writes its whole
+/// reply. A read that is interrupted is tried again.
+pub fn serve_one<T: Tables, S: Source, K: Sink>(
+    alloc: Global,
+    routes: &Routes,
+    desk: &mut Desk<T>,
+    reader: &mut S,
+    writer: &mut K,
+    moment: u64,
+) -> Result<(), ServeFault>
+    requires reader_clear { S.failed reader.old ≡ false }
+    requires writer_clear { K.failed writer.old ≡ false }
+    ensures keys { desk.new.keys ≡ desk.old.keys }
+    ensures was_live { T.is_live desk.new.tables → T.is_live desk.old.tables }
+    ensures was_clean { T.is_clean desk.new.tables → T.is_clean desk.old.tables }
+    ensures serves { ServesOne T.stands T.is_live desk.old.keys moment (S.held reader.old) (S.held reader.new) (S.reads reader.old) (S.reads reader.new)
+        (K.contents writer.old) (K.contents writer.new) desk.old.tables desk.new.tables result }
+    ensures read_fault { S.failed reader.new ≡ is_read_end result }
+    ensures write_fault { K.failed writer.new ≡ is_write_end result }
+{
+    let reply = answer_input(alloc, routes, desk, reader, moment)?;
+    match write_all(writer, reply.bytes()) {
+        Ok(()) => Ok(()),
+        Err(_) => Err(ServeFault::Write),
+    }
+}
+
+#[cfg(test)]
+mod tests;
