@@ -19,7 +19,7 @@ use Rattle.acvp_store.specs.Kept.{IsKept}
 use Rattle.acvp_store.proofs.Idle.{applied}
 use Rattle.acvp_store.proofs.Keyed.{free_key, put_new, kept_with}
 
-not_false : (b : Bool) → (not b && true) ≡ true → b ≡ false
+pub not_false : (b : Bool) → (not b && true) ≡ true → b ≡ false
 not_false true h = absurd (cc)
 not_false false h = refl
 

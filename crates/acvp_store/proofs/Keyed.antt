@@ -25,7 +25,7 @@ eq_of m n h = grind (arith, nat_tests)
 pub order_whole : {X : Type 0} (m n : ℕ) (x y z : X) → match_ordering (value_cmp (whole m) (whole n)) x y z ≡ (if nat_lt m n then x else (if m == n then y else z))
 order_whole m n x y z = ap (λ o. match_ordering o x y z) (value_cmp-Int (pos m) (pos n)) ∙ grind (arith, nat_tests)
 
-none_left : {X : Type 0} (ys : List X) → IsPermutation [] ys → ys ≡ []
+pub none_left : {X : Type 0} (ys : List X) → IsPermutation [] ys → ys ≡ []
 none_left [] h = refl
 none_left (y ∷ ys) h = absurd (omega (arith, length_permutation _ _ h))
 

@@ -9,9 +9,15 @@ pub mod Idle
 pub mod Selecting
 pub mod Inserting
 pub mod Updating
+pub mod Effects
+pub mod Entries
 pub mod Finding
 pub mod AccountRows
 pub mod SessionRows
 pub mod ObjectRows
 pub mod SetRows
+pub mod RequestRows
+pub mod ReviewerRows
+pub mod Registering
+pub mod Sound
 pub mod Standing

@@ -21,8 +21,8 @@ use Rattle.acvp_tables.specs.Content.{kind_number, is_kind, object_at}
 use Rattle.acvp_tables.specs.declared.rows.ObjectRow.{ObjectRow}
 use Rattle.acvp_store.specs.Values.{whole}
 use Rattle.acvp_store.specs.Schema.{store_schema}
-use Rattle.acvp_store.specs.Stands.{Entry, HoldsEntries, object_row, object_tree, FitColumns}
-use Rattle.acvp_store.proofs.Parts.{and_true}
+use Rattle.acvp_store.specs.Stands.{Entry, entry_row, HoldsObjects, object_columns, object_tree, FitColumns}
+use Rattle.acvp_store.proofs.Parts.{both_true}
 use Rattle.acvp_store.proofs.Selecting.{test_equals, test_none, selected}
 use Rattle.acvp_store.proofs.Texts.{find_owner, owner_query, owner_is, owner_plain, owner_unlisted}
 
@@ -35,25 +35,17 @@ owner_shown account = whole account ∷ []
 abbrev owners : Kind → ℕ → List ObjectRow → List ℕ
 owners kind n objects = map (λ o. o.account) (filter (is_it kind n) objects)
 
-both : (a b c d : Bool) → a ≡ c → b ≡ d → (a && (b && true)) ≡ (c && d)
-both true b true d e f = and_true b ∙ f
-both false b false d e f = refl
-both true b false d e f = absurd (cc)
-both false b true d e f = absurd (cc)
-
 neither : (b : Bool) → (b && false) ≡ false
 neither true = refl
 neither false = refl
 
 -- the rows that pass, in the order of the list
 module _ (k : ℕ) (n : ℤ) (p : ObjectRow → Bool) (tests : (o : ObjectRow) → (is_true (binary (Compare Eq Binary) (whole (kind_number o.object.kind)) (whole k)) && (is_true (binary (Compare Eq Binary) (whole o.number) (Int n)) && true)) ≡ p o) where
-  rows_of : (old new : State) (rows : List Row) → old.now.schema ≡ store_schema → Shown find_owner (whole k ∷ Int n ∷ []) old new rows → (objects : List ObjectRow) (h : HoldsEntries object_row (old.now.trees object_tree) objects)
+  rows_of : (old new : State) (rows : List Row) → old.now.schema ≡ store_schema → Shown find_owner (whole k ∷ Int n ∷ []) old new rows → (objects : List ObjectRow) (h : HoldsObjects (old.now.trees object_tree) objects)
       → IsPermutation (map (λ (e : Entry ObjectRow). owner_shown e.row.account) (filter (λ e. p e.row) h.entries)) rows
   rows_of old new rows schema shown objects h =
-      let found = selected (whole k ∷ Int n ∷ []) object_row (λ e. p e.row) owner_query.filter (λ e. tests e.row) object_tree owner_query.project (λ e. owner_shown e.row.account) (λ e. refl) (overlay old.now.trees []) h.kept.ordered rows h.kept.rows_are
-      ((reads_as find_owner (whole k ∷ Int n ∷ []) old new store_schema schema _ owner_is owner_plain owner_unlisted rows shown).answer Null) in
-      let same = IsPermutation-map (λ (e : Entry ObjectRow). owner_shown e.row.account) _ _ (IsPermutation-filter (λ (e : Entry ObjectRow). p e.row) h.kept.ordered h.entries h.kept.same) in
-      IsPermutation-trans _ _ _ (IsPermutation-sym _ _ same) found
+      selected (whole k ∷ Int n ∷ []) (entry_row object_columns) (λ e. p e.row) owner_query.filter (λ e. tests e.row) object_tree owner_query.project (λ e. owner_shown e.row.account) (λ e. refl) (overlay old.now.trees []) h.entries rows h.rows_are
+      ((reads_as find_owner (whole k ∷ Int n ∷ []) old new store_schema schema _ owner_is owner_plain owner_unlisted rows shown).answer Null)
 
   shown_of : (entries : List (Entry ObjectRow)) → map (λ (e : Entry ObjectRow). owner_shown e.row.account) (filter (λ e. p e.row) entries) ≡ map owner_shown (map (λ (o : ObjectRow). o.account) (filter p (map (λ (e : Entry ObjectRow). e.row) entries)))
   shown_of [] = refl
@@ -73,15 +65,15 @@ none_fits kind n (o ∷ objects) high fits =
     rw (other, neither (is_kind o.object.kind kind)) (none_fits kind n objects high fits.1)
 
 pub owner_rows : (kind : Kind) (n : ℕ) (k : ℤ) → (n < 2 ^ 63 → k ≡ pos n) → (2 ^ 63 ≤ n → k ≡ negsuc 0) → (old new : State) (rows : List Row) → old.now.schema ≡ store_schema → Shown find_owner (whole (kind_number kind) ∷ Int k ∷ []) old new rows
-    → (objects : List ObjectRow) → HoldsEntries object_row (old.now.trees object_tree) objects → FitColumns objects → IsPermutation (map owner_shown (owners kind n objects)) rows
+    → (objects : List ObjectRow) → HoldsObjects (old.now.trees object_tree) objects → FitColumns objects → IsPermutation (map owner_shown (owners kind n objects)) rows
 owner_rows kind n k fits large old new rows schema shown objects h fit = elim (small_or_large n) [
   | inl low ↦
       let p = is_it kind n in
-      let found = rows_of (kind_number kind) k p (λ o. both _ _ (is_kind o.object.kind kind) (o.number == n) (test_equals (kind_number o.object.kind) (kind_number kind)) (rw (fits low) (test_equals o.number n))) old new rows schema shown objects h in
-      subst (λ xs. IsPermutation (map owner_shown (map (λ (o : ObjectRow). o.account) (filter p xs))) rows) h.same
-      (subst (λ xs. IsPermutation xs rows) (shown_of (kind_number kind) k p (λ o. both _ _ (is_kind o.object.kind kind) (o.number == n) (test_equals (kind_number o.object.kind) (kind_number kind)) (rw (fits low) (test_equals o.number n))) h.entries) found)
+      let tests = λ (o : ObjectRow). both_true _ _ (is_kind o.object.kind kind) (o.number == n) (test_equals (kind_number o.object.kind) (kind_number kind)) (rw (fits low) (test_equals o.number n)) in
+      let found = subst (λ xs. IsPermutation xs rows) (shown_of (kind_number kind) k p tests h.entries) (rows_of (kind_number kind) k p tests old new rows schema shown objects h) in
+      IsPermutation-trans _ _ _ (IsPermutation-map owner_shown _ _ (IsPermutation-map (λ (o : ObjectRow). o.account) _ _ (IsPermutation-filter p objects _ (IsPermutation-sym _ _ h.same)))) found
   | inr high ↦
-      let found = rows_of (kind_number kind) k (λ o. false) (λ o. both _ _ (is_kind o.object.kind kind) false (test_equals (kind_number o.object.kind) (kind_number kind)) (rw (large high) (test_none o.number)) ∙ neither _) old new rows schema shown objects h in
+      let found = rows_of (kind_number kind) k (λ o. false) (λ o. both_true _ _ (is_kind o.object.kind kind) false (test_equals (kind_number o.object.kind) (kind_number kind)) (rw (large high) (test_none o.number)) ∙ neither _) old new rows schema shown objects h in
       rw (none_fits kind n objects high fit) (rw (none_passes h.entries) at found)
 ]
   where
@@ -97,8 +89,8 @@ first_owner kind n (o ∷ objects) = elim (cases_Bool (is_it kind n o)) [
 
 pub find_owned : {X E F : Type 0} (kind : Kind) (n : ℕ) (table : List Row) (outcome : Result X E) (rows_in : X → List Row) (result : Result (Option ℕ) F) → (IsOk result → IsOk outcome)
     → IfOk result (λ found. IfOk outcome (λ x. (list : List ℕ) → IsPermutation (map owner_shown list) (rows_in x) → found ≡ slice_get list 0))
-    → IfOk outcome (λ x. (objects : List ObjectRow) → HoldsEntries object_row table objects → FitColumns objects → IsPermutation (map owner_shown (owners kind n objects)) (rows_in x))
-    → IfOk result (λ found. (objects : List ObjectRow) → HoldsEntries object_row table objects → FitColumns objects → found ≡ option_map (λ (o : ObjectRow). o.account) (object_at kind n objects))
+    → IfOk outcome (λ x. (objects : List ObjectRow) → HoldsObjects table objects → FitColumns objects → IsPermutation (map owner_shown (owners kind n objects)) (rows_in x))
+    → IfOk result (λ found. (objects : List ObjectRow) → HoldsObjects table objects → FitColumns objects → found ≡ option_map (λ (o : ObjectRow). o.account) (object_at kind n objects))
 find_owned kind n table outcome rows_in (Err f) ok found rows = tt
 find_owned kind n table (Err e) rows_in (Ok r) ok found rows = absurd (let impossible = ok refl in cc)
 find_owned kind n table (Ok x) rows_in (Ok r) ok found rows = λ objects h fit. found (owners kind n objects) (rows objects h fit) ∙ first_owner kind n objects

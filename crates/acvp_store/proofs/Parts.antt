@@ -1,9 +1,10 @@
 -- The parts of what a statement does, and what a column makes of a value.
-use Rattle.std.proofs.Common.{◌≡◌, ◌⊎◌, inl, inr, ℕ, Bool, true, false, cond, Option, Some, None, Ok, Err, Result, refl}
+use Rattle.std.proofs.Common.{◌≡◌, ◌⊎◌, inl, inr, ℕ, List, Bool, true, false, cond, Option, Some, None, Ok, Err, Result, refl, ◌∙◌}
 use Rattle.std.specs.Prelude.{◌&&◌}
 use Rattle.sqlite.specs.declared.types.Value.{Value}
-use Rattle.sqlite.specs.declared.types.Value.TheVariants.{Null}
+use Rattle.sqlite.specs.declared.types.Value.TheVariants.{Null, Text}
 use Rattle.sqlite.specs.Ops.{unary}
+use Rattle.sqlite.specs.Kind.TheVariants as kind
 use Rattle.sqlite.specs.Kind.TheVariants.{Integer}
 use Rattle.sqlite.specs.Cast.{cast}
 use Rattle.sqlite.specs.Values.{or_null}
@@ -20,6 +21,13 @@ same_value e = cc
 pub and_true : (b : Bool) → (b && true) ≡ b
 and_true true = refl
 and_true false = refl
+
+-- two tests that both hold
+pub both_true : (a b c d : Bool) → a ≡ c → b ≡ d → (a && (b && true)) ≡ (c && d)
+both_true true b true d e f = and_true b ∙ f
+both_true false b false d e f = refl
+both_true true b false d e f = absurd (cc)
+both_true false b true d e f = absurd (cc)
 
 -- ---- a column of integers
 
@@ -42,3 +50,12 @@ cast_flag false = cast_whole 0
 pub cast_option : (o : Option ℕ) → cast Integer (or_null whole o) ≡ or_null whole o
 cast_option None = cast_null
 cast_option (Some n) = cast_whole n
+
+-- ---- a column of texts
+
+pub cast_text : (t : List ℕ) → cast kind.Text (Text t) ≡ Text t
+cast_text t = refl
+
+pub cast_text_option : (o : Option (List ℕ)) → cast kind.Text (or_null Text o) ≡ or_null Text o
+cast_text_option None = refl
+cast_text_option (Some t) = refl

@@ -1,13 +1,15 @@
 -- What a query over one table gives, where the table's rows are those of members.
-use Rattle.std.proofs.Common.{◌≡◌, ℕ, pos, negsuc, List, [], ◌∷◌, map, Bool, true, false, cond, Some, refl, ap, ◌∙◌, arith}
-use Rattle.std.specs.Prelude.{◌==◌}
+use Rattle.std.proofs.Common.{◌≡◌, ◌<◌, ℕ, pos, negsuc, List, [], ◌∷◌, map, Bool, true, false, cond, Some, refl, ap, ◌∙◌, arith}
+use Rattle.std.specs.Prelude.{◌==◌, nat_lt}
 use Rattle.std.specs.List.Sorted.{IsPermutation}
 use Rattle.std.specs.List.{filter, flat_map, list_all}
-use Rattle.std.specs.Ordering.{is_eq}
+use Rattle.std.specs.Ordering.{is_eq, is_ne, is_lt}
+use Rattle.std.proofs.lemmas.Bool.Decides.{nat_tests}
 use Rattle.std.proofs.lemmas.List.Sorted.{IsPermutation-map}
 use Rattle.sqlite_trees.proofs.ListLemmas.{map-map}
 use Rattle.sqlite.specs.Order.{Row}
 use Rattle.sqlite.specs.Ops.{is_true, from_truth, binary}
+use Rattle.sqlite.specs.Collation.{Collation}
 use Rattle.sqlite.specs.Collation.TheVariants.{Binary}
 use Rattle.sqlite.specs.Term.{Term, Env, holds, eval_all}
 use Rattle.sqlite.specs.Query.{IsAnswer, output, Output}
@@ -15,9 +17,9 @@ use Rattle.sqlite.specs.Tree.{Trees}
 use Rattle.sqlite.specs.declared.types.Value.TheVariants.{Int}
 use Rattle.sqlite_value.proofs.OrderLemmas.{value_cmp-Int}
 use Rattle.sqlite_sql.specs.declared.ops.BinaryOp.TheVariants.{Compare}
-use Rattle.sqlite_sql.specs.declared.ops.CompareOp.TheVariants.{Eq}
+use Rattle.sqlite_sql.specs.declared.ops.CompareOp.TheVariants.{Eq, Ne, Lt}
 use Rattle.acvp_store.specs.Values.{whole}
-use Rattle.acvp_store.proofs.Texts.{simple}
+use Rattle.acvp_store.proofs.Texts.{simple, collated}
 use Rattle.acvp_store.proofs.Keyed.{same_whole}
 
 truth_back : (b : Bool) → is_true (from_truth (Some b)) ≡ b
@@ -34,6 +36,15 @@ pub test_none : (m : ℕ) → is_true (binary (Compare Eq Binary) (whole m) (Int
 unfolding binary
 test_none m = truth_back _ ∙ ap is_eq (value_cmp-Int (pos m) (negsuc 0))
 
+pub test_less : (m n : ℕ) → is_true (binary (Compare Lt Binary) (whole m) (whole n)) ≡ nat_lt m n
+unfolding binary
+test_less m n = truth_back _ ∙ ap is_lt (value_cmp-Int (pos m) (pos n)) ∙ grind (arith, nat_tests)
+
+-- two numbers of which one is less differ
+pub test_differs : (m n : ℕ) → m < n → is_true (binary (Compare Ne Binary) (whole m) (whole n)) ≡ true
+unfolding binary
+test_differs m n low = truth_back _ ∙ ap is_ne (value_cmp-Int (pos m) (pos n)) ∙ grind (arith, nat_tests)
+
 module _ {A : Type 0} (params : Row) (encode : A → Row) (p : A → Bool) (terms : List Term) (tests : (a : A) → list_all (holds (params ∷ encode a ∷ [])) terms ≡ p a) where
   abbrev env_of : A → Env
   env_of a = params ∷ encode a ∷ []
@@ -43,16 +54,20 @@ module _ {A : Type 0} (params : Row) (encode : A → Row) (p : A → Bool) (term
   matched (a ∷ all) = grind (arith, tests a, matched all)
 
   -- the rows that pass, as the query shows them, in some order
-  pub selected : (tree : ℕ) (project : List Term) (show : A → Row) → ((a : A) → eval_all project (params ∷ encode a ∷ []) ≡ show a) → (db : Trees) (all : List A) (rows : List Row) → db tree ≡ map encode all
-      → IsAnswer (simple tree terms project) db params rows → IsPermutation (map show (filter p all)) rows
-  selected tree project show shows db all rows has a =
-      let q = simple tree terms project in
+  pub selected_by : (collations : List Collation) (tree : ℕ) (project : List Term) (show : A → Row) → ((a : A) → eval_all project (params ∷ encode a ∷ []) ≡ show a) → (db : Trees) (all : List A) (rows : List Row) → db tree ≡ map encode all
+      → IsAnswer (collated collations tree terms project) db params rows → IsPermutation (map show (filter p all)) rows
+  selected_by collations tree project show shows db all rows has a =
+      let q = collated collations tree terms project in
       let o = λ (x : A). let it : Output = ([], show x) in it in
       let staged : a.staged ≡ map env_of (filter p all) = a.grouped ∙ rw has (matched all) in
       let kept : a.kept ≡ map o (filter p all) = a.distinct ∙ ap (map (output q)) staged ∙ shown_by (filter p all) in
       let same = IsPermutation-map (λ (p : Output). p.1) _ _ (rw kept at a.same) in
       rw (a.shown, ← map-map (λ (p : Output). p.1) o (filter p all)) same
     where
-      shown_by : (xs : List A) → map (output (simple tree terms project)) (map env_of xs) ≡ map (λ x. let it : Output = ([], show x) in it) xs
+      shown_by : (xs : List A) → map (output (collated collations tree terms project)) (map env_of xs) ≡ map (λ x. let it : Output = ([], show x) in it) xs
       shown_by [] = refl
       shown_by (x ∷ xs) = grind (arith, shows x, shown_by xs)
+
+  pub selected : (tree : ℕ) (project : List Term) (show : A → Row) → ((a : A) → eval_all project (params ∷ encode a ∷ []) ≡ show a) → (db : Trees) (all : List A) (rows : List Row) → db tree ≡ map encode all
+      → IsAnswer (simple tree terms project) db params rows → IsPermutation (map show (filter p all)) rows
+  selected tree project show shows db all rows has a = selected_by [] tree project show shows db all rows has a

@@ -1,38 +1,52 @@
 -- The statements on vector sets.
-use Rattle.std.proofs.Common.{◌≡◌, ◌⊎◌, inl, inr, ◌<◌, ◌≤◌, ◌^◌, ℕ, ℤ, pos, negsuc, List, [], ◌∷◌, map, Bool, true, false, Option, Some, None, Ok, Err, Result, IfOk, IsOk, slice_get, refl, sym, ap, subst, ◌∙◌, arith}
-use Rattle.std.specs.Prelude.{◌==◌, find, option_map, if◌then◌else◌}
-use Rattle.std.specs.List.{filter, AllZip}
+use Rattle.std.proofs.Common.{◌≡◌, ◌⊎◌, inl, inr, ◌<◌, ◌≤◌, ◌^◌, ℕ, ℤ, pos, negsuc, List, [], ◌∷◌, ◌++◌, ◌+◌, ◌*◌, map, length, append_assoc, Bool, true, false, Option, Some, None, Ok, Err, Result, IfOk, IsOk, slice_get, refl, sym, ap, subst, ◌∙◌, arith}
+use Rattle.std.specs.Prelude.{◌==◌, drop, find, option_map, if◌then◌else◌}
+use Rattle.std.specs.List.{filter, list_all, AllZip}
 use Rattle.std.specs.List.Sorted.{IsPermutation}
 use Rattle.std.proofs.lemmas.Bool.{cases_Bool}
-use Rattle.sqlite.specs.declared.types.Value.TheVariants.{Null, Int}
+use Rattle.sqlite.specs.declared.types.Value.TheVariants.{Null, Int, Text}
 use Rattle.sqlite.specs.Order.{Row}
 use Rattle.sqlite.specs.Ops.{is_true, binary}
 use Rattle.sqlite.specs.Collation.TheVariants.{Binary}
 use Rattle.sqlite.specs.Program.{overlay}
-use Rattle.sqlite.specs.State.{State, Shown}
-use Rattle.sqlite.proofs.Callers.{reads_as}
+use Rattle.sqlite.specs.State.{State, Shown, mode_of}
+use Rattle.sqlite.specs.Values.{or_null}
+use Rattle.sqlite.specs.Command.TheVariants.{Insert, Update}
+use Rattle.sqlite.specs.Source.TheVariants.{Values}
+use Rattle.sqlite.specs.Cast.{cast_row}
+use Rattle.sqlite.specs.Term.{Term, holds, eval_all}
+use Rattle.sqlite.specs.Effect.{Database}
+use Rattle.sqlite.specs.Does.{Tally, Does}
+use Rattle.sqlite.specs.Listing.{understood}
+use Rattle.sqlite_rules.specs.Calls.{ids_of}
+use Rattle.sqlite.proofs.Callers.{reads_as, statement_of}
 use Rattle.sqlite_sql.specs.declared.ops.BinaryOp.TheVariants.{Compare}
 use Rattle.sqlite_sql.specs.declared.ops.CompareOp.TheVariants.{Eq}
 use Rattle.sqlite_trees.proofs.ListLemmas.{map-map}
+use Rattle.acvp_caps.specs.Capability.{CapabilityValue}
+use Rattle.acvp_caps.specs.Registered.{registered_text}
+use Rattle.acvp_answers.specs.VerdictText.{verdicts_text}
 use Rattle.acvp_answers.specs.declared.verdict.Disposition.{Disposition}
 use Rattle.acvp_answers.specs.declared.verdict.Disposition.TheVariants.{Passed, Fail, Missing, Expired, Unreceived}
+use Rattle.acvp_json.specs.KeptAnswers.{kept_text}
 use Rattle.acvp_tables.specs.Content.{set_at, set_summary}
+use Rattle.acvp_tables.specs.Changes.{changed, is_set, cancelled_set, with_graded, new_sets}
 use Rattle.acvp_tables.specs.Graded.{GradedValue}
 use Rattle.acvp_tables.specs.declared.rows.SetRow.{SetRow}
 use Rattle.acvp_tables.specs.declared.summary.SetSummary.{SetSummary}
-use Rattle.acvp_store.specs.Values.{whole}
-use Rattle.acvp_store.specs.Schema.{store_schema}
+use Rattle.acvp_store.specs.Values.{whole, flag}
+use Rattle.acvp_store.specs.Schema.{store_schema, set_table}
+use Rattle.acvp_store.specs.Alters.{Alters}
+use Rattle.acvp_store.specs.Connection.{Under, Both}
 use Rattle.acvp_store.specs.Kept.{IsKept}
-use Rattle.acvp_store.specs.Stands.{SetColumns, set_row, set_tree, disposition_number, IsGradedAs, IsSet, HoldsSets}
-use Rattle.acvp_store.specs.Private.Sets.{short_shown, short_of, IsDispositionOf, IsSummary, IsSummaryOf}
+use Rattle.acvp_store.specs.Stands.{SetColumns, set_key, set_row, set_tree, disposition_number, IsGradedAs, IsSet, HoldsSets}
+use Rattle.acvp_store.specs.Private.Sets.{short_shown, short_of, IsDispositionOf, IsSummary, IsSummaryOf, new_set, AddsSets}
 use Rattle.acvp_store.specs.declared.sets.ShortSet.{ShortSet}
-use Rattle.acvp_store.proofs.Keyed.{keyed, keyed_same, find_is, none_fits}
-use Rattle.acvp_store.proofs.Parts.{and_true}
+use Rattle.acvp_store.proofs.Keyed.{keyed, changing, keyed_same, find_is, none_fits}
+use Rattle.acvp_store.proofs.Parts.{and_true, cast_null, cast_whole, cast_flag, cast_option, cast_text_option}
 use Rattle.acvp_store.proofs.Selecting.{test_equals, test_none, selected}
-use Rattle.acvp_store.proofs.Texts.{find_set, set_query, set_is, set_plain, set_unlisted}
-
-abbrev pub set_key : SetColumns → ℕ
-set_key c = c.number
+use Rattle.acvp_store.proofs.Effects.{insert_effect, update_effect, spares_then}
+use Rattle.acvp_store.proofs.Texts.{simple, find_set, set_query, set_is, set_plain, set_unlisted, cancel_set, cancel_set_query, grade_set, grade_query, add_set, add_set_terms}
 
 abbrev pub set_shown : SetColumns → Row
 set_shown c = short_shown (short_of c)
@@ -130,3 +144,135 @@ module _ {X E F G : Type 0} (n : ℕ) (table : List Row) (rows_in : X → List R
       let at : set ≡ option_map short_of (find (λ (c : SetColumns). c.number == n) h.columns) =
       is ∙ short_first all ∙ ap (option_map short_of) (ap (λ l. slice_get l 0) (keyed_same set_key n h.kept.ordered h.columns h.kept.rising h.kept.same) ∙ sym (find_is set_key n h.columns)) in
       told_of n h.columns sets s h.same (subst (λ o. IsSummaryOf o s) at tells)
+
+-- ---- one set changed
+
+-- a change of the columns and one of the set go together
+zip_changed : (n : ℕ) (f : SetColumns → SetColumns) (g : SetRow → SetRow) → ((c : SetColumns) (row : SetRow) → IsSet c row → IsSet (f c) (g row))
+    → (columns : List SetColumns) (sets : List SetRow) → AllZip IsSet columns sets → AllZip IsSet (map (changing set_key n f) columns) (changed (is_set n) g sets)
+zip_changed n f g turns [] [] h = tt
+zip_changed n f g turns [] (r ∷ sets) h = absurd h
+zip_changed n f g turns (c ∷ columns) [] h = absurd h
+zip_changed n f g turns (c ∷ columns) (r ∷ sets) h = (
+  elim (cases_Bool (r.number == n)) [
+    | inl same ↦ let at : (c.number == n) ≡ true = ap (λ k. k == n) h.0.number ∙ same in rw (at, same) (turns c r h.0)
+    | inr apart ↦ let at : (c.number == n) ≡ false = ap (λ k. k == n) h.0.number ∙ apart in rw (at, apart) h.0
+  ],
+  zip_changed n f g turns columns sets h.1,
+)
+
+-- An UPDATE of the set of a number: `renewed c` is the number of `c` and the row that is written for it.
+module _ (terms project : List Term) (params : Row) (n : ℕ) (f : SetColumns → SetColumns) (keeps : (c : SetColumns) → (f c).number ≡ c.number) (renewed : SetColumns → Row) (ids : (c : SetColumns) → ids_of (renewed c ∷ []) ≡ pos c.number ∷ [])
+    (casts : (c : SetColumns) → cast_row (set_table 4) (drop 1 (renewed c)) ≡ set_row (f c)) (tests : (c : SetColumns) → list_all (holds (params ∷ set_row c ∷ [])) terms ≡ (c.number == n))
+    (shows : (c : SetColumns) → eval_all project (params ∷ set_row c ∷ []) ≡ renewed c) (g : SetRow → SetRow) (turns : (c : SetColumns) (row : SetRow) → IsSet c row → IsSet (f c) (g row)) where
+  pub set_effect : (old : State) (text : List ℕ) → old.now.schema ≡ store_schema → (tally : Tally) (after : Database)
+      → Does old.step_limit (mode_of old) params old.now text None (Update 3 (record { lets = []; body = simple 4 terms project })) (Ok (tally, after))
+      → Alters set_tree HoldsSets (changed (is_set n) g) old.now after
+  set_effect old text schema tally after does =
+      let made = update_effect set_key set_row (λ x. refl) 3 (set_table 4) refl (λ trees. refl) terms project params n f keeps renewed ids casts tests shows old text schema tally after does in
+      record {
+        schema = made.schema;
+        kept = λ sets h. record { columns = map (changing set_key n f) h.columns; kept = made.kept h.columns h.kept; same = zip_changed n f g turns h.columns sets h.same };
+        others = made.others;
+      }
+
+-- ---- a cancelled set
+
+abbrev off : SetColumns → SetColumns
+off c = record c { cancelled = true }
+
+abbrev called_off : SetColumns → Row
+called_off c = whole c.number ∷ whole c.number ∷ Null ∷ whole c.session ∷ Text c.capability ∷ whole 1 ∷ or_null Text c.answers ∷ or_null Text c.verdicts ∷ or_null whole c.disposition ∷ whole c.epoch ∷ []
+
+cast_off : (c : SetColumns) → cast_row (set_table 4) (drop 1 (called_off c)) ≡ set_row (off c)
+cast_off c = rw (cast_whole c.number, cast_null, cast_whole c.session, cast_whole 1, cast_text_option c.answers, cast_text_option c.verdicts, cast_option c.disposition, cast_whole c.epoch) refl
+
+graded_off : (c : SetColumns) (g : Option GradedValue) → IsGradedAs c g → IsGradedAs (off c) g
+graded_off c None h = h
+graded_off c (Some g) h = h
+
+pub cancel_set_effect : (old : State) (n : ℕ) → old.now.schema ≡ store_schema → (tally : Tally) (after : Database)
+    → Does old.step_limit (mode_of old) (whole n ∷ []) old.now (statement_of cancel_set (understood store_schema cancel_set)) None (Update 3 (record { lets = []; body = cancel_set_query })) (Ok (tally, after))
+    → Alters set_tree HoldsSets (changed (is_set n) cancelled_set) old.now after
+cancel_set_effect old n schema tally after does =
+    set_effect cancel_set_query.filter cancel_set_query.project (whole n ∷ []) n off (λ c. refl) called_off (λ c. refl) cast_off (λ c. rw test_equals (and_true _)) (λ c. refl) cancelled_set
+    (λ c row is. record { number = is.number; session = is.session; capability = is.capability; cancelled = refl; graded = graded_off c row.graded is.graded; epoch = is.epoch })
+    old (statement_of cancel_set (understood store_schema cancel_set)) schema tally after does
+
+-- ---- answers to a set
+
+abbrev answered : List ℕ → List ℕ → ℕ → SetColumns → SetColumns
+answered answers verdicts disposition c = record c { answers = Some answers; verdicts = Some verdicts; disposition = Some disposition }
+
+abbrev answers_in : List ℕ → List ℕ → ℕ → SetColumns → Row
+answers_in answers verdicts disposition c = whole c.number ∷ whole c.number ∷ Null ∷ whole c.session ∷ Text c.capability ∷ flag c.cancelled ∷ Text answers ∷ Text verdicts ∷ whole disposition ∷ whole c.epoch ∷ []
+
+cast_answers : (answers verdicts : List ℕ) (disposition : ℕ) (c : SetColumns) → cast_row (set_table 4) (drop 1 (answers_in answers verdicts disposition c)) ≡ set_row (answered answers verdicts disposition c)
+cast_answers answers verdicts disposition c = rw (cast_whole c.number, cast_null, cast_whole c.session, cast_flag c.cancelled, cast_whole disposition, cast_whole c.epoch) refl
+
+abbrev pub grade_params : ℕ → List ℕ → List ℕ → ℕ → Row
+grade_params n answers verdicts disposition = whole n ∷ Text answers ∷ Text verdicts ∷ whole disposition ∷ []
+
+-- the columns are those of graded answers
+pub grade_effect : (old : State) (n : ℕ) (g : GradedValue) (answers verdicts : List ℕ) (disposition : ℕ) → answers ≡ kept_text g.answers → verdicts ≡ verdicts_text g.verdicts → disposition_number g.disposition ≡ Some disposition
+    → old.now.schema ≡ store_schema → (tally : Tally) (after : Database)
+    → Does old.step_limit (mode_of old) (grade_params n answers verdicts disposition) old.now (statement_of grade_set (understood store_schema grade_set)) None (Update 3 (record { lets = []; body = grade_query })) (Ok (tally, after))
+    → Alters set_tree HoldsSets (changed (is_set n) (with_graded g)) old.now after
+grade_effect old n g answers verdicts disposition a v d schema tally after does =
+    set_effect grade_query.filter grade_query.project (grade_params n answers verdicts disposition) n (answered answers verdicts disposition) (λ c. refl) (answers_in answers verdicts disposition) (λ c. refl) (cast_answers answers verdicts disposition)
+    (λ c. rw test_equals (and_true _)) (λ c. refl) (with_graded g)
+    (λ c row is. record { number = is.number; session = is.session; capability = is.capability; cancelled = is.cancelled; graded = (ap Some a, ap Some v, disposition, refl, d); epoch = is.epoch })
+    old (statement_of grade_set (understood store_schema grade_set)) schema tally after does
+
+-- ---- a new set
+
+abbrev new_columns : ℕ → ℕ → List ℕ → ℕ → SetColumns
+new_columns number session text epoch = record { number = number; session = session; capability = text; cancelled = false; answers = None; verdicts = None; disposition = None; epoch = epoch }
+
+abbrev given : ℕ → ℕ → List ℕ → ℕ → Row
+given number session text epoch = whole number ∷ Null ∷ whole session ∷ Text text ∷ whole 0 ∷ Null ∷ Null ∷ Null ∷ whole epoch ∷ []
+
+cast_given : (number session : ℕ) (text : List ℕ) (epoch : ℕ) → cast_row (set_table 4) (given number session text epoch) ≡ set_row (new_columns number session text epoch)
+cast_given number session text epoch = rw (cast_whole number, cast_null, cast_whole session, cast_whole 0, cast_whole epoch) refl
+
+zip_last : (c : SetColumns) (row : SetRow) → IsSet c row → (columns : List SetColumns) (sets : List SetRow) → AllZip IsSet columns sets → AllZip IsSet (columns ++ c ∷ []) (sets ++ row ∷ [])
+zip_last c row is [] [] h = (is, tt)
+zip_last c row is [] (r ∷ sets) h = absurd h
+zip_last c row is (d ∷ columns) [] h = absurd h
+zip_last c row is (d ∷ columns) (r ∷ sets) h = (h.0, zip_last c row is columns sets h.1)
+
+abbrev pub add_set_params : ℕ → ℕ → List ℕ → ℕ → Row
+add_set_params number session text epoch = whole number ∷ whole session ∷ Text text ∷ whole epoch ∷ []
+
+pub add_set_effect : (old : State) (number session : ℕ) (capability : CapabilityValue) (text : List ℕ) (epoch : ℕ) → registered_text text ≡ Ok (Some capability) → number < 2 ^ 63 → old.now.schema ≡ store_schema → (tally : Tally) (after : Database)
+    → Does old.step_limit (mode_of old) (add_set_params number session text epoch) old.now (statement_of add_set (understood store_schema add_set)) None (Insert 3 (Values add_set_terms 9)) (Ok (tally, after))
+    → AddsSets (new_set number session capability epoch ∷ []) old.now after
+add_set_effect old number session capability text epoch reads low schema tally after does =
+    let made = insert_effect set_key set_row (λ x. refl) 3 _ _ _ _ refl add_set_terms 9 (add_set_params number session text epoch) (given number session text epoch) refl (new_columns number session text epoch)
+    (cast_given number session text epoch) low old (statement_of add_set (understood store_schema add_set)) schema tally after does in
+    let is : IsSet (new_columns number session text epoch) (new_set number session capability epoch) = record { number = refl; session = refl; capability = reads; cancelled = refl; graded = (refl, refl, refl); epoch = refl } in
+    record {
+      schema = made.schema;
+      kept = λ sets h. record { columns = h.columns ++ new_columns number session text epoch ∷ []; kept = made.kept h.columns h.kept; same = zip_last _ _ is h.columns sets h.same };
+      others = made.others;
+    }
+
+-- ---- new sets, one after the other
+
+-- a set more
+pub one_more : (mores news : List SetRow) (d e : Database) → Both (Under store_schema (AddsSets mores)) (Under store_schema (AddsSets news)) d e → Under store_schema (AddsSets (mores ++ news)) d e
+one_more mores news d e h schema =
+    let first = h.1 schema in
+    let second = h.2 first.schema in
+    record {
+      schema = second.schema;
+      kept = λ sets held. rw (← append_assoc sets mores news) (second.kept _ (first.kept sets held));
+      others = spares_then set_tree d.trees h.0.trees e.trees first.others second.others;
+    }
+
+-- the sets of one capability more
+pub sets_more : (session epoch i : ℕ) (done : List CapabilityValue) (capability : CapabilityValue) → new_sets session epoch i (done ++ capability ∷ []) ≡ new_sets session epoch i done ++ new_set (session * 100 + (i + length done)) session capability epoch ∷ []
+sets_more session epoch i [] capability = let at : i ≡ i + 0 = omega arith in ap (λ k. new_set (session * 100 + k) session capability epoch ∷ []) at
+sets_more session epoch i (c ∷ done) capability =
+    let at : (i + 1) + length done ≡ i + length (c ∷ done) = omega arith in
+    ap (λ l. new_set (session * 100 + i) session c epoch ∷ l) (sets_more session epoch (i + 1) done capability ∙ ap (λ k. new_sets session epoch (i + 1) done ++ new_set (session * 100 + k) session capability epoch ∷ []) at)

@@ -1,6 +1,6 @@
 -- From what statements do to what the tables promise.
-use Rattle.std.proofs.Common.{◌≡◌, ◌≢◌, inl, inr, ℕ, List, [], ◌∷◌, ◌++◌, true, false, Result, Ok, Err, IsTrue, IfErr, OnOk, refl, sym, ap, subst, ◌∙◌, arith}
-use Rattle.std.specs.Prelude.{◌==◌}
+use Rattle.std.proofs.Common.{◌≡◌, ◌≢◌, ◌<◌, ◌^◌, inl, inr, ℕ, Option, Some, None, List, [], ◌∷◌, ◌++◌, true, false, Result, Ok, Err, IsTrue, IfErr, OnOk, refl, sym, ap, subst, ◌∙◌, arith}
+use Rattle.std.specs.Prelude.{◌==◌, not, filter, if◌then◌else◌}
 use Rattle.std.proofs.lemmas.Bool.Decides.{nat_tests}
 use Rattle.std.proofs.lemmas.List.Sorted.{IsPermutation-refl}
 use Rattle.sqlite.specs.Effect.{Database}
@@ -8,26 +8,41 @@ use Rattle.sqlite.specs.Held.{Held, state}
 use Rattle.sqlite.specs.Order.{Row}
 use Rattle.sqlite.specs.State.{State}
 use Rattle.sqlite_trees.specs.declared.store.Store.{Ghosts}
+use Rattle.sqlite_trees.proofs.ListLemmas.{all-append}
 use Rattle.sqlite_trees.specs.Tree.{Trees}
 use Rattle.acvp_tables.specs.Calls.{Reads, Changes}
-use Rattle.acvp_tables.specs.Content.{Content}
-use Rattle.acvp_tables.specs.Changes.{after, after_order, changed, is_account, with_step, disabled, new_account, is_session, cancelled_session}
+use Rattle.acvp_tables.specs.Content.{Content, is_reviewer, request_at}
+use Rattle.acvp_tables.specs.Changes.{after, after_order, changed, is_account, with_step, disabled, new_account, is_session, cancelled_session, with_counts, with_passed, with_certify, new_session, is_set, cancelled_set, with_graded, new_sets, is_request, with_status, new_request, new_certification, with_reviewer, is_pair, approved_objects, new_objects}
 use Rattle.acvp_tables.specs.State.{IsSound}
 use Rattle.acvp_tables.specs.declared.rows.AccountRow.{AccountRow}
-use Rattle.acvp_tables.specs.declared.rows.RequestRow.{RequestRow}
 use Rattle.acvp_tables.specs.declared.rows.SessionRow.{SessionRow}
+use Rattle.acvp_tables.specs.declared.rows.SetRow.{SetRow}
+use Rattle.acvp_tables.specs.declared.change.CancelledSet.{CancelledSet}
+use Rattle.acvp_tables.specs.declared.change.KeptAnswers.{KeptAnswers}
+use Rattle.acvp_tables.specs.declared.change.NewSession.{NewSession}
+use Rattle.acvp_tables.specs.declared.change.NewRequest.{NewRequest}
+use Rattle.acvp_tables.specs.declared.change.NewCertification.{NewCertification}
+use Rattle.acvp_tables.specs.declared.rows.RequestRow.{RequestRow}
+use Rattle.acvp_tables.specs.declared.rows.RequestStatus.TheVariants as status
+use Rattle.acvp_tables.specs.declared.rows.RequestBody.{RequestBody}
+use Rattle.acvp_tables.specs.declared.rows.RequestBody.TheVariants as body
+use Rattle.acvp_tables.specs.declared.rows.ObjectRow.{ObjectRow}
+use Rattle.acvp_tables.specs.declared.change.Approval.{Approval}
+use Rattle.acvp_tables.specs.declared.rows.ReviewerRow.{ReviewerRow}
 use Rattle.acvp_tables.specs.declared.change.NewAccount.{NewAccount}
 use Rattle.acvp_tables.specs.declared.change.UsedStep.{UsedStep}
 use Rattle.acvp_tables.specs.declared.change.Change.TheVariants as change
 use Rattle.acvp_tables.specs.declared.change.OrderChange.TheVariants as order
 use Rattle.acvp_tables.specs.declared.tables.StoreFault.{StoreFault}
 use Rattle.acvp_store.specs.Kept.{IsKept}
-use Rattle.acvp_store.specs.Rows.{account_tree, account_key, account_row, session_tree, session_key, session_row}
+use Rattle.acvp_store.specs.Rows.{account_tree, HoldsAccounts, session_tree, HoldsSessions}
 use Rattle.acvp_store.specs.Schema.{no_schema, store_schema}
-use Rattle.acvp_store.specs.Stands.{Stands, HoldsSets, HoldsEntries, object_row, reviewer_row, request_row}
+use Rattle.acvp_store.specs.Stands.{Stands, set_tree, HoldsSets, HoldsObjects, FitColumns, request_tree, HoldsRequests, reviewer_tree, HoldsReviewers}
 use Rattle.acvp_store.specs.Connection.{ServesStore, IsRead, IsWritten, Under, Both}
 use Rattle.acvp_store.specs.Alters.{Alters}
 use Rattle.acvp_store.specs.Store.{may_fail, Begins, stands, IsLive, is_clean, leaves}
+use Rattle.acvp_store.specs.Private.Objects.{Registers}
+use Rattle.acvp_store.proofs.Sound.{kinds_of}
 use Rattle.acvp_store.specs.Private.Creating.{Makes, WritesVersion, before}
 use Rattle.acvp_store.specs.declared.setup.StoreTable.TheVariants as table
 use Rattle.acvp_store.proofs.Texts.{whole_schema}
@@ -89,20 +104,20 @@ serves_written (Ok x) old new Change serves keeps h live = record { ready = h.se
 serves_written (Err e) old new Change serves keeps h live = record { ready = h.settled live; schema = ap (λ (d : Database). d.schema) (h.err live) ∙ (serves (h.was_open live)).schema }
 
 module _ {S : Type 0} (g : Ghosts S) (a b : Held S) (Change : Database → Database → Type 0) (change : Content → Content) (serves : ServesStore (state g a)) (keeps : (d e : Database) → Change d e → e.schema ≡ store_schema)
-    (turns : (d e : Database) → Change d e → (c : Content) → Stands d.trees c → Stands e.trees (change c)) where
-  pub changes : {X : Type 0} (r : Result X StoreFault) → IsWritten r (state g a) (state g b) (Under store_schema Change) → Changes IsSound may_fail (stands g) (IsLive g) (is_clean g) (leaves g) r a b change
-  changes (Ok x) h = record {
+    (turns : (d e : Database) → Change d e → (c : Content) → IsSound c → Stands d.trees c → Stands e.trees (change c)) where
+  pub changes_sound : {X : Type 0} (r : Result X StoreFault) → IsWritten r (state g a) (state g b) (Under store_schema Change) → Changes IsSound may_fail (stands g) (IsLive g) (is_clean g) (leaves g) r a b change
+  changes_sound (Ok x) h = record {
     fault = tt;
     was_live = λ live. record { is_open = h.was_open live.is_open; store = serves (h.was_open live.is_open) };
     was_clean = h.was_clean;
     live = λ clean live. let now = h.live clean live.is_open in record { is_open = now; store = serves_written (Ok x) (state g a) (state g b) Change serves keeps h now };
-    ok = λ live c sound st. turns _ _ (h.ok live.is_open (serves (h.was_open live.is_open)).schema) c st;
+    ok = λ live c sound st. turns _ _ (h.ok live.is_open (serves (h.was_open live.is_open)).schema) c sound st;
     err = tt;
     settled = λ clean live c d sound st clean' db may. let it = h.left_ok clean live.is_open db may in
-        inl (subst (λ t. Stands t (change c)) it.1 (turns _ _ (it.2 live.store.schema) c st));
+        inl (subst (λ t. Stands t (change c)) it.1 (turns _ _ (it.2 live.store.schema) c sound st));
     unsettled = tt;
   }
-  changes (Err e) h = record {
+  changes_sound (Err e) h = record {
     fault = tt;
     was_live = λ live. record { is_open = h.was_open live.is_open; store = serves (h.was_open live.is_open) };
     was_clean = h.was_clean;
@@ -112,8 +127,76 @@ module _ {S : Type 0} (g : Ghosts S) (a b : Held S) (Change : Database → Datab
     settled = tt;
     unsettled = λ clean live c sound st clean' db may. elim (h.left_err clean live.is_open db may) [
       | inl was ↦ inl (subst (λ t. Stands t c) (sym was) st)
-      | inr it ↦ inr (subst (λ t. Stands t (change c)) it.1 (turns _ _ (it.2 live.store.schema) c st))
+      | inr it ↦ inr (subst (λ t. Stands t (change c)) it.1 (turns _ _ (it.2 live.store.schema) c sound st))
     ];
+  }
+
+-- of whichever content
+module _ {S : Type 0} (g : Ghosts S) (a b : Held S) (Change : Database → Database → Type 0) (change : Content → Content) (serves : ServesStore (state g a)) (keeps : (d e : Database) → Change d e → e.schema ≡ store_schema)
+    (turns : (d e : Database) → Change d e → (c : Content) → Stands d.trees c → Stands e.trees (change c)) where
+  pub changes : {X : Type 0} (r : Result X StoreFault) → IsWritten r (state g a) (state g b) (Under store_schema Change) → Changes IsSound may_fail (stands g) (IsLive g) (is_clean g) (leaves g) r a b change
+  changes r h = changes_sound g a b Change change serves keeps (λ d e h c sound st. turns d e h c st) r h
+
+-- the tables are the store's after the first of two parts
+both_under : (First Second : Database → Database → Type 0) → ((d e : Database) → First d e → e.schema ≡ store_schema) → (d e : Database) → Both (Under store_schema First) (Under store_schema Second) d e → Under store_schema (Both First Second) d e
+both_under First Second keeps d e h schema = let first = h.1 schema in (h.0, first, h.2 (keeps d h.0 first))
+
+module _ {S : Type 0} (g : Ghosts S) (a b : Held S) (First Second : Database → Database → Type 0) (change : Content → Content) (serves : ServesStore (state g a))
+    (keeps_first : (d e : Database) → First d e → e.schema ≡ store_schema) (keeps : (d e : Database) → Second d e → e.schema ≡ store_schema)
+    (turns : (d e : Database) → Both First Second d e → (c : Content) → IsSound c → Stands d.trees c → Stands e.trees (change c)) where
+  pub changes_both : {X : Type 0} (r : Result X StoreFault) → IsWritten r (state g a) (state g b) (Both (Under store_schema First) (Under store_schema Second)) → Changes IsSound may_fail (stands g) (IsLive g) (is_clean g) (leaves g) r a b change
+  changes_both r h = changes_sound g a b (Both First Second) change serves (λ d e h. keeps _ _ h.2) turns r (written_as r (state g a) (state g b) _ _ (both_under First Second keeps_first) h)
+
+-- ---- a read before a change
+
+module _ {S : Type 0} (g : Ghosts S) (a m b : Held S) (change : Content → Content) where
+  pub read_then : {X Y : Type 0} (x : X) (r : Result Y StoreFault) → Reads may_fail (stands g) (IsLive g) (is_clean g) (leaves g) (Ok x) a m → Changes IsSound may_fail (stands g) (IsLive g) (is_clean g) (leaves g) r m b change
+      → Changes IsSound may_fail (stands g) (IsLive g) (is_clean g) (leaves g) r a b change
+  read_then x (Ok y) prior h = record {
+    fault = tt;
+    was_live = λ live. prior.was_live (h.was_live live);
+    was_clean = λ clean. prior.was_clean (h.was_clean clean);
+    live = λ clean live. h.live clean (prior.live (h.was_clean clean)).1;
+    ok = λ live c sound st. h.ok live c sound (prior.same (h.was_live live) c st);
+    err = tt;
+    settled = λ clean live c d sound st. let now = (prior.live (h.was_clean clean)).1 in h.settled clean now c d sound (prior.same now c st);
+    unsettled = tt;
+  }
+  read_then x (Err e) prior h = record {
+    fault = h.fault;
+    was_live = λ live. prior.was_live (h.was_live live);
+    was_clean = λ clean. prior.was_clean (h.was_clean clean);
+    live = tt;
+    ok = tt;
+    err = λ live c st. h.err live c (prior.same (h.was_live live) c st);
+    settled = tt;
+    unsettled = λ clean live c sound st. let now = (prior.live (h.was_clean clean)).1 in h.unsettled clean now c sound (prior.same now c st);
+  }
+
+  -- nothing is left to change
+  pub read_alone : {X Y : Type 0} (x : X) (y : Y) → Reads may_fail (stands g) (IsLive g) (is_clean g) (leaves g) (Ok x) a m → (IsLive g m → (c : Content) → IsSound c → stands g a c → change c ≡ c)
+      → Changes {E = StoreFault} IsSound may_fail (stands g) (IsLive g) (is_clean g) (leaves g) (Ok y) a m change
+  read_alone x y prior same = record {
+    fault = tt;
+    was_live = prior.was_live;
+    was_clean = prior.was_clean;
+    live = λ clean live. (prior.live clean).1;
+    ok = λ live c sound st. subst (stands g m) (sym (same live c sound st)) (prior.same live c st);
+    err = tt;
+    settled = λ clean live c d sound st. subst (λ x. leaves g m x d) (sym (same (prior.live clean).1 c sound st)) (prior.left clean live c d st);
+    unsettled = tt;
+  }
+
+  pub read_failed : {X Y : Type 0} (e f : StoreFault) → Reads may_fail (stands g) (IsLive g) (is_clean g) (leaves g) {X = X} (Err e) a m → Changes IsSound may_fail (stands g) (IsLive g) (is_clean g) (leaves g) {X = Y} (Err f) a m change
+  read_failed e f prior = record {
+    fault = tt;
+    was_live = prior.was_live;
+    was_clean = prior.was_clean;
+    live = tt;
+    ok = tt;
+    err = prior.same;
+    settled = tt;
+    unsettled = λ clean live c sound st. prior.left clean live c (change c) st;
   }
 
 -- ---- one table after another
@@ -121,45 +204,149 @@ module _ {S : Type 0} (g : Ghosts S) (a b : Held S) (Change : Database → Datab
 pub apart : (m n : ℕ) → (m == n) ≡ false → m ≢ n
 apart m n h e = absurd (let same : (m == n) ≡ true = grind (arith, nat_tests, e) in cc)
 
-pub accounts_altered : (change : List AccountRow → List AccountRow) (d e : Database) → Alters account_tree account_key account_row change d e → (c : Content) → Stands d.trees c → Stands e.trees (record c { accounts = change c.accounts })
+pub accounts_altered : (change : List AccountRow → List AccountRow) (d e : Database) → Alters account_tree HoldsAccounts change d e → (c : Content) → Stands d.trees c → Stands e.trees (record c { accounts = change c.accounts })
 accounts_altered change d e h c st = record {
   version = h.others.0 (apart 0 2 refl) ∙ st.version;
   accounts = h.kept c.accounts st.accounts;
-  sessions = subst (λ rows. IsKept session_key session_row rows c.sessions) (sym (h.others.1.1.0 (apart 3 2 refl))) st.sessions;
+  sessions = subst (λ rows. HoldsSessions rows c.sessions) (sym (h.others.1.1.0 (apart 3 2 refl))) st.sessions;
   sets = subst (λ rows. HoldsSets rows c.sets) (sym (h.others.1.1.1.0 (apart 4 2 refl))) st.sets;
-  objects = subst (λ rows. HoldsEntries object_row rows c.objects) (sym (h.others.1.1.1.1.0 (apart 5 2 refl))) st.objects;
+  objects = subst (λ rows. HoldsObjects rows c.objects) (sym (h.others.1.1.1.1.0 (apart 5 2 refl))) st.objects;
   object_numbers = st.object_numbers;
-  requests = subst (λ rows. IsKept (λ (r : RequestRow). r.number) request_row rows c.requests) (sym (h.others.1.1.1.1.1.0 (apart 7 2 refl))) st.requests;
-  reviewers = subst (λ rows. HoldsEntries reviewer_row rows c.reviewers) (sym (h.others.1.1.1.1.1.1.0 (apart 8 2 refl))) st.reviewers;
+  requests = subst (λ rows. HoldsRequests rows c.requests) (sym (h.others.1.1.1.1.1.0 (apart 7 2 refl))) st.requests;
+  reviewers = subst (λ rows. HoldsReviewers rows c.reviewers) (sym (h.others.1.1.1.1.1.1.0 (apart 8 2 refl))) st.reviewers;
 }
 
-pub sessions_altered : (change : List SessionRow → List SessionRow) (d e : Database) → Alters session_tree session_key session_row change d e → (c : Content) → Stands d.trees c → Stands e.trees (record c { sessions = change c.sessions })
+pub sessions_altered : (change : List SessionRow → List SessionRow) (d e : Database) → Alters session_tree HoldsSessions change d e → (c : Content) → Stands d.trees c → Stands e.trees (record c { sessions = change c.sessions })
 sessions_altered change d e h c st = record {
   version = h.others.0 (apart 0 3 refl) ∙ st.version;
-  accounts = subst (λ rows. IsKept account_key account_row rows c.accounts) (sym (h.others.1.0 (apart 2 3 refl))) st.accounts;
+  accounts = subst (λ rows. HoldsAccounts rows c.accounts) (sym (h.others.1.0 (apart 2 3 refl))) st.accounts;
   sessions = h.kept c.sessions st.sessions;
   sets = subst (λ rows. HoldsSets rows c.sets) (sym (h.others.1.1.1.0 (apart 4 3 refl))) st.sets;
-  objects = subst (λ rows. HoldsEntries object_row rows c.objects) (sym (h.others.1.1.1.1.0 (apart 5 3 refl))) st.objects;
+  objects = subst (λ rows. HoldsObjects rows c.objects) (sym (h.others.1.1.1.1.0 (apart 5 3 refl))) st.objects;
   object_numbers = st.object_numbers;
-  requests = subst (λ rows. IsKept (λ (r : RequestRow). r.number) request_row rows c.requests) (sym (h.others.1.1.1.1.1.0 (apart 7 3 refl))) st.requests;
-  reviewers = subst (λ rows. HoldsEntries reviewer_row rows c.reviewers) (sym (h.others.1.1.1.1.1.1.0 (apart 8 3 refl))) st.reviewers;
+  requests = subst (λ rows. HoldsRequests rows c.requests) (sym (h.others.1.1.1.1.1.0 (apart 7 3 refl))) st.requests;
+  reviewers = subst (λ rows. HoldsReviewers rows c.reviewers) (sym (h.others.1.1.1.1.1.1.0 (apart 8 3 refl))) st.reviewers;
 }
 
-pub cancelled : (n : ℕ) (d e : Database) → Alters session_tree session_key session_row (changed (is_session n) cancelled_session) d e → (c : Content) → Stands d.trees c → Stands e.trees (after (change.CancelSession n) c)
+pub sets_altered : (change : List SetRow → List SetRow) (d e : Database) → Alters set_tree HoldsSets change d e → (c : Content) → Stands d.trees c → Stands e.trees (record c { sets = change c.sets })
+sets_altered change d e h c st = record {
+  version = h.others.0 (apart 0 4 refl) ∙ st.version;
+  accounts = subst (λ rows. HoldsAccounts rows c.accounts) (sym (h.others.1.0 (apart 2 4 refl))) st.accounts;
+  sessions = subst (λ rows. HoldsSessions rows c.sessions) (sym (h.others.1.1.0 (apart 3 4 refl))) st.sessions;
+  sets = h.kept c.sets st.sets;
+  objects = subst (λ rows. HoldsObjects rows c.objects) (sym (h.others.1.1.1.1.0 (apart 5 4 refl))) st.objects;
+  object_numbers = st.object_numbers;
+  requests = subst (λ rows. HoldsRequests rows c.requests) (sym (h.others.1.1.1.1.1.0 (apart 7 4 refl))) st.requests;
+  reviewers = subst (λ rows. HoldsReviewers rows c.reviewers) (sym (h.others.1.1.1.1.1.1.0 (apart 8 4 refl))) st.reviewers;
+}
+
+pub requests_altered : (change : List RequestRow → List RequestRow) (d e : Database) → Alters request_tree HoldsRequests change d e → (c : Content) → Stands d.trees c → Stands e.trees (record c { requests = change c.requests })
+requests_altered change d e h c st = record {
+  version = h.others.0 (apart 0 7 refl) ∙ st.version;
+  accounts = subst (λ rows. HoldsAccounts rows c.accounts) (sym (h.others.1.0 (apart 2 7 refl))) st.accounts;
+  sessions = subst (λ rows. HoldsSessions rows c.sessions) (sym (h.others.1.1.0 (apart 3 7 refl))) st.sessions;
+  sets = subst (λ rows. HoldsSets rows c.sets) (sym (h.others.1.1.1.0 (apart 4 7 refl))) st.sets;
+  objects = subst (λ rows. HoldsObjects rows c.objects) (sym (h.others.1.1.1.1.0 (apart 5 7 refl))) st.objects;
+  object_numbers = st.object_numbers;
+  requests = h.kept c.requests st.requests;
+  reviewers = subst (λ rows. HoldsReviewers rows c.reviewers) (sym (h.others.1.1.1.1.1.1.0 (apart 8 7 refl))) st.reviewers;
+}
+
+pub reviewers_altered : (change : List ReviewerRow → List ReviewerRow) (d e : Database) → Alters reviewer_tree HoldsReviewers change d e → (c : Content) → Stands d.trees c → Stands e.trees (record c { reviewers = change c.reviewers })
+reviewers_altered change d e h c st = record {
+  version = h.others.0 (apart 0 8 refl) ∙ st.version;
+  accounts = subst (λ rows. HoldsAccounts rows c.accounts) (sym (h.others.1.0 (apart 2 8 refl))) st.accounts;
+  sessions = subst (λ rows. HoldsSessions rows c.sessions) (sym (h.others.1.1.0 (apart 3 8 refl))) st.sessions;
+  sets = subst (λ rows. HoldsSets rows c.sets) (sym (h.others.1.1.1.0 (apart 4 8 refl))) st.sets;
+  objects = subst (λ rows. HoldsObjects rows c.objects) (sym (h.others.1.1.1.1.0 (apart 5 8 refl))) st.objects;
+  object_numbers = st.object_numbers;
+  requests = subst (λ rows. HoldsRequests rows c.requests) (sym (h.others.1.1.1.1.1.0 (apart 7 8 refl))) st.requests;
+  reviewers = h.kept c.reviewers st.reviewers;
+}
+
+pub cancelled : (n : ℕ) (d e : Database) → Alters session_tree HoldsSessions (changed (is_session n) cancelled_session) d e → (c : Content) → Stands d.trees c → Stands e.trees (after (change.CancelSession n) c)
 unfolding after
 cancelled n d e h c st = sessions_altered (changed (is_session n) cancelled_session) d e h c st
 
-pub added : (a : NewAccount) (d e : Database) → Alters account_tree account_key account_row (λ rows. rows ++ new_account a ∷ []) d e → (c : Content) → Stands d.trees c → Stands e.trees (after_order (order.AddAccount a) c)
+pub added : (a : NewAccount) (d e : Database) → Alters account_tree HoldsAccounts (λ rows. rows ++ new_account a ∷ []) d e → (c : Content) → Stands d.trees c → Stands e.trees (after_order (order.AddAccount a) c)
 unfolding after_order
 added a d e h c st = accounts_altered (λ rows. rows ++ new_account a ∷ []) d e h c st
 
-pub turned_off : (n : ℕ) (d e : Database) → Alters account_tree account_key account_row (changed (is_account n) disabled) d e → (c : Content) → Stands d.trees c → Stands e.trees (after_order (order.DisableAccount n) c)
+pub turned_off : (n : ℕ) (d e : Database) → Alters account_tree HoldsAccounts (changed (is_account n) disabled) d e → (c : Content) → Stands d.trees c → Stands e.trees (after_order (order.DisableAccount n) c)
 unfolding after_order
 turned_off n d e h c st = accounts_altered (changed (is_account n) disabled) d e h c st
 
-pub stepped : (u : UsedStep) (d e : Database) → Alters account_tree account_key account_row (changed (is_account u.account) (with_step u.step)) d e → (c : Content) → Stands d.trees c → Stands e.trees (after (change.UseStep u) c)
+pub stepped : (u : UsedStep) (d e : Database) → Alters account_tree HoldsAccounts (changed (is_account u.account) (with_step u.step)) d e → (c : Content) → Stands d.trees c → Stands e.trees (after (change.UseStep u) c)
 unfolding after
 stepped u d e h c st = accounts_altered (changed (is_account u.account) (with_step u.step)) d e h c st
+
+-- ---- two parts
+
+pub set_cancelled : (x : CancelledSet) (d e : Database) → Both (Alters set_tree HoldsSets (changed (is_set x.set) cancelled_set)) (Alters session_tree HoldsSessions (changed (is_session x.session) (with_counts x.live x.passed))) d e
+    → (c : Content) → IsSound c → Stands d.trees c → Stands e.trees (after (change.CancelSet x) c)
+unfolding after
+set_cancelled x d e h c sound st = sessions_altered (changed (is_session x.session) (with_counts x.live x.passed)) h.0 e h.2 _ (sets_altered (changed (is_set x.set) cancelled_set) d h.0 h.1 c st)
+
+pub answers_kept : (k : KeptAnswers) (d e : Database) → Both (Alters set_tree HoldsSets (changed (is_set k.set) (with_graded k.graded))) (Alters session_tree HoldsSessions (changed (is_session k.session) (with_passed k.passed))) d e
+    → (c : Content) → IsSound c → Stands d.trees c → Stands e.trees (after (change.KeepAnswers k) c)
+unfolding after
+answers_kept k d e h c sound st = sessions_altered (changed (is_session k.session) (with_passed k.passed)) h.0 e h.2 _ (sets_altered (changed (is_set k.set) (with_graded k.graded)) d h.0 h.1 c st)
+
+pub session_begun : (s : NewSession) (d e : Database) → Both (Alters session_tree HoldsSessions (λ rows. rows ++ new_session s ∷ [])) (Alters set_tree HoldsSets (λ rows. rows ++ new_sets s.number s.epoch 1 s.registration.capabilities)) d e
+    → (c : Content) → IsSound c → Stands d.trees c → Stands e.trees (after (change.NewSession s) c)
+unfolding after
+session_begun s d e h c sound st = sets_altered (λ rows. rows ++ new_sets s.number s.epoch 1 s.registration.capabilities) h.0 e h.2 _ (sessions_altered (λ rows. rows ++ new_session s ∷ []) d h.0 h.1 c st)
+
+pub request_made : (r : NewRequest) (d e : Database) → Alters request_tree HoldsRequests (λ rows. rows ++ new_request r ∷ []) d e → (c : Content) → Stands d.trees c → Stands e.trees (after (change.NewRequest r) c)
+unfolding after
+request_made r d e h c st = requests_altered (λ rows. rows ++ new_request r ∷ []) d e h c st
+
+pub certification_asked : (x : NewCertification) (d e : Database) → Both (Alters request_tree HoldsRequests (λ rows. rows ++ new_certification x ∷ [])) (Alters session_tree HoldsSessions (changed (is_session x.certification.session) (with_certify x.number))) d e
+    → (c : Content) → IsSound c → Stands d.trees c → Stands e.trees (after (change.Certify x) c)
+unfolding after
+certification_asked x d e h c sound st = sessions_altered (changed (is_session x.certification.session) (with_certify x.number)) h.0 e h.2 _ (requests_altered (λ rows. rows ++ new_certification x ∷ []) d h.0 h.1 c st)
+
+pub rejected : (n : ℕ) (d e : Database) → Alters request_tree HoldsRequests (changed (is_request n) (with_status status.Rejected)) d e → (c : Content) → Stands d.trees c → Stands e.trees (after_order (order.Reject n) c)
+unfolding after_order
+rejected n d e h c st = requests_altered (changed (is_request n) (with_status status.Rejected)) d e h c st
+
+pub reviewer_added : (r : ReviewerRow) (d e : Database) → Alters reviewer_tree HoldsReviewers (with_reviewer r) d e → (c : Content) → Stands d.trees c → Stands e.trees (after (change.AddReviewer r) c)
+unfolding after
+reviewer_added r d e h c st = reviewers_altered (with_reviewer r) d e h c st
+
+pub reviewer_removed : (r : ReviewerRow) (d e : Database) → Alters reviewer_tree HoldsReviewers (filter (λ row. not (is_pair r row))) d e → (c : Content) → Stands d.trees c → Stands e.trees (after (change.RemoveReviewer r) c)
+unfolding after
+reviewer_removed r d e h c st = reviewers_altered (filter (λ row. not (is_pair r row))) d e h c st
+
+fit_registered : (number : ℕ) → number < 2 ^ 63 → (o : Option RequestRow) → FitColumns (approved_objects o number)
+fit_registered number low None = tt
+fit_registered number low (Some r) = go r.account r.body
+  where
+    go : (account : ℕ) (b : RequestBody) → FitColumns (new_objects account b number)
+    go account (body.Registration o) = (low, tt)
+    go account (body.Certification c) = tt
+
+registered : (n number : ℕ) (d e : Database) → Registers n number d e → (c : Content) → IsSound c → Stands d.trees c → Stands e.trees (record c { objects = c.objects ++ approved_objects (request_at n c.requests) number })
+registered n number d e h c sound st = record {
+  version = h.others.0 (apart 0 5 refl) ∙ st.version;
+  accounts = subst (λ rows. HoldsAccounts rows c.accounts) (sym (h.others.1.0 (apart 2 5 refl))) st.accounts;
+  sessions = subst (λ rows. HoldsSessions rows c.sessions) (sym (h.others.1.1.0 (apart 3 5 refl))) st.sessions;
+  sets = subst (λ rows. HoldsSets rows c.sets) (sym (h.others.1.1.1.0 (apart 4 5 refl))) st.sets;
+  objects = h.kept c.requests c.objects (kinds_of c sound) st.requests st.objects;
+  object_numbers = all-append (λ (o : ObjectRow). o.number < 2 ^ 63) c.objects _ st.object_numbers (fit_registered number h.fits (request_at n c.requests));
+  requests = subst (λ rows. HoldsRequests rows c.requests) (sym (h.others.1.1.1.1.1.0 (apart 7 5 refl))) st.requests;
+  reviewers = subst (λ rows. HoldsReviewers rows c.reviewers) (sym (h.others.1.1.1.1.1.1.0 (apart 8 5 refl))) st.reviewers;
+}
+
+pub approved : (x : Approval) (d e : Database) → Both (Registers x.request x.approved) (Alters request_tree HoldsRequests (changed (is_request x.request) (with_status (status.Approved x.approved)))) d e
+    → (c : Content) → IsSound c → Stands d.trees c → Stands e.trees (after_order (order.Approve x) c)
+unfolding after_order
+approved x d e h c sound st = requests_altered (changed (is_request x.request) (with_status (status.Approved x.approved))) h.0 e h.2 _ (registered x.request x.approved d h.0 h.1 c sound st)
+
+-- one who is there already
+pub reviewer_there : (r : ReviewerRow) (c : Content) → is_reviewer r.session r.account c.reviewers ≡ true → after (change.AddReviewer r) c ≡ c
+unfolding after
+reviewer_there r c there = ap (λ rows. record c { reviewers = rows }) (ap (λ b. if b then c.reviewers else c.reviewers ++ r ∷ []) there)
 
 -- ---- the beginning
 
@@ -196,9 +383,9 @@ begins old new h start =
         accounts = kept_none _ _ _ accounts;
         sessions = kept_none _ _ _ sessions;
         sets = record { columns = []; kept = kept_none _ _ _ sets; same = tt };
-        objects = record { entries = []; kept = kept_none _ _ _ objects; same = refl };
+        objects = record { entries = []; rows_are = objects; rising = tt; same = IsPermutation-refl [] };
         object_numbers = tt;
         requests = kept_none _ _ _ requests;
-        reviewers = record { entries = []; kept = kept_none _ _ _ reviewers; same = refl };
+        reviewers = record { entries = []; rows_are = reviewers; rising = tt; same = IsPermutation-refl [] };
       };
     }

@@ -1,18 +1,20 @@
 -- What the texts of the statements mean.
 use Rattle.std.proofs.Common.{◌≡◌, refl, Ok, None, [], ◌∷◌, List, ℕ, codes, pos, negsuc, true, false}
 use Rattle.std.specs.Fmt.{digits}
+use Rattle.sqlite.specs.Collation.{Collation}
 use Rattle.sqlite.specs.Collation.TheVariants.{Binary}
 use Rattle.sqlite.specs.Change.{created}
 use Rattle.sqlite.specs.Compile.{table_defined_by}
-use Rattle.sqlite.specs.Command.TheVariants.{Insert, Select, CreateTable, Update}
+use Rattle.sqlite.specs.Command.TheVariants.{Insert, Select, CreateTable, Update, Delete}
 use Rattle.sqlite.specs.declared.types.Value.TheVariants.{Null, Int, Text}
 use Rattle.sqlite.specs.Listing.{understood, reads_listing}
 use Rattle.sqlite.specs.Query.{Query, inner, end}
 use Rattle.sqlite.specs.Source.TheVariants.{Values}
+use Rattle.sqlite.specs.Source.TheVariants as source
 use Rattle.sqlite.specs.Term.{Term, lit, col, op2}
 use Rattle.sqlite_resolve.specs.Compile.{first}
 use Rattle.sqlite_sql.specs.declared.ops.BinaryOp.TheVariants.{Compare}
-use Rattle.sqlite_sql.specs.declared.ops.CompareOp.TheVariants.{Eq}
+use Rattle.sqlite_sql.specs.declared.ops.CompareOp.TheVariants.{Eq, Lt}
 use Rattle.sqlite_tied.specs.Compute.{everything}
 use Rattle.sqlite.proofs.Callers.{IsPlain, command_of, statement_of}
 use Rattle.acvp_store.specs.Schema.{store_schema}
@@ -46,19 +48,23 @@ is_making table.Reviewer = (refl, refl, refl, (refl, refl))
 abbrev pub equals : ℕ → ℕ → Term
 equals at parameter = op2 (Compare Eq Binary) (col 1 at) (col 0 parameter)
 
--- SELECT project FROM the table in the tree WHERE terms; of an UPDATE the rows that it writes
-abbrev pub simple : ℕ → List Term → List Term → Query
-simple tree terms project = record {
+-- SELECT project FROM the table in the tree WHERE terms, with the collations of the columns where they are asked for
+abbrev pub collated : List Collation → ℕ → List Term → List Term → Query
+collated collations tree terms project = record {
   from = inner tree end;
   filter = terms;
   group = None;
   project = project;
   distinct = false;
-  collations = [];
+  collations = collations;
   order = [];
   limit = lit (Int (negsuc 0));
   offset = lit (Int (pos 0));
 }
+
+-- the same without collations; of an UPDATE the rows that it writes
+abbrev pub simple : ℕ → List Term → List Term → Query
+simple = collated []
 
 -- ---- the version
 
@@ -184,6 +190,62 @@ pub cancel_plain : IsPlain (understood store_schema cancel_session)
 unfolding understood everything
 cancel_plain = (refl, refl)
 
+abbrev pub count_session : List ℕ
+count_session = codes "UPDATE session SET live = ?2, passed = ?3 WHERE session = ?1"
+
+abbrev pub count_query : Query
+count_query = simple 3 (equals 0 0 ∷ []) (col 1 0 ∷ col 1 0 ∷ lit Null ∷ col 1 2 ∷ col 1 3 ∷ col 1 4 ∷ col 1 5 ∷ col 1 6 ∷ col 0 1 ∷ col 0 2 ∷ [])
+
+pub count_is : command_of (understood store_schema count_session) ≡ Update 2 (record { lets = []; body = count_query })
+unfolding understood everything
+count_is = refl
+
+pub count_plain : IsPlain (understood store_schema count_session)
+unfolding understood everything
+count_plain = (refl, refl)
+
+abbrev pub pass_session : List ℕ
+pass_session = codes "UPDATE session SET passed = ?2 WHERE session = ?1"
+
+abbrev pub pass_query : Query
+pass_query = simple 3 (equals 0 0 ∷ []) (col 1 0 ∷ col 1 0 ∷ lit Null ∷ col 1 2 ∷ col 1 3 ∷ col 1 4 ∷ col 1 5 ∷ col 1 6 ∷ col 1 7 ∷ col 0 1 ∷ [])
+
+pub pass_is : command_of (understood store_schema pass_session) ≡ Update 2 (record { lets = []; body = pass_query })
+unfolding understood everything
+pass_is = refl
+
+pub pass_plain : IsPlain (understood store_schema pass_session)
+unfolding understood everything
+pass_plain = (refl, refl)
+
+abbrev pub certify_session : List ℕ
+certify_session = codes "UPDATE session SET certify = ?2 WHERE session = ?1"
+
+abbrev pub certify_query : Query
+certify_query = simple 3 (equals 0 0 ∷ []) (col 1 0 ∷ col 1 0 ∷ lit Null ∷ col 1 2 ∷ col 1 3 ∷ col 1 4 ∷ col 1 5 ∷ col 0 1 ∷ col 1 7 ∷ col 1 8 ∷ [])
+
+pub certify_is : command_of (understood store_schema certify_session) ≡ Update 2 (record { lets = []; body = certify_query })
+unfolding understood everything
+certify_is = refl
+
+pub certify_plain : IsPlain (understood store_schema certify_session)
+unfolding understood everything
+certify_plain = (refl, refl)
+
+abbrev pub add_session : List ℕ
+add_session = codes "INSERT INTO session (session, account, sample, created, cancelled, certify, live, passed) VALUES (?1, ?2, ?3, ?4, 0, NULL, ?5, 0)"
+
+abbrev pub add_session_terms : List Term
+add_session_terms = col 0 0 ∷ lit Null ∷ col 0 1 ∷ col 0 2 ∷ col 0 3 ∷ lit (Int (pos 0)) ∷ lit Null ∷ col 0 4 ∷ lit (Int (pos 0)) ∷ []
+
+pub add_session_is : command_of (understood store_schema add_session) ≡ Insert 2 (Values add_session_terms 9)
+unfolding understood everything
+add_session_is = refl
+
+pub add_session_plain : IsPlain (understood store_schema add_session)
+unfolding understood everything
+add_session_plain = (refl, refl)
+
 -- ---- registered objects
 
 abbrev pub find_owner : List ℕ
@@ -208,6 +270,20 @@ pub owner_asks : asks (first find_owner) ≡ true
 unfolding first everything
 owner_asks = refl
 
+abbrev pub register_object : List ℕ
+register_object = codes "INSERT INTO object (kind, number, account, body) SELECT kind, ?2, account, body FROM request WHERE request = ?1 AND kind < 4"
+
+abbrev pub register_query : Query
+register_query = collated (Binary ∷ Binary ∷ Binary ∷ Binary ∷ Binary ∷ []) 7 (equals 0 0 ∷ op2 (Compare Lt Binary) (col 1 3) (lit (Int (pos 4))) ∷ []) (lit Null ∷ col 1 3 ∷ col 0 1 ∷ col 1 2 ∷ col 1 4 ∷ [])
+
+pub register_is : command_of (understood store_schema register_object) ≡ Insert 4 (source.Query (record { lets = []; body = register_query }))
+unfolding understood everything
+register_is = refl
+
+pub register_plain : IsPlain (understood store_schema register_object)
+unfolding understood everything
+register_plain = (refl, refl)
+
 -- ---- vector sets
 
 abbrev pub find_set : List ℕ
@@ -231,3 +307,129 @@ set_plain = (refl, refl)
 pub set_asks : asks (first find_set) ≡ true
 unfolding first everything
 set_asks = refl
+
+abbrev pub cancel_set : List ℕ
+cancel_set = codes "UPDATE vset2 SET cancelled = 1 WHERE vs = ?1"
+
+abbrev pub cancel_set_query : Query
+cancel_set_query = simple 4 (equals 0 0 ∷ []) (col 1 0 ∷ col 1 0 ∷ lit Null ∷ col 1 2 ∷ col 1 3 ∷ lit (Int (pos 1)) ∷ col 1 5 ∷ col 1 6 ∷ col 1 7 ∷ col 1 8 ∷ [])
+
+pub cancel_set_is : command_of (understood store_schema cancel_set) ≡ Update 3 (record { lets = []; body = cancel_set_query })
+unfolding understood everything
+cancel_set_is = refl
+
+pub cancel_set_plain : IsPlain (understood store_schema cancel_set)
+unfolding understood everything
+cancel_set_plain = (refl, refl)
+
+abbrev pub grade_set : List ℕ
+grade_set = codes "UPDATE vset2 SET answers = ?2, verdicts = ?3, disposition = ?4 WHERE vs = ?1"
+
+abbrev pub grade_query : Query
+grade_query = simple 4 (equals 0 0 ∷ []) (col 1 0 ∷ col 1 0 ∷ lit Null ∷ col 1 2 ∷ col 1 3 ∷ col 1 4 ∷ col 0 1 ∷ col 0 2 ∷ col 0 3 ∷ col 1 8 ∷ [])
+
+pub grade_is : command_of (understood store_schema grade_set) ≡ Update 3 (record { lets = []; body = grade_query })
+unfolding understood everything
+grade_is = refl
+
+pub grade_plain : IsPlain (understood store_schema grade_set)
+unfolding understood everything
+grade_plain = (refl, refl)
+
+-- ---- requests
+
+abbrev pub add_request : List ℕ
+add_request = codes "INSERT INTO request (request, account, kind, body, status, approved) VALUES (?1, ?2, ?3, ?4, 0, NULL)"
+
+abbrev pub add_request_terms : List Term
+add_request_terms = col 0 0 ∷ lit Null ∷ col 0 1 ∷ col 0 2 ∷ col 0 3 ∷ lit (Int (pos 0)) ∷ lit Null ∷ []
+
+pub add_request_is : command_of (understood store_schema add_request) ≡ Insert 5 (Values add_request_terms 7)
+unfolding understood everything
+add_request_is = refl
+
+pub add_request_plain : IsPlain (understood store_schema add_request)
+unfolding understood everything
+add_request_plain = (refl, refl)
+
+abbrev pub decide_request : List ℕ
+decide_request = codes "UPDATE request SET status = ?2, approved = ?3 WHERE request = ?1"
+
+abbrev pub decide_query : Query
+decide_query = simple 7 (equals 0 0 ∷ []) (col 1 0 ∷ col 1 0 ∷ lit Null ∷ col 1 2 ∷ col 1 3 ∷ col 1 4 ∷ col 0 1 ∷ col 0 2 ∷ [])
+
+pub decide_is : command_of (understood store_schema decide_request) ≡ Update 5 (record { lets = []; body = decide_query })
+unfolding understood everything
+decide_is = refl
+
+pub decide_plain : IsPlain (understood store_schema decide_request)
+unfolding understood everything
+decide_plain = (refl, refl)
+
+-- ---- new vector sets
+
+abbrev pub add_set : List ℕ
+add_set = codes "INSERT INTO vset2 (vs, session, capability, cancelled, answers, verdicts, disposition, epoch) VALUES (?1, ?2, ?3, 0, NULL, NULL, NULL, ?4)"
+
+abbrev pub add_set_terms : List Term
+add_set_terms = col 0 0 ∷ lit Null ∷ col 0 1 ∷ col 0 2 ∷ lit (Int (pos 0)) ∷ lit Null ∷ lit Null ∷ lit Null ∷ col 0 3 ∷ []
+
+pub add_set_is : command_of (understood store_schema add_set) ≡ Insert 3 (Values add_set_terms 9)
+unfolding understood everything
+add_set_is = refl
+
+pub add_set_plain : IsPlain (understood store_schema add_set)
+unfolding understood everything
+add_set_plain = (refl, refl)
+
+-- ---- reviewers
+
+abbrev pub find_reviewer : List ℕ
+find_reviewer = codes "SELECT account FROM reviewer WHERE session = ?1 AND account = ?2"
+
+abbrev pub reviewer_query : Query
+reviewer_query = simple 8 (equals 1 0 ∷ equals 2 1 ∷ []) (col 1 2 ∷ [])
+
+pub reviewer_is : command_of (understood store_schema find_reviewer) ≡ Select (record { lets = []; body = reviewer_query }) (codes "account" ∷ [])
+unfolding understood everything
+reviewer_is = refl
+
+pub reviewer_unlisted : reads_listing store_schema find_reviewer ≡ false
+unfolding understood everything
+reviewer_unlisted = refl
+
+pub reviewer_plain : IsPlain (understood store_schema find_reviewer)
+unfolding understood everything
+reviewer_plain = (refl, refl)
+
+pub reviewer_asks : asks (first find_reviewer) ≡ true
+unfolding first everything
+reviewer_asks = refl
+
+abbrev pub add_reviewer : List ℕ
+add_reviewer = codes "INSERT INTO reviewer (session, account) VALUES (?1, ?2)"
+
+abbrev pub add_reviewer_terms : List Term
+add_reviewer_terms = lit Null ∷ col 0 0 ∷ col 0 1 ∷ []
+
+pub add_reviewer_is : command_of (understood store_schema add_reviewer) ≡ Insert 6 (Values add_reviewer_terms 3)
+unfolding understood everything
+add_reviewer_is = refl
+
+pub add_reviewer_plain : IsPlain (understood store_schema add_reviewer)
+unfolding understood everything
+add_reviewer_plain = (refl, refl)
+
+abbrev pub remove_reviewer : List ℕ
+remove_reviewer = codes "DELETE FROM reviewer WHERE session = ?1 AND account = ?2"
+
+abbrev pub remove_query : Query
+remove_query = simple 8 (equals 1 0 ∷ equals 2 1 ∷ []) (col 1 0 ∷ [])
+
+pub remove_reviewer_is : command_of (understood store_schema remove_reviewer) ≡ Delete 6 (record { lets = []; body = remove_query })
+unfolding understood everything
+remove_reviewer_is = refl
+
+pub remove_reviewer_plain : IsPlain (understood store_schema remove_reviewer)
+unfolding understood everything
+remove_reviewer_plain = (refl, refl)

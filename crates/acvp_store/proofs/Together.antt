@@ -62,6 +62,10 @@ inside_as (Ok x) (Ok y) old new Change same h = record { kept = h.kept; ok = h.o
 inside_as (Err e) (Ok y) old new Change same h = absurd (let impossible = same refl in cc)
 inside_as r (Err f) old new Change same h = record { kept = h.kept; ok = tt; survives = h.survives }
 
+pub inside_turned : {X E : Type 0} (r : Result X E) (old new : State) (P Q : Database → Database → Type 0) → ((d e : Database) → P d e → Q d e) → IsInside r old new P → IsInside r old new Q
+inside_turned (Ok x) old new P Q turns h = record { kept = h.kept; ok = λ live on clean. let it = h.ok live on clean in (it.0, it.1, turns _ _ it.2); survives = h.survives }
+inside_turned (Err e) old new P Q turns h = record { kept = h.kept; ok = tt; survives = h.survives }
+
 -- ---- two parts, one after the other
 
 survives_both : (a b c : State) → Survives a b (λ _. ⊥) → Survives b c (λ _. ⊥) → Survives a c (λ _. ⊥)

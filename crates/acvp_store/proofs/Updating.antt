@@ -1,9 +1,8 @@
 -- The update of the row under one number, in whichever table has numbers as keys.
-use Rattle.std.proofs.Common.{◌≡◌, inl, inr, ℕ, pos, List, [], ◌∷◌, map, not, Ok, refl, sym, ap, subst, ◌∙◌, arith}
+use Rattle.std.proofs.Common.{◌≡◌, inl, inr, ℕ, pos, List, [], ◌∷◌, map, not, Ok, sym, ap, subst, ◌∙◌}
 use Rattle.std.specs.Prelude.{◌==◌, drop}
 use Rattle.std.specs.List.{filter}
 use Rattle.std.specs.List.Sorted.{IsPermutation}
-use Rattle.std.proofs.lemmas.List.Sorted.{length_permutation}
 use Rattle.sqlite.specs.Order.{Row}
 use Rattle.sqlite.specs.Table.{Table}
 use Rattle.sqlite.specs.Edit.{Edit, edit_of}
@@ -19,11 +18,7 @@ use Rattle.acvp_store.specs.Schema.{store_schema}
 use Rattle.acvp_store.specs.Values.{whole}
 use Rattle.acvp_store.specs.Kept.{IsKept}
 use Rattle.acvp_store.proofs.Idle.{applied}
-use Rattle.acvp_store.proofs.Keyed.{keyed, changing, few_keyed, none_changing, rechanged, gone_keyed, without_key, put_new, kept_changed}
-
-none_left : {X : Type 0} (ys : List X) → IsPermutation [] ys → ys ≡ []
-none_left [] h = refl
-none_left (y ∷ ys) h = absurd (omega (arith, length_permutation _ _ h))
+use Rattle.acvp_store.proofs.Keyed.{none_left, keyed, changing, few_keyed, none_changing, rechanged, gone_keyed, without_key, put_new, kept_changed}
 
 abbrev pub edit_for : Table → Trees → List Row → Edit
 edit_for table trees rows = edit_of trees table (ids_of rows) Given 1 rows

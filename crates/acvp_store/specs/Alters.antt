@@ -5,14 +5,13 @@ use Rattle.sqlite.specs.Effect.{Database}
 use Rattle.sqlite_value.specs.Order.{Row}
 use Rattle.sqlite_trees.specs.Tree.{Trees}
 use Rattle.acvp_store.specs.Schema.{store_schema}
-use Rattle.acvp_store.specs.Kept.{IsKept}
 
 -- each table but that in the tree has the rows that it had
 abbrev pub SparesOthers : ℕ → Trees → Trees → Type 0
 SparesOthers tree old new = AllByRecursion (λ t. t.tree ≢ tree → new t.tree ≡ old t.tree) store_schema.tables
 
--- whatever list the tree's table keeps, it keeps what the change makes of it; the schema and the other tables stay
-pub record Alters {A : Type 0} (tree : ℕ) (key : A → ℕ) (stored : A → Row) (change : List A → List A) (old new : Database) : Type 0 where
+-- of whatever list the tree's rows are, they become those of what the change makes of it; the schema and the other tables stay
+pub record Alters {A : Type 0} (tree : ℕ) (Holds : List Row → List A → Type 0) (change : List A → List A) (old new : Database) : Type 0 where
   pub schema : new.schema ≡ store_schema
-  pub kept : (list : List A) → IsKept key stored (old.trees tree) list → IsKept key stored (new.trees tree) (change list)
+  pub kept : (list : List A) → Holds (old.trees tree) list → Holds (new.trees tree) (change list)
   pub others : SparesOthers tree old.trees new.trees

@@ -1,2 +1,4 @@
 pub mod Creating
 pub mod Sets
+pub mod Requests
+pub mod Objects

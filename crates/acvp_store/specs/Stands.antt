@@ -1,12 +1,13 @@
 -- Which rows of the tables stand for a content.
 use Rattle.std.specs.Prelude.{◌≡◌, ◌<◌, ◌^◌, ℕ, Bool, List, [], ◌∷◌, map, codes, Option, Some, None, Ok, unwrap_or}
 use Rattle.std.specs.List.{AllZip, AllByRecursion}
+use Rattle.std.specs.List.Sorted.{IsPermutation}
 use Rattle.serde_json.specs.Data.{Data, number, unsigned, string, object, member, no_members}
 use Rattle.serde_json.specs.Written.{compact_text}
 use Rattle.sqlite.specs.Values.{or_null}
 use Rattle.sqlite_value.specs.declared.value.Value.TheVariants.{Null, Text}
 use Rattle.sqlite_value.specs.Order.{Row}
-use Rattle.sqlite_trees.specs.Tree.{Trees}
+use Rattle.sqlite_trees.specs.Tree.{Trees, IsAscending}
 use Rattle.acvp_caps.specs.Registered.{registered_text}
 use Rattle.acvp_answers.specs.VerdictText.{verdicts_text}
 use Rattle.acvp_answers.specs.declared.verdict.Disposition.{Disposition}
@@ -29,7 +30,7 @@ use Rattle.acvp_tables.specs.declared.rows.Certification.{Certification}
 use Rattle.acvp_tables.specs.declared.rows.ReviewerRow.{ReviewerRow}
 use Rattle.acvp_store.specs.Values.{whole, flag}
 use Rattle.acvp_store.specs.Kept.{IsKept}
-use Rattle.acvp_store.specs.Rows.{account_tree, account_key, account_row, session_tree, session_key, session_row}
+use Rattle.acvp_store.specs.Rows.{account_tree, HoldsAccounts, session_tree, HoldsSessions}
 
 -- ---- the version
 
@@ -51,6 +52,9 @@ pub record SetColumns : Type 0 where
 
 abbrev pub set_tree : ℕ
 set_tree = 4
+
+abbrev pub set_key : SetColumns → ℕ
+set_key c = c.number
 
 abbrev pub set_row : SetColumns → Row
 set_row c = whole c.number ∷ Null ∷ whole c.session ∷ Text c.capability ∷ flag c.cancelled ∷ or_null Text c.answers
@@ -81,7 +85,7 @@ pub record IsSet (c : SetColumns) (row : SetRow) : Type 0 where
 
 pub record HoldsSets (rows : List Row) (sets : List SetRow) : Type 0 where
   pub columns : List SetColumns
-  pub kept : IsKept (λ c. c.number) set_row rows columns
+  pub kept : IsKept set_key set_row rows columns
   pub same : AllZip IsSet columns sets
 
 -- ---- tables under a key of two columns: each row has a number in its tree that the database chose
@@ -90,23 +94,37 @@ pub record Entry (A : Type 0) : Type 0 where
   pub id : ℕ
   pub row : A
 
-pub record HoldsEntries {A : Type 0} (stored : Entry A → Row) (rows : List Row) (list : List A) : Type 0 where
+abbrev pub entry_row : {A : Type 0} → (A → Row) → Entry A → Row
+entry_row columns e = whole e.id ∷ columns e.row
+
+-- the rows are those of the list's members, in the order of these numbers
+pub record HoldsEntries {A : Type 0} (columns : A → Row) (rows : List Row) (list : List A) : Type 0 where
   pub entries : List (Entry A)
-  pub kept : IsKept (λ e. e.id) stored rows entries
-  pub same : map (λ (e : Entry A). e.row) entries ≡ list
+  pub rows_are : rows ≡ map (entry_row columns) entries
+  pub rising : IsAscending (λ a b. a.id < b.id) entries
+  pub same : IsPermutation (map (λ e. e.row) entries) list
 
 abbrev pub object_tree : ℕ
 object_tree = 5
 
-abbrev pub object_row : Entry ObjectRow → Row
-object_row e = whole e.id ∷ whole (kind_number e.row.object.kind) ∷ whole e.row.number ∷ whole e.row.account ∷ Text (object_text e.row.object) ∷ []
+abbrev pub object_columns : ObjectRow → Row
+object_columns o = whole (kind_number o.object.kind) ∷ whole o.number ∷ whole o.account ∷ Text (object_text o.object) ∷ []
+
+abbrev pub HoldsObjects : List Row → List ObjectRow → Type 0
+HoldsObjects = HoldsEntries object_columns
 
 -- each number fits a column
 abbrev pub FitColumns : List ObjectRow → Type 0
 FitColumns objects = AllByRecursion (λ (o : ObjectRow). o.number < 2 ^ 63) objects
 
-abbrev pub reviewer_row : Entry ReviewerRow → Row
-reviewer_row e = whole e.id ∷ whole e.row.session ∷ whole e.row.account ∷ []
+abbrev pub reviewer_tree : ℕ
+reviewer_tree = 8
+
+abbrev pub reviewer_columns : ReviewerRow → Row
+reviewer_columns r = whole r.session ∷ whole r.account ∷ []
+
+abbrev pub HoldsReviewers : List Row → List ReviewerRow → Type 0
+HoldsReviewers = HoldsEntries reviewer_columns
 
 -- ---- requests
 
@@ -134,14 +152,23 @@ abbrev pub request_row : RequestRow → Row
 request_row r = whole r.number ∷ Null ∷ whole r.account ∷ whole (body_number r.body) ∷ Text (body_text r.body)
     ∷ whole (status_number r.status) ∷ or_null whole (given_number r.status) ∷ []
 
+abbrev pub request_tree : ℕ
+request_tree = 7
+
+abbrev pub request_key : RequestRow → ℕ
+request_key r = r.number
+
+abbrev pub HoldsRequests : List Row → List RequestRow → Type 0
+HoldsRequests = IsKept request_key request_row
+
 -- ---- the whole
 
 pub record Stands (trees : Trees) (c : Content) : Type 0 where
   pub version : trees 0 ≡ version_row 3 ∷ []
-  pub accounts : IsKept account_key account_row (trees account_tree) c.accounts
-  pub sessions : IsKept session_key session_row (trees session_tree) c.sessions
+  pub accounts : HoldsAccounts (trees account_tree) c.accounts
+  pub sessions : HoldsSessions (trees session_tree) c.sessions
   pub sets : HoldsSets (trees set_tree) c.sets
-  pub objects : HoldsEntries object_row (trees object_tree) c.objects
+  pub objects : HoldsObjects (trees object_tree) c.objects
   pub object_numbers : FitColumns c.objects
-  pub requests : IsKept (λ (r : RequestRow). r.number) request_row (trees 7) c.requests
-  pub reviewers : HoldsEntries reviewer_row (trees 8) c.reviewers
+  pub requests : HoldsRequests (trees request_tree) c.requests
+  pub reviewers : HoldsReviewers (trees reviewer_tree) c.reviewers

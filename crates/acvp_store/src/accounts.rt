@@ -6,12 +6,11 @@ ghost use Rattle.acvp_tables.specs.Changes.{changed, is_account, with_step, disa
 ghost use Rattle.acvp_tables.specs.declared.rows.AccountRow.{AccountRow as Account};
 ghost use Rattle.acvp_store.specs.Alters.{Alters};
 ghost use Rattle.acvp_store.specs.Connection.{ServesStore, IsRead, IsInside, Under};
-ghost use Rattle.acvp_store.specs.Kept.{IsKept};
-ghost use Rattle.acvp_store.specs.Rows.{account_tree, account_key, account_row, account_shown};
+ghost use Rattle.acvp_store.specs.Rows.{account_tree, HoldsAccounts, account_shown};
 ghost use Rattle.acvp_store.specs.Schema.{store_schema};
 
 use crate::fault::done;
-use crate::shown::{Shown, account_number, answered, field, key, truth};
+use crate::shown::{Shown, account_number, answered, field, fitting, truth};
 use crate::work::Work;
 use acvp_tables::{AccountRow, NewAccount, StoreFault, UsedStep};
 use sqlite::{Alter, Connection, Row, Transaction, params};
@@ -44,7 +43,7 @@ pub(crate) fn find_account<S: Alter>(
     number: u16,
 ) -> Result<Option<AccountRow>, StoreFault>
     requires { ServesStore (state S.Store conn.old) }
-    ensures found { IsTrue (state S.Store conn.new).is_open → IfOk result (λ found. (accounts : List Account) → IsKept account_key account_row ((state S.Store conn.old).now.trees account_tree) accounts → found ≡ account_at number accounts) }
+    ensures found { IsTrue (state S.Store conn.new).is_open → IfOk result (λ found. (accounts : List Account) → HoldsAccounts ((state S.Store conn.old).now.trees account_tree) accounts → found ≡ account_at number accounts) }
     ensures read { IsRead result (state S.Store conn.old) (state S.Store conn.new) }
 {
     answered(conn.query_all(
@@ -58,10 +57,10 @@ impl Work for NewAccount {
     ghost use Rattle.acvp_tables.specs.Changes.{new_account};
     ghost use Rattle.acvp_store.specs.Alters.{Alters};
     ghost use Rattle.acvp_store.specs.Connection.{Under};
-    ghost use Rattle.acvp_store.specs.Rows.{account_tree, account_key, account_row};
+    ghost use Rattle.acvp_store.specs.Rows.{account_tree, HoldsAccounts};
     ghost use Rattle.acvp_store.specs.Schema.{store_schema};
 
-    ghost change = { λ a. Under store_schema (Alters account_tree account_key account_row (λ accounts. accounts ++ new_account a ∷ [])) };
+    ghost change = { λ a. Under store_schema (Alters account_tree HoldsAccounts (λ accounts. accounts ++ new_account a ∷ [])) };
 
     fn run<S: Alter>(&self, tx: &mut Transaction<'_, S>) -> Result<(), StoreFault> {
         done(tx.execute(
@@ -75,18 +74,16 @@ impl Work for UsedStep {
     ghost use Rattle.acvp_tables.specs.Changes.{changed, is_account, with_step};
     ghost use Rattle.acvp_store.specs.Alters.{Alters};
     ghost use Rattle.acvp_store.specs.Connection.{Under};
-    ghost use Rattle.acvp_store.specs.Rows.{account_tree, account_key, account_row};
+    ghost use Rattle.acvp_store.specs.Rows.{account_tree, HoldsAccounts};
     ghost use Rattle.acvp_store.specs.Schema.{store_schema};
 
-    ghost change = { λ u. Under store_schema (Alters account_tree account_key account_row (changed (is_account u.account) (with_step u.step))) };
+    ghost change = { λ u. Under store_schema (Alters account_tree HoldsAccounts (changed (is_account u.account) (with_step u.step))) };
 
     fn run<S: Alter>(&self, tx: &mut Transaction<'_, S>) -> Result<(), StoreFault> {
-        if 9223372036854775807 < self.step {
-            return Err(StoreFault::Refused);
-        }
+        let step = fitting(self.step)?;
         done(tx.execute(
             "UPDATE account SET last_step = ?2 WHERE account = ?1",
-            params![u32::from(self.account), key(self.step)],
+            params![u32::from(self.account), step],
         ))
     }
 }
@@ -101,10 +98,10 @@ impl Work for DisabledAccount {
     ghost use Rattle.acvp_tables.specs.Changes.{changed, is_account, disabled};
     ghost use Rattle.acvp_store.specs.Alters.{Alters};
     ghost use Rattle.acvp_store.specs.Connection.{Under};
-    ghost use Rattle.acvp_store.specs.Rows.{account_tree, account_key, account_row};
+    ghost use Rattle.acvp_store.specs.Rows.{account_tree, HoldsAccounts};
     ghost use Rattle.acvp_store.specs.Schema.{store_schema};
 
-    ghost change = { λ d. Under store_schema (Alters account_tree account_key account_row (changed (is_account d.account) disabled)) };
+    ghost change = { λ d. Under store_schema (Alters account_tree HoldsAccounts (changed (is_account d.account) disabled)) };
 
     fn run<S: Alter>(&self, tx: &mut Transaction<'_, S>) -> Result<(), StoreFault> {
         done(tx.execute(

@@ -4,6 +4,8 @@
 mod accounts;
 mod fault;
 mod objects;
+mod requests;
+mod reviewers;
 mod sessions;
 mod sets;
 mod setup;

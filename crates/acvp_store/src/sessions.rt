@@ -1,19 +1,18 @@
 //! The table of test sessions.
-ghost use Rattle.std.specs.Prelude.{◌≡◌, IsTrue, IfOk, List};
+ghost use Rattle.std.specs.Prelude.{◌≡◌, ◌++◌, ◌∷◌, [], IsTrue, IfOk, List};
 ghost use Rattle.sqlite.specs.Held.{state};
-ghost use Rattle.acvp_tables.specs.Changes.{changed, is_session, cancelled_session};
+ghost use Rattle.acvp_tables.specs.Changes.{changed, is_session, cancelled_session, with_counts, with_passed, with_certify, new_session};
 ghost use Rattle.acvp_tables.specs.Content.{session_at};
 ghost use Rattle.acvp_tables.specs.declared.rows.SessionRow.{SessionRow as Session};
 ghost use Rattle.acvp_store.specs.Alters.{Alters};
 ghost use Rattle.acvp_store.specs.Connection.{ServesStore, IsRead, IsInside, Under};
-ghost use Rattle.acvp_store.specs.Kept.{IsKept};
-ghost use Rattle.acvp_store.specs.Rows.{session_tree, session_key, session_row};
+ghost use Rattle.acvp_store.specs.Rows.{session_tree, HoldsSessions};
 ghost use Rattle.acvp_store.specs.Schema.{store_schema};
 
 use crate::fault::done;
-use crate::shown::{Shown, account_number, answered, field, key, truth};
+use crate::shown::{Shown, account_number, answered, field, fitting, key, truth};
 use crate::work::Work;
-use acvp_tables::{SessionRow, StoreFault};
+use acvp_tables::{NewSession, SessionRow, StoreFault};
 use sqlite::{Alter, Connection, Row, Transaction, params};
 
 impl Shown for SessionRow {
@@ -49,7 +48,7 @@ pub(crate) fn find_session<S: Alter>(
     number: u64,
 ) -> Result<Option<SessionRow>, StoreFault>
     requires { ServesStore (state S.Store conn.old) }
-    ensures found { IsTrue (state S.Store conn.new).is_open → IfOk result (λ found. (sessions : List Session) → IsKept session_key session_row ((state S.Store conn.old).now.trees session_tree) sessions → found ≡ session_at number sessions) }
+    ensures found { IsTrue (state S.Store conn.new).is_open → IfOk result (λ found. (sessions : List Session) → HoldsSessions ((state S.Store conn.old).now.trees session_tree) sessions → found ≡ session_at number sessions) }
     ensures read { IsRead result (state S.Store conn.old) (state S.Store conn.new) }
 {
     answered(conn.query_all(
@@ -68,18 +67,130 @@ impl Work for CancelledSession {
     ghost use Rattle.acvp_tables.specs.Changes.{changed, is_session, cancelled_session};
     ghost use Rattle.acvp_store.specs.Alters.{Alters};
     ghost use Rattle.acvp_store.specs.Connection.{Under};
-    ghost use Rattle.acvp_store.specs.Rows.{session_tree, session_key, session_row};
+    ghost use Rattle.acvp_store.specs.Rows.{session_tree, HoldsSessions};
     ghost use Rattle.acvp_store.specs.Schema.{store_schema};
 
-    ghost change = { λ s. Under store_schema (Alters session_tree session_key session_row (changed (is_session s.number) cancelled_session)) };
+    ghost change = { λ s. Under store_schema (Alters session_tree HoldsSessions (changed (is_session s.number) cancelled_session)) };
 
     fn run<S: Alter>(&self, tx: &mut Transaction<'_, S>) -> Result<(), StoreFault> {
-        if 9223372036854775807 < self.number {
-            return Err(StoreFault::Refused);
-        }
+        let number = fitting(self.number)?;
         done(tx.execute(
             "UPDATE session SET cancelled = 1 WHERE session = ?1",
-            params![key(self.number)],
+            params![number],
+        ))
+    }
+}
+
+/// How many sets a test session has that aren't cancelled, and how many of these have passed.
+#[derive(Clone, Copy)]
+pub(crate) struct CountedSession {
+    pub number: u64,
+    pub live: u64,
+    pub passed: u64,
+}
+
+impl Work for CountedSession {
+    ghost use Rattle.acvp_tables.specs.Changes.{changed, is_session, with_counts};
+    ghost use Rattle.acvp_store.specs.Alters.{Alters};
+    ghost use Rattle.acvp_store.specs.Connection.{Under};
+    ghost use Rattle.acvp_store.specs.Rows.{session_tree, HoldsSessions};
+    ghost use Rattle.acvp_store.specs.Schema.{store_schema};
+
+    ghost change = { λ s. Under store_schema (Alters session_tree HoldsSessions (changed (is_session s.number) (with_counts s.live s.passed))) };
+
+    fn run<S: Alter>(&self, tx: &mut Transaction<'_, S>) -> Result<(), StoreFault> {
+        let number = fitting(self.number)?;
+        let live = fitting(self.live)?;
+        let passed = fitting(self.passed)?;
+        done(tx.execute(
+            "UPDATE session SET live = ?2, passed = ?3 WHERE session = ?1",
+            params![number, live, passed],
+        ))
+    }
+}
+
+/// How many sets of a test session that aren't cancelled have passed.
+#[derive(Clone, Copy)]
+pub(crate) struct PassedSession {
+    pub number: u64,
+    pub passed: u64,
+}
+
+impl Work for PassedSession {
+    ghost use Rattle.acvp_tables.specs.Changes.{changed, is_session, with_passed};
+    ghost use Rattle.acvp_store.specs.Alters.{Alters};
+    ghost use Rattle.acvp_store.specs.Connection.{Under};
+    ghost use Rattle.acvp_store.specs.Rows.{session_tree, HoldsSessions};
+    ghost use Rattle.acvp_store.specs.Schema.{store_schema};
+
+    ghost change = { λ s. Under store_schema (Alters session_tree HoldsSessions (changed (is_session s.number) (with_passed s.passed))) };
+
+    fn run<S: Alter>(&self, tx: &mut Transaction<'_, S>) -> Result<(), StoreFault> {
+        let number = fitting(self.number)?;
+        let passed = fitting(self.passed)?;
+        done(tx.execute(
+            "UPDATE session SET passed = ?2 WHERE session = ?1",
+            params![number, passed],
+        ))
+    }
+}
+
+/// The last certification request of a test session.
+#[derive(Clone, Copy)]
+pub(crate) struct CertifiedSession {
+    pub number: u64,
+    pub request: u64,
+}
+
+impl Work for CertifiedSession {
+    ghost use Rattle.acvp_tables.specs.Changes.{changed, is_session, with_certify};
+    ghost use Rattle.acvp_store.specs.Alters.{Alters};
+    ghost use Rattle.acvp_store.specs.Connection.{Under};
+    ghost use Rattle.acvp_store.specs.Rows.{session_tree, HoldsSessions};
+    ghost use Rattle.acvp_store.specs.Schema.{store_schema};
+
+    ghost change = { λ s. Under store_schema (Alters session_tree HoldsSessions (changed (is_session s.number) (with_certify s.request))) };
+
+    fn run<S: Alter>(&self, tx: &mut Transaction<'_, S>) -> Result<(), StoreFault> {
+        let number = fitting(self.number)?;
+        let request = fitting(self.request)?;
+        done(tx.execute(
+            "UPDATE session SET certify = ?2 WHERE session = ?1",
+            params![number, request],
+        ))
+    }
+}
+
+/// A new test session, without its vector sets.
+#[derive(Clone, Copy)]
+pub(crate) struct SessionBegun<'a> {
+    pub session: &'a NewSession,
+}
+
+impl<'a> Work for SessionBegun<'a> {
+    ghost use Rattle.std.specs.Prelude.{◌++◌, ◌∷◌, []};
+    ghost use Rattle.acvp_tables.specs.Changes.{new_session};
+    ghost use Rattle.acvp_store.specs.Alters.{Alters};
+    ghost use Rattle.acvp_store.specs.Connection.{Under};
+    ghost use Rattle.acvp_store.specs.Rows.{session_tree, HoldsSessions};
+    ghost use Rattle.acvp_store.specs.Schema.{store_schema};
+
+    ghost change = { λ s. Under store_schema (Alters session_tree HoldsSessions (λ rows. rows ++ new_session s.session.now ∷ [])) };
+
+    fn run<S: Alter>(&self, tx: &mut Transaction<'_, S>) -> Result<(), StoreFault> {
+        let session = self.session;
+        let number = fitting(session.number)?;
+        let created = fitting(session.created)?;
+        let live = session.registration.capabilities().len() as u32;
+        done(tx.execute(
+            "INSERT INTO session (session, account, sample, created, cancelled, certify, live, passed) VALUES (?1, ?2, ?3, ?4, 0, NULL, ?5, 0)",
+            params![
+                number,
+                u32::from(session.account),
+                session.registration.sample(),
+                created,
+                live,
+            ],
         ))
     }
 }

@@ -1,16 +1,24 @@
 //! The table of vector sets.
-ghost use Rattle.std.specs.Prelude.{◌≡◌, IsTrue, IfOk, IfSome, IsOk, List, Some, option_map};
+ghost use Rattle.std.specs.Prelude.{◌≡◌, ◌∷◌, [], IsTrue, IfOk, IfSome, IsOk, List, Some, option_map};
 ghost use Rattle.sqlite.specs.Held.{state};
 ghost use Rattle.acvp_tables.specs.Content.{set_at, set_summary};
 ghost use Rattle.acvp_tables.specs.declared.rows.SetRow.{SetRow as Set};
-ghost use Rattle.acvp_store.specs.Connection.{ServesStore, IsRead};
+ghost use Rattle.acvp_tables.specs.Changes.{changed, is_set, cancelled_set, with_graded, new_sets};
+ghost use Rattle.acvp_store.specs.Alters.{Alters};
+ghost use Rattle.acvp_store.specs.Connection.{ServesStore, IsRead, IsInside, Under};
+ghost use Rattle.acvp_store.specs.Schema.{store_schema};
 ghost use Rattle.acvp_store.specs.Stands.{HoldsSets, disposition_number, set_tree};
-ghost use Rattle.acvp_store.specs.Private.Sets.{IsSummary, IsSummaryOf};
+ghost use Rattle.acvp_store.specs.Private.Sets.{IsSummary, IsSummaryOf, new_set, AddsSets};
 
-use crate::shown::{Shown, answered, field, key, truth};
-use acvp_answers::Disposition;
-use acvp_tables::{SetSummary, StoreFault};
-use sqlite::{Alter, Connection, Row, params};
+use crate::fault::done;
+use crate::shown::{Shown, answered, field, fitting, key, truth};
+use crate::work::Work;
+use acvp_answers::{Disposition, verdicts_to_text};
+use acvp_caps::Capability;
+use acvp_json::answers_to_text;
+use acvp_tables::{Graded, NewSession, SetSummary, StoreFault};
+use sqlite::{Alter, Connection, Row, Transaction, params};
+use std::alloc::Global;
 
 /// The columns of a vector set that are no text.
 #[derive(Clone, Copy)]
@@ -103,4 +111,129 @@ pub(crate) fn find_set<S: Alter>(
         "SELECT vs, session, cancelled, disposition, epoch FROM vset2 WHERE vs = ?1",
         params![key(number)],
     )))
+}
+
+/// A vector set that is cancelled, without the counters of its session.
+#[derive(Clone, Copy)]
+pub(crate) struct SetCancelled {
+    pub number: u64,
+}
+
+impl Work for SetCancelled {
+    ghost use Rattle.acvp_tables.specs.Changes.{changed, is_set, cancelled_set};
+    ghost use Rattle.acvp_store.specs.Alters.{Alters};
+    ghost use Rattle.acvp_store.specs.Connection.{Under};
+    ghost use Rattle.acvp_store.specs.Schema.{store_schema};
+    ghost use Rattle.acvp_store.specs.Stands.{set_tree, HoldsSets};
+
+    ghost change = { λ s. Under store_schema (Alters set_tree HoldsSets (changed (is_set s.number) cancelled_set)) };
+
+    fn run<S: Alter>(&self, tx: &mut Transaction<'_, S>) -> Result<(), StoreFault> {
+        let number = fitting(self.number)?;
+        done(tx.execute(
+            "UPDATE vset2 SET cancelled = 1 WHERE vs = ?1",
+            params![number],
+        ))
+    }
+}
+
+/// The number of a disposition, where it is one that is kept.
+fn kept_disposition(disposition: Disposition) -> Option<u32>
+    ensures { IfSome result (λ number. disposition_number disposition ≡ Some number) }
+{
+    match disposition {
+        Disposition::Fail => Some(0),
+        Disposition::Missing => Some(1),
+        Disposition::Passed => Some(2),
+        Disposition::Expired | Disposition::Unreceived => None,
+    }
+}
+
+/// Answers to a vector set, in the place of those that were kept, without the counters of its session.
+#[derive(Clone, Copy)]
+pub(crate) struct GradedSet<'a> {
+    pub alloc: Global,
+    pub number: u64,
+    pub graded: &'a Graded,
+}
+
+impl<'a> Work for GradedSet<'a> {
+    ghost use Rattle.acvp_tables.specs.Changes.{changed, is_set, with_graded};
+    ghost use Rattle.acvp_store.specs.Alters.{Alters};
+    ghost use Rattle.acvp_store.specs.Connection.{Under};
+    ghost use Rattle.acvp_store.specs.Schema.{store_schema};
+    ghost use Rattle.acvp_store.specs.Stands.{set_tree, HoldsSets};
+
+    ghost change = { λ s. Under store_schema (Alters set_tree HoldsSets (changed (is_set s.number) (with_graded s.graded.now))) };
+
+    fn run<S: Alter>(&self, tx: &mut Transaction<'_, S>) -> Result<(), StoreFault> {
+        let number = fitting(self.number)?;
+        let answers = answers_to_text(self.alloc, self.graded.answers())?;
+        let verdicts = verdicts_to_text(self.alloc, self.graded.verdicts())?;
+        let Some(disposition) = kept_disposition(self.graded.disposition()) else {
+            return Err(StoreFault::Refused);
+        };
+        done(tx.execute(
+            "UPDATE vset2 SET answers = ?2, verdicts = ?3, disposition = ?4 WHERE vs = ?1",
+            params![number, &answers, &verdicts, disposition],
+        ))
+    }
+}
+
+/// Puts in a vector set without answers.
+fn insert_set<S: Alter>(
+    alloc: Global,
+    tx: &mut Transaction<'_, S>,
+    number: u64,
+    session: u64,
+    capability: &Capability,
+    epoch: u64,
+) -> Result<(), StoreFault>
+    ensures same_reference { tx.new.conn.ghost_name ≡ tx.old.conn.ghost_name }
+    ensures inside { IsInside result (state S.Store tx.old.conn.now) (state S.Store tx.new.conn.now) (Under store_schema (AddsSets (new_set number session capability.now epoch ∷ []))) }
+{
+    let number = fitting(number)?;
+    let session = fitting(session)?;
+    let epoch = fitting(epoch)?;
+    let text = capability.to_text(alloc)?;
+    done(tx.execute(
+        "INSERT INTO vset2 (vs, session, capability, cancelled, answers, verdicts, disposition, epoch) VALUES (?1, ?2, ?3, 0, NULL, NULL, NULL, ?4)",
+        params![number, session, &text, epoch],
+    ))
+}
+
+/// The vector sets of a new test session.
+#[derive(Clone, Copy)]
+pub(crate) struct SetsBegun<'a> {
+    pub alloc: Global,
+    pub session: &'a NewSession,
+}
+
+impl<'a> Work for SetsBegun<'a> {
+    ghost use Rattle.acvp_tables.specs.Changes.{new_sets};
+    ghost use Rattle.acvp_store.specs.Connection.{Under};
+    ghost use Rattle.acvp_store.specs.Schema.{store_schema};
+    ghost use Rattle.acvp_store.specs.Private.Sets.{AddsSets};
+
+    ghost change = { λ s. Under store_schema (AddsSets (new_sets s.session.now.number s.session.now.epoch 1 s.session.now.registration.capabilities)) };
+
+    fn run<S: Alter>(&self, tx: &mut Transaction<'_, S>) -> Result<(), StoreFault> {
+        let session = self.session;
+        if 92233720368547757 < session.number {
+            return Err(StoreFault::Refused);
+        }
+        let mut number = session.number * 100;
+        for capability in session.registration.capabilities() {
+            number += 1;
+            insert_set(
+                self.alloc,
+                tx,
+                number,
+                session.number,
+                capability,
+                session.epoch,
+            )?;
+        }
+        Ok(())
+    }
 }

@@ -63,6 +63,17 @@ pub(crate) fn key(number: u64) -> i64
     }
 }
 
+/// The number as a column keeps it. It is Refused where it is too large.
+pub(crate) fn fitting(number: u64) -> Result<i64, StoreFault>
+    ensures { IfOk result (λ kept. (number < 2 ^ 63) × (kept ≡ pos number)) }
+{
+    if number < 9223372036854775808 {
+        Ok(number as i64)
+    } else {
+        Err(StoreFault::Refused)
+    }
+}
+
 /// The one row, where there is one. More are Refused.
 pub(crate) fn one<T: Shown + Drop>(rows: &[Row]) -> Result<Option<T>, StoreFault>
     ensures { IfOk result (λ found. (list : List T) → IsPermutation (map T.Shown.shown list) rows.now → found ≡ slice_get list 0) }

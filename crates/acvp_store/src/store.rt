@@ -3,7 +3,7 @@ ghost use Rattle.std.specs.Prelude.{◌≡◌, IsTrue, IfOk, IfErr, option_map};
 ghost use Rattle.sqlite.specs.Held.{state};
 ghost use Rattle.sqlite.specs.State.{HasCleanDisk};
 ghost use Rattle.acvp_tables.specs.Calls.{Finds, Reads, Changes};
-ghost use Rattle.acvp_tables.specs.Content.{no_rows, account_at, session_at, set_at, set_summary, object_at};
+ghost use Rattle.acvp_tables.specs.Content.{no_rows, account_at, session_at, set_at, set_summary, object_at, is_reviewer};
 ghost use Rattle.acvp_tables.specs.Changes.{after, after_order};
 ghost use Rattle.acvp_tables.specs.State.{IsSound};
 ghost use Rattle.acvp_tables.specs.declared.change.Change.TheVariants as change;
@@ -13,19 +13,28 @@ ghost use Rattle.acvp_store.specs.Schema.{no_schema, store_schema};
 ghost use Rattle.acvp_store.specs.Store.{may_fail, Begins, stands, IsLive, is_clean, leaves};
 
 use crate::accounts::{DisabledAccount, find_account};
-use crate::objects::find_owner;
-use crate::sessions::{CancelledSession, find_session};
-use crate::sets::find_set;
+use crate::objects::{Registered, find_owner};
+use crate::requests::{CertificationAsked, DecidedRequest};
+use crate::reviewers::{ReviewerAdded, ReviewerRemoved, find_reviewer};
+use crate::sessions::{
+    CancelledSession, CertifiedSession, CountedSession, PassedSession, SessionBegun, find_session,
+};
+use crate::sets::{GradedSet, SetCancelled, SetsBegun, find_set};
 use crate::setup::{StoreTable, Version};
 use crate::work::{Then, commit};
 use acvp_registry::Kind;
-use acvp_tables::{AccountRow, NewAccount, SessionRow, SetSummary, StoreFault, UsedStep};
+use acvp_tables::{
+    AccountRow, Approval, CancelledSet, KeptAnswers, NewAccount, NewCertification, NewRequest,
+    NewSession, RequestStatus, ReviewerRow, SessionRow, SetSummary, StoreFault, UsedStep,
+};
 use sqlite::{Alter, Connection};
+use std::alloc::Global;
 use std::marker::Model;
 
 /// The records in the tables of a database, in memory or in a file.
 #[derive(Drop)]
 pub struct SqlTables<S: Alter> {
+    alloc: Global,
     connection: Connection<S>,
 }
 
@@ -86,8 +95,9 @@ fn make_tables<S: Alter>(connection: &mut Connection<S>) -> Result<(), StoreFaul
 }
 
 /// Makes the tables of a new store in a database that has none, without a row in them. A fault hands the connection
-/// back, and the database is as it was.
+/// back, and the database is as it was. The memory is for the texts of the rows.
 pub fn create<S: Alter>(
+    alloc: Global,
     mut connection: Connection<S>,
 ) -> Result<SqlTables<S>, (Connection<S>, StoreFault)>
     ensures begins { IfOk result (λ t. IsTrue (state S.Store t).is_open → stands S.Store t no_rows) }
@@ -98,7 +108,7 @@ pub fn create<S: Alter>(
         return Err((connection, StoreFault::Refused));
     }
     match make_tables(&mut connection) {
-        Ok(()) => Ok(SqlTables { connection }),
+        Ok(()) => Ok(SqlTables { alloc, connection }),
         Err(fault) => Err((connection, fault)),
     }
 }
@@ -143,6 +153,14 @@ impl<S: Alter> SqlTables<S> {
         find_owner(&mut self.connection, kind, number)
     }
 
+    /// Whether an account, which needn't have a row, is a reviewer of a test session.
+    pub fn is_reviewer(&mut self, session: u64, account: u16) -> Result<bool, StoreFault>
+        ensures found { Finds IsSound (stands S.Store) (IsLive S.Store) (λ x. x) result self.old self.new (λ c. is_reviewer session account c.reviewers) }
+        ensures reads { Reads may_fail (stands S.Store) (IsLive S.Store) (is_clean S.Store) (leaves S.Store) result self.old self.new }
+    {
+        find_reviewer(&mut self.connection, session, account)
+    }
+
     /// Adds an account.
     pub fn add_account(&mut self, account: &NewAccount) -> Result<(), StoreFault>
         ensures { Changes IsSound may_fail (stands S.Store) (IsLive S.Store) (is_clean S.Store) (leaves S.Store) result self.old self.new (after_order (order.AddAccount account.now)) }
@@ -169,5 +187,154 @@ impl<S: Alter> SqlTables<S> {
         ensures { Changes IsSound may_fail (stands S.Store) (IsLive S.Store) (is_clean S.Store) (leaves S.Store) result self.old self.new (after (change.CancelSession number)) }
     {
         commit(&mut self.connection, &CancelledSession { number })
+    }
+
+    /// Cancels a vector set, and notes how many its session has without it.
+    pub fn cancel_set(&mut self, set: &CancelledSet) -> Result<(), StoreFault>
+        ensures { Changes IsSound may_fail (stands S.Store) (IsLive S.Store) (is_clean S.Store) (leaves S.Store) result self.old self.new (after (change.CancelSet set.now)) }
+    {
+        let cancelled = SetCancelled { number: set.set };
+        let counted = CountedSession {
+            number: set.session,
+            live: set.live,
+            passed: set.passed,
+        };
+        commit(
+            &mut self.connection,
+            &Then {
+                first: cancelled,
+                second: counted,
+            },
+        )
+    }
+
+    /// Keeps answers to a vector set, and notes how many sets of its session have passed with them.
+    pub fn keep_answers(&mut self, kept: &KeptAnswers) -> Result<(), StoreFault>
+        ensures { Changes IsSound may_fail (stands S.Store) (IsLive S.Store) (is_clean S.Store) (leaves S.Store) result self.old self.new (after (change.KeepAnswers kept.now)) }
+    {
+        let graded = GradedSet {
+            alloc: self.alloc,
+            number: kept.set,
+            graded: &kept.graded,
+        };
+        let passed = PassedSession {
+            number: kept.session,
+            passed: kept.passed,
+        };
+        commit(
+            &mut self.connection,
+            &Then {
+                first: graded,
+                second: passed,
+            },
+        )
+    }
+
+    /// Begins a test session with its vector sets.
+    pub fn new_session(&mut self, session: &NewSession) -> Result<(), StoreFault>
+        ensures { Changes IsSound may_fail (stands S.Store) (IsLive S.Store) (is_clean S.Store) (leaves S.Store) result self.old self.new (after (change.NewSession session.now)) }
+    {
+        let begun = SessionBegun { session };
+        let sets = SetsBegun {
+            alloc: self.alloc,
+            session,
+        };
+        commit(
+            &mut self.connection,
+            &Then {
+                first: begun,
+                second: sets,
+            },
+        )
+    }
+
+    /// Takes a request for the registration of an object.
+    pub fn new_request(&mut self, request: &NewRequest) -> Result<(), StoreFault>
+        ensures { Changes IsSound may_fail (stands S.Store) (IsLive S.Store) (is_clean S.Store) (leaves S.Store) result self.old self.new (after (change.NewRequest request.now)) }
+    {
+        commit(&mut self.connection, request)
+    }
+
+    /// Takes a request for the certification of a test session, and notes it with the session.
+    pub fn certify(&mut self, request: &NewCertification) -> Result<(), StoreFault>
+        ensures { Changes IsSound may_fail (stands S.Store) (IsLive S.Store) (is_clean S.Store) (leaves S.Store) result self.old self.new (after (change.Certify request.now)) }
+    {
+        let asked = CertificationAsked {
+            alloc: self.alloc,
+            request: *request,
+        };
+        let certified = CertifiedSession {
+            number: request.certification.session,
+            request: request.number,
+        };
+        commit(
+            &mut self.connection,
+            &Then {
+                first: asked,
+                second: certified,
+            },
+        )
+    }
+
+    /// Lets an account read a test session's results. Where it may already, nothing changes.
+    pub fn add_reviewer(&mut self, reviewer: &ReviewerRow) -> Result<(), StoreFault>
+        ensures { Changes IsSound may_fail (stands S.Store) (IsLive S.Store) (is_clean S.Store) (leaves S.Store) result self.old self.new (after (change.AddReviewer reviewer.now)) }
+    {
+        match find_reviewer(&mut self.connection, reviewer.session, reviewer.account) {
+            Ok(true) => Ok(()),
+            Ok(false) => commit(
+                &mut self.connection,
+                &ReviewerAdded {
+                    reviewer: *reviewer,
+                },
+            ),
+            Err(fault) => Err(fault),
+        }
+    }
+
+    /// Lets an account read a test session's results no more.
+    pub fn remove_reviewer(&mut self, reviewer: &ReviewerRow) -> Result<(), StoreFault>
+        ensures { Changes IsSound may_fail (stands S.Store) (IsLive S.Store) (is_clean S.Store) (leaves S.Store) result self.old self.new (after (change.RemoveReviewer reviewer.now)) }
+    {
+        commit(
+            &mut self.connection,
+            &ReviewerRemoved {
+                reviewer: *reviewer,
+            },
+        )
+    }
+
+    /// Rejects the request of a number.
+    pub fn reject(&mut self, number: u64) -> Result<(), StoreFault>
+        ensures { Changes IsSound may_fail (stands S.Store) (IsLive S.Store) (is_clean S.Store) (leaves S.Store) result self.old self.new (after_order (order.Reject number)) }
+    {
+        commit(
+            &mut self.connection,
+            &DecidedRequest {
+                number,
+                status: RequestStatus::Rejected,
+            },
+        )
+    }
+
+    /// Approves a request, and registers what it asks to register.
+    pub fn approve(&mut self, approval: &Approval) -> Result<(), StoreFault>
+        ensures { Changes IsSound may_fail (stands S.Store) (IsLive S.Store) (is_clean S.Store) (leaves S.Store) result self.old self.new (after_order (order.Approve approval.now)) }
+    {
+        let registered = Registered {
+            request: approval.request,
+            number: approval.approved,
+        };
+        let decided = DecidedRequest {
+            number: approval.request,
+            status: RequestStatus::Approved(approval.approved),
+        };
+        commit(
+            &mut self.connection,
+            &Then {
+                first: registered,
+                second: decided,
+            },
+        )
     }
 }

@@ -2,18 +2,89 @@
 //! crate itself doesn't have.
 
 use crate::{SqlTables, create};
-use acvp_registry::Kind;
-use acvp_tables::{NewAccount, StoreFault, UsedStep};
+use acvp_answers::{Answers, Disposition, Verdict};
+use acvp_caps::read_registration;
+use acvp_registry::{Kind, body_value, read_object};
+use acvp_tables::{
+    Approval, CancelledSet, Certification, Graded, KeptAnswers, NewAccount, NewCertification,
+    NewRequest, NewSession, ReviewerRow, StoreFault, UsedStep,
+};
 use sqlite::{Connection, MemStore, params};
 use std::test::Fail;
+
+/// Two capabilities.
+const REGISTRATION: &str =
+    r#"{"algorithms":[{"algorithm":"SHA2-256","messageLength":[8],"revision":"1.0"},{"algorithm":"SHA2-512","messageLength":[8],"revision":"1.0"}],"isSample":true}"#;
+
+/// A vendor.
+const VENDOR: &str = r#"{"name":"V"}"#;
+
+/// An operational environment.
+const ENVIRONMENT: &str = r#"{"name":"E"}"#;
 
 /// A new store in memory.
 fn new_store(rt: &HostRuntime) -> Result<SqlTables<MemStore>, Fail> {
     let connection = Connection::open_in_memory(rt.alloc())?;
-    match create(connection) {
+    match create(rt.alloc(), connection) {
         Ok(tables) => Ok(tables),
         Err(_) => Err("no store".into()),
     }
+}
+
+/// A new store in memory that has account 7.
+fn store_of_seven(rt: &HostRuntime) -> Result<SqlTables<MemStore>, Fail> {
+    let mut tables = new_store(rt)?;
+    tables.add_account(&NewAccount {
+        account: 7,
+        secret: [49; 32],
+    })?;
+    Ok(tables)
+}
+
+/// A new session of account 7 with two vector sets.
+fn new_session(rt: &HostRuntime, number: u64) -> Result<NewSession, Fail> {
+    let Ok(value) = body_value(rt.alloc(), REGISTRATION.as_bytes()) else {
+        return Err("no value".into());
+    };
+    let Ok(registration) = read_registration(rt.alloc(), &value) else {
+        return Err("no registration".into());
+    };
+    Ok(NewSession {
+        number,
+        account: 7,
+        created: 60,
+        epoch: 2,
+        registration,
+    })
+}
+
+/// A request of account 7 for an object that a JSON text is.
+fn new_request(rt: &HostRuntime, number: u64, kind: Kind, text: &str) -> Result<NewRequest, Fail> {
+    let Ok(value) = body_value(rt.alloc(), text.as_bytes()) else {
+        return Err("no value".into());
+    };
+    let Ok(object) = read_object(rt.alloc(), kind, &value) else {
+        return Err("no object".into());
+    };
+    Ok(NewRequest {
+        number,
+        account: 7,
+        object,
+    })
+}
+
+/// Answers to one test, with a verdict.
+fn graded(rt: &HostRuntime, verdict: Verdict) -> Result<Graded, Fail> {
+    let alloc = rt.alloc();
+    let mut texts = Vec::new(alloc);
+    texts.push(String::from_str(alloc, "ab")?)?;
+    let mut answers = Answers::new(alloc);
+    if !answers.insert(1, texts)? {
+        return Err("no answer".into());
+    }
+    let mut verdicts = Vec::new(alloc);
+    verdicts.push(verdict)?;
+    Ok(Graded::new(answers, verdicts))
 }
 
 /// What a statement that gives one whole number gives.
@@ -101,7 +172,7 @@ fn the_columns_are_those_of_the_schema(rt: HostRuntime) -> Result<(), Fail> {
 fn a_database_that_has_a_table_is_handed_back(rt: HostRuntime) -> Result<(), Fail> {
     let mut connection = Connection::open_in_memory(rt.alloc())?;
     connection.execute("CREATE TABLE other (n INTEGER) STRICT", params![])?;
-    match create(connection) {
+    match create(rt.alloc(), connection) {
         Ok(_) => Err("a store among other tables".into()),
         Err((mut connection, fault)) => {
             assert_eq!(rt; fault, StoreFault::Refused);
@@ -110,4 +181,183 @@ fn a_database_that_has_a_table_is_handed_back(rt: HostRuntime) -> Result<(), Fai
             Ok(())
         }
     }
+}
+
+#[test]
+fn a_session_is_begun_answered_and_loses_a_set(rt: HostRuntime) -> Result<(), Fail> {
+    let mut tables = store_of_seven(&rt)?;
+    tables.new_session(&new_session(&rt, 7000001)?)?;
+    let begun = tables.session(7000001)?.ok_or("no session")?;
+    assert!(rt; begun.sample && !begun.cancelled && begun.created == 60 && begun.account == 7);
+    assert_eq!(rt; (begun.live, begun.passed, begun.certify), (2, 0, None));
+    let first = tables.set(700000101)?.ok_or("no set")?;
+    assert_eq!(rt;
+        (first.session, first.epoch, first.disposition),
+        (7000001, 2, None)
+    );
+    for (verdict, passed) in [(Verdict::Fail, 0), (Verdict::Passed, 1)] {
+        tables.keep_answers(&KeptAnswers {
+            session: 7000001,
+            set: 700000101,
+            graded: graded(&rt, verdict)?,
+            passed,
+        })?;
+        let row = tables.session(7000001)?.ok_or("no session")?;
+        assert_eq!(rt; (row.live, row.passed), (2, passed));
+    }
+    let first = tables.set(700000101)?.ok_or("no set")?;
+    assert_eq!(rt; first.disposition, Some(Disposition::Passed));
+    tables.cancel_set(&CancelledSet {
+        session: 7000001,
+        set: 700000102,
+        live: 1,
+        passed: 1,
+    })?;
+    let row = tables.session(7000001)?.ok_or("no session")?;
+    assert_eq!(rt; (row.live, row.passed), (1, 1));
+    assert!(rt; tables.set(700000102)?.ok_or("no set")?.cancelled);
+    assert!(rt; !tables.set(700000101)?.ok_or("no set")?.cancelled);
+    let mut connection = tables.into_connection();
+    let kept =
+        "SELECT count(*) FROM vset2 WHERE vs = 700000101 AND answers = '[[1,[\"ab\"]]]' AND verdicts = 'p' AND disposition = 2";
+    assert_eq!(rt; number_by(&mut connection, kept)?, 1);
+    let bare =
+        "SELECT count(*) FROM vset2 WHERE vs = 700000102 AND answers IS NULL AND verdicts IS NULL AND disposition IS NULL";
+    assert_eq!(rt; number_by(&mut connection, bare)?, 1);
+    let capability =
+        "SELECT count(*) FROM vset2 WHERE vs = 700000101 AND capability = '{\"algorithm\":\"SHA2-256\",\"messageLength\":[8],\"revision\":\"1.0\"}'";
+    assert_eq!(rt; number_by(&mut connection, capability)?, 1);
+    Ok(())
+}
+
+#[test]
+fn a_session_that_cannot_be_kept_leaves_nothing(rt: HostRuntime) -> Result<(), Fail> {
+    let mut tables = store_of_seven(&rt)?;
+    tables.new_session(&new_session(&rt, 7000001)?)?;
+    let again = new_session(&rt, 7000001)?;
+    assert_eq!(rt; tables.new_session(&again), Err(StoreFault::Refused));
+    let large = new_session(&rt, 92233720368547758)?;
+    assert_eq!(rt; tables.new_session(&large), Err(StoreFault::Refused));
+    let mut stranger = new_session(&rt, 8000001)?;
+    stranger.account = 8;
+    assert_eq!(rt; tables.new_session(&stranger), Err(StoreFault::Refused));
+    let mut connection = tables.into_connection();
+    assert_eq!(rt;
+        number_by(&mut connection, "SELECT count(*) FROM session")?,
+        1
+    );
+    assert_eq!(rt;
+        number_by(&mut connection, "SELECT count(*) FROM vset2")?,
+        2
+    );
+    Ok(())
+}
+
+#[test]
+fn requests_are_made_and_decided(rt: HostRuntime) -> Result<(), Fail> {
+    let mut tables = store_of_seven(&rt)?;
+    tables.new_request(&new_request(&rt, 7000001, Kind::Vendor, VENDOR)?)?;
+    tables.new_request(&new_request(&rt, 7000002, Kind::Environment, ENVIRONMENT)?)?;
+    tables.new_request(&new_request(&rt, 7000003, Kind::Vendor, VENDOR)?)?;
+    tables.approve(&Approval {
+        request: 7000002,
+        approved: 7000001,
+    })?;
+    tables.reject(7000001)?;
+    assert_eq!(rt; tables.owner(Kind::Environment, 7000001)?, Some(7));
+    assert_eq!(rt; tables.owner(Kind::Vendor, 7000001)?, None);
+    tables.new_session(&new_session(&rt, 7000001)?)?;
+    tables.certify(&NewCertification {
+        number: 7000004,
+        account: 7,
+        certification: Certification {
+            module: 7000009,
+            environment: 7000001,
+            session: 7000001,
+        },
+    })?;
+    assert_eq!(rt;
+        tables.session(7000001)?.ok_or("no session")?.certify,
+        Some(7000004)
+    );
+    tables.approve(&Approval {
+        request: 7000004,
+        approved: 7000001,
+    })?;
+    let mut connection = tables.into_connection();
+    let object =
+        "SELECT count(*) FROM object WHERE kind = 3 AND number = 7000001 AND account = 7 AND body = '{\"name\":\"E\"}'";
+    assert_eq!(rt; number_by(&mut connection, object)?, 1);
+    assert_eq!(rt;
+        number_by(&mut connection, "SELECT count(*) FROM object")?,
+        1
+    );
+    let approved =
+        "SELECT count(*) FROM request WHERE request = 7000002 AND kind = 3 AND status = 1 AND approved = 7000001";
+    assert_eq!(rt; number_by(&mut connection, approved)?, 1);
+    let rejected =
+        "SELECT count(*) FROM request WHERE request = 7000001 AND kind = 1 AND status = 2 AND approved IS NULL";
+    assert_eq!(rt; number_by(&mut connection, rejected)?, 1);
+    let undecided =
+        "SELECT count(*) FROM request WHERE request = 7000003 AND status = 0 AND approved IS NULL AND body = '{\"name\":\"V\"}'";
+    assert_eq!(rt; number_by(&mut connection, undecided)?, 1);
+    let certification =
+        "SELECT count(*) FROM request WHERE request = 7000004 AND kind = 4 AND status = 1 AND approved = 7000001 AND body = '{\"moduleUrl\":\"/acvp/v1/modules/7000009\",\"oeUrl\":\"/acvp/v1/oes/7000001\",\"session\":7000001}'";
+    assert_eq!(rt; number_by(&mut connection, certification)?, 1);
+    Ok(())
+}
+
+#[test]
+fn an_approval_of_a_number_that_is_taken_changes_nothing(rt: HostRuntime) -> Result<(), Fail> {
+    let mut tables = store_of_seven(&rt)?;
+    for number in [7000001, 7000002] {
+        tables.new_request(&new_request(&rt, number, Kind::Vendor, VENDOR)?)?;
+    }
+    tables.approve(&Approval {
+        request: 7000001,
+        approved: 7000001,
+    })?;
+    let taken = Approval {
+        request: 7000002,
+        approved: 7000001,
+    };
+    assert_eq!(rt; tables.approve(&taken), Err(StoreFault::Refused));
+    let mut connection = tables.into_connection();
+    let undecided = "SELECT count(*) FROM request WHERE request = 7000002 AND status = 0";
+    assert_eq!(rt; number_by(&mut connection, undecided)?, 1);
+    Ok(())
+}
+
+#[test]
+fn a_reviewer_is_put_in_once_and_taken_out(rt: HostRuntime) -> Result<(), Fail> {
+    let mut tables = store_of_seven(&rt)?;
+    tables.new_session(&new_session(&rt, 7000001)?)?;
+    for account in [8, 9, 8] {
+        tables.add_reviewer(&ReviewerRow {
+            session: 7000001,
+            account,
+        })?;
+    }
+    for account in [9, 10] {
+        tables.remove_reviewer(&ReviewerRow {
+            session: 7000001,
+            account,
+        })?;
+    }
+    assert!(rt; tables.is_reviewer(7000001, 8)?);
+    assert!(rt; !tables.is_reviewer(7000001, 9)?);
+    assert!(rt; !tables.is_reviewer(7000002, 8)?);
+    let large = ReviewerRow {
+        session: 9223372036854775808,
+        account: 8,
+    };
+    assert_eq!(rt; tables.add_reviewer(&large), Err(StoreFault::Refused));
+    let mut connection = tables.into_connection();
+    assert_eq!(rt;
+        number_by(&mut connection, "SELECT count(*) FROM reviewer")?,
+        1
+    );
+    let one = "SELECT count(*) FROM reviewer WHERE session = 7000001 AND account = 8";
+    assert_eq!(rt; number_by(&mut connection, one)?, 1);
+    Ok(())
 }

@@ -1,11 +1,15 @@
 -- A vector set without its texts, as its columns keep it.
-use Rattle.std.specs.Prelude.{◌≡◌, ℕ, [], ◌∷◌, Option, Some, None, ⊤}
+use Rattle.std.specs.Prelude.{◌≡◌, ℕ, false, List, [], ◌∷◌, ◌++◌, Option, Some, None, ⊤}
 use Rattle.sqlite.specs.Values.{or_null}
 use Rattle.sqlite_value.specs.Order.{Row}
+use Rattle.sqlite.specs.Effect.{Database}
+use Rattle.acvp_caps.specs.Capability.{CapabilityValue}
 use Rattle.acvp_answers.specs.declared.verdict.Disposition.{Disposition}
+use Rattle.acvp_tables.specs.declared.rows.SetRow.{SetRow}
 use Rattle.acvp_tables.specs.declared.summary.SetSummary.{SetSummary}
 use Rattle.acvp_store.specs.Values.{whole, flag}
-use Rattle.acvp_store.specs.Stands.{SetColumns, disposition_number}
+use Rattle.acvp_store.specs.Alters.{Alters}
+use Rattle.acvp_store.specs.Stands.{SetColumns, disposition_number, set_tree, HoldsSets}
 use Rattle.acvp_store.specs.declared.sets.ShortSet.{ShortSet}
 
 abbrev pub short_shown : ShortSet → Row
@@ -32,3 +36,12 @@ IsSummaryOf None None = ⊤
 IsSummaryOf None (Some s) = ⊥
 IsSummaryOf (Some c) None = ⊥
 IsSummaryOf (Some c) (Some s) = IsSummary c s
+
+-- ---- new sets
+
+-- a set without answers
+abbrev pub new_set : ℕ → ℕ → CapabilityValue → ℕ → SetRow
+new_set number session capability epoch = record { number = number; session = session; capability = capability; epoch = epoch; cancelled = false; graded = None }
+
+abbrev pub AddsSets : List SetRow → Database → Database → Type 0
+AddsSets news = Alters set_tree HoldsSets (λ rows. rows ++ news)

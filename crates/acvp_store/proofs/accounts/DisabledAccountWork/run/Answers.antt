@@ -3,7 +3,7 @@ use Rattle.sqlite.specs.Held.{state}
 use Rattle.acvp_tables.specs.Changes.{changed, is_account, disabled}
 use Rattle.acvp_store.specs.Alters.{Alters}
 use Rattle.acvp_store.specs.Connection.{Under}
-use Rattle.acvp_store.specs.Rows.{account_tree, account_key, account_row}
+use Rattle.acvp_store.specs.Rows.{account_tree, HoldsAccounts}
 use Rattle.acvp_store.specs.Schema.{store_schema}
 use Rattle.acvp_store.specs.Values.{whole}
 use Rattle.acvp_store.proofs.Reading.{clean_if_open}
@@ -17,7 +17,7 @@ returns-clause-inside g c =
     let old = state g.S.Store c.args.tx.now.conn.now in
     let new = state g.S.Store c.execute.new.self.conn.now in
     let n = c.args.self.now.account in
-    let Change = Alters account_tree account_key account_row (changed (is_account n) disabled) in
+    let Change = Alters account_tree HoldsAccounts (changed (is_account n) disabled) in
     inside_as c.execute.result c.done.result old new (Under store_schema Change) c.done.ensures
     (inside store_schema disable_account (whole n ∷ []) old new (clean_if_open new.is_clean new.is_open (g.met.S.Store.shut_if_dirty c.execute.new.self.conn.now.store))
     _ disable_is disable_plain (λ count w. w) Change (disable_effect old n) c.execute.result

@@ -4,7 +4,7 @@ use Rattle.sqlite.specs.Held.{state}
 use Rattle.acvp_tables.specs.Changes.{new_account}
 use Rattle.acvp_store.specs.Alters.{Alters}
 use Rattle.acvp_store.specs.Connection.{Under}
-use Rattle.acvp_store.specs.Rows.{account_tree, account_key, account_row}
+use Rattle.acvp_store.specs.Rows.{account_tree, HoldsAccounts}
 use Rattle.acvp_store.specs.Schema.{store_schema}
 use Rattle.acvp_store.specs.Values.{whole}
 use Rattle.acvp_store.proofs.Reading.{clean_if_open}
@@ -19,7 +19,7 @@ returns-clause-inside g c =
     let new = state g.S.Store c.execute.new.self.conn.now in
     let a = c.args.self.now in
     let low : a.account < 2 ^ 63 = omega (arith, c.from.ensures) in
-    let Change = Alters account_tree account_key account_row (λ accounts. accounts ++ new_account a ∷ []) in
+    let Change = Alters account_tree HoldsAccounts (λ accounts. accounts ++ new_account a ∷ []) in
     inside_as c.execute.result c.done.result old new (Under store_schema Change) c.done.ensures
     (inside store_schema add_account (whole a.account ∷ Blob a.secret ∷ []) old new (clean_if_open new.is_clean new.is_open (g.met.S.Store.shut_if_dirty c.execute.new.self.conn.now.store))
     _ add_account_is add_account_plain (λ count w. w) Change (add_effect old a low) c.execute.result

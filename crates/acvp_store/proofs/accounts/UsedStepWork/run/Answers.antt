@@ -1,10 +1,10 @@
-use Rattle.std.proofs.Common.{◌<◌, ◌^◌, ap, [], ◌∷◌, arith, rules, w64, to_z-of_z}
+use Rattle.std.proofs.Common.{ap, [], ◌∷◌, rules, w64, to_z-of_z}
 use mir.Val.{SFits}
 use Rattle.sqlite.specs.Held.{state}
 use Rattle.acvp_tables.specs.Changes.{changed, is_account, with_step}
 use Rattle.acvp_store.specs.Alters.{Alters}
+use Rattle.acvp_store.specs.Rows.{account_tree, HoldsAccounts}
 use Rattle.acvp_store.specs.Connection.{Under}
-use Rattle.acvp_store.specs.Rows.{account_tree, account_key, account_row}
 use Rattle.acvp_store.specs.Schema.{store_schema}
 use Rattle.acvp_store.specs.Values.{whole}
 use Rattle.acvp_store.proofs.Reading.{clean_if_open}
@@ -18,10 +18,9 @@ returns-clause-inside g c =
     let old = state g.S.Store c.args.tx.now.conn.now in
     let new = state g.S.Store c.execute.new.self.conn.now in
     let u = c.args.self.now in
-    let low : u.step < 2 ^ 63 = omega arith in
-    let fit : SFits w64 c.key.result = search rules in
-    let Change = Alters account_tree account_key account_row (changed (is_account u.account) (with_step u.step)) in
+    let fit_step : SFits w64 c.in_ok-step.step = search rules in
+    let Change = Alters account_tree HoldsAccounts (changed (is_account u.account) (with_step u.step)) in
     inside_as c.execute.result c.done.result old new (Under store_schema Change) c.done.ensures
     (inside store_schema set_step (whole u.account ∷ whole u.step ∷ []) old new (clean_if_open new.is_clean new.is_open (g.met.S.Store.shut_if_dirty c.execute.new.self.conn.now.store))
     _ step_is step_plain (λ count w. w) Change (step_effect old u.account u.step) c.execute.result
-    (λ clean on. rw (c.params-to_sql.ensures, c.params-to_sql-2.ensures, to_z-of_z fit, c.key.ensures.fits low, c.from.ensures) at (c.execute.ensures.runs clean on)) (λ off. ap (state g.S.Store) (c.execute.ensures.ended off).1) c.execute.ensures.survives)
+    (λ clean on. rw (c.params-to_sql.ensures, c.params-to_sql-2.ensures, to_z-of_z fit_step, c.in_ok-step.ensures.1, c.from.ensures) at (c.execute.ensures.runs clean on)) (λ off. ap (state g.S.Store) (c.execute.ensures.ended off).1) c.execute.ensures.survives)

@@ -1,10 +1,10 @@
-use Rattle.std.proofs.Common.{◌<◌, ◌^◌, ap, [], ◌∷◌, arith, rules, w64, to_z-of_z}
+use Rattle.std.proofs.Common.{ap, [], ◌∷◌, rules, w64, to_z-of_z}
 use mir.Val.{SFits}
 use Rattle.sqlite.specs.Held.{state}
 use Rattle.acvp_tables.specs.Changes.{changed, is_session, cancelled_session}
 use Rattle.acvp_store.specs.Alters.{Alters}
+use Rattle.acvp_store.specs.Rows.{session_tree, HoldsSessions}
 use Rattle.acvp_store.specs.Connection.{Under}
-use Rattle.acvp_store.specs.Rows.{session_tree, session_key, session_row}
 use Rattle.acvp_store.specs.Schema.{store_schema}
 use Rattle.acvp_store.specs.Values.{whole}
 use Rattle.acvp_store.proofs.Reading.{clean_if_open}
@@ -17,11 +17,10 @@ pub returns-clause-inside : goal.returns-clause-inside
 returns-clause-inside g c =
     let old = state g.S.Store c.args.tx.now.conn.now in
     let new = state g.S.Store c.execute.new.self.conn.now in
-    let n = c.args.self.now.number in
-    let low : n < 2 ^ 63 = omega arith in
-    let fit : SFits w64 c.key.result = search rules in
-    let Change = Alters session_tree session_key session_row (changed (is_session n) cancelled_session) in
+    let s = c.args.self.now in
+    let fit_number : SFits w64 c.in_ok-number.number = search rules in
+    let Change = Alters session_tree HoldsSessions (changed (is_session s.number) cancelled_session) in
     inside_as c.execute.result c.done.result old new (Under store_schema Change) c.done.ensures
-    (inside store_schema cancel_session (whole n ∷ []) old new (clean_if_open new.is_clean new.is_open (g.met.S.Store.shut_if_dirty c.execute.new.self.conn.now.store))
-    _ cancel_is cancel_plain (λ count w. w) Change (cancel_effect old n) c.execute.result
-    (λ clean on. rw (c.params-to_sql.ensures, to_z-of_z fit, c.key.ensures.fits low) at (c.execute.ensures.runs clean on)) (λ off. ap (state g.S.Store) (c.execute.ensures.ended off).1) c.execute.ensures.survives)
+    (inside store_schema cancel_session (whole s.number ∷ []) old new (clean_if_open new.is_clean new.is_open (g.met.S.Store.shut_if_dirty c.execute.new.self.conn.now.store))
+    _ cancel_is cancel_plain (λ count w. w) Change (cancel_effect old s.number) c.execute.result
+    (λ clean on. rw (c.params-to_sql.ensures, to_z-of_z fit_number, c.in_ok-number.ensures.1) at (c.execute.ensures.runs clean on)) (λ off. ap (state g.S.Store) (c.execute.ensures.ended off).1) c.execute.ensures.survives)

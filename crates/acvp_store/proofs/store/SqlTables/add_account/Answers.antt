@@ -2,11 +2,11 @@ use Rattle.std.proofs.Common.{◌++◌, ◌∷◌, []}
 use Rattle.acvp_tables.specs.Changes.{after_order, new_account}
 use Rattle.acvp_tables.specs.declared.change.OrderChange.TheVariants as order
 use Rattle.acvp_store.specs.Alters.{Alters}
-use Rattle.acvp_store.specs.Rows.{account_tree, account_key, account_row}
+use Rattle.acvp_store.specs.Rows.{account_tree, HoldsAccounts}
 use Rattle.acvp_store.proofs.Standing.{changes, added}
 use Rattle.acvp_store.proofs.store.SqlTables.add_account.Goals as goal
 
 pub returns : goal.returns
 returns g c =
     let x = c.args.account.now in
-    rw (← c.self.view_is) (changes g.S.Store c.self.inside.connection c.commit.new.conn (Alters account_tree account_key account_row (λ rows. rows ++ new_account x ∷ [])) (after_order (order.AddAccount x)) c.self.invariant (λ d e h. h.schema) (added x) c.commit.result c.commit.ensures)
+    rw (← c.self.view_is) (changes g.S.Store c.self.inside.connection c.commit.new.conn (Alters account_tree HoldsAccounts (λ rows. rows ++ new_account x ∷ [])) (after_order (order.AddAccount x)) c.self.invariant (λ d e h. h.schema) (added x) c.commit.result c.commit.ensures)

@@ -1,11 +1,11 @@
 use Rattle.acvp_tables.specs.Changes.{after_order, changed, is_account, disabled}
 use Rattle.acvp_tables.specs.declared.change.OrderChange.TheVariants as order
 use Rattle.acvp_store.specs.Alters.{Alters}
-use Rattle.acvp_store.specs.Rows.{account_tree, account_key, account_row}
+use Rattle.acvp_store.specs.Rows.{account_tree, HoldsAccounts}
 use Rattle.acvp_store.proofs.Standing.{changes, turned_off}
 use Rattle.acvp_store.proofs.store.SqlTables.disable_account.Goals as goal
 
 pub returns : goal.returns
 returns g c =
     let x = c.args.account in
-    rw (← c.self.view_is) (changes g.S.Store c.self.inside.connection c.commit.new.conn (Alters account_tree account_key account_row (changed (is_account x) disabled)) (after_order (order.DisableAccount x)) c.self.invariant (λ d e h. h.schema) (turned_off x) c.commit.result c.commit.ensures)
+    rw (← c.self.view_is) (changes g.S.Store c.self.inside.connection c.commit.new.conn (Alters account_tree HoldsAccounts (changed (is_account x) disabled)) (after_order (order.DisableAccount x)) c.self.invariant (λ d e h. h.schema) (turned_off x) c.commit.result c.commit.ensures)

@@ -1,11 +1,11 @@
 use Rattle.acvp_tables.specs.Changes.{after, changed, is_account, with_step}
 use Rattle.acvp_tables.specs.declared.change.Change.TheVariants as change
 use Rattle.acvp_store.specs.Alters.{Alters}
-use Rattle.acvp_store.specs.Rows.{account_tree, account_key, account_row}
+use Rattle.acvp_store.specs.Rows.{account_tree, HoldsAccounts}
 use Rattle.acvp_store.proofs.Standing.{changes, stepped}
 use Rattle.acvp_store.proofs.store.SqlTables.use_step.Goals as goal
 
 pub returns : goal.returns
 returns g c =
     let x = c.args.used.now in
-    rw (← c.self.view_is) (changes g.S.Store c.self.inside.connection c.commit.new.conn (Alters account_tree account_key account_row (changed (is_account x.account) (with_step x.step))) (after (change.UseStep x)) c.self.invariant (λ d e h. h.schema) (stepped x) c.commit.result c.commit.ensures)
+    rw (← c.self.view_is) (changes g.S.Store c.self.inside.connection c.commit.new.conn (Alters account_tree HoldsAccounts (changed (is_account x.account) (with_step x.step))) (after (change.UseStep x)) c.self.invariant (λ d e h. h.schema) (stepped x) c.commit.result c.commit.ensures)

@@ -1,0 +1,66 @@
+-- The statements on requests.
+use Rattle.std.proofs.Common.{◌≡◌, ◌<◌, ◌^◌, ℕ, List, [], ◌∷◌, ◌++◌, None, Ok, refl, ◌∙◌}
+use Rattle.std.specs.Prelude.{drop}
+use Rattle.sqlite.specs.declared.types.Value.TheVariants.{Null, Text}
+use Rattle.sqlite.specs.Order.{Row}
+use Rattle.sqlite.specs.Values.{or_null}
+use Rattle.sqlite.specs.Command.TheVariants.{Insert, Update}
+use Rattle.sqlite.specs.Source.TheVariants.{Values}
+use Rattle.sqlite.specs.Cast.{cast_row}
+use Rattle.sqlite.specs.Effect.{Database}
+use Rattle.sqlite.specs.Does.{Tally, Does}
+use Rattle.sqlite.specs.State.{State, mode_of}
+use Rattle.sqlite.specs.Listing.{understood}
+use Rattle.sqlite.proofs.Callers.{statement_of}
+use Rattle.acvp_tables.specs.Changes.{changed, is_request, with_status}
+use Rattle.acvp_tables.specs.State.{given_number}
+use Rattle.acvp_tables.specs.declared.rows.RequestRow.{RequestRow}
+use Rattle.acvp_tables.specs.declared.rows.RequestStatus.{RequestStatus}
+use Rattle.acvp_store.specs.Values.{whole}
+use Rattle.acvp_store.specs.Schema.{store_schema, request_table}
+use Rattle.acvp_store.specs.Alters.{Alters}
+use Rattle.acvp_store.specs.Stands.{request_tree, request_key, request_row, HoldsRequests, body_number, body_text, status_number}
+use Rattle.acvp_store.specs.Private.Requests.{IsAsked}
+use Rattle.acvp_store.proofs.Effects.{insert_effect, update_effect}
+use Rattle.acvp_store.proofs.Parts.{and_true, cast_null, cast_whole, cast_option}
+use Rattle.acvp_store.proofs.Selecting.{test_equals}
+use Rattle.acvp_store.proofs.Texts.{add_request, add_request_terms, decide_request, decide_query}
+
+-- ---- a new request
+
+abbrev asked : ℕ → ℕ → ℕ → List ℕ → Row
+asked number account kind body = whole number ∷ Null ∷ whole account ∷ whole kind ∷ Text body ∷ whole 0 ∷ Null ∷ []
+
+cast_asked : (number account kind : ℕ) (body : List ℕ) → cast_row (request_table 7) (asked number account kind body) ≡ asked number account kind body
+cast_asked number account kind body = rw (cast_whole number, cast_null, cast_whole account, cast_whole kind, cast_whole 0) refl
+
+asked_is : (row : RequestRow) (number account kind : ℕ) (body : List ℕ) → IsAsked row number account kind body → asked number account kind body ≡ request_row row
+asked_is row number account kind body is = rw (← is.number_is, ← is.account_is, ← is.kind_is, ← is.body_is, is.status_is) refl
+
+abbrev pub request_params : ℕ → ℕ → ℕ → List ℕ → Row
+request_params number account kind body = whole number ∷ whole account ∷ whole kind ∷ Text body ∷ []
+
+pub add_request_effect : (old : State) (row : RequestRow) (number account kind : ℕ) (body : List ℕ) → IsAsked row number account kind body → number < 2 ^ 63 → old.now.schema ≡ store_schema → (tally : Tally) (after : Database)
+    → Does old.step_limit (mode_of old) (request_params number account kind body) old.now (statement_of add_request (understood store_schema add_request)) None (Insert 5 (Values add_request_terms 7)) (Ok (tally, after))
+    → Alters request_tree HoldsRequests (λ list. list ++ row ∷ []) old.now after
+add_request_effect old row number account kind body is low schema tally after does =
+    insert_effect request_key request_row (λ x. refl) 5 _ _ _ _ refl add_request_terms 7 (request_params number account kind body) (asked number account kind body) refl row
+    (cast_asked number account kind body ∙ asked_is row number account kind body is) (rw is.number_is low) old (statement_of add_request (understood store_schema add_request)) schema tally after does
+
+-- ---- what is decided
+
+abbrev decided : RequestStatus → RequestRow → Row
+decided s r = whole r.number ∷ whole r.number ∷ Null ∷ whole r.account ∷ whole (body_number r.body) ∷ Text (body_text r.body) ∷ whole (status_number s) ∷ or_null whole (given_number s) ∷ []
+
+cast_decided : (s : RequestStatus) (r : RequestRow) → cast_row (request_table 7) (drop 1 (decided s r)) ≡ request_row (with_status s r)
+cast_decided s r = rw (cast_whole r.number, cast_null, cast_whole r.account, cast_whole (body_number r.body), cast_whole (status_number s), cast_option (given_number s)) refl
+
+abbrev pub decide_params : ℕ → RequestStatus → Row
+decide_params n s = whole n ∷ whole (status_number s) ∷ or_null whole (given_number s) ∷ []
+
+pub decide_effect : (old : State) (n : ℕ) (s : RequestStatus) → old.now.schema ≡ store_schema → (tally : Tally) (after : Database)
+    → Does old.step_limit (mode_of old) (decide_params n s) old.now (statement_of decide_request (understood store_schema decide_request)) None (Update 5 (record { lets = []; body = decide_query })) (Ok (tally, after))
+    → Alters request_tree HoldsRequests (changed (is_request n) (with_status s)) old.now after
+decide_effect old n s schema tally after does =
+    update_effect request_key request_row (λ x. refl) 5 (request_table 7) refl (λ trees. refl) decide_query.filter decide_query.project (decide_params n s) n (with_status s) (λ r. refl) (decided s) (λ r. refl) (cast_decided s)
+    (λ r. rw test_equals (and_true _)) (λ r. refl) old (statement_of decide_request (understood store_schema decide_request)) schema tally after does

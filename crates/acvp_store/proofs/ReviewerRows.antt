@@ -1,0 +1,170 @@
+-- The statements on reviewers.
+use Rattle.std.proofs.Common.{inl, inr, ◌≡◌, ℕ, List, [], ◌∷◌, ◌++◌, map, length, Bool, true, false, not, Option, None, Ok, Err, Result, IfOk, IsOk, refl, sym, ap, subst, ◌∙◌, arith}
+use Rattle.std.specs.Prelude.{◌==◌, nat_lt, if◌then◌else◌}
+use Rattle.std.specs.List.{filter, list_any, AllByRecursion}
+use Rattle.std.specs.List.Sorted.{IsPermutation}
+use Rattle.std.proofs.lemmas.Bool.{cases_Bool}
+use Rattle.std.proofs.lemmas.Bool.Decides.{nat_tests}
+use Rattle.std.proofs.lemmas.List.Sorted.{length_permutation, list_any-IsPermutation}
+use Rattle.sqlite.specs.declared.types.Value.TheVariants.{Null}
+use Rattle.sqlite.specs.Order.{Row}
+use Rattle.sqlite.specs.Program.{overlay}
+use Rattle.sqlite.specs.Command.TheVariants.{Insert, Delete}
+use Rattle.sqlite.specs.Source.TheVariants.{Values}
+use Rattle.sqlite.specs.Edit.{edit_of}
+use Rattle.sqlite.specs.Rowids.TheVariants.{Chosen, Given}
+use Rattle.sqlite.specs.Cast.{cast_row}
+use Rattle.sqlite.specs.Tree.{Trees}
+use Rattle.sqlite.specs.Effect.{Database}
+use Rattle.sqlite.specs.Does.{Tally, Does}
+use Rattle.sqlite.specs.Rows.{Written}
+use Rattle.sqlite.specs.State.{State, Shown, mode_of}
+use Rattle.sqlite.specs.Listing.{understood}
+use Rattle.sqlite.proofs.Callers.{reads_as, statement_of}
+use Rattle.sqlite_rules.specs.Action.{Writes}
+use Rattle.sqlite_rules.specs.Calls.{ids_of}
+use Rattle.sqlite_rules.specs.Edit.{without_all}
+use Rattle.sqlite_schema.specs.declared.schema.Constraint.TheVariants.{Unique}
+use Rattle.sqlite_schema.specs.declared.schema.Keys.TheVariants.{Enforced}
+use Rattle.sqlite_schema.specs.Rules.{agree, clashes, passes}
+use Rattle.sqlite_value.specs.Keys.{plain, first_key}
+use Rattle.acvp_tables.specs.Content.{is_reviewer}
+use Rattle.acvp_tables.specs.Changes.{is_pair, with_reviewer}
+use Rattle.acvp_tables.specs.declared.rows.ReviewerRow.{ReviewerRow}
+use Rattle.acvp_store.specs.Values.{whole}
+use Rattle.acvp_store.specs.Schema.{store_schema, reviewer_table}
+use Rattle.acvp_store.specs.Alters.{Alters, SparesOthers}
+use Rattle.acvp_store.specs.Stands.{Entry, entry_row, HoldsReviewers, reviewer_columns, reviewer_tree}
+use Rattle.acvp_store.proofs.Effects.{task_of, concluded}
+use Rattle.acvp_store.proofs.Entries.{entry_for, map_last, rows_put, puts, was_free, removed, takes}
+use Rattle.acvp_store.proofs.Idle.{applied}
+use Rattle.acvp_store.proofs.Inserting.{not_false}
+use Rattle.acvp_store.proofs.Parts.{went, same_value, cast_null, cast_whole, both_true}
+use Rattle.acvp_store.proofs.Selecting.{test_equals, selected}
+use Rattle.acvp_store.proofs.Texts.{find_reviewer, reviewer_query, reviewer_is, reviewer_plain, reviewer_unlisted, add_reviewer, add_reviewer_terms, remove_reviewer, remove_query}
+
+-- ---- whether one is there
+
+pub reviewer_rows : (r : ReviewerRow) (old new : State) (rows : List Row) → old.now.schema ≡ store_schema → Shown find_reviewer (reviewer_columns r) old new rows → (list : List ReviewerRow) (h : HoldsReviewers (old.now.trees reviewer_tree) list)
+    → IsPermutation (map (λ (e : Entry ReviewerRow). whole e.row.account ∷ []) (filter (λ e. is_pair r e.row) h.entries)) rows
+reviewer_rows r old new rows schema shown list h =
+    selected (reviewer_columns r) (entry_row reviewer_columns) (λ e. is_pair r e.row) reviewer_query.filter (λ e. both_true _ _ (e.row.session == r.session) (e.row.account == r.account) (test_equals e.row.session r.session) (test_equals e.row.account r.account))
+    reviewer_tree reviewer_query.project (λ e. whole e.row.account ∷ []) (λ e. refl) (overlay old.now.trees []) h.entries rows h.rows_are
+    ((reads_as find_reviewer (reviewer_columns r) old new store_schema schema _ reviewer_is reviewer_plain reviewer_unlisted rows shown).answer Null)
+
+-- there is one exactly where one passes
+counted : {A : Type 0} (shown : A → Row) (p : A → Bool) (xs : List A) → nat_lt 0 (length (map shown (filter p xs))) ≡ list_any p xs
+counted shown p [] = refl
+counted shown p (x ∷ xs) = elim (cases_Bool (p x)) [
+  | inl hit ↦ let some : nat_lt 0 (length (shown x ∷ map shown (filter p xs))) ≡ true = grind (arith, nat_tests) in rw hit some
+  | inr miss ↦ rw miss (counted shown p xs)
+]
+
+any_passes : {A : Type 0} (shown : A → Row) (p : A → Bool) (xs : List A) (rows : List Row) → IsPermutation (map shown (filter p xs)) rows → nat_lt 0 (length rows) ≡ list_any p xs
+any_passes shown p xs rows same = ap (nat_lt 0) (length_permutation _ _ same) ∙ counted shown p xs
+
+any_row : (p : ReviewerRow → Bool) (es : List (Entry ReviewerRow)) → list_any (λ (e : Entry ReviewerRow). p e.row) es ≡ list_any p (map (λ (e : Entry ReviewerRow). e.row) es)
+any_row p [] = refl
+any_row p (e ∷ es) = elim (cases_Bool (p e.row)) [
+  | inl hit ↦ rw hit refl
+  | inr miss ↦ rw miss (any_row p es)
+]
+
+pub found_reviewer : {X E F : Type 0} (r : ReviewerRow) (table : List Row) (outcome : Result X E) (rows_in : X → List Row) (result : Result Bool F) → (IsOk result → IsOk outcome)
+    → IfOk result (λ found. IfOk outcome (λ x. found ≡ nat_lt 0 (length (rows_in x))))
+    → IfOk outcome (λ x. (list : List ReviewerRow) (h : HoldsReviewers table list) → IsPermutation (map (λ (e : Entry ReviewerRow). whole e.row.account ∷ []) (filter (λ e. is_pair r e.row) h.entries)) (rows_in x))
+    → IfOk result (λ found. (list : List ReviewerRow) → HoldsReviewers table list → found ≡ is_reviewer r.session r.account list)
+found_reviewer r table outcome rows_in (Err f) ok found rows = tt
+found_reviewer r table (Err e) rows_in (Ok b) ok found rows = absurd (let impossible = ok refl in cc)
+found_reviewer r table (Ok x) rows_in (Ok b) ok found rows = λ list h.
+    found ∙ any_passes (λ (e : Entry ReviewerRow). whole e.row.account ∷ []) (λ e. is_pair r e.row) h.entries (rows_in x) (rows list h)
+    ∙ any_row (is_pair r) h.entries ∙ list_any-IsPermutation (is_pair r) _ list h.same
+
+-- ---- one who is put in
+
+cast_given : (r : ReviewerRow) → cast_row (reviewer_table 8) (Null ∷ reviewer_columns r) ≡ Null ∷ reviewer_columns r
+cast_given r = rw (cast_null, cast_whole r.session, cast_whole r.account) refl
+
+agrees : (r a : ReviewerRow) (i j : ℕ) → agree plain (1 ∷ 2 ∷ []) (whole i ∷ reviewer_columns a) (1 ∷ 2 ∷ []) (whole j ∷ reviewer_columns r) ≡ is_pair r a
+unfolding first_key
+agrees r a i j = both_true _ _ (a.session == r.session) (a.account == r.account) (test_equals a.session r.session) (test_equals a.account r.account)
+
+all_last : (P : Row → Type 0) (xs : List Row) (r : Row) → AllByRecursion P (xs ++ r ∷ []) → P r
+all_last P [] r h = h.0
+all_last P (x ∷ xs) r h = all_last P xs r h.1
+
+module _ (r : ReviewerRow) (trees next : Trees) (wrote : Writes store_schema Enforced trees (edit_of trees (reviewer_table 8) [] Chosen 0 ((Null ∷ reviewer_columns r) ∷ [])) (Ok next)) (list : List ReviewerRow) (h : HoldsReviewers (trees reviewer_tree) list) where
+  abbrev new : Entry ReviewerRow
+  new = entry_for reviewer_columns h.entries r
+
+  clear : clashes plain (1 ∷ 2 ∷ []) (next reviewer_tree) (entry_row reviewer_columns new) ≡ false
+  clear =
+      let it = applied trees next (edit_of trees (reviewer_table 8) [] Chosen 0 ((Null ∷ reviewer_columns r) ∷ [])) wrote in
+      let rows = rows_put reviewer_columns (reviewer_table 8) r (cast_given r) trees next list h wrote ∙ map_last reviewer_columns new h.entries in
+      let unique = subst (λ rows. AllByRecursion (λ row. passes Unique store_schema next (reviewer_table 8) row ≡ true) rows) rows (it.fits.rules Unique (λ e. absurd (cc))).1.1.1.1.1.1.0 in
+      not_false _ (all_last _ (map (entry_row reviewer_columns) h.entries) (entry_row reviewer_columns new) unique)
+
+  joins : HoldsReviewers (next reviewer_tree) (with_reviewer r list)
+  joins =
+      let free = was_free reviewer_columns (reviewer_table 8) r (cast_given r) trees next list h wrote (1 ∷ 2 ∷ []) (is_pair r) (agrees r) clear in
+      subst (λ b. HoldsReviewers (next reviewer_tree) (if b then list else list ++ r ∷ [])) (sym free) (puts reviewer_columns (reviewer_table 8) r (cast_given r) trees next list h wrote)
+
+adds : (limit : Option ℕ) (text : List ℕ) (r : ReviewerRow) (trees : Trees) (tally : Tally) (after : Database)
+    → Does limit (record { keys = Enforced; in_doubt = false; may_wait = false }) (reviewer_columns r) (record { schema = store_schema; trees = trees }) text None (Insert 6 (Values add_reviewer_terms 3)) (Ok (tally, after))
+    → Alters reviewer_tree HoldsReviewers (with_reviewer r) (record { schema = store_schema; trees = trees }) after
+adds limit text r trees tally after does =
+    let done = went does in
+    let now = concluded (task_of limit (reviewer_table 8) (reviewer_columns r)) done.0 tally after done.2 in
+    let source = went done.1 in
+    let written = went (went source.2).2 in
+    let counted = went written.2 in
+    let trees_are : done.0.trees ≡ written.0 = ap (λ (it : Written). it.trees) (same_value counted.2) ∙ same_value counted.1 in
+    let wrote = subst (λ rs. Writes store_schema Enforced trees (edit_of trees (reviewer_table 8) [] Chosen 0 rs) (Ok written.0)) source.1.1 written.1 in
+    let next : written.0 ≡ after.trees = sym (ap (λ (d : Database). d.trees) now ∙ trees_are) in
+    record {
+      schema = ap (λ (d : Database). d.schema) now;
+      kept = λ list h. subst (λ (t : Trees). HoldsReviewers (t reviewer_tree) (with_reviewer r list)) next (joins r trees written.0 wrote list h);
+      others = subst (SparesOthers reviewer_tree trees) next (applied trees written.0 (edit_of trees (reviewer_table 8) [] Chosen 0 ((Null ∷ reviewer_columns r) ∷ [])) wrote).tables;
+    }
+
+pub add_reviewer_effect : (old : State) (r : ReviewerRow) → old.now.schema ≡ store_schema → (tally : Tally) (after : Database)
+    → Does old.step_limit (mode_of old) (reviewer_columns r) old.now (statement_of add_reviewer (understood store_schema add_reviewer)) None (Insert 6 (Values add_reviewer_terms 3)) (Ok (tally, after))
+    → Alters reviewer_tree HoldsReviewers (with_reviewer r) old.now after
+add_reviewer_effect old r schema tally after does =
+    let text = statement_of add_reviewer (understood store_schema add_reviewer) in
+    let it = subst (λ s. Does old.step_limit (mode_of old) (reviewer_columns r) (record old.now { schema = s }) text None (Insert 6 (Values add_reviewer_terms 3)) (Ok (tally, after))) schema does in
+    let made = adds old.step_limit text r old.now.trees tally after it in
+    record { schema = made.schema; kept = made.kept; others = made.others }
+
+-- ---- one who is taken out
+
+removes : (limit : Option ℕ) (text : List ℕ) (r : ReviewerRow) (trees : Trees) (tally : Tally) (after : Database)
+    → Does limit (record { keys = Enforced; in_doubt = false; may_wait = false }) (reviewer_columns r) (record { schema = store_schema; trees = trees }) text None (Delete 6 (record { lets = []; body = remove_query })) (Ok (tally, after))
+    → Alters reviewer_tree HoldsReviewers (filter (λ row. not (is_pair r row))) (record { schema = store_schema; trees = trees }) after
+removes limit text r trees tally after does =
+    let done = went does in
+    let now = concluded (task_of limit (reviewer_table 8) (reviewer_columns r)) done.0 tally after done.2 in
+    let found = went done.1 in
+    let written = went found.2 in
+    let trees_are : done.0.trees ≡ written.0 = ap (λ (it : Written). it.trees) (same_value written.2) in
+    let next : written.0 ≡ after.trees = sym (ap (λ (d : Database). d.trees) now ∙ trees_are) in
+    let it = applied trees written.0 (edit_of trees (reviewer_table 8) (ids_of found.0) Given 0 []) written.1 in
+    record {
+      schema = ap (λ (d : Database). d.schema) now;
+      kept = λ list h.
+          let rows = selected (reviewer_columns r) (entry_row reviewer_columns) (λ e. is_pair r e.row) remove_query.filter
+          (λ e. both_true _ _ (e.row.session == r.session) (e.row.account == r.account) (test_equals e.row.session r.session) (test_equals e.row.account r.account))
+          reviewer_tree remove_query.project (λ e. whole e.id ∷ []) (λ e. refl) (overlay trees []) h.entries found.0 h.rows_are (found.1.answer Null) in
+          let left = it.rows ∙ ap (λ all. without_all all (ids_of found.0)) h.rows_are ∙ removed reviewer_columns (λ e. is_pair r e.row) h.entries found.0 h.rising rows in
+          subst (λ (t : Trees). HoldsReviewers (t reviewer_tree) (filter (λ row. not (is_pair r row)) list)) next (takes reviewer_columns (is_pair r) trees written.0 reviewer_tree list h left);
+      others = subst (SparesOthers reviewer_tree trees) next it.tables;
+    }
+
+pub remove_reviewer_effect : (old : State) (r : ReviewerRow) → old.now.schema ≡ store_schema → (tally : Tally) (after : Database)
+    → Does old.step_limit (mode_of old) (reviewer_columns r) old.now (statement_of remove_reviewer (understood store_schema remove_reviewer)) None (Delete 6 (record { lets = []; body = remove_query })) (Ok (tally, after))
+    → Alters reviewer_tree HoldsReviewers (filter (λ row. not (is_pair r row))) old.now after
+remove_reviewer_effect old r schema tally after does =
+    let text = statement_of remove_reviewer (understood store_schema remove_reviewer) in
+    let it = subst (λ s. Does old.step_limit (mode_of old) (reviewer_columns r) (record old.now { schema = s }) text None (Delete 6 (record { lets = []; body = remove_query })) (Ok (tally, after))) schema does in
+    let made = removes old.step_limit text r old.now.trees tally after it in
+    record { schema = made.schema; kept = made.kept; others = made.others }

@@ -1,0 +1,24 @@
+use Rattle.std.proofs.Common.{ap, rules, w64, to_z-of_z}
+use mir.Val.{SFits}
+use Rattle.sqlite.specs.Held.{state}
+use Rattle.acvp_store.specs.Private.Objects.{Registers}
+use Rattle.acvp_store.specs.Connection.{Under}
+use Rattle.acvp_store.specs.Schema.{store_schema}
+use Rattle.acvp_store.proofs.Reading.{clean_if_open}
+use Rattle.acvp_store.proofs.Together.{inside, inside_as}
+use Rattle.acvp_store.proofs.Texts.{register_object, register_is, register_plain}
+use Rattle.acvp_store.proofs.Registering.{register_params, register_effect}
+use Rattle.acvp_store.proofs.objects.RegisteredWork.run.Goals as goal
+
+pub returns-clause-inside : goal.returns-clause-inside
+returns-clause-inside g c =
+    let old = state g.S.Store c.args.tx.now.conn.now in
+    let new = state g.S.Store c.execute.new.self.conn.now in
+    let r = c.args.self.now in
+    let fit_request : SFits w64 c.in_ok-request.request = search rules in
+    let fit_number : SFits w64 c.in_ok-number.number = search rules in
+    let Change = Registers r.request r.number in
+    inside_as c.execute.result c.done.result old new (Under store_schema Change) c.done.ensures
+    (inside store_schema register_object (register_params r.request r.number) old new (clean_if_open new.is_clean new.is_open (g.met.S.Store.shut_if_dirty c.execute.new.self.conn.now.store))
+    _ register_is register_plain (λ count w. w) Change (register_effect old r.request r.number c.in_ok-number.ensures.0) c.execute.result
+    (λ clean on. rw (c.params-to_sql.ensures, c.params-to_sql-2.ensures, to_z-of_z fit_request, to_z-of_z fit_number, c.in_ok-request.ensures.1, c.in_ok-number.ensures.1) at (c.execute.ensures.runs clean on)) (λ off. ap (state g.S.Store) (c.execute.ensures.ended off).1) c.execute.ensures.survives)

@@ -1,0 +1,14 @@
+use Rattle.std.proofs.Common.{refl, sym, ap, ◌∙◌}
+use Rattle.acvp_tables.specs.Content.{kind_number}
+use Rattle.acvp_tables.specs.Changes.{new_request}
+use Rattle.acvp_store.proofs.requests.NewRequestWork.run.Goals as goal
+
+pub returns-clause-inside : goal.returns-clause-inside
+returns-clause-inside g c =
+    c.insert_request.ensures.inside (new_request c.args.self.now) (record {
+      number_is = refl;
+      account_is = refl;
+      kind_is = sym (c.kind_number.ensures ∙ ap kind_number c.kind.ensures.value);
+      body_is = sym c.text.ensures.value;
+      status_is = refl;
+    })

@@ -1,0 +1,12 @@
+use Rattle.acvp_tables.specs.Changes.{after_order, changed, is_request, with_status}
+use Rattle.acvp_tables.specs.declared.change.OrderChange.TheVariants as order
+use Rattle.acvp_tables.specs.declared.rows.RequestStatus.TheVariants as status
+use Rattle.acvp_store.specs.Alters.{Alters}
+use Rattle.acvp_store.specs.Stands.{request_tree, HoldsRequests}
+use Rattle.acvp_store.proofs.Standing.{changes, rejected}
+use Rattle.acvp_store.proofs.store.SqlTables.reject.Goals as goal
+
+pub returns : goal.returns
+returns g c =
+    let n = c.args.number in
+    rw (← c.self.view_is) (changes g.S.Store c.self.inside.connection c.commit.new.conn (Alters request_tree HoldsRequests (changed (is_request n) (with_status status.Rejected))) (after_order (order.Reject n)) c.self.invariant (λ d e h. h.schema) (rejected n) c.commit.result c.commit.ensures)

@@ -1,0 +1,12 @@
+use Rattle.std.proofs.Common.{filter, not}
+use Rattle.acvp_tables.specs.Changes.{after, is_pair}
+use Rattle.acvp_tables.specs.declared.change.Change.TheVariants as change
+use Rattle.acvp_store.specs.Alters.{Alters}
+use Rattle.acvp_store.specs.Stands.{reviewer_tree, HoldsReviewers}
+use Rattle.acvp_store.proofs.Standing.{changes, reviewer_removed}
+use Rattle.acvp_store.proofs.store.SqlTables.remove_reviewer.Goals as goal
+
+pub returns : goal.returns
+returns g c =
+    let r = c.args.reviewer.now in
+    rw (← c.self.view_is) (changes g.S.Store c.self.inside.connection c.commit.new.conn (Alters reviewer_tree HoldsReviewers (filter (λ row. not (is_pair r row)))) (after (change.RemoveReviewer r)) c.self.invariant (λ d e h. h.schema) (reviewer_removed r) c.commit.result c.commit.ensures)

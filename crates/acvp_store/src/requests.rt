@@ -1,0 +1,166 @@
+//! The table of requests.
+ghost use Rattle.std.specs.Prelude.{◌≡◌, ◌++◌, ◌∷◌, [], pos, IfOk, string_bytes, option_map, unwrap_or};
+ghost use Rattle.serde_json.specs.View.{view};
+ghost use Rattle.sqlite.specs.Held.{state};
+ghost use Rattle.acvp_tables.specs.Changes.{changed, is_request, with_status, new_request, new_certification};
+ghost use Rattle.acvp_tables.specs.declared.rows.RequestBody.TheVariants as body;
+ghost use Rattle.acvp_tables.specs.declared.rows.RequestRow.{RequestRow as Request};
+ghost use Rattle.acvp_store.specs.Alters.{Alters};
+ghost use Rattle.acvp_store.specs.Connection.{IsInside, Under};
+ghost use Rattle.acvp_store.specs.Schema.{store_schema};
+ghost use Rattle.acvp_store.specs.Stands.{request_tree, HoldsRequests, certification_data, body_text, status_number};
+ghost use Rattle.acvp_registry.specs.Url.{url_of};
+ghost use Rattle.acvp_tables.specs.State.{given_number};
+ghost use Rattle.acvp_store.specs.Private.Requests.{IsAsked};
+
+use crate::fault::done;
+use crate::objects::kind_number;
+use crate::shown::fitting;
+use crate::work::Work;
+use acvp_registry::{Kind, object_url};
+use acvp_tables::{Certification, NewCertification, NewRequest, RequestStatus, StoreFault};
+use serde_json::{Value, json};
+use sqlite::{Alter, Transaction, params};
+use std::alloc::{AllocError, Global};
+
+/// Puts in a request on which nothing is decided yet.
+fn insert_request<S: Alter>(
+    tx: &mut Transaction<'_, S>,
+    number: u64,
+    account: u16,
+    kind: u32,
+    body: &str,
+) -> Result<(), StoreFault>
+    ensures same_reference { tx.new.conn.ghost_name ≡ tx.old.conn.ghost_name }
+    ensures inside { (row : Request) → IsAsked row number account kind body.now → IsInside result (state S.Store tx.old.conn.now) (state S.Store tx.new.conn.now) (Under store_schema (Alters request_tree HoldsRequests (λ rows. rows ++ row ∷ []))) }
+{
+    let number = fitting(number)?;
+    done(tx.execute(
+        "INSERT INTO request (request, account, kind, body, status, approved) VALUES (?1, ?2, ?3, ?4, 0, NULL)",
+        params![number, u32::from(account), kind, body],
+    ))
+}
+
+impl Work for NewRequest {
+    ghost use Rattle.std.specs.Prelude.{◌++◌, ◌∷◌, []};
+    ghost use Rattle.acvp_tables.specs.Changes.{new_request};
+    ghost use Rattle.acvp_store.specs.Alters.{Alters};
+    ghost use Rattle.acvp_store.specs.Connection.{Under};
+    ghost use Rattle.acvp_store.specs.Schema.{store_schema};
+    ghost use Rattle.acvp_store.specs.Stands.{request_tree, HoldsRequests};
+
+    ghost change = { λ r. Under store_schema (Alters request_tree HoldsRequests (λ rows. rows ++ new_request r ∷ [])) };
+
+    fn run<S: Alter>(&self, tx: &mut Transaction<'_, S>) -> Result<(), StoreFault> {
+        insert_request(
+            tx,
+            self.number,
+            self.account,
+            kind_number(self.object.kind()),
+            self.object.text(),
+        )
+    }
+}
+
+/// The URL of a module or of an environment; empty of another kind.
+fn url(alloc: Global, kind: Kind, number: u64) -> Result<String, AllocError>
+    ensures { IfOk result (λ url. string_bytes url ≡ unwrap_or (url_of kind number) []) }
+{
+    match object_url(alloc, kind, number)? {
+        Some(url) => Ok(url),
+        None => Ok(String::new(alloc)),
+    }
+}
+
+/// A certification as it is kept.
+fn certification_value(alloc: Global, asked: &Certification) -> Result<Value, AllocError>
+    ensures { IfOk result (λ value. view value ≡ certification_data asked.now) }
+{
+    let module = url(alloc, Kind::Module, asked.module)?;
+    let environment = url(alloc, Kind::Environment, asked.environment)?;
+    let session = asked.session;
+    json!(in alloc; {"moduleUrl": module.as_str(), "oeUrl": environment.as_str(), "session": session})
+}
+
+/// The text of a certification.
+fn certification_text(alloc: Global, asked: &Certification) -> Result<String, AllocError>
+    ensures { IfOk result (λ text. string_bytes text ≡ body_text (body.Certification asked.now)) }
+{
+    certification_value(alloc, asked)?.to_string(alloc)
+}
+
+/// A request for certification, without the session's note of it.
+#[derive(Clone, Copy)]
+pub(crate) struct CertificationAsked {
+    pub alloc: Global,
+    pub request: NewCertification,
+}
+
+impl Work for CertificationAsked {
+    ghost use Rattle.std.specs.Prelude.{◌++◌, ◌∷◌, []};
+    ghost use Rattle.acvp_tables.specs.Changes.{new_certification};
+    ghost use Rattle.acvp_store.specs.Alters.{Alters};
+    ghost use Rattle.acvp_store.specs.Connection.{Under};
+    ghost use Rattle.acvp_store.specs.Schema.{store_schema};
+    ghost use Rattle.acvp_store.specs.Stands.{request_tree, HoldsRequests};
+
+    ghost change = { λ c. Under store_schema (Alters request_tree HoldsRequests (λ rows. rows ++ new_certification c.request ∷ [])) };
+
+    fn run<S: Alter>(&self, tx: &mut Transaction<'_, S>) -> Result<(), StoreFault> {
+        let body = certification_text(self.alloc, &self.request.certification)?;
+        insert_request(
+            tx,
+            self.request.number,
+            self.request.account,
+            kind_number(Kind::Certification),
+            body.as_str(),
+        )
+    }
+}
+
+/// What was decided on a request.
+#[derive(Clone, Copy)]
+pub(crate) struct DecidedRequest {
+    pub number: u64,
+    pub status: RequestStatus,
+}
+
+/// The number of a status.
+fn status_number(status: RequestStatus) -> u32
+    ensures { result ≡ status_number status }
+{
+    match status {
+        RequestStatus::Initial => 0,
+        RequestStatus::Approved(_) => 1,
+        RequestStatus::Rejected => 2,
+    }
+}
+
+/// What a status gave, as its column keeps it. It is Refused where it is too large.
+fn given(status: RequestStatus) -> Result<Option<i64>, StoreFault>
+    ensures { IfOk result (λ kept. kept ≡ option_map pos (given_number status)) }
+{
+    match status {
+        RequestStatus::Approved(number) => Ok(Some(fitting(number)?)),
+        RequestStatus::Initial | RequestStatus::Rejected => Ok(None),
+    }
+}
+
+impl Work for DecidedRequest {
+    ghost use Rattle.acvp_tables.specs.Changes.{changed, is_request, with_status};
+    ghost use Rattle.acvp_store.specs.Alters.{Alters};
+    ghost use Rattle.acvp_store.specs.Connection.{Under};
+    ghost use Rattle.acvp_store.specs.Schema.{store_schema};
+    ghost use Rattle.acvp_store.specs.Stands.{request_tree, HoldsRequests};
+
+    ghost change = { λ r. Under store_schema (Alters request_tree HoldsRequests (changed (is_request r.number) (with_status r.status))) };
+
+    fn run<S: Alter>(&self, tx: &mut Transaction<'_, S>) -> Result<(), StoreFault> {
+        let number = fitting(self.number)?;
+        let approved = given(self.status)?;
+        done(tx.execute(
+            "UPDATE request SET status = ?2, approved = ?3 WHERE request = ?1",
+            params![number, status_number(self.status), approved],
+        ))
+    }
+}

@@ -1,0 +1,93 @@
+//! The table of reviewers.
+ghost use Rattle.std.specs.Prelude.{◌≡◌, nat_lt, length, not, filter, IsTrue, IfOk, IsOk, List};
+ghost use Rattle.sqlite.specs.Held.{state};
+ghost use Rattle.acvp_tables.specs.Content.{is_reviewer};
+ghost use Rattle.acvp_tables.specs.Changes.{is_pair, with_reviewer};
+ghost use Rattle.acvp_tables.specs.declared.rows.ReviewerRow.{ReviewerRow as Reviewer};
+ghost use Rattle.acvp_store.specs.Alters.{Alters};
+ghost use Rattle.acvp_store.specs.Connection.{ServesStore, IsRead, IsInside, Under};
+ghost use Rattle.acvp_store.specs.Schema.{store_schema};
+ghost use Rattle.acvp_store.specs.Stands.{reviewer_tree, HoldsReviewers};
+
+use crate::fault::{done, fault_of};
+use crate::shown::fitting;
+use crate::work::Work;
+use acvp_tables::{ReviewerRow, StoreFault};
+use sqlite::{Alter, Connection, Error, Row, Transaction, params};
+
+/// Whether a query's answer has a row.
+fn any(outcome: Result<Vec<Row>, Error>) -> Result<bool, StoreFault>
+    ensures found { IfOk result (λ found. IfOk outcome (λ rows. found ≡ nat_lt 0 (length rows.items))) }
+    ensures ok { IsOk result → IsOk outcome }
+{
+    match outcome {
+        Ok(rows) => Ok(!rows.is_empty()),
+        Err(error) => Err(fault_of(error)),
+    }
+}
+
+/// Whether an account is a reviewer of a test session.
+pub(crate) fn find_reviewer<S: Alter>(
+    conn: &mut Connection<S>,
+    session: u64,
+    account: u16,
+) -> Result<bool, StoreFault>
+    requires { ServesStore (state S.Store conn.old) }
+    ensures found { IsTrue (state S.Store conn.new).is_open → IfOk result (λ found. (reviewers : List Reviewer) → HoldsReviewers ((state S.Store conn.old).now.trees reviewer_tree) reviewers → found ≡ is_reviewer session account reviewers) }
+    ensures read { IsRead result (state S.Store conn.old) (state S.Store conn.new) }
+{
+    let kept = fitting(session)?;
+    any(conn.query_all(
+        "SELECT account FROM reviewer WHERE session = ?1 AND account = ?2",
+        params![kept, u32::from(account)],
+    ))
+}
+
+/// A reviewer who is put in, where it isn't there.
+#[derive(Clone, Copy)]
+pub(crate) struct ReviewerAdded {
+    pub reviewer: ReviewerRow,
+}
+
+impl Work for ReviewerAdded {
+    ghost use Rattle.acvp_tables.specs.Changes.{with_reviewer};
+    ghost use Rattle.acvp_store.specs.Alters.{Alters};
+    ghost use Rattle.acvp_store.specs.Connection.{Under};
+    ghost use Rattle.acvp_store.specs.Schema.{store_schema};
+    ghost use Rattle.acvp_store.specs.Stands.{reviewer_tree, HoldsReviewers};
+
+    ghost change = { λ r. Under store_schema (Alters reviewer_tree HoldsReviewers (with_reviewer r.reviewer)) };
+
+    fn run<S: Alter>(&self, tx: &mut Transaction<'_, S>) -> Result<(), StoreFault> {
+        let session = fitting(self.reviewer.session)?;
+        done(tx.execute(
+            "INSERT INTO reviewer (session, account) VALUES (?1, ?2)",
+            params![session, u32::from(self.reviewer.account)],
+        ))
+    }
+}
+
+/// A reviewer who is taken out.
+#[derive(Clone, Copy)]
+pub(crate) struct ReviewerRemoved {
+    pub reviewer: ReviewerRow,
+}
+
+impl Work for ReviewerRemoved {
+    ghost use Rattle.std.specs.Prelude.{not, filter};
+    ghost use Rattle.acvp_tables.specs.Changes.{is_pair};
+    ghost use Rattle.acvp_store.specs.Alters.{Alters};
+    ghost use Rattle.acvp_store.specs.Connection.{Under};
+    ghost use Rattle.acvp_store.specs.Schema.{store_schema};
+    ghost use Rattle.acvp_store.specs.Stands.{reviewer_tree, HoldsReviewers};
+
+    ghost change = { λ r. Under store_schema (Alters reviewer_tree HoldsReviewers (filter (λ row. not (is_pair r.reviewer row)))) };
+
+    fn run<S: Alter>(&self, tx: &mut Transaction<'_, S>) -> Result<(), StoreFault> {
+        let session = fitting(self.reviewer.session)?;
+        done(tx.execute(
+            "DELETE FROM reviewer WHERE session = ?1 AND account = ?2",
+            params![session, u32::from(self.reviewer.account)],
+        ))
+    }
+}
