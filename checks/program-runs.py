@@ -4,6 +4,8 @@
 Codes come from oathtool and tokens from joserfc where they are at hand: a code of another program logs in here,
 a token of this one verifies there, and a token signed there is renewed here."""
 import base64
+import hashlib
+import hmac
 import json
 import os
 import shutil
@@ -45,9 +47,18 @@ def token_in(output):
     return json.loads(output.split(b"\r\n\r\n")[-1])[1]["accessToken"]
 
 
+def part_of(token, place):
+    part = token.split(".")[place]
+    return base64.urlsafe_b64decode(part + "=" * (-len(part) % 4))
+
+
 def claims_of(token):
-    part = token.split(".")[1]
-    return json.loads(base64.urlsafe_b64decode(part + "=" * (-len(part) % 4)))
+    return json.loads(part_of(token, 1))
+
+
+def is_signed(token, key):
+    text = token[:token.rindex(".")]
+    return part_of(token, 2) == hmac.new(key, text.encode(), hashlib.sha256).digest()
 
 
 def scripts(keys):
@@ -96,6 +107,59 @@ def command_lines(keys, folder):
     expect("help", (helped.returncode, bool(helped.stdout), helped.stderr), (0, True, b""))
 
 
+def keys_files(keys, folder):
+    path = os.path.join(folder, "ring")
+    later, latest = bytes(range(32, 64)), bytes(range(64, 96))
+    first, second, third = ["token " + key.hex() for key in (KEY, later, latest)]
+    seeds = ["seed " + "0" * 64, "seed " + "1" * 64]
+
+    def lines(*all_lines):
+        return "".join(line + "\n" for line in all_lines)
+
+    def run_with(text, script):
+        with open(path, "w") as file:
+            file.write(text)
+        return run(["script", "--keys", path], script)
+
+    def issued(text):
+        return token_in(run_with(text, add() + login(59, "46119246")).stdout)
+
+    old = token_in(run(["script", "--keys", keys], add() + login(59, "46119246")).stdout)
+    plain = b'{"alg":"HS256","typ":"JWT"}'
+    expect("a token of the short form", (part_of(old, 0), is_signed(old, KEY)), (plain, True))
+    one = issued(lines(first, *seeds))
+    expect("a token of a ring of one key", (part_of(one, 0), is_signed(one, KEY)), (plain, True))
+    two = issued(lines(first, second, seeds[0]))
+    expect("a token of a ring of two keys", (part_of(two, 0), is_signed(two, later)),
+           (b'{"alg":"HS256","kid":"1","typ":"JWT"}', True))
+    ring = lines(first, "token -", third, *seeds)
+    token = issued(ring)
+    expect("a token of a ring with a retired key", (part_of(token, 0), is_signed(token, latest)),
+           (b'{"alg":"HS256","kid":"2","typ":"JWT"}', True))
+    full = issued(lines(*["token -"] * 15, third, *seeds * 8))
+    expect("a token of a ring of 16 entries", (part_of(full, 0), is_signed(full, latest)),
+           (b'{"alg":"HS256","kid":"15","typ":"JWT"}', True))
+    renewed = run_with(ring, add() + login(59, "46119246", old)).stdout
+    expect("a token of the first key", claims_of(token_in(renewed)), {"exp": 1859, "iat": 59, "sub": "7"})
+    refused = run_with(ring, add() + login(59, "46119246", two)).stdout
+    expect("a token of the retired key", json.loads(refused.split(b"\r\n\r\n")[-1])[1], {"error": "renewalRefused"})
+    for what, text in [("no seed", lines(first)), ("no entry", lines(*seeds)), ("nothing", ""),
+                       ("the last key retired", lines(first, "token -", *seeds)),
+                       ("17 entries", lines(*[first] * 17, *seeds)), ("17 seeds", lines(first, *seeds * 8, seeds[0])),
+                       ("a seed before the ring", lines(seeds[0], first)),
+                       ("an entry behind a seed", lines(first, *seeds, second)),
+                       ("a line without its line feed", lines(first, *seeds)[:-1]),
+                       ("a space more", lines("token  " + KEY.hex(), *seeds)),
+                       ("a space behind", lines(first, seeds[0] + " ")), ("63 digits", lines(first[:-1], *seeds)),
+                       ("65 digits", lines(first + "0", *seeds)), ("no digit", lines(first[:-1] + "g", *seeds)),
+                       ("an empty line", lines(first, *seeds, "")),
+                       ("a retired seed", lines(first, seeds[0], "seed -")),
+                       ("a word on one line of two", lines(KEY.hex(), seeds[0])),
+                       ("three lines without a word", lines(KEY.hex(), "0" * 64, "0" * 64))]:
+        stopped = run_with(text, b"")
+        expect(f"a keys file: {what}", (stopped.returncode, stopped.stdout, stopped.stderr), (1, b"", b"fault: keys\n"))
+
+
 def codes_of_oathtool(keys):
     if not shutil.which("oathtool"):
         print("skipped: codes of another program (apt-get install oathtool)")
@@ -136,6 +200,7 @@ def main():
         scripts(keys)
         limits(keys)
         command_lines(keys, folder)
+        keys_files(keys, folder)
         codes_of_oathtool(keys)
         tokens_of_joserfc(keys)
     print(f"{checked} comparisons")

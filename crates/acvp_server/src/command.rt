@@ -7,7 +7,7 @@ pub(crate) fn command<'a>(alloc: Global) -> Result<Command<'a>, AllocError> {
     let keys = Arg::new(alloc, "keys")
         .long("keys")
         .value_name("FILE")
-        .help("The token key and the generator's seed, each a line of 64 hex digits")
+        .help("The token keys and the generator's seeds, as lines of 64 hex digits")
         .required(true)
         .action(ArgAction::Set);
     let script = Command::new(alloc, "script")

@@ -8,7 +8,7 @@ use thiserror::Error;
 /// Why a command failed: the word that is printed after `fault: `.
 #[derive(Debug, Drop, Error)]
 pub(crate) enum Fault {
-    /// The keys file can't be read, or isn't two lines of 64 hex digits; or a vector set was made under another seed.
+    /// The keys file can't be read, or is of neither form; or a vector set was made under another seed.
     #[error("keys")]
     Keys,
     /// Standard input can't be read.
