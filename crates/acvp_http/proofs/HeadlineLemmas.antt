@@ -116,7 +116,7 @@ module _ (follow_request : (keys : Keys) (m : ℕ) (r : RequestValue) (c : Conte
   left_more event true turns state next now told (same, put_off) left = inr (inl refl, subst (λ (s : State). LeftBy keys turns s now) same left)
   left_more event false turns state next now told answered left = elim answered [
     | inl (same, denied) ↦ inr (inr (told, denied), subst (λ (s : State). LeftBy keys turns s now) same left)
-    | inr accepted ↦ inl (next, told, accepted, left)
+    | inr accepted ↦ inl (next, told, refl, accepted, left)
   ]
 
   abbrev Tells : List Turn → Turn → State → List Answer → Type 0

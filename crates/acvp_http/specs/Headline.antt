@@ -71,7 +71,7 @@ IsNotAccepted keys turn state = (turn.unavailable ≡ true) ⊎ ((answer : Answe
 abbrev pub LeftBy : Keys → List Turn → State → State → Type 0
 LeftBy keys [] state now = now ≡ state
 LeftBy keys (turn ∷ turns) state now =
-    ((next : State) × (answer : Answer) × IsAccepted keys turn.event state next answer × LeftBy keys turns next now)
+    ((next : State) × (answer : Answer) × (turn.unavailable ≡ false) × IsAccepted keys turn.event state next answer × LeftBy keys turns next now)
     ⊎ (IsNotAccepted keys turn state × LeftBy keys turns state now)
 
 -- The headline: in every run each event is answered over the state that the accepted ones before it left.
