@@ -12,6 +12,7 @@ use Rattle.acvp_http.specs.Event.{request, order}
 use Rattle.acvp_http.specs.Private.Lines.{Lacks, IsLine, command_word}
 use Rattle.acvp_http.specs.Private.Reading.{HasNoLine, HasNoBody, TakesPart, StopsLine, StopsBody, StopsEvent}
 use Rattle.acvp_http.specs.Script.{HasNoEvent, LeavesGrammar}
+use Rattle.acvp_http.specs.Source.{InputStream, Gives}
 use Rattle.acvp_http.proofs.KnownLemmas.{consumes_consumes}
 use Rattle.acvp_http.proofs.LineLemmas.{not_lacks, cut_same, word_is, same_moment, word_lacks}
 use Rattle.std.proofs.lemmas.Fmt.{decimal_injective}
@@ -175,36 +176,35 @@ pub no_bytes_alone : (text part : List ℕ) (m n : ℕ) → IsLine (line.Request
 no_bytes_alone text part m n says none = no_bytes ((text ++ 10 ∷ []) ++ part) part text m n refl says none
 
 -- why no line was read is why no event was
-pub stops_line : (a b : Option (List ℕ)) (fault : ScriptFault) (failed : Bool) (reads limit : ℕ) →
-    StopsLine a fault failed reads limit × TakesPart a b (Lacks 10) → StopsEvent a fault failed reads limit
-    × TakesPart a b HasNoEvent
-stops_line a b Read failed reads limit (stops, (part, taken, lacks)) = (stops, (part, taken, no_event_lacks part lacks))
-stops_line a b Write failed reads limit (stops, taken) = absurd stops
-stops_line a b Syntax failed reads limit (stops, (part, taken, lacks)) =
-    ((stops.0, no_line_leaves a stops.1), (part, taken, no_event_lacks part lacks))
-stops_line a b Limit failed reads limit (stops, (part, taken, lacks)) =
-    (stops, (part, taken, no_event_lacks part lacks))
-stops_line a b Memory failed reads limit (stops, taken) = absurd stops
+pub stops_line : (a b : InputStream) (fault : ScriptFault) (limit : ℕ) → StopsLine a fault b limit × TakesPart a b (Lacks 10)
+    → StopsEvent a fault b limit × TakesPart a b HasNoEvent
+stops_line a b Read limit (stops, (part, taken, lacks)) = (stops, (part, taken, no_event_lacks part lacks))
+stops_line a b Write limit (stops, taken) = absurd stops
+stops_line a b Syntax limit (stops, (part, taken, lacks)) =
+    ((stops.0, no_line_leaves a.held stops.1), (part, taken, no_event_lacks part lacks))
+stops_line a b Limit limit (stops, (part, taken, lacks)) = (stops, (part, taken, no_event_lacks part lacks))
+stops_line a b Memory limit (stops, taken) = absurd stops
 
 -- why no bytes were read after a request's line is why no event was
-stops_body_part : (a b c : Option (List ℕ)) (text : List ℕ) (m n : ℕ) → Consumes a b (text ++ 10 ∷ [])
+stops_body_part : (a b c : InputStream) (text : List ℕ) (m n : ℕ) → Gives a b (text ++ 10 ∷ [])
     → IsLine (line.Request m n) text → TakesPart b c (HasNoBody n) → TakesPart a c HasNoEvent
 stops_body_part a b c text m n consumed says (part, taken, none) = (
   (text ++ 10 ∷ []) ++ part,
-  consumes_consumes a b c (text ++ 10 ∷ []) part consumed taken,
+  consumes_consumes a.held b.held c.held (text ++ 10 ∷ []) part consumed taken,
   no_bytes_alone text part m n says none,
 )
 
-pub stops_body : (a b c : Option (List ℕ)) (text : List ℕ) (m n : ℕ) (fault : ScriptFault) (failed : Bool)
-    (reads limit : ℕ) → Consumes a b (text ++ 10 ∷ []) → IsLine (line.Request m n) text →
-    StopsBody n b fault failed reads limit × TakesPart b c (HasNoBody n) → StopsEvent a fault failed reads limit
-    × TakesPart a c HasNoEvent
-stops_body a b c text m n Read failed reads limit consumed line (stops, taken) =
+pub stops_body : (a b c : InputStream) (text : List ℕ) (m n : ℕ) (fault : ScriptFault) (limit : ℕ) → Gives a b (text ++ 10 ∷ [])
+    → IsLine (line.Request m n) text → StopsBody n b fault c limit × TakesPart b c (HasNoBody n)
+    → StopsEvent a fault c limit × TakesPart a c HasNoEvent
+stops_body a b c text m n Read limit consumed line (stops, taken) =
     (stops, stops_body_part a b c text m n consumed line taken)
-stops_body a b c text m n Write failed reads limit consumed line (stops, taken) = absurd stops
-stops_body a b c text m n Syntax failed reads limit consumed line (stops, taken) =
-    ((stops.0, no_body_said a b text m n consumed line stops.1), stops_body_part a b c text m n consumed line taken)
-stops_body a b c text m n Limit failed reads limit consumed line (stops, taken) =
+stops_body a b c text m n Write limit consumed line (stops, taken) = absurd stops
+stops_body a b c text m n Syntax limit consumed line (stops, taken) = (
+  (stops.0, no_body_said a.held b.held text m n consumed line stops.1),
+  stops_body_part a b c text m n consumed line taken,
+)
+stops_body a b c text m n Limit limit consumed line (stops, taken) =
     (stops, stops_body_part a b c text m n consumed line taken)
-stops_body a b c text m n Memory failed reads limit consumed line (stops, taken) =
+stops_body a b c text m n Memory limit consumed line (stops, taken) =
     (stops, stops_body_part a b c text m n consumed line taken)

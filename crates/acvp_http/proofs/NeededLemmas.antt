@@ -21,8 +21,9 @@ use Rattle.acvp_http.specs.Needed.{IsNeeded, IsNeededAt, NeedsBody, needed_size,
 use Rattle.acvp_http.specs.Private.Receiving.{IsHeadTaken, IsBodyTaken}
 use Rattle.acvp_http.specs.Reply.{refusal, IsDateOf}
 use Rattle.acvp_http.specs.Serve.{IsRefused, RefusesAtOnce, RequestTaken, Takes}
+use Rattle.acvp_http.specs.Source.{InputStream, Gives}
 use Rattle.acvp_http.proofs.AsksLemmas.{end_or_none, end_unique}
-use Rattle.acvp_http.proofs.KnownLemmas.{consumes_consumes}
+use Rattle.acvp_http.proofs.KnownLemmas.{consumes_consumes, consumes_nothing}
 
 -- ---- the framing
 
@@ -260,18 +261,28 @@ module _ {T : Type 0} (stands : T → Content → Type 0) (is_live : T → Type 
 -- ---- what a connection is answered
 
 module _ {T : Type 0} (stands : T → Content → Type 0) (is_live : T → Type 0) (keys : Keys) (m : ℕ) (reply : List ℕ) (old new : T) where
-  -- at a moment that isn't served nothing is needed
-  pub answers_late : (input : Option (List ℕ)) → end_of_moments ≤ m → RequestTaken stands is_live keys m [] reply old new
-      → AnswersInput stands is_live keys m input input reply old new
-  answers_late None late taken = inl ([], tt, taken, tt)
-  answers_late (Some bytes) late taken =
-      let needed : IsNeededAt m bytes [] = rw (le-ltb m end_of_moments late) refl in
-      inl ([], refl, taken, (needed, taken_needed stands is_live keys m bytes [] reply old new needed taken))
+  abbrev IsAnsweredBy : Option (List ℕ) → List ℕ → Type 0
+  IsAnsweredBy held front = IfSome held (λ bytes. IsNeededAt m bytes front × RequestTaken stands is_live keys m bytes reply old new)
 
-  pub answers_early : (input left : Option (List ℕ)) (front : List ℕ) → m < end_of_moments → Consumes input left front
-      → IfSome input (λ bytes. IsNeeded bytes front) → RequestTaken stands is_live keys m front reply old new
-      → AnswersInput stands is_live keys m input left reply old new
-  answers_early None left front early consumed needed taken = inl (front, consumed, taken, tt)
-  answers_early (Some bytes) left front early consumed needed taken =
+  late_by : (held : Option (List ℕ)) → end_of_moments ≤ m → RequestTaken stands is_live keys m [] reply old new → IsAnsweredBy held []
+  late_by None late taken = tt
+  late_by (Some bytes) late taken =
+      let needed : IsNeededAt m bytes [] = rw (le-ltb m end_of_moments late) refl in
+      (needed, taken_needed stands is_live keys m bytes [] reply old new needed taken)
+
+  -- at a moment that isn't served nothing is needed
+  pub answers_late : (input : InputStream) → end_of_moments ≤ m → RequestTaken stands is_live keys m [] reply old new
+      → AnswersInput stands is_live keys m input input reply old new
+  answers_late input late taken = inl ([], consumes_nothing input.held, taken, late_by input.held late taken)
+
+  early_by : (held : Option (List ℕ)) (front : List ℕ) → m < end_of_moments → IfSome held (λ bytes. IsNeeded bytes front)
+      → RequestTaken stands is_live keys m front reply old new → IsAnsweredBy held front
+  early_by None front early needed taken = tt
+  early_by (Some bytes) front early needed taken =
       let needed_then : IsNeededAt m bytes front = rw (lt-ltb m end_of_moments early) needed in
-      inl (front, consumed, taken, (needed_then, taken_needed stands is_live keys m bytes front reply old new needed_then taken))
+      (needed_then, taken_needed stands is_live keys m bytes front reply old new needed_then taken)
+
+  pub answers_early : (input left : InputStream) (front : List ℕ) → m < end_of_moments → Gives input left front
+      → IfSome input.held (λ bytes. IsNeeded bytes front) → RequestTaken stands is_live keys m front reply old new
+      → AnswersInput stands is_live keys m input left reply old new
+  answers_early input left front early consumed needed taken = inl (front, consumed, taken, early_by input.held front early needed taken)

@@ -1,19 +1,20 @@
 -- Lemmas on taking the bytes of a head one after another.
 use Rattle.std.proofs.Common.{◌≡◌, ◌<◌, ℕ, ◌+◌, List, [], ◌∷◌, ◌++◌, length, take, Bool, true, false, Option, ap, sym, ◌∙◌, arith, below_more, length-append, take_all}
-use Rattle.std.specs.Io.KnownBytes.{Consumes}
 use Rattle.std.proofs.lemmas.List.{take-append-le}
 use Rattle.acvp_http.specs.Asks.{ends_empty}
+use Rattle.acvp_http.specs.Source.{InputStream, Gives}
 use Rattle.acvp_http.specs.declared.script.ScriptFault.{ScriptFault}
 use Rattle.acvp_http.specs.Private.Receiving.{StopsReceiving, TakesSome, TakesByte, IsHeadTaken}
 use Rattle.acvp_http.proofs.KnownLemmas.{consumes_consumes}
 
 -- what was taken before the stop, and then
-pub stops_after : (a b c : Option (List ℕ)) (text : List ℕ) (fault : ScriptFault) (failed : Bool) (reads limit : ℕ) → Consumes a b text
-    → StopsReceiving fault failed reads limit × TakesSome b c → StopsReceiving fault failed reads limit × TakesSome a c
-stops_after a b c text fault failed reads limit taken (stops, (more, took)) = (stops, (text ++ more, consumes_consumes a b c text more taken took))
+pub stops_after : (a b c : InputStream) (text : List ℕ) (fault : ScriptFault) (limit : ℕ) → Gives a b text
+    → StopsReceiving fault c limit × TakesSome b c → StopsReceiving fault c limit × TakesSome a c
+stops_after a b c text fault limit taken (stops, (more, took)) =
+    (stops, (text ++ more, consumes_consumes a.held b.held c.held text more taken took))
 
-pub byte_taken : (more : Bool) (old new : Option (List ℕ)) (before after : List ℕ) → more ≡ true → TakesByte more old new before after
-    → (byte : ℕ) × (after ≡ before ++ byte ∷ []) × Consumes old new (byte ∷ [])
+pub byte_taken : (more : Bool) (old new : InputStream) (before after : List ℕ) → more ≡ true → TakesByte more old new before after
+    → (byte : ℕ) × (after ≡ before ++ byte ∷ []) × Gives old new (byte ∷ [])
 byte_taken true old new before after is takes = takes
 byte_taken false old new before after is takes = absurd (cc)
 

@@ -15,7 +15,7 @@ use Rattle.acvp_http.specs.Private.Turns.{CanHappen}
 use Rattle.acvp_http.specs.Script.{IsScript, IsWritten, IsAccountNumber, HasNoEvent, answer_text, output_of}
 use Rattle.acvp_http.specs.Serve.{GoesByTurn, GoesByTurns, GoesThrough}
 use Rattle.acvp_http.specs.Private.Reading.{TakesPart, StopsReading}
-use Rattle.acvp_http.specs.Private.Writing.{AppendsFront}
+use Rattle.acvp_http.specs.Source.{InputStream, OutputStream, Gives, Gets, GetsFront}
 use Rattle.acvp_http.specs.Run.{events_of, most_reads, BeginsWith, TakesInPart, StopsAfter, WritesAnswers, RunsScript}
 use Rattle.acvp_http.proofs.KnownLemmas.{consumes_consumes, consumes_nothing}
 use Rattle.acvp_http.proofs.WritingLemmas.{appends_appends}
@@ -90,18 +90,18 @@ module _ {T : Type 0} (stands : T → Content → Type 0) (is_live : T → Type 
 
 -- what a run over tables has done after so many turns
 module _ {T : Type 0} (stands : T → Content → Type 0) (is_live : T → Type 0) (keys : Keys) (start : T) where
-  pub record Ran (now : T) (input left old new : Option (List ℕ)) (count : ℕ) : Type 0 where
+  pub record Ran (now : T) (input left : InputStream) (old new : OutputStream) (count : ℕ) : Type 0 where
     pub turns : List Turn
     pub answers : List Answer
     pub text : List ℕ
     pub runs : GoesThrough stands is_live keys turns answers start now
     pub script : IsScript (events_of turns) text
     pub size : length turns ≡ count
-    pub consumed : Consumes input left text
-    pub appended : Appends old new (output_of answers)
+    pub consumed : Gives input left text
+    pub appended : Gets old new (output_of answers)
 
   -- before the first turn
-  pub ran_none : (input old : Option (List ℕ)) → Ran start input input old old 0
+  pub ran_none : (input : InputStream) (old : OutputStream) → Ran start input input old old 0
   ran_none input old = record {
     turns = [];
     answers = [];
@@ -109,14 +109,14 @@ module _ {T : Type 0} (stands : T → Content → Type 0) (is_live : T → Type 
     runs = refl;
     script = refl;
     size = refl;
-    consumed = consumes_nothing input;
-    appended = appends_nothing old;
+    consumed = consumes_nothing input.held;
+    appended = appends_nothing old.contents;
   }
 
-  module _ (mid now : T) (input left left' old new new' : Option (List ℕ)) (turn : Turn) (answer : Answer) (front : List ℕ) where
+  module _ (mid now : T) (input left left' : InputStream) (old new new' : OutputStream) (turn : Turn) (answer : Answer) (front : List ℕ) where
     -- one turn more
     pub ran_more : (count : ℕ) → Ran mid input left old new count → (is_live now → is_live mid) → IsWritten turn.event front
-        → Consumes left left' front → GoesByTurn stands is_live keys turn answer mid now → Appends new new' (answer_text answer)
+        → Gives left left' front → GoesByTurn stands is_live keys turn answer mid now → Gets new new' (answer_text answer)
         → Ran now input left' old new' (count + 1)
     ran_more count ran was_live written consumed takes appended =
         record {
@@ -127,49 +127,49 @@ module _ {T : Type 0} (stands : T → Content → Type 0) (is_live : T → Type 
           script = rw (events_more ran.turns turn)
               (script_more (events_of ran.turns) ran.text front turn.event ran.script written);
           size = omega (arith, length-append ran.turns (turn ∷ []), ran.size);
-          consumed = consumes_consumes input left left' ran.text front ran.consumed consumed;
-          appended = rw (output_more ran.answers answer) (appends_appends old new new' (output_of ran.answers)
+          consumed = consumes_consumes input.held left.held left'.held ran.text front ran.consumed consumed;
+          appended = rw (output_more ran.answers answer) (appends_appends old.contents new.contents new'.contents (output_of ran.answers)
               (answer_text answer) ran.appended appended);
         }
 
     -- the writer fails in a turn's answer
-    pub ran_writes : (before after count : ℕ) (fault : ScriptFault) → Ran mid input left old new count → count < 100000 → (is_live now → is_live mid)
-        → IsWritten turn.event front → Consumes left left' front → GoesByTurn stands is_live keys turn answer mid now → fault ≡ Write
-        → AppendsFront new new' (answer_text answer) → RunsScript stands is_live keys start now input left' before after old new' (Err fault)
-    ran_writes before after count fault ran few was_live written consumed takes is (begun, rest, parts, appended) =
-        let result : RunsScript stands is_live keys start now input left' before after old new' (Err Write) = (
+    pub ran_writes : (count : ℕ) (fault : ScriptFault) → Ran mid input left old new count → count < 100000 → (is_live now → is_live mid)
+        → IsWritten turn.event front → Gives left left' front → GoesByTurn stands is_live keys turn answer mid now → fault ≡ Write
+        → GetsFront new new' (answer_text answer) → RunsScript stands is_live keys start now input left' old new' (Err fault)
+    ran_writes count fault ran few was_live written consumed takes is (begun, rest, parts, appended) =
+        let result : RunsScript stands is_live keys start now input left' old new' (Err Write) = (
           ran.turns ++ turn ∷ [],
           ran.answers ++ answer ∷ [],
           ran.text ++ front,
           through_more stands is_live keys ran.turns ran.answers start mid now turn answer ran.runs was_live takes,
           rw (events_more ran.turns turn) (script_more (events_of ran.turns) ran.text front turn.event ran.script written),
-          consumes_consumes input left left' ran.text front ran.consumed consumed,
+          consumes_consumes input.held left.held left'.held ran.text front ran.consumed consumed,
           (
             ran.answers,
             answer,
             refl,
-            (begun, rest, parts, appends_appends old new new' (output_of ran.answers) begun ran.appended appended),
+            (begun, rest, parts, appends_appends old.contents new.contents new'.contents (output_of ran.answers) begun ran.appended appended),
           ),
           omega (arith, length-append ran.turns (turn ∷ []), ran.size),
         ) in
         rw is result
 
 -- what was taken behind the turns holds no whole event
-pub in_part : (input left left' : Option (List ℕ)) (text : List ℕ) → Consumes input left text → TakesPart left left' HasNoEvent
+pub in_part : (input left left' : InputStream) (text : List ℕ) → Gives input left text → TakesPart left left' HasNoEvent
     → TakesInPart input left' text
-in_part input left left' text consumed (part, taken, none) = (part, none, consumes_consumes input left left' text part consumed taken)
+in_part input left left' text consumed (part, taken, none) = (part, none, consumes_consumes input.held left.held left'.held text part consumed taken)
 
 -- the byte behind the last turn isn't read: a read has failed, or there were too many
-pub stopped_at_last : (fault : ScriptFault) (failed : Bool) (before after limit : ℕ) (input left old new : Option (List ℕ)) (turns : List Turn)
-    (answers : List Answer) (text : List ℕ) → StopsReading fault failed after limit → limit ≡ min (before + most_reads) (2 ^ 64 - 1)
-    → TakesInPart input left text → Appends old new (output_of answers)
-    → StopsAfter input left before after turns text (Err fault) × WritesAnswers old new answers (Err fault)
-stopped_at_last Read failed before after limit input left old new turns answers text stops at part appended = (part, appended)
-stopped_at_last Write failed before after limit input left old new turns answers text stops at part appended = absurd stops
-stopped_at_last Syntax failed before after limit input left old new turns answers text stops at part appended = absurd stops
-stopped_at_last Limit failed before after limit input left old new turns answers text stops at part appended =
-    ((part, inr (subst (λ (n : ℕ). n ≤ after) at stops.1)), appended)
-stopped_at_last Memory failed before after limit input left old new turns answers text stops at part appended = absurd stops
+pub stopped_at_last : (fault : ScriptFault) (limit : ℕ) (input left : InputStream) (old new : OutputStream) (turns : List Turn)
+    (answers : List Answer) (text : List ℕ) → StopsReading fault left limit → limit ≡ min (input.reads + most_reads) (2 ^ 64 - 1)
+    → TakesInPart input left text → Gets old new (output_of answers)
+    → StopsAfter input left turns text (Err fault) × WritesAnswers old new answers (Err fault)
+stopped_at_last Read limit input left old new turns answers text stops at part appended = (part, appended)
+stopped_at_last Write limit input left old new turns answers text stops at part appended = absurd stops
+stopped_at_last Syntax limit input left old new turns answers text stops at part appended = absurd stops
+stopped_at_last Limit limit input left old new turns answers text stops at part appended =
+    ((part, inr (subst (λ (n : ℕ). n ≤ left.reads) at stops.1)), appended)
+stopped_at_last Memory limit input left old new turns answers text stops at part appended = absurd stops
 
 -- one byte more stands behind the script
 pub goes_on : (input left left' : Option (List ℕ)) (text : List ℕ) (byte : ℕ) → Consumes input left text

@@ -6,7 +6,8 @@ use Rattle.std.specs.Io.KnownBytes.{Appends, Keeps}
 use Rattle.acvp_http.specs.Event.{replied}
 use Rattle.acvp_http.specs.Script.{answer_text}
 use Rattle.acvp_http.specs.declared.script.ScriptFault.TheVariants.{Write}
-use Rattle.acvp_http.specs.Private.Writing.{AppendsFront, WritesText}
+use Rattle.acvp_http.specs.Private.Writing.{WritesText}
+use Rattle.acvp_http.specs.Source.{OutputStream, Gets, GetsFront}
 use Rattle.acvp_http.specs.declared.script.ScriptFault.{ScriptFault}
 
 -- known bytes that grow twice
@@ -23,16 +24,15 @@ appends_keeps (Some xs) None c x first second = absurd first
 appends_keeps (Some xs) (Some ys) None x first second = absurd second
 appends_keeps (Some xs) (Some ys) (Some zs) x first second = second ∙ first
 
-pub appends_front : (a b c : Option (List ℕ)) (x y : List ℕ) → Appends a b x → AppendsFront b c y
-    → AppendsFront a c (x ++ y)
-appends_front a b c x y first (front, rest, is, second) = (
+pub gets_front : (a b c : OutputStream) (x y : List ℕ) → Gets a b x → GetsFront b c y → GetsFront a c (x ++ y)
+gets_front a b c x y first (front, rest, is, second) = (
   x ++ front,
   rest,
   ap (λ tail. x ++ tail) is ∙ sym (append_assoc x front rest),
-  appends_appends a b c x front first second,
+  appends_appends a.contents b.contents c.contents x front first second,
 )
 
-pub front_more : (a b : Option (List ℕ)) (x y : List ℕ) → AppendsFront a b x → AppendsFront a b (x ++ y)
+pub front_more : (a b : OutputStream) (x y : List ℕ) → GetsFront a b x → GetsFront a b (x ++ y)
 front_more a b x y (front, rest, is, appended) =
     (front, rest ++ y, ap (λ whole. whole ++ y) is ∙ append_assoc front rest y, appended)
 
@@ -63,42 +63,39 @@ wrote_more a b c bs k n low first bound second =
     )
 
 -- the writer stopped after k bytes
-pub stopped_after : (a b c : Option (List ℕ)) (bs : List ℕ) (k : ℕ) → Appends a b (take k bs) → Keeps b c
-    → AppendsFront a c bs
+pub stopped_after : (a b c : OutputStream) (bs : List ℕ) (k : ℕ) → Gets a b (take k bs) → Keeps b.contents c.contents
+    → GetsFront a c bs
 stopped_after a b c bs k first second =
-    (take k bs, drop k bs, sym (take-append-drop k bs), appends_keeps a b c (take k bs) first second)
+    (take k bs, drop k bs, sym (take-append-drop k bs), appends_keeps a.contents b.contents c.contents (take k bs) first second)
 
-pub stopped_zero : (a b c : Option (List ℕ)) (bs rest : List ℕ) (k n : ℕ) → Appends a b (take k bs) → n ≡ 0
-    → Appends b c (take n rest) → AppendsFront a c bs
+pub stopped_zero : (a b c : OutputStream) (bs rest : List ℕ) (k n : ℕ) → Gets a b (take k bs) → n ≡ 0
+    → Gets b c (take n rest) → GetsFront a c bs
 stopped_zero a b c bs rest k n first none second =
-    let nothing : Appends b c [] = rw none at second in
-    let same : Appends a c (take k bs ++ []) = appends_appends a b c (take k bs) [] first nothing in
+    let nothing : Gets b c [] = rw none at second in
+    let same : Gets a c (take k bs ++ []) = appends_appends a.contents b.contents c.contents (take k bs) [] first nothing in
     (take k bs, drop k bs, sym (take-append-drop k bs), rw append-nil at same)
 
 -- a text is written, and then another is tried
-pub writes_after : {T : Type 0} (a b c : Option (List ℕ)) (x y : List ℕ) (failed : Bool) (r : Result T ScriptFault)
-    → Appends a b x → WritesText b c failed y r → WritesText a c failed (x ++ y) r
-writes_after a b c x y failed (Ok u) first second = (second.0, appends_appends a b c x y first second.1)
-writes_after a b c x y failed (Err fault) first second = (second.0, second.1, appends_front a b c x y first second.2)
+pub writes_after : {T : Type 0} (a b c : OutputStream) (x y : List ℕ) (r : Result T ScriptFault)
+    → Gets a b x → WritesText b c y r → WritesText a c (x ++ y) r
+writes_after a b c x y (Ok u) first second = (second.0, appends_appends a.contents b.contents c.contents x y first second.1)
+writes_after a b c x y (Err fault) first second = (second.0, second.1, gets_front a b c x y first second.2)
 
-pub stopped_before : (a b : Option (List ℕ)) (x y : List ℕ) (failed : Bool) (fault : ScriptFault) → (fault ≡ Write)
-    × (failed ≡ true) × AppendsFront a b x → (fault ≡ Write) × (failed ≡ true) × AppendsFront a b (x ++ y)
-stopped_before a b x y failed fault stops = (stops.0, stops.1, front_more a b x y stops.2)
+pub stopped_before : (a b : OutputStream) (x y : List ℕ) (fault : ScriptFault) → (fault ≡ Write)
+    × (b.failed ≡ true) × GetsFront a b x → (fault ≡ Write) × (b.failed ≡ true) × GetsFront a b (x ++ y)
+stopped_before a b x y fault stops = (stops.0, stops.1, front_more a b x y stops.2)
 
 -- the writer stopped before the last line feed of a reply's text
-pub reply_stopped : (a b : Option (List ℕ)) (line bytes : List ℕ) (failed : Bool) (fault : ScriptFault)
+pub reply_stopped : (a b : OutputStream) (line bytes : List ℕ) (fault : ScriptFault)
     → line ≡ codes "reply " ++ decimal (length bytes) ++ codes "\n" →
-    (fault ≡ Write) × (failed ≡ true) × AppendsFront a b (line ++ bytes) → (fault ≡ Write) × (failed ≡ true)
-    × AppendsFront a b (answer_text (replied bytes))
-reply_stopped a b line bytes failed fault is stops =
-    stopped_before a b (codes "reply " ++ decimal (length bytes) ++ codes "\n" ++ bytes) (codes "\n") failed fault
-    (rw is at stops)
+    (fault ≡ Write) × (b.failed ≡ true) × GetsFront a b (line ++ bytes) → (fault ≡ Write) × (b.failed ≡ true)
+    × GetsFront a b (answer_text (replied bytes))
+reply_stopped a b line bytes fault is stops =
+    stopped_before a b (codes "reply " ++ decimal (length bytes) ++ codes "\n" ++ bytes) (codes "\n") fault (rw is at stops)
 
 -- the last line feed of a reply's text
-pub reply_written : {T : Type 0} (a b c : Option (List ℕ)) (line bytes : List ℕ) (failed : Bool)
-    (r : Result T ScriptFault) → line ≡ codes "reply " ++ decimal (length bytes) ++ codes "\n" →
-    Appends a b (line ++ bytes) → WritesText b c failed (codes "\n") r
-    → WritesText a c failed (answer_text (replied bytes)) r
-reply_written a b c line bytes failed r is first last =
-    writes_after a b c (codes "reply " ++ decimal (length bytes) ++ codes "\n" ++ bytes) (codes "\n") failed r
-    (rw is at first) last
+pub reply_written : {T : Type 0} (a b c : OutputStream) (line bytes : List ℕ) (r : Result T ScriptFault)
+    → line ≡ codes "reply " ++ decimal (length bytes) ++ codes "\n" → Gets a b (line ++ bytes) → WritesText b c (codes "\n") r
+    → WritesText a c (answer_text (replied bytes)) r
+reply_written a b c line bytes r is first last =
+    writes_after a b c (codes "reply " ++ decimal (length bytes) ++ codes "\n" ++ bytes) (codes "\n") r (rw is at first) last

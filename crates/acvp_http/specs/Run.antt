@@ -1,6 +1,6 @@
 -- The run of a script: what it makes of the records and of the input, and what it writes.
 use Rattle.std.specs.Prelude.{◌≡◌, ◌≢◌, ◌⊎◌, ◌≤◌, ◌<◌, ℕ, List, [], ◌∷◌, ◌++◌, length, map, Bool, true, false, Option, None, Some, Result, Ok, Err, ⊤}
-use Rattle.std.specs.Io.KnownBytes.{Appends, Consumes, IsAtEnd}
+use Rattle.std.specs.Io.KnownBytes.{IsAtEnd}
 use Rattle.acvp_desk.specs.declared.keys.Keys.{Keys}
 use Rattle.acvp_tables.specs.Content.{Content}
 use Rattle.acvp_http.specs.declared.script.ScriptFault.{ScriptFault}
@@ -8,7 +8,7 @@ use Rattle.acvp_http.specs.declared.script.ScriptFault.TheVariants.{Read, Write,
 use Rattle.acvp_http.specs.Event.{Event, Answer, Turn}
 use Rattle.acvp_http.specs.Script.{IsScript, HasNoEvent, LeavesGrammar, answer_text, output_of}
 use Rattle.acvp_http.specs.Serve.{GoesThrough}
-use Rattle.acvp_http.specs.Source.{ReadsTooOften}
+use Rattle.acvp_http.specs.Source.{InputStream, OutputStream, Gives, Gets, ReadsTooOften}
 
 -- the events of the turns
 abbrev pub events_of : List Turn → List Event
@@ -19,9 +19,9 @@ abbrev pub BeginsWith : Option (List ℕ) → List ℕ → (List ℕ → Type 0)
 BeginsWith None text After = ⊤
 BeginsWith (Some input) text After = (rest : List ℕ) × (input ≡ text ++ rest) × After rest
 
--- What was taken of the known input behind the text has no whole event at its front.
-abbrev pub TakesInPart : Option (List ℕ) → Option (List ℕ) → List ℕ → Type 0
-TakesInPart input left text = (part : List ℕ) × HasNoEvent part × Consumes input left (text ++ part)
+-- What was taken of the input behind the text has no whole event at its front.
+abbrev pub TakesInPart : InputStream → InputStream → List ℕ → Type 0
+TakesInPart input left text = (part : List ℕ) × HasNoEvent part × Gives input left (text ++ part)
 
 -- the most events of a run, and the most reads
 abbrev pub most_events : ℕ
@@ -32,49 +32,45 @@ most_reads = 1000000000
 
 -- The two reasons for Limit: there were 100000 turns, and the known input goes on after their script; or the reads were
 -- too many.
-abbrev pub ReachesLimit : Option (List ℕ) → ℕ → ℕ → List Turn → List ℕ → Type 0
-ReachesLimit input before after turns text =
-    ((length turns ≡ most_events) × BeginsWith input text (λ rest. rest ≢ [])) ⊎ ReadsTooOften most_reads before after
+abbrev pub ReachesLimit : InputStream → InputStream → List Turn → List ℕ → Type 0
+ReachesLimit input left turns text =
+    ((length turns ≡ most_events) × BeginsWith input.held text (λ rest. rest ≢ [])) ⊎ ReadsTooOften most_reads input left
 
 -- How much of the input was taken by a run whose turns have this script, what comes after the script, and how many
--- turns there are: after 100000 events nothing is read as an event. The reader was read so often before the run and
--- after it.
-abbrev pub StopsAfter : Option (List ℕ) → Option (List ℕ) → ℕ → ℕ → List Turn → List ℕ → Result ℕ ScriptFault → Type 0
-StopsAfter input left before after turns text (Ok count) = (count ≡ length turns) × Consumes input left text
-    × IsAtEnd left
-StopsAfter input left before after turns text (Err Syntax) =
-    (length turns < most_events) × TakesInPart input left text × BeginsWith input text LeavesGrammar
-StopsAfter input left before after turns text (Err Read) = TakesInPart input left text
-StopsAfter input left before after turns text (Err Write) = Consumes input left text
-StopsAfter input left before after turns text (Err Limit) = TakesInPart input left text
-    × ReachesLimit input before after turns text
-StopsAfter input left before after turns text (Err Memory) = (length turns < most_events) × TakesInPart input left text
+-- turns there are: after 100000 events nothing is read as an event.
+abbrev pub StopsAfter : InputStream → InputStream → List Turn → List ℕ → Result ℕ ScriptFault → Type 0
+StopsAfter input left turns text (Ok count) = (count ≡ length turns) × Gives input left text × IsAtEnd left.held
+StopsAfter input left turns text (Err Syntax) =
+    (length turns < most_events) × TakesInPart input left text × BeginsWith input.held text LeavesGrammar
+StopsAfter input left turns text (Err Read) = TakesInPart input left text
+StopsAfter input left turns text (Err Write) = Gives input left text
+StopsAfter input left turns text (Err Limit) = TakesInPart input left text × ReachesLimit input left turns text
+StopsAfter input left turns text (Err Memory) = (length turns < most_events) × TakesInPart input left text
 
 -- the output of all answers but the last, and a front of the last one's
-abbrev pub WritesInPart : Option (List ℕ) → Option (List ℕ) → List Answer → Type 0
+abbrev pub WritesInPart : OutputStream → OutputStream → List Answer → Type 0
 WritesInPart old new answers =
     (earlier : List Answer) × (last : Answer) × (answers ≡ earlier ++ last ∷ [])
     × ((front : List ℕ) × (rest : List ℕ) × (answer_text last ≡ front ++ rest)
-    × Appends old new (output_of earlier ++ front))
+    × Gets old new (output_of earlier ++ front))
 
 -- what is written of the answers
-abbrev pub WritesAnswers : Option (List ℕ) → Option (List ℕ) → List Answer → Result ℕ ScriptFault → Type 0
-WritesAnswers old new answers (Ok count) = Appends old new (output_of answers)
+abbrev pub WritesAnswers : OutputStream → OutputStream → List Answer → Result ℕ ScriptFault → Type 0
+WritesAnswers old new answers (Ok count) = Gets old new (output_of answers)
 WritesAnswers old new answers (Err Write) = WritesInPart old new answers
-WritesAnswers old new answers (Err Read) = Appends old new (output_of answers)
-WritesAnswers old new answers (Err Syntax) = Appends old new (output_of answers)
-WritesAnswers old new answers (Err Limit) = Appends old new (output_of answers)
-WritesAnswers old new answers (Err Memory) = Appends old new (output_of answers)
+WritesAnswers old new answers (Err Read) = Gets old new (output_of answers)
+WritesAnswers old new answers (Err Syntax) = Gets old new (output_of answers)
+WritesAnswers old new answers (Err Limit) = Gets old new (output_of answers)
+WritesAnswers old new answers (Err Memory) = Gets old new (output_of answers)
 
 -- The input begins with the script of some turns, which the tables went through and whose answers are written; `left` is what
--- was not taken of it, and the reader was read so often before the run and after it.
+-- was not taken of it.
 module _ {T : Type 0} (stands : T → Content → Type 0) (is_live : T → Type 0) where
-  abbrev pub RunsScript : Keys → T → T → Option (List ℕ) → Option (List ℕ) → ℕ → ℕ → Option (List ℕ)
-      → Option (List ℕ) → Result ℕ ScriptFault → Type 0
-  RunsScript keys tables last input left before after old new result =
+  abbrev pub RunsScript : Keys → T → T → InputStream → InputStream → OutputStream → OutputStream → Result ℕ ScriptFault → Type 0
+  RunsScript keys tables last input left old new result =
       (turns : List Turn) × (answers : List Answer) × (text : List ℕ)
       × GoesThrough stands is_live keys turns answers tables last × IsScript (events_of turns) text
-      × StopsAfter input left before after turns text result × WritesAnswers old new answers result
+      × StopsAfter input left turns text result × WritesAnswers old new answers result
       × (length turns ≤ most_events)
 
 -- whether the answer is that the reader, or the writer, has failed

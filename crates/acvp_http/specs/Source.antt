@@ -1,10 +1,35 @@
 -- Readers and writers that remember whether they have failed.
-use Rattle.std.specs.Prelude.{ℕ, ◌+◌, ◌-◌, ◌^◌, ◌≤◌, min, List, Bool, Result, true, false, Ok, Err, not, ◌&&◌, ◌==◌, nat_lt, length}
+use Rattle.std.specs.Prelude.{◌≡◌, ℕ, ◌+◌, ◌-◌, ◌^◌, ◌≤◌, min, List, ◌++◌, Option, Bool, Result, true, false, Ok, Err, not, ◌&&◌, ◌==◌, nat_lt, length}
+use Rattle.std.specs.Io.KnownBytes.{Appends, Consumes}
 use Rattle.std.specs.IoError.{error_kind}
 use Rattle.std.specs.declared.io.Error.{Error}
 use Rattle.std.specs.declared.io.ErrorKind.{ErrorKind}
 use Rattle.std.specs.declared.io.ErrorKind.TheVariants.{Interrupted}
 use Rattle.acvp_http.specs.declared.source.Flagged.{Flagged}
+
+-- What contracts see of a reader: the bytes that reads will give from here on, where they are known; whether a read has
+-- failed; and how many reads it was asked for, as far as they are counted.
+pub record InputStream : Type 0 where
+  pub held : Option (List ℕ)
+  pub failed : Bool
+  pub reads : ℕ
+
+-- What contracts see of a writer: the bytes that are written, where they are known, and whether a write has failed.
+pub record OutputStream : Type 0 where
+  pub contents : Option (List ℕ)
+  pub failed : Bool
+
+-- between the two these bytes were read
+abbrev pub Gives : InputStream → InputStream → List ℕ → Type 0
+Gives old new bytes = Consumes old.held new.held bytes
+
+-- between the two these bytes were written
+abbrev pub Gets : OutputStream → OutputStream → List ℕ → Type 0
+Gets old new bytes = Appends old.contents new.contents bytes
+
+-- some front of these bytes was written
+abbrev pub GetsFront : OutputStream → OutputStream → List ℕ → Type 0
+GetsFront old new bytes = (front : List ℕ) × (rest : List ℕ) × (bytes ≡ front ++ rest) × Gets old new front
 
 -- the call was interrupted, and may be made again
 abbrev pub is_interruption : ErrorKind → Bool
@@ -25,9 +50,9 @@ is_write_fault (Err error) buf = true
 abbrev pub one_more : ℕ → ℕ
 one_more reads = min (reads + 1) (2 ^ 64 - 1)
 
--- the reads between these two counts are as many as there may be, or more than are counted
-abbrev pub ReadsTooOften : ℕ → ℕ → ℕ → Type 0
-ReadsTooOften most before after = min (before + most) (2 ^ 64 - 1) ≤ after
+-- between the two there were as many reads as there may be, or more than are counted
+abbrev pub ReadsTooOften : ℕ → InputStream → InputStream → Type 0
+ReadsTooOften most old new = min (old.reads + most) (2 ^ 64 - 1) ≤ new.reads
 
 -- the reader or the writer itself
 abbrev pub flagged_inner : {T : Type 0} → Flagged T → T

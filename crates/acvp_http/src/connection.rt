@@ -37,15 +37,15 @@ fn answer_input<T: Tables, S: Source>(
     reader: &mut S,
     moment: u64,
 ) -> Result<Reply, ServeFault>
-    requires { S.failed reader.old ≡ false }
+    requires { (S.stream reader.old).failed ≡ false }
     ensures keys { desk.new.keys ≡ desk.old.keys }
     ensures was_live { T.is_live desk.new.tables → T.is_live desk.old.tables }
     ensures was_clean { T.is_clean desk.new.tables → T.is_clean desk.old.tables }
     ensures answered { MatchResult result
-        (λ reply. (S.failed reader.new ≡ false)
-        × AnswersInput T.stands T.is_live desk.old.keys moment (S.held reader.old) (S.held reader.new) reply desk.old.tables desk.new.tables)
-        (λ fault. StopsConnection fault (S.failed reader.new) (S.reads reader.old) (S.reads reader.new)
-        × (desk.new ≡ desk.old) × TakesSome (S.held reader.old) (S.held reader.new)) }
+        (λ reply. ((S.stream reader.new).failed ≡ false)
+        × AnswersInput T.stands T.is_live desk.old.keys moment (S.stream reader.old) (S.stream reader.new) reply desk.old.tables desk.new.tables)
+        (λ fault. StopsConnection fault (S.stream reader.old) (S.stream reader.new)
+        × (desk.new ≡ desk.old) × TakesSome (S.stream reader.old) (S.stream reader.new)) }
 {
     if moment >= END_OF_MOMENTS {
         return Ok(handle_bytes(routes, desk, moment, b""));
@@ -71,15 +71,15 @@ pub fn serve_one<T: Tables, S: Source, K: Sink>(
     writer: &mut K,
     moment: u64,
 ) -> Result<(), ServeFault>
-    requires reader_clear { S.failed reader.old ≡ false }
-    requires writer_clear { K.failed writer.old ≡ false }
+    requires reader_clear { (S.stream reader.old).failed ≡ false }
+    requires writer_clear { (K.stream writer.old).failed ≡ false }
     ensures keys { desk.new.keys ≡ desk.old.keys }
     ensures was_live { T.is_live desk.new.tables → T.is_live desk.old.tables }
     ensures was_clean { T.is_clean desk.new.tables → T.is_clean desk.old.tables }
-    ensures serves { ServesOne T.stands T.is_live desk.old.keys moment (S.held reader.old) (S.held reader.new) (S.reads reader.old) (S.reads reader.new)
-        (K.contents writer.old) (K.contents writer.new) desk.old.tables desk.new.tables result }
-    ensures read_fault { S.failed reader.new ≡ is_read_end result }
-    ensures write_fault { K.failed writer.new ≡ is_write_end result }
+    ensures serves { ServesOne T.stands T.is_live desk.old.keys moment (S.stream reader.old) (S.stream reader.new) (K.stream writer.old)
+        (K.stream writer.new) desk.old.tables desk.new.tables result }
+    ensures read_fault { (S.stream reader.new).failed ≡ is_read_end result }
+    ensures write_fault { (K.stream writer.new).failed ≡ is_write_end result }
 {
     let reply = answer_input(alloc, routes, desk, reader, moment)?;
     match write_all(writer, reply.bytes()) {

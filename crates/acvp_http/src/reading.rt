@@ -1,10 +1,11 @@
 //! The events of a script, one after another, out of a reader.
 ghost use Rattle.std.specs.Prelude.{◌≡◌, ◌≤◌, ◌<◌, ◌++◌, ◌∷◌, [], ℕ, List, false, length, take, IfNone, MatchResult, MatchOption, vec_len};
 ghost use Rattle.std.specs.Option.{option_to_list};
-ghost use Rattle.std.specs.Io.KnownBytes.{Consumes, IsAtEnd};
+ghost use Rattle.std.specs.Io.KnownBytes.{IsAtEnd};
 ghost use Rattle.acvp_http.specs.Private.Lines.{Lacks};
 ghost use Rattle.acvp_http.specs.Private.Reading.{TakesPart, StopsReading, StopsLine, StopsFilling, HasNoBody, StopsBody, StopsEvent, event_of};
 ghost use Rattle.acvp_http.specs.Script.{IsWritten, HasNoEvent};
+ghost use Rattle.acvp_http.specs.Source.{Gives};
 
 use crate::script::{Line, ScriptFault, read_line};
 use crate::source::{Source, is_interrupted};
@@ -18,13 +19,13 @@ const LONGEST_LINE: usize = 101;
 /// Reads some bytes, which are none only at the end or where there is no room. A read that is interrupted is tried
 /// again, until the reader was read as often as it may be.
 fn read_some<S: Source>(reader: &mut S, limit: u64, buf: &mut [u8]) -> Result<usize, ScriptFault>
-    requires { S.failed reader.old ≡ false }
+    requires { (S.stream reader.old).failed ≡ false }
     ensures { MatchResult result
-        (λ count. (count ≤ length buf.new) × (S.failed reader.new ≡ false)
-        × Consumes (S.held reader.old) (S.held reader.new) (take count buf.new)
-        × (count ≡ 0 → 0 < length buf.new → IsAtEnd (S.held reader.new)))
-        (λ fault. StopsReading fault (S.failed reader.new) (S.reads reader.new) limit
-        × Consumes (S.held reader.old) (S.held reader.new) []) }
+        (λ count. (count ≤ length buf.new) × ((S.stream reader.new).failed ≡ false)
+        × Gives (S.stream reader.old) (S.stream reader.new) (take count buf.new)
+        × (count ≡ 0 → 0 < length buf.new → IsAtEnd (S.stream reader.new).held))
+        (λ fault. StopsReading fault (S.stream reader.new) limit
+        × Gives (S.stream reader.old) (S.stream reader.new) []) }
 {
     while reader.reads() < limit {
         match reader.read(buf) {
@@ -41,13 +42,13 @@ fn read_some<S: Source>(reader: &mut S, limit: u64, buf: &mut [u8]) -> Result<us
 
 /// The next byte, or `None` at the end.
 pub(crate) fn read_byte<S: Source>(reader: &mut S, limit: u64) -> Result<Option<u8>, ScriptFault>
-    requires { S.failed reader.old ≡ false }
+    requires { (S.stream reader.old).failed ≡ false }
     ensures { MatchResult result
-        (λ byte. (S.failed reader.new ≡ false)
-        × Consumes (S.held reader.old) (S.held reader.new) (option_to_list byte)
-        × IfNone byte (IsAtEnd (S.held reader.new)))
-        (λ fault. StopsReading fault (S.failed reader.new) (S.reads reader.new) limit
-        × Consumes (S.held reader.old) (S.held reader.new) []) }
+        (λ byte. ((S.stream reader.new).failed ≡ false)
+        × Gives (S.stream reader.old) (S.stream reader.new) (option_to_list byte)
+        × IfNone byte (IsAtEnd (S.stream reader.new).held))
+        (λ fault. StopsReading fault (S.stream reader.new) limit
+        × Gives (S.stream reader.old) (S.stream reader.new) []) }
 {
     let mut byte = [0];
     if read_some(reader, limit, &mut byte)? == 0 {
@@ -63,15 +64,15 @@ fn read_whole_line<S: Source>(
     limit: u64,
     line: &mut [u8],
 ) -> Result<Option<usize>, ScriptFault>
-    requires clear { S.failed reader.old ≡ false }
+    requires clear { (S.stream reader.old).failed ≡ false }
     requires room { length line.old ≡ 101 }
     ensures { MatchResult result
-        (λ count. (S.failed reader.new ≡ false) × MatchOption count
-        (Consumes (S.held reader.old) (S.held reader.new) [] × IsAtEnd (S.held reader.new))
+        (λ count. ((S.stream reader.new).failed ≡ false) × MatchOption count
+        (Gives (S.stream reader.old) (S.stream reader.new) [] × IsAtEnd (S.stream reader.new).held)
         (λ n. (n ≤ 101) × Lacks 10 (take n line.new)
-        × Consumes (S.held reader.old) (S.held reader.new) (take n line.new ++ 10 ∷ [])))
-        (λ fault. StopsLine (S.held reader.old) fault (S.failed reader.new) (S.reads reader.new) limit
-        × TakesPart (S.held reader.old) (S.held reader.new) (Lacks 10)) }
+        × Gives (S.stream reader.old) (S.stream reader.new) (take n line.new ++ 10 ∷ [])))
+        (λ fault. StopsLine (S.stream reader.old) fault (S.stream reader.new) limit
+        × TakesPart (S.stream reader.old) (S.stream reader.new) (Lacks 10)) }
 {
     for count in 0..LONGEST_LINE {
         match read_byte(reader, limit)? {
@@ -90,12 +91,11 @@ fn read_whole_line<S: Source>(
 
 /// Fills the buffer.
 fn fill<S: Source>(reader: &mut S, limit: u64, buf: &mut [u8]) -> Result<(), ScriptFault>
-    requires { S.failed reader.old ≡ false }
+    requires { (S.stream reader.old).failed ≡ false }
     ensures { MatchResult result
-        (λ _. (S.failed reader.new ≡ false) × Consumes (S.held reader.old) (S.held reader.new) buf.new)
-        (λ fault. StopsFilling (length buf.old) (S.held reader.old) fault (S.failed reader.new)
-        (S.reads reader.new) limit
-        × TakesPart (S.held reader.old) (S.held reader.new) (λ part. length part < length buf.old)) }
+        (λ _. ((S.stream reader.new).failed ≡ false) × Gives (S.stream reader.old) (S.stream reader.new) buf.new)
+        (λ fault. StopsFilling (length buf.old) (S.stream reader.old) fault (S.stream reader.new) limit
+        × TakesPart (S.stream reader.old) (S.stream reader.new) (λ part. length part < length buf.old)) }
 {
     let mut filled = 0;
     while filled < buf.len() {
@@ -114,12 +114,12 @@ fn read_request_bytes<S: Source>(
     limit: u64,
     length: u64,
 ) -> Result<Vec<u8>, ScriptFault>
-    requires { S.failed reader.old ≡ false }
+    requires { (S.stream reader.old).failed ≡ false }
     ensures { MatchResult result
-        (λ bytes. (S.failed reader.new ≡ false) × (vec_len bytes ≡ length)
-        × Consumes (S.held reader.old) (S.held reader.new) (bytes.items ++ 10 ∷ []))
-        (λ fault. StopsBody length (S.held reader.old) fault (S.failed reader.new) (S.reads reader.new) limit
-        × TakesPart (S.held reader.old) (S.held reader.new) (HasNoBody length)) }
+        (λ bytes. ((S.stream reader.new).failed ≡ false) × (vec_len bytes ≡ length)
+        × Gives (S.stream reader.old) (S.stream reader.new) (bytes.items ++ 10 ∷ []))
+        (λ fault. StopsBody length (S.stream reader.old) fault (S.stream reader.new) limit
+        × TakesPart (S.stream reader.old) (S.stream reader.new) (HasNoBody length)) }
 {
     let mut bytes = vec![in alloc; 0; length as usize]?;
     fill(reader, limit, &mut bytes)?;
@@ -143,14 +143,14 @@ pub(crate) fn next_event<S: Source>(
     reader: &mut S,
     limit: u64,
 ) -> Result<Option<ScriptEvent>, ScriptFault>
-    requires { S.failed reader.old ≡ false }
+    requires { (S.stream reader.old).failed ≡ false }
     ensures { MatchResult result
-        (λ event. (S.failed reader.new ≡ false) × MatchOption event
-        (Consumes (S.held reader.old) (S.held reader.new) [] × IsAtEnd (S.held reader.new))
+        (λ event. ((S.stream reader.new).failed ≡ false) × MatchOption event
+        (Gives (S.stream reader.old) (S.stream reader.new) [] × IsAtEnd (S.stream reader.new).held)
         (λ read. (front : List ℕ) × IsWritten (event_of read) front
-        × Consumes (S.held reader.old) (S.held reader.new) front))
-        (λ fault. StopsEvent (S.held reader.old) fault (S.failed reader.new) (S.reads reader.new) limit
-        × TakesPart (S.held reader.old) (S.held reader.new) HasNoEvent) }
+        × Gives (S.stream reader.old) (S.stream reader.new) front))
+        (λ fault. StopsEvent (S.stream reader.old) fault (S.stream reader.new) limit
+        × TakesPart (S.stream reader.old) (S.stream reader.new) HasNoEvent) }
 {
     let mut line = [0; LONGEST_LINE];
     let Some(count) = read_whole_line(reader, limit, &mut line)? else {

@@ -1,7 +1,7 @@
 //! The bytes of one request, out of a reader: no more of them than the request needs.
 ghost use Rattle.std.specs.Prelude.{◌≡◌, ◌≤◌, ◌++◌, ℕ, List, false, length, IfSome, MatchResult};
-ghost use Rattle.std.specs.Io.KnownBytes.{Consumes};
 ghost use Rattle.acvp_http.specs.Needed.{IsNeeded, NeedsBody};
+ghost use Rattle.acvp_http.specs.Source.{Gives};
 ghost use Rattle.acvp_http.specs.Private.Receiving.{TakesSome, StopsReceiving, TakesByte, IsHeadTaken, IsBodyTaken};
 
 use crate::framing::{BODY_BYTES, body_size};
@@ -19,10 +19,10 @@ fn take_byte<S: Source>(
     limit: u64,
     bytes: &mut Vec<u8>,
 ) -> Result<bool, ScriptFault>
-    requires { S.failed reader.old ≡ false }
+    requires { (S.stream reader.old).failed ≡ false }
     ensures { MatchResult result
-        (λ more. (S.failed reader.new ≡ false) × TakesByte more (S.held reader.old) (S.held reader.new) bytes.old.items bytes.new.items)
-        (λ fault. StopsReceiving fault (S.failed reader.new) (S.reads reader.new) limit × TakesSome (S.held reader.old) (S.held reader.new)) }
+        (λ more. ((S.stream reader.new).failed ≡ false) × TakesByte more (S.stream reader.old) (S.stream reader.new) bytes.old.items bytes.new.items)
+        (λ fault. StopsReceiving fault (S.stream reader.new) limit × TakesSome (S.stream reader.old) (S.stream reader.new)) }
 {
     match read_byte(reader, limit)? {
         None => Ok(false),
@@ -35,10 +35,10 @@ fn take_byte<S: Source>(
 
 /// The block of a head with its empty line; or as many bytes as a head may have, or as there are, without one.
 fn read_head<S: Source>(alloc: Global, reader: &mut S, limit: u64) -> Result<Vec<u8>, ScriptFault>
-    requires { S.failed reader.old ≡ false }
+    requires { (S.stream reader.old).failed ≡ false }
     ensures { MatchResult result
-        (λ bytes. (S.failed reader.new ≡ false) × Consumes (S.held reader.old) (S.held reader.new) bytes.items × IsHeadTaken (S.held reader.new) bytes.items)
-        (λ fault. StopsReceiving fault (S.failed reader.new) (S.reads reader.new) limit × TakesSome (S.held reader.old) (S.held reader.new)) }
+        (λ bytes. ((S.stream reader.new).failed ≡ false) × Gives (S.stream reader.old) (S.stream reader.new) bytes.items × IsHeadTaken (S.stream reader.new).held bytes.items)
+        (λ fault. StopsReceiving fault (S.stream reader.new) limit × TakesSome (S.stream reader.old) (S.stream reader.new)) }
 {
     let mut bytes = Vec::new(alloc);
     for _ in 0..HEAD_BYTES {
@@ -59,11 +59,11 @@ fn read_body<S: Source>(
     wanted: usize,
     bytes: &mut Vec<u8>,
 ) -> Result<(), ScriptFault>
-    requires { S.failed reader.old ≡ false }
+    requires { (S.stream reader.old).failed ≡ false }
     ensures { MatchResult result
-        (λ _. (S.failed reader.new ≡ false) × ((part : List ℕ) × (bytes.new.items ≡ bytes.old.items ++ part)
-        × Consumes (S.held reader.old) (S.held reader.new) part × IsBodyTaken wanted (S.held reader.new) part))
-        (λ fault. StopsReceiving fault (S.failed reader.new) (S.reads reader.new) limit × TakesSome (S.held reader.old) (S.held reader.new)) }
+        (λ _. ((S.stream reader.new).failed ≡ false) × ((part : List ℕ) × (bytes.new.items ≡ bytes.old.items ++ part)
+        × Gives (S.stream reader.old) (S.stream reader.new) part × IsBodyTaken wanted (S.stream reader.new).held part))
+        (λ fault. StopsReceiving fault (S.stream reader.new) limit × TakesSome (S.stream reader.old) (S.stream reader.new)) }
 {
     for _ in 0..wanted {
         if !take_byte(reader, limit, bytes)? {
@@ -103,11 +103,11 @@ pub(crate) fn receive<S: Source>(
     reader: &mut S,
     limit: u64,
 ) -> Result<Vec<u8>, ScriptFault>
-    requires { S.failed reader.old ≡ false }
+    requires { (S.stream reader.old).failed ≡ false }
     ensures { MatchResult result
-        (λ bytes. (S.failed reader.new ≡ false) × Consumes (S.held reader.old) (S.held reader.new) bytes.items
-        × IfSome (S.held reader.old) (λ input. IsNeeded input bytes.items))
-        (λ fault. StopsReceiving fault (S.failed reader.new) (S.reads reader.new) limit × TakesSome (S.held reader.old) (S.held reader.new)) }
+        (λ bytes. ((S.stream reader.new).failed ≡ false) × Gives (S.stream reader.old) (S.stream reader.new) bytes.items
+        × IfSome (S.stream reader.old).held (λ input. IsNeeded input bytes.items))
+        (λ fault. StopsReceiving fault (S.stream reader.new) limit × TakesSome (S.stream reader.old) (S.stream reader.new)) }
 {
     let mut bytes = read_head(alloc, reader, limit)?;
     if !ends_with_empty_line(&bytes) {

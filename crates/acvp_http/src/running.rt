@@ -30,14 +30,14 @@ fn take_turn<T: Tables, K: Sink>(
     event: &ScriptEvent,
     writer: &mut K,
 ) -> Result<(), ScriptFault>
-    requires clear { K.failed writer.old ≡ false }
+    requires clear { (K.stream writer.old).failed ≡ false }
     requires event { CanHappen (event_of event.now) }
     ensures keys { desk.new.keys ≡ desk.old.keys }
     ensures was_live { T.is_live desk.new.tables → T.is_live desk.old.tables }
     ensures was_clean { T.is_clean desk.new.tables → T.is_clean desk.old.tables }
     ensures turn { (unavailable : Bool) × (answer : Answer)
         × GoesByTurn T.stands T.is_live desk.old.keys (record { event = event_of event.now; unavailable = unavailable }) answer desk.old.tables desk.new.tables
-        × WritesText (K.contents writer.old) (K.contents writer.new) (K.failed writer.new) (answer_text answer) result }
+        × WritesText (K.stream writer.old) (K.stream writer.new) (answer_text answer) result }
 {
     match event {
         ScriptEvent::Request { moment, bytes } => {
@@ -68,16 +68,15 @@ pub fn run<T: Tables, S: Source, K: Sink>(
     reader: &mut S,
     writer: &mut K,
 ) -> Result<u64, ScriptFault>
-    requires reader_clear { S.failed reader.old ≡ false }
-    requires writer_clear { K.failed writer.old ≡ false }
+    requires reader_clear { (S.stream reader.old).failed ≡ false }
+    requires writer_clear { (K.stream writer.old).failed ≡ false }
     ensures keys { desk.new.keys ≡ desk.old.keys }
     ensures was_live { T.is_live desk.new.tables → T.is_live desk.old.tables }
     ensures was_clean { T.is_clean desk.new.tables → T.is_clean desk.old.tables }
-    ensures run { RunsScript T.stands T.is_live desk.old.keys desk.old.tables desk.new.tables (S.held reader.old) (S.held reader.new) (S.reads reader.old)
-        (S.reads reader.new)
-        (K.contents writer.old) (K.contents writer.new) result }
-    ensures read_fault { S.failed reader.new ≡ is_read_answer result }
-    ensures write_fault { K.failed writer.new ≡ is_write_answer result }
+    ensures run { RunsScript T.stands T.is_live desk.old.keys desk.old.tables desk.new.tables (S.stream reader.old) (S.stream reader.new)
+        (K.stream writer.old) (K.stream writer.new) result }
+    ensures read_fault { (S.stream reader.new).failed ≡ is_read_answer result }
+    ensures write_fault { (K.stream writer.new).failed ≡ is_write_answer result }
 {
     let limit = reader.reads().saturating_add(MOST_READS);
     for count in 0..MOST_EVENTS {

@@ -1,48 +1,39 @@
 //! Readers and writers that remember whether they have failed.
-ghost use Rattle.std.specs.Prelude.{◌≡◌, ◌||◌, ℕ, Bool, List, Option, false};
+ghost use Rattle.std.specs.Prelude.{◌≡◌, ◌||◌, false};
 ghost use Rattle.std.specs.Io.{ReadsAtMost, WritesAtMost};
 ghost use Rattle.std.specs.Io.KnownBytes.{ReadConsumes, WriteAppends};
 ghost use Rattle.std.specs.IoError.{error_kind};
-ghost use Rattle.acvp_http.specs.Source.{is_interruption, is_read_fault, is_write_fault, flagged_inner, flagged_failed, flagged_reads, one_more};
+ghost use Rattle.acvp_http.specs.Source.{InputStream, OutputStream, is_interruption, is_read_fault, is_write_fault, flagged_inner, flagged_failed, flagged_reads, one_more};
 
 use std::io::{self, ErrorKind, Read, Write};
 
 /// What is read. A read that fails otherwise than by `Interrupted` is a fault.
 pub trait Source {
-    /// The bytes that reads will give from here on, where they are known.
-    ghost held: { Self → Option (List ℕ) };
-
-    /// Whether a read has failed.
-    ghost failed: { Self → Bool };
-
-    /// How many reads were asked for, as far as they are counted.
-    ghost reads: { Self → ℕ };
+    /// What it holds, whether it has failed, and how often it was read.
+    ghost stream: { Self → InputStream };
 
     /// Reads some of the bytes, as `std::io::Read` does.
     fn read(&mut self, buf: &mut [u8]) -> io::Result<usize>
         ensures bound { ReadsAtMost result buf.new }
-        ensures bytes { ReadConsumes (held self.old) (held self.new) result buf.new }
-        ensures flag { failed self.new ≡ (failed self.old || is_read_fault result) }
-        ensures count { reads self.new ≡ one_more (reads self.old) };
+        ensures bytes { ReadConsumes (stream self.old).held (stream self.new).held result buf.new }
+        ensures flag { (stream self.new).failed ≡ ((stream self.old).failed || is_read_fault result) }
+        ensures count { (stream self.new).reads ≡ one_more (stream self.old).reads };
 
     /// How many reads were asked for, those that failed or were interrupted among them. The count stops at `u64::MAX`.
     fn reads(&self) -> u64
-        ensures { result ≡ reads self.now };
+        ensures { result ≡ (stream self.now).reads };
 }
 
 /// What is written to. An error, and a write of some bytes that takes none of them, is a fault.
 pub trait Sink {
-    /// The bytes that are written, where they are known.
-    ghost contents: { Self → Option (List ℕ) };
-
-    /// Whether a write has failed.
-    ghost failed: { Self → Bool };
+    /// What was written, and whether it has failed.
+    ghost stream: { Self → OutputStream };
 
     /// Writes some of the bytes, as `std::io::Write` does.
     fn write(&mut self, buf: &[u8]) -> io::Result<usize>
         ensures bound { WritesAtMost result buf.now }
-        ensures bytes { WriteAppends (contents self.old) (contents self.new) result buf.now }
-        ensures flag { failed self.new ≡ (failed self.old || is_write_fault result buf.now) };
+        ensures bytes { WriteAppends (stream self.old).contents (stream self.new).contents result buf.now }
+        ensures flag { (stream self.new).failed ≡ ((stream self.old).failed || is_write_fault result buf.now) };
 }
 
 /// A reader or a writer of `std`, whether it has failed, and how often it was read.
@@ -110,11 +101,7 @@ fn is_write_failure(answer: &io::Result<usize>, buf: &[u8]) -> bool
 }
 
 impl<R: Read> Source for Flagged<R> {
-    ghost held = { λ reader. R.remaining reader.inner };
-
-    ghost failed = { λ reader. reader.failed };
-
-    ghost reads = { λ reader. reader.reads };
+    ghost stream = { λ reader. record { held = R.remaining reader.inner; failed = reader.failed; reads = reader.reads } };
 
     fn read(&mut self, buf: &mut [u8]) -> io::Result<usize> {
         let Flagged {
@@ -134,9 +121,7 @@ impl<R: Read> Source for Flagged<R> {
 }
 
 impl<W: Write> Sink for Flagged<W> {
-    ghost contents = { λ writer. W.contents writer.inner };
-
-    ghost failed = { λ writer. writer.failed };
+    ghost stream = { λ writer. record { contents = W.contents writer.inner; failed = writer.failed } };
 
     fn write(&mut self, buf: &[u8]) -> io::Result<usize> {
         let Flagged {

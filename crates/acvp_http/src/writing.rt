@@ -11,8 +11,8 @@ use acvp_desk::OrderReply;
 
 /// Writes all of the bytes.
 pub(crate) fn write_all<K: Sink>(writer: &mut K, bytes: &[u8]) -> Result<(), ScriptFault>
-    requires { K.failed writer.old ≡ false }
-    ensures { WritesText (K.contents writer.old) (K.contents writer.new) (K.failed writer.new) bytes.now result }
+    requires { (K.stream writer.old).failed ≡ false }
+    ensures { WritesText (K.stream writer.old) (K.stream writer.new) bytes.now result }
 {
     let mut written = 0;
     while written < bytes.len() {
@@ -26,8 +26,8 @@ pub(crate) fn write_all<K: Sink>(writer: &mut K, bytes: &[u8]) -> Result<(), Scr
 }
 
 fn write_both<K: Sink>(writer: &mut K, first: &[u8], second: &[u8]) -> Result<(), ScriptFault>
-    requires { K.failed writer.old ≡ false }
-    ensures { WritesText (K.contents writer.old) (K.contents writer.new) (K.failed writer.new)
+    requires { (K.stream writer.old).failed ≡ false }
+    ensures { WritesText (K.stream writer.old) (K.stream writer.new)
         (first.now ++ second.now) result }
 {
     write_all(writer, first)?;
@@ -47,8 +47,8 @@ fn reply_line(size: u64) -> Text
 
 /// Writes a reply to a request.
 pub(crate) fn write_reply<K: Sink>(writer: &mut K, reply: &[u8]) -> Result<(), ScriptFault>
-    requires { K.failed writer.old ≡ false }
-    ensures { WritesText (K.contents writer.old) (K.contents writer.new) (K.failed writer.new)
+    requires { (K.stream writer.old).failed ≡ false }
+    ensures { WritesText (K.stream writer.old) (K.stream writer.new)
         (answer_text (replied reply.now)) result }
 {
     let line = reply_line(reply.len() as u64);
@@ -70,8 +70,8 @@ fn order_text(reply: OrderReply) -> &'static [u8]
 
 /// Writes the reply to an order.
 pub(crate) fn write_order<K: Sink>(writer: &mut K, reply: OrderReply) -> Result<(), ScriptFault>
-    requires { K.failed writer.old ≡ false }
-    ensures { WritesText (K.contents writer.old) (K.contents writer.new) (K.failed writer.new)
+    requires { (K.stream writer.old).failed ≡ false }
+    ensures { WritesText (K.stream writer.old) (K.stream writer.new)
         (answer_text (ordered reply)) result }
 {
     write_all(writer, order_text(reply))

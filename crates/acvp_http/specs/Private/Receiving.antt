@@ -1,6 +1,6 @@
 -- What reads of a request do, and why they stop.
 use Rattle.std.specs.Prelude.{◌≡◌, ◌<◌, ◌≤◌, ℕ, List, [], ◌∷◌, ◌++◌, length, take, Bool, true, false, Option, MatchBool}
-use Rattle.std.specs.Io.KnownBytes.{Consumes, IsAtEnd}
+use Rattle.std.specs.Io.KnownBytes.{IsAtEnd}
 use Rattle.acvp_http.specs.declared.script.ScriptFault.{ScriptFault}
 use Rattle.acvp_http.specs.declared.script.ScriptFault.TheVariants.{Memory}
 use Rattle.acvp_http.specs.declared.connection.ServeFault.{ServeFault}
@@ -8,22 +8,22 @@ use Rattle.acvp_http.specs.declared.connection.ServeFault.TheVariants.{Turns, Re
 use Rattle.acvp_http.specs.Asks.{ends_empty, head_limit}
 use Rattle.acvp_http.specs.Connection.{most_turns}
 use Rattle.acvp_http.specs.Private.Reading.{StopsReading}
-use Rattle.acvp_http.specs.Source.{ReadsTooOften}
+use Rattle.acvp_http.specs.Source.{InputStream, Gives, ReadsTooOften}
 
 -- some bytes were taken
-abbrev pub TakesSome : Option (List ℕ) → Option (List ℕ) → Type 0
-TakesSome old new = (part : List ℕ) × Consumes old new part
+abbrev pub TakesSome : InputStream → InputStream → Type 0
+TakesSome old new = (part : List ℕ) × Gives old new part
 
 -- a read has failed or there were too many, or memory was refused
-abbrev pub StopsReceiving : ScriptFault → Bool → ℕ → ℕ → Type 0
-StopsReceiving Memory failed reads limit = failed ≡ false
-StopsReceiving fault failed reads limit = StopsReading fault failed reads limit
+abbrev pub StopsReceiving : ScriptFault → InputStream → ℕ → Type 0
+StopsReceiving Memory new limit = new.failed ≡ false
+StopsReceiving fault new limit = StopsReading fault new limit
 
 -- one more byte was taken, or there was none
-abbrev pub TakesByte : Bool → Option (List ℕ) → Option (List ℕ) → List ℕ → List ℕ → Type 0
+abbrev pub TakesByte : Bool → InputStream → InputStream → List ℕ → List ℕ → Type 0
 TakesByte more old new before after = MatchBool more
-    ((byte : ℕ) × (after ≡ before ++ byte ∷ []) × Consumes old new (byte ∷ []))
-    ((after ≡ before) × Consumes old new [] × IsAtEnd new)
+    ((byte : ℕ) × (after ≡ before ++ byte ∷ []) × Gives old new (byte ∷ []))
+    ((after ≡ before) × Gives old new [] × IsAtEnd new.held)
 
 -- The text is the block of a head, or there is no empty line in it and no more of it is to be taken; so much is left.
 pub record IsHeadTaken (left : Option (List ℕ)) (text : List ℕ) : Type 0 where
@@ -37,7 +37,7 @@ pub record IsBodyTaken (wanted : ℕ) (left : Option (List ℕ)) (part : List �
   pub whole : length part < wanted → IsAtEnd left
 
 -- a read has failed, or there were too many
-abbrev pub StopsConnection : ServeFault → Bool → ℕ → ℕ → Type 0
-StopsConnection Unread failed before after = failed ≡ true
-StopsConnection Turns failed before after = (failed ≡ false) × ReadsTooOften most_turns before after
-StopsConnection Unwritten failed before after = ⊥
+abbrev pub StopsConnection : ServeFault → InputStream → InputStream → Type 0
+StopsConnection Unread old new = new.failed ≡ true
+StopsConnection Turns old new = (new.failed ≡ false) × ReadsTooOften most_turns old new
+StopsConnection Unwritten old new = ⊥

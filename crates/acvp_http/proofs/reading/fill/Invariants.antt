@@ -4,9 +4,9 @@ use Rattle.acvp_http.proofs.reading.fill.Given as goal
 
 abbrev pub invariant-loop-filled : goal.invariant-loop-filled
 invariant-loop-filled g l = record {
-  clear : g.S.Source.failed l.reader ≡ false;
+  clear : (g.S.Source.stream l.reader).failed ≡ false;
   low : l.filled ≤ length l.buf;
-  consumed : Consumes (g.S.Source.held l.fn.reader) (g.S.Source.held l.reader) (take l.filled l.buf);
+  consumed : Consumes (g.S.Source.stream l.fn.reader).held (g.S.Source.stream l.reader).held (take l.filled l.buf);
 }
 
 abbrev pub decreases-loop-filled : goal.decreases-loop-filled

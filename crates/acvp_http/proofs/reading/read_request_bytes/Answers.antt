@@ -8,13 +8,13 @@ pub returns-in-Some : goal.returns-in-Some
 returns-in-Some g c =
     let byte = rw c.in-Some.is at c.in_ok-read_byte.ensures in
     let filled = c.in_ok-fill.ensures in
-    let more = consumes_consumes (g.S.Source.held c.args.reader.now) (g.S.Source.held c.fill.new.reader)
-    (g.S.Source.held c.read_byte.new.reader) c.fill.new.buf (c.in-Some.field-0 ∷ []) filled.1 byte.1 in
+    let more = consumes_consumes (g.S.Source.stream c.args.reader.now).held (g.S.Source.stream c.fill.new.reader).held
+    (g.S.Source.stream c.read_byte.new.reader).held c.fill.new.buf (c.in-Some.field-0 ∷ []) filled.1 byte.1 in
     let size : length c.fill.new.buf ≡ c.args.length = grind (arith, common_steps) in (
       (
         byte.0,
-        no_body_byte (g.S.Source.held c.args.reader.now)
-            (g.S.Source.held c.read_byte.new.reader) c.fill.new.buf c.in-Some.field-0 c.args.length more size
+        no_body_byte (g.S.Source.stream c.args.reader.now).held
+            (g.S.Source.stream c.read_byte.new.reader).held c.fill.new.buf c.in-Some.field-0 c.args.length more size
             c.in-Some.field-0-test.1,
       ),
       (

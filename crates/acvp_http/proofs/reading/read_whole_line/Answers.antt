@@ -12,12 +12,12 @@ returns-in-None-2 g c =
     let some : 0 < length (take c.loop-count.count c.loop-count.line) =
     omega (arith, length-take c.loop-count.count c.loop-count.line) in
     let text = take c.loop-count.count c.loop-count.line in
-    let taken = consumes_no_more (g.S.Source.held c.args.reader.now) (g.S.Source.held c.loop-count.reader)
-    (g.S.Source.held c.read_byte.new.reader) text c.loop-count.invariant.consumed none.1 in (
+    let taken = consumes_no_more (g.S.Source.stream c.args.reader.now).held (g.S.Source.stream c.loop-count.reader).held
+    (g.S.Source.stream c.read_byte.new.reader).held text c.loop-count.invariant.consumed none.1 in (
       (
         none.0,
-        no_line_ended (g.S.Source.held c.args.reader.now)
-            (g.S.Source.held c.read_byte.new.reader) text taken c.loop-count.invariant.lacks some none.2,
+        no_line_ended (g.S.Source.stream c.args.reader.now).held
+            (g.S.Source.stream c.read_byte.new.reader).held text taken c.loop-count.invariant.lacks some none.2,
       ),
       (text, taken, c.loop-count.invariant.lacks),
     )
@@ -30,8 +30,8 @@ loop-count-preserved g c =
     take_more_set c.loop-count.line c.loop-count.count c.in-Some.byte (omega arith) in
     record {
       clear = byte.0;
-      consumed = rw more (consumes_consumes (g.S.Source.held c.args.reader.now) (g.S.Source.held c.loop-count.reader)
-          (g.S.Source.held c.read_byte.new.reader) (take c.loop-count.count c.loop-count.line) (c.in-Some.byte
+      consumed = rw more (consumes_consumes (g.S.Source.stream c.args.reader.now).held (g.S.Source.stream c.loop-count.reader).held
+          (g.S.Source.stream c.read_byte.new.reader).held (take c.loop-count.count c.loop-count.line) (c.in-Some.byte
           ∷ []) c.loop-count.invariant.consumed byte.1);
       lacks = rw more (lacks_append 10 (take c.loop-count.count c.loop-count.line) (c.in-Some.byte
           ∷ []) c.loop-count.invariant.lacks (c.in-Some.byte-test.1, tt));
@@ -46,8 +46,8 @@ returns-in-Some-eq10-2 g c =
       (
         omega arith,
         rw full at c.loop-count.invariant.lacks,
-        consumes_consumes (g.S.Source.held c.args.reader.now) (g.S.Source.held c.loop-count.reader)
-            (g.S.Source.held c.read_byte-2.new.reader) (take 101 c.loop-count.line) (10 ∷ []) line byte.1,
+        consumes_consumes (g.S.Source.stream c.args.reader.now).held (g.S.Source.stream c.loop-count.reader).held
+            (g.S.Source.stream c.read_byte-2.new.reader).held (take 101 c.loop-count.line) (10 ∷ []) line byte.1,
       ),
     )
 
@@ -56,16 +56,16 @@ returns-in-Some-2 g c =
     let byte = rw c.in-Some-2.is at c.in_ok-read_byte-2.ensures in
     let full : c.loop-count.count ≡ 101 = omega arith in
     let line = rw full at c.loop-count.invariant.consumed in
-    let more = consumes_consumes (g.S.Source.held c.args.reader.now) (g.S.Source.held c.loop-count.reader)
-    (g.S.Source.held c.read_byte-2.new.reader) (take 101 c.loop-count.line) (c.in-Some-2.field-0
+    let more = consumes_consumes (g.S.Source.stream c.args.reader.now).held (g.S.Source.stream c.loop-count.reader).held
+    (g.S.Source.stream c.read_byte-2.new.reader).held (take 101 c.loop-count.line) (c.in-Some-2.field-0
     ∷ []) line byte.1 in
     let long : length (take 101 c.loop-count.line) ≡ 101 = omega (arith, length-take 101 c.loop-count.line) in
     let text = take 101 c.loop-count.line in
     let lacks : Lacks 10 text = rw full at c.loop-count.invariant.lacks in (
       (
         byte.0,
-        no_line_long (g.S.Source.held c.args.reader.now)
-            (g.S.Source.held c.read_byte-2.new.reader) text c.in-Some-2.field-0 more long lacks
+        no_line_long (g.S.Source.stream c.args.reader.now).held
+            (g.S.Source.stream c.read_byte-2.new.reader).held text c.in-Some-2.field-0 more long lacks
             c.in-Some-2.field-0-test.1,
       ),
       (
@@ -82,12 +82,12 @@ returns-in-None-3 g c =
     let some : 0 < length (take c.loop-count.count c.loop-count.line) =
     omega (arith, length-take c.loop-count.count c.loop-count.line) in
     let text = take c.loop-count.count c.loop-count.line in
-    let taken = consumes_no_more (g.S.Source.held c.args.reader.now) (g.S.Source.held c.loop-count.reader)
-    (g.S.Source.held c.read_byte-2.new.reader) text c.loop-count.invariant.consumed none.1 in (
+    let taken = consumes_no_more (g.S.Source.stream c.args.reader.now).held (g.S.Source.stream c.loop-count.reader).held
+    (g.S.Source.stream c.read_byte-2.new.reader).held text c.loop-count.invariant.consumed none.1 in (
       (
         none.0,
-        no_line_ended (g.S.Source.held c.args.reader.now)
-            (g.S.Source.held c.read_byte-2.new.reader) text taken c.loop-count.invariant.lacks some none.2,
+        no_line_ended (g.S.Source.stream c.args.reader.now).held
+            (g.S.Source.stream c.read_byte-2.new.reader).held text taken c.loop-count.invariant.lacks some none.2,
       ),
       (text, taken, c.loop-count.invariant.lacks),
     )

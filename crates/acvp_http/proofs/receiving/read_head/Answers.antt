@@ -5,23 +5,23 @@ use Rattle.acvp_http.proofs.receiving.read_head.Goals as goal
 
 pub returns-in_err-take_byte : goal.returns-in_err-take_byte
 returns-in_err-take_byte g c =
-    let stops = stops_after (g.S.Source.held c.args.reader.now) (g.S.Source.held c.loop.reader) (g.S.Source.held c.take_byte.new.reader) c.loop.bytes.items
-    c.in_err-take_byte.field-0.0 (g.S.Source.failed c.take_byte.new.reader) (g.S.Source.reads c.take_byte.new.reader) c.args.limit c.loop.invariant.consumed
+    let stops = stops_after (g.S.Source.stream c.args.reader.now) (g.S.Source.stream c.loop.reader) (g.S.Source.stream c.take_byte.new.reader) c.loop.bytes.items
+    c.in_err-take_byte.field-0.0 c.args.limit c.loop.invariant.consumed
     c.in_err-take_byte.ensures in
     search rules
 
 pub returns-then-ends_with_empty_line : goal.returns-then-ends_with_empty_line
 returns-then-ends_with_empty_line g c =
     let (clear, takes) = c.in_ok-take_byte.ensures in
-    let (byte, is, took) = byte_taken c.in_ok-take_byte.field-0 (g.S.Source.held c.loop.reader) (g.S.Source.held c.take_byte.new.reader) c.loop.bytes.items c.take_byte.new.bytes.items (cc) takes in
-    let consumed = consumes_consumes (g.S.Source.held c.args.reader.now) (g.S.Source.held c.loop.reader) (g.S.Source.held c.take_byte.new.reader) c.loop.bytes.items (byte ∷ []) c.loop.invariant.consumed took in
-    (clear, (rw is consumed), head_ended c.loop.bytes.items c.take_byte.new.bytes.items byte c.loop.counter is c.loop.invariant.long c.loop.invariant.first (g.S.Source.held c.take_byte.new.reader) (omega arith) (cc))
+    let (byte, is, took) = byte_taken c.in_ok-take_byte.field-0 (g.S.Source.stream c.loop.reader) (g.S.Source.stream c.take_byte.new.reader) c.loop.bytes.items c.take_byte.new.bytes.items (cc) takes in
+    let consumed = consumes_consumes (g.S.Source.stream c.args.reader.now).held (g.S.Source.stream c.loop.reader).held (g.S.Source.stream c.take_byte.new.reader).held c.loop.bytes.items (byte ∷ []) c.loop.invariant.consumed took in
+    (clear, (rw is consumed), head_ended c.loop.bytes.items c.take_byte.new.bytes.items byte c.loop.counter is c.loop.invariant.long c.loop.invariant.first (g.S.Source.stream c.take_byte.new.reader).held (omega arith) (cc))
 
 pub loop-preserved : goal.loop-preserved
 loop-preserved g c =
     let (clear, takes) = c.in_ok-take_byte.ensures in
-    let (byte, is, took) = byte_taken c.in_ok-take_byte.field-0 (g.S.Source.held c.loop.reader) (g.S.Source.held c.take_byte.new.reader) c.loop.bytes.items c.take_byte.new.bytes.items (cc) takes in
-    let consumed = consumes_consumes (g.S.Source.held c.args.reader.now) (g.S.Source.held c.loop.reader) (g.S.Source.held c.take_byte.new.reader) c.loop.bytes.items (byte ∷ []) c.loop.invariant.consumed took in
+    let (byte, is, took) = byte_taken c.in_ok-take_byte.field-0 (g.S.Source.stream c.loop.reader) (g.S.Source.stream c.take_byte.new.reader) c.loop.bytes.items c.take_byte.new.bytes.items (cc) takes in
+    let consumed = consumes_consumes (g.S.Source.stream c.args.reader.now).held (g.S.Source.stream c.loop.reader).held (g.S.Source.stream c.take_byte.new.reader).held c.loop.bytes.items (byte ∷ []) c.loop.invariant.consumed took in
     record {
       clear = clear;
       consumed = rw is consumed;

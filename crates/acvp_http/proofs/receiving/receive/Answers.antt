@@ -8,8 +8,8 @@ use Rattle.acvp_http.proofs.receiving.receive.Goals as goal
 pub returns-in_err-read_body : goal.returns-in_err-read_body
 returns-in_err-read_body g c =
     let (clear, taken, head) = c.in_ok-bytes.ensures in
-    let stops = stops_after (g.S.Source.held c.args.reader.now) (g.S.Source.held c.read_head.new.reader) (g.S.Source.held c.read_body.new.reader) c.in_ok-bytes.bytes.items
-    c.in_err-read_body.field-0.0 (g.S.Source.failed c.read_body.new.reader) (g.S.Source.reads c.read_body.new.reader) c.args.limit taken
+    let stops = stops_after (g.S.Source.stream c.args.reader.now) (g.S.Source.stream c.read_head.new.reader) (g.S.Source.stream c.read_body.new.reader) c.in_ok-bytes.bytes.items
+    c.in_err-read_body.field-0.0 c.args.limit taken
     c.in_err-read_body.ensures in
     search rules
 
@@ -17,7 +17,7 @@ pub returns-then-not-ends_with_empty_line : goal.returns-then-not-ends_with_empt
 returns-then-not-ends_with_empty_line g c =
     let (clear, taken, head) = c.in_ok-bytes.ensures in
     let none : ends_empty c.in_ok-bytes.bytes.items ≡ false = rw c.deref.ensures.value at (sym c.ends_with_empty_line.ensures ∙ c.if-not-ends_with_empty_line.true) in
-    (clear, taken, needed_window (g.S.Source.held c.args.reader.now) (g.S.Source.held c.read_head.new.reader) c.in_ok-bytes.bytes.items taken head none)
+    (clear, taken, needed_window (g.S.Source.stream c.args.reader.now).held (g.S.Source.stream c.read_head.new.reader).held c.in_ok-bytes.bytes.items taken head none)
 
 pub returns : goal.returns
 returns g c =
@@ -25,6 +25,6 @@ returns g c =
     let (clear_still, (part, is, more, body)) = c.in_ok-read_body.ensures in
     let ends : ends_empty c.in_ok-bytes.bytes.items ≡ true = rw c.deref.ensures.value at (sym c.ends_with_empty_line.ensures ∙ c.if-not-ends_with_empty_line.false) in
     let needs : NeedsBody c.in_ok-bytes.bytes.items c.needed_size-wanted.result = rw c.deref-2.ensures.value at c.needed_size-wanted.ensures in
-    let (consumed, needed) = received (g.S.Source.held c.args.reader.now) (g.S.Source.held c.read_head.new.reader) (g.S.Source.held c.read_body.new.reader)
+    let (consumed, needed) = received (g.S.Source.stream c.args.reader.now).held (g.S.Source.stream c.read_head.new.reader).held (g.S.Source.stream c.read_body.new.reader).held
     c.in_ok-bytes.bytes.items part c.read_body.new.bytes.items c.needed_size-wanted.result taken more is head ends needs body in
     (clear_still, consumed, needed)

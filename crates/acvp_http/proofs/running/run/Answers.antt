@@ -12,8 +12,8 @@ loop-count-init g c = record {
   keys = refl;
   was_live = λ live. live;
   was_clean = λ clean. clean;
-  ran = ran_none g.T.Tables.stands g.T.Tables.is_live c.args.desk.now.keys c.args.desk.now.tables (g.S.Source.held c.args.reader.now)
-      (g.K.Sink.contents c.args.writer.now);
+  ran = ran_none g.T.Tables.stands g.T.Tables.is_live c.args.desk.now.keys c.args.desk.now.tables (g.S.Source.stream c.args.reader.now)
+      (g.K.Sink.stream c.args.writer.now);
 }
 
 pub returns-in_err-take_turn-clause-run : goal.returns-in_err-take_turn-clause-run
@@ -21,18 +21,17 @@ returns-in_err-take_turn-clause-run g c =
     let (clear, (front, written, consumed)) = rw c.in-Some.is at c.in_ok-event.ensures in
     let (unavailable, answer, takes, stopped) = c.in_err-take_turn.ensures.turn in
     let ends : RunsScript g.T.Tables.stands g.T.Tables.is_live c.args.desk.now.keys c.args.desk.now.tables c.take_turn.new.desk.tables
-    (g.S.Source.held c.args.reader.now) (g.S.Source.held c.next_event.new.reader)
-    (g.S.Source.reads c.args.reader.now) (g.S.Source.reads c.next_event.new.reader)
-    (g.K.Sink.contents c.args.writer.now) (g.K.Sink.contents c.take_turn.new.writer)
+    (g.S.Source.stream c.args.reader.now) (g.S.Source.stream c.next_event.new.reader)
+    (g.K.Sink.stream c.args.writer.now) (g.K.Sink.stream c.take_turn.new.writer)
     (Err c.in_err-take_turn.field-0.0) =
     ran_writes g.T.Tables.stands g.T.Tables.is_live c.args.desk.now.keys c.args.desk.now.tables c.loop-count.desk.tables c.take_turn.new.desk.tables
-    (g.S.Source.held c.args.reader.now) (g.S.Source.held c.loop-count.reader) (g.S.Source.held c.next_event.new.reader)
-    (g.K.Sink.contents c.args.writer.now) (g.K.Sink.contents c.loop-count.writer) (g.K.Sink.contents c.take_turn.new.writer)
+    (g.S.Source.stream c.args.reader.now) (g.S.Source.stream c.loop-count.reader) (g.S.Source.stream c.next_event.new.reader)
+    (g.K.Sink.stream c.args.writer.now) (g.K.Sink.stream c.loop-count.writer) (g.K.Sink.stream c.take_turn.new.writer)
     (record {
       event = event_of c.in-Some.event;
       unavailable = unavailable;
     }) answer front
-    (g.S.Source.reads c.args.reader.now) (g.S.Source.reads c.next_event.new.reader) c.loop-count.count c.in_err-take_turn.field-0.0
+    c.loop-count.count c.in_err-take_turn.field-0.0
     c.loop-count.invariant.ran (omega arith) c.in_err-take_turn.ensures.was_live written consumed
     (under g.T.Tables.stands g.T.Tables.is_live c.loop-count.desk.keys c.args.desk.now.keys c.loop-count.desk.tables c.take_turn.new.desk.tables _ answer
     c.loop-count.invariant.keys takes) stopped.0 stopped.2 in
@@ -49,9 +48,9 @@ loop-count-preserved g c =
       was_live = λ live. c.loop-count.invariant.was_live (c.take_turn.ensures.was_live live);
       was_clean = λ clean. c.loop-count.invariant.was_clean (c.take_turn.ensures.was_clean clean);
       ran = ran_more g.T.Tables.stands g.T.Tables.is_live c.args.desk.now.keys c.args.desk.now.tables c.loop-count.desk.tables c.take_turn.new.desk.tables
-          (g.S.Source.held c.args.reader.now) (g.S.Source.held c.loop-count.reader)
-          (g.S.Source.held c.next_event.new.reader) (g.K.Sink.contents c.args.writer.now)
-          (g.K.Sink.contents c.loop-count.writer) (g.K.Sink.contents c.take_turn.new.writer)
+          (g.S.Source.stream c.args.reader.now) (g.S.Source.stream c.loop-count.reader)
+          (g.S.Source.stream c.next_event.new.reader) (g.K.Sink.stream c.args.writer.now)
+          (g.K.Sink.stream c.loop-count.writer) (g.K.Sink.stream c.take_turn.new.writer)
           (record {
             event = event_of c.in-Some.event;
             unavailable = unavailable;
@@ -71,12 +70,12 @@ returns-in-Some-2-clause-run g c =
       ran.runs,
       ran.script,
       (
-        in_part (g.S.Source.held c.args.reader.now) (g.S.Source.held c.loop-count.reader) (g.S.Source.held c.read_byte.new.reader)
+        in_part (g.S.Source.stream c.args.reader.now) (g.S.Source.stream c.loop-count.reader) (g.S.Source.stream c.read_byte.new.reader)
             ran.text ran.consumed (c.in-Some-2.field-0 ∷ [], taken, no_event_byte c.in-Some-2.field-0),
         inl (
           omega (arith, ran.size),
-          goes_on (g.S.Source.held c.args.reader.now) (g.S.Source.held c.loop-count.reader)
-              (g.S.Source.held c.read_byte.new.reader) ran.text c.in-Some-2.field-0 ran.consumed taken,
+          goes_on (g.S.Source.stream c.args.reader.now).held (g.S.Source.stream c.loop-count.reader).held
+              (g.S.Source.stream c.read_byte.new.reader).held ran.text c.in-Some-2.field-0 ran.consumed taken,
         ),
       ),
       ran.appended,
@@ -92,14 +91,12 @@ pub returns-in_err-read_byte-clause-run : goal.returns-in_err-read_byte-clause-r
 returns-in_err-read_byte-clause-run g c =
     let ran = c.loop-count.invariant.ran in
     let ends : RunsScript g.T.Tables.stands g.T.Tables.is_live c.args.desk.now.keys c.args.desk.now.tables c.loop-count.desk.tables
-    (g.S.Source.held c.args.reader.now) (g.S.Source.held c.read_byte.new.reader)
-    (g.S.Source.reads c.args.reader.now) (g.S.Source.reads c.read_byte.new.reader)
-    (g.K.Sink.contents c.args.writer.now) (g.K.Sink.contents c.loop-count.writer) (Err c.in_err-read_byte.field-0.0) =
-    let stopped = stopped_at_last c.in_err-read_byte.field-0.0 (g.S.Source.failed c.read_byte.new.reader) (g.S.Source.reads c.args.reader.now)
-    (g.S.Source.reads c.read_byte.new.reader) c.saturating_add-limit.result (g.S.Source.held c.args.reader.now) (g.S.Source.held c.read_byte.new.reader)
-    (g.K.Sink.contents c.args.writer.now) (g.K.Sink.contents c.loop-count.writer) ran.turns ran.answers ran.text
+    (g.S.Source.stream c.args.reader.now) (g.S.Source.stream c.read_byte.new.reader)
+    (g.K.Sink.stream c.args.writer.now) (g.K.Sink.stream c.loop-count.writer) (Err c.in_err-read_byte.field-0.0) =
+    let stopped = stopped_at_last c.in_err-read_byte.field-0.0 c.saturating_add-limit.result (g.S.Source.stream c.args.reader.now) (g.S.Source.stream c.read_byte.new.reader)
+    (g.K.Sink.stream c.args.writer.now) (g.K.Sink.stream c.loop-count.writer) ran.turns ran.answers ran.text
     c.in_err-read_byte.ensures.0 (c.saturating_add-limit.ensures ∙ ap (λ n. min (n + most_reads) (2 ^ 64 - 1)) c.reads.ensures)
-    (in_part (g.S.Source.held c.args.reader.now) (g.S.Source.held c.loop-count.reader) (g.S.Source.held c.read_byte.new.reader)
+    (in_part (g.S.Source.stream c.args.reader.now) (g.S.Source.stream c.loop-count.reader) (g.S.Source.stream c.read_byte.new.reader)
     ran.text ran.consumed ([], c.in_err-read_byte.ensures.1, no_event_lacks [] tt)) ran.appended in
     (ran.turns, ran.answers, ran.text, ran.runs, ran.script, stopped.0, stopped.1, omega (arith, ran.size)) in
     search rules

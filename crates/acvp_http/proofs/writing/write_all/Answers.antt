@@ -14,22 +14,22 @@ returns-in-Ok-eq0 g c =
       length-drop c.loop-written.written c.args.bytes.now,
     ) in (
       refl,
-      flag_zero (g.K.Sink.failed c.loop-written.writer) (g.K.Sink.failed c.write.new.self) rest
+      flag_zero (g.K.Sink.stream c.loop-written.writer).failed (g.K.Sink.stream c.write.new.self).failed rest
           (rw c.in-Ok-eq0.field-0-test at c.in-Ok-eq0.ensures.flag) some,
-      stopped_zero (g.K.Sink.contents c.args.writer.now) (g.K.Sink.contents c.loop-written.writer)
-          (g.K.Sink.contents c.write.new.self) c.args.bytes.now rest c.loop-written.written c.in-Ok-eq0.field-0
+      stopped_zero (g.K.Sink.stream c.args.writer.now) (g.K.Sink.stream c.loop-written.writer)
+          (g.K.Sink.stream c.write.new.self) c.args.bytes.now rest c.loop-written.written c.in-Ok-eq0.field-0
           c.loop-written.invariant.appended c.in-Ok-eq0.field-0-test c.in-Ok-eq0.ensures.bytes,
     )
 
 pub loop-written-preserved : goal.loop-written-preserved
 loop-written-preserved g c =
     let rest = take (length c.args.bytes.now - c.loop-written.written) (drop c.loop-written.written c.args.bytes.now) in
-    let more = wrote_more (g.K.Sink.contents c.args.writer.now) (g.K.Sink.contents c.loop-written.writer)
-    (g.K.Sink.contents c.write.new.self) c.args.bytes.now c.loop-written.written c.in-Ok.count
+    let more = wrote_more (g.K.Sink.stream c.args.writer.now).contents (g.K.Sink.stream c.loop-written.writer).contents
+    (g.K.Sink.stream c.write.new.self).contents c.args.bytes.now c.loop-written.written c.in-Ok.count
     c.loop-written.invariant.low c.loop-written.invariant.appended c.in-Ok.ensures.bound c.in-Ok.ensures.bytes in
     record {
-      clear = flag_one (g.K.Sink.failed c.loop-written.writer)
-          (g.K.Sink.failed c.write.new.self) c.in-Ok.count rest c.in-Ok.ensures.flag c.in-Ok.count-test.1
+      clear = flag_one (g.K.Sink.stream c.loop-written.writer).failed
+          (g.K.Sink.stream c.write.new.self).failed c.in-Ok.count rest c.in-Ok.ensures.flag c.in-Ok.count-test.1
           c.loop-written.invariant.clear;
       low = more.0;
       appended = more.1;
@@ -38,8 +38,8 @@ loop-written-preserved g c =
 pub returns-in-Err : goal.returns-in-Err
 returns-in-Err g c = (
   refl,
-  flag_err (g.K.Sink.failed c.loop-written.writer) (g.K.Sink.failed c.write.new.self) c.in-Err.ensures.flag,
-  stopped_after (g.K.Sink.contents c.args.writer.now) (g.K.Sink.contents c.loop-written.writer)
-      (g.K.Sink.contents c.write.new.self) c.args.bytes.now c.loop-written.written c.loop-written.invariant.appended
+  flag_err (g.K.Sink.stream c.loop-written.writer).failed (g.K.Sink.stream c.write.new.self).failed c.in-Err.ensures.flag,
+  stopped_after (g.K.Sink.stream c.args.writer.now) (g.K.Sink.stream c.loop-written.writer)
+      (g.K.Sink.stream c.write.new.self) c.args.bytes.now c.loop-written.written c.loop-written.invariant.appended
       c.in-Err.ensures.bytes,
 )

@@ -4,15 +4,13 @@ use Rattle.acvp_http.proofs.writing.write_reply.Goals as goal
 
 pub returns-in_err-write_both : goal.returns-in_err-write_both
 returns-in_err-write_both g c =
-    let stops = reply_stopped (g.K.Sink.contents c.args.writer.now)
-    (g.K.Sink.contents c.write_both.new.writer) c.as_slice.result.now c.args.reply.now
-    (g.K.Sink.failed c.write_both.new.writer) c.in_err-write_both.field-0.0 (c.as_slice.ensures
+    let stops = reply_stopped (g.K.Sink.stream c.args.writer.now) (g.K.Sink.stream c.write_both.new.writer) c.as_slice.result.now
+    c.args.reply.now c.in_err-write_both.field-0.0 (c.as_slice.ensures
     ∙ c.reply_line-line.ensures) c.in_err-write_both.ensures in
     search rules
 
 pub returns : goal.returns
 returns g c =
-    reply_written (g.K.Sink.contents c.args.writer.now) (g.K.Sink.contents c.write_both.new.writer)
-    (g.K.Sink.contents c.write_all.new.writer) c.as_slice.result.now c.args.reply.now
-    (g.K.Sink.failed c.write_all.new.writer) c.write_all.result (c.as_slice.ensures
+    reply_written (g.K.Sink.stream c.args.writer.now) (g.K.Sink.stream c.write_both.new.writer)
+    (g.K.Sink.stream c.write_all.new.writer) c.as_slice.result.now c.args.reply.now c.write_all.result (c.as_slice.ensures
     ∙ c.reply_line-line.ensures) c.in_ok-write_both.ensures.1 c.write_all.ensures
