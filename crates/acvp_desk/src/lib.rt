@@ -2,7 +2,7 @@
 #![tactic(auto)]
 
 pub use acvp_gen::Seeds;
-pub use acvp_registry::{digits_number, plain_number};
+pub use acvp_registry::{Kind, digits_number, plain_number};
 pub use acvp_token::KeyRing;
 pub use ask::END_OF_MOMENTS;
 pub use desk::{Desk, DeskReply, NewFault, Outcome};
@@ -19,8 +19,6 @@ mod cache;
 #[cfg(test)]
 mod cache_tests;
 mod cancel;
-#[cfg(test)]
-mod cases;
 mod desk;
 mod draft;
 mod entry;
@@ -30,6 +28,8 @@ mod keys;
 mod laws;
 mod listing;
 mod new_session;
+#[cfg(test)]
+mod number_tests;
 mod numbers;
 mod order;
 mod own_rows;
@@ -42,7 +42,5 @@ mod serve;
 mod session;
 mod set;
 mod submit;
-#[cfg(test)]
-mod tests;
 mod token;
 mod wish;

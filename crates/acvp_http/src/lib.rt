@@ -1,9 +1,13 @@
 //! From the bytes of a request, or of a script, to the bytes of the replies.
 #![tactic(auto)]
 
+#[cfg(test)]
+mod cases;
 mod connection;
 mod framing;
 mod head;
+#[cfg(test)]
+mod over_lists;
 mod path;
 mod promise;
 mod reading;

@@ -1,7 +1,8 @@
-//! Requests at moments and what each must be answered, over any tables. Tokens are those that Python's hmac signs,
-//! under a key of zeros where nothing else is said; digests are those of its hashlib.
+//! Requests at moments and what each must be answered, over any tables, by the desk itself and in bytes. Tokens are those
+//! that Python's hmac signs, under a key of zeros where nothing else is said; digests are those of its hashlib.
 
 pub(crate) mod answers;
+pub(crate) mod asked;
 pub(crate) mod caller;
 pub(crate) mod cancel;
 pub(crate) mod certification;
@@ -16,14 +17,15 @@ pub(crate) mod seed;
 pub(crate) mod session;
 pub(crate) mod set;
 
-use crate::{
-    Desk, DeskReply, Keys, Numbers, Order, OrderReply, TokenField, TypedRequest, order_on,
+use crate::cases::asked::{body_in, framed, refused, request_bytes};
+use crate::{Routes, handle_bytes};
+use acvp_desk::{
+    Desk, DeskReply, KeyRing, Keys, Numbers, Order, OrderReply, Seeds, TokenField, TypedRequest,
+    order_on,
 };
-use acvp_gen::Seeds;
 use acvp_mac::{HashName, hash};
 use acvp_policy::{Action, Rule};
 use acvp_tables::Tables;
-use acvp_token::KeyRing;
 use std::alloc::Global;
 use std::process::Abort;
 
@@ -195,30 +197,86 @@ pub(crate) const NINE: &[u8] = br#"[{"acvVersion":"1.0"},{"account":9}]"#;
 
 pub(crate) const NINE_REVIEWS: &[u8] = br#"[{"acvVersion":"1.0"},{"reviewers":[9]}]"#;
 
-/// The reply to a request: 256 spare bytes and its body.
+/// How requests are asked.
+#[derive(Clone, Copy)]
+pub(crate) enum Door {
+    /// Of the desk itself.
+    Desk,
+
+    /// In bytes, as clients do.
+    Bytes,
+}
+
+pub(crate) const DOORS: [Door; 2] = [Door::Desk, Door::Bytes];
+
+/// The tables that a server is made over, and how it is asked.
+#[derive(Drop)]
+pub(crate) struct Over<T> {
+    pub tables: T,
+    pub door: Door,
+}
+
+/// A desk, the paths to it, and how it is asked.
+#[derive(Drop)]
+pub(crate) struct Server<T: Tables> {
+    alloc: Global,
+    routes: Routes,
+    door: Door,
+    pub desk: Desk<T>,
+}
+
+impl<T: Tables> Server<T> {
+    /// Its tables.
+    pub(crate) fn into_tables(self) -> T {
+        self.into_over().tables
+    }
+
+    /// Its tables, and how it is asked.
+    pub(crate) fn into_over(self) -> Over<T> {
+        let Server {
+            alloc: _,
+            routes: _,
+            door,
+            desk,
+        } = self;
+        Over {
+            tables: desk.into_tables(),
+            door,
+        }
+    }
+}
+
+/// The body of a reply that has one.
+fn given(rt: &impl Abort, alloc: Global, reply: DeskReply) -> Vec<u8> {
+    let body = match reply {
+        DeskReply::Given(reply) => reply.get(256..).and_then(|body| body.to_vec(alloc).ok()),
+        DeskReply::Denied(_) => None,
+    };
+    body.expect(rt, "a body")
+}
+
+/// The body of the reply to a request that is accepted.
 pub(crate) fn reply_of<T: Tables>(
     rt: &impl Abort,
-    desk: &mut Desk<T>,
+    server: &mut Server<T>,
     moment: u64,
     request: &TypedRequest<'_>,
 ) -> Vec<u8> {
-    let reply = match desk.handle(moment, request).reply {
-        DeskReply::Given(reply) => Some(reply),
-        DeskReply::Denied(rule) => {
-            assert_eq!(rt; rule.word(), "");
-            None
+    match server.door {
+        Door::Desk => given(rt, server.alloc, server.desk.handle(moment, request).reply),
+        Door::Bytes => {
+            let bytes = request_bytes(server.alloc, request)
+                .ok()
+                .expect(rt, "memory");
+            let reply = handle_bytes(&server.routes, &mut server.desk, moment, &bytes);
+            let body = body_in(reply.bytes()).to_vec(server.alloc);
+            body.ok().expect(rt, "memory")
         }
-    };
-    reply.expect(rt, "a reply")
+    }
 }
 
-/// The body of a reply.
-pub(crate) fn body_of<'a>(rt: &impl Abort, reply: &'a [u8]) -> &'a [u8] {
-    reply.get(256..).expect(rt, "a body")
-}
-
-/// Asserts what a request is answered.
-pub(crate) fn meets<T: Tables>(rt: &impl Abort, desk: &mut Desk<T>, case: &Case<'_>) {
+/// Asserts what the desk answers to a request.
+fn meets_at_the_desk<T: Tables>(rt: &impl Abort, desk: &mut Desk<T>, case: &Case<'_>) {
     let outcome = desk.handle(case.moment, &case.request);
     match (outcome.reply, case.answer) {
         (DeskReply::Given(reply), Answer::Shown(body)) => {
@@ -227,7 +285,7 @@ pub(crate) fn meets<T: Tables>(rt: &impl Abort, desk: &mut Desk<T>, case: &Case<
         }
         (DeskReply::Given(reply), Answer::Digested(digest)) => {
             assert!(rt; !outcome.changed);
-            let of_the_body = hash(HashName::Sha256, body_of(rt, &reply));
+            let of_the_body = hash(HashName::Sha256, reply.get(256..).expect(rt, "a body"));
             assert_eq!(rt; of_the_body.as_slice(), digest);
         }
         (DeskReply::Given(reply), Answer::Made(body)) => {
@@ -246,10 +304,38 @@ pub(crate) fn meets<T: Tables>(rt: &impl Abort, desk: &mut Desk<T>, case: &Case<
     }
 }
 
+/// Asserts the bytes of the reply to a request in bytes.
+fn meets_in_bytes<T: Tables>(rt: &impl Abort, server: &mut Server<T>, case: &Case<'_>) {
+    let alloc = server.alloc;
+    let bytes = request_bytes(alloc, &case.request)
+        .ok()
+        .expect(rt, "memory");
+    let reply = handle_bytes(&server.routes, &mut server.desk, case.moment, &bytes);
+    let wanted = match case.answer {
+        Answer::Shown(body) | Answer::Made(body) => framed(alloc, case.moment, body),
+        Answer::Denied(rule) => refused(alloc, case.moment, rule),
+        Answer::Digested(digest) => {
+            let of_the_body = hash(HashName::Sha256, body_in(reply.bytes()));
+            assert_eq!(rt; of_the_body.as_slice(), digest);
+            framed(alloc, case.moment, body_in(reply.bytes()))
+        }
+        Answer::Accepted(_) => framed(alloc, case.moment, body_in(reply.bytes())),
+    };
+    assert_eq!(rt; reply.bytes(), wanted.ok().expect(rt, "memory").as_slice());
+}
+
+/// Asserts what a request is answered.
+pub(crate) fn meets<T: Tables>(rt: &impl Abort, server: &mut Server<T>, case: &Case<'_>) {
+    match server.door {
+        Door::Desk => meets_at_the_desk(rt, &mut server.desk, case),
+        Door::Bytes => meets_in_bytes(rt, server, case),
+    }
+}
+
 /// Asserts what each of these requests is answered, one after another.
-pub(crate) fn meets_each<T: Tables>(rt: &impl Abort, desk: &mut Desk<T>, cases: &[Case<'_>]) {
+pub(crate) fn meets_each<T: Tables>(rt: &impl Abort, server: &mut Server<T>, cases: &[Case<'_>]) {
     for case in cases {
-        meets(rt, desk, case);
+        meets(rt, server, case);
     }
 }
 
@@ -261,62 +347,78 @@ pub(crate) fn keys(rt: &impl Abort) -> Keys {
     }
 }
 
-/// A desk over these records.
-pub(crate) fn desk_with<T: Tables + Drop>(
+/// A server over these records.
+pub(crate) fn server_with<T: Tables + Drop>(
     rt: &impl Abort,
     alloc: Global,
     keys: Keys,
-    tables: T,
-) -> Desk<T> {
-    Desk::new(alloc, keys, tables).ok().expect(rt, "a desk")
+    over: Over<T>,
+) -> Server<T> {
+    let Over { tables, door } = over;
+    Server {
+        alloc,
+        routes: Routes::new(alloc).ok().expect(rt, "paths"),
+        door,
+        desk: Desk::new(alloc, keys, tables).ok().expect(rt, "a desk"),
+    }
 }
 
-/// A desk over empty tables, to which the accounts 7 and 9 are added.
-pub(crate) fn new_desk<T: Tables + Drop>(rt: &impl Abort, alloc: Global, tables: T) -> Desk<T> {
-    let mut tables = tables;
+/// A server over empty tables, to which the accounts 7 and 9 are added.
+pub(crate) fn new_server<T: Tables + Drop>(
+    rt: &impl Abort,
+    alloc: Global,
+    over: Over<T>,
+) -> Server<T> {
+    let mut over = over;
     let seven = Order::AddAccount {
         account: 7,
         secret: SECRET,
     };
-    assert_eq!(rt; order_on(&mut tables, &seven), OrderReply::Done(None));
+    assert_eq!(rt; order_on(&mut over.tables, &seven), OrderReply::Done(None));
     let nine = Order::AddAccount {
         account: 9,
         secret: SECRET,
     };
-    assert_eq!(rt; order_on(&mut tables, &nine), OrderReply::Done(None));
-    desk_with(rt, alloc, keys(rt), tables)
+    assert_eq!(rt; order_on(&mut over.tables, &nine), OrderReply::Done(None));
+    server_with(rt, alloc, keys(rt), over)
 }
 
 /// Asserts what the approval of a request is answered.
 pub(crate) fn approves<T: Tables>(
     rt: &impl Abort,
-    desk: &mut Desk<T>,
+    server: &mut Server<T>,
     request: u64,
     wanted: OrderReply,
 ) {
-    assert_eq!(rt; desk.order(0, &Order::ApproveRequest { request }), wanted);
+    assert_eq!(rt;
+        server.desk.order(0, &Order::ApproveRequest { request }),
+        wanted
+    );
 }
 
 /// Asserts what the rejection of a request is answered.
 pub(crate) fn rejects<T: Tables>(
     rt: &impl Abort,
-    desk: &mut Desk<T>,
+    server: &mut Server<T>,
     request: u64,
     wanted: OrderReply,
 ) {
-    assert_eq!(rt; desk.order(0, &Order::RejectRequest { request }), wanted);
+    assert_eq!(rt;
+        server.desk.order(0, &Order::RejectRequest { request }),
+        wanted
+    );
 }
 
-/// A desk over empty tables, to which those accounts and the first session of account 7 are added, with the two
+/// A server over empty tables, to which those accounts and the first session of account 7 are added, with the two
 /// vector sets of this registration.
-pub(crate) fn desk_with_session<T: Tables + Drop>(
+pub(crate) fn server_with_session<T: Tables + Drop>(
     rt: &impl Abort,
     alloc: Global,
-    tables: T,
+    over: Over<T>,
     registered: &[u8],
-) -> Desk<T> {
-    let mut desk = new_desk(rt, alloc, tables);
+) -> Server<T> {
+    let mut server = new_server(rt, alloc, over);
     let first = made(60, registers(OF_SEVEN, registered), FIRST);
-    meets(rt, &mut desk, &first);
-    desk
+    meets(rt, &mut server, &first);
+    server
 }

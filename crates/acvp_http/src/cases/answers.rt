@@ -2,8 +2,8 @@
 
 use crate::cases::set::UNRECEIVED;
 use crate::cases::{
-    NINE, NINE_REVIEWS, OF_NINE, OF_THE_SESSION, OF_THE_SESSION_LATE, REGISTERED, add, denied,
-    desk_with_session, made, meets, meets_each, on_set, shown, with_answers, with_token,
+    NINE, NINE_REVIEWS, OF_NINE, OF_THE_SESSION, OF_THE_SESSION_LATE, Over, REGISTERED, add,
+    denied, made, meets, meets_each, on_set, server_with_session, shown, with_answers, with_token,
 };
 use acvp_policy::{Action, Rule};
 use acvp_tables::Tables;
@@ -68,9 +68,9 @@ const MISSING_BUT_THE_THIRD: &[u8] =
 pub(crate) fn answers_are_graded_and_kept_whole<T: Tables + Drop>(
     rt: &impl Abort,
     alloc: Global,
-    tables: T,
+    over: Over<T>,
 ) {
-    let mut desk = desk_with_session(rt, alloc, tables, REGISTERED);
+    let mut server = server_with_session(rt, alloc, over, REGISTERED);
     let results = on_set(Action::SetResults, 700000101, OF_THE_SESSION);
     let again = with_answers(Action::Resubmit, 700000101, OF_THE_SESSION, ALL_RIGHT);
     let first = with_answers(Action::Submit, 700000101, OF_THE_SESSION, ALL_RIGHT);
@@ -80,7 +80,7 @@ pub(crate) fn answers_are_graded_and_kept_whole<T: Tables + Drop>(
         shown(62, results, PASSED),
         denied(62, first, Rule::AlreadySubmitted),
     ];
-    meets_each(rt, &mut desk, &cases);
+    meets_each(rt, &mut server, &cases);
     let bodies: [(&[u8], &[u8]); 5] = [
         (ONE_WRONG, FAILED),
         (ONE_MISSING, MISSING),
@@ -91,9 +91,9 @@ pub(crate) fn answers_are_graded_and_kept_whole<T: Tables + Drop>(
     for (body, wanted) in bodies {
         let again = with_answers(Action::Resubmit, 700000101, OF_THE_SESSION, body);
         let cases = [made(63, again, RECEIVED), shown(64, results, wanted)];
-        meets_each(rt, &mut desk, &cases);
+        meets_each(rt, &mut server, &cases);
     }
-    assert_eq!(rt; desk.cached(), 1);
+    assert_eq!(rt; server.desk.cached(), 1);
 }
 
 /// Two sets of a session, each with whether it passed: what is told of the session.
@@ -120,9 +120,9 @@ const CANCELLED: &[u8] =
 pub(crate) fn a_session_passes_with_its_sets_alone<T: Tables + Drop>(
     rt: &impl Abort,
     alloc: Global,
-    tables: T,
+    over: Over<T>,
 ) {
-    let mut desk = desk_with_session(rt, alloc, tables, REGISTERED);
+    let mut server = server_with_session(rt, alloc, over, REGISTERED);
     let results = with_token(Action::SessionResults, 7000001, OF_THE_SESSION);
     let steps: [(Action, u64, &[u8], &[u8], &[u8]); 5] = [
         (Action::Submit, 700000101, ALL_RIGHT, RECEIVED, ONE_OF_TWO),
@@ -147,7 +147,7 @@ pub(crate) fn a_session_passes_with_its_sets_alone<T: Tables + Drop>(
         let sent = with_answers(action, set, OF_THE_SESSION, body);
         meets_each(
             rt,
-            &mut desk,
+            &mut server,
             &[made(61, sent, received), shown(62, results, wanted)],
         );
     }
@@ -156,16 +156,16 @@ pub(crate) fn a_session_passes_with_its_sets_alone<T: Tables + Drop>(
         made(63, cancel, CANCELLED),
         shown(63, results, THE_FIRST_ALONE),
     ];
-    meets_each(rt, &mut desk, &cases);
+    meets_each(rt, &mut server, &cases);
 }
 
 /// The rule of each body that is refused; none of them is kept.
 pub(crate) fn answers_that_are_refused_are_not_kept<T: Tables + Drop>(
     rt: &impl Abort,
     alloc: Global,
-    tables: T,
+    over: Over<T>,
 ) {
-    let mut desk = desk_with_session(rt, alloc, tables, REGISTERED);
+    let mut server = server_with_session(rt, alloc, over, REGISTERED);
     let bodies: [(&[u8], Rule); 6] = [
         (b"answers", Rule::BodyNotJson),
         (b"{}", Rule::BodyEnvelope),
@@ -179,7 +179,7 @@ pub(crate) fn answers_that_are_refused_are_not_kept<T: Tables + Drop>(
     ];
     for (body, rule) in bodies {
         let sent = with_answers(Action::Submit, 700000101, OF_THE_SESSION, body);
-        meets(rt, &mut desk, &denied(61, sent, rule));
+        meets(rt, &mut server, &denied(61, sent, rule));
     }
     let elsewhere = with_answers(Action::Submit, 900000101, OF_THE_SESSION, ALL_RIGHT);
     let reviewed = with_answers(Action::Submit, 700000101, OF_NINE, ALL_RIGHT);
@@ -193,5 +193,5 @@ pub(crate) fn answers_that_are_refused_are_not_kept<T: Tables + Drop>(
         denied(604860, late, Rule::SetExpired),
         made(604859, late, RECEIVED),
     ];
-    meets_each(rt, &mut desk, &cases);
+    meets_each(rt, &mut server, &cases);
 }

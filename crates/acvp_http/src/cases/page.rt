@@ -1,11 +1,11 @@
 //! What is answered to who lists sessions by pages.
 
-use crate::TypedRequest;
 use crate::cases::new_session::SECOND;
 use crate::cases::{
-    FIRST, OF_NINE, OF_SEVEN, ONE, REGISTERED, denied, made, meets, meets_each, new_desk,
+    FIRST, OF_NINE, OF_SEVEN, ONE, Over, REGISTERED, denied, made, meets, meets_each, new_server,
     registers, shown, with_token,
 };
+use acvp_desk::TypedRequest;
 use acvp_policy::{Action, Rule};
 use acvp_tables::Tables;
 use std::alloc::Global;
@@ -40,9 +40,9 @@ fn list<'a>(token: &'a [u8], query: &'a [u8]) -> TypedRequest<'a> {
 pub(crate) fn an_account_lists_its_own_sessions_by_pages<T: Tables + Drop>(
     rt: &impl Abort,
     alloc: Global,
-    tables: T,
+    over: Over<T>,
 ) {
-    let mut desk = new_desk(rt, alloc, tables);
+    let mut server = new_server(rt, alloc, over);
     let cases = [
         made(60, registers(OF_SEVEN, REGISTERED), FIRST),
         made(61, registers(OF_SEVEN, ONE), SECOND),
@@ -53,16 +53,16 @@ pub(crate) fn an_account_lists_its_own_sessions_by_pages<T: Tables + Drop>(
         shown(62, list(OF_SEVEN, b"offset=5"), PAST),
         shown(62, list(OF_NINE, b""), NONE),
     ];
-    meets_each(rt, &mut desk, &cases);
+    meets_each(rt, &mut server, &cases);
 }
 
 /// What is no page is refused, after the caller was looked at.
 pub(crate) fn what_no_page_is_is_refused<T: Tables + Drop>(
     rt: &impl Abort,
     alloc: Global,
-    tables: T,
+    over: Over<T>,
 ) {
-    let mut desk = new_desk(rt, alloc, tables);
+    let mut server = new_server(rt, alloc, over);
     let queries: [&[u8]; 9] = [
         b"limit=0",
         b"limit=101",
@@ -77,10 +77,10 @@ pub(crate) fn what_no_page_is_is_refused<T: Tables + Drop>(
     for query in queries {
         meets(
             rt,
-            &mut desk,
+            &mut server,
             &denied(62, list(OF_SEVEN, query), Rule::BadPage),
         );
     }
     let expired = list(OF_SEVEN, b"name=x");
-    meets(rt, &mut desk, &denied(1859, expired, Rule::TokenExpired));
+    meets(rt, &mut server, &denied(1859, expired, Rule::TokenExpired));
 }

@@ -1,12 +1,12 @@
 //! What is answered on a vector set, and what the cache keeps of it. Messages are bytes of OpenSSL's `chacha20` under
 //! a key of zeros, chosen by a program in Python.
 
-use crate::TokenField;
 use crate::cases::{
-    NINE, NINE_REVIEWS, OF_NINE, OF_SEVEN, OF_THE_SESSION, OF_THE_SESSION_LATE, REGISTERED, SAMPLE,
-    add, body_of, denied, desk_with_session, made, meets, meets_each, new_desk, on_set, registers,
-    reply_of, request, shown,
+    NINE, NINE_REVIEWS, OF_NINE, OF_SEVEN, OF_THE_SESSION, OF_THE_SESSION_LATE, Over, REGISTERED,
+    SAMPLE, accepted, add, denied, made, meets, meets_each, new_server, on_set, registers,
+    reply_of, request, server_with_session, shown,
 };
+use acvp_desk::TokenField;
 use acvp_policy::{Action, Rule};
 use acvp_tables::Tables;
 use std::alloc::Global;
@@ -33,35 +33,35 @@ const ENDED: &[u8] =
 pub(crate) fn a_set_is_made_once_and_read_again<T: Tables + Drop>(
     rt: &impl Abort,
     alloc: Global,
-    tables: T,
+    over: Over<T>,
 ) {
-    let mut desk = desk_with_session(rt, alloc, tables, REGISTERED);
-    assert_eq!(rt; desk.cached(), 0);
+    let mut server = server_with_session(rt, alloc, over, REGISTERED);
+    assert_eq!(rt; server.desk.cached(), 0);
     let read = on_set(Action::ReadSet, 700000101, OF_THE_SESSION);
-    meets(rt, &mut desk, &shown(61, read, PROMPTS));
-    assert_eq!(rt; desk.cached(), 1);
-    meets(rt, &mut desk, &shown(62, read, PROMPTS));
-    assert_eq!(rt; desk.cached(), 1);
+    meets(rt, &mut server, &shown(61, read, PROMPTS));
+    assert_eq!(rt; server.desk.cached(), 1);
+    meets(rt, &mut server, &shown(62, read, PROMPTS));
+    assert_eq!(rt; server.desk.cached(), 1);
     let other = on_set(Action::ReadSet, 700000102, OF_THE_SESSION);
-    assert!(rt; reply_of(rt, &mut desk, 62, &other).len() > 256);
-    assert_eq!(rt; desk.cached(), 2);
+    assert!(rt; !reply_of(rt, &mut server, 62, &other).is_empty());
+    assert_eq!(rt; server.desk.cached(), 2);
     // A set of another session isn't there, and nothing is made of it.
     let elsewhere = on_set(Action::ReadSet, 900000101, OF_THE_SESSION);
     let cases = [
         shown(63, read, PROMPTS),
         denied(63, elsewhere, Rule::NoResource),
     ];
-    meets_each(rt, &mut desk, &cases);
-    assert_eq!(rt; desk.cached(), 2);
+    meets_each(rt, &mut server, &cases);
+    assert_eq!(rt; server.desk.cached(), 2);
 }
 
 /// Expected answers are shown of samples alone.
 pub(crate) fn a_sample_shows_its_expected_answers<T: Tables + Drop>(
     rt: &impl Abort,
     alloc: Global,
-    tables: T,
+    over: Over<T>,
 ) {
-    let mut desk = desk_with_session(rt, alloc, tables, SAMPLE);
+    let mut server = server_with_session(rt, alloc, over, SAMPLE);
     let read = on_set(Action::ReadSet, 700000101, OF_THE_SESSION);
     let expected = on_set(Action::Expected, 700000101, OF_THE_SESSION);
     let cases = [
@@ -69,29 +69,29 @@ pub(crate) fn a_sample_shows_its_expected_answers<T: Tables + Drop>(
         shown(61, read, OF_A_SAMPLE),
         shown(61, expected, EXPECTED),
     ];
-    meets_each(rt, &mut desk, &cases);
-    assert_eq!(rt; desk.cached(), 1);
+    meets_each(rt, &mut server, &cases);
+    assert_eq!(rt; server.desk.cached(), 1);
 }
 
 /// And of no other, for which nothing is made.
 pub(crate) fn no_other_shows_its_expected_answers<T: Tables + Drop>(
     rt: &impl Abort,
     alloc: Global,
-    tables: T,
+    over: Over<T>,
 ) {
-    let mut desk = desk_with_session(rt, alloc, tables, REGISTERED);
+    let mut server = server_with_session(rt, alloc, over, REGISTERED);
     let expected = on_set(Action::Expected, 700000101, OF_THE_SESSION);
-    meets(rt, &mut desk, &denied(61, expected, Rule::NotSample));
-    assert_eq!(rt; desk.cached(), 0);
+    meets(rt, &mut server, &denied(61, expected, Rule::NotSample));
+    assert_eq!(rt; server.desk.cached(), 0);
 }
 
 /// A reviewer reads the results of a set, and not its prompts.
 pub(crate) fn a_reviewer_reads_the_results_of_a_set_and_not_its_prompts<T: Tables + Drop>(
     rt: &impl Abort,
     alloc: Global,
-    tables: T,
+    over: Over<T>,
 ) {
-    let mut desk = desk_with_session(rt, alloc, tables, SAMPLE);
+    let mut server = server_with_session(rt, alloc, over, SAMPLE);
     let cases = [
         made(61, add(NINE), NINE_REVIEWS),
         shown(
@@ -110,7 +110,7 @@ pub(crate) fn a_reviewer_reads_the_results_of_a_set_and_not_its_prompts<T: Table
             Rule::SessionTokenNeeded,
         ),
     ];
-    meets_each(rt, &mut desk, &cases);
+    meets_each(rt, &mut server, &cases);
 }
 
 /// The token of its session that is issued at 2592000.
@@ -121,9 +121,9 @@ const OF_THE_SESSION_LAST: &[u8] =
 pub(crate) fn a_set_ends_with_its_results_still_shown<T: Tables + Drop>(
     rt: &impl Abort,
     alloc: Global,
-    tables: T,
+    over: Over<T>,
 ) {
-    let mut desk = desk_with_session(rt, alloc, tables, REGISTERED);
+    let mut server = server_with_session(rt, alloc, over, REGISTERED);
     let read = on_set(Action::ReadSet, 700000101, OF_THE_SESSION_LATE);
     let results = on_set(Action::SetResults, 700000101, OF_THE_SESSION_LATE);
     let last = on_set(Action::ReadSet, 700000101, OF_THE_SESSION_LAST);
@@ -137,7 +137,7 @@ pub(crate) fn a_set_ends_with_its_results_still_shown<T: Tables + Drop>(
         denied(2592060, last, Rule::SessionExpired),
         shown(2592060, last_results, ENDED),
     ];
-    meets_each(rt, &mut desk, &cases);
+    meets_each(rt, &mut server, &cases);
 }
 
 /// Registrations of twenty vector sets and of five.
@@ -159,11 +159,15 @@ const OF_FOUR: [&[u8]; 4] = [
 pub(crate) fn the_cache_holds_sixty_four_sets<T: Tables + Drop>(
     rt: &impl Abort,
     alloc: Global,
-    tables: T,
+    over: Over<T>,
 ) {
-    let mut desk = new_desk(rt, alloc, tables);
+    let mut server = new_server(rt, alloc, over);
     for body in [TWENTY, TWENTY, TWENTY, FIVE] {
-        assert!(rt; desk.handle(60, &registers(OF_SEVEN, body)).changed);
+        meets(
+            rt,
+            &mut server,
+            &accepted(60, registers(OF_SEVEN, body), true),
+        );
     }
     let mut first = Vec::new(alloc);
     for (place, count) in [(0usize, 20u64), (1, 20), (2, 20), (3, 5)] {
@@ -171,14 +175,14 @@ pub(crate) fn the_cache_holds_sixty_four_sets<T: Tables + Drop>(
         for set in 1..=count {
             let token = TokenField::Bearer(OF_FOUR[place]);
             let read = request(Action::ReadSet, session, session * 100 + set, token);
-            let reply = reply_of(rt, &mut desk, 61, &read);
+            let reply = reply_of(rt, &mut server, 61, &read);
             if place == 0 && set == 1 {
                 first = reply;
             }
         }
     }
-    assert_eq!(rt; desk.cached(), 64);
+    assert_eq!(rt; server.desk.cached(), 64);
     let read = on_set(Action::ReadSet, 700000101, OF_FOUR[0]);
-    meets(rt, &mut desk, &shown(61, read, body_of(rt, &first)));
-    assert_eq!(rt; desk.cached(), 64);
+    meets(rt, &mut server, &shown(61, read, &first));
+    assert_eq!(rt; server.desk.cached(), 64);
 }

@@ -3,12 +3,11 @@
 use crate::cases::answers::{ALL_RIGHT, ONE_WRONG, RECEIVED, SECOND_RECEIVED, SECOND_RIGHT};
 use crate::cases::registry::{approved, register_all};
 use crate::cases::{
-    OF_SEVEN, OF_THE_SESSION, REGISTERED, SAMPLE, approves, denied, desk_with_session, made, meets,
-    meets_each, on_set, rejects, shown, with_answers, with_body, with_token,
+    OF_SEVEN, OF_THE_SESSION, Over, REGISTERED, SAMPLE, Server, approves, denied, made, meets,
+    meets_each, on_set, rejects, server_with_session, shown, with_answers, with_body, with_token,
 };
-use crate::{Desk, OrderReply, TypedRequest};
+use acvp_desk::{Kind, OrderReply, TypedRequest};
 use acvp_policy::{Action, Rule};
-use acvp_registry::Kind;
 use acvp_tables::Tables;
 use std::alloc::Global;
 use std::process::Abort;
@@ -53,31 +52,31 @@ pub(crate) fn certify(body: &[u8]) -> TypedRequest<'_> {
 }
 
 /// A desk with a session of two vector sets, and what a certification names.
-fn desk_to_certify<T: Tables + Drop>(rt: &impl Abort, alloc: Global, tables: T) -> Desk<T> {
-    let mut desk = desk_with_session(rt, alloc, tables, REGISTERED);
-    register_all(rt, &mut desk);
-    desk
+fn server_to_certify<T: Tables + Drop>(rt: &impl Abort, alloc: Global, over: Over<T>) -> Server<T> {
+    let mut server = server_with_session(rt, alloc, over, REGISTERED);
+    register_all(rt, &mut server);
+    server
 }
 
 /// Both sets of the session pass.
-fn pass<T: Tables>(rt: &impl Abort, desk: &mut Desk<T>) {
+fn pass<T: Tables>(rt: &impl Abort, server: &mut Server<T>) {
     let first = with_answers(Action::Submit, 700000101, OF_THE_SESSION, ALL_RIGHT);
     let second = with_answers(Action::Submit, 700000102, OF_THE_SESSION, SECOND_RIGHT);
     let cases = [
         made(101, first, RECEIVED),
         made(101, second, SECOND_RECEIVED),
     ];
-    meets_each(rt, desk, &cases);
+    meets_each(rt, server, &cases);
 }
 
 /// A session that has asked for certification is frozen; a rejection thaws it, and an approval freezes it for good.
 pub(crate) fn a_certification_freezes_its_session<T: Tables + Drop>(
     rt: &impl Abort,
     alloc: Global,
-    tables: T,
+    over: Over<T>,
 ) {
-    let mut desk = desk_to_certify(rt, alloc, tables);
-    pass(rt, &mut desk);
+    let mut server = server_to_certify(rt, alloc, over);
+    pass(rt, &mut server);
     let read = with_token(Action::ReadSession, 7000001, OF_THE_SESSION);
     let again = with_answers(Action::Resubmit, 700000101, OF_THE_SESSION, ALL_RIGHT);
     let cancel = with_token(Action::CancelSession, 7000001, OF_THE_SESSION);
@@ -93,39 +92,39 @@ pub(crate) fn a_certification_freezes_its_session<T: Tables + Drop>(
         made(102, certify(PARTS), FIFTH_WAITS),
         shown(102, read, INITIAL),
     ];
-    meets_each(rt, &mut desk, &cases);
-    meets_each(rt, &mut desk, &frozen);
-    rejects(rt, &mut desk, 7000005, OrderReply::Done(None));
+    meets_each(rt, &mut server, &cases);
+    meets_each(rt, &mut server, &frozen);
+    rejects(rt, &mut server, 7000005, OrderReply::Done(None));
     let cases = [
         shown(102, fifth, FIFTH_REJECTED),
         shown(102, read, OPEN),
         made(102, again, RECEIVED),
         made(102, certify(PARTS), SIXTH_WAITS),
     ];
-    meets_each(rt, &mut desk, &cases);
+    meets_each(rt, &mut server, &cases);
     let sixth = with_token(Action::ReadRequest, 7000006, OF_SEVEN);
     approves(
         rt,
-        &mut desk,
+        &mut server,
         7000006,
         approved(Kind::Certification, 7000001),
     );
-    approves(rt, &mut desk, 7000006, OrderReply::NotInitial);
+    approves(rt, &mut server, 7000006, OrderReply::NotInitial);
     let cases = [
         shown(102, sixth, SIXTH_APPROVED),
         shown(102, read, APPROVED),
     ];
-    meets_each(rt, &mut desk, &cases);
-    meets_each(rt, &mut desk, &frozen);
+    meets_each(rt, &mut server, &cases);
+    meets_each(rt, &mut server, &frozen);
 }
 
 /// Only a session whose vector sets have passed, those aside that are cancelled, is certified.
 pub(crate) fn a_session_is_certified_when_its_sets_have_passed<T: Tables + Drop>(
     rt: &impl Abort,
     alloc: Global,
-    tables: T,
+    over: Over<T>,
 ) {
-    let mut desk = desk_to_certify(rt, alloc, tables);
+    let mut server = server_to_certify(rt, alloc, over);
     let first = with_answers(Action::Submit, 700000101, OF_THE_SESSION, ALL_RIGHT);
     let wrong = with_answers(Action::Resubmit, 700000101, OF_THE_SESSION, ONE_WRONG);
     let right = with_answers(Action::Resubmit, 700000101, OF_THE_SESSION, ALL_RIGHT);
@@ -140,16 +139,16 @@ pub(crate) fn a_session_is_certified_when_its_sets_have_passed<T: Tables + Drop>
         made(101, right, RECEIVED),
         made(101, certify(PARTS), FIFTH_WAITS),
     ];
-    meets_each(rt, &mut desk, &cases);
+    meets_each(rt, &mut server, &cases);
 }
 
 /// A session without vector sets that aren't cancelled hasn't passed.
 pub(crate) fn a_session_without_sets_is_not_certified<T: Tables + Drop>(
     rt: &impl Abort,
     alloc: Global,
-    tables: T,
+    over: Over<T>,
 ) {
-    let mut desk = desk_to_certify(rt, alloc, tables);
+    let mut server = server_to_certify(rt, alloc, over);
     let first = on_set(Action::CancelSet, 700000101, OF_THE_SESSION);
     let second = on_set(Action::CancelSet, 700000102, OF_THE_SESSION);
     let cases = [
@@ -157,7 +156,7 @@ pub(crate) fn a_session_without_sets_is_not_certified<T: Tables + Drop>(
         made(101, second, SECOND_CANCELLED),
         denied(101, certify(PARTS), Rule::NotPassed),
     ];
-    meets_each(rt, &mut desk, &cases);
+    meets_each(rt, &mut server, &cases);
 }
 
 /// A token of the session at its end.
@@ -168,26 +167,26 @@ const OF_THE_SESSION_LAST: &[u8] =
 pub(crate) fn samples_and_ended_sessions_are_not_certified<T: Tables + Drop>(
     rt: &impl Abort,
     alloc: Global,
-    tables: T,
+    over: Over<T>,
 ) {
-    let mut desk = desk_with_session(rt, alloc, tables, SAMPLE);
+    let mut server = server_with_session(rt, alloc, over, SAMPLE);
     let late = with_body(Action::Certify, 7000001, OF_THE_SESSION_LAST, PARTS);
     let cases = [
         denied(101, certify(PARTS), Rule::SampleNotCertifiable),
         denied(2592060, late, Rule::SessionExpired),
         denied(2592059, late, Rule::SampleNotCertifiable),
     ];
-    meets_each(rt, &mut desk, &cases);
+    meets_each(rt, &mut server, &cases);
 }
 
 /// A body that names no module and environment of the account has its rule, and asks for nothing.
 pub(crate) fn a_certification_names_what_is_there<T: Tables + Drop>(
     rt: &impl Abort,
     alloc: Global,
-    tables: T,
+    over: Over<T>,
 ) {
-    let mut desk = desk_to_certify(rt, alloc, tables);
-    pass(rt, &mut desk);
+    let mut server = server_to_certify(rt, alloc, over);
+    pass(rt, &mut server);
     let bodies: [(&[u8], Rule); 6] = [
         (b"[", Rule::BodyNotJson),
         (b"{}", Rule::BodyEnvelope),
@@ -209,12 +208,12 @@ pub(crate) fn a_certification_names_what_is_there<T: Tables + Drop>(
         ),
     ];
     for (body, rule) in bodies {
-        meets(rt, &mut desk, &denied(102, certify(body), rule));
+        meets(rt, &mut server, &denied(102, certify(body), rule));
     }
     let unbound = with_body(Action::Certify, 7000001, OF_SEVEN, PARTS);
     let cases = [
         denied(102, unbound, Rule::SessionTokenNeeded),
         made(102, certify(PARTS), FIFTH_WAITS),
     ];
-    meets_each(rt, &mut desk, &cases);
+    meets_each(rt, &mut server, &cases);
 }

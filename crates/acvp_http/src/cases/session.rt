@@ -1,8 +1,8 @@
 //! What is answered on a test session.
 
 use crate::cases::{
-    NINE, NINE_REVIEWS, OF_NINE, OF_SEVEN, OF_THE_SESSION, OF_THE_SESSION_LATE, REGISTERED, add,
-    denied, desk_with_session, made, meets_each, shown, with_token,
+    NINE, NINE_REVIEWS, OF_NINE, OF_SEVEN, OF_THE_SESSION, OF_THE_SESSION_LATE, Over, REGISTERED,
+    add, denied, made, meets_each, server_with_session, shown, with_token,
 };
 use acvp_policy::{Action, Rule};
 use acvp_tables::Tables;
@@ -44,9 +44,9 @@ const EXPIRED: &[u8] =
 pub(crate) fn a_session_is_read_and_cancelled<T: Tables + Drop>(
     rt: &impl Abort,
     alloc: Global,
-    tables: T,
+    over: Over<T>,
 ) {
-    let mut desk = desk_with_session(rt, alloc, tables, REGISTERED);
+    let mut server = server_with_session(rt, alloc, over, REGISTERED);
     let read = with_token(Action::ReadSession, 7000001, OF_THE_SESSION);
     let cancel = with_token(Action::CancelSession, 7000001, OF_THE_SESSION);
     let results = with_token(Action::SessionResults, 7000001, OF_THE_SESSION);
@@ -59,16 +59,16 @@ pub(crate) fn a_session_is_read_and_cancelled<T: Tables + Drop>(
         shown(61, read, AFTERWARDS),
         shown(61, list, SETS),
     ];
-    meets_each(rt, &mut desk, &cases);
+    meets_each(rt, &mut server, &cases);
 }
 
 /// Its lists, and its account's counts by the session's own token.
 pub(crate) fn the_lists_of_a_session_are_read<T: Tables + Drop>(
     rt: &impl Abort,
     alloc: Global,
-    tables: T,
+    over: Over<T>,
 ) {
-    let mut desk = desk_with_session(rt, alloc, tables, REGISTERED);
+    let mut server = server_with_session(rt, alloc, over, REGISTERED);
     let sets = with_token(Action::ListSets, 7000001, OF_THE_SESSION);
     let reviewers = with_token(Action::ListReviewers, 7000001, OF_THE_SESSION);
     let account = with_token(Action::ReadAccount, 0, OF_THE_SESSION);
@@ -77,16 +77,16 @@ pub(crate) fn the_lists_of_a_session_are_read<T: Tables + Drop>(
         shown(61, reviewers, NOBODY),
         shown(61, account, ONE_SESSION),
     ];
-    meets_each(rt, &mut desk, &cases);
+    meets_each(rt, &mut server, &cases);
 }
 
 /// The end of a session's vector sets is that of its results.
 pub(crate) fn results_wait_until_their_sets_end<T: Tables + Drop>(
     rt: &impl Abort,
     alloc: Global,
-    tables: T,
+    over: Over<T>,
 ) {
-    let mut desk = desk_with_session(rt, alloc, tables, REGISTERED);
+    let mut server = server_with_session(rt, alloc, over, REGISTERED);
     let early = with_token(Action::SessionResults, 7000001, OF_THE_SESSION);
     let late = with_token(Action::SessionResults, 7000001, OF_THE_SESSION_LATE);
     let cases = [
@@ -94,16 +94,16 @@ pub(crate) fn results_wait_until_their_sets_end<T: Tables + Drop>(
         shown(604859, late, UNRECEIVED),
         shown(604860, late, EXPIRED),
     ];
-    meets_each(rt, &mut desk, &cases);
+    meets_each(rt, &mut server, &cases);
 }
 
 /// A reviewer reads the results of the session that names it, and nothing else.
 pub(crate) fn a_reviewer_reads_results_and_nothing_else<T: Tables + Drop>(
     rt: &impl Abort,
     alloc: Global,
-    tables: T,
+    over: Over<T>,
 ) {
-    let mut desk = desk_with_session(rt, alloc, tables, REGISTERED);
+    let mut server = server_with_session(rt, alloc, over, REGISTERED);
     let results = with_token(Action::SessionResults, 7000001, OF_NINE);
     let bound = with_token(Action::SessionResults, 7000001, OF_THE_SESSION_OF_NINE);
     let another = with_token(Action::SessionResults, 7000002, OF_NINE);
@@ -116,7 +116,7 @@ pub(crate) fn a_reviewer_reads_results_and_nothing_else<T: Tables + Drop>(
         denied(61, another, Rule::SessionTokenNeeded),
         denied(61, unbound, Rule::SessionTokenNeeded),
     ];
-    meets_each(rt, &mut desk, &cases);
+    meets_each(rt, &mut server, &cases);
     for action in [
         Action::ReadSession,
         Action::ListSets,
@@ -126,10 +126,10 @@ pub(crate) fn a_reviewer_reads_results_and_nothing_else<T: Tables + Drop>(
         let asked = with_token(action, 7000001, OF_NINE);
         meets_each(
             rt,
-            &mut desk,
+            &mut server,
             &[denied(61, asked, Rule::SessionTokenNeeded)],
         );
     }
     let reviewers = with_token(Action::ListReviewers, 7000001, OF_THE_SESSION);
-    meets_each(rt, &mut desk, &[shown(61, reviewers, NINE_REVIEWS)]);
+    meets_each(rt, &mut server, &[shown(61, reviewers, NINE_REVIEWS)]);
 }

@@ -1,10 +1,10 @@
 //! What is answered to who adds or removes reviewers.
 
 use crate::cases::{
-    NINE, NINE_REVIEWS, OF_NINE, OF_THE_SESSION, REGISTERED, add, denied, desk_with_session, made,
-    meets_each, request, with_token,
+    NINE, NINE_REVIEWS, OF_NINE, OF_THE_SESSION, Over, REGISTERED, accepted, add, denied, made,
+    meets, meets_each, request, server_with_session, with_token,
 };
-use crate::{TokenField, TypedRequest};
+use acvp_desk::{TokenField, TypedRequest};
 use acvp_policy::{Action, Rule};
 use acvp_tables::Tables;
 use std::alloc::Global;
@@ -41,9 +41,9 @@ const SEVENTEEN: [&[u8]; 17] = [
 pub(crate) fn a_removed_reviewer_reads_no_more<T: Tables + Drop>(
     rt: &impl Abort,
     alloc: Global,
-    tables: T,
+    over: Over<T>,
 ) {
-    let mut desk = desk_with_session(rt, alloc, tables, REGISTERED);
+    let mut server = server_with_session(rt, alloc, over, REGISTERED);
     let results = with_token(Action::SessionResults, 7000001, OF_NINE);
     let eight: &[u8] = br#"[{"acvVersion":"1.0"},{"account":8}]"#;
     let both: &[u8] = br#"[{"acvVersion":"1.0"},{"reviewers":[8,9]}]"#;
@@ -61,18 +61,18 @@ pub(crate) fn a_removed_reviewer_reads_no_more<T: Tables + Drop>(
         denied(61, remove(65544), Rule::NoResource),
         made(61, remove(8), nobody),
     ];
-    meets_each(rt, &mut desk, &cases);
+    meets_each(rt, &mut server, &cases);
 }
 
 /// A seventeenth is refused, and one of the sixteen isn't.
 pub(crate) fn sixteen_accounts_review_a_session<T: Tables + Drop>(
     rt: &impl Abort,
     alloc: Global,
-    tables: T,
+    over: Over<T>,
 ) {
-    let mut desk = desk_with_session(rt, alloc, tables, REGISTERED);
+    let mut server = server_with_session(rt, alloc, over, REGISTERED);
     for body in &SEVENTEEN[..16] {
-        assert!(rt; desk.handle(61, &add(body)).changed);
+        meets(rt, &mut server, &accepted(61, add(body), true));
     }
     let all: &[u8] =
         br#"[{"acvVersion":"1.0"},{"reviewers":[101,102,103,104,105,106,107,108,109,110,111,112,113,114,115,116]}]"#;
@@ -82,5 +82,5 @@ pub(crate) fn sixteen_accounts_review_a_session<T: Tables + Drop>(
         made(61, add(SEVENTEEN[4]), all),
         denied(61, add(nobody), Rule::BodyField),
     ];
-    meets_each(rt, &mut desk, &cases);
+    meets_each(rt, &mut server, &cases);
 }

@@ -1,14 +1,11 @@
 //! What is answered on vendors, modules and operational environments, and on the requests for them.
 
 use crate::cases::{
-    OF_NINE, OF_SEVEN, OF_THE_SESSION, approves, denied, made, meets, meets_each, new_desk,
-    rejects, shown, with_body, with_token,
+    OF_NINE, OF_SEVEN, OF_THE_SESSION, Over, Server, approves, denied, made, meets, meets_each,
+    new_server, rejects, shown, with_body, with_token,
 };
-use crate::found::Asked;
-use crate::registration::next_request;
-use crate::{Desk, OrderReply, TypedRequest};
+use acvp_desk::{Kind, OrderReply, TypedRequest};
 use acvp_policy::{Action, Rule};
-use acvp_registry::Kind;
 use acvp_tables::Tables;
 use std::alloc::Global;
 use std::process::Abort;
@@ -73,9 +70,9 @@ pub(crate) fn approved(kind: Kind, number: u64) -> OrderReply {
 pub(crate) fn a_vendor_is_registered_by_approval<T: Tables + Drop>(
     rt: &impl Abort,
     alloc: Global,
-    tables: T,
+    over: Over<T>,
 ) {
-    let mut desk = new_desk(rt, alloc, tables);
+    let mut server = new_server(rt, alloc, over);
     let asks = with_body(Action::NewVendor, 0, OF_SEVEN, ACME);
     let asks_for_a_module = with_body(Action::NewModule, 0, OF_SEVEN, MODULE);
     let bound = with_body(Action::NewVendor, 0, OF_THE_SESSION, ACME);
@@ -88,11 +85,11 @@ pub(crate) fn a_vendor_is_registered_by_approval<T: Tables + Drop>(
         shown(100, request, FIRST_WAITS),
         denied(100, vendor, Rule::NoResource),
     ];
-    meets_each(rt, &mut desk, &cases);
-    approves(rt, &mut desk, 7000009, OrderReply::Unknown);
-    approves(rt, &mut desk, 7000001, approved(Kind::Vendor, 7000001));
-    approves(rt, &mut desk, 7000001, OrderReply::NotInitial);
-    rejects(rt, &mut desk, 7000001, OrderReply::NotInitial);
+    meets_each(rt, &mut server, &cases);
+    approves(rt, &mut server, 7000009, OrderReply::Unknown);
+    approves(rt, &mut server, 7000001, approved(Kind::Vendor, 7000001));
+    approves(rt, &mut server, 7000001, OrderReply::NotInitial);
+    rejects(rt, &mut server, 7000001, OrderReply::NotInitial);
     let anothers = with_token(Action::ReadVendor, 7000001, OF_NINE);
     let anothers_request = with_token(Action::ReadRequest, 7000001, OF_NINE);
     let of_anothers_vendor = with_body(Action::NewModule, 0, OF_NINE, MODULE);
@@ -119,22 +116,22 @@ pub(crate) fn a_vendor_is_registered_by_approval<T: Tables + Drop>(
         denied(100, of_anothers_vendor, Rule::NoReference),
         made(100, asks_for_a_module, SECOND_WAITS),
     ];
-    meets_each(rt, &mut desk, &cases);
+    meets_each(rt, &mut server, &cases);
 }
 
 /// A request that is rejected registers nothing, and isn't decided again.
 pub(crate) fn a_rejected_request_registers_nothing<T: Tables + Drop>(
     rt: &impl Abort,
     alloc: Global,
-    tables: T,
+    over: Over<T>,
 ) {
-    let mut desk = new_desk(rt, alloc, tables);
+    let mut server = new_server(rt, alloc, over);
     let asks = with_body(Action::NewVendor, 0, OF_SEVEN, ACME);
-    meets(rt, &mut desk, &made(100, asks, FIRST_WAITS));
-    rejects(rt, &mut desk, 7000002, OrderReply::Unknown);
-    rejects(rt, &mut desk, 7000001, OrderReply::Done(None));
-    rejects(rt, &mut desk, 7000001, OrderReply::NotInitial);
-    approves(rt, &mut desk, 7000001, OrderReply::NotInitial);
+    meets(rt, &mut server, &made(100, asks, FIRST_WAITS));
+    rejects(rt, &mut server, 7000002, OrderReply::Unknown);
+    rejects(rt, &mut server, 7000001, OrderReply::Done(None));
+    rejects(rt, &mut server, 7000001, OrderReply::NotInitial);
+    approves(rt, &mut server, 7000001, OrderReply::NotInitial);
     let request = with_token(Action::ReadRequest, 7000001, OF_SEVEN);
     let vendor = with_token(Action::ReadVendor, 7000001, OF_SEVEN);
     let cases = [
@@ -142,13 +139,13 @@ pub(crate) fn a_rejected_request_registers_nothing<T: Tables + Drop>(
         denied(100, vendor, Rule::NoResource),
         made(100, asks, SECOND_WAITS),
     ];
-    meets_each(rt, &mut desk, &cases);
-    approves(rt, &mut desk, 7000002, approved(Kind::Vendor, 7000001));
+    meets_each(rt, &mut server, &cases);
+    approves(rt, &mut server, 7000002, approved(Kind::Vendor, 7000001));
 }
 
 /// Two vendors, a module and an environment of account 7 are registered. Each kind has numbers of its own, in the order
 /// of the approvals.
-pub(crate) fn register_all<T: Tables>(rt: &impl Abort, desk: &mut Desk<T>) {
+pub(crate) fn register_all<T: Tables>(rt: &impl Abort, server: &mut Server<T>) {
     let asked: [(Action, &[u8], &[u8], u64, OrderReply); 4] = [
         (
             Action::NewVendor,
@@ -182,10 +179,10 @@ pub(crate) fn register_all<T: Tables>(rt: &impl Abort, desk: &mut Desk<T>) {
     for (action, body, waits, request, wanted) in asked {
         meets(
             rt,
-            desk,
+            server,
             &made(100, with_body(action, 0, OF_SEVEN, body), waits),
         );
-        approves(rt, desk, request, wanted);
+        approves(rt, server, request, wanted);
     }
 }
 
@@ -193,10 +190,10 @@ pub(crate) fn register_all<T: Tables>(rt: &impl Abort, desk: &mut Desk<T>) {
 pub(crate) fn what_is_registered_is_read<T: Tables + Drop>(
     rt: &impl Abort,
     alloc: Global,
-    tables: T,
+    over: Over<T>,
 ) {
-    let mut desk = new_desk(rt, alloc, tables);
-    register_all(rt, &mut desk);
+    let mut server = new_server(rt, alloc, over);
+    register_all(rt, &mut server);
     let cases = [
         shown(
             100,
@@ -225,7 +222,7 @@ pub(crate) fn what_is_registered_is_read<T: Tables + Drop>(
         ),
         shown(100, with_token(Action::ReadAccount, 0, OF_SEVEN), COUNTS),
     ];
-    meets_each(rt, &mut desk, &cases);
+    meets_each(rt, &mut server, &cases);
 }
 
 /// The pages of each list: whole, its first row, its last, and past all.
@@ -278,9 +275,13 @@ fn list<'a>(action: Action, token: &'a [u8], query: &'a [u8]) -> TypedRequest<'a
 }
 
 /// The pages of each list at its ends, with the rows of the account alone.
-pub(crate) fn each_list_has_its_pages<T: Tables + Drop>(rt: &impl Abort, alloc: Global, tables: T) {
-    let mut desk = new_desk(rt, alloc, tables);
-    register_all(rt, &mut desk);
+pub(crate) fn each_list_has_its_pages<T: Tables + Drop>(
+    rt: &impl Abort,
+    alloc: Global,
+    over: Over<T>,
+) {
+    let mut server = new_server(rt, alloc, over);
+    register_all(rt, &mut server);
     let pages: [(Action, &[u8], &[u8]); 11] = [
         (Action::ListVendors, b"", VENDORS),
         (Action::ListVendors, b"limit=1", FIRST_VENDOR),
@@ -297,7 +298,7 @@ pub(crate) fn each_list_has_its_pages<T: Tables + Drop>(rt: &impl Abort, alloc: 
     for (action, query, wanted) in pages {
         meets(
             rt,
-            &mut desk,
+            &mut server,
             &shown(100, list(action, OF_SEVEN, query), wanted),
         );
     }
@@ -309,7 +310,7 @@ pub(crate) fn each_list_has_its_pages<T: Tables + Drop>(rt: &impl Abort, alloc: 
             NO_VENDORS_OF_NINE,
         ),
     ];
-    meets_each(rt, &mut desk, &cases);
+    meets_each(rt, &mut server, &cases);
     for action in [
         Action::ListVendors,
         Action::ListModules,
@@ -319,7 +320,7 @@ pub(crate) fn each_list_has_its_pages<T: Tables + Drop>(rt: &impl Abort, alloc: 
         let query: &[u8] = b"limit=0";
         meets(
             rt,
-            &mut desk,
+            &mut server,
             &denied(100, list(action, OF_SEVEN, query), Rule::BadPage),
         );
     }
@@ -329,10 +330,10 @@ pub(crate) fn each_list_has_its_pages<T: Tables + Drop>(rt: &impl Abort, alloc: 
 pub(crate) fn what_no_object_is_has_its_rule<T: Tables + Drop>(
     rt: &impl Abort,
     alloc: Global,
-    tables: T,
+    over: Over<T>,
 ) {
-    let mut desk = new_desk(rt, alloc, tables);
-    register_all(rt, &mut desk);
+    let mut server = new_server(rt, alloc, over);
+    register_all(rt, &mut server);
     let bodies: [(Action, &[u8], Rule); 9] = [
         (Action::NewVendor, b"[", Rule::BodyNotJson),
         (Action::NewVendor, b"{}", Rule::BodyEnvelope),
@@ -371,27 +372,13 @@ pub(crate) fn what_no_object_is_has_its_rule<T: Tables + Drop>(
     for (action, body, rule) in bodies {
         meets(
             rt,
-            &mut desk,
+            &mut server,
             &denied(100, with_body(action, 0, OF_SEVEN, body), rule),
         );
     }
     meets(
         rt,
-        &mut desk,
+        &mut server,
         &shown(100, with_token(Action::ReadAccount, 0, OF_SEVEN), COUNTS),
     );
-}
-
-/// An account gives 999999 numbers to requests, and is full then; what a body names is judged before.
-pub(crate) fn requests_end_with_the_numbers(rt: &impl Abort) {
-    let numbers = [
-        (7, 0, true, Ok(7000001)),
-        (7, 999998, true, Ok(7999999)),
-        (7, 999999, true, Err(Rule::AccountFull)),
-        (7, 999999, false, Err(Rule::NoReference)),
-        (9999, 999998, true, Ok(9999999999)),
-    ];
-    for (account, requests, named, wanted) in numbers {
-        assert_eq!(rt; next_request(account, Asked { requests, named }), wanted);
-    }
 }

@@ -2,11 +2,10 @@
 //! answers, and what is answered to who sends these back. Digests are of bodies that a program in Python makes with
 //! ChaCha20 of its `cryptography`, hashlib and hmac.
 
-use crate::Desk;
 use crate::cases::answers::{RECEIVED, SECOND_RECEIVED};
 use crate::cases::{
-    OF_THE_SESSION, body_of, desk_with_session, digested, made, meets_each, on_set, reply_of,
-    with_answers,
+    OF_THE_SESSION, Over, Server, digested, made, meets_each, on_set, reply_of,
+    server_with_session, with_answers,
 };
 use acvp_policy::Action;
 use acvp_tables::Tables;
@@ -71,12 +70,12 @@ fn joined(alloc: Global, first: &[u8], second: &[u8]) -> Result<Vec<u8>, AllocEr
 }
 
 /// Sends answers to the first set again, and asserts what its results are.
-fn again<T: Tables + Drop>(rt: &impl Abort, desk: &mut Desk<T>, body: &[u8], wanted: &[u8]) {
+fn again<T: Tables + Drop>(rt: &impl Abort, server: &mut Server<T>, body: &[u8], wanted: &[u8]) {
     let sent = with_answers(Action::Resubmit, 700000101, OF_THE_SESSION, body);
     let results = on_set(Action::SetResults, 700000101, OF_THE_SESSION);
     meets_each(
         rt,
-        desk,
+        server,
         &[made(62, sent, RECEIVED), digested(62, results, wanted)],
     );
 }
@@ -85,9 +84,9 @@ fn again<T: Tables + Drop>(rt: &impl Abort, desk: &mut Desk<T>, body: &[u8], wan
 pub(crate) fn wide_sets_are_made_by_their_standards<T: Tables + Drop>(
     rt: &impl Abort,
     alloc: Global,
-    tables: T,
+    over: Over<T>,
 ) {
-    let mut desk = desk_with_session(rt, alloc, tables, WIDE);
+    let mut server = server_with_session(rt, alloc, over, WIDE);
     let cases = [
         digested(
             61,
@@ -110,7 +109,7 @@ pub(crate) fn wide_sets_are_made_by_their_standards<T: Tables + Drop>(
             HMAC_EXPECTED,
         ),
     ];
-    meets_each(rt, &mut desk, &cases);
+    meets_each(rt, &mut server, &cases);
 }
 
 /// The expected answers to a Monte Carlo test pass when they are sent. With an entry too few, one too many or none it
@@ -118,27 +117,32 @@ pub(crate) fn wide_sets_are_made_by_their_standards<T: Tables + Drop>(
 pub(crate) fn a_monte_carlo_test_needs_its_hundred_entries<T: Tables + Drop>(
     rt: &impl Abort,
     alloc: Global,
-    tables: T,
+    over: Over<T>,
 ) -> Result<(), AllocError> {
-    let mut desk = desk_with_session(rt, alloc, tables, WIDE);
+    let mut server = server_with_session(rt, alloc, over, WIDE);
     let expected = on_set(Action::Expected, 700000101, OF_THE_SESSION);
-    let reply = reply_of(rt, &mut desk, 61, &expected);
-    let right = body_of(rt, &reply);
+    let reply = reply_of(rt, &mut server, 61, &expected);
+    let right = reply.as_slice();
     let first = with_answers(Action::Submit, 700000101, OF_THE_SESSION, right);
     let results = on_set(Action::SetResults, 700000101, OF_THE_SESSION);
     let cases = [made(61, first, RECEIVED), digested(62, results, PASSED)];
-    meets_each(rt, &mut desk, &cases);
+    meets_each(rt, &mut server, &cases);
     let (all, end) = parted(rt, right, END);
     let (but_one, last) = parted(rt, all, ENTRY);
     let (front, _) = parted(rt, all, ENTRIES);
     let (first_group, _) = parted(rt, front, GROUP);
-    again(rt, &mut desk, &joined(alloc, but_one, end)?, LAST_FAILED);
+    again(rt, &mut server, &joined(alloc, but_one, end)?, LAST_FAILED);
     let one_more = joined(alloc, all, last)?;
-    again(rt, &mut desk, &joined(alloc, &one_more, end)?, LAST_FAILED);
-    again(rt, &mut desk, &joined(alloc, front, end)?, LAST_FAILED);
+    again(
+        rt,
+        &mut server,
+        &joined(alloc, &one_more, end)?,
+        LAST_FAILED,
+    );
+    again(rt, &mut server, &joined(alloc, front, end)?, LAST_FAILED);
     let without = joined(alloc, first_group, br#"],"vsId":700000101}]"#)?;
-    again(rt, &mut desk, &without, LAST_MISSING);
-    again(rt, &mut desk, right, PASSED);
+    again(rt, &mut server, &without, LAST_MISSING);
+    again(rt, &mut server, right, PASSED);
     Ok(())
 }
 
@@ -146,17 +150,17 @@ pub(crate) fn a_monte_carlo_test_needs_its_hundred_entries<T: Tables + Drop>(
 pub(crate) fn expected_results_of_hmac_pass<T: Tables + Drop>(
     rt: &impl Abort,
     alloc: Global,
-    tables: T,
+    over: Over<T>,
 ) {
-    let mut desk = desk_with_session(rt, alloc, tables, WIDE);
+    let mut server = server_with_session(rt, alloc, over, WIDE);
     let expected = on_set(Action::Expected, 700000102, OF_THE_SESSION);
-    let reply = reply_of(rt, &mut desk, 61, &expected);
-    let right = body_of(rt, &reply);
+    let reply = reply_of(rt, &mut server, 61, &expected);
+    let right = reply.as_slice();
     let sent = with_answers(Action::Submit, 700000102, OF_THE_SESSION, right);
     let results = on_set(Action::SetResults, 700000102, OF_THE_SESSION);
     let cases = [
         made(61, sent, SECOND_RECEIVED),
         digested(62, results, HMAC_PASSED),
     ];
-    meets_each(rt, &mut desk, &cases);
+    meets_each(rt, &mut server, &cases);
 }

@@ -1,8 +1,8 @@
 //! What is answered to who cancels a vector set.
 
 use crate::cases::{
-    NINE, NINE_REVIEWS, OF_NINE, OF_THE_SESSION, REGISTERED, add, denied, desk_with_session, made,
-    meets, meets_each, on_set, shown, with_token,
+    NINE, NINE_REVIEWS, OF_NINE, OF_THE_SESSION, Over, REGISTERED, add, denied, made, meets,
+    meets_each, on_set, server_with_session, shown, with_token,
 };
 use acvp_policy::{Action, Rule};
 use acvp_tables::Tables;
@@ -29,9 +29,9 @@ const NO_RESULTS: &[u8] = br#"[{"acvVersion":"1.0"},{"passed":false,"results":[]
 pub(crate) fn a_cancelled_set_is_neither_listed_nor_read<T: Tables + Drop>(
     rt: &impl Abort,
     alloc: Global,
-    tables: T,
+    over: Over<T>,
 ) {
-    let mut desk = desk_with_session(rt, alloc, tables, REGISTERED);
+    let mut server = server_with_session(rt, alloc, over, REGISTERED);
     let first = on_set(Action::CancelSet, 700000101, OF_THE_SESSION);
     let second = on_set(Action::CancelSet, 700000102, OF_THE_SESSION);
     let sets = with_token(Action::ListSets, 7000001, OF_THE_SESSION);
@@ -48,8 +48,8 @@ pub(crate) fn a_cancelled_set_is_neither_listed_nor_read<T: Tables + Drop>(
         made(61, second, SECOND_CANCELLED),
         shown(61, results, NO_RESULTS),
     ];
-    meets_each(rt, &mut desk, &cases);
-    let mut tables = desk.into_tables();
+    meets_each(rt, &mut server, &cases);
+    let mut tables = server.into_tables();
     let session = tables
         .session(7000001)
         .ok()
@@ -64,10 +64,10 @@ pub(crate) fn a_cancelled_set_is_neither_listed_nor_read<T: Tables + Drop>(
 pub(crate) fn a_set_is_cancelled_by_its_own_session_alone<T: Tables + Drop>(
     rt: &impl Abort,
     alloc: Global,
-    tables: T,
+    over: Over<T>,
 ) {
-    let mut desk = desk_with_session(rt, alloc, tables, REGISTERED);
-    meets(rt, &mut desk, &made(61, add(NINE), NINE_REVIEWS));
+    let mut server = server_with_session(rt, alloc, over, REGISTERED);
+    meets(rt, &mut server, &made(61, add(NINE), NINE_REVIEWS));
     let cases: [(u64, &[u8], Rule); 4] = [
         (700000101, OF_NINE, Rule::SessionTokenNeeded),
         (700000103, OF_THE_SESSION, Rule::NoResource),
@@ -76,6 +76,6 @@ pub(crate) fn a_set_is_cancelled_by_its_own_session_alone<T: Tables + Drop>(
     ];
     for (set, token, rule) in cases {
         let asked = on_set(Action::CancelSet, set, token);
-        meets(rt, &mut desk, &denied(61, asked, rule));
+        meets(rt, &mut server, &denied(61, asked, rule));
     }
 }

@@ -2,9 +2,9 @@
 
 use crate::cases::login::{ACCEPTED, LOGIN, NO_ROWS, login};
 use crate::cases::{
-    OF_SEVEN, denied, made, meets, meets_each, new_desk, request, shown, with_token,
+    OF_SEVEN, Over, denied, made, meets, meets_each, new_server, request, shown, with_token,
 };
-use crate::{Order, OrderReply, TokenField, TypedRequest};
+use acvp_desk::{Order, OrderReply, TokenField, TypedRequest};
 use acvp_policy::{Action, Rule};
 use acvp_tables::Tables;
 use std::alloc::Global;
@@ -41,25 +41,25 @@ fn read_session(session: u64, token: &[u8]) -> TypedRequest<'_> {
 pub(crate) fn an_account_is_read_until_its_token_ends<T: Tables + Drop>(
     rt: &impl Abort,
     alloc: Global,
-    tables: T,
+    over: Over<T>,
 ) {
-    let mut desk = new_desk(rt, alloc, tables);
+    let mut server = new_server(rt, alloc, over);
     let read = with_token(Action::ReadAccount, 0, OF_SEVEN);
     let cases = [
         made(59, login(LOGIN), ACCEPTED),
         shown(1858, read, NO_ROWS),
         denied(1859, read, Rule::TokenExpired),
     ];
-    meets_each(rt, &mut desk, &cases);
+    meets_each(rt, &mut server, &cases);
 }
 
 /// There are twelve algorithms.
 pub(crate) fn algorithms_are_numbered_from_one_to_twelve<T: Tables + Drop>(
     rt: &impl Abort,
     alloc: Global,
-    tables: T,
+    over: Over<T>,
 ) {
-    let mut desk = new_desk(rt, alloc, tables);
+    let mut server = new_server(rt, alloc, over);
     let second: &[u8] =
         br#"[{"acvVersion":"1.0"},{"name":"SHA2-256","revision":"1.0","url":"/acvp/v1/algorithms/2"}]"#;
     let last: &[u8] =
@@ -75,16 +75,16 @@ pub(crate) fn algorithms_are_numbered_from_one_to_twelve<T: Tables + Drop>(
             ALL_TWELVE,
         ),
     ];
-    meets_each(rt, &mut desk, &cases);
+    meets_each(rt, &mut server, &cases);
 }
 
 /// The caller is looked at before what the path names, in the order of the rules.
 pub(crate) fn tokens_are_asked_for_before_what_a_path_names<T: Tables + Drop>(
     rt: &impl Abort,
     alloc: Global,
-    tables: T,
+    over: Over<T>,
 ) {
-    let mut desk = new_desk(rt, alloc, tables);
+    let mut server = new_server(rt, alloc, over);
     let missing = request(Action::ReadAccount, 0, 0, TokenField::Missing);
     let doubled = request(Action::ReadAccount, 0, 0, TokenField::Doubled);
     let cases = [
@@ -114,20 +114,20 @@ pub(crate) fn tokens_are_asked_for_before_what_a_path_names<T: Tables + Drop>(
         ),
         denied(61, read_session(7000002, OF_THE_SECOND), Rule::NoResource),
     ];
-    meets_each(rt, &mut desk, &cases);
+    meets_each(rt, &mut server, &cases);
 }
 
 /// A disabled account is refused with any of its tokens.
 pub(crate) fn a_disabled_account_is_refused<T: Tables + Drop>(
     rt: &impl Abort,
     alloc: Global,
-    tables: T,
+    over: Over<T>,
 ) {
-    let mut desk = new_desk(rt, alloc, tables);
+    let mut server = new_server(rt, alloc, over);
     let disabled = Order::DisableAccount { account: 7 };
-    assert_eq!(rt; desk.order(0, &disabled), OrderReply::Done(None));
+    assert_eq!(rt; server.desk.order(0, &disabled), OrderReply::Done(None));
     for token in [OF_SEVEN, OF_ANOTHERS_SESSION, OF_THE_SECOND] {
         let read = with_token(Action::ReadAccount, 0, token);
-        meets(rt, &mut desk, &denied(61, read, Rule::AccountRefused));
+        meets(rt, &mut server, &denied(61, read, Rule::AccountRefused));
     }
 }

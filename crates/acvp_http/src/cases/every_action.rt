@@ -5,11 +5,11 @@ use crate::cases::certification::{FIFTH_WAITS, PARTS, certify};
 use crate::cases::login::{LOGIN, login};
 use crate::cases::registry::register_all;
 use crate::cases::{
-    NINE, NINE_REVIEWS, OF_SEVEN, OF_THE_SESSION, OF_THE_SESSION_LATE, ONE, REGISTERED, SAMPLE,
-    accepted, add, denied, desk_with_session, made, meets, meets_each, new_desk, on_set, registers,
-    request, with_answers, with_body, with_token,
+    NINE, NINE_REVIEWS, OF_SEVEN, OF_THE_SESSION, OF_THE_SESSION_LATE, ONE, Over, REGISTERED,
+    SAMPLE, Server, accepted, add, denied, made, meets, meets_each, new_server, on_set, registers,
+    request, server_with_session, with_answers, with_body, with_token,
 };
-use crate::{Desk, TokenField};
+use acvp_desk::TokenField;
 use acvp_policy::{Action, Rule};
 use acvp_tables::Tables;
 use std::alloc::Global;
@@ -92,9 +92,9 @@ const OF_THE_SESSION_LAST: &[u8] =
 pub(crate) fn every_caller_is_looked_at_first<T: Tables + Drop>(
     rt: &impl Abort,
     alloc: Global,
-    tables: T,
+    over: Over<T>,
 ) {
-    let mut desk = new_desk(rt, alloc, tables);
+    let mut server = new_server(rt, alloc, over);
     let tokens = [
         (60, TokenField::Missing, Rule::TokenMissing),
         (60, TokenField::Doubled, Rule::TokenMalformed),
@@ -111,7 +111,7 @@ pub(crate) fn every_caller_is_looked_at_first<T: Tables + Drop>(
     for action in OF_CALLERS {
         for (moment, token, rule) in tokens {
             let asked = request(action, 7000001, 700000101, token);
-            meets(rt, &mut desk, &denied(moment, asked, rule));
+            meets(rt, &mut server, &denied(moment, asked, rule));
         }
     }
 }
@@ -120,9 +120,9 @@ pub(crate) fn every_caller_is_looked_at_first<T: Tables + Drop>(
 pub(crate) fn every_token_is_for_its_actions<T: Tables + Drop>(
     rt: &impl Abort,
     alloc: Global,
-    tables: T,
+    over: Over<T>,
 ) {
-    let mut desk = desk_with_session(rt, alloc, tables, REGISTERED);
+    let mut server = server_with_session(rt, alloc, over, REGISTERED);
     for action in OF_SESSIONS {
         let unbound = request(action, 7000001, 700000101, TokenField::Bearer(OF_SEVEN));
         let foreign = TokenField::Bearer(OF_A_FOREIGN_SESSION);
@@ -137,7 +137,7 @@ pub(crate) fn every_token_is_for_its_actions<T: Tables + Drop>(
             denied(60, another, Rule::OtherSession),
             denied(60, nowhere, Rule::NoResource),
         ];
-        meets_each(rt, &mut desk, &cases);
+        meets_each(rt, &mut server, &cases);
     }
     for action in [
         Action::NewSession,
@@ -146,7 +146,11 @@ pub(crate) fn every_token_is_for_its_actions<T: Tables + Drop>(
         Action::NewEnvironment,
     ] {
         let bound = with_token(action, 0, OF_THE_SESSION);
-        meets(rt, &mut desk, &denied(60, bound, Rule::AccountTokenNeeded));
+        meets(
+            rt,
+            &mut server,
+            &denied(60, bound, Rule::AccountTokenNeeded),
+        );
     }
     for action in [
         Action::ReadAlgorithm,
@@ -156,14 +160,14 @@ pub(crate) fn every_token_is_for_its_actions<T: Tables + Drop>(
         Action::ReadRequest,
     ] {
         let nowhere = with_token(action, 7000001, OF_SEVEN);
-        meets(rt, &mut desk, &denied(60, nowhere, Rule::NoResource));
+        meets(rt, &mut server, &denied(60, nowhere, Rule::NoResource));
     }
 }
 
 /// Asserts that each of these actions on the first set, or the first session, has this rule.
 fn all_denied<T: Tables>(
     rt: &impl Abort,
-    desk: &mut Desk<T>,
+    server: &mut Server<T>,
     moment: u64,
     token: &[u8],
     actions: &[Action],
@@ -176,7 +180,7 @@ fn all_denied<T: Tables>(
             700000101
         };
         let asked = request(*action, 7000001, number, TokenField::Bearer(token));
-        meets(rt, desk, &denied(moment, asked, rule));
+        meets(rt, server, &denied(moment, asked, rule));
     }
 }
 
@@ -184,16 +188,16 @@ fn all_denied<T: Tables>(
 pub(crate) fn what_is_cancelled_is_refused<T: Tables + Drop>(
     rt: &impl Abort,
     alloc: Global,
-    tables: T,
+    over: Over<T>,
 ) {
-    let mut desk = desk_with_session(rt, alloc, tables, REGISTERED);
+    let mut server = server_with_session(rt, alloc, over, REGISTERED);
     let cancel_set = on_set(Action::CancelSet, 700000101, OF_THE_SESSION);
     let cancel = with_token(Action::CancelSession, 7000001, OF_THE_SESSION);
     let cases = [
         made(61, add(NINE), NINE_REVIEWS),
         accepted(61, cancel_set, true),
     ];
-    meets_each(rt, &mut desk, &cases);
+    meets_each(rt, &mut server, &cases);
     let on_sets = [
         Action::ReadSet,
         Action::Submit,
@@ -204,16 +208,16 @@ pub(crate) fn what_is_cancelled_is_refused<T: Tables + Drop>(
     ];
     all_denied(
         rt,
-        &mut desk,
+        &mut server,
         61,
         OF_THE_SESSION,
         &on_sets,
         Rule::SetCancelled,
     );
-    meets(rt, &mut desk, &accepted(61, cancel, true));
+    meets(rt, &mut server, &accepted(61, cancel, true));
     all_denied(
         rt,
-        &mut desk,
+        &mut server,
         61,
         OF_THE_SESSION,
         &on_sets,
@@ -228,7 +232,7 @@ pub(crate) fn what_is_cancelled_is_refused<T: Tables + Drop>(
     ];
     all_denied(
         rt,
-        &mut desk,
+        &mut server,
         61,
         OF_THE_SESSION,
         &on_sessions,
@@ -240,13 +244,13 @@ pub(crate) fn what_is_cancelled_is_refused<T: Tables + Drop>(
 pub(crate) fn what_has_ended_is_refused<T: Tables + Drop>(
     rt: &impl Abort,
     alloc: Global,
-    tables: T,
+    over: Over<T>,
 ) {
-    let mut desk = desk_with_session(rt, alloc, tables, REGISTERED);
+    let mut server = server_with_session(rt, alloc, over, REGISTERED);
     let answered = [Action::ReadSet, Action::Submit, Action::Resubmit];
     all_denied(
         rt,
-        &mut desk,
+        &mut server,
         604860,
         OF_THE_SESSION_LATE,
         &answered,
@@ -254,7 +258,7 @@ pub(crate) fn what_has_ended_is_refused<T: Tables + Drop>(
     );
     all_denied(
         rt,
-        &mut desk,
+        &mut server,
         2592060,
         OF_THE_SESSION_LAST,
         &answered,
@@ -263,16 +267,23 @@ pub(crate) fn what_has_ended_is_refused<T: Tables + Drop>(
     let certify = [Action::Certify];
     all_denied(
         rt,
-        &mut desk,
+        &mut server,
         2592060,
         OF_THE_SESSION_LAST,
         &certify,
         Rule::SessionExpired,
     );
-    all_denied(rt, &mut desk, 61, OF_THE_SESSION, &certify, Rule::NotPassed);
     all_denied(
         rt,
-        &mut desk,
+        &mut server,
+        61,
+        OF_THE_SESSION,
+        &certify,
+        Rule::NotPassed,
+    );
+    all_denied(
+        rt,
+        &mut server,
         61,
         OF_THE_SESSION,
         &[Action::Expected],
@@ -280,17 +291,17 @@ pub(crate) fn what_has_ended_is_refused<T: Tables + Drop>(
     );
     all_denied(
         rt,
-        &mut desk,
+        &mut server,
         61,
         OF_THE_SESSION,
         &[Action::Resubmit],
         Rule::NotSubmitted,
     );
     let submitted = with_answers(Action::Submit, 700000101, OF_THE_SESSION, ALL_RIGHT);
-    meets(rt, &mut desk, &made(61, submitted, RECEIVED));
+    meets(rt, &mut server, &made(61, submitted, RECEIVED));
     all_denied(
         rt,
-        &mut desk,
+        &mut server,
         61,
         OF_THE_SESSION,
         &[Action::Submit],
@@ -299,7 +310,7 @@ pub(crate) fn what_has_ended_is_refused<T: Tables + Drop>(
 }
 
 /// What a session that has asked for certification doesn't do.
-fn all_frozen<T: Tables>(rt: &impl Abort, desk: &mut Desk<T>) {
+fn all_frozen<T: Tables>(rt: &impl Abort, server: &mut Server<T>) {
     let actions = [
         Action::Submit,
         Action::Resubmit,
@@ -307,18 +318,25 @@ fn all_frozen<T: Tables>(rt: &impl Abort, desk: &mut Desk<T>) {
         Action::CancelSet,
         Action::Certify,
     ];
-    all_denied(rt, desk, 103, OF_THE_SESSION, &actions, Rule::SessionFrozen);
+    all_denied(
+        rt,
+        server,
+        103,
+        OF_THE_SESSION,
+        &actions,
+        Rule::SessionFrozen,
+    );
 }
 
 /// Each action is accepted in its turn, from the login to the cancelled session of a sample.
 pub(crate) fn every_action_is_accepted<T: Tables + Drop>(
     rt: &impl Abort,
     alloc: Global,
-    tables: T,
+    over: Over<T>,
 ) {
-    let mut desk = desk_with_session(rt, alloc, tables, REGISTERED);
-    register_all(rt, &mut desk);
-    meets(rt, &mut desk, &accepted(59, login(LOGIN), true));
+    let mut server = server_with_session(rt, alloc, over, REGISTERED);
+    register_all(rt, &mut server);
+    meets(rt, &mut server, &accepted(59, login(LOGIN), true));
     for action in [
         Action::ReadAccount,
         Action::ListAlgorithms,
@@ -333,7 +351,7 @@ pub(crate) fn every_action_is_accepted<T: Tables + Drop>(
         Action::ReadRequest,
     ] {
         let asked = with_token(action, 7000001, OF_SEVEN);
-        meets(rt, &mut desk, &accepted(101, asked, false));
+        meets(rt, &mut server, &accepted(101, asked, false));
     }
     let first = with_answers(Action::Submit, 700000101, OF_THE_SESSION, ALL_RIGHT);
     let second = with_answers(Action::Submit, 700000102, OF_THE_SESSION, SECOND_RIGHT);
@@ -352,7 +370,7 @@ pub(crate) fn every_action_is_accepted<T: Tables + Drop>(
         made(101, add(NINE), NINE_REVIEWS),
         accepted(101, remove, true),
     ];
-    meets_each(rt, &mut desk, &cases);
+    meets_each(rt, &mut server, &cases);
     for action in [
         Action::ReadSession,
         Action::SessionResults,
@@ -362,10 +380,10 @@ pub(crate) fn every_action_is_accepted<T: Tables + Drop>(
         Action::SetResults,
     ] {
         let asked = on_set(action, 700000101, OF_THE_SESSION);
-        meets(rt, &mut desk, &accepted(101, asked, false));
+        meets(rt, &mut server, &accepted(101, asked, false));
     }
-    meets(rt, &mut desk, &made(102, certify(PARTS), FIFTH_WAITS));
-    all_frozen(rt, &mut desk);
+    meets(rt, &mut server, &made(102, certify(PARTS), FIFTH_WAITS));
+    all_frozen(rt, &mut server);
     let bound = TokenField::Bearer(OF_THE_SECOND_SESSION);
     let expected = request(Action::Expected, 7000002, 700000201, bound);
     let cancel_set = request(Action::CancelSet, 7000002, 700000201, bound);
@@ -379,5 +397,5 @@ pub(crate) fn every_action_is_accepted<T: Tables + Drop>(
         accepted(103, cancel, true),
         accepted(103, registers(OF_SEVEN, ONE), true),
     ];
-    meets_each(rt, &mut desk, &cases);
+    meets_each(rt, &mut server, &cases);
 }

@@ -3,14 +3,12 @@
 use crate::cases::new_session::SECOND;
 use crate::cases::set::PROMPTS;
 use crate::cases::{
-    OF_SEVEN, OF_THE_SESSION, ONE, REGISTERED, desk_with, desk_with_session, digested, keys, made,
-    meets, meets_each, on_set, registers, request, shown,
+    OF_SEVEN, OF_THE_SESSION, ONE, Over, REGISTERED, digested, keys, made, meets, meets_each,
+    on_set, registers, request, server_with, server_with_session, shown,
 };
-use crate::{Desk, Keys, NewFault, TokenField};
-use acvp_gen::Seeds;
+use acvp_desk::{Desk, KeyRing, Keys, NewFault, Seeds, TokenField};
 use acvp_policy::Action;
 use acvp_tables::Tables;
-use acvp_token::KeyRing;
 use std::alloc::Global;
 use std::process::Abort;
 
@@ -26,16 +24,16 @@ const UNDER_THE_SECOND: &[u8] =
 pub(crate) fn sets_keep_the_seed_they_were_made_under<T: Tables + Drop>(
     rt: &impl Abort,
     alloc: Global,
-    tables: T,
+    over: Over<T>,
 ) {
-    let mut desk = desk_with_session(rt, alloc, tables, REGISTERED);
+    let mut server = server_with_session(rt, alloc, over, REGISTERED);
     let read = on_set(Action::ReadSet, 700000101, OF_THE_SESSION);
-    meets(rt, &mut desk, &shown(61, read, PROMPTS));
+    meets(rt, &mut server, &shown(61, read, PROMPTS));
     let two = Keys {
         token: KeyRing::of(&[Some([0; 32])]).expect(rt, "a ring"),
         seed: Seeds::of(&[[0; 32], [1; 32]]).expect(rt, "seeds"),
     };
-    let mut desk = desk_with(rt, alloc, two, desk.into_tables());
+    let mut server = server_with(rt, alloc, two, server.into_over());
     let token = TokenField::Bearer(OF_THE_SECOND);
     let cases = [
         shown(61, read, PROMPTS),
@@ -47,8 +45,8 @@ pub(crate) fn sets_keep_the_seed_they_were_made_under<T: Tables + Drop>(
         ),
         shown(61, read, PROMPTS),
     ];
-    meets_each(rt, &mut desk, &cases);
-    let fault = match Desk::new(alloc, keys(rt), desk.into_tables()) {
+    meets_each(rt, &mut server, &cases);
+    let fault = match Desk::new(alloc, keys(rt), server.into_tables()) {
         Ok(_) => None,
         Err((_, fault)) => Some(fault),
     };

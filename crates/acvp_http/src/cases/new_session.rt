@@ -1,16 +1,11 @@
 //! What is answered to who registers a new test session. Times are those of Python's datetime.
 
 use crate::cases::{
-    FIRST, OF_NINE, OF_SEVEN, OF_THE_SESSION, ONE, REGISTERED, denied, made, meets, meets_each,
-    new_desk, registers, shown, with_token,
+    FIRST, OF_NINE, OF_SEVEN, OF_THE_SESSION, ONE, Over, REGISTERED, denied, made, meets,
+    meets_each, new_server, registers, shown, with_token,
 };
-use crate::draft::Draft;
-use crate::found::Material;
-use crate::new_session::draft_new_session;
-use acvp_gen::Seeds;
 use acvp_policy::{Action, Rule};
-use acvp_tables::{Change, Counts, Tables};
-use acvp_token::KeyRing;
+use acvp_tables::Tables;
 use std::alloc::Global;
 use std::process::Abort;
 
@@ -32,9 +27,9 @@ const TWO_SESSIONS: &[u8] =
 pub(crate) fn each_account_numbers_its_own_sessions<T: Tables + Drop>(
     rt: &impl Abort,
     alloc: Global,
-    tables: T,
+    over: Over<T>,
 ) {
-    let mut desk = new_desk(rt, alloc, tables);
+    let mut server = new_server(rt, alloc, over);
     let cases = [
         made(60, registers(OF_SEVEN, REGISTERED), FIRST),
         made(61, registers(OF_NINE, ONE), FIRST_OF_NINE),
@@ -50,16 +45,16 @@ pub(crate) fn each_account_numbers_its_own_sessions<T: Tables + Drop>(
             TWO_SESSIONS,
         ),
     ];
-    meets_each(rt, &mut desk, &cases);
+    meets_each(rt, &mut server, &cases);
 }
 
 /// The rule of each body that is no registration; none of them leaves a session.
 pub(crate) fn what_no_registration_is_has_its_rule<T: Tables + Drop>(
     rt: &impl Abort,
     alloc: Global,
-    tables: T,
+    over: Over<T>,
 ) {
-    let mut desk = new_desk(rt, alloc, tables);
+    let mut server = new_server(rt, alloc, over);
     let bodies: [(&[u8], Rule); 8] = [
         (b"{", Rule::BodyNotJson),
         (b"[{},{}]", Rule::BodyEnvelope),
@@ -89,49 +84,16 @@ pub(crate) fn what_no_registration_is_has_its_rule<T: Tables + Drop>(
         ),
     ];
     for (body, rule) in bodies {
-        meets(rt, &mut desk, &denied(61, registers(OF_SEVEN, body), rule));
+        meets(
+            rt,
+            &mut server,
+            &denied(61, registers(OF_SEVEN, body), rule),
+        );
     }
     let bound = registers(OF_THE_SESSION, REGISTERED);
     let cases = [
         denied(61, bound, Rule::AccountTokenNeeded),
         made(60, registers(OF_SEVEN, REGISTERED), FIRST),
     ];
-    meets_each(rt, &mut desk, &cases);
-}
-
-/// An account gives 999999 numbers to sessions, and is full then; the body is judged before.
-pub(crate) fn sessions_end_with_the_numbers(rt: &impl Abort, alloc: Global) {
-    let ring = KeyRing::of(&[Some([0; 32])]).expect(rt, "a ring");
-    let seeds = Seeds::of(&[[0; 32]]).expect(rt, "seeds");
-    let cases: [(u64, &[u8], Result<u64, Rule>); 4] = [
-        (0, ONE, Ok(7000001)),
-        (999998, ONE, Ok(7999999)),
-        (999999, ONE, Err(Rule::AccountFull)),
-        (
-            999999,
-            br#"[{"acvVersion":"1.0"},{}]"#,
-            Err(Rule::BodyField),
-        ),
-    ];
-    for (sessions, body, wanted) in cases {
-        let counts = Material::Counts(Counts {
-            sessions,
-            vendors: 0,
-            modules: 0,
-            environments: 0,
-            requests: 0,
-        });
-        let drafted = draft_new_session(alloc, &ring, &seeds, 60, 7, body, &counts);
-        let numbered = match &drafted {
-            Ok(
-                Draft {
-                    change: Some(Change::NewSession(session)),
-                    ..
-                },
-            ) => Ok(session.number),
-            Ok(_) => Ok(0),
-            Err(rule) => Err(*rule),
-        };
-        assert_eq!(rt; numbered, wanted);
-    }
+    meets_each(rt, &mut server, &cases);
 }
