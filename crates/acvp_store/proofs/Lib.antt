@@ -12,12 +12,16 @@ pub mod Updating
 pub mod Effects
 pub mod Entries
 pub mod Finding
+pub mod Listing
+pub mod Ranging
 pub mod AccountRows
 pub mod SessionRows
 pub mod ObjectRows
 pub mod SetRows
+pub mod SessionSets
 pub mod RequestRows
 pub mod ReviewerRows
+pub mod SessionReviewers
 pub mod Registering
 pub mod Sound
 pub mod Standing

@@ -1,9 +1,9 @@
 -- What a query over one table gives, where the table's rows are those of members.
 use Rattle.std.proofs.Common.{◌≡◌, ◌<◌, ℕ, pos, negsuc, List, [], ◌∷◌, map, Bool, true, false, cond, Some, refl, ap, ◌∙◌, arith}
-use Rattle.std.specs.Prelude.{◌==◌, nat_lt}
+use Rattle.std.specs.Prelude.{◌==◌, nat_lt, nat_le}
 use Rattle.std.specs.List.Sorted.{IsPermutation}
 use Rattle.std.specs.List.{filter, flat_map, list_all}
-use Rattle.std.specs.Ordering.{is_eq, is_ne, is_lt}
+use Rattle.std.specs.Ordering.{is_eq, is_ne, is_lt, is_le, is_ge}
 use Rattle.std.proofs.lemmas.Bool.Decides.{nat_tests}
 use Rattle.std.proofs.lemmas.List.Sorted.{IsPermutation-map}
 use Rattle.sqlite_trees.proofs.ListLemmas.{map-map}
@@ -17,7 +17,7 @@ use Rattle.sqlite.specs.Tree.{Trees}
 use Rattle.sqlite.specs.declared.types.Value.TheVariants.{Int}
 use Rattle.sqlite_value.proofs.OrderLemmas.{value_cmp-Int}
 use Rattle.sqlite_sql.specs.declared.ops.BinaryOp.TheVariants.{Compare}
-use Rattle.sqlite_sql.specs.declared.ops.CompareOp.TheVariants.{Eq, Ne, Lt}
+use Rattle.sqlite_sql.specs.declared.ops.CompareOp.TheVariants.{Eq, Ne, Lt, Le, Ge}
 use Rattle.acvp_store.specs.Values.{whole}
 use Rattle.acvp_store.proofs.Texts.{simple, collated}
 use Rattle.acvp_store.proofs.Keyed.{same_whole}
@@ -40,6 +40,14 @@ pub test_less : (m n : ℕ) → is_true (binary (Compare Lt Binary) (whole m) (w
 unfolding binary
 test_less m n = truth_back _ ∙ ap is_lt (value_cmp-Int (pos m) (pos n)) ∙ grind (arith, nat_tests)
 
+pub test_at_most : (m n : ℕ) → is_true (binary (Compare Le Binary) (whole m) (whole n)) ≡ nat_le m n
+unfolding binary
+test_at_most m n = truth_back _ ∙ ap is_le (value_cmp-Int (pos m) (pos n)) ∙ grind (arith, nat_tests)
+
+pub test_at_least : (m n : ℕ) → is_true (binary (Compare Ge Binary) (whole m) (whole n)) ≡ nat_le n m
+unfolding binary
+test_at_least m n = truth_back _ ∙ ap is_ge (value_cmp-Int (pos m) (pos n)) ∙ grind (arith, nat_tests)
+
 -- two numbers of which one is less differ
 pub test_differs : (m n : ℕ) → m < n → is_true (binary (Compare Ne Binary) (whole m) (whole n)) ≡ true
 unfolding binary
@@ -49,7 +57,7 @@ module _ {A : Type 0} (params : Row) (encode : A → Row) (p : A → Bool) (term
   abbrev env_of : A → Env
   env_of a = params ∷ encode a ∷ []
 
-  matched : (all : List A) → flat_map (λ r. cond (list_all (holds (params ∷ r ∷ [])) terms) ((params ∷ r ∷ []) ∷ []) []) (map encode all) ≡ map env_of (filter p all)
+  pub matched : (all : List A) → flat_map (λ r. cond (list_all (holds (params ∷ r ∷ [])) terms) ((params ∷ r ∷ []) ∷ []) []) (map encode all) ≡ map env_of (filter p all)
   matched [] = refl
   matched (a ∷ all) = grind (arith, tests a, matched all)
 

@@ -11,25 +11,27 @@ use Rattle.sqlite.specs.Collation.TheVariants.{Binary}
 use Rattle.sqlite.specs.Program.{overlay}
 use Rattle.sqlite.specs.State.{State, Shown, mode_of}
 use Rattle.sqlite.specs.Values.{or_null}
-use Rattle.sqlite.specs.Command.TheVariants.{Insert, Update}
+use Rattle.sqlite.specs.Command.TheVariants.{Insert, Select, Update}
 use Rattle.sqlite.specs.Source.TheVariants.{Values}
 use Rattle.sqlite.specs.Cast.{cast_row}
-use Rattle.sqlite.specs.Term.{Term, holds, eval_all}
+use Rattle.sqlite.specs.Term.{Term, col, holds, eval_all}
 use Rattle.sqlite.specs.Effect.{Database}
 use Rattle.sqlite.specs.Does.{Tally, Does}
-use Rattle.sqlite.specs.Listing.{understood}
+use Rattle.sqlite.specs.Listing.{understood, reads_listing}
 use Rattle.sqlite_rules.specs.Calls.{ids_of}
-use Rattle.sqlite.proofs.Callers.{reads_as, statement_of}
+use Rattle.sqlite.proofs.Callers.{IsPlain, command_of, reads_as, statement_of}
 use Rattle.sqlite_sql.specs.declared.ops.BinaryOp.TheVariants.{Compare}
 use Rattle.sqlite_sql.specs.declared.ops.CompareOp.TheVariants.{Eq}
+use Rattle.sqlite_catalog.proofs.ListFacts.{zip_push}
 use Rattle.sqlite_trees.proofs.ListLemmas.{map-map}
 use Rattle.acvp_caps.specs.Capability.{CapabilityValue}
 use Rattle.acvp_caps.specs.Registered.{registered_text}
 use Rattle.acvp_answers.specs.VerdictText.{verdicts_text}
+use Rattle.acvp_answers.specs.declared.verdict.Verdict.{Verdict}
 use Rattle.acvp_answers.specs.declared.verdict.Disposition.{Disposition}
 use Rattle.acvp_answers.specs.declared.verdict.Disposition.TheVariants.{Passed, Fail, Missing, Expired, Unreceived}
 use Rattle.acvp_json.specs.KeptAnswers.{kept_text}
-use Rattle.acvp_tables.specs.Content.{set_at, set_summary}
+use Rattle.acvp_tables.specs.Content.{set_at, set_summary, set_verdicts}
 use Rattle.acvp_tables.specs.Changes.{changed, is_set, cancelled_set, with_graded, new_sets}
 use Rattle.acvp_tables.specs.Graded.{GradedValue}
 use Rattle.acvp_tables.specs.declared.rows.SetRow.{SetRow}
@@ -41,37 +43,53 @@ use Rattle.acvp_store.specs.Connection.{Under, Both}
 use Rattle.acvp_store.specs.Kept.{IsKept}
 use Rattle.acvp_store.specs.Stands.{SetColumns, set_key, set_row, set_tree, disposition_number, IsGradedAs, IsSet, HoldsSets}
 use Rattle.acvp_store.specs.Private.Sets.{short_shown, short_of, IsDispositionOf, IsSummary, IsSummaryOf, new_set, AddsSets}
+use Rattle.acvp_store.specs.Private.SetTexts.{text_shown, TellsCapability, AreVerdictsOf}
 use Rattle.acvp_store.specs.declared.sets.ShortSet.{ShortSet}
 use Rattle.acvp_store.proofs.Keyed.{keyed, changing, keyed_same, find_is, none_fits}
 use Rattle.acvp_store.proofs.Parts.{and_true, cast_null, cast_whole, cast_flag, cast_option, cast_text_option}
 use Rattle.acvp_store.proofs.Selecting.{test_equals, test_none, selected}
 use Rattle.acvp_store.proofs.Effects.{insert_effect, update_effect, spares_then}
-use Rattle.acvp_store.proofs.Texts.{simple, find_set, set_query, set_is, set_plain, set_unlisted, cancel_set, cancel_set_query, grade_set, grade_query, add_set, add_set_terms}
+use Rattle.acvp_store.proofs.Texts.{simple, equals, find_set, set_query, set_is, set_plain, set_unlisted, find_capability, capability_is, capability_plain, capability_unlisted, find_verdicts, verdicts_is, verdicts_plain, verdicts_unlisted, cancel_set, cancel_set_query, grade_set, grade_query, add_set, add_set_terms}
 
 abbrev pub set_shown : SetColumns → Row
 set_shown c = short_shown (short_of c)
 
 -- ---- the rows of a number
 
-rows_by : (k : ℤ) (p : SetColumns → Bool) → ((c : SetColumns) → is_true (binary (Compare Eq Binary) (whole c.number) (Int k)) ≡ p c) → (old new : State) (rows : List Row) → old.now.schema ≡ store_schema → Shown find_set (Int k ∷ []) old new rows
-    → (list : List SetColumns) (kept : IsKept set_key set_row (old.now.trees set_tree) list) → IsPermutation (map set_shown (filter p kept.ordered)) rows
-rows_by k p tests old new rows schema h list kept =
-    selected (Int k ∷ []) set_row p set_query.filter (λ c. rw tests (and_true _)) set_tree set_query.project set_shown (λ c. refl) (overlay old.now.trees []) kept.ordered rows kept.rows_are
-    ((reads_as find_set (Int k ∷ []) old new store_schema schema _ set_is set_plain set_unlisted rows h).answer Null)
-
 none_passes : {A : Type 0} (xs : List A) → filter (λ x. false) xs ≡ []
 none_passes [] = refl
 none_passes (x ∷ xs) = none_passes xs
 
+-- a SELECT of columns of the set of a number
+module _ (text : List ℕ) (names : List (List ℕ)) (project : List Term) (show : SetColumns → Row) (shows : (k : ℤ) (c : SetColumns) → eval_all project ((Int k ∷ []) ∷ set_row c ∷ []) ≡ show c)
+    (is : command_of (understood store_schema text) ≡ Select (record { lets = []; body = simple set_tree (equals 0 0 ∷ []) project }) names) (plain : IsPlain (understood store_schema text)) (unlisted : reads_listing store_schema text ≡ false) where
+  rows_by : (k : ℤ) (p : SetColumns → Bool) → ((c : SetColumns) → is_true (binary (Compare Eq Binary) (whole c.number) (Int k)) ≡ p c) → (old new : State) (rows : List Row) → old.now.schema ≡ store_schema → Shown text (Int k ∷ []) old new rows
+      → (list : List SetColumns) (kept : IsKept set_key set_row (old.now.trees set_tree) list) → IsPermutation (map show (filter p kept.ordered)) rows
+  rows_by k p tests old new rows schema h list kept =
+      selected (Int k ∷ []) set_row p (equals 0 0 ∷ []) (λ c. rw tests (and_true _)) set_tree project show (shows k) (overlay old.now.trees []) kept.ordered rows kept.rows_are
+      ((reads_as text (Int k ∷ []) old new store_schema schema _ is plain unlisted rows h).answer Null)
+
+  pub rows_at : (n : ℕ) (k : ℤ) → (n < 2 ^ 63 → k ≡ pos n) → (2 ^ 63 ≤ n → k ≡ negsuc 0) → (old new : State) (rows : List Row) → old.now.schema ≡ store_schema → Shown text (Int k ∷ []) old new rows
+      → (list : List SetColumns) (kept : IsKept set_key set_row (old.now.trees set_tree) list) → IsPermutation (map show (keyed set_key n kept.ordered)) rows
+  rows_at n k fits large old new rows schema h list kept = elim (small_or_large n) [
+    | inl low ↦ rows_by k (λ c. c.number == n) (λ c. rw (fits low) (test_equals c.number n)) old new rows schema h list kept
+    | inr high ↦ rw (none_fits set_key n kept.ordered high kept.fits) (rw (none_passes kept.ordered) at (rows_by k (λ c. false) (λ c. rw (large high) (test_none c.number)) old new rows schema h list kept))
+  ]
+    where
+      small_or_large : (n : ℕ) → (n < 2 ^ 63) ⊎ (2 ^ 63 ≤ n)
+      small_or_large n = search arith
+
 pub set_rows : (n : ℕ) (k : ℤ) → (n < 2 ^ 63 → k ≡ pos n) → (2 ^ 63 ≤ n → k ≡ negsuc 0) → (old new : State) (rows : List Row) → old.now.schema ≡ store_schema → Shown find_set (Int k ∷ []) old new rows
     → (list : List SetColumns) (kept : IsKept set_key set_row (old.now.trees set_tree) list) → IsPermutation (map set_shown (keyed set_key n kept.ordered)) rows
-set_rows n k fits large old new rows schema h list kept = elim (small_or_large n) [
-  | inl low ↦ rows_by k (λ c. c.number == n) (λ c. rw (fits low) (test_equals c.number n)) old new rows schema h list kept
-  | inr high ↦ rw (none_fits set_key n kept.ordered high kept.fits) (rw (none_passes kept.ordered) at (rows_by k (λ c. false) (λ c. rw (large high) (test_none c.number)) old new rows schema h list kept))
-]
-  where
-    small_or_large : (n : ℕ) → (n < 2 ^ 63) ⊎ (2 ^ 63 ≤ n)
-    small_or_large n = search arith
+set_rows = rows_at find_set _ set_query.project set_shown (λ k c. refl) set_is set_plain set_unlisted
+
+pub capability_rows : (n : ℕ) (k : ℤ) → (n < 2 ^ 63 → k ≡ pos n) → (2 ^ 63 ≤ n → k ≡ negsuc 0) → (old new : State) (rows : List Row) → old.now.schema ≡ store_schema → Shown find_capability (Int k ∷ []) old new rows
+    → (list : List SetColumns) (kept : IsKept set_key set_row (old.now.trees set_tree) list) → IsPermutation (map (λ c. text_shown (Some c.capability)) (keyed set_key n kept.ordered)) rows
+capability_rows = rows_at find_capability _ (col 1 3 ∷ []) (λ c. text_shown (Some c.capability)) (λ k c. refl) capability_is capability_plain capability_unlisted
+
+pub verdict_rows : (n : ℕ) (k : ℤ) → (n < 2 ^ 63 → k ≡ pos n) → (2 ^ 63 ≤ n → k ≡ negsuc 0) → (old new : State) (rows : List Row) → old.now.schema ≡ store_schema → Shown find_verdicts (Int k ∷ []) old new rows
+    → (list : List SetColumns) (kept : IsKept set_key set_row (old.now.trees set_tree) list) → IsPermutation (map (λ c. text_shown c.verdicts) (keyed set_key n kept.ordered)) rows
+verdict_rows = rows_at find_verdicts _ (col 1 6 ∷ []) (λ c. text_shown c.verdicts) (λ k c. refl) verdicts_is verdicts_plain verdicts_unlisted
 
 -- ---- what they tell
 
@@ -97,7 +115,7 @@ told : (c : SetColumns) (g : Option GradedValue) (d : Option Disposition) → Is
 told c None d h is = told_none d (subst (λ o. IsDispositionOf o d) h.2 is)
 told c (Some g) d h is = told_some h.2 g.disposition d h.4 (subst (λ o. IsDispositionOf o d) h.3 is)
 
-summary_is : (c : SetColumns) (row : SetRow) (s : SetSummary) → IsSet c row → IsSummary (short_of c) s → s ≡ set_summary row
+pub summary_is : (c : SetColumns) (row : SetRow) (s : SetSummary) → IsSet c row → IsSummary (short_of c) s → s ≡ set_summary row
 summary_is c row s h is =
     let number = is.number ∙ h.number in
     let session = is.session ∙ h.session in
@@ -106,44 +124,67 @@ summary_is c row s h is =
     let disposition = told c row.graded s.disposition h.graded is.disposition in
     λ i. record { number = number i; session = session i; epoch = epoch i; cancelled = cancelled i; disposition = disposition i }
 
-none_told : (s : Option SetSummary) → IsSummaryOf None s → s ≡ None
+pub none_told : (s : Option SetSummary) → IsSummaryOf None s → s ≡ None
 none_told None h = refl
 none_told (Some s) h = absurd h
 
-one_told : (c : SetColumns) (row : SetRow) (s : Option SetSummary) → IsSet c row → IsSummaryOf (Some (short_of c)) s → s ≡ Some (set_summary row)
+pub one_told : (c : SetColumns) (row : SetRow) (s : Option SetSummary) → IsSet c row → IsSummaryOf (Some (short_of c)) s → s ≡ Some (set_summary row)
 one_told c row None h is = absurd is
 one_told c row (Some s) h is = ap Some (summary_is c row s h is)
 
-told_of : (n : ℕ) (columns : List SetColumns) (sets : List SetRow) (s : Option SetSummary) → AllZip IsSet columns sets → IsSummaryOf (option_map short_of (find (λ c. c.number == n) columns)) s → s ≡ option_map set_summary (set_at n sets)
-told_of n [] [] s h is = none_told s is
-told_of n [] (r ∷ sets) s h is = absurd h
-told_of n (c ∷ columns) [] s h is = absurd h
-told_of n (c ∷ columns) (r ∷ sets) s h is = elim (cases_Bool (r.number == n)) [
-  | inl same ↦ let at : (c.number == n) ≡ true = ap (λ k. k == n) h.0.number ∙ same in rw same (one_told c r s h.0 (rw at at is))
-  | inr apart ↦ let at : (c.number == n) ≡ false = ap (λ k. k == n) h.0.number ∙ apart in rw apart (told_of n columns sets s h.1 (rw at at is))
-]
+-- ---- the whole: of the columns of the set of a number, as `shown`, a query's answer tells what `pick` has of the set
 
--- ---- the whole
+module _ {B Y : Type 0} (of : SetColumns → B) (Tells : Option B → Y → Type 0) (pick : Option SetRow → Y) (none : (y : Y) → Tells None y → y ≡ pick None)
+    (some : (c : SetColumns) (row : SetRow) (y : Y) → IsSet c row → Tells (Some (of c)) y → y ≡ pick (Some row)) (n : ℕ) where
+  told_of : (columns : List SetColumns) (sets : List SetRow) (y : Y) → AllZip IsSet columns sets → Tells (option_map of (find (λ c. c.number == n) columns)) y → y ≡ pick (set_at n sets)
+  told_of [] [] y h is = none y is
+  told_of [] (r ∷ sets) y h is = absurd h
+  told_of (c ∷ columns) [] y h is = absurd h
+  told_of (c ∷ columns) (r ∷ sets) y h is = elim (cases_Bool (r.number == n)) [
+    | inl same ↦ let at : (c.number == n) ≡ true = ap (λ k. k == n) h.0.number ∙ same in rw same (some c r y h.0 (rw at at is))
+    | inr apart ↦ let at : (c.number == n) ≡ false = ap (λ k. k == n) h.0.number ∙ apart in rw apart (told_of columns sets y h.1 (rw at at is))
+  ]
 
-short_first : (xs : List SetColumns) → slice_get (map short_of xs) 0 ≡ option_map short_of (slice_get xs 0)
-short_first [] = refl
-short_first (x ∷ xs) = refl
+  first_of : (xs : List SetColumns) → slice_get (map of xs) 0 ≡ option_map of (slice_get xs 0)
+  first_of [] = refl
+  first_of (x ∷ xs) = refl
 
-module _ {X E F G : Type 0} (n : ℕ) (table : List Row) (rows_in : X → List Row) where
-  pub find_summary : (outcome : Result X E) (found : Result (Option ShortSet) F) (result : Result (Option SetSummary) G) → (IsOk found → IsOk outcome) → (IsOk result → IsOk found)
-      → IfOk found (λ set. IfOk outcome (λ x. (list : List ShortSet) → IsPermutation (map short_shown list) (rows_in x) → set ≡ slice_get list 0))
-      → IfOk result (λ s. IfOk found (λ set. IsSummaryOf set s))
-      → IfOk outcome (λ x. (list : List SetColumns) (kept : IsKept set_key set_row table list) → IsPermutation (map set_shown (keyed set_key n kept.ordered)) (rows_in x))
-      → IfOk result (λ s. (sets : List SetRow) → HoldsSets table sets → s ≡ option_map set_summary (set_at n sets))
-  find_summary outcome found (Err g) ok_found ok_result one tells rows = tt
-  find_summary outcome (Err f) (Ok s) ok_found ok_result one tells rows = absurd (let impossible = ok_result refl in cc)
-  find_summary (Err e) (Ok set) (Ok s) ok_found ok_result one tells rows = absurd (let impossible = ok_found refl in cc)
-  find_summary (Ok x) (Ok set) (Ok s) ok_found ok_result one tells rows = λ sets h.
-      let all = keyed set_key n h.kept.ordered in
-      let is : set ≡ slice_get (map short_of all) 0 = one (map short_of all) (rw (map-map short_shown short_of all) (rows h.columns h.kept)) in
-      let at : set ≡ option_map short_of (find (λ (c : SetColumns). c.number == n) h.columns) =
-      is ∙ short_first all ∙ ap (option_map short_of) (ap (λ l. slice_get l 0) (keyed_same set_key n h.kept.ordered h.columns h.kept.rising h.kept.same) ∙ sym (find_is set_key n h.columns)) in
-      told_of n h.columns sets s h.same (subst (λ o. IsSummaryOf o s) at tells)
+  module _ {X Z E F G : Type 0} (shown : B → Row) (view : Z → Y) (table : List Row) (rows_in : X → List Row) where
+    pub find_told : (outcome : Result X E) (found : Result (Option B) F) (result : Result Z G) → (IsOk found → IsOk outcome) → (IsOk result → IsOk found)
+        → IfOk found (λ b. IfOk outcome (λ x. (list : List B) → IsPermutation (map shown list) (rows_in x) → b ≡ slice_get list 0))
+        → IfOk result (λ z. IfOk found (λ b. Tells b (view z)))
+        → IfOk outcome (λ x. (list : List SetColumns) (kept : IsKept set_key set_row table list) → IsPermutation (map (λ c. shown (of c)) (keyed set_key n kept.ordered)) (rows_in x))
+        → IfOk result (λ z. (sets : List SetRow) → HoldsSets table sets → view z ≡ pick (set_at n sets))
+    find_told outcome found (Err g) ok_found ok_result one tells rows = tt
+    find_told outcome (Err f) (Ok z) ok_found ok_result one tells rows = absurd (let impossible = ok_result refl in cc)
+    find_told (Err e) (Ok b) (Ok z) ok_found ok_result one tells rows = absurd (let impossible = ok_found refl in cc)
+    find_told (Ok x) (Ok b) (Ok z) ok_found ok_result one tells rows = λ sets h.
+        let all = keyed set_key n h.kept.ordered in
+        let is : b ≡ slice_get (map of all) 0 = one (map of all) (rw (map-map shown of all) (rows h.columns h.kept)) in
+        let at : b ≡ option_map of (find (λ (c : SetColumns). c.number == n) h.columns) =
+        is ∙ first_of all ∙ ap (option_map of) (ap (λ l. slice_get l 0) (keyed_same set_key n h.kept.ordered h.columns h.kept.rising h.kept.same) ∙ sym (find_is set_key n h.columns)) in
+        told_of h.columns sets (view z) h.same (subst (λ o. Tells o (view z)) at tells)
+
+-- ---- what the texts tell
+
+pub capability_some : (c : SetColumns) (row : SetRow) (told : Option CapabilityValue) → IsSet c row → TellsCapability (Some (Some c.capability)) told → told ≡ Some row.capability
+capability_some c row None h is = absurd is
+capability_some c row (Some told) h is = cc (h.capability)
+
+verdicts_none : (told : Option (List Verdict)) (column : Option (List ℕ)) → column ≡ None → AreVerdictsOf column told → told ≡ None
+verdicts_none told None e is = is
+verdicts_none told (Some text) e is = absurd (cc)
+
+verdicts_some : (told : Option (List Verdict)) (column : Option (List ℕ)) (verdicts : List Verdict) → column ≡ Some (verdicts_text verdicts) → AreVerdictsOf column told → told ≡ Some verdicts
+verdicts_some told None verdicts e is = absurd (cc)
+verdicts_some told (Some text) verdicts e is = is verdicts (cc)
+
+pub verdicts_told : (c : SetColumns) (row : SetRow) (told : Option (List Verdict)) → IsSet c row → AreVerdictsOf c.verdicts told → told ≡ set_verdicts row
+verdicts_told c row told h is = go row.graded h.graded
+  where
+    go : (g : Option GradedValue) → IsGradedAs c g → told ≡ option_map (λ (g : GradedValue). g.verdicts) g
+    go None none = verdicts_none told c.verdicts none.1 is
+    go (Some g) some = verdicts_some told c.verdicts g.verdicts some.1 is
 
 -- ---- one set changed
 
@@ -235,12 +276,6 @@ given number session text epoch = whole number ∷ Null ∷ whole session ∷ Te
 cast_given : (number session : ℕ) (text : List ℕ) (epoch : ℕ) → cast_row (set_table 4) (given number session text epoch) ≡ set_row (new_columns number session text epoch)
 cast_given number session text epoch = rw (cast_whole number, cast_null, cast_whole session, cast_whole 0, cast_whole epoch) refl
 
-zip_last : (c : SetColumns) (row : SetRow) → IsSet c row → (columns : List SetColumns) (sets : List SetRow) → AllZip IsSet columns sets → AllZip IsSet (columns ++ c ∷ []) (sets ++ row ∷ [])
-zip_last c row is [] [] h = (is, tt)
-zip_last c row is [] (r ∷ sets) h = absurd h
-zip_last c row is (d ∷ columns) [] h = absurd h
-zip_last c row is (d ∷ columns) (r ∷ sets) h = (h.0, zip_last c row is columns sets h.1)
-
 abbrev pub add_set_params : ℕ → ℕ → List ℕ → ℕ → Row
 add_set_params number session text epoch = whole number ∷ whole session ∷ Text text ∷ whole epoch ∷ []
 
@@ -253,7 +288,7 @@ add_set_effect old number session capability text epoch reads low schema tally a
     let is : IsSet (new_columns number session text epoch) (new_set number session capability epoch) = record { number = refl; session = refl; capability = reads; cancelled = refl; graded = (refl, refl, refl); epoch = refl } in
     record {
       schema = made.schema;
-      kept = λ sets h. record { columns = h.columns ++ new_columns number session text epoch ∷ []; kept = made.kept h.columns h.kept; same = zip_last _ _ is h.columns sets h.same };
+      kept = λ sets h. record { columns = h.columns ++ new_columns number session text epoch ∷ []; kept = made.kept h.columns h.kept; same = zip_push IsSet h.columns sets _ _ h.same is };
       others = made.others;
     }
 

@@ -1,5 +1,5 @@
 -- What the texts of the statements mean.
-use Rattle.std.proofs.Common.{◌≡◌, refl, Ok, None, [], ◌∷◌, List, ℕ, codes, pos, negsuc, true, false}
+use Rattle.std.proofs.Common.{◌≡◌, refl, Ok, None, Some, [], ◌∷◌, List, ℕ, codes, pos, negsuc, true, false}
 use Rattle.std.specs.Fmt.{digits}
 use Rattle.sqlite.specs.Collation.{Collation}
 use Rattle.sqlite.specs.Collation.TheVariants.{Binary}
@@ -14,7 +14,9 @@ use Rattle.sqlite.specs.Source.TheVariants as source
 use Rattle.sqlite.specs.Term.{Term, lit, col, op2}
 use Rattle.sqlite_resolve.specs.Compile.{first}
 use Rattle.sqlite_sql.specs.declared.ops.BinaryOp.TheVariants.{Compare}
-use Rattle.sqlite_sql.specs.declared.ops.CompareOp.TheVariants.{Eq, Lt}
+use Rattle.sqlite_sql.specs.declared.ops.CompareOp.TheVariants.{Eq, Lt, Le, Ge}
+use Rattle.sqlite_sql.specs.declared.aggregate.AggregateOp.TheVariants.{Max}
+use Rattle.sqlite_value.specs.Keys.{ascending}
 use Rattle.sqlite_tied.specs.Compute.{everything}
 use Rattle.sqlite.proofs.Callers.{IsPlain, command_of, statement_of}
 use Rattle.acvp_store.specs.Schema.{store_schema}
@@ -65,6 +67,10 @@ collated collations tree terms project = record {
 -- the same without collations; of an UPDATE the rows that it writes
 abbrev pub simple : ℕ → List Term → List Term → Query
 simple = collated []
+
+-- the same in the order of a column
+abbrev pub ordered_by : ℕ → ℕ → List Term → List Term → Query
+ordered_by at tree terms project = record (simple tree terms project) { order = (col 1 at, ascending Binary) ∷ [] }
 
 -- ---- the version
 
@@ -308,6 +314,88 @@ pub set_asks : asks (first find_set) ≡ true
 unfolding first everything
 set_asks = refl
 
+abbrev pub find_capability : List ℕ
+find_capability = codes "SELECT capability FROM vset2 WHERE vs = ?1"
+
+pub capability_is : command_of (understood store_schema find_capability) ≡ Select (record { lets = []; body = simple 4 (equals 0 0 ∷ []) (col 1 3 ∷ []) }) (codes "capability" ∷ [])
+unfolding understood everything
+capability_is = refl
+
+pub capability_unlisted : reads_listing store_schema find_capability ≡ false
+unfolding understood everything
+capability_unlisted = refl
+
+pub capability_plain : IsPlain (understood store_schema find_capability)
+unfolding understood everything
+capability_plain = (refl, refl)
+
+pub capability_asks : asks (first find_capability) ≡ true
+unfolding first everything
+capability_asks = refl
+
+abbrev pub find_verdicts : List ℕ
+find_verdicts = codes "SELECT verdicts FROM vset2 WHERE vs = ?1"
+
+pub verdicts_is : command_of (understood store_schema find_verdicts) ≡ Select (record { lets = []; body = simple 4 (equals 0 0 ∷ []) (col 1 6 ∷ []) }) (codes "verdicts" ∷ [])
+unfolding understood everything
+verdicts_is = refl
+
+pub verdicts_unlisted : reads_listing store_schema find_verdicts ≡ false
+unfolding understood everything
+verdicts_unlisted = refl
+
+pub verdicts_plain : IsPlain (understood store_schema find_verdicts)
+unfolding understood everything
+verdicts_plain = (refl, refl)
+
+pub verdicts_asks : asks (first find_verdicts) ≡ true
+unfolding first everything
+verdicts_asks = refl
+
+abbrev pub find_sets : List ℕ
+find_sets = codes "SELECT vs, session, cancelled, disposition, epoch FROM vset2 WHERE vs BETWEEN ?1 AND ?2 AND cancelled = 0 ORDER BY vs"
+
+abbrev pub sets_query : Query
+sets_query = ordered_by 0 4 (op2 (Compare Ge Binary) (col 1 0) (col 0 0) ∷ op2 (Compare Le Binary) (col 1 0) (col 0 1) ∷ op2 (Compare Eq Binary) (col 1 4) (lit (Int (pos 0))) ∷ []) (col 1 0 ∷ col 1 2 ∷ col 1 4 ∷ col 1 7 ∷ col 1 8 ∷ [])
+
+pub sets_is : command_of (understood store_schema find_sets) ≡ Select (record { lets = []; body = sets_query }) (codes "vs" ∷ codes "session" ∷ codes "cancelled" ∷ codes "disposition" ∷ codes "epoch" ∷ [])
+unfolding understood everything
+sets_is = refl
+
+pub sets_unlisted : reads_listing store_schema find_sets ≡ false
+unfolding understood everything
+sets_unlisted = refl
+
+pub sets_plain : IsPlain (understood store_schema find_sets)
+unfolding understood everything
+sets_plain = (refl, refl)
+
+pub sets_asks : asks (first find_sets) ≡ true
+unfolding first everything
+sets_asks = refl
+
+abbrev pub find_epoch : List ℕ
+find_epoch = codes "SELECT MAX(epoch) FROM vset2"
+
+abbrev pub epoch_query : Query
+epoch_query = record (simple 4 [] (col 1 0 ∷ [])) { group = Some (record { keys = []; collations = []; aggregates = record { op = Max; distinct = false; collation = Binary; argument = col 1 8 } ∷ []; having = [] }) }
+
+pub epoch_is : command_of (understood store_schema find_epoch) ≡ Select (record { lets = []; body = epoch_query }) (codes "MAX(epoch)" ∷ [])
+unfolding understood everything
+epoch_is = refl
+
+pub epoch_unlisted : reads_listing store_schema find_epoch ≡ false
+unfolding understood everything
+epoch_unlisted = refl
+
+pub epoch_plain : IsPlain (understood store_schema find_epoch)
+unfolding understood everything
+epoch_plain = (refl, refl)
+
+pub epoch_asks : asks (first find_epoch) ≡ true
+unfolding first everything
+epoch_asks = refl
+
 abbrev pub cancel_set : List ℕ
 cancel_set = codes "UPDATE vset2 SET cancelled = 1 WHERE vs = ?1"
 
@@ -405,6 +493,28 @@ reviewer_plain = (refl, refl)
 pub reviewer_asks : asks (first find_reviewer) ≡ true
 unfolding first everything
 reviewer_asks = refl
+
+abbrev pub find_reviewers : List ℕ
+find_reviewers = codes "SELECT account FROM reviewer WHERE session = ?1 ORDER BY account"
+
+abbrev pub reviewers_query : Query
+reviewers_query = ordered_by 2 8 (equals 1 0 ∷ []) (col 1 2 ∷ [])
+
+pub reviewers_is : command_of (understood store_schema find_reviewers) ≡ Select (record { lets = []; body = reviewers_query }) (codes "account" ∷ [])
+unfolding understood everything
+reviewers_is = refl
+
+pub reviewers_unlisted : reads_listing store_schema find_reviewers ≡ false
+unfolding understood everything
+reviewers_unlisted = refl
+
+pub reviewers_plain : IsPlain (understood store_schema find_reviewers)
+unfolding understood everything
+reviewers_plain = (refl, refl)
+
+pub reviewers_asks : asks (first find_reviewers) ≡ true
+unfolding first everything
+reviewers_asks = refl
 
 abbrev pub add_reviewer : List ℕ
 add_reviewer = codes "INSERT INTO reviewer (session, account) VALUES (?1, ?2)"

@@ -2,3 +2,4 @@ pub mod Creating
 pub mod Sets
 pub mod Requests
 pub mod Objects
+pub mod SetTexts

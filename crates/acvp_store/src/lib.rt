@@ -3,10 +3,12 @@
 
 mod accounts;
 mod fault;
+mod lists;
 mod objects;
 mod requests;
 mod reviewers;
 mod sessions;
+mod set_texts;
 mod sets;
 mod setup;
 mod shown;

@@ -1,7 +1,8 @@
 //! The table of reviewers.
 ghost use Rattle.std.specs.Prelude.{◌≡◌, nat_lt, length, not, filter, IsTrue, IfOk, IsOk, List};
 ghost use Rattle.sqlite.specs.Held.{state};
-ghost use Rattle.acvp_tables.specs.Content.{is_reviewer};
+ghost use Rattle.acvp_tables.specs.Content.{Content, is_reviewer, reviewers_of};
+ghost use Rattle.acvp_tables.specs.State.{IsSound};
 ghost use Rattle.acvp_tables.specs.Changes.{is_pair, with_reviewer};
 ghost use Rattle.acvp_tables.specs.declared.rows.ReviewerRow.{ReviewerRow as Reviewer};
 ghost use Rattle.acvp_store.specs.Alters.{Alters};
@@ -10,10 +11,12 @@ ghost use Rattle.acvp_store.specs.Schema.{store_schema};
 ghost use Rattle.acvp_store.specs.Stands.{reviewer_tree, HoldsReviewers};
 
 use crate::fault::{done, fault_of};
+use crate::lists::listed;
 use crate::shown::fitting;
 use crate::work::Work;
 use acvp_tables::{ReviewerRow, StoreFault};
 use sqlite::{Alter, Connection, Error, Row, Transaction, params};
+use std::alloc::Global;
 
 /// Whether a query's answer has a row.
 fn any(outcome: Result<Vec<Row>, Error>) -> Result<bool, StoreFault>
@@ -41,6 +44,26 @@ pub(crate) fn find_reviewer<S: Alter>(
         "SELECT account FROM reviewer WHERE session = ?1 AND account = ?2",
         params![kept, u32::from(account)],
     ))
+}
+
+/// The accounts that are reviewers of a test session.
+pub(crate) fn find_reviewers<S: Alter>(
+    alloc: Global,
+    conn: &mut Connection<S>,
+    session: u64,
+) -> Result<Vec<u16>, StoreFault>
+    requires { ServesStore (state S.Store conn.old) }
+    ensures found { IsTrue (state S.Store conn.new).is_open → IfOk result (λ found. (c : Content) → IsSound c → HoldsReviewers ((state S.Store conn.old).now.trees reviewer_tree) c.reviewers → found.items ≡ reviewers_of session c.reviewers) }
+    ensures read { IsRead result (state S.Store conn.old) (state S.Store conn.new) }
+{
+    let kept = fitting(session)?;
+    listed(
+        alloc,
+        conn.query_all(
+            "SELECT account FROM reviewer WHERE session = ?1 ORDER BY account",
+            params![kept],
+        ),
+    )
 }
 
 /// A reviewer who is put in, where it isn't there.

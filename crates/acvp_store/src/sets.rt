@@ -1,7 +1,9 @@
 //! The table of vector sets.
-ghost use Rattle.std.specs.Prelude.{◌≡◌, ◌∷◌, [], IsTrue, IfOk, IfSome, IsOk, List, Some, option_map};
+ghost use Rattle.std.specs.Prelude.{◌≡◌, ◌∷◌, [], IsTrue, IfOk, IfSome, IsOk, List, Some, map, option_map};
+ghost use Rattle.std.specs.List.{AllZip};
 ghost use Rattle.sqlite.specs.Held.{state};
-ghost use Rattle.acvp_tables.specs.Content.{set_at, set_summary};
+ghost use Rattle.acvp_tables.specs.Content.{Content, set_at, set_summary, live_sets};
+ghost use Rattle.acvp_tables.specs.State.{IsSound};
 ghost use Rattle.acvp_tables.specs.declared.rows.SetRow.{SetRow as Set};
 ghost use Rattle.acvp_tables.specs.Changes.{changed, is_set, cancelled_set, with_graded, new_sets};
 ghost use Rattle.acvp_store.specs.Alters.{Alters};
@@ -11,6 +13,7 @@ ghost use Rattle.acvp_store.specs.Stands.{HoldsSets, disposition_number, set_tre
 ghost use Rattle.acvp_store.specs.Private.Sets.{IsSummary, IsSummaryOf, new_set, AddsSets};
 
 use crate::fault::done;
+use crate::lists::listed;
 use crate::shown::{Shown, answered, field, fitting, key, truth};
 use crate::work::Work;
 use acvp_answers::{Disposition, verdicts_to_text};
@@ -111,6 +114,61 @@ pub(crate) fn find_set<S: Alter>(
         "SELECT vs, session, cancelled, disposition, epoch FROM vset2 WHERE vs = ?1",
         params![key(number)],
     )))
+}
+
+/// What each of the columns tell.
+fn summaries(alloc: Global, sets: &[ShortSet]) -> Result<Vec<SetSummary>, StoreFault>
+    ensures { IfOk result (λ told. AllZip IsSummary sets.now told.items) }
+{
+    let mut told = Vec::new(alloc);
+    for set in sets {
+        let one = summary(*set)?;
+        if told.push(one).is_err() {
+            return Err(StoreFault::Memory);
+        }
+    }
+    Ok(told)
+}
+
+/// What the columns that were listed tell.
+fn summaries_in(
+    alloc: Global,
+    found: Result<Vec<ShortSet>, StoreFault>,
+) -> Result<Vec<SetSummary>, StoreFault>
+    ensures told { IfOk result (λ told. IfOk found (λ sets. AllZip IsSummary sets.items told.items)) }
+    ensures ok { IsOk result → IsOk found }
+{
+    match found {
+        Ok(sets) => summaries(alloc, &sets),
+        Err(fault) => Err(fault),
+    }
+}
+
+/// The vector sets of a test session that aren't cancelled, by the range of their numbers. It is Refused where the
+/// session's number is so large that no column keeps those.
+pub(crate) fn find_sets<S: Alter>(
+    alloc: Global,
+    conn: &mut Connection<S>,
+    session: u64,
+) -> Result<Vec<SetSummary>, StoreFault>
+    requires { ServesStore (state S.Store conn.old) }
+    ensures found { IsTrue (state S.Store conn.new).is_open → IfOk result (λ found. (c : Content) → IsSound c → HoldsSets ((state S.Store conn.old).now.trees set_tree) c.sets → found.items ≡ map set_summary (live_sets session c.sets)) }
+    ensures read { IsRead result (state S.Store conn.old) (state S.Store conn.new) }
+{
+    if 92233720368547757 < session {
+        return Err(StoreFault::Refused);
+    }
+    let first = session * 100;
+    summaries_in(
+        alloc,
+        listed(
+            alloc,
+            conn.query_all(
+                "SELECT vs, session, cancelled, disposition, epoch FROM vset2 WHERE vs BETWEEN ?1 AND ?2 AND cancelled = 0 ORDER BY vs",
+                params![key(first), key(first + 99)],
+            ),
+        ),
+    )
 }
 
 /// A vector set that is cancelled, without the counters of its session.

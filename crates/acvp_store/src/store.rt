@@ -1,9 +1,9 @@
 //! The records in SQL tables.
-ghost use Rattle.std.specs.Prelude.{◌≡◌, IsTrue, IfOk, IfErr, option_map};
+ghost use Rattle.std.specs.Prelude.{◌≡◌, IsTrue, IfOk, IfErr, map, option_map, option_and_then};
 ghost use Rattle.sqlite.specs.Held.{state};
 ghost use Rattle.sqlite.specs.State.{HasCleanDisk};
 ghost use Rattle.acvp_tables.specs.Calls.{Finds, Reads, Changes};
-ghost use Rattle.acvp_tables.specs.Content.{no_rows, account_at, session_at, set_at, set_summary, object_at, is_reviewer};
+ghost use Rattle.acvp_tables.specs.Content.{no_rows, account_at, session_at, set_at, set_summary, set_verdicts, live_sets, object_at, is_reviewer, reviewers_of};
 ghost use Rattle.acvp_tables.specs.Changes.{after, after_order};
 ghost use Rattle.acvp_tables.specs.State.{IsSound};
 ghost use Rattle.acvp_tables.specs.declared.change.Change.TheVariants as change;
@@ -15,13 +15,16 @@ ghost use Rattle.acvp_store.specs.Store.{may_fail, Begins, stands, IsLive, is_cl
 use crate::accounts::{DisabledAccount, find_account};
 use crate::objects::{Registered, find_owner};
 use crate::requests::{CertificationAsked, DecidedRequest};
-use crate::reviewers::{ReviewerAdded, ReviewerRemoved, find_reviewer};
+use crate::reviewers::{ReviewerAdded, ReviewerRemoved, find_reviewer, find_reviewers};
 use crate::sessions::{
     CancelledSession, CertifiedSession, CountedSession, PassedSession, SessionBegun, find_session,
 };
-use crate::sets::{GradedSet, SetCancelled, SetsBegun, find_set};
+use crate::set_texts::{find_capability, find_verdicts};
+use crate::sets::{GradedSet, SetCancelled, SetsBegun, find_set, find_sets};
 use crate::setup::{StoreTable, Version};
 use crate::work::{Then, commit};
+use acvp_answers::Verdict;
+use acvp_caps::Capability;
 use acvp_registry::Kind;
 use acvp_tables::{
     AccountRow, Approval, CancelledSet, KeptAnswers, NewAccount, NewCertification, NewRequest,
@@ -145,6 +148,30 @@ impl<S: Alter> SqlTables<S> {
         find_set(&mut self.connection, number)
     }
 
+    /// The capability of the vector set of a number.
+    pub fn capability(&mut self, set: u64) -> Result<Option<Capability>, StoreFault>
+        ensures found { Finds IsSound (stands S.Store) (IsLive S.Store) (λ x. x) result self.old self.new (λ c. option_map (λ row. row.capability) (set_at set c.sets)) }
+        ensures reads { Reads may_fail (stands S.Store) (IsLive S.Store) (is_clean S.Store) (leaves S.Store) result self.old self.new }
+    {
+        find_capability(self.alloc, &mut self.connection, set)
+    }
+
+    /// The verdicts on the last answers to the vector set of a number, where there are any.
+    pub fn verdicts(&mut self, set: u64) -> Result<Option<Vec<Verdict>>, StoreFault>
+        ensures found { Finds IsSound (stands S.Store) (IsLive S.Store) (option_map (λ v. v.items)) result self.old self.new (λ c. option_and_then set_verdicts (set_at set c.sets)) }
+        ensures reads { Reads may_fail (stands S.Store) (IsLive S.Store) (is_clean S.Store) (leaves S.Store) result self.old self.new }
+    {
+        find_verdicts(self.alloc, &mut self.connection, set)
+    }
+
+    /// The vector sets of a test session that aren't cancelled.
+    pub fn sets_of(&mut self, session: u64) -> Result<Vec<SetSummary>, StoreFault>
+        ensures found { Finds IsSound (stands S.Store) (IsLive S.Store) (λ v. v.items) result self.old self.new (λ c. map set_summary (live_sets session c.sets)) }
+        ensures reads { Reads may_fail (stands S.Store) (IsLive S.Store) (is_clean S.Store) (leaves S.Store) result self.old self.new }
+    {
+        find_sets(self.alloc, &mut self.connection, session)
+    }
+
     /// The account of the registered object of a kind and number.
     pub fn owner(&mut self, kind: Kind, number: u64) -> Result<Option<u16>, StoreFault>
         ensures found { Finds IsSound (stands S.Store) (IsLive S.Store) (λ x. x) result self.old self.new (λ c. option_map (λ row. row.account) (object_at kind number c.objects)) }
@@ -159,6 +186,14 @@ impl<S: Alter> SqlTables<S> {
         ensures reads { Reads may_fail (stands S.Store) (IsLive S.Store) (is_clean S.Store) (leaves S.Store) result self.old self.new }
     {
         find_reviewer(&mut self.connection, session, account)
+    }
+
+    /// The accounts that are reviewers of a test session.
+    pub fn reviewers_of(&mut self, session: u64) -> Result<Vec<u16>, StoreFault>
+        ensures found { Finds IsSound (stands S.Store) (IsLive S.Store) (λ v. v.items) result self.old self.new (λ c. reviewers_of session c.reviewers) }
+        ensures reads { Reads may_fail (stands S.Store) (IsLive S.Store) (is_clean S.Store) (leaves S.Store) result self.old self.new }
+    {
+        find_reviewers(self.alloc, &mut self.connection, session)
     }
 
     /// Adds an account.

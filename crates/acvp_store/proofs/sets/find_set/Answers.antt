@@ -1,12 +1,15 @@
 use Rattle.std.proofs.Common.{rules, w64, to_z-of_z}
 use mir.Val.{SFits}
+use Rattle.std.specs.Prelude.{option_map}
 use Rattle.std.proofs.lemmas.Result.{IfOk-weaker}
 use Rattle.sqlite.specs.Held.{state}
+use Rattle.acvp_tables.specs.Content.{set_summary}
 use Rattle.acvp_store.specs.Stands.{set_tree}
+use Rattle.acvp_store.specs.Private.Sets.{short_shown, short_of, IsSummaryOf}
 use Rattle.acvp_store.proofs.Texts.{find_set, set_asks}
 use Rattle.acvp_store.proofs.Reading.{clean_if_open, read}
 use Rattle.acvp_store.proofs.Finding.{read_as}
-use Rattle.acvp_store.proofs.SetRows.{set_rows, find_summary}
+use Rattle.acvp_store.proofs.SetRows.{set_rows, none_told, one_told, find_told}
 use Rattle.acvp_store.proofs.sets.find_set.Goals as goal
 
 pub returns-clause-read : goal.returns-clause-read
@@ -23,5 +26,5 @@ returns-clause-found g c live =
     let clean = clean_if_open new.is_clean new.is_open (g.met.S.Store.shut_if_dirty c.query_all.new.self.store) live in
     let fit : SFits w64 c.key.result = search rules in
     let was = (returns-clause-read g c).stays.was_open live in
-    find_summary c.args.number (old.now.trees set_tree) (λ v. v.items) c.query_all.result c.answered.result c.summarized.result c.answered.ensures.ok c.summarized.ensures.ok c.answered.ensures.found c.summarized.ensures.told
+    find_told short_of IsSummaryOf (option_map set_summary) none_told one_told c.args.number short_shown (λ s. s) (old.now.trees set_tree) (λ v. v.items) c.query_all.result c.answered.result c.summarized.result c.answered.ensures.ok c.summarized.ensures.ok c.answered.ensures.found c.summarized.ensures.told
     (IfOk-weaker c.query_all.result _ _ (λ rows shown. set_rows c.args.number c.key.result c.key.ensures.fits c.key.ensures.too_large old new rows.items (c.requires was).schema (rw (c.params-to_sql.ensures, to_z-of_z fit) at shown)) (c.query_all.ensures.ok clean))

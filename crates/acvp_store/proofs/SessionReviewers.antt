@@ -1,0 +1,95 @@
+-- The reviewers of a session, in the order of their numbers.
+use Rattle.std.proofs.Common.{◌≡◌, ◌<◌, ◌+◌, ℕ, zero, suc, List, [], ◌∷◌, ◌++◌, map, Bool, true, false, Ok, Err, Result, IfOk, IsOk, refl, sym, ap, subst, ◌∙◌, arith}
+use Rattle.std.specs.Prelude.{◌==◌, nat_le, if◌then◌else◌}
+use Rattle.std.specs.List.{filter, range_with_len, AllByRecursion}
+use Rattle.std.specs.List.Sorted.{IsPermutation}
+use Rattle.std.proofs.lemmas.List.Sorted.{IsPermutation-refl, IsPermutation-cons, IsPermutation-trans, IsPermutation-sym, IsPermutation-map, IsPermutation-middle, IsPermutation-append_left, IsPermutation-append_right, IsPermutation-append_comm}
+use Rattle.std.proofs.lemmas.List.{append-nil}
+use Rattle.sqlite.specs.declared.types.Value.TheVariants.{Null}
+use Rattle.sqlite.specs.Order.{Row}
+use Rattle.sqlite.specs.Program.{overlay}
+use Rattle.sqlite.specs.State.{State, Shown}
+use Rattle.sqlite.specs.Tree.{IsAscending}
+use Rattle.sqlite.proofs.Callers.{reads_as}
+use Rattle.sqlite_keyed.proofs.ListLemmas.{filter-map}
+use Rattle.sqlite_trees.proofs.ListLemmas.{map-map, ascending-filter, IsPermutation-filter}
+use Rattle.acvp_tables.specs.Content.{Content, is_reviewer, account_numbers, reviewers_of}
+use Rattle.acvp_tables.specs.State.{IsSound}
+use Rattle.acvp_tables.specs.Private.Ascending.{with_number, ascending}
+use Rattle.acvp_tables.specs.declared.rows.ReviewerRow.{ReviewerRow}
+use Rattle.acvp_tables.proofs.Reviewers.{accounts_in, reviewers_read}
+use Rattle.acvp_store.specs.Values.{whole}
+use Rattle.acvp_store.specs.Schema.{store_schema}
+use Rattle.acvp_store.specs.Stands.{Entry, entry_row, HoldsReviewers, reviewer_columns, reviewer_tree}
+use Rattle.acvp_store.proofs.Parts.{and_true}
+use Rattle.acvp_store.proofs.Ranging.{ranged}
+use Rattle.acvp_store.proofs.Selecting.{test_equals}
+use Rattle.acvp_store.proofs.Texts.{find_reviewers, reviewers_query, reviewers_is, reviewers_plain, reviewers_unlisted}
+
+abbrev pub account_shown : ℕ → Row
+account_shown n = whole n ∷ []
+
+abbrev pub Rising : List ℕ → Type 0
+Rising = IsAscending (λ m n. m < n)
+
+-- ---- the rows that the query gives
+
+pub session_rows : (s : ℕ) (old new : State) (rows : List Row) → old.now.schema ≡ store_schema → Shown find_reviewers (whole s ∷ []) old new rows → (list : List ReviewerRow) → HoldsReviewers (old.now.trees reviewer_tree) list
+    → (numbers : List ℕ) → IsPermutation (accounts_in s list) numbers → Rising numbers → rows ≡ map account_shown numbers
+session_rows s old new rows schema shown list h numbers same rise =
+    let of_session = λ (e : Entry ReviewerRow). e.row.session == s in
+    ranged (whole s ∷ []) (entry_row reviewer_columns) of_session reviewers_query.filter (λ e. rw test_equals (and_true _)) (λ e. e.row.account) (λ n. n) account_shown
+    2 reviewer_tree reviewers_query.project (λ e. refl) (λ e. refl) (overlay old.now.trees []) h.entries numbers rows h.rows_are
+    (IsPermutation-trans _ (accounts_in s list) _ (told h.entries h.same) same) rise
+    ((reads_as find_reviewers (whole s ∷ []) old new store_schema schema _ reviewers_is reviewers_plain reviewers_unlisted rows shown).answer Null)
+  where
+    told : (es : List (Entry ReviewerRow)) → IsPermutation (map (λ e. e.row) es) list → IsPermutation (map (λ e. e.row.account) (filter (λ e. e.row.session == s) es)) (accounts_in s list)
+    told es same =
+        let kept = IsPermutation-map (λ (r : ReviewerRow). r.account) _ _ (IsPermutation-filter (λ (r : ReviewerRow). r.session == s) _ _ same) in
+        let is = ap (map (λ (r : ReviewerRow). r.account)) (filter-map (λ (r : ReviewerRow). r.session == s) (λ (e : Entry ReviewerRow). e.row) es) ∙ map-map (λ (r : ReviewerRow). r.account) (λ (e : Entry ReviewerRow). e.row) (filter (λ e. e.row.session == s) es) in
+        subst (λ accounts. IsPermutation accounts (accounts_in s list)) is kept
+
+-- ---- numbers put in order
+
+placed_same : (n : ℕ) (placed : List ℕ) → IsPermutation (n ∷ placed) (with_number n placed)
+placed_same n [] = IsPermutation-refl _
+placed_same n (m ∷ placed) = go (placed_same n placed) (nat_le n m)
+  where
+    go : IsPermutation (n ∷ placed) (with_number n placed) → (b : Bool) → IsPermutation (n ∷ m ∷ placed) (if b then n ∷ m ∷ placed else m ∷ with_number n placed)
+    go more true = IsPermutation-refl _
+    go more false = IsPermutation-trans _ (m ∷ n ∷ placed) _ (IsPermutation-append_left placed (n ∷ m ∷ []) (m ∷ n ∷ []) (IsPermutation-append_comm (n ∷ []) (m ∷ []))) (IsPermutation-cons m _ _ more)
+
+ordered_same : (placed numbers : List ℕ) → IsPermutation (numbers ++ placed) (ascending placed numbers)
+ordered_same placed [] = IsPermutation-refl _
+ordered_same placed (n ∷ numbers) =
+    let front = IsPermutation-sym _ _ (IsPermutation-middle numbers n placed) in
+    IsPermutation-trans _ (numbers ++ n ∷ placed) _ front
+    (IsPermutation-trans _ (numbers ++ with_number n placed) _ (IsPermutation-append_right numbers (n ∷ placed) (with_number n placed) (placed_same n placed)) (ordered_same (with_number n placed) numbers))
+
+-- ---- of a sound content they are the session's
+
+reviewers_same : (s : ℕ) (c : Content) → IsSound c → IsPermutation (accounts_in s c.reviewers) (reviewers_of s c.reviewers)
+reviewers_same s c sound = subst (IsPermutation (accounts_in s c.reviewers)) (reviewers_read s c c.reviewers _ sound refl refl) (rw append-nil at (ordered_same [] (accounts_in s c.reviewers)))
+
+above_range : (m a k : ℕ) → m < a → AllByRecursion (λ n. m < n) (range_with_len a k)
+above_range m a zero low = tt
+above_range m a (suc k) low = (low, above_range m (a + 1) k (omega arith))
+
+rise_range : (a k : ℕ) → Rising (range_with_len a k)
+rise_range a zero = tt
+rise_range a (suc k) = (above_range a (a + 1) k (omega arith), rise_range (a + 1) k)
+
+reviewers_rise : (s : ℕ) (rows : List ReviewerRow) → Rising (reviewers_of s rows)
+unfolding reviewers_of account_numbers
+reviewers_rise s rows = ascending-filter (λ m n. m < n) (λ account. is_reviewer s account rows) (range_with_len 1 9999) (rise_range 1 9999)
+
+-- ---- the whole
+
+module _ {X L E F : Type 0} (s : ℕ) (table : List Row) (rows_in : X → List Row) (listed : L → List ℕ) where
+  pub find_all : (outcome : Result X E) (result : Result L F) → (IsOk result → IsOk outcome)
+      → IfOk result (λ l. IfOk outcome (λ x. (list : List ℕ) → rows_in x ≡ map account_shown list → listed l ≡ list))
+      → IfOk outcome (λ x. (list : List ReviewerRow) → HoldsReviewers table list → (numbers : List ℕ) → IsPermutation (accounts_in s list) numbers → Rising numbers → rows_in x ≡ map account_shown numbers)
+      → IfOk result (λ l. (c : Content) → IsSound c → HoldsReviewers table c.reviewers → listed l ≡ reviewers_of s c.reviewers)
+  find_all outcome (Err f) ok lists rows = tt
+  find_all (Err e) (Ok l) ok lists rows = absurd (let impossible = ok refl in cc)
+  find_all (Ok x) (Ok l) ok lists rows = λ c sound h. lists (reviewers_of s c.reviewers) (rows c.reviewers h (reviewers_of s c.reviewers) (reviewers_same s c sound) (reviewers_rise s c.reviewers))

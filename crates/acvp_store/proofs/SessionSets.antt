@@ -1,0 +1,184 @@
+-- The vector sets of a session, by the range of its sets' numbers.
+use Rattle.std.proofs.Common.{◌≡◌, ◌<◌, ◌≤◌, ◌+◌, ◌*◌, ◌/◌, ℕ, List, [], ◌∷◌, map, length, Bool, true, false, not, Option, Ok, Err, Result, IfOk, IsOk, inl, inr, refl, sym, ap, subst, ◌∙◌, arith}
+use Rattle.std.specs.Prelude.{◌==◌, ◌&&◌, nat_le, if◌then◌else◌}
+use Rattle.std.specs.List.{filter, list_all, range_with_len, AllZip, AllByRecursion}
+use Rattle.std.specs.List.Sorted.{IsPermutation}
+use Rattle.std.proofs.lemmas.Bool.{cases_Bool}
+use Rattle.std.proofs.lemmas.Bool.Decides.{nat_tests}
+use Rattle.std.proofs.lemmas.List.{length-map}
+use Rattle.sqlite.specs.Order.{Row}
+use Rattle.sqlite.specs.declared.types.Value.TheVariants.{Null}
+use Rattle.sqlite.specs.Ops.{is_true, binary}
+use Rattle.sqlite.specs.Collation.TheVariants.{Binary}
+use Rattle.sqlite.specs.Program.{overlay}
+use Rattle.sqlite.specs.State.{State, Shown}
+use Rattle.sqlite.specs.Tree.{IsAscending}
+use Rattle.sqlite.proofs.Callers.{reads_as}
+use Rattle.sqlite_sql.specs.declared.ops.BinaryOp.TheVariants.{Compare}
+use Rattle.sqlite_sql.specs.declared.ops.CompareOp.TheVariants.{Eq}
+use Rattle.sqlite_trees.proofs.ListLemmas.{map-map, ascending-filter, IsPermutation-filter}
+use Rattle.acvp_tables.specs.Content.{Content, live_sets, set_summary}
+use Rattle.acvp_tables.specs.State.{IsSound, SetRecord, set_record, state_of, sets_in, first_of_session}
+use Rattle.acvp_tables.specs.declared.rows.SetRow.{SetRow}
+use Rattle.acvp_tables.specs.declared.summary.SetSummary.{SetSummary}
+use Rattle.acvp_tables.proofs.Numbers.{keyed, sets_numbered}
+use Rattle.acvp_tables.proofs.Selections.{sets_follow}
+use Rattle.acvp_store.specs.Values.{whole, flag}
+use Rattle.acvp_store.specs.Schema.{store_schema}
+use Rattle.acvp_store.specs.Kept.{IsKept}
+use Rattle.acvp_store.specs.Stands.{SetColumns, set_key, set_row, set_tree, IsSet, HoldsSets}
+use Rattle.acvp_store.specs.Private.Sets.{short_shown, short_of, IsSummary}
+use Rattle.acvp_store.specs.declared.sets.ShortSet.{ShortSet}
+use Rattle.acvp_store.proofs.Parts.{and_true}
+use Rattle.acvp_store.proofs.Ranging.{ranged}
+use Rattle.acvp_store.proofs.Selecting.{test_equals, test_at_least, test_at_most}
+use Rattle.acvp_store.proofs.SetRows.{set_shown, summary_is}
+use Rattle.acvp_store.proofs.Texts.{find_sets, sets_query, sets_is, sets_plain, sets_unlisted}
+
+-- a number of a session's sets, of one that isn't cancelled
+abbrev pub is_live_within : ℕ → ℕ → Bool → Bool
+is_live_within s n cancelled = nat_le (s * 100) n && (nat_le n (s * 100 + 99) && not cancelled)
+
+abbrev pub is_live_set : ℕ → SetColumns → Bool
+is_live_set s c = is_live_within s c.number c.cancelled
+
+abbrev pub Rising : List SetColumns → Type 0
+Rising = IsAscending (λ a b. a.number < b.number)
+
+-- ---- the rows that the query gives
+
+test_off : (b : Bool) → is_true (binary (Compare Eq Binary) (flag b) (whole 0)) ≡ not b
+test_off true = test_equals 1 0
+test_off false = test_equals 0 0
+
+three_true : (a b c d e f : Bool) → a ≡ d → b ≡ e → c ≡ f → (a && (b && (c && true))) ≡ (d && (e && f))
+three_true a b c d e f p q r = rw (p, q, r, and_true f) refl
+
+pub live_rows : (s : ℕ) (old new : State) (rows : List Row) → old.now.schema ≡ store_schema → Shown find_sets (whole (s * 100) ∷ whole (s * 100 + 99) ∷ []) old new rows
+    → (columns : List SetColumns) → IsKept set_key set_row (old.now.trees set_tree) columns → Rising (filter (is_live_set s) columns) → rows ≡ map set_shown (filter (is_live_set s) columns)
+live_rows s old new rows schema h columns kept rise =
+    let params = whole (s * 100) ∷ whole (s * 100 + 99) ∷ [] in
+    ranged params set_row (is_live_set s) sets_query.filter (λ c. three_true _ _ _ _ _ _ (test_at_least c.number (s * 100)) (test_at_most c.number (s * 100 + 99)) (test_off c.cancelled)) (λ c. c) set_key set_shown
+    0 set_tree sets_query.project (λ c. refl) (λ c. refl) (overlay old.now.trees []) kept.ordered (filter (is_live_set s) columns) rows kept.rows_are
+    (same_told (filter (is_live_set s) kept.ordered) (IsPermutation-filter (is_live_set s) kept.ordered columns kept.same)) rise
+    ((reads_as find_sets params old new store_schema schema _ sets_is sets_plain sets_unlisted rows h).answer Null)
+  where
+    map_same : (xs : List SetColumns) → map (λ c. c) xs ≡ xs
+    map_same [] = refl
+    map_same (x ∷ xs) = ap (λ l. x ∷ l) (map_same xs)
+
+    same_told : (xs : List SetColumns) → IsPermutation xs (filter (is_live_set s) columns) → IsPermutation (map (λ c. c) xs) (filter (is_live_set s) columns)
+    same_told xs same = rw (map_same xs) same
+
+-- ---- of a sound content they are the session's
+
+within_is : (s n session : ℕ) (cancelled : Bool) → ((n / 100) == session) ≡ true → is_live_within s n cancelled ≡ ((session == s) && not cancelled)
+within_is s n session cancelled own =
+    let its : n / 100 ≡ session = grind (arith, nat_tests, own) in
+    elim (cases_Bool (session == s)) [
+      | inl same ↦
+          let e : session ≡ s = grind (arith, nat_tests, same) in
+          let low : nat_le (s * 100) n ≡ true = let it : s * 100 ≤ n = omega arith in grind (arith, nat_tests, it) in
+          let high : nat_le n (s * 100 + 99) ≡ true = let it : n ≤ s * 100 + 99 = omega arith in grind (arith, nat_tests, it) in
+          rw (low, high, same) refl
+      | inr apart ↦ rw apart (out (nat_le (s * 100) n) (nat_le n (s * 100 + 99)) refl refl (λ low high. let e : session ≡ s = omega arith in grind (arith, nat_tests, apart, e)))
+    ]
+  where
+    out : (a b : Bool) → nat_le (s * 100) n ≡ a → nat_le n (s * 100 + 99) ≡ b → (s * 100 ≤ n → n ≤ s * 100 + 99 → ⊥) → (a && (b && not cancelled)) ≡ false
+    out true true p q both = absurd (both (grind (arith, nat_tests, p)) (grind (arith, nat_tests, q)))
+    out true false p q both = refl
+    out false b p q both = refl
+
+live_within : (s : ℕ) (rows : List SetRow) → list_all (λ (row : SetRecord). (row.number / 100) == row.session) (map set_record rows) ≡ true → filter (λ (row : SetRow). is_live_within s row.number row.cancelled) rows ≡ live_sets s rows
+live_within s [] all = refl
+live_within s (r ∷ rows) all =
+    let own : ((r.number / 100) == r.session) ≡ true = grind (arith, nat_tests, all) in
+    let rest : list_all (λ (row : SetRecord). (row.number / 100) == row.session) (map set_record rows) ≡ true = grind (arith, nat_tests, all) in
+    let more = live_within s rows rest in
+    let here = within_is s r.number r.session r.cancelled own in
+    rw (here, more) refl
+
+pub live_is : (s : ℕ) (c : Content) → IsSound c → filter (λ (row : SetRow). is_live_within s row.number row.cancelled) c.sets ≡ live_sets s c.sets
+unfolding state_of
+live_is s c sound = live_within s c.sets (keyed (state_of c) sound).sets
+
+-- rows that are numbered without gaps rise
+beyond : {R : Type 0} (number : R → ℕ) (m i : ℕ) (rows : List R) → m < i → map number rows ≡ range_with_len i (length rows) → AllByRecursion (λ r. m < number r) rows
+beyond number m i [] low is = tt
+beyond number m i (r ∷ rows) low is =
+    let here : number r ≡ i = cc (is) in
+    let more : map number rows ≡ range_with_len (i + 1) (length rows) = cc (is) in
+    (omega arith, beyond number m (i + 1) rows (omega arith) more)
+
+rise_numbered : {R : Type 0} (number : R → ℕ) (i : ℕ) (rows : List R) → map number rows ≡ range_with_len i (length rows) → IsAscending (λ a b. number a < number b) rows
+rise_numbered number i [] is = tt
+rise_numbered number i (r ∷ rows) is =
+    let here : number r ≡ i = cc (is) in
+    let more : map number rows ≡ range_with_len (i + 1) (length rows) = cc (is) in
+    (beyond number (number r) (i + 1) rows (omega arith) more, rise_numbered number (i + 1) rows more)
+
+filter_both : {R : Type 0} (p q : R → Bool) (rows : List R) → filter q (filter p rows) ≡ filter (λ r. p r && q r) rows
+filter_both p q [] = refl
+filter_both p q (r ∷ rows) = grind (arith, nat_tests, filter_both p q rows)
+
+pub live_rise : (s : ℕ) (c : Content) → IsSound c → IsAscending (λ (a b : SetRow). a.number < b.number) (live_sets s c.sets)
+live_rise s c sound =
+    let own = filter (λ (row : SetRow). row.session == s) c.sets in
+    let follows : sets_in s (state_of c).sets ≡ map set_record own = sets_follow s c in
+    let len : length (map set_record own) ≡ length own = length-map _ _ in
+    let numbered : map (λ (row : SetRow). row.number) own ≡ range_with_len (first_of_session s) (length own) =
+    sym (map-map (λ (row : SetRecord). row.number) set_record own) ∙ subst (λ rows. map (λ (row : SetRecord). row.number) rows ≡ range_with_len (first_of_session s) (length rows)) follows (sets_numbered (state_of c) sound s) ∙ ap (range_with_len (first_of_session s)) len in
+    subst (IsAscending (λ (a b : SetRow). a.number < b.number)) (filter_both (λ (row : SetRow). row.session == s) (λ row. not row.cancelled) c.sets)
+    (ascending-filter (λ (a b : SetRow). a.number < b.number) (λ (row : SetRow). not row.cancelled) own (rise_numbered (λ (row : SetRow). row.number) (first_of_session s) own numbered))
+
+-- ---- the columns beside the rows
+
+zip_live : (s : ℕ) (columns : List SetColumns) (sets : List SetRow) → AllZip IsSet columns sets → AllZip IsSet (filter (is_live_set s) columns) (filter (λ (row : SetRow). is_live_within s row.number row.cancelled) sets)
+zip_live s [] [] h = tt
+zip_live s [] (r ∷ sets) h = absurd h
+zip_live s (c ∷ columns) [] h = absurd h
+zip_live s (c ∷ columns) (r ∷ sets) h =
+    let more = zip_live s columns sets h.1 in
+    let same : is_live_set s c ≡ is_live_within s r.number r.cancelled = rw (h.0.number, h.0.cancelled) refl in
+    elim (cases_Bool (is_live_within s r.number r.cancelled)) [
+      | inl on ↦ rw (same, on) (h.0, more)
+      | inr off ↦ rw (same, off) more
+    ]
+
+above_zipped : (m : ℕ) (columns : List SetColumns) (sets : List SetRow) → AllZip IsSet columns sets → AllByRecursion (λ (r : SetRow). m < r.number) sets → AllByRecursion (λ (c : SetColumns). m < c.number) columns
+above_zipped m [] [] h low = tt
+above_zipped m [] (r ∷ sets) h low = absurd h
+above_zipped m (c ∷ columns) [] h low = absurd h
+above_zipped m (c ∷ columns) (r ∷ sets) h low = (subst (λ n. m < n) (sym h.0.number) low.0, above_zipped m columns sets h.1 low.1)
+
+rise_zipped : (columns : List SetColumns) (sets : List SetRow) → AllZip IsSet columns sets → IsAscending (λ (a b : SetRow). a.number < b.number) sets → Rising columns
+rise_zipped [] [] h rise = tt
+rise_zipped [] (r ∷ sets) h rise = absurd h
+rise_zipped (c ∷ columns) [] h rise = absurd h
+rise_zipped (c ∷ columns) (r ∷ sets) h rise = (above_zipped c.number columns sets h.1 (subst (λ n. AllByRecursion (λ (r : SetRow). n < r.number) sets) (sym h.0.number) rise.0), rise_zipped columns sets h.1 rise.1)
+
+all_told : (columns : List SetColumns) (sets : List SetRow) (told : List SetSummary) → AllZip IsSet columns sets → AllZip IsSummary (map short_of columns) told → told ≡ map set_summary sets
+all_told [] [] [] h is = refl
+all_told [] [] (t ∷ told) h is = absurd is
+all_told [] (r ∷ sets) told h is = absurd h
+all_told (c ∷ columns) [] told h is = absurd h
+all_told (c ∷ columns) (r ∷ sets) [] h is = absurd is
+all_told (c ∷ columns) (r ∷ sets) (t ∷ told) h is = λ i. summary_is c r t h.0 is.0 i ∷ all_told columns sets told h.1 is.1 i
+
+-- ---- the whole
+
+module _ {X L M E F G : Type 0} (s : ℕ) (table : List Row) (rows_in : X → List Row) (listed : L → List ShortSet) (told : M → List SetSummary) where
+  pub find_live : (outcome : Result X E) (found : Result L F) (result : Result M G) → (IsOk found → IsOk outcome) → (IsOk result → IsOk found)
+      → IfOk found (λ l. IfOk outcome (λ x. (list : List ShortSet) → rows_in x ≡ map short_shown list → listed l ≡ list))
+      → IfOk result (λ m. IfOk found (λ l. AllZip IsSummary (listed l) (told m)))
+      → IfOk outcome (λ x. (columns : List SetColumns) → IsKept set_key set_row table columns → Rising (filter (is_live_set s) columns) → rows_in x ≡ map set_shown (filter (is_live_set s) columns))
+      → IfOk result (λ m. (c : Content) → IsSound c → HoldsSets table c.sets → told m ≡ map set_summary (live_sets s c.sets))
+  find_live outcome found (Err g) ok_found ok_result lists tells rows = tt
+  find_live outcome (Err f) (Ok m) ok_found ok_result lists tells rows = absurd (let impossible = ok_result refl in cc)
+  find_live (Err e) (Ok l) (Ok m) ok_found ok_result lists tells rows = absurd (let impossible = ok_found refl in cc)
+  find_live (Ok x) (Ok l) (Ok m) ok_found ok_result lists tells rows = λ c sound h.
+      let columns = filter (is_live_set s) h.columns in
+      let zip : AllZip IsSet columns (live_sets s c.sets) = subst (AllZip IsSet columns) (live_is s c sound) (zip_live s h.columns c.sets h.same) in
+      let shown = rows h.columns h.kept (rise_zipped columns (live_sets s c.sets) zip (live_rise s c sound)) in
+      let is : listed l ≡ map short_of columns = lists (map short_of columns) (shown ∙ sym (map-map short_shown short_of columns)) in
+      all_told columns (live_sets s c.sets) (told m) zip (subst (λ list. AllZip IsSummary list (told m)) is tells)

@@ -1,0 +1,31 @@
+use Rattle.std.proofs.Common.{rules, w64, to_z-of_z}
+use mir.Val.{SFits}
+use Rattle.std.specs.Prelude.{Some, option_map}
+use Rattle.acvp_tables.specs.declared.rows.SetRow.{SetRow}
+use Rattle.acvp_store.specs.Stands.{SetColumns}
+use Rattle.acvp_store.specs.Private.SetTexts.{text_shown, TellsCapability}
+use Rattle.acvp_store.proofs.SetRows.{capability_rows, capability_some, find_told}
+use Rattle.std.proofs.lemmas.Result.{IfOk-weaker}
+use Rattle.sqlite.specs.Held.{state}
+use Rattle.acvp_store.specs.Stands.{set_tree}
+use Rattle.acvp_store.proofs.Texts.{find_capability, capability_asks}
+use Rattle.acvp_store.proofs.Reading.{clean_if_open, read}
+use Rattle.acvp_store.proofs.Finding.{read_as}
+use Rattle.acvp_store.proofs.set_texts.find_capability.Goals as goal
+
+pub returns-clause-read : goal.returns-clause-read
+returns-clause-read g c =
+    let old = state g.S.Store c.args.conn.now in
+    let new = state g.S.Store c.query_all.new.self in
+    read_as c.query_all.result c.capability_in.result old new (λ ok. c.answered.ensures.ok (c.capability_in.ensures.ok ok))
+    (read find_capability _ old new (g.met.S.Store.shut_if_dirty c.query_all.new.self.store) (λ live. (c.requires live).ready) capability_asks c.query_all.ensures.survives c.query_all.result (λ v. v.items) c.query_all.ensures.ok c.query_all.ensures.err)
+
+pub returns-clause-found : goal.returns-clause-found
+returns-clause-found g c live =
+    let old = state g.S.Store c.args.conn.now in
+    let new = state g.S.Store c.query_all.new.self in
+    let clean = clean_if_open new.is_clean new.is_open (g.met.S.Store.shut_if_dirty c.query_all.new.self.store) live in
+    let fit : SFits w64 c.key.result = search rules in
+    let was = (returns-clause-read g c).stays.was_open live in
+    find_told (λ (c : SetColumns). Some c.capability) TellsCapability (option_map (λ (row : SetRow). row.capability)) (λ y e. e) capability_some c.args.number text_shown (λ z. z) (old.now.trees set_tree) (λ v. v.items) c.query_all.result c.answered.result c.capability_in.result c.answered.ensures.ok c.capability_in.ensures.ok c.answered.ensures.found c.capability_in.ensures.told
+    (IfOk-weaker c.query_all.result _ _ (λ rows shown. capability_rows c.args.number c.key.result c.key.ensures.fits c.key.ensures.too_large old new rows.items (c.requires was).schema (rw (c.params-to_sql.ensures, to_z-of_z fit) at shown)) (c.query_all.ensures.ok clean))

@@ -1,0 +1,31 @@
+use Rattle.std.proofs.Common.{rules, arith, w64, to_z-of_z, ◌≡◌, ◌*◌, ◌+◌, pos}
+use mir.Val.{SFits}
+use Rattle.std.proofs.lemmas.Result.{IfOk-weaker}
+use Rattle.sqlite.specs.Held.{state}
+use Rattle.acvp_store.specs.Stands.{set_tree}
+use Rattle.acvp_store.proofs.Texts.{find_sets, sets_asks}
+use Rattle.acvp_store.proofs.Reading.{clean_if_open, read}
+use Rattle.acvp_store.proofs.Finding.{read_as}
+use Rattle.acvp_store.proofs.SessionSets.{live_rows, find_live}
+use Rattle.acvp_store.proofs.sets.find_sets.Goals as goal
+
+pub returns-clause-read : goal.returns-clause-read
+returns-clause-read g c =
+    let old = state g.S.Store c.args.conn.now in
+    let new = state g.S.Store c.query_all.new.self in
+    read_as c.query_all.result c.summaries_in.result old new (λ ok. c.listed.ensures.ok (c.summaries_in.ensures.ok ok))
+    (read find_sets _ old new (g.met.S.Store.shut_if_dirty c.query_all.new.self.store) (λ live. (c.requires live).ready) sets_asks c.query_all.ensures.survives c.query_all.result (λ v. v.items) c.query_all.ensures.ok c.query_all.ensures.err)
+
+pub returns-clause-found : goal.returns-clause-found
+returns-clause-found g c live =
+    let old = state g.S.Store c.args.conn.now in
+    let new = state g.S.Store c.query_all.new.self in
+    let clean = clean_if_open new.is_clean new.is_open (g.met.S.Store.shut_if_dirty c.query_all.new.self.store) live in
+    let s = c.args.session in
+    let low : c.key.result ≡ pos (s * 100) = c.key.ensures.fits (omega arith) in
+    let high : c.key-2.result ≡ pos (s * 100 + 99) = c.key-2.ensures.fits (omega arith) in
+    let fit_low : SFits w64 c.key.result = search rules in
+    let fit_high : SFits w64 c.key-2.result = search rules in
+    let was = (returns-clause-read g c).stays.was_open live in
+    find_live s (old.now.trees set_tree) (λ v. v.items) (λ v. v.items) (λ v. v.items) c.query_all.result c.listed.result c.summaries_in.result c.listed.ensures.ok c.summaries_in.ensures.ok c.listed.ensures.found c.summaries_in.ensures.told
+    (IfOk-weaker c.query_all.result _ _ (λ rows shown. live_rows s old new rows.items (c.requires was).schema (rw (c.params-to_sql.ensures, c.params-to_sql-2.ensures, to_z-of_z fit_low, to_z-of_z fit_high, low, high) at shown)) (c.query_all.ensures.ok clean))
