@@ -19,6 +19,7 @@ pub mod SessionRows
 pub mod ObjectRows
 pub mod SetRows
 pub mod SessionSets
+pub mod Epochs
 pub mod RequestRows
 pub mod ReviewerRows
 pub mod SessionReviewers

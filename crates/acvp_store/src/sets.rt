@@ -2,7 +2,7 @@
 ghost use Rattle.std.specs.Prelude.{◌≡◌, ◌∷◌, [], IsTrue, IfOk, IfSome, IsOk, List, Some, map, option_map};
 ghost use Rattle.std.specs.List.{AllZip};
 ghost use Rattle.sqlite.specs.Held.{state};
-ghost use Rattle.acvp_tables.specs.Content.{Content, set_at, set_summary, live_sets};
+ghost use Rattle.acvp_tables.specs.Content.{Content, set_at, set_summary, live_sets, greatest_epoch_of};
 ghost use Rattle.acvp_tables.specs.State.{IsSound};
 ghost use Rattle.acvp_tables.specs.declared.rows.SetRow.{SetRow as Set};
 ghost use Rattle.acvp_tables.specs.Changes.{changed, is_set, cancelled_set, with_graded, new_sets};
@@ -169,6 +169,38 @@ pub(crate) fn find_sets<S: Alter>(
             ),
         ),
     )
+}
+
+/// An epoch alone in its row, or NULL.
+impl Shown for Option<u64> {
+    ghost use Rattle.acvp_store.specs.Private.Sets.{epoch_shown};
+
+    ghost shown = { epoch_shown };
+
+    fn read(row: &Row) -> Result<Option<u64>, StoreFault> {
+        field(row, 0)
+    }
+}
+
+/// The epoch of the one row that was found. None is Refused.
+fn epoch_in(found: Result<Option<Option<u64>>, StoreFault>) -> Result<Option<u64>, StoreFault>
+    ensures told { IfOk result (λ told. IfOk found (λ row. row ≡ Some told)) }
+    ensures ok { IsOk result → IsOk found }
+{
+    match found {
+        Ok(Some(epoch)) => Ok(epoch),
+        Ok(None) => Err(StoreFault::Refused),
+        Err(fault) => Err(fault),
+    }
+}
+
+/// The greatest epoch of all vector sets; none where there is no set.
+pub(crate) fn find_epoch<S: Alter>(conn: &mut Connection<S>) -> Result<Option<u64>, StoreFault>
+    requires { ServesStore (state S.Store conn.old) }
+    ensures found { IsTrue (state S.Store conn.new).is_open → IfOk result (λ found. (sets : List Set) → HoldsSets ((state S.Store conn.old).now.trees set_tree) sets → found ≡ greatest_epoch_of sets) }
+    ensures read { IsRead result (state S.Store conn.old) (state S.Store conn.new) }
+{
+    epoch_in(answered(conn.query_all("SELECT MAX(epoch) FROM vset2", &[])))
 }
 
 /// A vector set that is cancelled, without the counters of its session.

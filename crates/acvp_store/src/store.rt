@@ -3,7 +3,7 @@ ghost use Rattle.std.specs.Prelude.{◌≡◌, IsTrue, IfOk, IfErr, map, option_
 ghost use Rattle.sqlite.specs.Held.{state};
 ghost use Rattle.sqlite.specs.State.{HasCleanDisk};
 ghost use Rattle.acvp_tables.specs.Calls.{Finds, Reads, Changes};
-ghost use Rattle.acvp_tables.specs.Content.{no_rows, account_at, session_at, set_at, set_summary, set_verdicts, live_sets, object_at, is_reviewer, reviewers_of};
+ghost use Rattle.acvp_tables.specs.Content.{no_rows, account_at, session_at, set_at, set_summary, set_verdicts, live_sets, object_at, is_reviewer, reviewers_of, greatest_epoch_of};
 ghost use Rattle.acvp_tables.specs.Changes.{after, after_order};
 ghost use Rattle.acvp_tables.specs.State.{IsSound};
 ghost use Rattle.acvp_tables.specs.declared.change.Change.TheVariants as change;
@@ -20,7 +20,7 @@ use crate::sessions::{
     CancelledSession, CertifiedSession, CountedSession, PassedSession, SessionBegun, find_session,
 };
 use crate::set_texts::{find_capability, find_verdicts};
-use crate::sets::{GradedSet, SetCancelled, SetsBegun, find_set, find_sets};
+use crate::sets::{GradedSet, SetCancelled, SetsBegun, find_epoch, find_set, find_sets};
 use crate::setup::{StoreTable, Version};
 use crate::work::{Then, commit};
 use acvp_answers::Verdict;
@@ -194,6 +194,14 @@ impl<S: Alter> SqlTables<S> {
         ensures reads { Reads may_fail (stands S.Store) (IsLive S.Store) (is_clean S.Store) (leaves S.Store) result self.old self.new }
     {
         find_reviewers(self.alloc, &mut self.connection, session)
+    }
+
+    /// The greatest epoch of all vector sets; none where there is no set.
+    pub fn greatest_epoch(&mut self) -> Result<Option<u64>, StoreFault>
+        ensures found { Finds IsSound (stands S.Store) (IsLive S.Store) (λ x. x) result self.old self.new (λ c. greatest_epoch_of c.sets) }
+        ensures reads { Reads may_fail (stands S.Store) (IsLive S.Store) (is_clean S.Store) (leaves S.Store) result self.old self.new }
+    {
+        find_epoch(&mut self.connection)
     }
 
     /// Adds an account.

@@ -37,6 +37,10 @@ IsSummaryOf None (Some s) = ⊥
 IsSummaryOf (Some c) None = ⊥
 IsSummaryOf (Some c) (Some s) = IsSummary c s
 
+-- an epoch alone in its row, or NULL
+abbrev pub epoch_shown : Option ℕ → Row
+epoch_shown epoch = or_null whole epoch ∷ []
+
 -- ---- new sets
 
 -- a set without answers
