@@ -12,7 +12,7 @@ pub mod Updating
 pub mod Effects
 pub mod Entries
 pub mod Finding
-pub mod Listing
+pub mod Told
 pub mod Ranging
 pub mod AccountRows
 pub mod SessionRows

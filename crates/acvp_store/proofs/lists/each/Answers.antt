@@ -1,5 +1,5 @@
 use Rattle.std.proofs.Common.{◌≡◌, ◌∷◌, ◌++◌, [], rules, arith, ap, ◌∙◌}
-use Rattle.acvp_store.proofs.Listing.{one_more, all_read}
+use Rattle.acvp_store.proofs.Told.{one_more, all_read}
 use Rattle.acvp_store.proofs.lists.each.Goals as goal
 
 pub loop-row-preserved : goal.loop-row-preserved

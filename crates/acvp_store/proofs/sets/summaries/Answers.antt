@@ -1,6 +1,6 @@
 use Rattle.std.proofs.Common.{rules, ◌≡◌, [], ◌∷◌, ◌++◌}
 use Rattle.acvp_store.specs.Private.Sets.{IsSummary}
-use Rattle.acvp_store.proofs.Listing.{told_more}
+use Rattle.acvp_store.proofs.Told.{told_more}
 use Rattle.acvp_store.proofs.sets.summaries.Goals as goal
 
 pub loop-set-preserved : goal.loop-set-preserved
