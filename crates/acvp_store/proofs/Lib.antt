@@ -26,3 +26,8 @@ pub mod SessionReviewers
 pub mod Registering
 pub mod Sound
 pub mod Standing
+pub mod PageTexts
+pub mod Paging
+pub mod Listing
+pub mod Owned
+pub mod AccountPages

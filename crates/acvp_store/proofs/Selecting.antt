@@ -22,7 +22,7 @@ use Rattle.acvp_store.specs.Values.{whole}
 use Rattle.acvp_store.proofs.Texts.{simple, collated}
 use Rattle.acvp_store.proofs.Keyed.{same_whole}
 
-truth_back : (b : Bool) → is_true (from_truth (Some b)) ≡ b
+pub truth_back : (b : Bool) → is_true (from_truth (Some b)) ≡ b
 truth_back true = refl
 truth_back false = refl
 
@@ -54,7 +54,7 @@ unfolding binary
 test_differs m n low = truth_back _ ∙ ap is_ne (value_cmp-Int (pos m) (pos n)) ∙ grind (arith, nat_tests)
 
 module _ {A : Type 0} (params : Row) (encode : A → Row) (p : A → Bool) (terms : List Term) (tests : (a : A) → list_all (holds (params ∷ encode a ∷ [])) terms ≡ p a) where
-  abbrev env_of : A → Env
+  abbrev pub env_of : A → Env
   env_of a = params ∷ encode a ∷ []
 
   pub matched : (all : List A) → flat_map (λ r. cond (list_all (holds (params ∷ r ∷ [])) terms) ((params ∷ r ∷ []) ∷ []) []) (map encode all) ≡ map env_of (filter p all)

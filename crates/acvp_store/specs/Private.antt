@@ -3,3 +3,4 @@ pub mod Sets
 pub mod Requests
 pub mod Objects
 pub mod SetTexts
+pub mod Pages

@@ -5,6 +5,7 @@ mod accounts;
 mod fault;
 mod lists;
 mod objects;
+mod pages;
 mod requests;
 mod reviewers;
 mod sessions;

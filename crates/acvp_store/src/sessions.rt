@@ -2,7 +2,8 @@
 ghost use Rattle.std.specs.Prelude.{◌≡◌, ◌++◌, ◌∷◌, [], IsTrue, IfOk, List};
 ghost use Rattle.sqlite.specs.Held.{state};
 ghost use Rattle.acvp_tables.specs.Changes.{changed, is_session, cancelled_session, with_counts, with_passed, with_certify, new_session};
-ghost use Rattle.acvp_tables.specs.Content.{session_at};
+ghost use Rattle.acvp_tables.specs.Content.{Content, session_at, sessions_of, page};
+ghost use Rattle.acvp_tables.specs.State.{IsSound};
 ghost use Rattle.acvp_tables.specs.declared.rows.SessionRow.{SessionRow as Session};
 ghost use Rattle.acvp_store.specs.Alters.{Alters};
 ghost use Rattle.acvp_store.specs.Connection.{ServesStore, IsRead, IsInside, Under};
@@ -10,10 +11,12 @@ ghost use Rattle.acvp_store.specs.Rows.{session_tree, HoldsSessions};
 ghost use Rattle.acvp_store.specs.Schema.{store_schema};
 
 use crate::fault::done;
+use crate::pages::{listed, page_of};
 use crate::shown::{Shown, account_number, answered, field, fitting, key, truth};
 use crate::work::Work;
 use acvp_tables::{NewSession, SessionRow, StoreFault};
 use sqlite::{Alter, Connection, Row, Transaction, params};
+use std::alloc::Global;
 
 impl Shown for SessionRow {
     ghost use Rattle.acvp_store.specs.Rows.{session_shown};
@@ -55,6 +58,28 @@ pub(crate) fn find_session<S: Alter>(
         "SELECT session, account, sample, created, cancelled, certify, live, passed FROM session WHERE session = ?1",
         params![key(number)],
     ))
+}
+
+/// So many test sessions of an account, from the offset on.
+pub(crate) fn page_sessions<S: Alter>(
+    alloc: Global,
+    conn: &mut Connection<S>,
+    account: u16,
+    offset: u64,
+    limit: u64,
+) -> Result<Vec<SessionRow>, StoreFault>
+    requires { ServesStore (state S.Store conn.old) }
+    ensures found { IsTrue (state S.Store conn.new).is_open → IfOk result (λ found. (c : Content) → IsSound c → HoldsSessions ((state S.Store conn.old).now.trees session_tree) c.sessions → found.items ≡ page offset limit (sessions_of account c.sessions)) }
+    ensures read { IsRead result (state S.Store conn.old) (state S.Store conn.new) }
+{
+    let at = page_of(account, offset, limit);
+    listed(
+        alloc,
+        conn.query_all(
+            "SELECT session, account, sample, created, cancelled, certify, live, passed FROM session WHERE session BETWEEN ?1 AND ?2 ORDER BY session LIMIT ?3 OFFSET ?4",
+            params![at.first, at.last, at.limit, at.offset],
+        ),
+    )
 }
 
 /// A test session that is cancelled.

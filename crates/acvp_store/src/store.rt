@@ -4,6 +4,7 @@ ghost use Rattle.sqlite.specs.Held.{state};
 ghost use Rattle.sqlite.specs.State.{HasCleanDisk};
 ghost use Rattle.acvp_tables.specs.Calls.{Finds, Reads, Changes};
 ghost use Rattle.acvp_tables.specs.Content.{no_rows, account_at, session_at, set_at, set_summary, set_verdicts, live_sets, object_at, is_reviewer, reviewers_of, greatest_epoch_of};
+ghost use Rattle.acvp_tables.specs.Content.{page, sessions_of};
 ghost use Rattle.acvp_tables.specs.Changes.{after, after_order};
 ghost use Rattle.acvp_tables.specs.State.{IsSound};
 ghost use Rattle.acvp_tables.specs.declared.change.Change.TheVariants as change;
@@ -18,6 +19,7 @@ use crate::requests::{CertificationAsked, DecidedRequest};
 use crate::reviewers::{ReviewerAdded, ReviewerRemoved, find_reviewer, find_reviewers};
 use crate::sessions::{
     CancelledSession, CertifiedSession, CountedSession, PassedSession, SessionBegun, find_session,
+    page_sessions,
 };
 use crate::set_texts::{find_capability, find_verdicts};
 use crate::sets::{GradedSet, SetCancelled, SetsBegun, find_epoch, find_set, find_sets};
@@ -138,6 +140,19 @@ impl<S: Alter> SqlTables<S> {
         ensures reads { Reads may_fail (stands S.Store) (IsLive S.Store) (is_clean S.Store) (leaves S.Store) result self.old self.new }
     {
         find_session(&mut self.connection, number)
+    }
+
+    /// So many test sessions of an account, from the offset on.
+    pub fn sessions(
+        &mut self,
+        account: u16,
+        offset: u64,
+        limit: u64,
+    ) -> Result<Vec<SessionRow>, StoreFault>
+        ensures found { Finds IsSound (stands S.Store) (IsLive S.Store) (λ v. v.items) result self.old self.new (λ c. page offset limit (sessions_of account c.sessions)) }
+        ensures reads { Reads may_fail (stands S.Store) (IsLive S.Store) (is_clean S.Store) (leaves S.Store) result self.old self.new }
+    {
+        page_sessions(self.alloc, &mut self.connection, account, offset, limit)
     }
 
     /// The vector set of a number, without its capability and answers.
