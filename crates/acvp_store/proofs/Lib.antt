@@ -31,3 +31,4 @@ pub mod Paging
 pub mod Listing
 pub mod Owned
 pub mod AccountPages
+pub mod CertificationTexts

@@ -61,7 +61,7 @@ none_passes (x ∷ xs) = none_passes xs
 none_fits : (kind : Kind) (n : ℕ) (objects : List ObjectRow) → 2 ^ 63 ≤ n → FitColumns objects → filter (is_it kind n) objects ≡ []
 none_fits kind n [] high fits = refl
 none_fits kind n (o ∷ objects) high fits =
-    let other : (o.number == n) ≡ false = let low = fits.0 in grind (arith, nat_tests, low, high) in
+    let other : (o.number == n) ≡ false = let low = fits.0.0 in grind (arith, nat_tests, low, high) in
     rw (other, neither (is_kind o.object.kind kind)) (none_fits kind n objects high fits.1)
 
 pub owner_rows : (kind : Kind) (n : ℕ) (k : ℤ) → (n < 2 ^ 63 → k ≡ pos n) → (2 ^ 63 ≤ n → k ≡ negsuc 0) → (old new : State) (rows : List Row) → old.now.schema ≡ store_schema → Shown find_owner (whole (kind_number kind) ∷ Int k ∷ []) old new rows

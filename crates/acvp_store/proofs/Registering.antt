@@ -30,10 +30,11 @@ use Rattle.acvp_tables.specs.declared.rows.ObjectRow.{ObjectRow}
 use Rattle.acvp_tables.specs.declared.rows.RequestRow.{RequestRow}
 use Rattle.acvp_tables.specs.declared.rows.RequestBody.{RequestBody}
 use Rattle.acvp_tables.specs.declared.rows.RequestBody.TheVariants as body
+use Rattle.acvp_store.specs.Kept.{IsKept}
 use Rattle.acvp_store.specs.Values.{whole}
 use Rattle.acvp_store.specs.Schema.{store_schema, object_table}
 use Rattle.acvp_store.specs.Alters.{SparesOthers}
-use Rattle.acvp_store.specs.Stands.{object_tree, HoldsObjects, object_columns, request_tree, request_key, request_row, HoldsRequests, body_number, body_text}
+use Rattle.acvp_store.specs.Stands.{object_tree, HoldsObjects, object_columns, request_tree, request_key, request_row, body_number, body_text}
 use Rattle.acvp_store.specs.Private.Objects.{IsOfKind, Registers}
 use Rattle.acvp_store.proofs.Effects.{task_of, concluded}
 use Rattle.acvp_store.proofs.Entries.{puts}
@@ -88,7 +89,7 @@ module _ (number : ℕ) (trees next : Trees) (objects : List ObjectRow) (h : Hol
       puts object_columns (object_table 5) (record { number = number; account = account; object = o }) (cast_given (record { number = number; account = account; object = o })) trees next objects h (subst WritesFrom one wrote)
   of_body account (body.Certification c) rows kind same wrote = nothing (subst WritesFrom (none_left rows same) wrote)
 
-  registered : (n : ℕ) (requests : List RequestRow) (held : HoldsRequests (trees request_tree) requests) → AllByRecursion (λ (r : RequestRow). IsOfKind r.body) requests → (rows : List Row)
+  registered : (n : ℕ) (requests : List RequestRow) (held : IsKept request_key request_row (trees request_tree) requests) → AllByRecursion (λ (r : RequestRow). IsOfKind r.body) requests → (rows : List Row)
       → IsPermutation (map (row_for number) (filter (λ r. (r.number == n) && is_registration r) held.ordered)) rows → WritesFrom rows → HoldsObjects (next object_tree) (objects ++ approved_objects (request_at n requests) number)
   registered n requests held kinds rows found wrote =
       let same = keyed_same request_key n held.ordered requests held.rising held.same in
@@ -129,8 +130,8 @@ registers limit text n number low trees tally after does =
       fits = low;
       kept = λ requests objects kinds held h.
           let found = selected_by (register_params n number) request_row (λ r. (r.number == n) && is_registration r) register_query.filter
-          (λ r. both_true _ _ (r.number == n) (is_registration r) (test_equals r.number n) (test_less (body_number r.body) 4)) register_query.collations request_tree register_query.project (row_for number) (λ r. refl) (overlay trees []) held.ordered rows.0 held.rows_are (rows.1.answer Null) in
-          subst (λ (t : Trees). HoldsObjects (t object_tree) (objects ++ approved_objects (request_at n requests) number)) next (registered number trees written.0 objects h n requests held kinds rows.0 found written.1);
+          (λ r. both_true _ _ (r.number == n) (is_registration r) (test_equals r.number n) (test_less (body_number r.body) 4)) register_query.collations request_tree register_query.project (row_for number) (λ r. refl) (overlay trees []) held.kept.ordered rows.0 held.kept.rows_are (rows.1.answer Null) in
+          subst (λ (t : Trees). HoldsObjects (t object_tree) (objects ++ approved_objects (request_at n requests) number)) next (registered number trees written.0 objects h n requests held.kept kinds rows.0 found written.1);
       others = subst (SparesOthers object_tree trees) next (applied trees written.0 (edit_of trees (object_table 5) [] Chosen 0 rows.0) written.1).tables;
     }
 

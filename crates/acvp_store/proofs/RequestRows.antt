@@ -1,6 +1,7 @@
 -- The statements on requests.
-use Rattle.std.proofs.Common.{◌≡◌, ◌<◌, ◌^◌, ℕ, List, [], ◌∷◌, ◌++◌, None, Ok, refl, ◌∙◌}
-use Rattle.std.specs.Prelude.{drop}
+use Rattle.std.proofs.Common.{◌≡◌, ◌<◌, ◌^◌, ℕ, Bool, true, false, List, [], ◌∷◌, ◌++◌, None, Ok, refl, ◌∙◌}
+use Rattle.std.specs.Prelude.{drop, if◌then◌else◌}
+use Rattle.std.specs.List.{AllByRecursion}
 use Rattle.sqlite.specs.declared.types.Value.TheVariants.{Null, Text}
 use Rattle.sqlite.specs.Order.{Row}
 use Rattle.sqlite.specs.Values.{or_null}
@@ -16,15 +17,35 @@ use Rattle.acvp_tables.specs.Changes.{changed, is_request, with_status}
 use Rattle.acvp_tables.specs.State.{given_number}
 use Rattle.acvp_tables.specs.declared.rows.RequestRow.{RequestRow}
 use Rattle.acvp_tables.specs.declared.rows.RequestStatus.{RequestStatus}
+use Rattle.sqlite_trees.proofs.ListLemmas.{all-append}
+use Rattle.acvp_store.specs.Kept.{IsKept}
 use Rattle.acvp_store.specs.Values.{whole}
 use Rattle.acvp_store.specs.Schema.{store_schema, request_table}
 use Rattle.acvp_store.specs.Alters.{Alters}
-use Rattle.acvp_store.specs.Stands.{request_tree, request_key, request_row, HoldsRequests, body_number, body_text, status_number}
+use Rattle.acvp_store.specs.Stands.{request_tree, request_key, request_row, HoldsRequests, BodyReads, body_number, body_text, status_number}
 use Rattle.acvp_store.specs.Private.Requests.{IsAsked}
 use Rattle.acvp_store.proofs.Effects.{insert_effect, update_effect}
 use Rattle.acvp_store.proofs.Parts.{and_true, cast_null, cast_whole, cast_option}
 use Rattle.acvp_store.proofs.Selecting.{test_equals}
 use Rattle.acvp_store.proofs.Texts.{add_request, add_request_terms, decide_request, decide_query}
+
+-- ---- what is kept, with texts that read
+
+keeps_texts : (change : List RequestRow → List RequestRow) → ((list : List RequestRow) → AllByRecursion (λ (r : RequestRow). BodyReads r.body) list → AllByRecursion (λ (r : RequestRow). BodyReads r.body) (change list)) → (old new : Database)
+    → Alters request_tree (IsKept request_key request_row) change old new → Alters request_tree HoldsRequests change old new
+keeps_texts change keeps old new h = record {
+  schema = h.schema;
+  kept = λ list held. record { kept = h.kept list held.kept; texts = keeps list held.texts };
+  others = h.others;
+}
+
+read_decided : (n : ℕ) (s : RequestStatus) (list : List RequestRow) → AllByRecursion (λ (r : RequestRow). BodyReads r.body) list → AllByRecursion (λ (r : RequestRow). BodyReads r.body) (changed (is_request n) (with_status s) list)
+read_decided n s [] all = tt
+read_decided n s (r ∷ list) all = (one (is_request n r), read_decided n s list all.1)
+  where
+    one : (b : Bool) → BodyReads (if b then with_status s r else r).body
+    one true = all.0
+    one false = all.0
 
 -- ---- a new request
 
@@ -44,8 +65,9 @@ pub add_request_effect : (old : State) (row : RequestRow) (number account kind :
     → Does old.step_limit (mode_of old) (request_params number account kind body) old.now (statement_of add_request (understood store_schema add_request)) None (Insert 5 (Values add_request_terms 7)) (Ok (tally, after))
     → Alters request_tree HoldsRequests (λ list. list ++ row ∷ []) old.now after
 add_request_effect old row number account kind body is low schema tally after does =
-    insert_effect request_key request_row (λ x. refl) 5 _ _ _ _ refl add_request_terms 7 (request_params number account kind body) (asked number account kind body) refl row
-    (cast_asked number account kind body ∙ asked_is row number account kind body is) (rw is.number_is low) old (statement_of add_request (understood store_schema add_request)) schema tally after does
+    keeps_texts (λ list. list ++ row ∷ []) (λ list all. all-append (λ (r : RequestRow). BodyReads r.body) list (row ∷ []) all (is.reads, tt)) old.now after
+    (insert_effect request_key request_row (λ x. refl) 5 _ _ _ _ refl add_request_terms 7 (request_params number account kind body) (asked number account kind body) refl row
+    (cast_asked number account kind body ∙ asked_is row number account kind body is) (rw is.number_is low) old (statement_of add_request (understood store_schema add_request)) schema tally after does)
 
 -- ---- what is decided
 
@@ -62,5 +84,6 @@ pub decide_effect : (old : State) (n : ℕ) (s : RequestStatus) → old.now.sche
     → Does old.step_limit (mode_of old) (decide_params n s) old.now (statement_of decide_request (understood store_schema decide_request)) None (Update 5 (record { lets = []; body = decide_query })) (Ok (tally, after))
     → Alters request_tree HoldsRequests (changed (is_request n) (with_status s)) old.now after
 decide_effect old n s schema tally after does =
-    update_effect request_key request_row (λ x. refl) 5 (request_table 7) refl (λ trees. refl) decide_query.filter decide_query.project (decide_params n s) n (with_status s) (λ r. refl) (decided s) (λ r. refl) (cast_decided s)
-    (λ r. rw test_equals (and_true _)) (λ r. refl) old (statement_of decide_request (understood store_schema decide_request)) schema tally after does
+    keeps_texts (changed (is_request n) (with_status s)) (read_decided n s) old.now after
+    (update_effect request_key request_row (λ x. refl) 5 (request_table 7) refl (λ trees. refl) decide_query.filter decide_query.project (decide_params n s) n (with_status s) (λ r. refl) (decided s) (λ r. refl) (cast_decided s)
+    (λ r. rw test_equals (and_true _)) (λ r. refl) old (statement_of decide_request (understood store_schema decide_request)) schema tally after does)

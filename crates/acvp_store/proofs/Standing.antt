@@ -1,6 +1,8 @@
 -- From what statements do to what the tables promise.
 use Rattle.std.proofs.Common.{◌≡◌, ◌≢◌, ◌<◌, ◌^◌, inl, inr, ℕ, Option, Some, None, List, [], ◌∷◌, ◌++◌, true, false, Result, Ok, Err, IsTrue, IfErr, OnOk, refl, sym, ap, subst, ◌∙◌, arith}
 use Rattle.std.specs.Prelude.{◌==◌, not, filter, if◌then◌else◌}
+use Rattle.std.specs.List.{AllByRecursion}
+use Rattle.std.proofs.lemmas.Bool.{cases_Bool}
 use Rattle.std.proofs.lemmas.Bool.Decides.{nat_tests}
 use Rattle.std.proofs.lemmas.List.Sorted.{IsPermutation-refl}
 use Rattle.sqlite.specs.Effect.{Database}
@@ -37,7 +39,7 @@ use Rattle.acvp_tables.specs.declared.tables.StoreFault.{StoreFault}
 use Rattle.acvp_store.specs.Kept.{IsKept}
 use Rattle.acvp_store.specs.Rows.{account_tree, HoldsAccounts, session_tree, HoldsSessions}
 use Rattle.acvp_store.specs.Schema.{no_schema, store_schema}
-use Rattle.acvp_store.specs.Stands.{Stands, set_tree, HoldsSets, HoldsObjects, FitColumns, request_tree, HoldsRequests, reviewer_tree, HoldsReviewers}
+use Rattle.acvp_store.specs.Stands.{Stands, set_tree, HoldsSets, HoldsObjects, IsKeepable, FitColumns, BodyReads, request_tree, HoldsRequests, reviewer_tree, HoldsReviewers}
 use Rattle.acvp_store.specs.Connection.{ServesStore, IsRead, IsWritten, Under, Both}
 use Rattle.acvp_store.specs.Alters.{Alters}
 use Rattle.acvp_store.specs.Store.{may_fail, Begins, stands, IsLive, is_clean, leaves}
@@ -318,13 +320,16 @@ pub reviewer_removed : (r : ReviewerRow) (d e : Database) → Alters reviewer_tr
 unfolding after
 reviewer_removed r d e h c st = reviewers_altered (filter (λ row. not (is_pair r row))) d e h c st
 
-fit_registered : (number : ℕ) → number < 2 ^ 63 → (o : Option RequestRow) → FitColumns (approved_objects o number)
-fit_registered number low None = tt
-fit_registered number low (Some r) = go r.account r.body
+fit_registered : (n number : ℕ) → number < 2 ^ 63 → (requests : List RequestRow) → AllByRecursion (λ (r : RequestRow). BodyReads r.body) requests → FitColumns (approved_objects (request_at n requests) number)
+fit_registered n number low [] all = tt
+fit_registered n number low (r ∷ requests) all = elim (cases_Bool (r.number == n)) [
+  | inl same ↦ rw same (go r.account r.body all.0)
+  | inr apart ↦ rw apart (fit_registered n number low requests all.1)
+]
   where
-    go : (account : ℕ) (b : RequestBody) → FitColumns (new_objects account b number)
-    go account (body.Registration o) = (low, tt)
-    go account (body.Certification c) = tt
+    go : (account : ℕ) (b : RequestBody) → BodyReads b → FitColumns (new_objects account b number)
+    go account (body.Registration o) reads = ((low, reads), tt)
+    go account (body.Certification c) reads = tt
 
 registered : (n number : ℕ) (d e : Database) → Registers n number d e → (c : Content) → IsSound c → Stands d.trees c → Stands e.trees (record c { objects = c.objects ++ approved_objects (request_at n c.requests) number })
 registered n number d e h c sound st = record {
@@ -333,7 +338,7 @@ registered n number d e h c sound st = record {
   sessions = subst (λ rows. HoldsSessions rows c.sessions) (sym (h.others.1.1.0 (apart 3 5 refl))) st.sessions;
   sets = subst (λ rows. HoldsSets rows c.sets) (sym (h.others.1.1.1.0 (apart 4 5 refl))) st.sets;
   objects = h.kept c.requests c.objects (kinds_of c sound) st.requests st.objects;
-  object_numbers = all-append (λ (o : ObjectRow). o.number < 2 ^ 63) c.objects _ st.object_numbers (fit_registered number h.fits (request_at n c.requests));
+  object_numbers = all-append IsKeepable c.objects _ st.object_numbers (fit_registered n number h.fits c.requests st.requests.texts);
   requests = subst (λ rows. HoldsRequests rows c.requests) (sym (h.others.1.1.1.1.1.0 (apart 7 5 refl))) st.requests;
   reviewers = subst (λ rows. HoldsReviewers rows c.reviewers) (sym (h.others.1.1.1.1.1.1.0 (apart 8 5 refl))) st.reviewers;
 }
@@ -385,7 +390,7 @@ begins old new h start =
         sets = record { columns = []; kept = kept_none _ _ _ sets; same = tt };
         objects = record { entries = []; rows_are = objects; rising = tt; same = IsPermutation-refl [] };
         object_numbers = tt;
-        requests = kept_none _ _ _ requests;
+        requests = record { kept = kept_none _ _ _ requests; texts = tt };
         reviewers = record { entries = []; rows_are = reviewers; rising = tt; same = IsPermutation-refl [] };
       };
     }

@@ -13,6 +13,7 @@ use Rattle.acvp_answers.specs.VerdictText.{verdicts_text}
 use Rattle.acvp_answers.specs.declared.verdict.Disposition.{Disposition}
 use Rattle.acvp_answers.specs.declared.verdict.Disposition.TheVariants.{Passed, Fail, Missing, Expired, Unreceived}
 use Rattle.acvp_registry.specs.declared.kind.Kind.TheVariants.{Module, Environment}
+use Rattle.acvp_registry.specs.Json.{body_json}
 use Rattle.acvp_registry.specs.Object.{object_text}
 use Rattle.acvp_registry.specs.Url.{url_of}
 use Rattle.acvp_json.specs.KeptAnswers.{kept_text}
@@ -113,9 +114,13 @@ object_columns o = whole (kind_number o.object.kind) ∷ whole o.number ∷ whol
 abbrev pub HoldsObjects : List Row → List ObjectRow → Type 0
 HoldsObjects = HoldsEntries object_columns
 
--- each number fits a column
+-- the number fits a column, and the text reads as the object
+abbrev pub IsKeepable : ObjectRow → Type 0
+IsKeepable o = (o.number < 2 ^ 63) × (body_json (object_text o.object) ≡ Some o.object.value)
+
+-- each can be kept
 abbrev pub FitColumns : List ObjectRow → Type 0
-FitColumns objects = AllByRecursion (λ (o : ObjectRow). o.number < 2 ^ 63) objects
+FitColumns objects = AllByRecursion IsKeepable objects
 
 abbrev pub reviewer_tree : ℕ
 reviewer_tree = 8
@@ -143,6 +148,11 @@ abbrev pub body_text : RequestBody → List ℕ
 body_text (body.Registration o) = object_text o
 body_text (body.Certification c) = compact_text (certification_data c)
 
+-- the text reads as the body, and the numbers of what a certification names fit 64 bits
+abbrev pub BodyReads : RequestBody → Type 0
+BodyReads (body.Registration o) = body_json (object_text o) ≡ Some o.value
+BodyReads (body.Certification c) = (body_json (compact_text (certification_data c)) ≡ Some (certification_data c)) × (c.«module» < 2 ^ 64) × (c.environment < 2 ^ 64)
+
 abbrev pub status_number : RequestStatus → ℕ
 status_number status.Initial = 0
 status_number (status.Approved n) = 1
@@ -158,8 +168,9 @@ request_tree = 7
 abbrev pub request_key : RequestRow → ℕ
 request_key r = r.number
 
-abbrev pub HoldsRequests : List Row → List RequestRow → Type 0
-HoldsRequests = IsKept request_key request_row
+pub record HoldsRequests (rows : List Row) (requests : List RequestRow) : Type 0 where
+  pub kept : IsKept request_key request_row rows requests
+  pub texts : AllByRecursion (λ (r : RequestRow). BodyReads r.body) requests
 
 -- ---- the whole
 

@@ -8,7 +8,7 @@ ghost use Rattle.acvp_tables.specs.declared.rows.RequestRow.{RequestRow as Reque
 ghost use Rattle.acvp_store.specs.Alters.{Alters};
 ghost use Rattle.acvp_store.specs.Connection.{IsInside, Under};
 ghost use Rattle.acvp_store.specs.Schema.{store_schema};
-ghost use Rattle.acvp_store.specs.Stands.{request_tree, HoldsRequests, certification_data, body_text, status_number};
+ghost use Rattle.acvp_store.specs.Stands.{request_tree, HoldsRequests, BodyReads, certification_data, body_text, status_number};
 ghost use Rattle.acvp_registry.specs.Url.{url_of};
 ghost use Rattle.acvp_tables.specs.State.{given_number};
 ghost use Rattle.acvp_store.specs.Private.Requests.{IsAsked};
@@ -83,10 +83,11 @@ fn certification_value(alloc: Global, asked: &Certification) -> Result<Value, Al
 }
 
 /// The text of a certification.
-fn certification_text(alloc: Global, asked: &Certification) -> Result<String, AllocError>
-    ensures { IfOk result (λ text. string_bytes text ≡ body_text (body.Certification asked.now)) }
+fn certification_text(alloc: Global, asked: Certification) -> Result<String, AllocError>
+    ensures text { IfOk result (λ text. string_bytes text ≡ body_text (body.Certification asked)) }
+    ensures reads { IfOk result (λ text. BodyReads (body.Certification asked)) }
 {
-    certification_value(alloc, asked)?.to_string(alloc)
+    certification_value(alloc, &asked)?.to_string(alloc)
 }
 
 /// A request for certification, without the session's note of it.
@@ -107,7 +108,7 @@ impl Work for CertificationAsked {
     ghost change = { λ c. Under store_schema (Alters request_tree HoldsRequests (λ rows. rows ++ new_certification c.request ∷ [])) };
 
     fn run<S: Alter>(&self, tx: &mut Transaction<'_, S>) -> Result<(), StoreFault> {
-        let body = certification_text(self.alloc, &self.request.certification)?;
+        let body = certification_text(self.alloc, self.request.certification)?;
         insert_request(
             tx,
             self.request.number,

@@ -8,6 +8,7 @@ returns-clause-inside g c =
       number_is = refl;
       account_is = refl;
       kind_is = sym c.kind_number.ensures;
-      body_is = sym (c.as_str.ensures.value ∙ c.in_ok-body.ensures);
+      body_is = sym (c.as_str.ensures.value ∙ c.in_ok-body.ensures.text);
       status_is = refl;
+      reads = c.in_ok-body.ensures.reads;
     })

@@ -1,4 +1,5 @@
-use Rattle.std.proofs.Common.{refl, sym, ap, ◌∙◌}
+use Rattle.std.proofs.Common.{◌≡◌, Some, refl, sym, ap, subst, ◌∙◌}
+use Rattle.acvp_registry.specs.Json.{body_json}
 use Rattle.acvp_tables.specs.Content.{kind_number}
 use Rattle.acvp_tables.specs.Changes.{new_request}
 use Rattle.acvp_store.proofs.requests.NewRequestWork.run.Goals as goal
@@ -11,4 +12,5 @@ returns-clause-inside g c =
       kind_is = sym (c.kind_number.ensures ∙ ap kind_number c.kind.ensures.value);
       body_is = sym c.text.ensures.value;
       status_is = refl;
+      reads = subst (λ t. body_json t ≡ Some c.args.self.now.object.value) c.text.ensures.value c.text.ensures.reads_back;
     })
