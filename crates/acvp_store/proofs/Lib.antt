@@ -32,3 +32,4 @@ pub mod Listing
 pub mod Owned
 pub mod AccountPages
 pub mod CertificationTexts
+pub mod RequestPages

@@ -5,15 +5,16 @@ use Rattle.sqlite.specs.Command.TheVariants.{Select}
 use Rattle.sqlite.specs.declared.types.Value.TheVariants.{Null, Int}
 use Rattle.sqlite.specs.Listing.{understood, reads_listing}
 use Rattle.sqlite.specs.Query.{Query, inner, end}
-use Rattle.sqlite.specs.Term.{Term, lit, col, op2}
+use Rattle.sqlite.specs.Term.{Term, lit, col, op2, case}
 use Rattle.sqlite_resolve.specs.Compile.{first}
 use Rattle.sqlite_sql.specs.declared.ops.BinaryOp.TheVariants.{Compare}
-use Rattle.sqlite_sql.specs.declared.ops.CompareOp.TheVariants.{Le, Ge}
+use Rattle.sqlite_sql.specs.declared.ops.CompareOp.TheVariants.{Eq, Le, Ge}
 use Rattle.sqlite_tied.specs.Compute.{everything}
 use Rattle.sqlite_value.specs.Keys.{ascending}
 use Rattle.sqlite.proofs.Callers.{IsPlain, command_of}
 use Rattle.acvp_store.specs.Schema.{store_schema}
 use Rattle.acvp_store.proofs.Silent.{asks}
+use Rattle.acvp_store.proofs.Texts.{simple, equals}
 
 -- the column is BETWEEN the first and the second parameter
 abbrev pub within : ℕ → List Term
@@ -57,3 +58,89 @@ sessions_plain = (refl, refl)
 pub sessions_ask : asks (first page_sessions) ≡ true
 unfolding first everything
 sessions_ask = refl
+
+-- ---- requests, with the text of a certification alone
+
+abbrev pub find_request : List ℕ
+find_request = codes "SELECT request, account, kind, CASE WHEN kind = 4 THEN body END, status, approved FROM request WHERE request = ?1"
+
+abbrev pub request_columns : List Term
+request_columns = col 1 0 ∷ col 1 2 ∷ col 1 3 ∷ case (op2 (Compare Eq Binary) (col 1 3) (lit (Int (pos 4)))) (col 1 4) (lit Null) ∷ col 1 5 ∷ col 1 6 ∷ []
+
+pub request_is : command_of (understood store_schema find_request) ≡ Select (record { lets = []; body = simple 7 (equals 0 0 ∷ []) request_columns }) (codes "request" ∷ codes "account" ∷ codes "kind" ∷ codes "CASE WHEN kind = 4 THEN body END" ∷ codes "status" ∷ codes "approved" ∷ [])
+unfolding understood everything
+request_is = refl
+
+pub request_unlisted : reads_listing store_schema find_request ≡ false
+unfolding understood everything
+request_unlisted = refl
+
+pub request_plain : IsPlain (understood store_schema find_request)
+unfolding understood everything
+request_plain = (refl, refl)
+
+pub request_ask : asks (first find_request) ≡ true
+unfolding first everything
+request_ask = refl
+
+abbrev pub page_requests : List ℕ
+page_requests = codes "SELECT request, account, kind, CASE WHEN kind = 4 THEN body END, status, approved FROM request WHERE request BETWEEN ?1 AND ?2 ORDER BY request LIMIT ?3 OFFSET ?4"
+
+pub requests_is : command_of (understood store_schema page_requests) ≡ Select (record { lets = []; body = paging 7 (within 0) request_columns 0 }) (codes "request" ∷ codes "account" ∷ codes "kind" ∷ codes "CASE WHEN kind = 4 THEN body END" ∷ codes "status" ∷ codes "approved" ∷ [])
+unfolding understood everything
+requests_is = refl
+
+pub requests_unlisted : reads_listing store_schema page_requests ≡ false
+unfolding understood everything
+requests_unlisted = refl
+
+pub requests_plain : IsPlain (understood store_schema page_requests)
+unfolding understood everything
+requests_plain = (refl, refl)
+
+pub requests_ask : asks (first page_requests) ≡ true
+unfolding first everything
+requests_ask = refl
+
+-- ---- registered objects
+
+abbrev pub find_object : List ℕ
+find_object = codes "SELECT kind, number, account, body FROM object WHERE kind = ?1 AND number = ?2"
+
+abbrev pub object_fields : List Term
+object_fields = col 1 1 ∷ col 1 2 ∷ col 1 3 ∷ col 1 4 ∷ []
+
+pub object_is : command_of (understood store_schema find_object) ≡ Select (record { lets = []; body = simple 5 (equals 1 0 ∷ equals 2 1 ∷ []) object_fields }) (codes "kind" ∷ codes "number" ∷ codes "account" ∷ codes "body" ∷ [])
+unfolding understood everything
+object_is = refl
+
+pub object_unlisted : reads_listing store_schema find_object ≡ false
+unfolding understood everything
+object_unlisted = refl
+
+pub object_plain : IsPlain (understood store_schema find_object)
+unfolding understood everything
+object_plain = (refl, refl)
+
+pub object_ask : asks (first find_object) ≡ true
+unfolding first everything
+object_ask = refl
+
+abbrev pub page_objects : List ℕ
+page_objects = codes "SELECT kind, number, account, body FROM object WHERE kind = ?5 AND number BETWEEN ?1 AND ?2 ORDER BY number LIMIT ?3 OFFSET ?4"
+
+pub objects_is : command_of (understood store_schema page_objects) ≡ Select (record { lets = []; body = paging 5 (equals 1 4 ∷ within 2) object_fields 2 }) (codes "kind" ∷ codes "number" ∷ codes "account" ∷ codes "body" ∷ [])
+unfolding understood everything
+objects_is = refl
+
+pub objects_unlisted : reads_listing store_schema page_objects ≡ false
+unfolding understood everything
+objects_unlisted = refl
+
+pub objects_plain : IsPlain (understood store_schema page_objects)
+unfolding understood everything
+objects_plain = (refl, refl)
+
+pub objects_ask : asks (first page_objects) ≡ true
+unfolding first everything
+objects_ask = refl

@@ -4,3 +4,4 @@ pub mod Requests
 pub mod Objects
 pub mod SetTexts
 pub mod Pages
+pub mod Summaries

@@ -14,6 +14,7 @@ mod sets;
 mod setup;
 mod shown;
 mod store;
+mod summaries;
 #[cfg(test)]
 mod tests;
 mod work;

@@ -1,10 +1,10 @@
 //! The rows of an account, and lists of rows that a query answers.
-ghost use Rattle.std.specs.Prelude.{◌≡◌, ◌*◌, ◌+◌, pos, min, map, IfOk, IsOk, Ok, List};
-ghost use Rattle.std.specs.List.{AllZip};
+ghost use Rattle.std.specs.Prelude.{◌≡◌, ◌*◌, ◌+◌, pos, min, map, slice_get, IfOk, IsOk, Ok, List, IsPermutation};
+ghost use Rattle.std.specs.List.{AllZip, AllByRecursion};
+ghost use Rattle.sqlite_value.specs.Order.{Row as Columns};
 ghost use Rattle.acvp_store.specs.Private.Pages.{IsRowOf};
 
 use crate::fault::fault_of;
-use crate::shown::Shown;
 use acvp_tables::StoreFault;
 use sqlite::{Error, Row};
 use std::alloc::Global;
@@ -46,13 +46,26 @@ pub(crate) fn page_of(account: u16, offset: u64, limit: u64) -> Span
     }
 }
 
+/// What a query lists as one row.
+pub(crate) trait Member {
+    /// Its columns.
+    ghost listed_as: { Self → Columns };
+
+    /// Its texts read as what they were written for.
+    ghost reads: { Self → Type 0 };
+
+    /// What a row is of. It is Refused where the row can't be that of any.
+    fn from_row(row: &Row) -> Result<Self, StoreFault>
+        ensures { IfOk result (IsRowOf reads listed_as row.now) };
+}
+
 /// What each row is of.
-fn each<T: Shown + Drop>(alloc: Global, rows: &[Row]) -> Result<Vec<T>, StoreFault>
-    ensures { IfOk result (λ found. AllZip (IsRowOf T.Shown.shown) rows.now found.items) }
+fn each<T: Member + Drop>(alloc: Global, rows: &[Row]) -> Result<Vec<T>, StoreFault>
+    ensures { IfOk result (λ found. AllZip (IsRowOf T.Member.reads T.Member.listed_as) rows.now found.items) }
 {
     let mut found = Vec::new(alloc);
     for row in rows {
-        let value = T::read(row)?;
+        let value = T::from_row(row)?;
         match found.push(value) {
             Ok(()) => {}
             Err(_) => return Err(StoreFault::Memory),
@@ -62,15 +75,44 @@ fn each<T: Shown + Drop>(alloc: Global, rows: &[Row]) -> Result<Vec<T>, StoreFau
 }
 
 /// What the rows of a query's answer are of.
-pub(crate) fn listed<T: Shown + Drop>(
+pub(crate) fn listed<T: Member + Drop>(
     alloc: Global,
     outcome: Result<Vec<Row>, Error>,
 ) -> Result<Vec<T>, StoreFault>
-    ensures found { IfOk result (λ found. IfOk outcome (λ rows. (list : List T) → rows.items ≡ map T.Shown.shown list → found.items ≡ list)) }
+    ensures found { IfOk result (λ found. IfOk outcome (λ rows. (list : List T) → AllByRecursion T.Member.reads list → rows.items ≡ map T.Member.listed_as list → found.items ≡ list)) }
     ensures ok { IsOk result → IsOk outcome }
 {
     match outcome {
         Ok(rows) => each(alloc, &rows),
+        Err(error) => Err(fault_of(error)),
+    }
+}
+
+/// What the one row is of, where there is one. More are Refused.
+fn single<T: Member + Drop>(rows: &[Row]) -> Result<Option<T>, StoreFault>
+    ensures { IfOk result (λ found. (list : List T) → AllByRecursion T.Member.reads list → IsPermutation (map T.Member.listed_as list) rows.now → found ≡ slice_get list 0) }
+{
+    if rows.len() > 1 {
+        return Err(StoreFault::Refused);
+    }
+    match rows.first() {
+        None => Ok(None),
+        Some(row) => match T::from_row(row) {
+            Ok(x) => Ok(Some(x)),
+            Err(fault) => Err(fault),
+        },
+    }
+}
+
+/// What the one row of a query's answer is of, where there is one.
+pub(crate) fn only<T: Member + Drop>(
+    outcome: Result<Vec<Row>, Error>,
+) -> Result<Option<T>, StoreFault>
+    ensures found { IfOk result (λ found. IfOk outcome (λ rows. (list : List T) → AllByRecursion T.Member.reads list → IsPermutation (map T.Member.listed_as list) rows.items → found ≡ slice_get list 0)) }
+    ensures ok { IsOk result → IsOk outcome }
+{
+    match outcome {
+        Ok(rows) => single(&rows),
         Err(error) => Err(fault_of(error)),
     }
 }

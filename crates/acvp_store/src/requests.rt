@@ -1,26 +1,30 @@
 //! The table of requests.
-ghost use Rattle.std.specs.Prelude.{◌≡◌, ◌++◌, ◌∷◌, [], pos, IfOk, string_bytes, option_map, unwrap_or};
+ghost use Rattle.std.specs.Prelude.{◌≡◌, ◌++◌, ◌∷◌, [], pos, map, IsTrue, IfOk, string_bytes, option_map, unwrap_or};
 ghost use Rattle.serde_json.specs.View.{view};
 ghost use Rattle.sqlite.specs.Held.{state};
 ghost use Rattle.acvp_tables.specs.Changes.{changed, is_request, with_status, new_request, new_certification};
 ghost use Rattle.acvp_tables.specs.declared.rows.RequestBody.TheVariants as body;
 ghost use Rattle.acvp_tables.specs.declared.rows.RequestRow.{RequestRow as Request};
 ghost use Rattle.acvp_store.specs.Alters.{Alters};
-ghost use Rattle.acvp_store.specs.Connection.{IsInside, Under};
+ghost use Rattle.acvp_store.specs.Connection.{ServesStore, IsRead, IsInside, Under};
 ghost use Rattle.acvp_store.specs.Schema.{store_schema};
 ghost use Rattle.acvp_store.specs.Stands.{request_tree, HoldsRequests, BodyReads, certification_data, body_text, status_number};
 ghost use Rattle.acvp_registry.specs.Url.{url_of};
-ghost use Rattle.acvp_tables.specs.State.{given_number};
+ghost use Rattle.acvp_tables.specs.Content.{Content, page, request_at, requests_of, request_summary};
+ghost use Rattle.acvp_tables.specs.State.{IsSound, given_number};
 ghost use Rattle.acvp_store.specs.Private.Requests.{IsAsked};
 
 use crate::fault::done;
 use crate::objects::kind_number;
-use crate::shown::fitting;
+use crate::pages::{listed, only, page_of};
+use crate::shown::{fitting, key};
 use crate::work::Work;
 use acvp_registry::{Kind, object_url};
-use acvp_tables::{Certification, NewCertification, NewRequest, RequestStatus, StoreFault};
+use acvp_tables::{
+    Certification, NewCertification, NewRequest, RequestStatus, RequestSummary, StoreFault,
+};
 use serde_json::{Value, json};
-use sqlite::{Alter, Transaction, params};
+use sqlite::{Alter, Connection, Transaction, params};
 use std::alloc::{AllocError, Global};
 
 /// Puts in a request on which nothing is decided yet.
@@ -164,4 +168,41 @@ impl Work for DecidedRequest {
             params![number, status_number(self.status), approved],
         ))
     }
+}
+
+/// The request of a number, without the object that it asks to register.
+pub(crate) fn find_request<S: Alter>(
+    conn: &mut Connection<S>,
+    number: u64,
+) -> Result<Option<RequestSummary>, StoreFault>
+    requires { ServesStore (state S.Store conn.old) }
+    ensures found { IsTrue (state S.Store conn.new).is_open → IfOk result (λ found. (c : Content) → IsSound c → HoldsRequests ((state S.Store conn.old).now.trees request_tree) c.requests → found ≡ option_map request_summary (request_at number c.requests)) }
+    ensures read { IsRead result (state S.Store conn.old) (state S.Store conn.new) }
+{
+    only(conn.query_all(
+        "SELECT request, account, kind, CASE WHEN kind = 4 THEN body END, status, approved FROM request WHERE request = ?1",
+        params![key(number)],
+    ))
+}
+
+/// So many requests of an account, from the offset on, without the objects that they ask to register.
+pub(crate) fn page_requests<S: Alter>(
+    alloc: Global,
+    conn: &mut Connection<S>,
+    account: u16,
+    offset: u64,
+    limit: u64,
+) -> Result<Vec<RequestSummary>, StoreFault>
+    requires { ServesStore (state S.Store conn.old) }
+    ensures found { IsTrue (state S.Store conn.new).is_open → IfOk result (λ found. (c : Content) → IsSound c → HoldsRequests ((state S.Store conn.old).now.trees request_tree) c.requests → found.items ≡ page offset limit (map request_summary (requests_of account c.requests))) }
+    ensures read { IsRead result (state S.Store conn.old) (state S.Store conn.new) }
+{
+    let at = page_of(account, offset, limit);
+    listed(
+        alloc,
+        conn.query_all(
+            "SELECT request, account, kind, CASE WHEN kind = 4 THEN body END, status, approved FROM request WHERE request BETWEEN ?1 AND ?2 ORDER BY request LIMIT ?3 OFFSET ?4",
+            params![at.first, at.last, at.limit, at.offset],
+        ),
+    )
 }

@@ -11,7 +11,7 @@ ghost use Rattle.acvp_store.specs.Rows.{session_tree, HoldsSessions};
 ghost use Rattle.acvp_store.specs.Schema.{store_schema};
 
 use crate::fault::done;
-use crate::pages::{listed, page_of};
+use crate::pages::{Member, listed, page_of};
 use crate::shown::{Shown, account_number, answered, field, fitting, key, truth};
 use crate::work::Work;
 use acvp_tables::{NewSession, SessionRow, StoreFault};
@@ -42,6 +42,19 @@ impl Shown for SessionRow {
             live,
             passed,
         })
+    }
+}
+
+impl Member for SessionRow {
+    ghost use Rattle.std.specs.Prelude.{⊤};
+    ghost use Rattle.acvp_store.specs.Rows.{session_shown};
+
+    ghost listed_as = { session_shown };
+
+    ghost reads = { λ _. ⊤ };
+
+    fn from_row(row: &Row) -> Result<SessionRow, StoreFault> {
+        SessionRow::read(row)
     }
 }
 

@@ -5,6 +5,8 @@ ghost use Rattle.sqlite.specs.State.{HasCleanDisk};
 ghost use Rattle.acvp_tables.specs.Calls.{Finds, Reads, Changes};
 ghost use Rattle.acvp_tables.specs.Content.{no_rows, account_at, session_at, set_at, set_summary, set_verdicts, live_sets, object_at, is_reviewer, reviewers_of, greatest_epoch_of};
 ghost use Rattle.acvp_tables.specs.Content.{page, sessions_of};
+ghost use Rattle.std.specs.Prelude.{◌≡◌, IsTrue, IfOk, IfErr, map, option_map};
+ghost use Rattle.acvp_tables.specs.Content.{page, sessions_of, request_at, requests_of, request_summary};
 ghost use Rattle.acvp_tables.specs.Changes.{after, after_order};
 ghost use Rattle.acvp_tables.specs.State.{IsSound};
 ghost use Rattle.acvp_tables.specs.declared.change.Change.TheVariants as change;
@@ -17,6 +19,8 @@ use crate::accounts::{DisabledAccount, find_account};
 use crate::objects::{Registered, find_owner};
 use crate::requests::{CertificationAsked, DecidedRequest};
 use crate::reviewers::{ReviewerAdded, ReviewerRemoved, find_reviewer, find_reviewers};
+use crate::requests::{CertificationAsked, DecidedRequest, find_request, page_requests};
+use crate::reviewers::{ReviewerAdded, ReviewerRemoved, find_reviewer};
 use crate::sessions::{
     CancelledSession, CertifiedSession, CountedSession, PassedSession, SessionBegun, find_session,
     page_sessions,
@@ -30,7 +34,8 @@ use acvp_caps::Capability;
 use acvp_registry::Kind;
 use acvp_tables::{
     AccountRow, Approval, CancelledSet, KeptAnswers, NewAccount, NewCertification, NewRequest,
-    NewSession, RequestStatus, ReviewerRow, SessionRow, SetSummary, StoreFault, UsedStep,
+    NewSession, RequestStatus, RequestSummary, ReviewerRow, SessionRow, SetSummary, StoreFault,
+    UsedStep,
 };
 use sqlite::{Alter, Connection};
 use std::alloc::Global;
@@ -217,6 +222,19 @@ impl<S: Alter> SqlTables<S> {
         ensures reads { Reads may_fail (stands S.Store) (IsLive S.Store) (is_clean S.Store) (leaves S.Store) result self.old self.new }
     {
         find_epoch(&mut self.connection)
+    /// The request of a number, without the object that it asks to register.
+    pub fn request(&mut self, number: u64) -> Result<Option<RequestSummary>, StoreFault>
+        ensures found { Finds IsSound (stands S.Store) (IsLive S.Store) (λ x. x) result self.old self.new (λ c. option_map request_summary (request_at number c.requests)) }
+        find_request(&mut self.connection, number)
+    /// So many requests of an account, from the offset on.
+    pub fn requests(
+        &mut self,
+        account: u16,
+        offset: u64,
+        limit: u64,
+    ) -> Result<Vec<RequestSummary>, StoreFault>
+        ensures found { Finds IsSound (stands S.Store) (IsLive S.Store) (λ v. v.items) result self.old self.new (λ c. page offset limit (map request_summary (requests_of account c.requests))) }
+        page_requests(self.alloc, &mut self.connection, account, offset, limit)
     }
 
     /// Adds an account.

@@ -1,9 +1,7 @@
 use Rattle.std.proofs.lemmas.Result.{IfOk-weaker}
-use Rattle.std.proofs.Common.{◌≡◌, List, map}
-use Rattle.acvp_store.specs.Private.Pages.{IsRowOf}
 use Rattle.acvp_store.proofs.Listing.{listed_as}
 use Rattle.acvp_store.proofs.pages.listed.Goals as goal
 
 pub returns-in-Ok-clause-found : goal.returns-in-Ok-clause-found
 returns-in-Ok-clause-found g c =
-    IfOk-weaker c.each.result _ _ (λ found all. rw c.in-Ok.is (λ list is. listed_as g.T.Shown.shown c.in-Ok.rows.items found.items list (rw c.deref.ensures.value at all) is)) c.each.ensures
+    IfOk-weaker c.each.result _ _ (λ found all. rw c.in-Ok.is (λ list reads is. listed_as g.T.Member.reads g.T.Member.listed_as c.in-Ok.rows.items found.items list (rw c.deref.ensures.value at all) reads is)) c.each.ensures

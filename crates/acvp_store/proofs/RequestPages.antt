@@ -1,0 +1,145 @@
+-- Requests without the objects that they ask to register: one by its number, and the pages of an account's.
+use Rattle.std.proofs.Common.{◌≡◌, ◌⊎◌, inl, inr, ◌<◌, ◌≤◌, ◌^◌, ℕ, ℤ, pos, negsuc, List, [], ◌∷◌, map, take, drop, slice_get, Bool, true, false, Option, Some, None, refl, sym, ap, subst, ◌∙◌, arith}
+use Rattle.std.specs.Prelude.{◌==◌, min, filter, if◌then◌else◌, option_map}
+use Rattle.std.specs.List.{list_all, AllByRecursion, drop-map}
+use Rattle.std.specs.List.Sorted.{IsPermutation}
+use Rattle.std.proofs.lemmas.Bool.Decides.{nat_tests}
+use Rattle.std.proofs.lemmas.List.{map-id, take-map}
+use Rattle.sqlite.specs.declared.types.Value.TheVariants.{Null, Int, Text}
+use Rattle.sqlite.specs.Order.{Row}
+use Rattle.sqlite.specs.Ops.{is_true, binary}
+use Rattle.sqlite.specs.Collation.TheVariants.{Binary}
+use Rattle.sqlite.specs.Program.{overlay}
+use Rattle.sqlite.specs.State.{State, Shown}
+use Rattle.sqlite.specs.Term.{eval_all}
+use Rattle.sqlite.specs.Values.{or_null}
+use Rattle.sqlite.proofs.Callers.{reads_as}
+use Rattle.sqlite_sql.specs.declared.ops.BinaryOp.TheVariants.{Compare}
+use Rattle.sqlite_sql.specs.declared.ops.CompareOp.TheVariants.{Eq}
+use Rattle.sqlite_trees.proofs.ListLemmas.{map-map, all-filter}
+use Rattle.acvp_tables.specs.Content.{Content, page, kind_number, request_at, request_summary, requests_of, subject_of}
+use Rattle.acvp_tables.specs.State.{IsSound, given_number}
+use Rattle.acvp_tables.specs.declared.rows.RequestBody.{RequestBody}
+use Rattle.acvp_tables.specs.declared.rows.RequestBody.TheVariants as body
+use Rattle.acvp_tables.specs.declared.rows.RequestRow.{RequestRow}
+use Rattle.acvp_tables.specs.declared.summary.RequestSummary.{RequestSummary}
+use Rattle.acvp_store.specs.Values.{whole}
+use Rattle.acvp_store.specs.Kept.{IsKept}
+use Rattle.acvp_store.specs.Schema.{store_schema}
+use Rattle.acvp_store.specs.Stands.{request_tree, request_key, request_row, HoldsRequests, BodyReads, body_number, body_text, status_number}
+use Rattle.acvp_store.specs.Private.Objects.{IsOfKind}
+use Rattle.acvp_store.specs.Private.Summaries.{SubjectReads, subject_number, subject_text, summary_shown}
+use Rattle.acvp_store.proofs.AccountPages.{test_range, most, page_params}
+use Rattle.acvp_store.proofs.Keyed.{keyed, keyed_same, find_is, none_fits}
+use Rattle.acvp_store.proofs.Listing.{all_taken, all_dropped}
+use Rattle.acvp_store.proofs.Owned.{first_number, last_number, in_range, range_is, request_numbers, request_selection}
+use Rattle.acvp_store.proofs.Paging.{paged, capped_page}
+use Rattle.acvp_store.proofs.PageTexts.{within, find_request, request_is, request_plain, request_unlisted, request_columns, page_requests, requests_is, requests_plain, requests_unlisted}
+use Rattle.acvp_store.proofs.Parts.{and_true}
+use Rattle.acvp_store.proofs.Selecting.{test_equals, test_none, selected}
+use Rattle.acvp_store.proofs.Sound.{kinds_of}
+use Rattle.acvp_store.proofs.Texts.{equals}
+
+-- ---- what a query shows of a request
+
+abbrev body_shown : RequestBody → Rattle.sqlite.specs.declared.types.Value.Value
+body_shown b = if body_number b == 4 then Text (body_text b) else Null
+
+abbrev request_shown : RequestRow → Row
+request_shown r = whole r.number ∷ whole r.account ∷ whole (body_number r.body) ∷ body_shown r.body ∷ whole (status_number r.status) ∷ or_null whole (given_number r.status) ∷ []
+
+shows : (params : Row) (r : RequestRow) → eval_all request_columns (params ∷ request_row r ∷ []) ≡ request_shown r
+shows params r = rw (test_equals (body_number r.body) 4) refl
+
+subject_is : (b : RequestBody) → IsOfKind b → (whole (body_number b) ≡ whole (subject_number (subject_of b))) × (body_shown b ≡ or_null Text (subject_text (subject_of b)))
+subject_is (body.Registration o) kind = let other : (kind_number o.kind == 4) ≡ false = grind (arith, nat_tests, kind) in (refl, rw other refl)
+subject_is (body.Certification c) kind = (refl, refl)
+
+summary_is : (r : RequestRow) → IsOfKind r.body → request_shown r ≡ summary_shown (request_summary r)
+summary_is r kind =
+    let is = subject_is r.body kind in
+    λ i. whole r.number ∷ whole r.account ∷ is.0 i ∷ is.1 i ∷ whole (status_number r.status) ∷ or_null whole (given_number r.status) ∷ []
+
+abbrev summaries : List RequestRow → List RequestSummary
+summaries = map request_summary
+
+summaries_are : (list : List RequestRow) → AllByRecursion (λ (r : RequestRow). IsOfKind r.body) list → map request_shown list ≡ map summary_shown (summaries list)
+summaries_are [] all = refl
+summaries_are (r ∷ list) all = λ i. summary_is r all.0 i ∷ summaries_are list all.1 i
+
+subject_reads : (b : RequestBody) → IsOfKind b → BodyReads b → SubjectReads (subject_of b)
+subject_reads (body.Registration o) kind reads = kind
+subject_reads (body.Certification c) kind reads = reads
+
+abbrev Reads : RequestSummary → Type 0
+Reads s = SubjectReads s.subject
+
+summaries_read : (list : List RequestRow) → AllByRecursion (λ (r : RequestRow). IsOfKind r.body) list → AllByRecursion (λ (r : RequestRow). BodyReads r.body) list → AllByRecursion Reads (summaries list)
+summaries_read [] kinds reads = tt
+summaries_read (r ∷ list) kinds reads = (subject_reads r.body kinds.0 reads.0, summaries_read list kinds.1 reads.1)
+
+-- ---- by its number
+
+rows_by : (k : ℤ) (p : RequestRow → Bool) → ((r : RequestRow) → is_true (binary (Compare Eq Binary) (whole r.number) (Int k)) ≡ p r) → (old new : State) (rows : List Row) → old.now.schema ≡ store_schema → Shown find_request (Int k ∷ []) old new rows
+    → (list : List RequestRow) (kept : IsKept request_key request_row (old.now.trees request_tree) list) → IsPermutation (map request_shown (filter p kept.ordered)) rows
+rows_by k p tests old new rows schema h list kept =
+    selected (Int k ∷ []) request_row p (equals 0 0 ∷ []) (λ r. rw tests (and_true _)) request_tree request_columns request_shown (shows (Int k ∷ [])) (overlay old.now.trees []) kept.ordered rows kept.rows_are
+    ((reads_as find_request (Int k ∷ []) old new store_schema schema _ request_is request_plain request_unlisted rows h).answer Null)
+
+none_passes : {A : Type 0} (xs : List A) → filter (λ x. false) xs ≡ []
+none_passes [] = refl
+none_passes (x ∷ xs) = none_passes xs
+
+request_rows : (n : ℕ) (k : ℤ) → (n < 2 ^ 63 → k ≡ pos n) → (2 ^ 63 ≤ n → k ≡ negsuc 0) → (old new : State) (rows : List Row) → old.now.schema ≡ store_schema → Shown find_request (Int k ∷ []) old new rows
+    → (list : List RequestRow) (kept : IsKept request_key request_row (old.now.trees request_tree) list) → IsPermutation (map request_shown (keyed request_key n kept.ordered)) rows
+request_rows n k fits large old new rows schema h list kept = elim (small_or_large n) [
+  | inl low ↦ rows_by k (λ r. r.number == n) (λ r. rw (fits low) (test_equals r.number n)) old new rows schema h list kept
+  | inr high ↦ rw (none_fits request_key n kept.ordered high kept.fits) (rw (none_passes kept.ordered) at (rows_by k (λ r. false) (λ r. rw (large high) (test_none r.number)) old new rows schema h list kept))
+]
+  where
+    small_or_large : (n : ℕ) → (n < 2 ^ 63) ⊎ (2 ^ 63 ≤ n)
+    small_or_large n = search arith
+
+pub request_found : (n : ℕ) (k : ℤ) → (n < 2 ^ 63 → k ≡ pos n) → (2 ^ 63 ≤ n → k ≡ negsuc 0) → (old new : State) (rows : List Row) → old.now.schema ≡ store_schema → Shown find_request (Int k ∷ []) old new rows
+    → (c : Content) → IsSound c → HoldsRequests (old.now.trees request_tree) c.requests → AllByRecursion Reads (summaries (keyed request_key n c.requests)) × IsPermutation (map summary_shown (summaries (keyed request_key n c.requests))) rows
+request_found n k fits large old new rows schema shown c sound h =
+    let mine = keyed request_key n c.requests in
+    let kinds = all-filter (λ (r : RequestRow). IsOfKind r.body) (λ r. r.number == n) c.requests (kinds_of c sound) in
+    let same = keyed_same request_key n h.kept.ordered c.requests h.kept.rising h.kept.same in
+    let found = request_rows n k fits large old new rows schema shown c.requests h.kept in (
+      summaries_read mine kinds (all-filter (λ (r : RequestRow). BodyReads r.body) (λ r. r.number == n) c.requests h.texts),
+      subst (λ xs. IsPermutation xs rows) (ap (map request_shown) same ∙ summaries_are mine kinds) found,
+    )
+
+first_summary : (xs : List RequestRow) → slice_get (summaries xs) 0 ≡ option_map request_summary (slice_get xs 0)
+first_summary [] = refl
+first_summary (x ∷ xs) = refl
+
+pub summary_of : (n : ℕ) (requests : List RequestRow) → slice_get (summaries (keyed request_key n requests)) 0 ≡ option_map request_summary (request_at n requests)
+summary_of n requests = first_summary (keyed request_key n requests) ∙ ap (option_map request_summary) (sym (find_is request_key n requests))
+
+-- ---- a page
+
+pub request_page : (u o l : ℕ) (old new : State) (rows : List Row) → old.now.schema ≡ store_schema → Shown page_requests (page_params u o l) old new rows
+    → (c : Content) → IsSound c → HoldsRequests (old.now.trees request_tree) c.requests
+    → AllByRecursion Reads (page o l (summaries (requests_of u c.requests))) × (rows ≡ map summary_shown (page o l (summaries (requests_of u c.requests))))
+request_page u o l old new rows schema shown c sound h =
+    let key = λ (r : RequestRow). r.number in
+    let account = λ (r : RequestRow). r.account in
+    let mine = requests_of u c.requests in
+    let picked = range_is key account u c.requests (request_numbers c sound) in
+    let selection = request_selection c u sound in
+    let whole_list = subst (λ xs. IsPermutation xs c.requests) (sym (map-id h.kept.ordered)) h.kept.same in
+    let it = paged (page_params u o l) request_row (λ r. r) (in_range key account u) (within 0) request_columns 0 key request_shown (λ r. test_range r.number (first_number u) (last_number u)) (λ r. refl) (shows (page_params u o l)) request_tree (min l most) (min o most) refl refl
+        (overlay old.now.trees []) h.kept.ordered c.requests rows h.kept.rows_are whole_list (rw picked selection.rises)
+        ((reads_as page_requests (page_params u o l) old new store_schema schema _ requests_is requests_plain requests_unlisted rows shown).answer Null) in
+    let kinds = all-filter (λ (r : RequestRow). IsOfKind r.body) (λ r. r.account == u) c.requests (kinds_of c sound) in
+    let texts = all-filter (λ (r : RequestRow). BodyReads r.body) (λ r. r.account == u) c.requests h.texts in
+    let exact = it ∙ ap (map request_shown) (ap (λ xs. take (min l most) (drop (min o most) xs)) picked ∙ capped_page o l mine selection.few) in
+    (
+      all_taken Reads l _ (all_dropped Reads o (summaries mine) (summaries_read mine kinds texts)),
+      exact ∙ page_mapped request_shown mine ∙ ap (page o l) (summaries_are mine kinds) ∙ sym (page_mapped summary_shown (summaries mine)),
+    )
+  where
+    page_mapped : {A B : Type 0} (f : A → B) (xs : List A) → map f (page o l xs) ≡ page o l (map f xs)
+    page_mapped f xs = sym (ap (take l) (drop-map f o xs) ∙ take-map f l (drop o xs))
