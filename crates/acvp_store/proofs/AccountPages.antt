@@ -59,6 +59,6 @@ session_page u o l old new rows schema shown c sound h =
     let selection = session_selection c u sound in
     let whole_list = subst (λ xs. IsPermutation xs c.sessions) (sym (map-id h.ordered)) h.same in
     let it = paged (page_params u o l) session_row (λ s. s) (in_range key account u) (within 0) session_columns 0 key session_shown (λ s. test_range s.number (first_number u) (last_number u)) (λ s. refl) (λ s. refl) session_tree (min l most) (min o most) refl refl
-        (overlay old.now.trees []) h.ordered c.sessions rows h.rows_are whole_list (rw picked selection.rises)
-        ((reads_as page_sessions (page_params u o l) old new store_schema schema _ sessions_is sessions_plain sessions_unlisted rows shown).answer Null) in
+    (overlay old.now.trees []) h.ordered c.sessions rows h.rows_are whole_list (rw picked selection.rises)
+    ((reads_as page_sessions (page_params u o l) old new store_schema schema _ sessions_is sessions_plain sessions_unlisted rows shown).answer Null) in
     it ∙ ap (map session_shown) (ap (λ xs. take (min l most) (drop (min o most) xs)) picked ∙ capped_page o l (sessions_of u c.sessions) selection.few)

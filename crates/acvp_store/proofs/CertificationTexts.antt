@@ -23,7 +23,7 @@ pub certification_reads : (c : Certification) (d : Data) (s : String Global) →
     → BodyReads (body.Certification c)
 certification_reads c d s fits_module fits_environment is text reads =
     let here : (e : Data) → d ≡ e → (depth e ≤ max_depth) → has_float e ≡ false → body_json (compact_text e) ≡ Some e =
-        λ e same low plain. subst (λ x. body_json x ≡ Some e) (rw same at text plain) (body_json-read (string_bytes s) e (IsUtf8-string_bytes s) (rw same at reads low) plain) in
+    λ e same low plain. subst (λ x. body_json x ≡ Some e) (rw same at text plain) (body_json-read (string_bytes s) e (IsUtf8-string_bytes s) (rw same at reads low) plain) in
     (here (certification_data c) is (shallow c) refl, fits_module, fits_environment)
 
 pub text_reads : {E : Type 0} (c : Certification) (d : Data) (r : Result (String Global) E) → c.«module» < 2 ^ 64 → c.environment < 2 ^ 64 → d ≡ certification_data c → IfOk r (λ s. has_float d ≡ false → string_bytes s ≡ compact_text d)

@@ -33,3 +33,5 @@ pub mod Owned
 pub mod AccountPages
 pub mod CertificationTexts
 pub mod RequestPages
+pub mod ObjectPages
+pub mod Counting

@@ -26,7 +26,7 @@ use Rattle.acvp_store.proofs.Parts.{both_true}
 use Rattle.acvp_store.proofs.Selecting.{test_equals, test_none, selected}
 use Rattle.acvp_store.proofs.Texts.{find_owner, owner_query, owner_is, owner_plain, owner_unlisted}
 
-abbrev is_it : Kind → ℕ → ObjectRow → Bool
+abbrev pub is_it : Kind → ℕ → ObjectRow → Bool
 is_it kind n o = is_kind o.object.kind kind && (o.number == n)
 
 abbrev owner_shown : ℕ → Row
@@ -35,7 +35,7 @@ owner_shown account = whole account ∷ []
 abbrev owners : Kind → ℕ → List ObjectRow → List ℕ
 owners kind n objects = map (λ o. o.account) (filter (is_it kind n) objects)
 
-neither : (b : Bool) → (b && false) ≡ false
+pub neither : (b : Bool) → (b && false) ≡ false
 neither true = refl
 neither false = refl
 
@@ -54,11 +54,11 @@ module _ (k : ℕ) (n : ℤ) (p : ObjectRow → Bool) (tests : (o : ObjectRow) �
     | inr apart ↦ rw apart (shown_of entries)
   ]
 
-none_passes : {A : Type 0} (xs : List A) → filter (λ x. false) xs ≡ []
+pub none_passes : {A : Type 0} (xs : List A) → filter (λ x. false) xs ≡ []
 none_passes [] = refl
 none_passes (x ∷ xs) = none_passes xs
 
-none_fits : (kind : Kind) (n : ℕ) (objects : List ObjectRow) → 2 ^ 63 ≤ n → FitColumns objects → filter (is_it kind n) objects ≡ []
+pub none_fits : (kind : Kind) (n : ℕ) (objects : List ObjectRow) → 2 ^ 63 ≤ n → FitColumns objects → filter (is_it kind n) objects ≡ []
 none_fits kind n [] high fits = refl
 none_fits kind n (o ∷ objects) high fits =
     let other : (o.number == n) ≡ false = let low = fits.0.0 in grind (arith, nat_tests, low, high) in

@@ -9,6 +9,8 @@ use Rattle.sqlite.specs.Term.{Term, lit, col, op2, case}
 use Rattle.sqlite_resolve.specs.Compile.{first}
 use Rattle.sqlite_sql.specs.declared.ops.BinaryOp.TheVariants.{Compare}
 use Rattle.sqlite_sql.specs.declared.ops.CompareOp.TheVariants.{Eq, Le, Ge}
+use Rattle.sqlite_sql.specs.declared.aggregate.AggregateOp.TheVariants.{CountRows}
+use Rattle.sqlite_sql.specs.Group.{Grouping}
 use Rattle.sqlite_tied.specs.Compute.{everything}
 use Rattle.sqlite_value.specs.Keys.{ascending}
 use Rattle.sqlite.proofs.Callers.{IsPlain, command_of}
@@ -144,3 +146,79 @@ objects_plain = (refl, refl)
 pub objects_ask : asks (first page_objects) ≡ true
 unfolding first everything
 objects_ask = refl
+
+-- ---- counts
+
+abbrev pub all_in_one : Grouping
+all_in_one = record { keys = []; collations = []; aggregates = record { op = CountRows; distinct = false; collation = Binary; argument = lit Null } ∷ []; having = [] }
+
+-- SELECT COUNT(*) FROM the table in the tree WHERE terms
+abbrev pub counting : ℕ → List Term → Query
+counting tree terms = record {
+  from = inner tree end;
+  filter = terms;
+  group = Some all_in_one;
+  project = col 1 0 ∷ [];
+  distinct = false;
+  collations = [];
+  order = [];
+  limit = lit (Int (negsuc 0));
+  offset = lit (Int (pos 0));
+}
+
+abbrev pub count_sessions : List ℕ
+count_sessions = codes "SELECT COUNT(*) FROM session WHERE session BETWEEN ?1 AND ?2"
+
+pub sessions_count_is : command_of (understood store_schema count_sessions) ≡ Select (record { lets = []; body = counting 3 (within 0) }) (codes "COUNT(*)" ∷ [])
+unfolding understood everything
+sessions_count_is = refl
+
+pub sessions_count_unlisted : reads_listing store_schema count_sessions ≡ false
+unfolding understood everything
+sessions_count_unlisted = refl
+
+pub sessions_count_plain : IsPlain (understood store_schema count_sessions)
+unfolding understood everything
+sessions_count_plain = (refl, refl)
+
+pub sessions_count_ask : asks (first count_sessions) ≡ true
+unfolding first everything
+sessions_count_ask = refl
+
+abbrev pub count_objects : List ℕ
+count_objects = codes "SELECT COUNT(*) FROM object WHERE kind = ?3 AND number BETWEEN ?1 AND ?2"
+
+pub objects_count_is : command_of (understood store_schema count_objects) ≡ Select (record { lets = []; body = counting 5 (equals 1 2 ∷ within 2) }) (codes "COUNT(*)" ∷ [])
+unfolding understood everything
+objects_count_is = refl
+
+pub objects_count_unlisted : reads_listing store_schema count_objects ≡ false
+unfolding understood everything
+objects_count_unlisted = refl
+
+pub objects_count_plain : IsPlain (understood store_schema count_objects)
+unfolding understood everything
+objects_count_plain = (refl, refl)
+
+pub objects_count_ask : asks (first count_objects) ≡ true
+unfolding first everything
+objects_count_ask = refl
+
+abbrev pub count_requests : List ℕ
+count_requests = codes "SELECT COUNT(*) FROM request WHERE request BETWEEN ?1 AND ?2"
+
+pub requests_count_is : command_of (understood store_schema count_requests) ≡ Select (record { lets = []; body = counting 7 (within 0) }) (codes "COUNT(*)" ∷ [])
+unfolding understood everything
+requests_count_is = refl
+
+pub requests_count_unlisted : reads_listing store_schema count_requests ≡ false
+unfolding understood everything
+requests_count_unlisted = refl
+
+pub requests_count_plain : IsPlain (understood store_schema count_requests)
+unfolding understood everything
+requests_count_plain = (refl, refl)
+
+pub requests_count_ask : asks (first count_requests) ≡ true
+unfolding first everything
+requests_count_ask = refl

@@ -49,7 +49,7 @@ module _ {E A : Type 0} (params : Row) (encode : E → Row) (member : E → A) (
       let kept : a.kept ≡ map out (map member (filter passing all)) = a.distinct ∙ ap (map (output q)) staged ∙ outputs (filter passing all) in
       let same : IsPermutation (map member (filter passing all)) picked = subst (λ xs. IsPermutation xs picked) (filter-map p member all) (IsPermutation-filter p _ list whole_list) in
       let all_out : IsPermutation (map out picked) a.ordered =
-          IsPermutation-trans _ _ _ (IsPermutation-sym _ _ (IsPermutation-map out _ _ same)) (subst (λ k. IsPermutation k a.ordered) kept a.same) in
+      IsPermutation-trans _ _ _ (IsPermutation-sym _ _ (IsPermutation-map out _ _ same)) (subst (λ k. IsPermutation k a.ordered) kept a.same) in
       let strict = ascending-map (λ x y. output_cmp q x y ≡ Less) out picked (ascending_weaker (λ x y. key x < key y) (λ x y. output_cmp q (out x) (out y) ≡ Less) below picked rise) in
       let ordered = sorted_unique (output_cmp q) (output_cmp_total q) (map out picked) a.ordered strict all_out a.sorted in
       a.shown ∙ rw (ordered, limit, offset) (ap (λ xs. take l (drop o xs)) (map-map (λ (x : Output). x.1) out picked) ∙ ap (take l) (drop-map show o picked) ∙ take-map show l (drop o picked))

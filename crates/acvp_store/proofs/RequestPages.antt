@@ -131,12 +131,11 @@ request_page u o l old new rows schema shown c sound h =
     let selection = request_selection c u sound in
     let whole_list = subst (λ xs. IsPermutation xs c.requests) (sym (map-id h.kept.ordered)) h.kept.same in
     let it = paged (page_params u o l) request_row (λ r. r) (in_range key account u) (within 0) request_columns 0 key request_shown (λ r. test_range r.number (first_number u) (last_number u)) (λ r. refl) (shows (page_params u o l)) request_tree (min l most) (min o most) refl refl
-        (overlay old.now.trees []) h.kept.ordered c.requests rows h.kept.rows_are whole_list (rw picked selection.rises)
-        ((reads_as page_requests (page_params u o l) old new store_schema schema _ requests_is requests_plain requests_unlisted rows shown).answer Null) in
+    (overlay old.now.trees []) h.kept.ordered c.requests rows h.kept.rows_are whole_list (rw picked selection.rises)
+    ((reads_as page_requests (page_params u o l) old new store_schema schema _ requests_is requests_plain requests_unlisted rows shown).answer Null) in
     let kinds = all-filter (λ (r : RequestRow). IsOfKind r.body) (λ r. r.account == u) c.requests (kinds_of c sound) in
     let texts = all-filter (λ (r : RequestRow). BodyReads r.body) (λ r. r.account == u) c.requests h.texts in
-    let exact = it ∙ ap (map request_shown) (ap (λ xs. take (min l most) (drop (min o most) xs)) picked ∙ capped_page o l mine selection.few) in
-    (
+    let exact = it ∙ ap (map request_shown) (ap (λ xs. take (min l most) (drop (min o most) xs)) picked ∙ capped_page o l mine selection.few) in (
       all_taken Reads l _ (all_dropped Reads o (summaries mine) (summaries_read mine kinds texts)),
       exact ∙ page_mapped request_shown mine ∙ ap (page o l) (summaries_are mine kinds) ∙ sym (page_mapped summary_shown (summaries mine)),
     )

@@ -2,6 +2,7 @@
 #![tactic(auto)]
 
 mod accounts;
+mod counts;
 mod fault;
 mod lists;
 mod objects;

@@ -1,19 +1,25 @@
 //! The table of registered objects.
-ghost use Rattle.std.specs.Prelude.{◌≡◌, IsTrue, IfOk, List, option_map};
+ghost use Rattle.std.specs.Prelude.{◌≡◌, IsTrue, IfOk, List, Some, option_map, string_bytes};
 ghost use Rattle.sqlite.specs.Held.{state};
-ghost use Rattle.acvp_tables.specs.Content.{kind_number, object_at};
-ghost use Rattle.acvp_tables.specs.declared.rows.ObjectRow.{ObjectRow as Object};
+ghost use Rattle.acvp_registry.specs.Json.{body_json};
+ghost use Rattle.acvp_registry.specs.Object.{KeptObject, object_text};
+ghost use Rattle.acvp_tables.specs.Content.{Content, kind_number, object_at, objects_of, page};
+ghost use Rattle.acvp_tables.specs.State.{IsSound};
+ghost use Rattle.acvp_tables.specs.declared.rows.ObjectRow.{ObjectRow as Registration};
 ghost use Rattle.acvp_store.specs.Connection.{ServesStore, IsRead, IsInside, Under};
 ghost use Rattle.acvp_store.specs.Schema.{store_schema};
 ghost use Rattle.acvp_store.specs.Private.Objects.{Registers};
 ghost use Rattle.acvp_store.specs.Stands.{HoldsObjects, FitColumns, object_tree};
 
 use crate::fault::done;
-use crate::shown::{Shown, account_number, answered, fitting, key};
+use crate::pages::{Member, listed, only, page_of};
+use crate::shown::{Shown, account_number, answered, field, fitting, key};
+use crate::summaries::{kept_value, registered_kind};
 use crate::work::Work;
-use acvp_registry::Kind;
-use acvp_tables::StoreFault;
+use acvp_registry::{Kind, Object, RegFault, read_object};
+use acvp_tables::{ObjectRow, StoreFault};
 use sqlite::{Alter, Connection, Row, Transaction, params};
+use std::alloc::Global;
 
 /// An account's number, alone in its row.
 impl Shown for u16 {
@@ -46,13 +52,86 @@ pub(crate) fn find_owner<S: Alter>(
     number: u64,
 ) -> Result<Option<u16>, StoreFault>
     requires { ServesStore (state S.Store conn.old) }
-    ensures found { IsTrue (state S.Store conn.new).is_open → IfOk result (λ found. (objects : List Object) → HoldsObjects ((state S.Store conn.old).now.trees object_tree) objects → FitColumns objects → found ≡ option_map (λ row. row.account) (object_at kind number objects)) }
+    ensures found { IsTrue (state S.Store conn.new).is_open → IfOk result (λ found. (objects : List Registration) → HoldsObjects ((state S.Store conn.old).now.trees object_tree) objects → FitColumns objects → found ≡ option_map (λ row. row.account) (object_at kind number objects)) }
     ensures read { IsRead result (state S.Store conn.old) (state S.Store conn.new) }
 {
     answered(conn.query_all(
         "SELECT account FROM object WHERE kind = ?1 AND number = ?2",
         params![kind_number(kind), key(number)],
     ))
+}
+
+/// The object of a kind's number and a text.
+fn kept_object(kind: u32, text: String) -> Result<Object, StoreFault>
+    ensures { IfOk result (λ found. (o : KeptObject) → body_json (object_text o) ≡ Some o.value → kind ≡ kind_number o.kind → string_bytes text ≡ object_text o → found ≡ o) }
+{
+    let alloc = *text.allocator();
+    let kind = registered_kind(kind)?;
+    let value = kept_value(text)?;
+    match read_object(alloc, kind, &value) {
+        Ok(object) => Ok(object),
+        Err(RegFault::Memory) => Err(StoreFault::Memory),
+        Err(_) => Err(StoreFault::Refused),
+    }
+}
+
+impl Member for ObjectRow {
+    ghost use Rattle.acvp_store.specs.Stands.{IsKeepable, object_columns};
+
+    ghost listed_as = { object_columns };
+
+    ghost reads = { IsKeepable };
+
+    fn from_row(row: &Row) -> Result<ObjectRow, StoreFault> {
+        let kind: u32 = field(row, 0)?;
+        let number: u64 = field(row, 1)?;
+        let account = account_number(row, 2)?;
+        let text: String = field(row, 3)?;
+        Ok(ObjectRow {
+            number,
+            account,
+            object: kept_object(kind, text)?,
+        })
+    }
+}
+
+/// The object of a kind and number.
+pub(crate) fn find_object<S: Alter>(
+    conn: &mut Connection<S>,
+    kind: Kind,
+    number: u64,
+) -> Result<Option<ObjectRow>, StoreFault>
+    requires { ServesStore (state S.Store conn.old) }
+    ensures found { IsTrue (state S.Store conn.new).is_open → IfOk result (λ found. (c : Content) → IsSound c → HoldsObjects ((state S.Store conn.old).now.trees object_tree) c.objects → FitColumns c.objects → found ≡ object_at kind number c.objects) }
+    ensures read { IsRead result (state S.Store conn.old) (state S.Store conn.new) }
+{
+    only(conn.query_all(
+        "SELECT kind, number, account, body FROM object WHERE kind = ?1 AND number = ?2",
+        params![kind_number(kind), key(number)],
+    ))
+}
+
+/// So many objects of a kind and of an account, from the offset on.
+pub(crate) fn page_objects<S: Alter>(
+    alloc: Global,
+    conn: &mut Connection<S>,
+    kind: Kind,
+    account: u16,
+    offset: u64,
+    limit: u64,
+) -> Result<Vec<ObjectRow>, StoreFault>
+    requires { ServesStore (state S.Store conn.old) }
+    ensures found { IsTrue (state S.Store conn.new).is_open → IfOk result (λ found. (c : Content) → IsSound c → HoldsObjects ((state S.Store conn.old).now.trees object_tree) c.objects → FitColumns c.objects → found.items ≡ page offset limit (objects_of kind account c.objects)) }
+    ensures read { IsRead result (state S.Store conn.old) (state S.Store conn.new) }
+{
+    let at = page_of(account, offset, limit);
+    listed(
+        alloc,
+        conn.query_all(
+            "SELECT kind, number, account, body FROM object WHERE kind = ?5 AND number BETWEEN ?1 AND ?2 ORDER BY number LIMIT ?3 OFFSET ?4",
+            params![at.first, at.last, at.limit, at.offset, kind_number(kind)],
+        ),
+    )
 }
 
 /// The registration of what a request asks for, under a number. One for certification registers nothing.

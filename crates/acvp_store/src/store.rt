@@ -1,12 +1,9 @@
 //! The records in SQL tables.
-ghost use Rattle.std.specs.Prelude.{◌≡◌, IsTrue, IfOk, IfErr, map, option_map, option_and_then};
+ghost use Rattle.std.specs.Prelude.{◌≡◌, IsTrue, IfOk, IfErr};
 ghost use Rattle.sqlite.specs.Held.{state};
 ghost use Rattle.sqlite.specs.State.{HasCleanDisk};
-ghost use Rattle.acvp_tables.specs.Calls.{Finds, Reads, Changes};
-ghost use Rattle.acvp_tables.specs.Content.{no_rows, account_at, session_at, set_at, set_summary, set_verdicts, live_sets, object_at, is_reviewer, reviewers_of, greatest_epoch_of};
-ghost use Rattle.acvp_tables.specs.Content.{page, sessions_of};
-ghost use Rattle.std.specs.Prelude.{◌≡◌, IsTrue, IfOk, IfErr, map, option_map};
-ghost use Rattle.acvp_tables.specs.Content.{page, sessions_of, request_at, requests_of, request_summary};
+ghost use Rattle.acvp_tables.specs.Calls.{Changes};
+ghost use Rattle.acvp_tables.specs.Content.{no_rows};
 ghost use Rattle.acvp_tables.specs.Changes.{after, after_order};
 ghost use Rattle.acvp_tables.specs.State.{IsSound};
 ghost use Rattle.acvp_tables.specs.declared.change.Change.TheVariants as change;
@@ -16,11 +13,10 @@ ghost use Rattle.acvp_store.specs.Schema.{no_schema, store_schema};
 ghost use Rattle.acvp_store.specs.Store.{may_fail, Begins, stands, IsLive, is_clean, leaves};
 
 use crate::accounts::{DisabledAccount, find_account};
-use crate::objects::{Registered, find_owner};
-use crate::requests::{CertificationAsked, DecidedRequest};
-use crate::reviewers::{ReviewerAdded, ReviewerRemoved, find_reviewer, find_reviewers};
+use crate::counts::find_counts;
+use crate::objects::{Registered, find_object, find_owner, page_objects};
 use crate::requests::{CertificationAsked, DecidedRequest, find_request, page_requests};
-use crate::reviewers::{ReviewerAdded, ReviewerRemoved, find_reviewer};
+use crate::reviewers::{ReviewerAdded, ReviewerRemoved, find_reviewer, find_reviewers};
 use crate::sessions::{
     CancelledSession, CertifiedSession, CountedSession, PassedSession, SessionBegun, find_session,
     page_sessions,
@@ -31,11 +27,12 @@ use crate::setup::{StoreTable, Version};
 use crate::work::{Then, commit};
 use acvp_answers::Verdict;
 use acvp_caps::Capability;
+use acvp_policy::{Grant, release};
 use acvp_registry::Kind;
 use acvp_tables::{
-    AccountRow, Approval, CancelledSet, KeptAnswers, NewAccount, NewCertification, NewRequest,
-    NewSession, RequestStatus, RequestSummary, ReviewerRow, SessionRow, SetSummary, StoreFault,
-    UsedStep,
+    AccountRow, Approval, CancelledSet, Change, Counts, KeptAnswers, NewAccount, NewCertification,
+    NewRequest, NewSession, ObjectRow, OrderChange, RequestStatus, RequestSummary, ReviewerRow,
+    SessionRow, SetSummary, StoreFault, Tables, UsedStep,
 };
 use sqlite::{Alter, Connection};
 use std::alloc::Global;
@@ -190,6 +187,34 @@ impl<S: Alter> SqlTables<S> {
         ensures reads { Reads may_fail (stands S.Store) (IsLive S.Store) (is_clean S.Store) (leaves S.Store) result self.old self.new }
     {
         find_sets(self.alloc, &mut self.connection, session)
+
+    /// The registered object of a kind and number.
+    pub fn object(&mut self, kind: Kind, number: u64) -> Result<Option<ObjectRow>, StoreFault>
+        ensures found { Finds IsSound (stands S.Store) (IsLive S.Store) (λ x. x) result self.old self.new (λ c. object_at kind number c.objects) }
+        ensures reads { Reads may_fail (stands S.Store) (IsLive S.Store) (is_clean S.Store) (leaves S.Store) result self.old self.new }
+    {
+        find_object(&mut self.connection, kind, number)
+    }
+
+    /// So many registered objects of a kind and of an account, from the offset on.
+    pub fn objects(
+        &mut self,
+        kind: Kind,
+        account: u16,
+        offset: u64,
+        limit: u64,
+    ) -> Result<Vec<ObjectRow>, StoreFault>
+        ensures found { Finds IsSound (stands S.Store) (IsLive S.Store) (λ v. v.items) result self.old self.new (λ c. page offset limit (objects_of kind account c.objects)) }
+        ensures reads { Reads may_fail (stands S.Store) (IsLive S.Store) (is_clean S.Store) (leaves S.Store) result self.old self.new }
+    {
+        page_objects(
+            self.alloc,
+            &mut self.connection,
+            kind,
+            account,
+            offset,
+            limit,
+        )
     }
 
     /// The account of the registered object of a kind and number.
@@ -235,6 +260,14 @@ impl<S: Alter> SqlTables<S> {
     ) -> Result<Vec<RequestSummary>, StoreFault>
         ensures found { Finds IsSound (stands S.Store) (IsLive S.Store) (λ v. v.items) result self.old self.new (λ c. page offset limit (map request_summary (requests_of account c.requests))) }
         page_requests(self.alloc, &mut self.connection, account, offset, limit)
+    }
+
+    /// How many rows an account has.
+    pub fn counts(&mut self, account: u16) -> Result<Counts, StoreFault>
+        ensures found { Finds IsSound (stands S.Store) (IsLive S.Store) (λ x. x) result self.old self.new (counts_of account) }
+        ensures reads { Reads may_fail (stands S.Store) (IsLive S.Store) (is_clean S.Store) (leaves S.Store) result self.old self.new }
+    {
+        find_counts(&mut self.connection, account)
     }
 
     /// Adds an account.

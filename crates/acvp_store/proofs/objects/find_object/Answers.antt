@@ -1,0 +1,34 @@
+use Rattle.std.proofs.Common.{rules, w64, to_z-of_z, ◌∙◌}
+use Rattle.std.specs.Prelude.{filter}
+use mir.Val.{SFits}
+use Rattle.std.proofs.lemmas.Result.{IfOk-weaker}
+use Rattle.sqlite.specs.Held.{state}
+use Rattle.acvp_tables.specs.State.{IsSound}
+use Rattle.acvp_store.specs.Stands.{object_tree, object_columns, HoldsObjects, IsKeepable, FitColumns}
+use Rattle.acvp_store.proofs.ObjectRows.{is_it}
+use Rattle.acvp_store.proofs.Reading.{clean_if_open, read}
+use Rattle.acvp_store.proofs.Finding.{read_as}
+use Rattle.acvp_store.proofs.Listing.{one_listed}
+use Rattle.acvp_store.proofs.PageTexts.{find_object, object_ask}
+use Rattle.acvp_store.proofs.ObjectPages.{object_found, first_object}
+use Rattle.acvp_store.proofs.objects.find_object.Goals as goal
+
+pub returns-clause-read : goal.returns-clause-read
+returns-clause-read g c =
+    let old = state g.S.Store c.args.conn.now in
+    let new = state g.S.Store c.query_all.new.self in
+    read_as c.query_all.result c.only.result old new c.only.ensures.ok
+    (read find_object _ old new (g.met.S.Store.shut_if_dirty c.query_all.new.self.store) (λ live. (c.requires live).ready) object_ask c.query_all.ensures.survives c.query_all.result (λ v. v.items) c.query_all.ensures.ok c.query_all.ensures.err)
+
+pub returns-clause-found : goal.returns-clause-found
+returns-clause-found g c live =
+    let old = state g.S.Store c.args.conn.now in
+    let new = state g.S.Store c.query_all.new.self in
+    let clean = clean_if_open new.is_clean new.is_open (g.met.S.Store.shut_if_dirty c.query_all.new.self.store) live in
+    let fit : SFits w64 c.key.result = search rules in
+    let was = (returns-clause-read g c).stays.was_open live in
+    let n = c.args.number in
+    let kind = c.args.kind in
+    IfOk-weaker c.only.result _ _ (λ found is d sound held fit. is d sound (held, fit) ∙ first_object kind n d.objects)
+    (one_listed IsSound (λ d. HoldsObjects (old.now.trees object_tree) d.objects × FitColumns d.objects) IsKeepable object_columns c.query_all.result (λ v. v.items) c.only.result (λ d. filter (is_it kind n) d.objects) c.only.ensures.ok c.only.ensures.found
+    (IfOk-weaker c.query_all.result _ _ (λ rows shown d sound held. object_found kind n c.key.result c.key.ensures.fits c.key.ensures.too_large old new rows.items (c.requires was).schema (rw (c.params-to_sql.ensures, c.params-to_sql-2.ensures, to_z-of_z fit, c.kind_number.ensures) at shown) d.objects held.0 held.1) (c.query_all.ensures.ok clean)))

@@ -1,0 +1,34 @@
+use Rattle.std.proofs.Common.{rules, w64, to_z-of_z}
+use mir.Val.{SFits}
+use Rattle.std.proofs.lemmas.Result.{IfOk-weaker}
+use Rattle.sqlite.specs.Held.{state}
+use Rattle.acvp_store.specs.Stands.{object_tree, object_columns, HoldsObjects, IsKeepable, FitColumns}
+use Rattle.acvp_tables.specs.State.{IsSound}
+use Rattle.acvp_store.proofs.Reading.{clean_if_open, read}
+use Rattle.acvp_store.proofs.Finding.{read_as}
+use Rattle.acvp_store.proofs.Listing.{all_listed}
+use Rattle.acvp_store.proofs.ObjectPages.{object_page}
+use Rattle.acvp_store.proofs.PageTexts.{page_objects, objects_ask}
+use Rattle.acvp_store.proofs.objects.page_objects.Goals as goal
+
+pub returns-clause-read : goal.returns-clause-read
+returns-clause-read g c =
+    let old = state g.S.Store c.args.conn.now in
+    let new = state g.S.Store c.query_all.new.self in
+    read_as c.query_all.result c.listed.result old new c.listed.ensures.ok
+    (read page_objects _ old new (g.met.S.Store.shut_if_dirty c.query_all.new.self.store) (λ live. (c.requires live).ready) objects_ask c.query_all.ensures.survives c.query_all.result (λ v. v.items) c.query_all.ensures.ok c.query_all.ensures.err)
+
+pub returns-clause-found : goal.returns-clause-found
+returns-clause-found g c live =
+    let old = state g.S.Store c.args.conn.now in
+    let new = state g.S.Store c.query_all.new.self in
+    let clean = clean_if_open new.is_clean new.is_open (g.met.S.Store.shut_if_dirty c.query_all.new.self.store) live in
+    let was = (returns-clause-read g c).stays.was_open live in
+    let first : SFits w64 c.page_of-at.result.first = search rules in
+    let last : SFits w64 c.page_of-at.result.last = search rules in
+    let limit : SFits w64 c.page_of-at.result.limit = search rules in
+    let offset : SFits w64 c.page_of-at.result.offset = search rules in
+    IfOk-weaker c.listed.result _ _ (λ found is d sound held fit. is d sound (held, fit))
+    (all_listed IsSound (λ d. HoldsObjects (old.now.trees object_tree) d.objects × FitColumns d.objects) IsKeepable object_columns c.query_all.result (λ v. v.items) c.listed.result (λ v. v.items) _ c.listed.ensures.ok c.listed.ensures.found
+    (IfOk-weaker c.query_all.result _ _ (λ rows shown d sound held. object_page c.args.kind c.args.account c.args.offset c.args.limit old new rows.items (c.requires was).schema
+    (rw (c.params-to_sql.ensures, c.params-to_sql-2.ensures, c.params-to_sql-3.ensures, c.params-to_sql-4.ensures, to_z-of_z first, to_z-of_z last, to_z-of_z limit, to_z-of_z offset, c.page_of-at.ensures.first, c.page_of-at.ensures.last, c.page_of-at.ensures.limit, c.page_of-at.ensures.offset, c.params-to_sql-5.ensures, c.kind_number.ensures) at shown) d sound held.0 held.1) (c.query_all.ensures.ok clean)))
