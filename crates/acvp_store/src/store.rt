@@ -128,178 +128,36 @@ impl<S: Alter> SqlTables<S> {
         self.connection
     }
 
-    /// The account of a number.
-    pub fn account(&mut self, number: u16) -> Result<Option<AccountRow>, StoreFault>
-        ensures found { Finds IsSound (stands S.Store) (IsLive S.Store) (λ x. x) result self.old self.new (λ c. account_at number c.accounts) }
-        ensures reads { Reads may_fail (stands S.Store) (IsLive S.Store) (is_clean S.Store) (leaves S.Store) result self.old self.new }
-    {
-        find_account(&mut self.connection, number)
-    }
-
-    /// The test session of a number.
-    pub fn session(&mut self, number: u64) -> Result<Option<SessionRow>, StoreFault>
-        ensures found { Finds IsSound (stands S.Store) (IsLive S.Store) (λ x. x) result self.old self.new (λ c. session_at number c.sessions) }
-        ensures reads { Reads may_fail (stands S.Store) (IsLive S.Store) (is_clean S.Store) (leaves S.Store) result self.old self.new }
-    {
-        find_session(&mut self.connection, number)
-    }
-
-    /// So many test sessions of an account, from the offset on.
-    pub fn sessions(
-        &mut self,
-        account: u16,
-        offset: u64,
-        limit: u64,
-    ) -> Result<Vec<SessionRow>, StoreFault>
-        ensures found { Finds IsSound (stands S.Store) (IsLive S.Store) (λ v. v.items) result self.old self.new (λ c. page offset limit (sessions_of account c.sessions)) }
-        ensures reads { Reads may_fail (stands S.Store) (IsLive S.Store) (is_clean S.Store) (leaves S.Store) result self.old self.new }
-    {
-        page_sessions(self.alloc, &mut self.connection, account, offset, limit)
-    }
-
-    /// The vector set of a number, without its capability and answers.
-    pub fn set(&mut self, number: u64) -> Result<Option<SetSummary>, StoreFault>
-        ensures found { Finds IsSound (stands S.Store) (IsLive S.Store) (λ x. x) result self.old self.new (λ c. option_map set_summary (set_at number c.sets)) }
-        ensures reads { Reads may_fail (stands S.Store) (IsLive S.Store) (is_clean S.Store) (leaves S.Store) result self.old self.new }
-    {
-        find_set(&mut self.connection, number)
-    }
-
-    /// The capability of the vector set of a number.
-    pub fn capability(&mut self, set: u64) -> Result<Option<Capability>, StoreFault>
-        ensures found { Finds IsSound (stands S.Store) (IsLive S.Store) (λ x. x) result self.old self.new (λ c. option_map (λ row. row.capability) (set_at set c.sets)) }
-        ensures reads { Reads may_fail (stands S.Store) (IsLive S.Store) (is_clean S.Store) (leaves S.Store) result self.old self.new }
-    {
-        find_capability(self.alloc, &mut self.connection, set)
-    }
-
-    /// The verdicts on the last answers to the vector set of a number, where there are any.
-    pub fn verdicts(&mut self, set: u64) -> Result<Option<Vec<Verdict>>, StoreFault>
-        ensures found { Finds IsSound (stands S.Store) (IsLive S.Store) (option_map (λ v. v.items)) result self.old self.new (λ c. option_and_then set_verdicts (set_at set c.sets)) }
-        ensures reads { Reads may_fail (stands S.Store) (IsLive S.Store) (is_clean S.Store) (leaves S.Store) result self.old self.new }
-    {
-        find_verdicts(self.alloc, &mut self.connection, set)
-    }
-
-    /// The vector sets of a test session that aren't cancelled.
-    pub fn sets_of(&mut self, session: u64) -> Result<Vec<SetSummary>, StoreFault>
-        ensures found { Finds IsSound (stands S.Store) (IsLive S.Store) (λ v. v.items) result self.old self.new (λ c. map set_summary (live_sets session c.sets)) }
-        ensures reads { Reads may_fail (stands S.Store) (IsLive S.Store) (is_clean S.Store) (leaves S.Store) result self.old self.new }
-    {
-        find_sets(self.alloc, &mut self.connection, session)
-
-    /// The registered object of a kind and number.
-    pub fn object(&mut self, kind: Kind, number: u64) -> Result<Option<ObjectRow>, StoreFault>
-        ensures found { Finds IsSound (stands S.Store) (IsLive S.Store) (λ x. x) result self.old self.new (λ c. object_at kind number c.objects) }
-        ensures reads { Reads may_fail (stands S.Store) (IsLive S.Store) (is_clean S.Store) (leaves S.Store) result self.old self.new }
-    {
-        find_object(&mut self.connection, kind, number)
-    }
-
-    /// So many registered objects of a kind and of an account, from the offset on.
-    pub fn objects(
-        &mut self,
-        kind: Kind,
-        account: u16,
-        offset: u64,
-        limit: u64,
-    ) -> Result<Vec<ObjectRow>, StoreFault>
-        ensures found { Finds IsSound (stands S.Store) (IsLive S.Store) (λ v. v.items) result self.old self.new (λ c. page offset limit (objects_of kind account c.objects)) }
-        ensures reads { Reads may_fail (stands S.Store) (IsLive S.Store) (is_clean S.Store) (leaves S.Store) result self.old self.new }
-    {
-        page_objects(
-            self.alloc,
-            &mut self.connection,
-            kind,
-            account,
-            offset,
-            limit,
-        )
-    }
-
-    /// The account of the registered object of a kind and number.
-    pub fn owner(&mut self, kind: Kind, number: u64) -> Result<Option<u16>, StoreFault>
-        ensures found { Finds IsSound (stands S.Store) (IsLive S.Store) (λ x. x) result self.old self.new (λ c. option_map (λ row. row.account) (object_at kind number c.objects)) }
-        ensures reads { Reads may_fail (stands S.Store) (IsLive S.Store) (is_clean S.Store) (leaves S.Store) result self.old self.new }
-    {
-        find_owner(&mut self.connection, kind, number)
-    }
-
-    /// Whether an account, which needn't have a row, is a reviewer of a test session.
-    pub fn is_reviewer(&mut self, session: u64, account: u16) -> Result<bool, StoreFault>
-        ensures found { Finds IsSound (stands S.Store) (IsLive S.Store) (λ x. x) result self.old self.new (λ c. is_reviewer session account c.reviewers) }
-        ensures reads { Reads may_fail (stands S.Store) (IsLive S.Store) (is_clean S.Store) (leaves S.Store) result self.old self.new }
-    {
-        find_reviewer(&mut self.connection, session, account)
-    }
-
-    /// The accounts that are reviewers of a test session.
-    pub fn reviewers_of(&mut self, session: u64) -> Result<Vec<u16>, StoreFault>
-        ensures found { Finds IsSound (stands S.Store) (IsLive S.Store) (λ v. v.items) result self.old self.new (λ c. reviewers_of session c.reviewers) }
-        ensures reads { Reads may_fail (stands S.Store) (IsLive S.Store) (is_clean S.Store) (leaves S.Store) result self.old self.new }
-    {
-        find_reviewers(self.alloc, &mut self.connection, session)
-    }
-
-    /// The greatest epoch of all vector sets; none where there is no set.
-    pub fn greatest_epoch(&mut self) -> Result<Option<u64>, StoreFault>
-        ensures found { Finds IsSound (stands S.Store) (IsLive S.Store) (λ x. x) result self.old self.new (λ c. greatest_epoch_of c.sets) }
-        ensures reads { Reads may_fail (stands S.Store) (IsLive S.Store) (is_clean S.Store) (leaves S.Store) result self.old self.new }
-    {
-        find_epoch(&mut self.connection)
-    /// The request of a number, without the object that it asks to register.
-    pub fn request(&mut self, number: u64) -> Result<Option<RequestSummary>, StoreFault>
-        ensures found { Finds IsSound (stands S.Store) (IsLive S.Store) (λ x. x) result self.old self.new (λ c. option_map request_summary (request_at number c.requests)) }
-        find_request(&mut self.connection, number)
-    /// So many requests of an account, from the offset on.
-    pub fn requests(
-        &mut self,
-        account: u16,
-        offset: u64,
-        limit: u64,
-    ) -> Result<Vec<RequestSummary>, StoreFault>
-        ensures found { Finds IsSound (stands S.Store) (IsLive S.Store) (λ v. v.items) result self.old self.new (λ c. page offset limit (map request_summary (requests_of account c.requests))) }
-        page_requests(self.alloc, &mut self.connection, account, offset, limit)
-    }
-
-    /// How many rows an account has.
-    pub fn counts(&mut self, account: u16) -> Result<Counts, StoreFault>
-        ensures found { Finds IsSound (stands S.Store) (IsLive S.Store) (λ x. x) result self.old self.new (counts_of account) }
-        ensures reads { Reads may_fail (stands S.Store) (IsLive S.Store) (is_clean S.Store) (leaves S.Store) result self.old self.new }
-    {
-        find_counts(&mut self.connection, account)
-    }
-
     /// Adds an account.
-    pub fn add_account(&mut self, account: &NewAccount) -> Result<(), StoreFault>
+    pub(crate) fn add_account(&mut self, account: &NewAccount) -> Result<(), StoreFault>
         ensures { Changes IsSound may_fail (stands S.Store) (IsLive S.Store) (is_clean S.Store) (leaves S.Store) result self.old self.new (after_order (order.AddAccount account.now)) }
     {
         commit(&mut self.connection, account)
     }
 
     /// Disables the account of a number.
-    pub fn disable_account(&mut self, account: u16) -> Result<(), StoreFault>
+    pub(crate) fn disable_account(&mut self, account: u16) -> Result<(), StoreFault>
         ensures { Changes IsSound may_fail (stands S.Store) (IsLive S.Store) (is_clean S.Store) (leaves S.Store) result self.old self.new (after_order (order.DisableAccount account)) }
     {
         commit(&mut self.connection, &DisabledAccount { account })
     }
 
     /// Notes the time step of a one-time code that an account has used.
-    pub fn use_step(&mut self, used: &UsedStep) -> Result<(), StoreFault>
+    pub(crate) fn use_step(&mut self, used: &UsedStep) -> Result<(), StoreFault>
         ensures { Changes IsSound may_fail (stands S.Store) (IsLive S.Store) (is_clean S.Store) (leaves S.Store) result self.old self.new (after (change.UseStep used.now)) }
     {
         commit(&mut self.connection, used)
     }
 
     /// Cancels the test session of a number.
-    pub fn cancel_session(&mut self, number: u64) -> Result<(), StoreFault>
+    pub(crate) fn cancel_session(&mut self, number: u64) -> Result<(), StoreFault>
         ensures { Changes IsSound may_fail (stands S.Store) (IsLive S.Store) (is_clean S.Store) (leaves S.Store) result self.old self.new (after (change.CancelSession number)) }
     {
         commit(&mut self.connection, &CancelledSession { number })
     }
 
     /// Cancels a vector set, and notes how many its session has without it.
-    pub fn cancel_set(&mut self, set: &CancelledSet) -> Result<(), StoreFault>
+    pub(crate) fn cancel_set(&mut self, set: &CancelledSet) -> Result<(), StoreFault>
         ensures { Changes IsSound may_fail (stands S.Store) (IsLive S.Store) (is_clean S.Store) (leaves S.Store) result self.old self.new (after (change.CancelSet set.now)) }
     {
         let cancelled = SetCancelled { number: set.set };
@@ -318,7 +176,7 @@ impl<S: Alter> SqlTables<S> {
     }
 
     /// Keeps answers to a vector set, and notes how many sets of its session have passed with them.
-    pub fn keep_answers(&mut self, kept: &KeptAnswers) -> Result<(), StoreFault>
+    pub(crate) fn keep_answers(&mut self, kept: &KeptAnswers) -> Result<(), StoreFault>
         ensures { Changes IsSound may_fail (stands S.Store) (IsLive S.Store) (is_clean S.Store) (leaves S.Store) result self.old self.new (after (change.KeepAnswers kept.now)) }
     {
         let graded = GradedSet {
@@ -340,7 +198,7 @@ impl<S: Alter> SqlTables<S> {
     }
 
     /// Begins a test session with its vector sets.
-    pub fn new_session(&mut self, session: &NewSession) -> Result<(), StoreFault>
+    pub(crate) fn new_session(&mut self, session: &NewSession) -> Result<(), StoreFault>
         ensures { Changes IsSound may_fail (stands S.Store) (IsLive S.Store) (is_clean S.Store) (leaves S.Store) result self.old self.new (after (change.NewSession session.now)) }
     {
         let begun = SessionBegun { session };
@@ -358,14 +216,14 @@ impl<S: Alter> SqlTables<S> {
     }
 
     /// Takes a request for the registration of an object.
-    pub fn new_request(&mut self, request: &NewRequest) -> Result<(), StoreFault>
+    pub(crate) fn new_request(&mut self, request: &NewRequest) -> Result<(), StoreFault>
         ensures { Changes IsSound may_fail (stands S.Store) (IsLive S.Store) (is_clean S.Store) (leaves S.Store) result self.old self.new (after (change.NewRequest request.now)) }
     {
         commit(&mut self.connection, request)
     }
 
     /// Takes a request for the certification of a test session, and notes it with the session.
-    pub fn certify(&mut self, request: &NewCertification) -> Result<(), StoreFault>
+    pub(crate) fn certify(&mut self, request: &NewCertification) -> Result<(), StoreFault>
         ensures { Changes IsSound may_fail (stands S.Store) (IsLive S.Store) (is_clean S.Store) (leaves S.Store) result self.old self.new (after (change.Certify request.now)) }
     {
         let asked = CertificationAsked {
@@ -386,7 +244,7 @@ impl<S: Alter> SqlTables<S> {
     }
 
     /// Lets an account read a test session's results. Where it may already, nothing changes.
-    pub fn add_reviewer(&mut self, reviewer: &ReviewerRow) -> Result<(), StoreFault>
+    pub(crate) fn add_reviewer(&mut self, reviewer: &ReviewerRow) -> Result<(), StoreFault>
         ensures { Changes IsSound may_fail (stands S.Store) (IsLive S.Store) (is_clean S.Store) (leaves S.Store) result self.old self.new (after (change.AddReviewer reviewer.now)) }
     {
         match find_reviewer(&mut self.connection, reviewer.session, reviewer.account) {
@@ -402,7 +260,7 @@ impl<S: Alter> SqlTables<S> {
     }
 
     /// Lets an account read a test session's results no more.
-    pub fn remove_reviewer(&mut self, reviewer: &ReviewerRow) -> Result<(), StoreFault>
+    pub(crate) fn remove_reviewer(&mut self, reviewer: &ReviewerRow) -> Result<(), StoreFault>
         ensures { Changes IsSound may_fail (stands S.Store) (IsLive S.Store) (is_clean S.Store) (leaves S.Store) result self.old self.new (after (change.RemoveReviewer reviewer.now)) }
     {
         commit(
@@ -414,7 +272,7 @@ impl<S: Alter> SqlTables<S> {
     }
 
     /// Rejects the request of a number.
-    pub fn reject(&mut self, number: u64) -> Result<(), StoreFault>
+    pub(crate) fn reject(&mut self, number: u64) -> Result<(), StoreFault>
         ensures { Changes IsSound may_fail (stands S.Store) (IsLive S.Store) (is_clean S.Store) (leaves S.Store) result self.old self.new (after_order (order.Reject number)) }
     {
         commit(
@@ -427,7 +285,7 @@ impl<S: Alter> SqlTables<S> {
     }
 
     /// Approves a request, and registers what it asks to register.
-    pub fn approve(&mut self, approval: &Approval) -> Result<(), StoreFault>
+    pub(crate) fn approve(&mut self, approval: &Approval) -> Result<(), StoreFault>
         ensures { Changes IsSound may_fail (stands S.Store) (IsLive S.Store) (is_clean S.Store) (leaves S.Store) result self.old self.new (after_order (order.Approve approval.now)) }
     {
         let registered = Registered {
@@ -445,5 +303,135 @@ impl<S: Alter> SqlTables<S> {
                 second: decided,
             },
         )
+    }
+}
+
+impl<S: Alter> Tables for SqlTables<S> {
+    ghost use Rattle.std.proofs.Common.{◌∙◌, sym, ap, subst, inl};
+    ghost use Rattle.sqlite.specs.Effect.{Database};
+    ghost use Rattle.acvp_store.specs.Stands.{Stands};
+    ghost use Rattle.acvp_store.specs.Store.{may_fail, stands, IsLive, is_clean, leaves};
+
+    ghost faults = { may_fail };
+
+    ghost stands = { stands S.Store };
+
+    ghost is_live = { IsLive S.Store };
+
+    ghost is_clean = { is_clean S.Store };
+
+    ghost leaves = { leaves S.Store };
+
+    ghost rests = { λ t c d live h clean db may. inl (subst (λ x. Stands x c) (sym (S.Store.settled t.store db live.is_open may ∙ ap (λ (x : Database). x.trees) (sym live.store.ready.settled))) h) };
+
+    fn account(&mut self, number: u16) -> Result<Option<AccountRow>, StoreFault> {
+        find_account(&mut self.connection, number)
+    }
+
+    fn session(&mut self, number: u64) -> Result<Option<SessionRow>, StoreFault> {
+        find_session(&mut self.connection, number)
+    }
+
+    fn set(&mut self, number: u64) -> Result<Option<SetSummary>, StoreFault> {
+        find_set(&mut self.connection, number)
+    }
+
+    fn capability(&mut self, set: u64) -> Result<Option<Capability>, StoreFault> {
+        find_capability(self.alloc, &mut self.connection, set)
+    }
+
+    fn verdicts(&mut self, set: u64) -> Result<Option<Vec<Verdict>>, StoreFault> {
+        find_verdicts(self.alloc, &mut self.connection, set)
+    }
+
+    fn sets_of(&mut self, session: u64) -> Result<Vec<SetSummary>, StoreFault> {
+        find_sets(self.alloc, &mut self.connection, session)
+    }
+
+    fn object(&mut self, kind: Kind, number: u64) -> Result<Option<ObjectRow>, StoreFault> {
+        find_object(&mut self.connection, kind, number)
+    }
+
+    fn owner(&mut self, kind: Kind, number: u64) -> Result<Option<u16>, StoreFault> {
+        find_owner(&mut self.connection, kind, number)
+    }
+
+    fn request(&mut self, number: u64) -> Result<Option<RequestSummary>, StoreFault> {
+        find_request(&mut self.connection, number)
+    }
+
+    fn is_reviewer(&mut self, session: u64, account: u16) -> Result<bool, StoreFault> {
+        find_reviewer(&mut self.connection, session, account)
+    }
+
+    fn reviewers_of(&mut self, session: u64) -> Result<Vec<u16>, StoreFault> {
+        find_reviewers(self.alloc, &mut self.connection, session)
+    }
+
+    fn counts(&mut self, account: u16) -> Result<Counts, StoreFault> {
+        find_counts(&mut self.connection, account)
+    }
+
+    fn sessions(
+        &mut self,
+        account: u16,
+        offset: u64,
+        limit: u64,
+    ) -> Result<Vec<SessionRow>, StoreFault> {
+        page_sessions(self.alloc, &mut self.connection, account, offset, limit)
+    }
+
+    fn objects(
+        &mut self,
+        kind: Kind,
+        account: u16,
+        offset: u64,
+        limit: u64,
+    ) -> Result<Vec<ObjectRow>, StoreFault> {
+        page_objects(
+            self.alloc,
+            &mut self.connection,
+            kind,
+            account,
+            offset,
+            limit,
+        )
+    }
+
+    fn requests(
+        &mut self,
+        account: u16,
+        offset: u64,
+        limit: u64,
+    ) -> Result<Vec<RequestSummary>, StoreFault> {
+        page_requests(self.alloc, &mut self.connection, account, offset, limit)
+    }
+
+    fn greatest_epoch(&mut self) -> Result<Option<u64>, StoreFault> {
+        find_epoch(&mut self.connection)
+    }
+
+    fn apply(&mut self, grant: Grant, change: &Change) -> Result<(), StoreFault> {
+        release(grant);
+        match change {
+            Change::UseStep(used) => self.use_step(used),
+            Change::NewSession(session) => self.new_session(session),
+            Change::KeepAnswers(kept) => self.keep_answers(kept),
+            Change::CancelSession(number) => self.cancel_session(*number),
+            Change::CancelSet(set) => self.cancel_set(set),
+            Change::NewRequest(request) => self.new_request(request),
+            Change::Certify(request) => self.certify(request),
+            Change::AddReviewer(reviewer) => self.add_reviewer(reviewer),
+            Change::RemoveReviewer(reviewer) => self.remove_reviewer(reviewer),
+        }
+    }
+
+    fn order(&mut self, change: &OrderChange) -> Result<(), StoreFault> {
+        match change {
+            OrderChange::AddAccount(account) => self.add_account(account),
+            OrderChange::DisableAccount(account) => self.disable_account(*account),
+            OrderChange::Approve(approval) => self.approve(approval),
+            OrderChange::Reject(number) => self.reject(*number),
+        }
     }
 }

@@ -7,7 +7,7 @@ use acvp_caps::read_registration;
 use acvp_registry::{Kind, body_value, read_object};
 use acvp_tables::{
     Approval, CancelledSet, Certification, Graded, KeptAnswers, NewAccount, NewCertification,
-    NewRequest, NewSession, ReviewerRow, StoreFault, UsedStep,
+    NewRequest, NewSession, ReviewerRow, StoreFault, Tables, UsedStep,
 };
 use sqlite::{Connection, MemStore, params};
 use std::test::Fail;
