@@ -23,6 +23,7 @@ pub mod Epochs
 pub mod RequestRows
 pub mod ReviewerRows
 pub mod SessionReviewers
+pub mod Versions
 pub mod Registering
 pub mod Sound
 pub mod Standing

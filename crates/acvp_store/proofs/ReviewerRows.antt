@@ -60,7 +60,7 @@ counted shown p (x ∷ xs) = elim (cases_Bool (p x)) [
   | inr miss ↦ rw miss (counted shown p xs)
 ]
 
-any_passes : {A : Type 0} (shown : A → Row) (p : A → Bool) (xs : List A) (rows : List Row) → IsPermutation (map shown (filter p xs)) rows → nat_lt 0 (length rows) ≡ list_any p xs
+pub any_passes : {A : Type 0} (shown : A → Row) (p : A → Bool) (xs : List A) (rows : List Row) → IsPermutation (map shown (filter p xs)) rows → nat_lt 0 (length rows) ≡ list_any p xs
 any_passes shown p xs rows same = ap (nat_lt 0) (length_permutation _ _ same) ∙ counted shown p xs
 
 any_row : (p : ReviewerRow → Bool) (es : List (Entry ReviewerRow)) → list_any (λ (e : Entry ReviewerRow). p e.row) es ≡ list_any p (map (λ (e : Entry ReviewerRow). e.row) es)

@@ -88,6 +88,28 @@ pub version_plain : IsPlain (understood store_schema add_version)
 unfolding understood everything
 version_plain = (refl, refl)
 
+abbrev pub find_version : List ℕ
+find_version = codes "SELECT value FROM meta WHERE name = 'schema' AND value = 3"
+
+abbrev pub find_version_query : Query
+find_version_query = simple 0 (op2 (Compare Eq Binary) (col 1 1) (lit (Text (codes "schema"))) ∷ op2 (Compare Eq Binary) (col 1 2) (lit (Int (pos 3))) ∷ []) (col 1 2 ∷ [])
+
+pub find_version_is : command_of (understood store_schema find_version) ≡ Select (record { lets = []; body = find_version_query }) (codes "value" ∷ [])
+unfolding understood everything
+find_version_is = refl
+
+pub find_version_unlisted : reads_listing store_schema find_version ≡ false
+unfolding understood everything
+find_version_unlisted = refl
+
+pub find_version_plain : IsPlain (understood store_schema find_version)
+unfolding understood everything
+find_version_plain = (refl, refl)
+
+pub find_version_asks : asks (first find_version) ≡ true
+unfolding first everything
+find_version_asks = refl
+
 -- ---- accounts
 
 abbrev pub find_account : List ℕ

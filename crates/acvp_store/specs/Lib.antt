@@ -6,4 +6,5 @@ pub mod Schema
 pub mod Connection
 pub mod Alters
 pub mod Store
+pub mod Adopted
 pub mod Private

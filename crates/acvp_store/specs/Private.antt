@@ -5,3 +5,4 @@ pub mod Objects
 pub mod SetTexts
 pub mod Pages
 pub mod Summaries
+pub mod Bare

@@ -1,8 +1,31 @@
 //! What the errors of statements are told as.
-ghost use Rattle.std.specs.Prelude.{IsOk};
+ghost use Rattle.std.specs.Prelude.{◌≢◌, IsOk};
 
 use acvp_tables::StoreFault;
 use sqlite::{Error, ErrorCode};
+
+/// Why a database isn't taken over.
+#[derive(Clone, Copy, Debug, PartialEq, Eq)]
+pub enum AdoptFault {
+    /// Its tables aren't the store's, or it doesn't name their version.
+    Schema,
+
+    /// A statement was refused.
+    Refused,
+
+    /// Memory ran out.
+    Memory,
+}
+
+/// A call's fault, of a database whose tables may well be the store's.
+pub(crate) fn adopt_fault(fault: StoreFault) -> AdoptFault
+    ensures { result ≢ AdoptFault.Schema }
+{
+    match fault {
+        StoreFault::Refused => AdoptFault::Refused,
+        StoreFault::Memory => AdoptFault::Memory,
+    }
+}
 
 /// Memory where memory ran out, else Refused.
 pub(crate) fn fault_of(error: Error) -> StoreFault {

@@ -9,6 +9,7 @@ mod objects;
 mod pages;
 mod requests;
 mod reviewers;
+mod same;
 mod sessions;
 mod set_texts;
 mod sets;
@@ -18,6 +19,8 @@ mod store;
 mod summaries;
 #[cfg(test)]
 mod tests;
+mod version;
 mod work;
 
-pub use store::{SqlTables, create};
+pub use fault::AdoptFault;
+pub use store::{SqlTables, adopt, create};

@@ -19,7 +19,7 @@ use sqlite::{Alter, Connection, Error, Row, Transaction, params};
 use std::alloc::Global;
 
 /// Whether a query's answer has a row.
-fn any(outcome: Result<Vec<Row>, Error>) -> Result<bool, StoreFault>
+pub(crate) fn any(outcome: Result<Vec<Row>, Error>) -> Result<bool, StoreFault>
     ensures found { IfOk result (λ found. IfOk outcome (λ rows. found ≡ nat_lt 0 (length rows.items))) }
     ensures ok { IsOk result → IsOk outcome }
 {

@@ -1,22 +1,26 @@
 //! The records in SQL tables.
-ghost use Rattle.std.specs.Prelude.{◌≡◌, IsTrue, IfOk, IfErr};
+ghost use Rattle.std.specs.Prelude.{◌≡◌, ◌↔◌, IsTrue, IfOk, IfErr, MatchResult};
 ghost use Rattle.sqlite.specs.Held.{state};
 ghost use Rattle.sqlite.specs.State.{HasCleanDisk};
+ghost use Rattle.sqlite.specs.Steps.{over_memory};
+ghost use Rattle.acvp_store.specs.Adopted.{IsAdopted, IsOurs};
 ghost use Rattle.acvp_tables.specs.Calls.{Changes};
 ghost use Rattle.acvp_tables.specs.Content.{no_rows};
 ghost use Rattle.acvp_tables.specs.Changes.{after, after_order};
 ghost use Rattle.acvp_tables.specs.State.{IsSound};
 ghost use Rattle.acvp_tables.specs.declared.change.Change.TheVariants as change;
 ghost use Rattle.acvp_tables.specs.declared.change.OrderChange.TheVariants as order;
-ghost use Rattle.acvp_store.specs.Connection.{IsReady, ServesStore, IsWritten, Under};
+ghost use Rattle.acvp_store.specs.Connection.{IsReady, ServesStore, IsWritten, LeavesNoMore, Under};
 ghost use Rattle.acvp_store.specs.Schema.{no_schema, store_schema};
 ghost use Rattle.acvp_store.specs.Store.{may_fail, Begins, stands, IsLive, is_clean, leaves};
 
 use crate::accounts::{DisabledAccount, find_account};
 use crate::counts::find_counts;
+use crate::fault::{AdoptFault, adopt_fault};
 use crate::objects::{Registered, find_object, find_owner, page_objects};
 use crate::requests::{CertificationAsked, DecidedRequest, find_request, page_requests};
 use crate::reviewers::{ReviewerAdded, ReviewerRemoved, find_reviewer, find_reviewers};
+use crate::same::same_schema;
 use crate::sessions::{
     CancelledSession, CertifiedSession, CountedSession, PassedSession, SessionBegun, find_session,
     page_sessions,
@@ -24,6 +28,7 @@ use crate::sessions::{
 use crate::set_texts::{find_capability, find_verdicts};
 use crate::sets::{GradedSet, SetCancelled, SetsBegun, find_epoch, find_set, find_sets};
 use crate::setup::{StoreTable, Version};
+use crate::version::has_version;
 use crate::work::{Then, commit};
 use acvp_answers::Verdict;
 use acvp_caps::Capability;
@@ -34,7 +39,7 @@ use acvp_tables::{
     NewRequest, NewSession, ObjectRow, OrderChange, RequestStatus, RequestSummary, ReviewerRow,
     SessionRow, SetSummary, StoreFault, Tables, UsedStep,
 };
-use sqlite::{Alter, Connection};
+use sqlite::{Alter, Connection, MemStore};
 use std::alloc::Global;
 use std::marker::Model;
 
@@ -117,6 +122,56 @@ pub fn create<S: Alter>(
     match make_tables(&mut connection) {
         Ok(()) => Ok(SqlTables { alloc, connection }),
         Err(fault) => Err((connection, fault)),
+    }
+}
+
+/// The connection to a new store in memory.
+fn new_in_memory(alloc: Global) -> Result<Connection<MemStore>, StoreFault>
+    ensures { IfOk result (λ connection. (state over_memory connection).now.schema ≡ store_schema) }
+{
+    let connection = Connection::open_in_memory(alloc)?;
+    match create(alloc, connection) {
+        Ok(tables) => Ok(tables.connection),
+        Err((_, fault)) => Err(fault),
+    }
+}
+
+/// Whether the tables of a database are the store's, as those of a new store in memory are.
+fn has_store_schema<S: Alter>(alloc: Global, connection: &Connection<S>) -> Result<bool, StoreFault>
+    ensures { IfOk result (λ has. IsTrue has ↔ ((state S.Store connection.now).now.schema ≡ store_schema)) }
+{
+    let ours = new_in_memory(alloc)?;
+    match same_schema(alloc, connection.schema(), ours.schema()) {
+        Ok(same) => Ok(same),
+        Err(_) => Err(StoreFault::Memory),
+    }
+}
+
+/// Takes over a database whose tables are the store's, with the rows that are there. A fault hands the connection back,
+/// and the database is as it was: Schema where the tables aren't exactly those that `create` makes, or `meta` lacks the
+/// row that names their version. The memory is for the texts of the rows.
+pub fn adopt<S: Alter>(
+    alloc: Global,
+    mut connection: Connection<S>,
+) -> Result<SqlTables<S>, (Connection<S>, AdoptFault)>
+    ensures adopted { IfOk result (λ t. IsTrue (state S.Store t).is_open → IsAdopted (state S.Store connection) (state S.Store t)) }
+    ensures live { IfOk result (λ t. HasCleanDisk (state S.Store t) → IsTrue (state S.Store connection).is_open × IsLive S.Store t) }
+    ensures schema { IfErr result (λ e. e.1 ≡ AdoptFault.Schema → IsTrue (state S.Store e.0).is_open → ¬ IsOurs (state S.Store connection).now) }
+    ensures unchanged { IfErr result (λ e. IsTrue (state S.Store e.0).is_open → (state S.Store e.0).now ≡ (state S.Store connection).now) }
+    ensures left { MatchResult result (λ t. LeavesNoMore (state S.Store connection) (state S.Store t)) (λ e. LeavesNoMore (state S.Store connection) (state S.Store e.0)) }
+{
+    if !connection.is_autocommit() {
+        return Err((connection, AdoptFault::Refused));
+    }
+    match has_store_schema(alloc, &connection) {
+        Ok(true) => {}
+        Ok(false) => return Err((connection, AdoptFault::Schema)),
+        Err(fault) => return Err((connection, adopt_fault(fault))),
+    }
+    match has_version(&mut connection) {
+        Ok(true) => Ok(SqlTables { alloc, connection }),
+        Ok(false) => Err((connection, AdoptFault::Schema)),
+        Err(fault) => Err((connection, adopt_fault(fault))),
     }
 }
 

@@ -1,13 +1,13 @@
 //! The tables over a database in memory, by numbers worked by hand. What is stored is read back by statements that the
 //! crate itself doesn't have.
 
-use crate::{SqlTables, create};
+use crate::{AdoptFault, SqlTables, adopt, create};
 use acvp_answers::{Answers, Disposition, Verdict};
-use acvp_caps::read_registration;
+use acvp_caps::{Algorithm, read_registration};
 use acvp_registry::{Kind, body_value, read_object};
 use acvp_tables::{
     Approval, CancelledSet, Certification, Graded, KeptAnswers, NewAccount, NewCertification,
-    NewRequest, NewSession, ReviewerRow, StoreFault, Tables, UsedStep,
+    NewRequest, NewSession, ReviewerRow, SetSummary, StoreFault, Tables, UsedStep,
 };
 use sqlite::{Connection, MemStore, params};
 use std::test::Fail;
@@ -87,6 +87,15 @@ fn graded(rt: &HostRuntime, verdict: Verdict) -> Result<Graded, Fail> {
     Ok(Graded::new(answers, verdicts))
 }
 
+/// The numbers of vector sets.
+fn numbers(rt: &HostRuntime, sets: &[SetSummary]) -> Result<Vec<u64>, Fail> {
+    let mut numbers = Vec::new(rt.alloc());
+    for set in sets {
+        numbers.push(set.number)?;
+    }
+    Ok(numbers)
+}
+
 /// What a statement that gives one whole number gives.
 fn number_by(connection: &mut Connection<MemStore>, text: &str) -> Result<i64, Fail> {
     Ok(connection.query_row(text, params![])?.get(0)?)
@@ -141,8 +150,17 @@ fn what_is_not_there_is_not_found(rt: HostRuntime) -> Result<(), Fail> {
     for number in [9999000001, 18446744073709551615] {
         assert!(rt; tables.session(number)?.is_none());
         assert!(rt; tables.set(number)?.is_none());
+        assert!(rt; tables.capability(number)?.is_none());
+        assert!(rt; tables.verdicts(number)?.is_none());
         assert!(rt; tables.owner(Kind::Module, number)?.is_none());
     }
+    assert!(rt; tables.sets_of(9999000001)?.is_empty());
+    assert!(rt; tables.reviewers_of(9999000001)?.is_empty());
+    assert_eq!(rt; tables.greatest_epoch()?, None);
+    assert_eq!(rt;
+        tables.sets_of(92233720368547758).err(),
+        Some(StoreFault::Refused)
+    );
     tables.cancel_session(9999000001)?;
     Ok(())
 }
@@ -165,6 +183,16 @@ fn the_columns_are_those_of_the_schema(rt: HostRuntime) -> Result<(), Fail> {
     let sessions =
         "INSERT INTO session (session, account, sample, created, cancelled, certify, live, passed) VALUES (8000001, 8, 0, 0, 0, NULL, 1, 0)";
     assert!(rt; connection.execute(sessions, params![]).is_err());
+    let Ok(mut taken) = adopt(rt.alloc(), connection) else {
+        return Err("not taken over".into());
+    };
+    assert!(rt; taken.account(7)?.is_some());
+    let mut connection = taken.into_connection();
+    connection.execute("UPDATE meta SET value = 2", params![])?;
+    let Err((_, fault)) = adopt(rt.alloc(), connection) else {
+        return Err("another version".into());
+    };
+    assert_eq!(rt; fault, AdoptFault::Schema);
     Ok(())
 }
 
@@ -178,6 +206,10 @@ fn a_database_that_has_a_table_is_handed_back(rt: HostRuntime) -> Result<(), Fai
             assert_eq!(rt; fault, StoreFault::Refused);
             let rows = "SELECT count(*) FROM other";
             assert_eq!(rt; number_by(&mut connection, rows)?, 0);
+            let Err((_, fault)) = adopt(rt.alloc(), connection) else {
+                return Err("another schema".into());
+            };
+            assert_eq!(rt; fault, AdoptFault::Schema);
             Ok(())
         }
     }
@@ -187,6 +219,15 @@ fn a_database_that_has_a_table_is_handed_back(rt: HostRuntime) -> Result<(), Fai
 fn a_session_is_begun_answered_and_loses_a_set(rt: HostRuntime) -> Result<(), Fail> {
     let mut tables = store_of_seven(&rt)?;
     tables.new_session(&new_session(&rt, 7000001)?)?;
+    tables.new_session(&new_session(&rt, 7000002)?)?;
+    assert_eq!(rt;
+        numbers(&rt, &tables.sets_of(7000001)?)?.as_slice(),
+        [700000101, 700000102].as_slice()
+    );
+    assert!(rt; tables.verdicts(700000101)?.is_none());
+    let second = tables.capability(700000102)?.ok_or("no capability")?;
+    assert_eq!(rt; second.algorithm(), Algorithm::Sha2_512);
+    assert_eq!(rt; tables.greatest_epoch()?, Some(2));
     let begun = tables.session(7000001)?.ok_or("no session")?;
     assert!(rt; begun.sample && !begun.cancelled && begun.created == 60 && begun.account == 7);
     assert_eq!(rt; (begun.live, begun.passed, begun.certify), (2, 0, None));
@@ -215,6 +256,12 @@ fn a_session_is_begun_answered_and_loses_a_set(rt: HostRuntime) -> Result<(), Fa
     })?;
     let row = tables.session(7000001)?.ok_or("no session")?;
     assert_eq!(rt; (row.live, row.passed), (1, 1));
+    assert_eq!(rt;
+        numbers(&rt, &tables.sets_of(7000001)?)?.as_slice(),
+        [700000101].as_slice()
+    );
+    let verdicts = tables.verdicts(700000101)?.ok_or("no verdicts")?;
+    assert_eq!(rt; verdicts.as_slice(), [Verdict::Passed].as_slice());
     assert!(rt; tables.set(700000102)?.ok_or("no set")?.cancelled);
     assert!(rt; !tables.set(700000101)?.ok_or("no set")?.cancelled);
     let mut connection = tables.into_connection();
@@ -332,12 +379,13 @@ fn an_approval_of_a_number_that_is_taken_changes_nothing(rt: HostRuntime) -> Res
 fn a_reviewer_is_put_in_once_and_taken_out(rt: HostRuntime) -> Result<(), Fail> {
     let mut tables = store_of_seven(&rt)?;
     tables.new_session(&new_session(&rt, 7000001)?)?;
-    for account in [8, 9, 8] {
+    for account in [9, 8, 9] {
         tables.add_reviewer(&ReviewerRow {
             session: 7000001,
             account,
         })?;
     }
+    assert_eq!(rt; tables.reviewers_of(7000001)?.as_slice(), [8, 9].as_slice());
     for account in [9, 10] {
         tables.remove_reviewer(&ReviewerRow {
             session: 7000001,

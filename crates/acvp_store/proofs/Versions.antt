@@ -1,0 +1,64 @@
+-- Whether the table `meta` names the version.
+use Rattle.std.proofs.Common.{◌≡◌, ℕ, List, [], ◌∷◌, map, length, Bool, true, false, Some, Ok, Err, Result, IfOk, IsOk, codes, refl, sym, ap, ◌∙◌, arith}
+use Rattle.std.specs.Prelude.{nat_lt}
+use Rattle.std.specs.List.{filter, list_all, list_any}
+use Rattle.std.specs.List.Sorted.{IsPermutation}
+use Rattle.std.specs.Ordering.{is_eq}
+use Rattle.sqlite.specs.Collation.TheVariants.{Binary}
+use Rattle.sqlite.specs.declared.types.Value.{Value}
+use Rattle.sqlite.specs.declared.types.Value.TheVariants.{Null, Int, Real, Text, Blob}
+use Rattle.sqlite.specs.Ops.{is_true, binary}
+use Rattle.sqlite.specs.Order.{Row, column}
+use Rattle.sqlite.specs.Program.{overlay}
+use Rattle.sqlite.specs.State.{State, Shown}
+use Rattle.sqlite.proofs.Callers.{reads_as}
+use Rattle.sqlite_sql.specs.declared.ops.BinaryOp.TheVariants.{Compare}
+use Rattle.sqlite_sql.specs.declared.ops.CompareOp.TheVariants.{Eq}
+use Rattle.sqlite_value.proofs.OrderLemmas.{value_cmp-apart}
+use Rattle.acvp_store.specs.Adopted.{is_equal, is_version_row}
+use Rattle.acvp_store.specs.Values.{whole}
+use Rattle.acvp_store.specs.Schema.{store_schema}
+use Rattle.acvp_store.proofs.Parts.{both_true}
+use Rattle.acvp_store.proofs.ReviewerRows.{any_passes}
+use Rattle.acvp_store.proofs.Selecting.{truth_back, selected}
+use Rattle.acvp_store.proofs.Texts.{find_version, find_version_query, find_version_is, find_version_plain, find_version_unlisted}
+
+-- a column of any type is tested against a text, and against a whole number
+test_text : (v : Value) (s : List ℕ) → is_true (binary (Compare Eq Binary) v (Text s)) ≡ is_equal v (Text s)
+unfolding binary
+test_text Null s = sym (ap is_eq (value_cmp-apart Null (Text s) (λ e. absurd (omega arith))))
+test_text (Int n) s = truth_back _
+test_text (Real x) s = truth_back _
+test_text (Text t) s = truth_back _
+test_text (Blob b) s = truth_back _
+
+test_whole : (v : Value) (n : ℕ) → is_true (binary (Compare Eq Binary) v (whole n)) ≡ is_equal v (whole n)
+unfolding binary
+test_whole Null n = sym (ap is_eq (value_cmp-apart Null (whole n) (λ e. absurd (omega arith))))
+test_whole (Int m) n = truth_back _
+test_whole (Real x) n = truth_back _
+test_whole (Text t) n = truth_back _
+test_whole (Blob b) n = truth_back _
+
+abbrev value_of : Row → Row
+value_of row = column row 2 ∷ []
+
+map_same : (rows : List Row) → rows ≡ map (λ r. r) rows
+map_same [] = refl
+map_same (r ∷ rows) = ap (λ l. r ∷ l) (map_same rows)
+
+pub version_rows : (old new : State) (rows : List Row) → old.now.schema ≡ store_schema → Shown find_version [] old new rows → IsPermutation (map value_of (filter is_version_row (old.now.trees 0))) rows
+version_rows old new rows schema h =
+    selected [] (λ (r : Row). r) is_version_row find_version_query.filter (λ r. both_true _ _ _ _ (test_text (column r 1) (codes "schema")) (test_whole (column r 2) 3)) 0 find_version_query.project value_of (λ r. refl) (overlay old.now.trees []) (old.now.trees 0) rows (map_same _)
+    ((reads_as find_version [] old new store_schema schema _ find_version_is find_version_plain find_version_unlisted rows h).answer Null)
+
+-- ---- the whole
+
+module _ {X E F : Type 0} (table : List Row) (rows_in : X → List Row) where
+  pub found_version : (outcome : Result X E) (result : Result Bool F) → (IsOk result → IsOk outcome)
+      → IfOk result (λ found. IfOk outcome (λ x. found ≡ nat_lt 0 (length (rows_in x))))
+      → IfOk outcome (λ x. IsPermutation (map value_of (filter is_version_row table)) (rows_in x))
+      → IfOk result (λ found. found ≡ list_any is_version_row table)
+  found_version outcome (Err f) ok found rows = tt
+  found_version (Err e) (Ok b) ok found rows = absurd (let impossible = ok refl in cc)
+  found_version (Ok x) (Ok b) ok found rows = found ∙ any_passes value_of is_version_row table (rows_in x) rows
