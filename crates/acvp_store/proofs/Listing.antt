@@ -1,9 +1,11 @@
 -- Lists of rows that a query answers, and what they are of.
 use Rattle.std.proofs.Common.{◌≡◌, ◌≤◌, ℕ, zero, suc, List, [], ◌∷◌, ◌++◌, map, take, drop, length, slice_get, Option, Some, Ok, Err, Result, IfOk, IsOk, refl, ap, ap₂, arith}
+use Rattle.std.specs.Prelude.{⊤}
 use Rattle.std.specs.List.{AllZip, AllByRecursion}
 use Rattle.std.specs.List.Sorted.{IsPermutation}
 use Rattle.std.proofs.lemmas.List.Sorted.{length_permutation}
 use Rattle.sqlite.proofs.Callers.{one_permutation}
+use Rattle.sqlite_trees.proofs.ListLemmas.{all_of}
 use Rattle.sqlite.specs.Order.{Row}
 use Rattle.acvp_store.specs.Private.Pages.{IsRowOf}
 
@@ -23,6 +25,14 @@ listed_as reads shown (r ∷ rows) (x ∷ found) (y ∷ list) all each is =
     let head : r ≡ shown y = cc in
     let rest : rows ≡ map shown list = cc in
     ap₂ (λ a b. a ∷ b) (all.0 y each.0 head) (listed_as reads shown rows found list all.1 each.1 rest)
+
+-- where nothing has to be read of the members
+pub listed_plainly : {T X Y E F : Type 0} (shown : T → Row) (outcome : Result X E) (rows_of : X → List Row) (result : Result Y F) (items_of : Y → List T)
+    → IfOk result (λ found. IfOk outcome (λ x. (list : List T) → AllByRecursion (λ _. ⊤) list → rows_of x ≡ map shown list → items_of found ≡ list))
+    → IfOk result (λ found. IfOk outcome (λ x. (list : List T) → rows_of x ≡ map shown list → items_of found ≡ list))
+listed_plainly shown outcome rows_of (Err f) items_of found = tt
+listed_plainly shown (Err e) rows_of (Ok r) items_of found = tt
+listed_plainly shown (Ok x) rows_of (Ok r) items_of found = λ list is. found list (all_of (λ _. ⊤) (λ _. tt) list) is
 
 -- what a query's answer lists, of each content that is meant
 pub all_listed : {T C X Y E F : Type 0} (Sound Held : C → Type 0) (reads : T → Type 0) (shown : T → Row) (outcome : Result X E) (rows_of : X → List Row) (result : Result Y F) (items_of : Y → List T) (picked : C → List T) → (IsOk result → IsOk outcome)

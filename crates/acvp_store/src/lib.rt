@@ -4,7 +4,6 @@
 mod accounts;
 mod counts;
 mod fault;
-mod lists;
 mod objects;
 mod pages;
 mod requests;

@@ -33,6 +33,19 @@ impl Shown for u16 {
     }
 }
 
+impl Member for u16 {
+    ghost use Rattle.std.specs.Prelude.{◌∷◌, [], ⊤};
+    ghost use Rattle.acvp_store.specs.Values.{whole};
+
+    ghost listed_as = { λ account. whole account ∷ [] };
+
+    ghost reads = { λ _. ⊤ };
+
+    fn from_row(row: &Row) -> Result<u16, StoreFault> {
+        account_number(row, 0)
+    }
+}
+
 /// The number of a kind.
 pub(crate) fn kind_number(kind: Kind) -> u32
     ensures { result ≡ kind_number kind }

@@ -11,7 +11,7 @@ ghost use Rattle.acvp_store.specs.Schema.{store_schema};
 ghost use Rattle.acvp_store.specs.Stands.{reviewer_tree, HoldsReviewers};
 
 use crate::fault::{done, fault_of};
-use crate::lists::listed;
+use crate::pages::listed;
 use crate::shown::fitting;
 use crate::work::Work;
 use acvp_tables::{ReviewerRow, StoreFault};

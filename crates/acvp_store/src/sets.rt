@@ -13,7 +13,7 @@ ghost use Rattle.acvp_store.specs.Stands.{HoldsSets, disposition_number, set_tre
 ghost use Rattle.acvp_store.specs.Private.Sets.{IsSummary, IsSummaryOf, new_set, AddsSets};
 
 use crate::fault::done;
-use crate::lists::listed;
+use crate::pages::{Member, listed};
 use crate::shown::{Shown, answered, field, fitting, key, truth};
 use crate::work::Work;
 use acvp_answers::{Disposition, verdicts_to_text};
@@ -51,6 +51,19 @@ impl Shown for ShortSet {
             disposition,
             epoch,
         })
+    }
+}
+
+impl Member for ShortSet {
+    ghost use Rattle.std.specs.Prelude.{⊤};
+    ghost use Rattle.acvp_store.specs.Private.Sets.{short_shown};
+
+    ghost listed_as = { short_shown };
+
+    ghost reads = { λ _. ⊤ };
+
+    fn from_row(row: &Row) -> Result<ShortSet, StoreFault> {
+        ShortSet::read(row)
     }
 }
 
