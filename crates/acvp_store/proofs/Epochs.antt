@@ -1,12 +1,12 @@
 -- The greatest epoch of all vector sets.
-use Rattle.std.proofs.Common.{◌≡◌, ◌≤◌, ℕ, pos, negsuc, List, [], ◌∷◌, ◌++◌, map, length, append_assoc, Bool, true, false, Option, None, Some, Ok, Err, Result, IfOk, IsOk, slice_get, inl, inr, refl, sym, ap, subst, ◌∙◌, arith}
-use Rattle.std.specs.Prelude.{◌==◌, nat_le, nat_lt, ◌||◌, if◌then◌else◌}
+use Rattle.std.proofs.Common.{◌≡◌, ◌≤◌, ℕ, pos, negsuc, List, [], ◌∷◌, ◌++◌, map, append_assoc, Bool, true, false, Option, None, Some, Ok, Err, Result, IfOk, IsOk, slice_get, inl, inr, refl, sym, ap, subst, ◌∙◌, arith}
+use Rattle.std.specs.Prelude.{◌==◌, nat_le, ◌||◌, if◌then◌else◌}
 use Rattle.std.specs.List.{filter, fold, list_any, AllZip, AllByRecursion}
 use Rattle.std.specs.List.Sorted.{IsPermutation}
 use Rattle.std.specs.Ordering.{is_lt}
 use Rattle.std.proofs.lemmas.Bool.{cases_Bool}
 use Rattle.std.proofs.lemmas.Bool.Decides.{nat_tests}
-use Rattle.std.proofs.lemmas.List.Sorted.{length_permutation, list_any-IsPermutation, IsPermutation-refl, IsPermutation-map, IsPermutation-trans, IsPermutation-sym}
+use Rattle.std.proofs.lemmas.List.Sorted.{length_permutation, list_any-IsPermutation, IsPermutation-refl, IsPermutation-map}
 use Rattle.std.proofs.lemmas.List.{append-nil}
 use Rattle.sqlite.specs.declared.types.Value.{Value}
 use Rattle.sqlite.specs.declared.types.Value.TheVariants.{Null, Int, Real, Text, Blob}
@@ -15,7 +15,7 @@ use Rattle.sqlite.specs.Order.{Row}
 use Rattle.sqlite.specs.Program.{overlay}
 use Rattle.sqlite.specs.Query.{IsAnswer, output, page, Output}
 use Rattle.sqlite.specs.State.{State, Shown}
-use Rattle.sqlite.specs.Term.{Term, Env, col, eval}
+use Rattle.sqlite.specs.Term.{Env, col, eval}
 use Rattle.sqlite.specs.Tree.{Trees}
 use Rattle.sqlite.specs.Values.{or_null}
 use Rattle.sqlite.proofs.Callers.{reads_as, one_permutation}
@@ -25,7 +25,6 @@ use Rattle.sqlite_sql.specs.Group.{IsSummary, Grouping, value_over}
 use Rattle.sqlite_sql.specs.declared.aggregate.AggregateOp.TheVariants.{Max}
 use Rattle.sqlite_trees.proofs.ListLemmas.{map-map, all-permutation}
 use Rattle.sqlite_value.proofs.OrderLemmas.{value_cmp-Int}
-use Rattle.sqlite_value.specs.Order.{value_cmp}
 use Rattle.acvp_tables.specs.Content.{greater, greatest_epoch_of}
 use Rattle.acvp_tables.specs.declared.rows.SetRow.{SetRow}
 use Rattle.acvp_tables.proofs.EpochLemmas.{merged, merged_more}

@@ -44,7 +44,6 @@ use Rattle.acvp_store.specs.Kept.{IsKept}
 use Rattle.acvp_store.specs.Stands.{SetColumns, set_key, set_row, set_tree, disposition_number, IsGradedAs, IsSet, HoldsSets}
 use Rattle.acvp_store.specs.Private.Sets.{short_shown, short_of, IsDispositionOf, IsSummary, IsSummaryOf, new_set, AddsSets}
 use Rattle.acvp_store.specs.Private.SetTexts.{text_shown, TellsCapability, AreVerdictsOf}
-use Rattle.acvp_store.specs.declared.sets.ShortSet.{ShortSet}
 use Rattle.acvp_store.proofs.Keyed.{keyed, changing, keyed_same, find_is, none_fits}
 use Rattle.acvp_store.proofs.Parts.{and_true, cast_null, cast_whole, cast_flag, cast_option, cast_text_option}
 use Rattle.acvp_store.proofs.Selecting.{test_equals, test_none, selected}

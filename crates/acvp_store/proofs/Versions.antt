@@ -1,7 +1,7 @@
 -- Whether the table `meta` names the version.
-use Rattle.std.proofs.Common.{◌≡◌, ℕ, List, [], ◌∷◌, map, length, Bool, true, false, Some, Ok, Err, Result, IfOk, IsOk, codes, refl, sym, ap, ◌∙◌, arith}
+use Rattle.std.proofs.Common.{◌≡◌, ℕ, List, [], ◌∷◌, map, length, Bool, Ok, Err, Result, IfOk, IsOk, codes, refl, sym, ap, ◌∙◌, arith}
 use Rattle.std.specs.Prelude.{nat_lt}
-use Rattle.std.specs.List.{filter, list_all, list_any}
+use Rattle.std.specs.List.{filter, list_any}
 use Rattle.std.specs.List.Sorted.{IsPermutation}
 use Rattle.std.specs.Ordering.{is_eq}
 use Rattle.sqlite.specs.Collation.TheVariants.{Binary}
