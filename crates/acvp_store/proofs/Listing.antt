@@ -1,5 +1,5 @@
 -- Lists of rows that a query answers, and what they are of.
-use Rattle.std.proofs.Common.{◌≡◌, ◌≤◌, ℕ, zero, suc, List, [], ◌∷◌, ◌++◌, map, take, drop, length, slice_get, Option, Some, Ok, Err, Result, IfOk, IsOk, refl, ap, ap₂, arith}
+use Rattle.std.proofs.Common.{◌≡◌, ◌≤◌, ℕ, zero, suc, List, [], ◌∷◌, map, take, drop, length, slice_get, Option, Some, Ok, Err, Result, IfOk, IsOk, refl, ap, ap₂, arith}
 use Rattle.std.specs.Prelude.{⊤}
 use Rattle.std.specs.List.{AllZip, AllByRecursion}
 use Rattle.std.specs.List.Sorted.{IsPermutation}
@@ -8,12 +8,6 @@ use Rattle.sqlite.proofs.Callers.{one_permutation}
 use Rattle.sqlite_trees.proofs.ListLemmas.{all_of}
 use Rattle.sqlite.specs.Order.{Row}
 use Rattle.acvp_store.specs.Private.Pages.{IsRowOf}
-
-pub zip_push : {A B : Type 0} (R : A → B → Type 0) (xs : List A) (ys : List B) (x : A) (y : B) → AllZip R xs ys → R x y → AllZip R (xs ++ x ∷ []) (ys ++ y ∷ [])
-zip_push R [] [] x y all it = (it, tt)
-zip_push R [] (b ∷ ys) x y all it = absurd all
-zip_push R (a ∷ xs) [] x y all it = absurd all
-zip_push R (a ∷ xs) (b ∷ ys) x y all it = (all.0, zip_push R xs ys x y all.1 it)
 
 pub listed_as : {T : Type 0} (reads : T → Type 0) (shown : T → Row) (rows : List Row) (found list : List T) → AllZip (IsRowOf reads shown) rows found → AllByRecursion reads list → rows ≡ map shown list → found ≡ list
 listed_as reads shown [] [] [] all each is = refl

@@ -1,7 +1,7 @@
 use Rattle.std.proofs.Common.{rules, ◌≡◌, [], ◌∷◌, ◌++◌, subst}
 use Rattle.std.proofs.lemmas.List.{take_more}
 use Rattle.acvp_store.specs.Private.Pages.{IsRowOf}
-use Rattle.acvp_store.proofs.Listing.{zip_push}
+use Rattle.sqlite_catalog.proofs.ListFacts.{zip_push}
 use Rattle.acvp_store.proofs.pages.each.Goals as goal
 
 pub loop-row-preserved : goal.loop-row-preserved
