@@ -7,7 +7,7 @@ mod connection;
 mod framing;
 mod head;
 #[cfg(test)]
-mod over_forms;
+mod over_lists;
 mod path;
 mod promise;
 mod reading;
