@@ -7,9 +7,11 @@ use acvp_caps::{Algorithm, read_registration};
 use acvp_registry::{Kind, body_value, read_object};
 use acvp_tables::{
     Approval, CancelledSet, Certification, Graded, KeptAnswers, NewAccount, NewCertification,
-    NewRequest, NewSession, ReviewerRow, SetSummary, StoreFault, Tables, UsedStep,
+    NewRequest, NewSession, RequestStatus, RequestSubject, ReviewerRow, SetSummary, StoreFault,
+    Tables, UsedStep,
 };
 use sqlite::{Connection, MemStore, params};
+use std::process::Abort;
 use std::test::Fail;
 
 /// Two capabilities.
@@ -153,6 +155,8 @@ fn what_is_not_there_is_not_found(rt: HostRuntime) -> Result<(), Fail> {
         assert!(rt; tables.capability(number)?.is_none());
         assert!(rt; tables.verdicts(number)?.is_none());
         assert!(rt; tables.owner(Kind::Module, number)?.is_none());
+        assert!(rt; tables.object(Kind::Module, number)?.is_none());
+        assert!(rt; tables.request(number)?.is_none());
     }
     assert!(rt; tables.sets_of(9999000001)?.is_empty());
     assert!(rt; tables.reviewers_of(9999000001)?.is_empty());
@@ -300,6 +304,48 @@ fn a_session_that_cannot_be_kept_leaves_nothing(rt: HostRuntime) -> Result<(), F
     Ok(())
 }
 
+/// What account 7 has of an environment that was approved, and of its requests.
+fn has_registered(rt: &impl Abort, tables: &mut SqlTables<MemStore>) -> Result<(), Fail> {
+    let environment = tables
+        .object(Kind::Environment, 7000001)?
+        .ok_or("no object")?;
+    assert_eq!(rt; environment.object.text(), ENVIRONMENT);
+    let all = 18446744073709551615;
+    assert_eq!(rt; tables.objects(Kind::Environment, 7, 0, all)?.len(), 1);
+    assert_eq!(rt; tables.objects(Kind::Environment, 7, all, 1)?.len(), 0);
+    assert_eq!(rt; tables.objects(Kind::Vendor, 7, 0, all)?.len(), 0);
+    let page = tables.requests(7, 1, 2)?;
+    let [second, third] = page.as_slice() else {
+        return Err("no page of two".into());
+    };
+    assert_eq!(rt; (second.number, third.number), (7000002, 7000003));
+    assert!(rt; matches!(&second.status, RequestStatus::Approved(7000001)));
+    assert!(rt; matches!(&third.subject, RequestSubject::Registration(Kind::Vendor)));
+    Ok(())
+}
+
+/// What account 7 has after a certification, and what another account has.
+fn has_certified(rt: &impl Abort, tables: &mut SqlTables<MemStore>) -> Result<(), Fail> {
+    let asked = tables.request(7000004)?.ok_or("no request")?;
+    let RequestSubject::Certification(named) = asked.subject else {
+        return Err("no certification".into());
+    };
+    assert_eq!(rt;
+        (named.module, named.environment, named.session),
+        (7000009, 7000001, 7000001)
+    );
+    let sessions = tables.sessions(7, 0, 10)?;
+    assert_eq!(rt; sessions.first().ok_or("no session")?.number, 7000001);
+    assert_eq!(rt; tables.sessions(8, 0, 10)?.len(), 0);
+    let counts = tables.counts(7)?;
+    assert_eq!(rt;
+        (counts.sessions, counts.requests, counts.environments),
+        (1, 4, 1)
+    );
+    assert_eq!(rt; (counts.vendors, counts.modules), (0, 0));
+    Ok(())
+}
+
 #[test]
 fn requests_are_made_and_decided(rt: HostRuntime) -> Result<(), Fail> {
     let mut tables = store_of_seven(&rt)?;
@@ -313,6 +359,7 @@ fn requests_are_made_and_decided(rt: HostRuntime) -> Result<(), Fail> {
     tables.reject(7000001)?;
     assert_eq!(rt; tables.owner(Kind::Environment, 7000001)?, Some(7));
     assert_eq!(rt; tables.owner(Kind::Vendor, 7000001)?, None);
+    has_registered(&rt, &mut tables)?;
     tables.new_session(&new_session(&rt, 7000001)?)?;
     tables.certify(&NewCertification {
         number: 7000004,
@@ -331,6 +378,7 @@ fn requests_are_made_and_decided(rt: HostRuntime) -> Result<(), Fail> {
         request: 7000004,
         approved: 7000001,
     })?;
+    has_certified(&rt, &mut tables)?;
     let mut connection = tables.into_connection();
     let object =
         "SELECT count(*) FROM object WHERE kind = 3 AND number = 7000001 AND account = 7 AND body = '{\"name\":\"E\"}'";
