@@ -266,6 +266,8 @@ impl Tables for ListTables {
 
     ghost leaves = { λ t c d. (t ≡ c) ⊎ (t ≡ d) };
 
+    ghost clean = { λ t live. live };
+
     ghost rests = { λ t c d live h. inl (sym h) };
 
     fn account(&mut self, number: u16) -> Result<Option<AccountRow>, StoreFault> {

@@ -164,6 +164,9 @@ pub trait Tables {
     fn order(&mut self, change: &OrderChange) -> Result<(), StoreFault>
         ensures { Changes IsSound faults stands is_live is_clean leaves result self.old self.new (after_order change.now) };
 
+    /// A law: an open store has met no lie.
+    ghost clean: { (t : Self) → is_live t → is_clean t };
+
     /// A law: a store at rest leaves what it stands for, and that alone.
     ghost rests: { (t : Self) (c d : Content) → is_live t → stands t c → leaves t c d };
 }
