@@ -12,6 +12,7 @@ pub mod Keeping
 pub mod Naming
 pub mod Passing
 pub mod Finding
+pub mod Looking
 pub mod Allowing
 pub mod CacheLemmas
 pub mod SetLemmas

@@ -147,7 +147,7 @@ module _ {T : Type 0} (faults : StoreFault → Type 0) (stands : T → Content �
       was_live = λ live. reads.was_live (changes.was_live live);
       was_clean = λ clean. reads.was_clean (changes.was_clean clean);
       same = tt;
-      live = λ clean live. changes.live clean (reads.live (changes.was_clean clean)).1;
+      live = λ clean. let read = reads.live (changes.was_clean clean) in (read.0, changes.live clean read.1);
       kept = tt;
       answered = λ live c sound h. let up = changes.was_live live in
           let decided = decides up c sound h in

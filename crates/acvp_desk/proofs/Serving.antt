@@ -37,7 +37,7 @@ module _ {T : Type 0} (stands : T → Content → Type 0) (is_live is_clean : T 
     clock = λ past. ap (λ rule. Err rule) (late past);
     room = tt;
     given = tt;
-    denied = λ live c kept h. elim why [ inl fault ↦ inl fault | inr broken ↦ inr (refused_first keys m r (state_of c) told broken) ];
+    denied = λ clean c kept h. elim why [ inl fault ↦ inl fault | inr broken ↦ inr (refused_first keys m r (state_of c) told broken) ];
     same = λ live c h. h;
     settled = tt;
     unsettled = λ clean live c kept h. rests old c (content_effect keys m r c) live h;
@@ -49,7 +49,7 @@ module _ {T : Type 0} (stands : T → Content → Type 0) (is_live is_clean : T 
   pub refused_caller : m < end_of_moments → (it : Ask) → first_broken (first_conditions m r) ≡ None → ask_of keys m r ≡ Some it → (old mid : T) (told : Rule) {X : Type 0}
       → Looks stands is_live is_clean leaves {X = X} {E = Rule} (Err told) old mid
       → (told ≡ rule.Unavailable) ⊎ ((is_clean mid → is_live old → is_live mid)
-      × (is_live mid → (seeds : List (List ℕ)) (c : Content) → IsKept seeds c → stands old c → first_broken (policy_conditions m it (found_of seeds r.body it (state_of c))) ≡ Some told))
+      × (is_clean mid → (seeds : List (List ℕ)) (c : Content) → IsKept seeds c → (is_live old → stands old c) → first_broken (policy_conditions m it (found_of seeds r.body it (state_of c))) ≡ Some told))
       → Serves stands is_live is_clean leaves (Err told) old mid keys m r
   refused_caller served it held asked old mid told looks why = record {
     was_live = looks.was_live;
@@ -57,11 +57,11 @@ module _ {T : Type 0} (stands : T → Content → Type 0) (is_live is_clean : T 
     clock = λ past. absurd (omega (arith, served, past));
     room = tt;
     given = tt;
-    denied = λ live c kept h.
+    denied = λ clean c kept h.
         elim why [
           | inl fault ↦ inl fault
           | inr refusal ↦ inr (refused_later keys m r (state_of c) it held asked (found_of keys.seed r.body it (state_of c)) refl told
-              (front_broken (policy_conditions m it (found_of keys.seed r.body it (state_of c))) (own_conditions keys.seed r it (found_of keys.seed r.body it (state_of c))) told (refusal.1 live keys.seed c kept h)))
+              (front_broken (policy_conditions m it (found_of keys.seed r.body it (state_of c))) (own_conditions keys.seed r it (found_of keys.seed r.body it (state_of c))) told (refusal.1 clean keys.seed c kept h)))
         ];
     same = λ live c h. looks.same live c h;
     settled = tt;
@@ -72,7 +72,7 @@ module _ {T : Type 0} (stands : T → Content → Type 0) (is_live is_clean : T 
 
   module _ (served : m < end_of_moments) (it : Ask) (held : first_broken (first_conditions m r) ≡ None) (asked : ask_of keys m r ≡ Some it) (old mid : T) (f : Found) {E : Type 0}
       (looks : Looks stands is_live is_clean leaves {X = Found} {E = E} (Ok f) old mid)
-      (finds : is_live mid → (seeds : List (List ℕ)) (c : Content) → IsKept seeds c → stands old c → f ≡ found_of seeds r.body it (state_of c)) where
+      (finds : is_clean mid → (seeds : List (List ℕ)) (c : Content) → IsKept seeds c → (is_live old → stands old c) → f ≡ found_of seeds r.body it (state_of c)) where
     -- refused on what was found
     pub refused : (told : Rule) → (told ≡ rule.Unavailable) ⊎ (first_broken (later_conditions keys.seed m r it f) ≡ Some told)
         → Serves stands is_live is_clean leaves (Err told) old mid keys m r
@@ -82,8 +82,8 @@ module _ {T : Type 0} (stands : T → Content → Type 0) (is_live is_clean : T 
       clock = λ past. absurd (omega (arith, served, past));
       room = tt;
       given = tt;
-      denied = λ live c kept h.
-          elim why [ inl fault ↦ inl fault | inr broken ↦ inr (refused_later keys m r (state_of c) it held asked f (finds live keys.seed c kept h) told broken) ];
+      denied = λ clean c kept h.
+          elim why [ inl fault ↦ inl fault | inr broken ↦ inr (refused_later keys m r (state_of c) it held asked f (finds clean keys.seed c kept h) told broken) ];
       same = λ live c h. looks.same live c h;
       settled = tt;
       unsettled = λ clean live c kept h. looks.left clean live c (content_effect keys m r c) h;
@@ -92,16 +92,16 @@ module _ {T : Type 0} (stands : T → Content → Type 0) (is_live is_clean : T 
     }
 
     module _ (bytes : Vec ℕ Global) (none : first_broken (later_conditions keys.seed m r it f) ≡ None) (reply : IsReply bytes.items (reply_of keys m r it f)) where
-      gives : is_live mid → (c : Content) → IsKept keys.seed c → stands old c → Gives bytes.items (answer keys m r (state_of c))
-      gives live c kept h = subst (λ a. Gives bytes.items a) (sym (answered keys m r (state_of c) it held asked f (finds live keys.seed c kept h) none)) reply
+      gives : is_clean mid → (c : Content) → IsKept keys.seed c → (is_live old → stands old c) → Gives bytes.items (answer keys m r (state_of c))
+      gives clean c kept h = subst (λ a. Gives bytes.items a) (sym (answered keys m r (state_of c) it held asked f (finds clean keys.seed c kept h) none)) reply
 
-      accepts : (made : Option Change) → made ≡ change_of keys m r it f → is_live mid → (c : Content) → IsKept keys.seed c → stands old c
+      accepts : (made : Option Change) → made ≡ change_of keys m r it f → is_clean mid → (c : Content) → IsKept keys.seed c → (is_live old → stands old c)
           → accepted_change keys m r (state_of c) ≡ made
-      accepts made is live c kept h = makes keys m r (state_of c) it held asked f (finds live keys.seed c kept h) none ∙ sym is
+      accepts made is clean c kept h = makes keys m r (state_of c) it held asked f (finds clean keys.seed c kept h) none ∙ sym is
 
-      becomes : (made : Option Change) → made ≡ change_of keys m r it f → is_live mid → (c : Content) → IsKept keys.seed c → stands old c
+      becomes : (made : Option Change) → made ≡ change_of keys m r it f → is_clean mid → (c : Content) → IsKept keys.seed c → (is_live old → stands old c)
           → content_effect keys m r c ≡ content_after made c
-      becomes made is live c kept h = ap (λ x. content_after x c) (accepts made is live c kept h)
+      becomes made is clean c kept h = ap (λ x. content_after x c) (accepts made is clean c kept h)
 
       -- given with no change
       pub given_read : None ≡ change_of keys m r it f → Serves stands is_live is_clean leaves (Ok (record { reply = bytes; changed = false })) old mid keys m r
@@ -110,10 +110,15 @@ module _ {T : Type 0} (stands : T → Content → Type 0) (is_live is_clean : T 
         was_clean = looks.was_clean;
         clock = λ past. absurd (omega (arith, served, past));
         room = roomy bytes.items (reply_of keys m r it f) reply;
-        given = λ live c kept h. (gives live c kept h, subst (λ d. stands mid d) (sym (becomes None is live c kept h)) (looks.same live c h), stay c kept, ap is_some (sym (accepts None is live c kept h)));
+        given = λ clean c kept h. (
+          gives clean c kept h,
+          λ live. subst (λ d. stands mid d) (sym (becomes None is clean c kept h)) (looks.same live c (h (looks.was_live live))),
+          stay c kept,
+          ap is_some (sym (accepts None is clean c kept h)),
+        );
         denied = tt;
-        settled = λ clean live c d kept h. let up = looks.live clean live in
-            subst (λ e. leaves mid e d) (sym (becomes None is up c kept h)) (looks.left clean live c d h);
+        settled = λ clean live c d kept h.
+            subst (λ e. leaves mid e d) (sym (becomes None is clean c kept (λ _. h))) (looks.left clean live c d h);
         same = tt;
         unsettled = tt;
         live = looks.live;
@@ -129,11 +134,16 @@ module _ {T : Type 0} (stands : T → Content → Type 0) (is_live is_clean : T 
           was_clean = λ clean. looks.was_clean (changes.was_clean clean);
           clock = λ past. absurd (omega (arith, served, past));
           room = roomy bytes.items (reply_of keys m r it f) reply;
-          given = λ live c kept h. let up = changes.was_live live in
-              (gives up c kept h, subst (λ d. stands new d) (sym (becomes (Some it_changes) is up c kept h)) (changes.ok live c kept.sound (looks.same up c h)), stay c kept, ap is_some (sym (accepts (Some it_changes) is up c kept h)));
+          given = λ clean c kept h. let before = changes.was_clean clean in (
+            gives before c kept h,
+            λ live. let up = changes.was_live live in
+                subst (λ d. stands new d) (sym (becomes (Some it_changes) is before c kept h)) (changes.ok live c kept.sound (looks.same up c (h (looks.was_live up)))),
+            stay c kept,
+            ap is_some (sym (accepts (Some it_changes) is before c kept h)),
+          );
           denied = tt;
-          settled = λ clean live c d kept h. let up = looks.live (changes.was_clean clean) live in
-              subst (λ e. leaves new e d) (sym (becomes (Some it_changes) is up c kept h)) (changes.settled clean up c d kept.sound (looks.same up c h));
+          settled = λ clean live c d kept h. let before = changes.was_clean clean in let up = looks.live before live in
+              subst (λ e. leaves new e d) (sym (becomes (Some it_changes) is before c kept (λ _. h))) (changes.settled clean up c d kept.sound (looks.same up c h));
           same = tt;
           unsettled = tt;
           live = λ clean live. changes.live clean (looks.live (changes.was_clean clean) live);
@@ -149,11 +159,11 @@ module _ {T : Type 0} (stands : T → Content → Type 0) (is_live is_clean : T 
           clock = λ past. absurd (omega (arith, served, past));
           room = tt;
           given = tt;
-          denied = λ live c kept h. inl refl;
+          denied = λ clean c kept h. inl refl;
           same = λ live c h. changes.err live c (looks.same (changes.was_live live) c h);
           settled = tt;
           live = inl refl;
           kept = inl refl;
-          unsettled = λ clean live c kept h. let up = looks.live (changes.was_clean clean) live in
-              subst (λ e. leaves new c e) (sym (becomes (Some it_changes) is up c kept h)) (changes.unsettled clean up c kept.sound (looks.same up c h));
+          unsettled = λ clean live c kept h. let before = changes.was_clean clean in let up = looks.live before live in
+              subst (λ e. leaves new c e) (sym (becomes (Some it_changes) is before c kept (λ _. h))) (changes.unsettled clean up c kept.sound (looks.same up c h));
         }

@@ -140,6 +140,6 @@ module _ {T : Type 0} (faults : StoreFault → Type 0) (stands : T → Content �
     pub same : ByReply reply ⊤ (Stays old new) (Stays old new)
     pub settled : ByReply reply (Settles old new it) (Settles old new it)
         (is_clean new → is_live old → (c : Content) → IsSound c → stands old c → leaves new c (content_order_effect it c))
-    -- unless it is unavailable, a live store stays live, and where it is refused a crash finds what it found before
-    pub live : ByReply reply (is_clean new → is_live old → is_live new) (is_clean new → is_live old → is_live new) ⊤
+    -- unless it is unavailable, the tables were open and stay so, and where it is refused a crash finds what it found before
+    pub live : ByReply reply (is_clean new → is_live old × is_live new) (is_clean new → is_live old × is_live new) ⊤
     pub kept : ByReply reply ⊤ (is_clean new → (c d : Content) → leaves old c d → leaves new c d) ⊤

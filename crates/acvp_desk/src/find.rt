@@ -1,6 +1,6 @@
 //! The tables are looked at.
 
-ghost use Rattle.std.specs.Prelude.{◌≡◌, ◌⊎◌, ◌/◌, ℕ, List, map, ◌&&◌, ◌||◌, ◌==◌, not, nat_le, true, Some, is_some, IfOk, IfErr, option_and_then};
+ghost use Rattle.std.specs.Prelude.{◌≡◌, ◌⊎◌, ◌/◌, ℕ, List, map, ◌&&◌, ◌||◌, ◌==◌, not, nat_le, true, Some, is_some, IfOk, IfErr, IfSome, option_and_then};
 ghost use Rattle.acvp_mac.specs.Conditions.{first_broken};
 ghost use Rattle.acvp_policy.specs.Conditions.{claims_of};
 ghost use Rattle.acvp_policy.specs.Decision.{account_of_claims};
@@ -11,7 +11,7 @@ ghost use Rattle.acvp_desk.specs.Answer.{found_of, policy_conditions, reviewer_f
 ghost use Rattle.acvp_desk.specs.Kept.{IsKept};
 ghost use Rattle.acvp_desk.specs.Place.{certification_of, certification_status, listed_session, sessions_material, is_for_page, session_facts, reviewed_facts, is_within, subject_of, material_of, account_material, session_material, is_for, is_for_account, is_for_session, place_of, set_numbers, set_outcomes, unfound};
 ghost use Rattle.acvp_desk.specs.Sets.{set_facts, set_material, set_source, submission_for, verdicts_on_set, is_for_set};
-ghost use Rattle.acvp_desk.specs.Serves.{Looks, Sees};
+ghost use Rattle.acvp_desk.specs.Serves.{Holds, Knows, Looks, Sees};
 
 use crate::ask::Ask;
 use crate::found::{
@@ -60,7 +60,8 @@ pub(crate) fn acting(token: &Token) -> u16
 
 /// The row of an account, where one acts.
 fn account<T: Tables>(tables: &mut T, number: Option<u16>) -> Result<Option<AccountRow>, StoreFault>
-    ensures found { Sees T.stands T.is_live T.is_clean T.leaves result tables.old tables.new (λ seeds c. option_and_then (λ n. account_at n c.accounts) number) }
+    ensures found { Knows T.stands T.is_live T.is_clean T.leaves result tables.old tables.new (λ seeds c. option_and_then (λ n. account_at n c.accounts) number) }
+    ensures open { IfOk result (λ found. IfSome found (λ _. T.is_clean tables.new → T.is_live tables.old × T.is_live tables.new)) }
     ensures looks { Looks T.stands T.is_live T.is_clean T.leaves result tables.old tables.new }
 {
     match number {
@@ -72,7 +73,7 @@ fn account<T: Tables>(tables: &mut T, number: Option<u16>) -> Result<Option<Acco
 /// Whether the account that acts reviews the session of the path, where that is asked.
 #[tactic(auto, unfolding(acvp_tables::specs::State::state_of))]
 fn reviewer<T: Tables>(tables: &mut T, ask: &Ask) -> Result<bool, StoreFault>
-    ensures found { Sees T.stands T.is_live T.is_clean T.leaves result tables.old tables.new (λ seeds c. reviewer_found ask.now (state_of c)) }
+    ensures found { Knows T.stands T.is_live T.is_clean T.leaves result tables.old tables.new (λ seeds c. reviewer_found ask.now (state_of c)) }
     ensures looks { Looks T.stands T.is_live T.is_clean T.leaves result tables.old tables.new }
 {
     match ask {
@@ -551,9 +552,9 @@ pub(crate) fn find<T: Tables>(
     body: &[u8],
     ask: &Ask,
 ) -> Result<Found, Rule>
-    ensures found { Sees T.stands T.is_live T.is_clean T.leaves result tables.old tables.new (λ seeds c. found_of seeds body.now ask.now (state_of c)) }
+    ensures found { Knows T.stands T.is_live T.is_clean T.leaves result tables.old tables.new (λ seeds c. found_of seeds body.now ask.now (state_of c)) }
     ensures of { IfOk result (λ found. IsOf ask.now found) }
-    ensures refused { IfErr result (λ rule. (rule ≡ Rule.Unavailable) ⊎ ((T.is_clean tables.new → T.is_live tables.old → T.is_live tables.new) × (T.is_live tables.new → (seeds : List (List ℕ)) (c : Content) → IsKept seeds c → T.stands tables.old c → first_broken (policy_conditions moment ask.now (found_of seeds body.now ask.now (state_of c))) ≡ Some rule))) }
+    ensures refused { IfErr result (λ rule. (rule ≡ Rule.Unavailable) ⊎ ((T.is_clean tables.new → T.is_live tables.old → T.is_live tables.new) × (T.is_clean tables.new → (seeds : List (List ℕ)) (c : Content) → IsKept seeds c → Holds T.stands T.is_live tables.old c → first_broken (policy_conditions moment ask.now (found_of seeds body.now ask.now (state_of c))) ≡ Some rule))) }
     ensures looks { Looks T.stands T.is_live T.is_clean T.leaves result tables.old tables.new }
 {
     let Ok(account) = account(tables, who(ask)) else {

@@ -1,5 +1,5 @@
 -- What an input asks is what the front of it asks that its request needs.
-use Rattle.std.proofs.Common.{◌≡◌, ◌<◌, ◌≤◌, ◌⊎◌, ⊎_elim, inl, inr, ℕ, zero, suc, ◌+◌, ◌-◌, ◌==◌, ◌||◌, min, not, codes, List, [], ◌∷◌, ◌++◌, length, take, drop, Bool, true, false, if◌then◌else◌, Option, None, Some, IfSome, Result, refl, sym, ap, ◌∙◌, arith, subst, below_more, take-take, length-append}
+use Rattle.std.proofs.Common.{◌≡◌, ◌<◌, ◌≤◌, ◌⊎◌, ⊎_elim, inl, inr, ℕ, zero, suc, ◌+◌, ◌-◌, ◌==◌, ◌||◌, min, not, codes, List, [], ◌∷◌, ◌++◌, length, take, drop, Bool, true, false, if◌then◌else◌, Option, None, Some, IfSome, Result, refl, sym, ap, ◌∙◌, arith, subst, below_more, take-take, length-append, append_assoc}
 use Rattle.std.specs.Prelude.{nat_lt, nat_le, MatchBool}
 use Rattle.std.specs.Io.KnownBytes.{Consumes}
 use Rattle.std.proofs.Math.Seq.{take-append_seam, take-append-add, take-length}
@@ -15,10 +15,10 @@ use Rattle.acvp_policy.specs.declared.rule.Rule.{Rule}
 use Rattle.acvp_policy.specs.declared.rule.Rule.TheVariants.{BadHead, HeadTooLarge, Truncated, TransferCoding, LengthMissing, BadLength, BodyTooLarge, HostMissing, ClockOutOfRange}
 use Rattle.acvp_tables.specs.Content.{Content}
 use Rattle.acvp_http.specs.Asks.{ParsedRequest, refused, Asks, AsksBlock, AskedBy, AskedOf, IsBlockEnd, HasNoEmptyLine, asked_path, body_length, body_limit, ends_empty, fields_of, head_limit, hosts_fit, is_nil, lengths_agree, line_count, needs_length, values_of, window}
-use Rattle.acvp_http.specs.Connection.{AnswersInput}
+use Rattle.acvp_http.specs.Connection.{AnswersInput, TakesWithin}
 use Rattle.acvp_http.specs.Event.{request, replied}
-use Rattle.acvp_http.specs.Needed.{IsNeeded, IsNeededAt, NeedsBody, needed_size, told_by}
-use Rattle.acvp_http.specs.Private.Receiving.{IsHeadTaken, IsBodyTaken}
+use Rattle.acvp_http.specs.Needed.{IsNeeded, IsNeededAt, IsWithinNeeded, NeedsBody, needed_size, told_by}
+use Rattle.acvp_http.specs.Private.Receiving.{IsHeadBegun, IsHeadTaken, IsBodyTaken, TakesFew, TakesOfHead}
 use Rattle.acvp_http.specs.Reply.{refusal, IsDateOf}
 use Rattle.acvp_http.specs.Serve.{IsRefused, RefusesAtOnce, RequestTaken, Takes}
 use Rattle.acvp_http.specs.Source.{InputStream, Gives}
@@ -186,15 +186,19 @@ block_low : (text ys : List ℕ) → length text ≤ head_limit → length text 
 unfolding window
 block_low text ys low = omega (arith, length-take 16384 (text ++ ys), length-append text ys)
 
+-- the block that was taken ends there
+block_ends : (text ys : List ℕ) (left : Option (List ℕ)) → IsHeadTaken left text → ends_empty text ≡ true → IsBlockEnd (window (text ++ ys)) (length text)
+block_ends text ys left taken ends = (
+  block_low text ys taken.few,
+  ap ends_empty (block_front text ys (length text) taken.few (omega arith) ∙ take-length text) ∙ ends,
+  λ k below. ap ends_empty (block_front text ys k taken.few (omega arith)) ∙ taken.first k below,
+)
+
 needed_block : (text part rest : List ℕ) (size : ℕ) (left : Option (List ℕ)) → IsHeadTaken left text → ends_empty text ≡ true → NeedsBody text size
     → length part ≤ size → (length part < size → rest ≡ []) → IsNeeded (text ++ (part ++ rest)) (text ++ part)
 needed_block text part rest size left taken ends needs few whole =
     let ys = part ++ rest in
-    let end : IsBlockEnd (window (text ++ ys)) (length text) = (
-      block_low text ys taken.few,
-      ap ends_empty (block_front text ys (length text) taken.few (omega arith) ∙ take-length text) ∙ ends,
-      λ k below. ap ends_empty (block_front text ys k taken.few (omega arith)) ∙ taken.first k below,
-    ) in
+    let end = block_ends text ys left taken ends in
     let front : text ++ part ≡ take (length text + size) (text ++ ys) =
     sym (take-append-add text ys size ∙ ap (λ l. text ++ l) (full size part rest few whole)) in
     inr (length text, size, end, subst (λ (b : List ℕ). NeedsBody b size) (sym (take-append_seam text ys)) needs, front)
@@ -218,9 +222,87 @@ received input left after text part bytes size consumed more is taken ends needs
   needed_whole input left after text part size consumed more taken ends needs body,
 )
 
+-- ---- what is taken where the bytes aren't whole
+
+begins : (n : ℕ) (part ys : List ℕ) → length part ≤ n → (rest : List ℕ) × (take n (part ++ ys) ≡ part ++ rest)
+begins n part ys low =
+    let is : n ≡ length part + (n - length part) = omega arith in
+    (take (n - length part) ys, ap (λ m. take m (part ++ ys)) is ∙ take-append-add part ys (n - length part))
+
+-- a head that has begun is no longer than the block that it is of
+begun_low : (part ys : List ℕ) (n : ℕ) → IsHeadBegun part → IsBlockEnd (window (part ++ ys)) n → length part ≤ n
+begun_low part ys n begun end =
+    let late : n < length part → ⊥ = λ below.
+        let is : ends_empty (take n part) ≡ true = ap ends_empty (sym (block_front part ys n begun.few (omega arith))) ∙ end.1 in
+        let other : ends_empty (take n part) ≡ false = begun.first n below in
+        cc in
+    omega (arith, late)
+
+head_begins : (part ys : List ℕ) → IsHeadBegun part → IsWithinNeeded (part ++ ys) part
+unfolding window
+head_begins part ys begun front needed =
+    ⊎_elim (λ none. subst (λ (f : List ℕ). (rest : List ℕ) × (f ≡ part ++ rest)) (sym none.1) (begins 16384 part ys begun.few))
+    (λ q. subst (λ (f : List ℕ). (rest : List ℕ) × (f ≡ part ++ rest)) (sym q.4)
+    (let low = begun_low part ys q.0 begun q.2 in begins (q.0 + q.1) part ys (omega arith))) needed
+
+pub head_within : (a b : InputStream) → TakesOfHead a b → TakesWithin a b
+head_within a b (part, taken, begun) = (part, taken, go a.held b.held taken)
+  where
+    go : (input left : Option (List ℕ)) → Consumes input left part → IfSome input (λ bytes. IsWithinNeeded bytes part)
+    go None left took = tt
+    go (Some xs) None took = absurd took
+    go (Some xs) (Some ys) took = subst (λ (l : List ℕ). IsWithinNeeded l part) (sym took) (head_begins part ys begun)
+
+size_by : (block : List ℕ) (n m : ℕ) (long : Bool)
+    → MatchBool long (n ≡ 0)
+    (((n ≡ 0) × ((head : RequestHead) → ReadsRequest block head [] → ⊥))
+    ⊎ ((head : RequestHead) × ReadsRequest block head [] × (n ≡ told_by head)))
+    → MatchBool long (m ≡ 0)
+    (((m ≡ 0) × ((head : RequestHead) → ReadsRequest block head [] → ⊥))
+    ⊎ ((head : RequestHead) × ReadsRequest block head [] × (m ≡ told_by head)))
+    → n ≡ m
+size_by block n m true is other = is ∙ sym other
+size_by block n m false is other =
+    ⊎_elim (λ p. ⊎_elim (λ q. p.0 ∙ sym q.0) (λ q. absurd (p.1 q.0 q.1)) other)
+    (λ p. ⊎_elim (λ q. absurd (q.1 p.0 p.1))
+    (λ q. p.2 ∙ ap told_by (request_unique block p.0 q.0 [] [] p.1 q.1).0 ∙ sym q.2) other) is
+
+-- no block needs bodies of two sizes
+size_unique : (block : List ℕ) (n m : ℕ) → NeedsBody block n → NeedsBody block m → n ≡ m
+size_unique block n m is other = size_by block n m (nat_lt 64 (line_count block - 2)) is other
+
+body_begins : (text part ys : List ℕ) (size : ℕ) (left : Option (List ℕ)) → IsHeadTaken left text → ends_empty text ≡ true → NeedsBody text size
+    → length part ≤ size → IsWithinNeeded (text ++ (part ++ ys)) (text ++ part)
+body_begins text part ys size left taken ends needs few front needed =
+    let end = block_ends text (part ++ ys) left taken ends in
+    ⊎_elim (λ none. absurd (end_or_none (window (text ++ (part ++ ys))) (length text) none.0 end))
+    (λ q.
+    let at : q.0 ≡ length text = end_unique (window (text ++ (part ++ ys))) q.0 (length text) q.2 end in
+    let block : take q.0 (text ++ (part ++ ys)) ≡ text = ap (λ m. take m (text ++ (part ++ ys))) at ∙ take-append_seam text (part ++ ys) in
+    let same : q.1 ≡ size = size_unique text q.1 size (subst (λ (b : List ℕ). NeedsBody b q.1) block q.3) needs in
+    let (rest, is) = begins size part ys few in (
+      rest,
+      q.4 ∙ ap (λ m. take m (text ++ (part ++ ys))) (ap (λ n. n + q.1) at ∙ ap (λ n. length text + n) same)
+          ∙ take-append-add text (part ++ ys) size ∙ ap (λ l. text ++ l) is ∙ sym (append_assoc text part rest),
+    )) needed
+
+pub body_within : (a b c : InputStream) (text : List ℕ) (size : ℕ) → Gives a b text → IsHeadTaken b.held text → ends_empty text ≡ true → NeedsBody text size
+    → TakesFew size b c → TakesWithin a c
+body_within a b c text size consumed taken ends needs (part, more, few) =
+    (text ++ part, consumes_consumes a.held b.held c.held text part consumed more, go a.held b.held c.held consumed taken more)
+  where
+    go : (input left after : Option (List ℕ)) → Consumes input left text → IsHeadTaken left text → Consumes left after part
+        → IfSome input (λ bytes. IsWithinNeeded bytes (text ++ part))
+    go None left after consumed taken more = tt
+    go (Some xs) None after consumed taken more = absurd consumed
+    go (Some xs) (Some ys) None consumed taken more = absurd more
+    go (Some xs) (Some ys) (Some zs) consumed taken more =
+        subst (λ (input : List ℕ). IsWithinNeeded input (text ++ part)) (sym (consumed ∙ ap (λ l. text ++ l) more))
+        (body_begins text part zs size (Some ys) taken ends needs few)
+
 -- ---- what is served
 
-module _ {T : Type 0} (stands : T → Content → Type 0) (is_live : T → Type 0) (keys : Keys) (m : ℕ) (input front reply : List ℕ) where
+module _ {T : Type 0} (stands : T → Content → Type 0) (is_live is_clean : T → Type 0) (keys : Keys) (m : ℕ) (input front reply : List ℕ) where
   abbrev IsNeededBy : Bool → Type 0
   IsNeededBy b = MatchBool b (IsNeeded input front) (front ≡ [])
 
@@ -249,40 +331,40 @@ module _ {T : Type 0} (stands : T → Content → Type 0) (is_live : T → Type 
   ]
 
   -- what is served of the front is served of the whole
-  pub taken_needed : (old new : T) → IsNeededAt m input front → RequestTaken stands is_live keys m front reply old new
-      → RequestTaken stands is_live keys m input reply old new
+  pub taken_needed : (old new : T) → IsNeededAt m input front → RequestTaken stands is_live is_clean keys m front reply old new
+      → RequestTaken stands is_live is_clean keys m input reply old new
   taken_needed old new needed (unavailable, goes) = (
     unavailable,
-    λ live c kept h.
-        let (next, takes, stands_after, kept_after) = goes live c kept h in
+    λ clean c kept h.
+        let (next, takes, stands_after, kept_after) = goes clean c kept h in
         (next, takes_by unavailable c next needed takes, stands_after, kept_after),
   )
 
 -- ---- what a connection is answered
 
-module _ {T : Type 0} (stands : T → Content → Type 0) (is_live : T → Type 0) (keys : Keys) (m : ℕ) (reply : List ℕ) (old new : T) where
+module _ {T : Type 0} (stands : T → Content → Type 0) (is_live is_clean : T → Type 0) (keys : Keys) (m : ℕ) (reply : List ℕ) (old new : T) where
   abbrev IsAnsweredBy : Option (List ℕ) → List ℕ → Type 0
-  IsAnsweredBy held front = IfSome held (λ bytes. IsNeededAt m bytes front × RequestTaken stands is_live keys m bytes reply old new)
+  IsAnsweredBy held front = IfSome held (λ bytes. IsNeededAt m bytes front × RequestTaken stands is_live is_clean keys m bytes reply old new)
 
-  late_by : (held : Option (List ℕ)) → end_of_moments ≤ m → RequestTaken stands is_live keys m [] reply old new → IsAnsweredBy held []
+  late_by : (held : Option (List ℕ)) → end_of_moments ≤ m → RequestTaken stands is_live is_clean keys m [] reply old new → IsAnsweredBy held []
   late_by None late taken = tt
   late_by (Some bytes) late taken =
       let needed : IsNeededAt m bytes [] = rw (le-ltb m end_of_moments late) refl in
-      (needed, taken_needed stands is_live keys m bytes [] reply old new needed taken)
+      (needed, taken_needed stands is_live is_clean keys m bytes [] reply old new needed taken)
 
   -- at a moment that isn't served nothing is needed
-  pub answers_late : (input : InputStream) → end_of_moments ≤ m → RequestTaken stands is_live keys m [] reply old new
-      → AnswersInput stands is_live keys m input input reply old new
+  pub answers_late : (input : InputStream) → end_of_moments ≤ m → RequestTaken stands is_live is_clean keys m [] reply old new
+      → AnswersInput stands is_live is_clean keys m input input reply old new
   answers_late input late taken = inl ([], consumes_nothing input.held, taken, late_by input.held late taken)
 
   early_by : (held : Option (List ℕ)) (front : List ℕ) → m < end_of_moments → IfSome held (λ bytes. IsNeeded bytes front)
-      → RequestTaken stands is_live keys m front reply old new → IsAnsweredBy held front
+      → RequestTaken stands is_live is_clean keys m front reply old new → IsAnsweredBy held front
   early_by None front early needed taken = tt
   early_by (Some bytes) front early needed taken =
       let needed_then : IsNeededAt m bytes front = rw (lt-ltb m end_of_moments early) needed in
-      (needed_then, taken_needed stands is_live keys m bytes front reply old new needed_then taken)
+      (needed_then, taken_needed stands is_live is_clean keys m bytes front reply old new needed_then taken)
 
   pub answers_early : (input left : InputStream) (front : List ℕ) → m < end_of_moments → Gives input left front
-      → IfSome input.held (λ bytes. IsNeeded bytes front) → RequestTaken stands is_live keys m front reply old new
-      → AnswersInput stands is_live keys m input left reply old new
+      → IfSome input.held (λ bytes. IsNeeded bytes front) → RequestTaken stands is_live is_clean keys m front reply old new
+      → AnswersInput stands is_live is_clean keys m input left reply old new
   answers_early input left front early consumed needed taken = inl (front, consumed, taken, early_by input.held front early needed taken)

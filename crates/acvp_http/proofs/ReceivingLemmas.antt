@@ -1,17 +1,34 @@
 -- Lemmas on taking the bytes of a head one after another.
-use Rattle.std.proofs.Common.{◌≡◌, ◌<◌, ℕ, ◌+◌, List, [], ◌∷◌, ◌++◌, length, take, Bool, true, false, Option, ap, sym, ◌∙◌, arith, below_more, length-append, take_all}
+use Rattle.std.proofs.Common.{◌≡◌, ◌<◌, ◌≤◌, ℕ, ◌+◌, List, [], ◌∷◌, ◌++◌, length, take, Bool, true, false, Option, ap, sym, ◌∙◌, arith, below_more, length-append, take_all}
 use Rattle.std.proofs.lemmas.List.{take-append-le}
 use Rattle.acvp_http.specs.Asks.{ends_empty}
 use Rattle.acvp_http.specs.Source.{InputStream, Gives}
 use Rattle.acvp_http.specs.declared.script.ScriptFault.{ScriptFault}
-use Rattle.acvp_http.specs.Private.Receiving.{StopsReceiving, TakesSome, TakesByte, IsHeadTaken}
+use Rattle.acvp_http.specs.Private.Receiving.{StopsReceiving, TakesFew, TakesOfHead, TakesByte, IsHeadBegun, IsHeadTaken}
 use Rattle.acvp_http.proofs.KnownLemmas.{consumes_consumes}
 
--- what was taken before the stop, and then
-pub stops_after : (a b c : InputStream) (text : List ℕ) (fault : ScriptFault) (limit : ℕ) → Gives a b text
-    → StopsReceiving fault c limit × TakesSome b c → StopsReceiving fault c limit × TakesSome a c
-stops_after a b c text fault limit taken (stops, (more, took)) =
-    (stops, (text ++ more, consumes_consumes a.held b.held c.held text more taken took))
+-- what was taken of a head before the stop, and then a byte at most
+pub head_stops : (a b c : InputStream) (text : List ℕ) (n : ℕ) (fault : ScriptFault) (limit : ℕ) → Gives a b text → length text ≡ n → n < 16384
+    → ((k : ℕ) → k < n + 1 → ends_empty (take k text) ≡ false) → StopsReceiving fault c limit × TakesFew 1 b c → StopsReceiving fault c limit × TakesOfHead a c
+head_stops a b c text n fault limit taken long low first (stops, (more, took, few)) = (
+  stops,
+  (
+    text ++ more,
+    consumes_consumes a.held b.held c.held text more taken took,
+    record {
+      few = omega (arith, length-append text more);
+      first = λ k below.
+          let within : k ≤ length text = omega (arith, length-append text more) in
+          ap ends_empty (take-append-le k text more within) ∙ first k (omega arith);
+    },
+  ),
+)
+
+-- and of a body
+pub body_stops : (a b c : InputStream) (part : List ℕ) (n wanted : ℕ) (fault : ScriptFault) (limit : ℕ) → Gives a b part → length part ≡ n → n < wanted
+    → StopsReceiving fault c limit × TakesFew 1 b c → StopsReceiving fault c limit × TakesFew wanted a c
+body_stops a b c part n wanted fault limit taken long low (stops, (more, took, few)) =
+    (stops, (part ++ more, consumes_consumes a.held b.held c.held part more taken took, omega (arith, length-append part more)))
 
 pub byte_taken : (more : Bool) (old new : InputStream) (before after : List ℕ) → more ≡ true → TakesByte more old new before after
     → (byte : ℕ) × (after ≡ before ++ byte ∷ []) × Gives old new (byte ∷ [])

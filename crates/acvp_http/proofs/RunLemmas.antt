@@ -49,52 +49,52 @@ appends_nothing None = tt
 appends_nothing (Some xs) = sym (append-nil xs)
 
 -- a turn of a desk with the same keys
-pub under : {T : Type 0} (stands : T → Content → Type 0) (is_live : T → Type 0) (now keys : Keys) (old new : T) (turn : Turn) (answer : Answer) → now ≡ keys
-    → GoesByTurn stands is_live now turn answer old new → GoesByTurn stands is_live keys turn answer old new
-under stands is_live now keys old new turn answer same takes = subst (λ (k : Keys). GoesByTurn stands is_live k turn answer old new) same takes
+pub under : {T : Type 0} (stands : T → Content → Type 0) (is_live is_clean : T → Type 0) (now keys : Keys) (old new : T) (turn : Turn) (answer : Answer) → now ≡ keys
+    → GoesByTurn stands is_live is_clean now turn answer old new → GoesByTurn stands is_live is_clean keys turn answer old new
+under stands is_live is_clean now keys old new turn answer same takes = subst (λ (k : Keys). GoesByTurn stands is_live is_clean k turn answer old new) same takes
 
 -- tables that go through turns, and by one more
-module _ {T : Type 0} (stands : T → Content → Type 0) (is_live : T → Type 0) (keys : Keys) where
+module _ {T : Type 0} (stands : T → Content → Type 0) (is_live is_clean : T → Type 0) (keys : Keys) where
   through_more : (turns : List Turn) (answers : List Answer) (start mid now : T) (turn : Turn) (answer : Answer)
-      → GoesThrough stands is_live keys turns answers start mid → (is_live now → is_live mid) → GoesByTurn stands is_live keys turn answer mid now
-      → GoesThrough stands is_live keys (turns ++ turn ∷ []) (answers ++ answer ∷ []) start now
-  through_more [] [] start mid now turn answer through was_live takes =
+      → GoesThrough stands is_live is_clean keys turns answers start mid → (is_clean now → is_clean mid) → GoesByTurn stands is_live is_clean keys turn answer mid now
+      → GoesThrough stands is_live is_clean keys (turns ++ turn ∷ []) (answers ++ answer ∷ []) start now
+  through_more [] [] start mid now turn answer through was_clean takes =
       let same : mid ≡ start = through in (
         now,
-        subst (λ (t : T). is_live now → is_live t) same was_live,
-        subst (λ (t : T). GoesByTurn stands is_live keys turn answer t now) same takes,
+        subst (λ (t : T). is_clean now → is_clean t) same was_clean,
+        subst (λ (t : T). GoesByTurn stands is_live is_clean keys turn answer t now) same takes,
         refl,
       )
-  through_more [] (a ∷ answers) start mid now turn answer through was_live takes = absurd through
-  through_more (t ∷ turns) [] start mid now turn answer through was_live takes = absurd through
+  through_more [] (a ∷ answers) start mid now turn answer through was_clean takes = absurd through
+  through_more (t ∷ turns) [] start mid now turn answer through was_clean takes = absurd through
   through_more (t ∷ turns) (a ∷ answers) start mid now turn answer (next, up, first, through) was_live takes =
-      (next, up, first, through_more turns answers next mid now turn answer through was_live takes)
+      (next, up, first, through_more turns answers next mid now turn answer through was_clean takes)
 
-  -- tables that are live at the end were so at the start
-  through_live : (turns : List Turn) (answers : List Answer) (old new : T) → GoesThrough stands is_live keys turns answers old new → is_live new → is_live old
-  through_live [] [] old new through live = subst (λ (t : T). is_live t) through live
-  through_live [] (a ∷ answers) old new through live = absurd through
-  through_live (t ∷ turns) [] old new through live = absurd through
-  through_live (t ∷ turns) (a ∷ answers) old new (mid, up, first, through) live = up (through_live turns answers mid new through live)
+  -- a disk that has told no lie at the end had told none at the start
+  through_clean : (turns : List Turn) (answers : List Answer) (old new : T) → GoesThrough stands is_live is_clean keys turns answers old new → is_clean new → is_clean old
+  through_clean [] [] old new through clean = subst (λ (t : T). is_clean t) through clean
+  through_clean [] (a ∷ answers) old new through clean = absurd through
+  through_clean (t ∷ turns) [] old new through clean = absurd through
+  through_clean (t ∷ turns) (a ∷ answers) old new (mid, up, first, through) clean = up (through_clean turns answers mid new through clean)
 
-  -- and then they go by all turns
-  pub make_a_run : (turns : List Turn) (answers : List Answer) (old new : T) → GoesThrough stands is_live keys turns answers old new
-      → GoesByTurns stands is_live keys turns answers old new
-  make_a_run [] [] old new through = λ live c kept h. (c, refl, subst (λ (t : T). stands t c) (sym through) h, kept)
+  -- and then the tables go by all turns
+  pub make_a_run : (turns : List Turn) (answers : List Answer) (old new : T) → GoesThrough stands is_live is_clean keys turns answers old new
+      → GoesByTurns stands is_live is_clean keys turns answers old new
+  make_a_run [] [] old new through = λ clean c kept h. (c, refl, subst (λ (t : T). is_live t → stands t c) (sym through) h, kept)
   make_a_run [] (a ∷ answers) old new through = absurd through
   make_a_run (t ∷ turns) [] old new through = absurd through
-  make_a_run (t ∷ turns) (a ∷ answers) old new (mid, up, first, through) = λ live c kept h.
-      let (c', taken, stands', kept') = first (through_live turns answers mid new through live) c kept h in
-      let (next, ran, stands-next, kept-next) = make_a_run turns answers mid new through live c' kept' stands' in
+  make_a_run (t ∷ turns) (a ∷ answers) old new (mid, up, first, through) = λ clean c kept h.
+      let (c', taken, stands', kept') = first (through_clean turns answers mid new through clean) c kept h in
+      let (next, ran, stands-next, kept-next) = make_a_run turns answers mid new through clean c' kept' stands' in
       (next, (c', taken, ran), stands-next, kept-next)
 
 -- what a run over tables has done after so many turns
-module _ {T : Type 0} (stands : T → Content → Type 0) (is_live : T → Type 0) (keys : Keys) (start : T) where
+module _ {T : Type 0} (stands : T → Content → Type 0) (is_live is_clean : T → Type 0) (keys : Keys) (start : T) where
   pub record Ran (now : T) (input left : InputStream) (old new : OutputStream) (count : ℕ) : Type 0 where
     pub turns : List Turn
     pub answers : List Answer
     pub text : List ℕ
-    pub runs : GoesThrough stands is_live keys turns answers start now
+    pub runs : GoesThrough stands is_live is_clean keys turns answers start now
     pub script : IsScript (events_of turns) text
     pub size : length turns ≡ count
     pub consumed : Gives input left text
@@ -115,15 +115,15 @@ module _ {T : Type 0} (stands : T → Content → Type 0) (is_live : T → Type 
 
   module _ (mid now : T) (input left left' : InputStream) (old new new' : OutputStream) (turn : Turn) (answer : Answer) (front : List ℕ) where
     -- one turn more
-    pub ran_more : (count : ℕ) → Ran mid input left old new count → (is_live now → is_live mid) → IsWritten turn.event front
-        → Gives left left' front → GoesByTurn stands is_live keys turn answer mid now → Gets new new' (answer_text answer)
+    pub ran_more : (count : ℕ) → Ran mid input left old new count → (is_clean now → is_clean mid) → IsWritten turn.event front
+        → Gives left left' front → GoesByTurn stands is_live is_clean keys turn answer mid now → Gets new new' (answer_text answer)
         → Ran now input left' old new' (count + 1)
-    ran_more count ran was_live written consumed takes appended =
+    ran_more count ran was_clean written consumed takes appended =
         record {
           turns = ran.turns ++ turn ∷ [];
           answers = ran.answers ++ answer ∷ [];
           text = ran.text ++ front;
-          runs = through_more stands is_live keys ran.turns ran.answers start mid now turn answer ran.runs was_live takes;
+          runs = through_more stands is_live is_clean keys ran.turns ran.answers start mid now turn answer ran.runs was_clean takes;
           script = rw (events_more ran.turns turn)
               (script_more (events_of ran.turns) ran.text front turn.event ran.script written);
           size = omega (arith, length-append ran.turns (turn ∷ []), ran.size);
@@ -133,15 +133,15 @@ module _ {T : Type 0} (stands : T → Content → Type 0) (is_live : T → Type 
         }
 
     -- the writer fails in a turn's answer
-    pub ran_writes : (count : ℕ) (fault : ScriptFault) → Ran mid input left old new count → count < 100000 → (is_live now → is_live mid)
-        → IsWritten turn.event front → Gives left left' front → GoesByTurn stands is_live keys turn answer mid now → fault ≡ Write
-        → GetsFront new new' (answer_text answer) → RunsScript stands is_live keys start now input left' old new' (Err fault)
-    ran_writes count fault ran few was_live written consumed takes is (begun, rest, parts, appended) =
-        let result : RunsScript stands is_live keys start now input left' old new' (Err Write) = (
+    pub ran_writes : (count : ℕ) (fault : ScriptFault) → Ran mid input left old new count → count < 100000 → (is_clean now → is_clean mid)
+        → IsWritten turn.event front → Gives left left' front → GoesByTurn stands is_live is_clean keys turn answer mid now → fault ≡ Write
+        → GetsFront new new' (answer_text answer) → RunsScript stands is_live is_clean keys start now input left' old new' (Err fault)
+    ran_writes count fault ran few was_clean written consumed takes is (begun, rest, parts, appended) =
+        let result : RunsScript stands is_live is_clean keys start now input left' old new' (Err Write) = (
           ran.turns ++ turn ∷ [],
           ran.answers ++ answer ∷ [],
           ran.text ++ front,
-          through_more stands is_live keys ran.turns ran.answers start mid now turn answer ran.runs was_live takes,
+          through_more stands is_live is_clean keys ran.turns ran.answers start mid now turn answer ran.runs was_clean takes,
           rw (events_more ran.turns turn) (script_more (events_of ran.turns) ran.text front turn.event ran.script written),
           consumes_consumes input.held left.held left'.held ran.text front ran.consumed consumed,
           (

@@ -37,8 +37,8 @@ refused_early m bytes parsed date reply early asks dated is =
 
 module _ {T : Type 0} (stands : T → Content → Type 0) (is_live is_clean : T → Type 0) (leaves : T → Content → Content → Type 0) (keys : Keys) (m : ℕ) (bytes : List ℕ) where
   -- nobody was looked at
-  pub taken_at_once : (t : T) (reply : List ℕ) → RefusesAtOnce m bytes reply → RequestTaken stands is_live keys m bytes reply t t
-  taken_at_once t reply refuses = (false, λ live c kept h. (c, inl (refl, refuses), h, kept))
+  pub taken_at_once : (t : T) (reply : List ℕ) → RefusesAtOnce m bytes reply → RequestTaken stands is_live is_clean keys m bytes reply t t
+  taken_at_once t reply refuses = (false, λ clean c kept h. (c, inl (refl, refuses), h, kept))
 
   -- and a crash finds what there was
   pub left_at_once : (rests : (t : T) (c d : Content) → is_live t → stands t c → leaves t c d) (t : T) (reply : List ℕ) → RefusesAtOnce m bytes reply
@@ -56,14 +56,17 @@ module _ {T : Type 0} (stands : T → Content → Type 0) (is_live is_clean : T 
 
     -- the desk has denied it
     pub taken_denied : (told : Rule) (reply : List ℕ) → desk.Serves stands is_live is_clean leaves (result_of (Denied told) changed) old new keys m r
-        → reply ≡ refusal (Some date) told → RequestTaken stands is_live keys m bytes reply old new
+        → reply ≡ refusal (Some date) told → RequestTaken stands is_live is_clean keys m bytes reply old new
     taken_denied told reply serves shown = elim (is_unavailable told) [
-      | inl is ↦ (true, λ live c kept h. (c, (refl, ((r, asks), shown ∙ ap (λ x. refusal (Some date) x) is)), serves.same live c h, kept))
+      | inl is ↦ (
+        true,
+        λ clean c kept h. (c, (refl, ((r, asks), shown ∙ ap (λ x. refusal (Some date) x) is)), λ live. serves.same live c (h (serves.was_live live)), kept),
+      )
       | inr other ↦ (
         false,
-        λ live c kept h.
-            let refuses : answer keys m r (state_of c) ≡ Err told = elim (serves.denied live c kept h) [ inl is ↦ absurd (other is) | inr is ↦ is ] in
-            (c, inr (r, asks, unchanged c told reply refuses shown), serves.same live c h, kept),
+        λ clean c kept h.
+            let refuses : answer keys m r (state_of c) ≡ Err told = elim (serves.denied clean c kept h) [ inl is ↦ absurd (other is) | inr is ↦ is ] in
+            (c, inr (r, asks, unchanged c told reply refuses shown), λ live. serves.same live c (h (serves.was_live live)), kept),
       )
     ]
 
@@ -75,8 +78,8 @@ module _ {T : Type 0} (stands : T → Content → Type 0) (is_live is_clean : T 
 
     -- what is shown of a denial, and that what was live is unless it is unavailable
     pub shown_denied : (told : Rule) (reply : List ℕ) → desk.Serves stands is_live is_clean leaves (result_of (Denied told) changed) old new keys m r
-        → reply ≡ refusal (Some date) told → ShowsReply stands is_live m reply old new
-    shown_denied told reply serves shown = (date, dated, inr (told, shown, serves.same))
+        → reply ≡ refusal (Some date) told → ShowsReply stands is_live is_clean leaves m reply old new
+    shown_denied told reply serves shown = (date, dated, inr (told, shown, serves.same, serves.kept))
 
     pub live_denied : (told : Rule) (reply : List ℕ) → desk.Serves stands is_live is_clean leaves (result_of (Denied told) changed) old new keys m r
         → reply ≡ refusal (Some date) told → (reply ≡ refusal None rule.Unavailable) ⊎ (is_clean new → is_live old → is_live new)
@@ -84,11 +87,11 @@ module _ {T : Type 0} (stands : T → Content → Type 0) (is_live is_clean : T 
 
     -- the desk has given a reply
     pub taken_given : (buffer : Vec ℕ Global) (reply : List ℕ) → desk.Serves stands is_live is_clean leaves (result_of (Given buffer) changed) old new keys m r
-        → reply ≡ framed 200 (Some date) [] (drop spare buffer.items) → RequestTaken stands is_live keys m bytes reply old new
+        → reply ≡ framed 200 (Some date) [] (drop spare buffer.items) → RequestTaken stands is_live is_clean keys m bytes reply old new
     taken_given buffer reply serves is = (
       false,
-      λ live c kept h.
-          let (gives, stands_after, kept_after, told) = serves.given live c kept h in (
+      λ clean c kept h.
+          let (gives, stands_after, kept_after, told) = serves.given clean c kept h in (
             content_effect keys m r c,
             inr (r, asks, (date, dated, refl, shown_as (answer keys m r (state_of c)) buffer.items reply gives is)),
             stands_after,
@@ -103,8 +106,7 @@ module _ {T : Type 0} (stands : T → Content → Type 0) (is_live is_clean : T 
     left_denied rests told reply serves shown = λ clean live c kept h. elim (is_unavailable told) [
       | inl is ↦ inr (r, asks, shown ∙ ap (λ x. refusal (Some date) x) is, serves.unsettled clean live c kept h)
       | inr other ↦
-          let is_live_still : is_live new = elim serves.live [ inl is ↦ absurd (other is) | inr stays ↦ stays clean live ] in
-          let refuses : answer keys m r (state_of c) ≡ Err told = elim (serves.denied is_live_still c kept h) [ inl is ↦ absurd (other is) | inr is ↦ is ] in
+          let refuses : answer keys m r (state_of c) ≡ Err told = elim (serves.denied clean c kept (λ _. h)) [ inl is ↦ absurd (other is) | inr is ↦ is ] in
           let as_it_was : (d : Content) → leaves new c d = elim serves.kept [
             | inl is ↦ absurd (other is)
             | inr same ↦ λ d. same clean c d (rests old c d live h)
@@ -116,7 +118,7 @@ module _ {T : Type 0} (stands : T → Content → Type 0) (is_live is_clean : T 
     pub left_given : (buffer : Vec ℕ Global) (reply : List ℕ) → desk.Serves stands is_live is_clean leaves (result_of (Given buffer) changed) old new keys m r
         → reply ≡ framed 200 (Some date) [] (drop spare buffer.items) → LeavesRequest stands is_live is_clean leaves keys m bytes reply old new
     left_given buffer reply serves is = λ clean live c kept h.
-        let (gives, stands_after, kept_after, told) = serves.given (serves.live clean live) c kept h in
+        let (gives, stands_after, kept_after, told) = serves.given clean c kept (λ _. h) in
         inl (
           content_effect keys m r c,
           inr (r, asks, (date, dated, refl, shown_as (answer keys m r (state_of c)) buffer.items reply gives is)),

@@ -3,7 +3,7 @@ use Rattle.std.proofs.Common.{ℕ, Bool, true, false, refl}
 use Rattle.acvp_tables.specs.Content.{Content}
 use Rattle.acvp_tables.specs.declared.tables.StoreFault.{StoreFault}
 use Rattle.acvp_desk.specs.Kept.{IsKept}
-use Rattle.acvp_desk.specs.Orders.{Orders, content_order_effect}
+use Rattle.acvp_desk.specs.Orders.{Answers, Orders, content_order_effect}
 use Rattle.acvp_desk.specs.declared.keys.Keys.{Keys}
 use Rattle.acvp_desk.specs.declared.order.Order.{Order}
 use Rattle.acvp_desk.specs.declared.order.OrderReply.{OrderReply}
@@ -15,12 +15,21 @@ module _ {T : Type 0} (faults : StoreFault → Type 0) (stands : T → Content �
     (keys : Keys) (m : ℕ) (o : Order) (old new : T)
     (stay : (c : Content) → IsKept keys.seed c → IsKept keys.seed (content_order_effect o c)) where
   abbrev pub Turned : OrderReply → Type 0
-  Turned reply = (unavailable : Bool) × GoesByTurn stands is_live keys (record { event = order m o; unavailable = unavailable }) (ordered reply) old new
+  Turned reply = (unavailable : Bool) × GoesByTurn stands is_live is_clean keys (record { event = order m o; unavailable = unavailable }) (ordered reply) old new
+
+  answered : {reply : OrderReply} → (is_clean new → is_live old × is_live new) → Answers faults stands is_live is_clean leaves reply old new o → Turned reply
+  answered lasting said = (
+    false,
+    λ clean c kept h.
+        let up = lasting clean in
+        let (is, stands_after) = said up.1 c kept.sound (h up.0) in
+        (content_order_effect o c, (refl, is), λ _. stands_after, stay c kept),
+  )
 
   -- an order that is answered is a turn
   pub order_taken : (reply : OrderReply) → Orders faults stands is_live is_clean leaves reply old new o → Turned reply
-  order_taken (Done approved) carried = (false, λ live c kept h. let said = carried.answered live c kept.sound h in (content_order_effect o c, (refl, said.0), said.1, stay c kept))
-  order_taken Taken carried = (false, λ live c kept h. let said = carried.answered live c kept.sound h in (content_order_effect o c, (refl, said.0), said.1, stay c kept))
-  order_taken Unknown carried = (false, λ live c kept h. let said = carried.answered live c kept.sound h in (content_order_effect o c, (refl, said.0), said.1, stay c kept))
-  order_taken NotInitial carried = (false, λ live c kept h. let said = carried.answered live c kept.sound h in (content_order_effect o c, (refl, said.0), said.1, stay c kept))
-  order_taken Unavailable carried = (true, λ live c kept h. (c, (refl, refl), carried.same live c h, kept))
+  order_taken (Done approved) carried = answered carried.live carried.answered
+  order_taken Taken carried = answered carried.live carried.answered
+  order_taken Unknown carried = answered carried.live carried.answered
+  order_taken NotInitial carried = answered carried.live carried.answered
+  order_taken Unavailable carried = (true, λ clean c kept h. (c, (refl, refl), λ live. carried.same live c (h (carried.was_live live)), kept))

@@ -6,7 +6,7 @@ use Rattle.acvp_desk.specs.Answer.{end_of_moments}
 use Rattle.acvp_desk.specs.declared.keys.Keys.{Keys}
 use Rattle.acvp_http.specs.declared.connection.ServeFault.{ServeFault}
 use Rattle.acvp_http.specs.declared.connection.ServeFault.TheVariants.{Read, Write, Turns}
-use Rattle.acvp_http.specs.Needed.{IsNeededAt}
+use Rattle.acvp_http.specs.Needed.{IsNeededAt, IsWithinNeeded}
 use Rattle.acvp_http.specs.Reply.{refusal}
 use Rattle.acvp_http.specs.Serve.{RequestTaken}
 use Rattle.acvp_http.specs.Source.{InputStream, OutputStream, Gives, Gets, GetsFront, ReadsTooOften}
@@ -15,24 +15,27 @@ use Rattle.acvp_http.specs.Source.{InputStream, OutputStream, Gives, Gets, GetsF
 abbrev pub most_turns : ℕ
 most_turns = 2200000
 
--- the request wasn't handled: the records are as they were, nothing is written, and some of the input may be gone
+-- Some of a known input may be taken, and nothing behind what its request needs.
+abbrev pub TakesWithin : InputStream → InputStream → Type 0
+TakesWithin input left = (part : List ℕ) × Gives input left part × IfSome input.held (λ bytes. IsWithinNeeded bytes part)
+
+-- The request wasn't handled: the records are as they were, nothing is written, and some of what it needs may be taken.
 abbrev pub IsUnhandled : {T : Type 0} → InputStream → InputStream → OutputStream → OutputStream → T → T → Type 0
 IsUnhandled input left written out old new =
-    (new ≡ old) × Gets written out [] × ((front : List ℕ) × Gives input left front)
+    (new ≡ old) × Gets written out [] × TakesWithin input left
 
-module _ {T : Type 0} (stands : T → Content → Type 0) (is_live : T → Type 0) where
+module _ {T : Type 0} (stands : T → Content → Type 0) (is_live is_clean : T → Type 0) where
   -- What was taken is what the request of the known input needs, and nothing behind it. The reply, and what becomes of the
   -- records, are those of the whole input as a request, or it is unavailable.
   abbrev pub AnswersNeeded : Keys → ℕ → InputStream → InputStream → List ℕ → T → T → Type 0
   AnswersNeeded keys moment input left reply old new =
-      (front : List ℕ) × Gives input left front × RequestTaken stands is_live keys moment front reply old new
-      × IfSome input.held (λ bytes. IsNeededAt moment bytes front × RequestTaken stands is_live keys moment bytes reply old new)
+      (front : List ℕ) × Gives input left front × RequestTaken stands is_live is_clean keys moment front reply old new
+      × IfSome input.held (λ bytes. IsNeededAt moment bytes front × RequestTaken stands is_live is_clean keys moment bytes reply old new)
 
-  -- Or memory for what it needs was refused: the records stay, and some of it is taken.
+  -- Or memory for what it needs was refused: the records stay, and some of it may be taken.
   abbrev pub AnswersNothing : ℕ → InputStream → InputStream → List ℕ → T → T → Type 0
   AnswersNothing moment input left reply old new =
-      (moment < end_of_moments) × (reply ≡ refusal None Unavailable) × (new ≡ old)
-      × ((front : List ℕ) × Gives input left front)
+      (moment < end_of_moments) × (reply ≡ refusal None Unavailable) × (new ≡ old) × TakesWithin input left
 
   abbrev pub AnswersInput : Keys → ℕ → InputStream → InputStream → List ℕ → T → T → Type 0
   AnswersInput keys moment input left reply old new =

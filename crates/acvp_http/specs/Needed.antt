@@ -1,5 +1,5 @@
 -- How much of an input its request needs.
-use Rattle.std.specs.Prelude.{◌≡◌, ◌⊎◌, ℕ, ◌+◌, ◌-◌, List, [], take, nat_lt, MatchBool, Result, Ok, Err}
+use Rattle.std.specs.Prelude.{◌≡◌, ◌⊎◌, ℕ, ◌+◌, ◌-◌, List, [], ◌++◌, take, nat_lt, MatchBool, Result, Ok, Err}
 use Rattle.httparse.specs.Grammar.{RequestHead, ReadsRequest}
 use Rattle.acvp_policy.specs.declared.rule.Rule.{Rule}
 use Rattle.acvp_desk.specs.Answer.{end_of_moments}
@@ -32,3 +32,7 @@ IsNeeded input front =
 -- and at a moment: nothing where the moment isn't served
 abbrev pub IsNeededAt : ℕ → List ℕ → List ℕ → Type 0
 IsNeededAt moment input front = MatchBool (nat_lt moment end_of_moments) (IsNeeded input front) (front ≡ [])
+
+-- what its request needs of an input begins with this
+abbrev pub IsWithinNeeded : List ℕ → List ℕ → Type 0
+IsWithinNeeded input part = (front : List ℕ) → IsNeeded input front → (rest : List ℕ) × (front ≡ part ++ rest)

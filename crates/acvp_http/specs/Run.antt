@@ -65,11 +65,11 @@ WritesAnswers old new answers (Err Memory) = Gets old new (output_of answers)
 
 -- The input begins with the script of some turns, which the tables went through and whose answers are written; `left` is what
 -- was not taken of it.
-module _ {T : Type 0} (stands : T → Content → Type 0) (is_live : T → Type 0) where
+module _ {T : Type 0} (stands : T → Content → Type 0) (is_live is_clean : T → Type 0) where
   abbrev pub RunsScript : Keys → T → T → InputStream → InputStream → OutputStream → OutputStream → Result ℕ ScriptFault → Type 0
   RunsScript keys tables last input left old new result =
       (turns : List Turn) × (answers : List Answer) × (text : List ℕ)
-      × GoesThrough stands is_live keys turns answers tables last × IsScript (events_of turns) text
+      × GoesThrough stands is_live is_clean keys turns answers tables last × IsScript (events_of turns) text
       × StopsAfter input left turns text result × WritesAnswers old new answers result
       × (length turns ≤ most_events)
 

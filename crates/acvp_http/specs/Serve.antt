@@ -7,6 +7,7 @@ use Rattle.acvp_tables.specs.State.{state_of}
 use Rattle.acvp_desk.specs.Answer.{end_of_moments, answer, content_effect}
 use Rattle.acvp_desk.specs.Data.{Data}
 use Rattle.acvp_desk.specs.Kept.{IsKept}
+use Rattle.acvp_desk.specs.Serves.{Holds}
 use Rattle.acvp_desk.specs.Request.{RequestValue}
 use Rattle.acvp_desk.specs.Orders.{order_reply, content_order_effect}
 use Rattle.acvp_desk.specs.Written.{body_of}
@@ -92,12 +93,13 @@ Runs keys (turn ∷ turns) old new (answer ∷ answers) =
 
 -- ---- the tables
 
-module _ {T : Type 0} (stands : T → Content → Type 0) (is_live : T → Type 0) where
-  -- The tables, where they are live after it, went by something: for every content that they stood for before and that
-  -- holds what holds at all times, they stand for the content after it, which holds it too.
+module _ {T : Type 0} (stands : T → Content → Type 0) (is_live is_clean : T → Type 0) where
+  -- While the disk tells no lie, the tables went by something: for every content that they stood for before, if they were
+  -- open, and that holds what holds at all times, they stand for the content after it, if they are open, and it holds it too.
+  -- So a fault that shuts them ends nothing: what is answered behind it is told over the same content.
   abbrev pub GoesBy : Keys → (Content → Content → Type 0) → T → T → Type 0
-  GoesBy keys Step old new = is_live new → (c : Content) → IsKept keys.seed c → stands old c
-      → (next : Content) × Step c next × stands new next × IsKept keys.seed next
+  GoesBy keys Step old new = is_clean new → (c : Content) → IsKept keys.seed c → Holds stands is_live old c
+      → (next : Content) × Step c next × Holds stands is_live new next × IsKept keys.seed next
 
   -- they went by one turn
   abbrev pub GoesByTurn : Keys → Turn → Answer → T → T → Type 0
@@ -113,22 +115,23 @@ module _ {T : Type 0} (stands : T → Content → Type 0) (is_live : T → Type 
   GoesThrough keys [] (answer ∷ answers) old new = ⊥
   GoesThrough keys (turn ∷ turns) [] old new = ⊥
   GoesThrough keys (turn ∷ turns) (answer ∷ answers) old new =
-      (mid : T) × (is_live mid → is_live old) × GoesByTurn keys turn answer old mid × GoesThrough keys turns answers mid new
+      (mid : T) × (is_clean mid → is_clean old) × GoesByTurn keys turn answer old mid × GoesThrough keys turns answers mid new
 
   -- a request is served, or it is unavailable
   abbrev pub RequestTaken : Keys → ℕ → List ℕ → List ℕ → T → T → Type 0
   RequestTaken keys moment bytes reply old new =
       (unavailable : Bool) × GoesByTurn keys (record { event = request moment bytes; unavailable = unavailable }) (replied reply) old new
 
-  -- What is shown of a request of the desk, whatever the tables stand for: a reply with a body, or a denial by some rule,
-  -- after which they stand for what they stood for.
+module _ {T : Type 0} (stands : T → Content → Type 0) (is_live is_clean : T → Type 0) (leaves : T → Content → Content → Type 0) where
+  -- What is shown of a request of the desk, whatever the tables stand for: a reply with a body, or a denial by some rule, after
+  -- which they stand for what they stood for; and unless it is unavailable, a crash finds what it found before.
   abbrev pub ShowsReply : ℕ → List ℕ → T → T → Type 0
   ShowsReply moment reply old new =
       (date : List ℕ) × IsDateOf moment date
       × (((body : List ℕ) × (reply ≡ framed 200 (Some date) [] body))
-      ⊎ ((rule : Rule) × (reply ≡ refusal (Some date) rule) × (is_live new → (c : Content) → stands old c → stands new c)))
+      ⊎ ((rule : Rule) × (reply ≡ refusal (Some date) rule) × (is_live new → (c : Content) → stands old c → stands new c)
+      × ((rule ≡ UnavailableRule) ⊎ (is_clean new → (c d : Content) → leaves old c d → leaves new c d))))
 
-module _ {T : Type 0} (stands : T → Content → Type 0) (is_live is_clean : T → Type 0) (leaves : T → Content → Content → Type 0) where
   -- What a crash finds after the bytes of a request, while the disk tells no lie, of tables that were live: the records after it
   -- alone where it was answered; where it was unavailable, those before it, or those with its effect.
   abbrev pub LeavesRequest : Keys → ℕ → List ℕ → List ℕ → T → T → Type 0

@@ -1,7 +1,7 @@
 //! One request of a connection, from its reader to its writer.
 ghost use Rattle.std.specs.Prelude.{◌≡◌, false, MatchResult};
-ghost use Rattle.acvp_http.specs.Connection.{AnswersInput, ServesOne, is_read_end, is_write_end};
-ghost use Rattle.acvp_http.specs.Private.Receiving.{StopsConnection, TakesSome};
+ghost use Rattle.acvp_http.specs.Connection.{AnswersInput, ServesOne, TakesWithin, is_read_end, is_write_end};
+ghost use Rattle.acvp_http.specs.Private.Receiving.{StopsConnection};
 
 use crate::receiving::receive;
 use crate::reply::Reply;
@@ -43,9 +43,9 @@ fn answer_input<T: Tables, S: Source>(
     ensures was_clean { T.is_clean desk.new.tables → T.is_clean desk.old.tables }
     ensures answered { MatchResult result
         (λ reply. ((S.stream reader.new).failed ≡ false)
-        × AnswersInput T.stands T.is_live desk.old.keys moment (S.stream reader.old) (S.stream reader.new) reply desk.old.tables desk.new.tables)
+        × AnswersInput T.stands T.is_live T.is_clean desk.old.keys moment (S.stream reader.old) (S.stream reader.new) reply desk.old.tables desk.new.tables)
         (λ fault. StopsConnection fault (S.stream reader.old) (S.stream reader.new)
-        × (desk.new ≡ desk.old) × TakesSome (S.stream reader.old) (S.stream reader.new)) }
+        × (desk.new ≡ desk.old) × TakesWithin (S.stream reader.old) (S.stream reader.new)) }
 {
     if moment >= END_OF_MOMENTS {
         return Ok(handle_bytes(routes, desk, moment, b""));
@@ -76,7 +76,7 @@ pub fn serve_one<T: Tables, S: Source, K: Sink>(
     ensures keys { desk.new.keys ≡ desk.old.keys }
     ensures was_live { T.is_live desk.new.tables → T.is_live desk.old.tables }
     ensures was_clean { T.is_clean desk.new.tables → T.is_clean desk.old.tables }
-    ensures serves { ServesOne T.stands T.is_live desk.old.keys moment (S.stream reader.old) (S.stream reader.new) (K.stream writer.old)
+    ensures serves { ServesOne T.stands T.is_live T.is_clean desk.old.keys moment (S.stream reader.old) (S.stream reader.new) (K.stream writer.old)
         (K.stream writer.new) desk.old.tables desk.new.tables result }
     ensures read_fault { (S.stream reader.new).failed ≡ is_read_end result }
     ensures write_fault { (K.stream writer.new).failed ≡ is_write_end result }

@@ -2,7 +2,8 @@
 ghost use Rattle.std.specs.Prelude.{◌≡◌, ◌≤◌, ◌++◌, ℕ, List, false, length, IfSome, MatchResult};
 ghost use Rattle.acvp_http.specs.Needed.{IsNeeded, NeedsBody};
 ghost use Rattle.acvp_http.specs.Source.{Gives};
-ghost use Rattle.acvp_http.specs.Private.Receiving.{TakesSome, StopsReceiving, TakesByte, IsHeadTaken, IsBodyTaken};
+ghost use Rattle.acvp_http.specs.Connection.{TakesWithin};
+ghost use Rattle.acvp_http.specs.Private.Receiving.{TakesFew, TakesOfHead, StopsReceiving, TakesByte, IsHeadTaken, IsBodyTaken};
 
 use crate::framing::{BODY_BYTES, body_size};
 use crate::head::{HEAD_BYTES, ends_with_empty_line, line_count, whole_head};
@@ -22,7 +23,7 @@ fn take_byte<S: Source>(
     requires { (S.stream reader.old).failed ≡ false }
     ensures { MatchResult result
         (λ more. ((S.stream reader.new).failed ≡ false) × TakesByte more (S.stream reader.old) (S.stream reader.new) bytes.old.items bytes.new.items)
-        (λ fault. StopsReceiving fault (S.stream reader.new) limit × TakesSome (S.stream reader.old) (S.stream reader.new)) }
+        (λ fault. StopsReceiving fault (S.stream reader.new) limit × TakesFew 1 (S.stream reader.old) (S.stream reader.new)) }
 {
     match read_byte(reader, limit)? {
         None => Ok(false),
@@ -38,7 +39,7 @@ fn read_head<S: Source>(alloc: Global, reader: &mut S, limit: u64) -> Result<Vec
     requires { (S.stream reader.old).failed ≡ false }
     ensures { MatchResult result
         (λ bytes. ((S.stream reader.new).failed ≡ false) × Gives (S.stream reader.old) (S.stream reader.new) bytes.items × IsHeadTaken (S.stream reader.new).held bytes.items)
-        (λ fault. StopsReceiving fault (S.stream reader.new) limit × TakesSome (S.stream reader.old) (S.stream reader.new)) }
+        (λ fault. StopsReceiving fault (S.stream reader.new) limit × TakesOfHead (S.stream reader.old) (S.stream reader.new)) }
 {
     let mut bytes = Vec::new(alloc);
     for _ in 0..HEAD_BYTES {
@@ -63,7 +64,7 @@ fn read_body<S: Source>(
     ensures { MatchResult result
         (λ _. ((S.stream reader.new).failed ≡ false) × ((part : List ℕ) × (bytes.new.items ≡ bytes.old.items ++ part)
         × Gives (S.stream reader.old) (S.stream reader.new) part × IsBodyTaken wanted (S.stream reader.new).held part))
-        (λ fault. StopsReceiving fault (S.stream reader.new) limit × TakesSome (S.stream reader.old) (S.stream reader.new)) }
+        (λ fault. StopsReceiving fault (S.stream reader.new) limit × TakesFew wanted (S.stream reader.old) (S.stream reader.new)) }
 {
     for _ in 0..wanted {
         if !take_byte(reader, limit, bytes)? {
@@ -107,7 +108,7 @@ pub(crate) fn receive<S: Source>(
     ensures { MatchResult result
         (λ bytes. ((S.stream reader.new).failed ≡ false) × Gives (S.stream reader.old) (S.stream reader.new) bytes.items
         × IfSome (S.stream reader.old).held (λ input. IsNeeded input bytes.items))
-        (λ fault. StopsReceiving fault (S.stream reader.new) limit × TakesSome (S.stream reader.old) (S.stream reader.new)) }
+        (λ fault. StopsReceiving fault (S.stream reader.new) limit × TakesWithin (S.stream reader.old) (S.stream reader.new)) }
 {
     let mut bytes = read_head(alloc, reader, limit)?;
     if !ends_with_empty_line(&bytes) {

@@ -36,7 +36,7 @@ fn take_turn<T: Tables, K: Sink>(
     ensures was_live { T.is_live desk.new.tables → T.is_live desk.old.tables }
     ensures was_clean { T.is_clean desk.new.tables → T.is_clean desk.old.tables }
     ensures turn { (unavailable : Bool) × (answer : Answer)
-        × GoesByTurn T.stands T.is_live desk.old.keys (record { event = event_of event.now; unavailable = unavailable }) answer desk.old.tables desk.new.tables
+        × GoesByTurn T.stands T.is_live T.is_clean desk.old.keys (record { event = event_of event.now; unavailable = unavailable }) answer desk.old.tables desk.new.tables
         × WritesText (K.stream writer.old) (K.stream writer.new) (answer_text answer) result }
 {
     match event {
@@ -55,8 +55,8 @@ fn take_turn<T: Tables, K: Sink>(
 /// Tables that went through turns, one by one, went by all of them: for every content that they stood for, the answers
 /// are those of the run, and they stand for the content after it.
 pub fn turns_make_a_run<T: Tables>()
-    ensures { (keys : Keys) (turns : List Turn) (answers : List Answer) (old new : T) → GoesThrough T.stands T.is_live keys turns answers old new
-        → GoesByTurns T.stands T.is_live keys turns answers old new }
+    ensures { (keys : Keys) (turns : List Turn) (answers : List Answer) (old new : T) → GoesThrough T.stands T.is_live T.is_clean keys turns answers old new
+        → GoesByTurns T.stands T.is_live T.is_clean keys turns answers old new }
 {}
 
 /// Runs a script. It ends at the input's end, or at the first fault; the event at fault isn't handled, but for a writer
@@ -73,7 +73,7 @@ pub fn run<T: Tables, S: Source, K: Sink>(
     ensures keys { desk.new.keys ≡ desk.old.keys }
     ensures was_live { T.is_live desk.new.tables → T.is_live desk.old.tables }
     ensures was_clean { T.is_clean desk.new.tables → T.is_clean desk.old.tables }
-    ensures run { RunsScript T.stands T.is_live desk.old.keys desk.old.tables desk.new.tables (S.stream reader.old) (S.stream reader.new)
+    ensures run { RunsScript T.stands T.is_live T.is_clean desk.old.keys desk.old.tables desk.new.tables (S.stream reader.old) (S.stream reader.new)
         (K.stream writer.old) (K.stream writer.new) result }
     ensures read_fault { (S.stream reader.new).failed ≡ is_read_answer result }
     ensures write_fault { (K.stream writer.new).failed ≡ is_write_answer result }

@@ -40,8 +40,8 @@ pub fn handle_bytes<T: Tables>(
     ensures was_clean { T.is_clean desk.new.tables → T.is_clean desk.old.tables }
     ensures live { (result ≡ refusal None Rule.Unavailable) ⊎ (T.is_clean desk.new.tables → T.is_live desk.old.tables → T.is_live desk.new.tables) }
     ensures shown { (RefusesAtOnce moment bytes.now result × (desk.new ≡ desk.old))
-        ⊎ ((r : RequestValue) × AsksTheDesk moment bytes.now r × ShowsReply T.stands T.is_live moment result desk.old.tables desk.new.tables) }
-    ensures served { RequestTaken T.stands T.is_live desk.old.keys moment bytes.now result desk.old.tables desk.new.tables }
+        ⊎ ((r : RequestValue) × AsksTheDesk moment bytes.now r × ShowsReply T.stands T.is_live T.is_clean T.leaves moment result desk.old.tables desk.new.tables) }
+    ensures served { RequestTaken T.stands T.is_live T.is_clean desk.old.keys moment bytes.now result desk.old.tables desk.new.tables }
     ensures left { LeavesRequest T.stands T.is_live T.is_clean T.leaves desk.old.keys moment bytes.now result desk.old.tables desk.new.tables }
 {
     if moment >= END_OF_MOMENTS {

@@ -10,9 +10,17 @@ use Rattle.acvp_http.specs.Connection.{most_turns}
 use Rattle.acvp_http.specs.Private.Reading.{StopsReading}
 use Rattle.acvp_http.specs.Source.{InputStream, Gives, ReadsTooOften}
 
--- some bytes were taken
-abbrev pub TakesSome : InputStream → InputStream → Type 0
-TakesSome old new = (part : List ℕ) × Gives old new part
+-- so many bytes at most were taken
+abbrev pub TakesFew : ℕ → InputStream → InputStream → Type 0
+TakesFew most old new = (part : List ℕ) × Gives old new part × (length part ≤ most)
+
+-- The text is no longer than a head may be, and no shorter front of it ends in an empty line.
+pub record IsHeadBegun (text : List ℕ) : Type 0 where
+  pub few : length text ≤ head_limit
+  pub first : (k : ℕ) → k < length text → ends_empty (take k text) ≡ false
+
+abbrev pub TakesOfHead : InputStream → InputStream → Type 0
+TakesOfHead old new = (part : List ℕ) × Gives old new part × IsHeadBegun part
 
 -- a read has failed or there were too many, or memory was refused
 abbrev pub StopsReceiving : ScriptFault → InputStream → ℕ → Type 0

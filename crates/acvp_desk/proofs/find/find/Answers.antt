@@ -1,34 +1,41 @@
 use Rattle.std.proofs.Common.{inr}
 use Rattle.acvp_tables.specs.State.{state_of}
 use Rattle.acvp_desk.proofs.Finding.{account_is, refused_caller, login_found, caller_found}
+use Rattle.acvp_desk.proofs.Looking.{row_is_there}
 use Rattle.acvp_desk.proofs.find.find.Goals as goal
 
 pub returns-in-Err-clause-refused : goal.returns-in-Err-clause-refused
 returns-in-Err-clause-refused g c =
     inr (
       λ clean live. c.in-Ok-reviewer.ensures.looks.live clean (c.in-Ok.ensures.looks.live (c.in-Ok-reviewer.ensures.looks.was_clean clean) live),
-      λ live seeds content kept h. let up = c.in-Ok-reviewer.ensures.looks.was_live live in
+      λ clean seeds content kept h. let before = c.in-Ok-reviewer.ensures.looks.was_clean clean in
           refused_caller c.args.moment c.args.body.now c.args.ask.now c.in-Ok.account c.in-Ok-reviewer.reviewer seeds (state_of content) c.in-Err.rule
           c.action.result c.facts_for.result c.nothing-caller.result
-          (account_is c.args.ask.now content c.in-Ok.account c.who.result c.who.ensures (c.in-Ok.ensures.found up seeds content kept h))
-          (c.in-Ok-reviewer.ensures.found live seeds content kept (c.in-Ok.ensures.looks.same up content h))
+          (account_is c.args.ask.now content c.in-Ok.account c.who.result c.who.ensures (c.in-Ok.ensures.found before seeds content kept h))
+          (c.in-Ok-reviewer.ensures.found clean seeds content kept (λ up. c.in-Ok.ensures.looks.same up content (h (c.in-Ok.ensures.looks.was_live up))))
           c.action.ensures c.facts_for.ensures c.nothing-caller.ensures c.in-Err.ensures.refused,
     )
 
 pub returns-in_default-ask-clause-found : goal.returns-in_default-ask-clause-found
 returns-in_default-ask-clause-found g c =
-    λ live seeds content kept h. let up = c.in-Ok-reviewer.ensures.looks.was_live live in
+    λ clean seeds content kept h. let before = c.in-Ok-reviewer.ensures.looks.was_clean clean in
     login_found c.args.ask.now c.in_default-ask.field-0 c.in-Ok.account c.in-Ok-reviewer.reviewer c.nothing-caller.result seeds c.args.body.now (state_of content)
     c.in_default-ask.is c.nothing-caller.ensures
-    (account_is c.args.ask.now content c.in-Ok.account c.who.result c.who.ensures (c.in-Ok.ensures.found up seeds content kept h))
-    (c.in-Ok-reviewer.ensures.found live seeds content kept (c.in-Ok.ensures.looks.same up content h))
+    (account_is c.args.ask.now content c.in-Ok.account c.who.result c.who.ensures (c.in-Ok.ensures.found before seeds content kept h))
+    (c.in-Ok-reviewer.ensures.found clean seeds content kept (λ up. c.in-Ok.ensures.looks.same up content (h (c.in-Ok.ensures.looks.was_live up))))
 
 pub returns-in-Ok-look_at-clause-found : goal.returns-in-Ok-look_at-clause-found
 returns-in-Ok-look_at-clause-found g c =
-    λ live seeds content kept h. let late = c.in-Ok-look_at.ensures.looks.was_live live in let up = c.in-Ok-reviewer.ensures.looks.was_live late in
-    let there = c.in-Ok.ensures.looks.same up content h in
+    λ clean seeds content kept h.
+    let reviewed = c.in-Ok-look_at.ensures.looks.was_clean clean in
+    let before = c.in-Ok-reviewer.ensures.looks.was_clean reviewed in
+    let up = row_is_there c.args.moment c.args.ask.now c.in-Caller.asked c.action.result c.facts_for.result c.nothing-caller.result c.in-Ok.account c.in-Ok-reviewer.reviewer c.admit.result _
+    c.in-Caller.is c.action.ensures c.facts_for.ensures c.nothing-caller.ensures c.admit.ensures.judged c.in_default-admit.is c.in-Ok.ensures.open before in
+    let live = c.in-Ok-look_at.ensures.looks.live clean (c.in-Ok-reviewer.ensures.looks.live reviewed up.1) in
+    let late = c.in-Ok-look_at.ensures.looks.was_live live in
+    let there = c.in-Ok.ensures.looks.same up.1 content (h up.0) in
     caller_found c.args.ask.now c.in-Caller.asked c.in-Ok.account c.in-Ok-reviewer.reviewer c.in-Ok-look_at.field-0 c.acting.result seeds c.args.body.now (state_of content)
     c.in-Caller.is c.acting.ensures
-    (account_is c.args.ask.now content c.in-Ok.account c.who.result c.who.ensures (c.in-Ok.ensures.found up seeds content kept h))
-    (c.in-Ok-reviewer.ensures.found late seeds content kept there)
+    (account_is c.args.ask.now content c.in-Ok.account c.who.result c.who.ensures (c.in-Ok.ensures.found before seeds content kept h))
+    (c.in-Ok-reviewer.ensures.found reviewed seeds content kept (λ _. there))
     (c.in-Ok-look_at.ensures.found live seeds content kept (c.in-Ok-reviewer.ensures.looks.same late content there))

@@ -1,12 +1,12 @@
 use Rattle.std.proofs.Common.{rules, ◌∷◌, [], arith}
 use Rattle.acvp_http.proofs.KnownLemmas.{consumes_consumes}
-use Rattle.acvp_http.proofs.ReceivingLemmas.{stops_after, byte_taken, one_longer, none_yet, head_ended}
+use Rattle.acvp_http.proofs.ReceivingLemmas.{head_stops, byte_taken, one_longer, none_yet, head_ended}
 use Rattle.acvp_http.proofs.receiving.read_head.Goals as goal
 
 pub returns-in_err-take_byte : goal.returns-in_err-take_byte
 returns-in_err-take_byte g c =
-    let stops = stops_after (g.S.Source.stream c.args.reader.now) (g.S.Source.stream c.loop.reader) (g.S.Source.stream c.take_byte.new.reader) c.loop.bytes.items
-    c.in_err-take_byte.field-0.0 c.args.limit c.loop.invariant.consumed
+    let stops = head_stops (g.S.Source.stream c.args.reader.now) (g.S.Source.stream c.loop.reader) (g.S.Source.stream c.take_byte.new.reader) c.loop.bytes.items c.loop.counter
+    c.in_err-take_byte.field-0.0 c.args.limit c.loop.invariant.consumed c.loop.invariant.long (omega arith) c.loop.invariant.first
     c.in_err-take_byte.ensures in
     search rules
 

@@ -12,7 +12,7 @@ loop-count-init g c = record {
   keys = refl;
   was_live = λ live. live;
   was_clean = λ clean. clean;
-  ran = ran_none g.T.Tables.stands g.T.Tables.is_live c.args.desk.now.keys c.args.desk.now.tables (g.S.Source.stream c.args.reader.now)
+  ran = ran_none g.T.Tables.stands g.T.Tables.is_live g.T.Tables.is_clean c.args.desk.now.keys c.args.desk.now.tables (g.S.Source.stream c.args.reader.now)
       (g.K.Sink.stream c.args.writer.now);
 }
 
@@ -20,11 +20,11 @@ pub returns-in_err-take_turn-clause-run : goal.returns-in_err-take_turn-clause-r
 returns-in_err-take_turn-clause-run g c =
     let (clear, (front, written, consumed)) = rw c.in-Some.is at c.in_ok-event.ensures in
     let (unavailable, answer, takes, stopped) = c.in_err-take_turn.ensures.turn in
-    let ends : RunsScript g.T.Tables.stands g.T.Tables.is_live c.args.desk.now.keys c.args.desk.now.tables c.take_turn.new.desk.tables
+    let ends : RunsScript g.T.Tables.stands g.T.Tables.is_live g.T.Tables.is_clean c.args.desk.now.keys c.args.desk.now.tables c.take_turn.new.desk.tables
     (g.S.Source.stream c.args.reader.now) (g.S.Source.stream c.next_event.new.reader)
     (g.K.Sink.stream c.args.writer.now) (g.K.Sink.stream c.take_turn.new.writer)
     (Err c.in_err-take_turn.field-0.0) =
-    ran_writes g.T.Tables.stands g.T.Tables.is_live c.args.desk.now.keys c.args.desk.now.tables c.loop-count.desk.tables c.take_turn.new.desk.tables
+    ran_writes g.T.Tables.stands g.T.Tables.is_live g.T.Tables.is_clean c.args.desk.now.keys c.args.desk.now.tables c.loop-count.desk.tables c.take_turn.new.desk.tables
     (g.S.Source.stream c.args.reader.now) (g.S.Source.stream c.loop-count.reader) (g.S.Source.stream c.next_event.new.reader)
     (g.K.Sink.stream c.args.writer.now) (g.K.Sink.stream c.loop-count.writer) (g.K.Sink.stream c.take_turn.new.writer)
     (record {
@@ -32,8 +32,8 @@ returns-in_err-take_turn-clause-run g c =
       unavailable = unavailable;
     }) answer front
     c.loop-count.count c.in_err-take_turn.field-0.0
-    c.loop-count.invariant.ran (omega arith) c.in_err-take_turn.ensures.was_live written consumed
-    (under g.T.Tables.stands g.T.Tables.is_live c.loop-count.desk.keys c.args.desk.now.keys c.loop-count.desk.tables c.take_turn.new.desk.tables _ answer
+    c.loop-count.invariant.ran (omega arith) c.in_err-take_turn.ensures.was_clean written consumed
+    (under g.T.Tables.stands g.T.Tables.is_live g.T.Tables.is_clean c.loop-count.desk.keys c.args.desk.now.keys c.loop-count.desk.tables c.take_turn.new.desk.tables _ answer
     c.loop-count.invariant.keys takes) stopped.0 stopped.2 in
     search rules
 
@@ -47,15 +47,15 @@ loop-count-preserved g c =
       keys = c.take_turn.ensures.keys ∙ c.loop-count.invariant.keys;
       was_live = λ live. c.loop-count.invariant.was_live (c.take_turn.ensures.was_live live);
       was_clean = λ clean. c.loop-count.invariant.was_clean (c.take_turn.ensures.was_clean clean);
-      ran = ran_more g.T.Tables.stands g.T.Tables.is_live c.args.desk.now.keys c.args.desk.now.tables c.loop-count.desk.tables c.take_turn.new.desk.tables
+      ran = ran_more g.T.Tables.stands g.T.Tables.is_live g.T.Tables.is_clean c.args.desk.now.keys c.args.desk.now.tables c.loop-count.desk.tables c.take_turn.new.desk.tables
           (g.S.Source.stream c.args.reader.now) (g.S.Source.stream c.loop-count.reader)
           (g.S.Source.stream c.next_event.new.reader) (g.K.Sink.stream c.args.writer.now)
           (g.K.Sink.stream c.loop-count.writer) (g.K.Sink.stream c.take_turn.new.writer)
           (record {
             event = event_of c.in-Some.event;
             unavailable = unavailable;
-          }) answer front c.loop-count.count c.loop-count.invariant.ran c.take_turn.ensures.was_live written consumed
-          (under g.T.Tables.stands g.T.Tables.is_live c.loop-count.desk.keys c.args.desk.now.keys c.loop-count.desk.tables c.take_turn.new.desk.tables _ answer
+          }) answer front c.loop-count.count c.loop-count.invariant.ran c.take_turn.ensures.was_clean written consumed
+          (under g.T.Tables.stands g.T.Tables.is_live g.T.Tables.is_clean c.loop-count.desk.keys c.args.desk.now.keys c.loop-count.desk.tables c.take_turn.new.desk.tables _ answer
           c.loop-count.invariant.keys takes) done.1;
     }
 
@@ -90,7 +90,7 @@ take_turn-requires-clause-event g c =
 pub returns-in_err-read_byte-clause-run : goal.returns-in_err-read_byte-clause-run
 returns-in_err-read_byte-clause-run g c =
     let ran = c.loop-count.invariant.ran in
-    let ends : RunsScript g.T.Tables.stands g.T.Tables.is_live c.args.desk.now.keys c.args.desk.now.tables c.loop-count.desk.tables
+    let ends : RunsScript g.T.Tables.stands g.T.Tables.is_live g.T.Tables.is_clean c.args.desk.now.keys c.args.desk.now.tables c.loop-count.desk.tables
     (g.S.Source.stream c.args.reader.now) (g.S.Source.stream c.read_byte.new.reader)
     (g.K.Sink.stream c.args.writer.now) (g.K.Sink.stream c.loop-count.writer) (Err c.in_err-read_byte.field-0.0) =
     let stopped = stopped_at_last c.in_err-read_byte.field-0.0 c.saturating_add-limit.result (g.S.Source.stream c.args.reader.now) (g.S.Source.stream c.read_byte.new.reader)
