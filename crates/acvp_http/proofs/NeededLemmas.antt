@@ -233,9 +233,9 @@ begins n part ys low =
 begun_low : (part ys : List ℕ) (n : ℕ) → IsHeadBegun part → IsBlockEnd (window (part ++ ys)) n → length part ≤ n
 begun_low part ys n begun end =
     let late : n < length part → ⊥ = λ below.
-        let is : ends_empty (take n part) ≡ true = ap ends_empty (sym (block_front part ys n begun.few (omega arith))) ∙ end.1 in
-        let other : ends_empty (take n part) ≡ false = begun.first n below in
-        cc in
+    let is : ends_empty (take n part) ≡ true = ap ends_empty (sym (block_front part ys n begun.few (omega arith))) ∙ end.1 in
+    let other : ends_empty (take n part) ≡ false = begun.first n below in
+    cc in
     omega (arith, late)
 
 head_begins : (part ys : List ℕ) → IsHeadBegun part → IsWithinNeeded (part ++ ys) part

@@ -4,7 +4,7 @@ use Rattle.std.proofs.lemmas.List.{take-append-le}
 use Rattle.acvp_http.specs.Asks.{ends_empty}
 use Rattle.acvp_http.specs.Source.{InputStream, Gives}
 use Rattle.acvp_http.specs.declared.script.ScriptFault.{ScriptFault}
-use Rattle.acvp_http.specs.Private.Receiving.{StopsReceiving, TakesFew, TakesOfHead, TakesByte, IsHeadBegun, IsHeadTaken}
+use Rattle.acvp_http.specs.Private.Receiving.{StopsReceiving, TakesFew, TakesOfHead, TakesByte, IsHeadTaken}
 use Rattle.acvp_http.proofs.KnownLemmas.{consumes_consumes}
 
 -- what was taken of a head before the stop, and then a byte at most

@@ -1,5 +1,5 @@
 -- Lemmas on runs that go on by one turn.
-use Rattle.std.proofs.Common.{◌≡◌, ◌≢◌, ◌<◌, ◌≤◌, ◌+◌, ◌-◌, ◌^◌, min, inr, ℕ, Bool, true, List, [], ◌∷◌, ◌++◌, length, Option, None, Some, Err, subst, arith, sym, ◌∙◌, ap, refl, append_assoc, length-append}
+use Rattle.std.proofs.Common.{◌≡◌, ◌≢◌, ◌<◌, ◌≤◌, ◌+◌, ◌-◌, ◌^◌, min, inr, ℕ, true, List, [], ◌∷◌, ◌++◌, length, Option, None, Some, Err, subst, arith, sym, ◌∙◌, ap, refl, append_assoc, length-append}
 use Rattle.std.proofs.lemmas.Bool.{le-leb}
 use Rattle.std.proofs.lemmas.List.{append-nil}
 use Rattle.std.specs.Io.KnownBytes.{Appends, Consumes}
@@ -67,7 +67,7 @@ module _ {T : Type 0} (stands : T → Content → Type 0) (is_live is_clean : T 
       )
   through_more [] (a ∷ answers) start mid now turn answer through was_clean takes = absurd through
   through_more (t ∷ turns) [] start mid now turn answer through was_clean takes = absurd through
-  through_more (t ∷ turns) (a ∷ answers) start mid now turn answer (next, up, first, through) was_live takes =
+  through_more (t ∷ turns) (a ∷ answers) start mid now turn answer (next, up, first, through) was_clean takes =
       (next, up, first, through_more turns answers next mid now turn answer through was_clean takes)
 
   -- a disk that has told no lie at the end had told none at the start

@@ -6,3 +6,4 @@ pub mod SetTexts
 pub mod Pages
 pub mod Summaries
 pub mod Bare
+pub mod Clean

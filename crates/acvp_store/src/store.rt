@@ -366,7 +366,7 @@ impl<S: Alter> Tables for SqlTables<S> {
     ghost use Rattle.sqlite.specs.Effect.{Database};
     ghost use Rattle.acvp_store.specs.Stands.{Stands};
     ghost use Rattle.acvp_store.specs.Store.{may_fail, stands, IsLive, is_clean, leaves};
-    ghost use Rattle.acvp_store.proofs.Reading.{clean_if_open};
+    ghost use Rattle.acvp_store.specs.Private.Clean.{open_is_clean};
 
     ghost faults = { may_fail };
 
@@ -378,7 +378,7 @@ impl<S: Alter> Tables for SqlTables<S> {
 
     ghost leaves = { leaves S.Store };
 
-    ghost clean = { λ t live. clean_if_open (state S.Store t).is_clean (state S.Store t).is_open (S.Store.shut_if_dirty t.store) live.is_open };
+    ghost clean = { λ t live. open_is_clean (S.Store.shut_if_dirty t.store) live.is_open };
 
     ghost rests = { λ t c d live h clean db may. inl (subst (λ x. Stands x c) (sym (S.Store.settled t.store db live.is_open may ∙ ap (λ (x : Database). x.trees) (sym live.store.ready.settled))) h) };
 

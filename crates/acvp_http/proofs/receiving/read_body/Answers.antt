@@ -1,4 +1,4 @@
-use Rattle.std.proofs.Common.{rules}
+use Rattle.std.proofs.Common.{arith, rules}
 use Rattle.acvp_http.proofs.ReceivingLemmas.{body_stops}
 use Rattle.acvp_http.proofs.receiving.read_body.Goals as goal
 
