@@ -1,7 +1,8 @@
 #!/usr/bin/env python3
 """Goes through the protocol for ten accounts in turn over one run of a script: each of the 31 actions is accepted, and each
 rule of refusal is met but three: that an account is full, that the moment isn't served, and that memory is refused. With
-ample memory no reply has status 503 and no order is unavailable. Tokens that are no good are signed by Python's hmac."""
+ample memory no reply has status 503 and no order is unavailable. Tokens that are no good are signed by Python's hmac. Each
+account after the first also asks for what the one before it has, and is told no more than of what isn't there."""
 import base64
 import hashlib
 import hmac
@@ -41,8 +42,9 @@ def hash_set(*lengths):
 class Laboratory:
     """One account's walk through the protocol, with a clock that it sets."""
 
-    def __init__(self, server, account, moment):
-        self.server, self.account, self.moment = server, account, moment
+    def __init__(self, server, account, moment, before=None):
+        self.server, self.account, self.moment, self.before = server, account, moment, before
+        self.session = account * 1000000 + 1
         self.actions, self.rules = set(), set()
         self.secret = hashlib.sha256(b"%d" % account).digest()
         self.token = None
@@ -55,12 +57,12 @@ class Laboratory:
         head, _, content = reply.partition(b"\r\n\r\n")
         return int(head.split(b" ")[1]), json.loads(content)[1]
 
-    def request(self, method, path, token=None, thing=None, body=None, moment=None):
+    def request(self, method, path, token=None, thing=None, body=None, moment=None, lengths=("{}",)):
         if thing is not None:
             body = json.dumps([{"acvVersion": "1.0"}, thing]).encode()
         lines = [f"{method} /acvp/v1{path} HTTP/1.1", "Host: laboratory.example"]
         lines += [f"Authorization: Bearer {token}"] if token is not None else []
-        lines += [f"Content-Length: {len(body)}"] if body is not None else []
+        lines += ["Content-Length: " + length.format(len(body)) for length in lengths if body is not None]
         return self.ask("\r\n".join(lines + ["", ""]).encode() + (body or b""), moment)
 
     def does(self, action, method, path, token=None, thing=None, moment=None):
@@ -79,7 +81,9 @@ class Laboratory:
 
     def login(self, moment, renewed=None):
         body = {"password": one_time_code(self.secret, moment), "user": str(self.account)}
-        return self.request("POST", "/login", thing={**body, "accessToken": renewed} if renewed else body, moment=moment)
+        body.update({"accessToken": renewed} if renewed else {})
+        # its length is given twice, as the same number
+        return self.request("POST", "/login", thing=body, moment=moment, lengths=("{}", "0{}"))
 
     def session_token(self, session, moment):
         """A token of the session that is good at the moment, as its clients renew theirs."""
@@ -122,6 +126,10 @@ class Laboratory:
         assert self.does(4, "GET", "/algorithms/2", self.token)["name"] == "SHA2-256"
         self.refused("noResource", self.request("GET", "/algorithms/13", self.token))
 
+    def no_envelope(self, method, path, token):
+        self.refused("bodyNotJson", self.request(method, path, token, body=b"["))
+        self.refused("bodyEnvelope", self.request(method, path, token, body=b"[]"))
+
     # ---- sessions and sets
 
     def new_session(self, *capabilities, sample=False):
@@ -136,6 +144,7 @@ class Laboratory:
 
     def submissions(self):
         session, bound, (first, second) = self.new_session(hash_set(8), hash_set(16))
+        assert session == f"/testSessions/{self.session}" and first == f"{session}/vectorSets/{self.session}01", first
         shown = self.does(12, "GET", first, bound)
         right = answers(shown)
         twice = json.loads(json.dumps(right))
@@ -148,6 +157,9 @@ class Laboratory:
         self.does(15, "POST", results, bound, right)
         self.refused("alreadySubmitted", self.request("POST", results, bound, right))
         self.does(16, "PUT", results, bound, right)
+        self.no_envelope("PUT", results, bound)
+        for word, thing in [("bodyField", {}), ("setMismatch", {**right, "vsId": 1}), ("duplicateTest", twice), ("unknownTest", unknown)]:
+            self.refused(word, self.request("PUT", results, bound, thing))
         assert self.does(14, "GET", results, bound)["disposition"] == "passed"
         assert self.does(10, "GET", session + "/results", bound)["passed"] is False
         self.refused("notPassed", self.request("PUT", session, bound, {}))
@@ -160,8 +172,18 @@ class Laboratory:
         self.refused("sessionTokenNeeded", self.request("GET", session, self.token))
         self.refused("accountTokenNeeded", self.request("POST", "/vendors", bound, {"name": "n"}))
         self.refused("otherSession", self.request("GET", "/testSessions/1", bound))
+        self.others(session)
         self.ended(session, first)
         return session, bound
+
+    def others(self, session):
+        """What another account has is told as what isn't there: by a token that names its session, and by its sets' numbers."""
+        there = self.before.session if self.before else 1
+        for foreign in (there, 9999999999):
+            for path in (f"/testSessions/{foreign}", session):
+                self.refused("otherSession", self.request("GET", path, self.session_token(foreign, self.moment)))
+            path = f"{session}/vectorSets/{foreign}01"
+            self.refused("noResource", self.request("GET", path, self.session_token(self.session, self.moment)))
 
     def ended(self, session, first):
         number = int(session.rsplit("/", 1)[1])
@@ -182,6 +204,8 @@ class Laboratory:
             named = self.does(30, "POST", path, bound, {"account": account})["reviewers"]
             assert named == list(range(1, account + 1)), named
         self.refused("reviewersFull", self.request("POST", path, bound, {"account": 17}))
+        self.refused("bodyField", self.request("POST", path, bound, {"account": 0}))
+        self.no_envelope("POST", path, bound)
         assert self.does(31, "DELETE", path + "/16", bound)["reviewers"] == list(range(1, 16))
         assert self.does(29, "GET", path, bound)["reviewers"] == list(range(1, 16))
 
@@ -199,6 +223,9 @@ class Laboratory:
         return shown
 
     def certification(self, session, bound):
+        for kind in ("vendors", "modules", "oes"):
+            self.no_envelope("POST", f"/{kind}", self.token)
+            self.refused("bodyField", self.request("POST", f"/{kind}", self.token, {}))
         absent = f"/acvp/v1/vendors/{self.account}999999"
         self.refused("noReference", self.request("POST", "/modules", self.token, {"name": "m", "vendorUrl": absent}))
         vendor = self.registered((19, 18, 20), "vendors", {"name": "Acme"})
@@ -225,8 +252,10 @@ class Laboratory:
 
 def main():
     server = Server(sys.argv[1:])
+    laboratory = None
     for place in range(10):
-        Laboratory(server, 11 + 998 * place, 1000000000 + 100000000 * place).walk()
+        laboratory = Laboratory(server, 11 + 998 * place, 1000000000 + 100000000 * place, laboratory)
+        laboratory.walk()
     server.end()
     print(f"ten accounts: 31 actions accepted and {len(STATUS_OF)} rules met by each")
 

@@ -73,10 +73,11 @@ impl<T: Tables> Desk<T> {
         ensures keys { IfOk result (λ desk. desk.keys ≡ keys) }
         ensures empty { IfOk result (λ desk. desk.cached ≡ 0) }
         ensures looks { Looks T.stands T.is_live T.is_clean T.leaves result tables (tables_of result) }
-        ensures seeded { T.is_live (tables_of result) → IfOk result (λ _. (c : Content) → IsSound c → T.stands tables c → HasSeeds keys.seed (greatest_epoch_of c.sets)) }
-        ensures open { IfErr result (λ fault. fault.1 ≡ NewFault.Epoch → T.is_clean fault.0 → T.is_live tables → T.is_live fault.0) }
+        ensures open { IfOk result (λ desk. T.is_clean desk.tables → T.is_live tables × T.is_live desk.tables) }
+        ensures seeded { IfOk result (λ desk. T.is_clean desk.tables → (c : Content) → IsSound c → T.stands tables c → HasSeeds keys.seed (greatest_epoch_of c.sets)) }
+        ensures looked { IfErr result (λ fault. fault.1 ≡ NewFault.Epoch → T.is_clean fault.0 → T.is_live tables × T.is_live fault.0) }
         ensures store { IfErr result (λ fault. fault.1 ≡ NewFault.Store → T.faults StoreFault.Refused) }
-        ensures epoch { T.is_live (tables_of result) → IfErr result (λ fault. fault.1 ≡ NewFault.Epoch → (c : Content) → IsSound c → T.stands tables c → ¬ HasSeeds keys.seed (greatest_epoch_of c.sets)) }
+        ensures epoch { IfErr result (λ fault. fault.1 ≡ NewFault.Epoch → T.is_clean fault.0 → (c : Content) → IsSound c → T.stands tables c → ¬ HasSeeds keys.seed (greatest_epoch_of c.sets)) }
     {
         let mut tables = tables;
         let newest = keys.seed.newest();

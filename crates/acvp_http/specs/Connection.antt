@@ -19,10 +19,11 @@ most_turns = 2200000
 abbrev pub TakesWithin : InputStream → InputStream → Type 0
 TakesWithin input left = (part : List ℕ) × Gives input left part × IfSome input.held (λ bytes. IsWithinNeeded bytes part)
 
--- The request wasn't handled: the records are as they were, nothing is written, and some of what it needs may be taken.
-abbrev pub IsUnhandled : {T : Type 0} → InputStream → InputStream → OutputStream → OutputStream → T → T → Type 0
-IsUnhandled input left written out old new =
-    (new ≡ old) × Gets written out [] × TakesWithin input left
+-- The request of a moment that is served wasn't handled: the records are as they were, nothing is written, and some of
+-- what it needs may be taken.
+abbrev pub IsUnhandled : {T : Type 0} → ℕ → InputStream → InputStream → OutputStream → OutputStream → T → T → Type 0
+IsUnhandled moment input left written out old new =
+    (moment < end_of_moments) × (new ≡ old) × Gets written out [] × TakesWithin input left
 
 module _ {T : Type 0} (stands : T → Content → Type 0) (is_live is_clean : T → Type 0) where
   -- What was taken is what the request of the known input needs, and nothing behind it. The reply, and what becomes of the
@@ -48,9 +49,9 @@ module _ {T : Type 0} (stands : T → Content → Type 0) (is_live is_clean : T 
       (reply : List ℕ) × AnswersInput keys moment input left reply old new × Gets written out reply
   ServesOne keys moment input left written out old new (Err Write) =
       (reply : List ℕ) × AnswersInput keys moment input left reply old new × GetsFront written out reply
-  ServesOne keys moment input left written out old new (Err Read) = IsUnhandled input left written out old new
+  ServesOne keys moment input left written out old new (Err Read) = IsUnhandled moment input left written out old new
   ServesOne keys moment input left written out old new (Err Turns) =
-      IsUnhandled input left written out old new × ReadsTooOften most_turns input left
+      IsUnhandled moment input left written out old new × ReadsTooOften most_turns input left
 
 -- whether the fault is that the reader, or the writer, has failed
 abbrev pub is_read_end : {X : Type 0} → Result X ServeFault → Bool

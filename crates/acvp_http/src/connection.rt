@@ -1,5 +1,6 @@
 //! One request of a connection, from its reader to its writer.
-ghost use Rattle.std.specs.Prelude.{◌≡◌, false, MatchResult};
+ghost use Rattle.std.specs.Prelude.{◌≡◌, ◌<◌, false, MatchResult};
+ghost use Rattle.acvp_desk.specs.Answer.{end_of_moments};
 ghost use Rattle.acvp_http.specs.Connection.{AnswersInput, ServesOne, TakesWithin, is_read_end, is_write_end};
 ghost use Rattle.acvp_http.specs.Private.Receiving.{StopsConnection};
 
@@ -45,7 +46,7 @@ fn answer_input<T: Tables, S: Source>(
         (λ reply. ((S.stream reader.new).failed ≡ false)
         × AnswersInput T.stands T.is_live T.is_clean desk.old.keys moment (S.stream reader.old) (S.stream reader.new) reply desk.old.tables desk.new.tables)
         (λ fault. StopsConnection fault (S.stream reader.old) (S.stream reader.new)
-        × (desk.new ≡ desk.old) × TakesWithin (S.stream reader.old) (S.stream reader.new)) }
+        × (moment < end_of_moments) × (desk.new ≡ desk.old) × TakesWithin (S.stream reader.old) (S.stream reader.new)) }
 {
     if moment >= END_OF_MOMENTS {
         return Ok(handle_bytes(routes, desk, moment, b""));

@@ -79,6 +79,22 @@ fn a_reply_is_written_as_far_as_the_writer_goes(rt: HostRuntime) -> Result<(), F
 }
 
 #[test]
+fn a_login_whose_reply_is_cut_has_used_its_code(rt: HostRuntime) -> Result<(), Fail> {
+    let alloc = rt.alloc();
+    let mut desk = desk_of_seven(&rt, alloc);
+    let writer = Narrow {
+        held: Vec::new(alloc),
+        room: 10,
+    };
+    let cut = serve_over(alloc, &mut desk, 59, LOGIN, writer)?;
+    assert_eq!(rt; cut.answer, Err(ServeFault::Write));
+    assert_eq!(rt; cut.writer.held.as_slice(), b"HTTP/1.1 2");
+    let again = serve_over(alloc, &mut desk, 60, LOGIN, Vec::new(alloc))?;
+    assert!(rt; again.writer.ends_with(b"{\"error\":\"loginRefused\"}]"));
+    Ok(())
+}
+
+#[test]
 fn what_a_request_does_not_need_stays_unread(rt: HostRuntime) -> Result<(), Fail> {
     let alloc = rt.alloc();
     let mut desk = desk_of_seven(&rt, alloc);
