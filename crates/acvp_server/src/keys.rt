@@ -19,7 +19,7 @@ const LINE: usize = 65;
 /// The most entries of a ring, and the most seeds.
 const MOST_LINES: usize = 16;
 
-/// The 32 bytes that a line of 64 hex digits and a line feed gives.
+/// The 32 bytes that a line of 64 hex digits and a line feed gives: a line of the keys file, or a secret file whole.
 fn bytes_of(line: &[u8]) -> Option<[u8; 32]>
     ensures { MatchOption result ((bytes : List ℕ) → IsLine line.now bytes → ⊥) (IsLine line.now) }
 {
@@ -160,9 +160,16 @@ pub(crate) fn read_keys(text: &[u8]) -> Option<Keys>
 
 /// The keys in a file.
 pub(crate) fn keys_in<R: Files + AllocGlobal>(rt: &R, path: &str) -> Result<Keys, Fault> {
-    let text = match fs::read(rt, path) {
-        Ok(text) => text,
-        Err(error) => return Err(Fault::of_keys_file(&error)),
-    };
-    read_keys(&text).ok_or(Fault::Keys)
+    match fs::read(rt, path) {
+        Ok(text) => read_keys(&text).ok_or(Fault::Keys),
+        Err(error) => Err(Fault::Keys.of_system(&error)),
+    }
+}
+
+/// The secret of an account, in a file.
+pub(crate) fn secret_in<R: Files + AllocGlobal>(rt: &R, path: &str) -> Result<[u8; 32], Fault> {
+    match fs::read(rt, path) {
+        Ok(text) => bytes_of(&text).ok_or(Fault::Secret),
+        Err(error) => Err(Fault::Secret.of_system(&error)),
+    }
 }

@@ -1,26 +1,85 @@
 //! The program: its command line, and what each subcommand runs.
 #![tactic(auto)]
 
+ghost use Rattle.std.specs.Prelude.{◌≡◌, true};
+ghost use Rattle.acvp_tables.specs.State.{is_account_number};
+ghost use Rattle.acvp_server.specs.Commands.{NamesAccount};
+
 mod command;
+mod database;
 mod fault;
 mod keys;
+mod lines;
+mod numbers;
+mod orders;
+mod printing;
 mod script;
+mod serving;
 
-use crate::command::command;
+use crate::command::{Asked, BadNumber, command, wish_of};
 use crate::fault::Fault;
+use crate::lines::Line;
+use acvp_desk::Order;
+use clap::Error;
 use clap::error::ErrorKind;
-use clap::{ArgMatches, Error};
+use sqlite::Wary;
 use std::process::ExitCode;
-use std::rt::{Env, Files};
 
-/// Runs the subcommand that the command line names.
-fn subcommand<R: Files + Input + Print + AllocGlobal>(
-    rt: &R,
-    matches: &ArgMatches<'_>,
-) -> Result<(), Fault> {
-    match matches.subcommand() {
-        Some(("script", matches)) => script::script(rt, matches.get_str("keys").unwrap_or("")),
-        _ => Ok(()),
+/// Adds an account with the secret in a file.
+fn add_account(rt: &HostRuntime, db: &str, account: u16, secret: &str) -> Result<Line, Fault>
+    requires { is_account_number account ≡ true }
+{
+    let secret = keys::secret_in(rt, secret)?;
+    orders::order_in(rt, db, Wary, &Order::AddAccount { account, secret })
+}
+
+/// Makes the tables in a file.
+fn init(rt: &HostRuntime, db: &str) -> Result<Line, Fault> {
+    database::close(database::make_tables(rt, db, Wary)?);
+    Ok(Line::Ready)
+}
+
+/// Carries out what the command line asks for, and gives the line that says so, where there is one.
+fn carry_out(rt: &HostRuntime, asked: Asked<'_>) -> Result<Option<Line>, Fault>
+    requires { NamesAccount asked }
+{
+    let line = match asked {
+        Asked::Init { db } => init(rt, db)?,
+        Asked::AddAccount {
+            db,
+            account,
+            secret,
+        } => add_account(rt, db, account, secret)?,
+        Asked::DisableAccount { db, account } => {
+            orders::order_in(rt, db, Wary, &Order::DisableAccount { account })?
+        }
+        Asked::ApproveRequest { db, request } => {
+            orders::order_in(rt, db, Wary, &Order::ApproveRequest { request })?
+        }
+        Asked::RejectRequest { db, request } => {
+            orders::order_in(rt, db, Wary, &Order::RejectRequest { request })?
+        }
+        Asked::Serve {
+            db,
+            keys,
+            port,
+            count,
+        } => serving::serve(rt, db, Wary, keys, port, count)?,
+        Asked::Script { keys } => {
+            script::script(rt, keys)?;
+            return Ok(None);
+        }
+    };
+    Ok(Some(line))
+}
+
+/// Carries out what the command line asks for, and prints the line that says so.
+fn run(rt: &HostRuntime, asked: Asked<'_>) -> Result<(), Fault>
+    requires { NamesAccount asked }
+{
+    match carry_out(rt, asked)? {
+        Some(line) => printing::print_line(rt, line),
+        None => Ok(()),
     }
 }
 
@@ -29,6 +88,17 @@ fn refused<R: Print + Eprint>(rt: &R, error: &Error) -> ExitCode {
     match error.print(rt) {
         Ok(()) => ExitCode::from(error.exit_code() as u8),
         Err(_) => ExitCode::from(2),
+    }
+}
+
+/// Refuses the command line for a number.
+fn refused_number(rt: &HostRuntime, bad: BadNumber) -> ExitCode {
+    let Ok(mut command) = command(rt.alloc()) else {
+        return failed(rt, Fault::Memory);
+    };
+    match command.error(ErrorKind::ValueValidation, bad.message()) {
+        Ok(error) => refused(rt, &error),
+        Err(_) => failed(rt, Fault::Memory),
     }
 }
 
@@ -50,12 +120,19 @@ fn main(rt: HostRuntime) -> ExitCode {
     let Ok(command) = command(alloc) else {
         return failed(&rt, Fault::Memory);
     };
-    match command.try_get_matches_from(words.as_slice()) {
-        Ok(matches) => match subcommand(&rt, &matches) {
+    let matches = match command.try_get_matches_from(words.as_slice()) {
+        Ok(matches) => matches,
+        Err(error) if matches!(error.kind(), ErrorKind::OutOfMemory) => {
+            return failed(&rt, Fault::Memory);
+        }
+        Err(error) => return refused(&rt, &error),
+    };
+    match wish_of(&matches) {
+        Ok(Some(asked)) => match run(&rt, asked) {
             Ok(()) => ExitCode::SUCCESS,
             Err(fault) => failed(&rt, fault),
         },
-        Err(error) if matches!(error.kind(), ErrorKind::OutOfMemory) => failed(&rt, Fault::Memory),
-        Err(error) => refused(&rt, &error),
+        Ok(None) => ExitCode::SUCCESS,
+        Err(bad) => refused_number(&rt, bad),
     }
 }

@@ -1,0 +1,59 @@
+//! The records in a file: its tables are made, or taken over where they are there.
+use crate::fault::Fault;
+use acvp_store::{SqlTables, adopt, create};
+use sqlite::{Connection, FileFrom, FileStore, Start};
+use std::fs;
+
+/// The records in a file.
+pub(crate) type FileTables<S> = SqlTables<FileStore<FileFrom<S>>>;
+
+/// A connection to the database in a file, which is made where there is none.
+fn connect<S: Start>(
+    rt: &HostRuntime,
+    path: &str,
+    start: S,
+) -> Result<Connection<FileStore<FileFrom<S>>>, Fault> {
+    match Connection::open_from(rt, path, false, start) {
+        Ok(connection) => Ok(connection),
+        Err((error, _)) => Err(Fault::of_database(error)),
+    }
+}
+
+/// Makes the tables in a file that has none.
+pub(crate) fn make_tables<S: Start>(
+    rt: &HostRuntime,
+    path: &str,
+    start: S,
+) -> Result<FileTables<S>, Fault> {
+    let connection = connect(rt, path, start)?;
+    match create(rt.alloc(), connection) {
+        Ok(tables) => Ok(tables),
+        Err((_, fault)) => Err(Fault::from(fault)),
+    }
+}
+
+/// Takes over the tables in a file that is there.
+pub(crate) fn take_over<S: Start>(
+    rt: &HostRuntime,
+    path: &str,
+    start: S,
+) -> Result<FileTables<S>, Fault> {
+    match fs::exists(rt, path) {
+        Ok(true) => {}
+        Ok(false) => return Err(Fault::Unavailable),
+        Err(error) => return Err(Fault::Unavailable.of_system(&error)),
+    }
+    let connection = connect(rt, path, start)?;
+    match adopt(rt.alloc(), connection) {
+        Ok(tables) => Ok(tables),
+        Err((_, fault)) => Err(Fault::from(fault)),
+    }
+}
+
+/// Copies what the log beside the file holds into the file, and closes both. What was committed is kept also where this
+/// fails: the log then stays, and the next command reads it.
+pub(crate) fn close<S: Start>(tables: FileTables<S>) {
+    match tables.into_connection().close() {
+        Ok(()) | Err(_) => {}
+    }
+}

@@ -1,0 +1,13 @@
+//! Printing.
+use crate::fault::Fault;
+use crate::lines::Line;
+use std::alloc::AllocGlobal;
+
+/// Prints a line, at once.
+pub(crate) fn print_line<R: Print + AllocGlobal>(rt: &R, line: Line) -> Result<(), Fault> {
+    let text = line.text(rt.alloc())?;
+    match println!(rt; "{text}") {
+        Ok(()) => Ok(()),
+        Err(_) => Err(Fault::Write),
+    }
+}
