@@ -2,19 +2,26 @@
 """A client that has Python's own hashlib and hmac validated and certified, by standard Python alone.
 
     examples/validation.py COMMAND..
+    examples/validation.py --port P PROGRAM FILE KEYS
 
 COMMAND runs the server in script mode with a keys file, as in `acvp_server script --keys keys.txt`. The client hands it
-each event through a pipe, stands for the network and the clock, and reads the reply before it goes on. It prints what
-happens, and stops with status 1 where anything isn't as it must be."""
+each event through a pipe, stands for the network and the clock, and reads the reply before it goes on.
+
+With --port the client speaks to PROGRAM, as `acvp_server`, over sockets of port P. It has PROGRAM serve the records in
+FILE, which `acvp_server init` has made, under the keys in KEYS, and ends it whenever the operator has an order, which is
+a command of PROGRAM. The account is the lowest of 7 to 9999 that isn't there.
+
+It prints what happens, and stops with status 1 where anything isn't as it must be."""
 import hashlib
 import hmac
 import json
 import os
+import socket
 import subprocess
 import sys
+import tempfile
 import time
 
-ACCOUNT = 7
 HASHES = {"SHA2-256": "sha256", "HMAC-SHA2-256": "sha256"}
 REGISTRATION = {"algorithms": [
     {"algorithm": "SHA2-256", "messageLength": [{"increment": 8, "max": 1024, "min": 0}], "revision": "1.0"},
@@ -51,6 +58,16 @@ class Server:
         self.send(text.encode() + b"\n")
         return self.line()
 
+    def ask(self, text):
+        """Sends the bytes of a request, and gives those of its reply."""
+        self.send(b"request %d %d\n%s\n" % (time.time(), len(text), text))
+        word, size = self.line().split(" ")
+        if word != "reply":
+            stop(f"a request is answered by {word}")
+        reply = self.process.stdout.read(int(size))
+        self.line()
+        return reply
+
     def call(self, method, path, token=None, thing=None):
         """Sends a request, and gives the status and the second object of the reply's body."""
         lines = [f"{method} /acvp/v1{path} HTTP/1.1", "Host: laboratory.example"]
@@ -60,14 +77,7 @@ class Server:
         if thing is not None:
             body = json.dumps([{"acvVersion": "1.0"}, thing]).encode()
             lines.append(f"Content-Length: {len(body)}")
-        text = "\r\n".join(lines + ["", ""]).encode() + body
-        self.send(b"request %d %d\n%s\n" % (time.time(), len(text), text))
-        word, size = self.line().split(" ")
-        if word != "reply":
-            stop(f"a request is answered by {word}")
-        reply = self.process.stdout.read(int(size))
-        self.line()
-        head, _, content = reply.partition(b"\r\n\r\n")
+        head, _, content = self.ask("\r\n".join(lines + ["", ""]).encode() + body).partition(b"\r\n\r\n")
         return int(head.split(b" ")[1]), json.loads(content)[1]
 
     def must(self, method, path, token=None, thing=None):
@@ -81,6 +91,47 @@ class Server:
         self.process.stdin.close()
         if self.process.wait() != 0:
             stop(f"the server ended with status {self.process.returncode}")
+
+
+class SocketServer(Server):
+    """The server behind a port, over records in a file; it serves but for the moments in which an order is carried out."""
+
+    def __init__(self, port, program, file, keys):
+        self.port, self.program, self.file, self.keys = port, program, file, keys
+        self.process = None
+
+    def serve(self):
+        self.process = subprocess.Popen([self.program, "serve", "--db", self.file, "--keys", self.keys,
+                                         "--port", str(self.port), "--count", "1000000"], stdout=subprocess.PIPE)
+        if self.line() != f"listening 127.0.0.1:{self.port}":
+            stop("the server doesn't listen")
+
+    def end(self):
+        if self.process is not None:
+            self.process.kill()
+            self.process.wait()
+            self.process.stdout.close()
+            self.process = None
+
+    def order(self, text):
+        """Carries an order of the operator out, written as in a script, and gives the answer that it has there."""
+        self.end()
+        word, _, number, *secret = text.split(" ")
+        options = ["--account" if word.startswith("account") else "--request", number]
+        with tempfile.NamedTemporaryFile("w") as file:
+            if secret:
+                file.write(secret[0] + "\n")
+                file.flush()
+                options += ["--secret", file.name]
+            done = subprocess.run([self.program, word, "--db", self.file, *options], capture_output=True, text=True)
+        return "order done" if done.returncode == 0 else "order " + done.stderr[len("fault: "):].rstrip("\n")
+
+    def ask(self, text):
+        if self.process is None:
+            self.serve()
+        with socket.create_connection(("127.0.0.1", self.port)) as connection:
+            connection.sendall(text)
+            return b"".join(iter(lambda: connection.recv(65536), b""))
 
 
 def one_time_code(secret, moment):
@@ -197,22 +248,32 @@ def certify(server, token, bound, session):
     tell("client", "reads the request", f"approved: {approved['approvedUrl']}")
 
 
-def main():
-    if len(sys.argv) < 2:
-        sys.exit(__doc__)
-    server = Server(sys.argv[1:])
-    secret = os.urandom(32)
-    if server.order(f"account-add {int(time.time())} {ACCOUNT} {secret.hex()}") != "order done":
-        stop("the account isn't added")
-    tell("operator", f"adds account {ACCOUNT} with a secret of its own", "done")
+def added(server, secret):
+    """Adds an account with this secret, the lowest from 7 on that isn't there, and gives its number."""
+    for account in range(7, 10000):
+        outcome = server.order(f"account-add {int(time.time())} {account} {secret.hex()}")
+        if outcome == "order done":
+            return account
+        if outcome != "order taken":
+            stop(f"adding an account is answered {outcome}")
+    return stop("there is no room for an account")
+
+
+def logged_in(server, account, secret):
+    """Logs in with a one-time code, which isn't accepted again, and gives the token."""
     code = one_time_code(secret, time.time())
-    login = {"password": code, "user": str(ACCOUNT)}
+    login = {"password": code, "user": str(account)}
     token = server.must("POST", "/login", thing=login)["accessToken"]
     tell("client", f"logs in with the one-time code {code}", "a token for half an hour")
     status, refusal = server.call("POST", "/login", thing=login)
     if (status, refusal) != (403, {"error": "loginRefused"}):
         stop(f"the same code again is answered {status} {refusal}")
     tell("client", "logs in with the same code again", f"{status} {refusal['error']}")
+    return token
+
+
+def session_passed(server, token):
+    """Registers a test session and has all its vector sets pass; gives its URL and its token."""
     session = server.must("POST", "/testSessions", token, REGISTRATION)
     names = ", ".join(capability["algorithm"] for capability in REGISTRATION["algorithms"])
     tell("client", f"registers {names}", session["url"])
@@ -223,7 +284,26 @@ def main():
     if results["passed"] is not True:
         stop("the session hasn't passed")
     tell("client", "reads the results of the test session", "passed")
-    certify(server, token, bound, session["url"])
+    return session["url"], bound
+
+
+def main():
+    if sys.argv[1:2] == ["--port"] and len(sys.argv) == 6:
+        server = SocketServer(int(sys.argv[2]), *sys.argv[3:])
+    elif len(sys.argv) > 1 and sys.argv[1] != "--port":
+        server = Server(sys.argv[1:])
+    else:
+        sys.exit(__doc__)
+    secret = os.urandom(32)
+    try:
+        account = added(server, secret)
+        tell("operator", f"adds account {account} with a secret of its own", "done")
+        token = logged_in(server, account, secret)
+        session, bound = session_passed(server, token)
+        certify(server, token, bound, session)
+    except BaseException:
+        server.process and server.process.kill()
+        raise
     server.end()
 
 
