@@ -22,8 +22,8 @@ module _ {T : Type 0} (stands : T → Content → Type 0) (is_live is_clean : T 
       → ServesConnection stands is_live is_clean keys moment old new
   connected keys moment input left written out old new (Ok done) h = answered keys moment input left h.0 old new h.1
   connected keys moment input left written out old new (Err Write) h = answered keys moment input left h.0 old new h.1
-  connected keys moment input left written out old new (Err Read) h = inr h.0
-  connected keys moment input left written out old new (Err Turns) h = inr h.0.0
+  connected keys moment input left written out old new (Err Read) h = inr h.1
+  connected keys moment input left written out old new (Err Turns) h = inr h.0.1
 
   same_number : (keys : Keys) (n m : ℕ) (old new : T) → m ≡ n
       → ServesConnections stands is_live is_clean keys n old new → ServesConnections stands is_live is_clean keys m old new

@@ -88,7 +88,7 @@ fn a_login_whose_reply_is_cut_has_used_its_code(rt: HostRuntime) -> Result<(), F
     };
     let cut = serve_over(alloc, &mut desk, 59, LOGIN, writer)?;
     assert_eq!(rt; cut.answer, Err(ServeFault::Write));
-    assert_eq!(rt; cut.writer.held.as_slice(), b"HTTP/1.1 2");
+    assert_eq!(rt; cut.writer.held.as_slice(), b"HTTP/1.1 2".as_slice());
     let again = serve_over(alloc, &mut desk, 60, LOGIN, Vec::new(alloc))?;
     assert!(rt; again.writer.ends_with(b"{\"error\":\"loginRefused\"}]"));
     Ok(())
