@@ -13,9 +13,11 @@ use Rattle.acvp_policy.specs.declared.rule.Rule.{Rule}
 use Rattle.acvp_policy.specs.declared.rule.Rule.TheVariants as rule
 use Rattle.acvp_tables.specs.declared.rows.AccountRow.{AccountRow}
 use Rattle.acvp_desk.specs.Answer.{action_of, facts_from, standing_of, unfound_of}
+use Rattle.acvp_desk.specs.Private.Changeable.{IfChangeable}
 use Rattle.acvp_desk.specs.Wish.{action_of_wish}
 use Rattle.acvp_desk.specs.declared.ask.Ask.{Ask}
-use Rattle.acvp_desk.specs.declared.ask.Ask.TheVariants.{Caller}
+use Rattle.acvp_desk.specs.declared.ask.Ask.TheVariants.{Login, Caller}
+use Rattle.acvp_desk.specs.declared.ask.LoginAsk.{LoginAsk}
 use Rattle.acvp_desk.specs.declared.found.Found.{Found}
 use Rattle.acvp_desk.specs.declared.wish.AccountWish.TheVariants as on_account
 use Rattle.acvp_desk.specs.declared.wish.CallerAsk.{CallerAsk}
@@ -86,3 +88,16 @@ row_is_there moment it caller a f plain account reviewer result P is action fact
       | inl login ↦ absurd (no_login caller.wish login)
       | inr enabled ↦ enabled_row account P enabled if_some
     ]
+
+-- ---- where a change can be made
+
+pub login_changes : (it : Ask) (login : LoginAsk) (account : Option AccountRow) (reviewer : Bool) (plain : Found) (P Q : Type 0) → it ≡ Login login
+    → plain ≡ unfound_of it account reviewer → (P → Q) → IfSome account (λ _. P) → IfChangeable it plain Q
+login_changes it login account reviewer plain P Q is unfound so said = rw (unfound, is) (go account said)
+  where
+    go : (account : Option AccountRow) → IfSome account (λ _. P) → IfSome account (λ _. Q)
+    go None said = tt
+    go (Some row) said = so said
+
+pub caller_changes : (it : Ask) (caller : CallerAsk) (f : Found) (P : Type 0) → it ≡ Caller caller → P → IfChangeable it f P
+caller_changes it caller f P is said = rw is said

@@ -149,6 +149,7 @@ module _ {T : Type 0} (faults : StoreFault → Type 0) (stands : T → Content �
       same = tt;
       live = λ clean. let read = reads.live (changes.was_clean clean) in (read.0, changes.live clean read.1);
       kept = tt;
+      shut = λ clean off. absurd (off (reads.live (changes.was_clean clean)).0);
       answered = λ live c sound h. let up = changes.was_live live in
           let decided = decides up c sound h in
           (sym decided.reply_is, subst (λ d. stands new d) (sym (becomes (Some ch) (Done approval) c decided)) (changes.ok live c sound (reads.same up c h)));
@@ -166,6 +167,7 @@ module _ {T : Type 0} (faults : StoreFault → Type 0) (stands : T → Content �
       same = λ live c h. changes.err live c (reads.same (changes.was_live live) c h);
       live = tt;
       kept = tt;
+      shut = λ clean off. absurd (off (reads.live (changes.was_clean clean)).0);
       settled = λ clean live c sound h. let up = (reads.live (changes.was_clean clean)).1 in
           subst (λ e. leaves new c e) (sym (becomes (Some ch) (Done approval) c (decides up c sound h))) (changes.unsettled clean up c sound (reads.same up c h));
     }

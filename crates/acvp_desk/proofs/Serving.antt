@@ -1,6 +1,7 @@
 -- The exits of serving, each once for all actions.
 use Rattle.std.proofs.Common.{◌≡◌, ◌⊎◌, ℕ, List, length, Option, None, Some, Ok, Err, inl, inr, refl, sym, ap, subst, ◌∙◌, Vec, true, false, is_some, ◌≤◌, ◌<◌, arith}
 use Rattle.std.specs.Global.{Global}
+use Rattle.std.specs.Prelude.{option_map, option_and_then, IfSome}
 use Rattle.acvp_json.specs.Data.{Data}
 use Rattle.acvp_mac.specs.Conditions.{first_broken}
 use Rattle.acvp_policy.specs.declared.rule.Rule.{Rule}
@@ -10,10 +11,14 @@ use Rattle.acvp_tables.specs.Changes.{after}
 use Rattle.acvp_tables.specs.Content.{Content}
 use Rattle.acvp_tables.specs.State.{IsSound, state_of}
 use Rattle.acvp_tables.specs.declared.change.Change.{Change}
+use Rattle.acvp_tables.specs.declared.change.Change.TheVariants.{UseStep}
 use Rattle.acvp_desk.specs.Answer.{end_of_moments, first_conditions, ask_of, found_of, later_conditions, own_conditions, policy_conditions, reply_of, answer, accepted_change, change_of, content_after, content_effect, spare, Gives, IsReply}
 use Rattle.acvp_desk.specs.Kept.{IsKept}
 use Rattle.acvp_desk.specs.Serves.{Looks, Serves}
+use Rattle.acvp_desk.specs.Login.{step_of}
+use Rattle.acvp_desk.specs.Private.Changeable.{IfChangeable}
 use Rattle.acvp_desk.specs.declared.ask.Ask.{Ask}
+use Rattle.acvp_desk.specs.declared.ask.Ask.TheVariants.{Login, Caller}
 use Rattle.acvp_desk.specs.declared.found.Found.{Found}
 use Rattle.acvp_desk.specs.declared.keys.Keys.{Keys}
 use Rattle.acvp_desk.specs.Request.{RequestValue}
@@ -24,6 +29,16 @@ use Rattle.acvp_desk.proofs.Judging.{front_broken}
 roomy : (buffer : List ℕ) (shown : Option Data) → IsReply buffer shown → spare ≤ length buffer
 roomy buffer None reply = absurd reply
 roomy buffer (Some shown) reply = reply.0
+
+if_there : {X Y : Type 0} (f : X → Option Y) (x : Option X) (y : Y) (P : Type 0) → Some y ≡ option_and_then f x → IfSome x (λ _. P) → P
+if_there f None y P is said = absurd (cc)
+if_there f (Some x) y P is said = said
+
+-- where a change is made, what is said wherever one can be made holds
+was_open : (keys : Keys) (m : ℕ) (r : RequestValue) (it : Ask) (f : Found) (P : Type 0) (made : Change) → Some made ≡ change_of keys m r it f → IfChangeable it f P → P
+was_open keys m r (Login login) f P made is said =
+    if_there (λ row. option_map (λ step. UseStep (record { account = row.number; step = step })) (step_of m login row)) f.account made P is said
+was_open keys m r (Caller caller) f P made is said = said
 
 module _ {T : Type 0} (stands : T → Content → Type 0) (is_live is_clean : T → Type 0) (leaves : T → Content → Content → Type 0) (keys : Keys) (m : ℕ) (r : RequestValue)
     (stay : (c : Content) → IsKept keys.seed c → IsKept keys.seed (content_effect keys m r c)) where
@@ -43,6 +58,7 @@ module _ {T : Type 0} (stands : T → Content → Type 0) (is_live is_clean : T 
     unsettled = λ clean live c kept h. rests old c (content_effect keys m r c) live h;
     live = inr (λ clean live. live);
     kept = inr (λ clean c d left. left);
+    shut = λ clean off c d left. left;
   }
 
   -- refused on the caller, before anything is looked at that the path names
@@ -68,6 +84,7 @@ module _ {T : Type 0} (stands : T → Content → Type 0) (is_live is_clean : T 
     unsettled = λ clean live c kept h. looks.left clean live c (content_effect keys m r c) h;
     live = elim why [ inl fault ↦ inl fault | inr refusal ↦ inr refusal.0 ];
     kept = inr looks.kept;
+    shut = λ clean off. looks.kept clean;
   }
 
   module _ (served : m < end_of_moments) (it : Ask) (held : first_broken (first_conditions m r) ≡ None) (asked : ask_of keys m r ≡ Some it) (old mid : T) (f : Found) {E : Type 0}
@@ -89,6 +106,7 @@ module _ {T : Type 0} (stands : T → Content → Type 0) (is_live is_clean : T 
       unsettled = λ clean live c kept h. looks.left clean live c (content_effect keys m r c) h;
       live = inr looks.live;
       kept = inr looks.kept;
+      shut = λ clean off. looks.kept clean;
     }
 
     module _ (bytes : Vec ℕ Global) (none : first_broken (later_conditions keys.seed m r it f) ≡ None) (reply : IsReply bytes.items (reply_of keys m r it f)) where
@@ -123,9 +141,10 @@ module _ {T : Type 0} (stands : T → Content → Type 0) (is_live is_clean : T 
         unsettled = tt;
         live = looks.live;
         kept = λ unchanged. looks.kept;
+        shut = λ clean off. looks.kept clean;
       }
 
-      module _ (it_changes : Change) (is : Some it_changes ≡ change_of keys m r it f) (new : T) {X Fault : Type 0} (faults : Fault → Type 0) where
+      module _ (it_changes : Change) (is : Some it_changes ≡ change_of keys m r it f) (said : IfChangeable it f (is_clean mid → is_live old)) (new : T) {X Fault : Type 0} (faults : Fault → Type 0) where
         -- given with its change
         pub given_changed : (x : X) → Changes IsSound faults stands is_live is_clean leaves {X = X} (Ok x) mid new (after it_changes)
             → Serves stands is_live is_clean leaves (Ok (record { reply = bytes; changed = true })) old new keys m r
@@ -148,6 +167,7 @@ module _ {T : Type 0} (stands : T → Content → Type 0) (is_live is_clean : T 
           unsettled = tt;
           live = λ clean live. changes.live clean (looks.live (changes.was_clean clean) live);
           kept = λ unchanged. absurd (cc);
+          shut = λ clean off. absurd (off (was_open keys m r it f (is_clean mid → is_live old) it_changes is said (changes.was_clean clean)));
         }
 
         -- the change failed
@@ -164,6 +184,7 @@ module _ {T : Type 0} (stands : T → Content → Type 0) (is_live is_clean : T 
           settled = tt;
           live = inl refl;
           kept = inl refl;
+          shut = λ clean off. absurd (off (was_open keys m r it f (is_clean mid → is_live old) it_changes is said (changes.was_clean clean)));
           unsettled = λ clean live c kept h. let before = changes.was_clean clean in let up = looks.live before live in
               subst (λ e. leaves new c e) (sym (becomes (Some it_changes) is before c kept (λ _. h))) (changes.unsettled clean up c kept.sound (looks.same up c h));
         }

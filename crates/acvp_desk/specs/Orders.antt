@@ -143,3 +143,5 @@ module _ {T : Type 0} (faults : StoreFault → Type 0) (stands : T → Content �
     -- unless it is unavailable, the tables were open and stay so, and where it is refused a crash finds what it found before
     pub live : ByReply reply (is_clean new → is_live old × is_live new) (is_clean new → is_live old × is_live new) ⊤
     pub kept : ByReply reply ⊤ (is_clean new → (c d : Content) → leaves old c d → leaves new c d) ⊤
+    -- of tables that were shut already a crash finds what it found, whatever is answered
+    pub shut : is_clean new → (is_live old → ⊥) → (c d : Content) → leaves old c d → leaves new c d

@@ -1,1 +1,2 @@
+pub mod Changeable
 pub mod Waiting

@@ -77,3 +77,5 @@ module _ {T : Type 0} (stands : T → Content → Type 0) (is_live is_clean : T 
     -- unless it is unavailable, a live store stays live, and where no change was made a crash finds what it found before
     pub live : IfLasting result (is_clean new → is_live old → is_live new)
     pub kept : IfUnchanged result (is_clean new → (c d : Content) → leaves old c d → leaves new c d)
+    -- of tables that were shut already a crash finds what it found, whatever is answered
+    pub shut : is_clean new → (is_live old → ⊥) → (c d : Content) → leaves old c d → leaves new c d

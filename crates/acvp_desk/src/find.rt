@@ -9,6 +9,7 @@ ghost use Rattle.acvp_tables.specs.Content.{Content, account_at, reviewers_of};
 ghost use Rattle.acvp_tables.specs.State.{session_record, state_of, set_record_at};
 ghost use Rattle.acvp_desk.specs.Answer.{found_of, policy_conditions, reviewer_found, who, IsOf};
 ghost use Rattle.acvp_desk.specs.Kept.{IsKept};
+ghost use Rattle.acvp_desk.specs.Private.Changeable.{IfChangeable};
 ghost use Rattle.acvp_desk.specs.Place.{certification_of, certification_status, listed_session, sessions_material, is_for_page, session_facts, reviewed_facts, is_within, subject_of, material_of, account_material, session_material, is_for, is_for_account, is_for_session, place_of, set_numbers, set_outcomes, unfound};
 ghost use Rattle.acvp_desk.specs.Sets.{set_facts, set_material, set_source, submission_for, verdicts_on_set, is_for_set};
 ghost use Rattle.acvp_desk.specs.Serves.{Holds, Knows, Looks, Sees};
@@ -554,6 +555,7 @@ pub(crate) fn find<T: Tables>(
 ) -> Result<Found, Rule>
     ensures found { Knows T.stands T.is_live T.is_clean T.leaves result tables.old tables.new (λ seeds c. found_of seeds body.now ask.now (state_of c)) }
     ensures of { IfOk result (λ found. IsOf ask.now found) }
+    ensures open { IfOk result (λ found. IfChangeable ask.now found (T.is_clean tables.new → T.is_live tables.old)) }
     ensures refused { IfErr result (λ rule. (rule ≡ Rule.Unavailable) ⊎ ((T.is_clean tables.new → T.is_live tables.old → T.is_live tables.new) × (T.is_clean tables.new → (seeds : List (List ℕ)) (c : Content) → IsKept seeds c → Holds T.stands T.is_live tables.old c → first_broken (policy_conditions moment ask.now (found_of seeds body.now ask.now (state_of c))) ≡ Some rule))) }
     ensures looks { Looks T.stands T.is_live T.is_clean T.leaves result tables.old tables.new }
 {

@@ -20,7 +20,7 @@ use Rattle.acvp_http.specs.Event.{request, replied}
 use Rattle.acvp_http.specs.Needed.{IsNeeded, IsNeededAt, IsWithinNeeded, NeedsBody, needed_size, told_by}
 use Rattle.acvp_http.specs.Private.Receiving.{IsHeadBegun, IsHeadTaken, IsBodyTaken, TakesFew, TakesOfHead}
 use Rattle.acvp_http.specs.Reply.{refusal, IsDateOf}
-use Rattle.acvp_http.specs.Serve.{IsRefused, RefusesAtOnce, RequestTaken, Takes}
+use Rattle.acvp_http.specs.Serve.{IsRefused, RefusesAtOnce, RequestTaken, ShowsRequest, Takes}
 use Rattle.acvp_http.specs.Source.{InputStream, Gives}
 use Rattle.acvp_http.proofs.AsksLemmas.{end_or_none, end_unique}
 use Rattle.acvp_http.proofs.KnownLemmas.{consumes_consumes, consumes_nothing}
@@ -354,8 +354,8 @@ module _ {T : Type 0} (stands : T → Content → Type 0) (is_live is_clean : T 
 
   -- at a moment that isn't served nothing is needed
   pub answers_late : (input : InputStream) → end_of_moments ≤ m → RequestTaken stands is_live is_clean keys m [] reply old new
-      → AnswersInput stands is_live is_clean keys m input input reply old new
-  answers_late input late taken = inl ([], consumes_nothing input.held, taken, late_by input.held late taken)
+      → ShowsRequest stands is_live m [] reply old new → AnswersInput stands is_live is_clean keys m input input reply old new
+  answers_late input late taken shows = inl ([], consumes_nothing input.held, taken, late_by input.held late taken, shows)
 
   early_by : (held : Option (List ℕ)) (front : List ℕ) → m < end_of_moments → IfSome held (λ bytes. IsNeeded bytes front)
       → RequestTaken stands is_live is_clean keys m front reply old new → IsAnsweredBy held front
@@ -366,5 +366,6 @@ module _ {T : Type 0} (stands : T → Content → Type 0) (is_live is_clean : T 
 
   pub answers_early : (input left : InputStream) (front : List ℕ) → m < end_of_moments → Gives input left front
       → IfSome input.held (λ bytes. IsNeeded bytes front) → RequestTaken stands is_live is_clean keys m front reply old new
-      → AnswersInput stands is_live is_clean keys m input left reply old new
-  answers_early input left front early consumed needed taken = inl (front, consumed, taken, early_by input.held front early needed taken)
+      → ShowsRequest stands is_live m front reply old new → AnswersInput stands is_live is_clean keys m input left reply old new
+  answers_early input left front early consumed needed taken shows =
+      inl (front, consumed, taken, early_by input.held front early needed taken, shows)

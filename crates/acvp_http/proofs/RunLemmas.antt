@@ -13,7 +13,7 @@ use Rattle.acvp_http.specs.declared.script.ScriptFault.TheVariants.{Read, Write,
 use Rattle.acvp_http.specs.Event.{Event, request, order, Answer, Turn}
 use Rattle.acvp_http.specs.Private.Turns.{CanHappen}
 use Rattle.acvp_http.specs.Script.{IsScript, IsWritten, IsAccountNumber, HasNoEvent, answer_text, output_of}
-use Rattle.acvp_http.specs.Serve.{GoesByTurn, GoesByTurns, GoesThrough}
+use Rattle.acvp_http.specs.Serve.{GoesByTurn, GoesByTurns, GoesThrough, ShowsEvent}
 use Rattle.acvp_http.specs.Private.Reading.{TakesPart, StopsReading}
 use Rattle.acvp_http.specs.Source.{InputStream, OutputStream, Gives, Gets, GetsFront}
 use Rattle.acvp_http.specs.Run.{events_of, most_reads, BeginsWith, TakesInPart, StopsAfter, WritesAnswers, RunsScript}
@@ -56,26 +56,28 @@ under stands is_live is_clean now keys old new turn answer same takes = subst (�
 -- tables that go through turns, and by one more
 module _ {T : Type 0} (stands : T → Content → Type 0) (is_live is_clean : T → Type 0) (keys : Keys) where
   through_more : (turns : List Turn) (answers : List Answer) (start mid now : T) (turn : Turn) (answer : Answer)
-      → GoesThrough stands is_live is_clean keys turns answers start mid → (is_clean now → is_clean mid) → GoesByTurn stands is_live is_clean keys turn answer mid now
+      → GoesThrough stands is_live is_clean keys turns answers start mid → (is_clean now → is_clean mid) → ShowsEvent stands is_live turn.event answer mid now
+      → GoesByTurn stands is_live is_clean keys turn answer mid now
       → GoesThrough stands is_live is_clean keys (turns ++ turn ∷ []) (answers ++ answer ∷ []) start now
-  through_more [] [] start mid now turn answer through was_clean takes =
+  through_more [] [] start mid now turn answer through was_clean shows takes =
       let same : mid ≡ start = through in (
         now,
         subst (λ (t : T). is_clean now → is_clean t) same was_clean,
+        subst (λ (t : T). ShowsEvent stands is_live turn.event answer t now) same shows,
         subst (λ (t : T). GoesByTurn stands is_live is_clean keys turn answer t now) same takes,
         refl,
       )
-  through_more [] (a ∷ answers) start mid now turn answer through was_clean takes = absurd through
-  through_more (t ∷ turns) [] start mid now turn answer through was_clean takes = absurd through
-  through_more (t ∷ turns) (a ∷ answers) start mid now turn answer (next, up, first, through) was_clean takes =
-      (next, up, first, through_more turns answers next mid now turn answer through was_clean takes)
+  through_more [] (a ∷ answers) start mid now turn answer through was_clean shows takes = absurd through
+  through_more (t ∷ turns) [] start mid now turn answer through was_clean shows takes = absurd through
+  through_more (t ∷ turns) (a ∷ answers) start mid now turn answer (next, up, shown, first, through) was_clean shows takes =
+      (next, up, shown, first, through_more turns answers next mid now turn answer through was_clean shows takes)
 
   -- a disk that has told no lie at the end had told none at the start
   through_clean : (turns : List Turn) (answers : List Answer) (old new : T) → GoesThrough stands is_live is_clean keys turns answers old new → is_clean new → is_clean old
   through_clean [] [] old new through clean = subst (λ (t : T). is_clean t) through clean
   through_clean [] (a ∷ answers) old new through clean = absurd through
   through_clean (t ∷ turns) [] old new through clean = absurd through
-  through_clean (t ∷ turns) (a ∷ answers) old new (mid, up, first, through) clean = up (through_clean turns answers mid new through clean)
+  through_clean (t ∷ turns) (a ∷ answers) old new (mid, up, shown, first, through) clean = up (through_clean turns answers mid new through clean)
 
   -- and then the tables go by all turns
   pub make_a_run : (turns : List Turn) (answers : List Answer) (old new : T) → GoesThrough stands is_live is_clean keys turns answers old new
@@ -83,7 +85,7 @@ module _ {T : Type 0} (stands : T → Content → Type 0) (is_live is_clean : T 
   make_a_run [] [] old new through = λ clean c kept h. (c, refl, subst (λ (t : T). is_live t → stands t c) (sym through) h, kept)
   make_a_run [] (a ∷ answers) old new through = absurd through
   make_a_run (t ∷ turns) [] old new through = absurd through
-  make_a_run (t ∷ turns) (a ∷ answers) old new (mid, up, first, through) = λ clean c kept h.
+  make_a_run (t ∷ turns) (a ∷ answers) old new (mid, up, shown, first, through) = λ clean c kept h.
       let (c', taken, stands', kept') = first (through_clean turns answers mid new through clean) c kept h in
       let (next, ran, stands-next, kept-next) = make_a_run turns answers mid new through clean c' kept' stands' in
       (next, (c', taken, ran), stands-next, kept-next)
@@ -116,14 +118,15 @@ module _ {T : Type 0} (stands : T → Content → Type 0) (is_live is_clean : T 
   module _ (mid now : T) (input left left' : InputStream) (old new new' : OutputStream) (turn : Turn) (answer : Answer) (front : List ℕ) where
     -- one turn more
     pub ran_more : (count : ℕ) → Ran mid input left old new count → (is_clean now → is_clean mid) → IsWritten turn.event front
-        → Gives left left' front → GoesByTurn stands is_live is_clean keys turn answer mid now → Gets new new' (answer_text answer)
+        → Gives left left' front → ShowsEvent stands is_live turn.event answer mid now → GoesByTurn stands is_live is_clean keys turn answer mid now
+        → Gets new new' (answer_text answer)
         → Ran now input left' old new' (count + 1)
-    ran_more count ran was_clean written consumed takes appended =
+    ran_more count ran was_clean written consumed shows takes appended =
         record {
           turns = ran.turns ++ turn ∷ [];
           answers = ran.answers ++ answer ∷ [];
           text = ran.text ++ front;
-          runs = through_more stands is_live is_clean keys ran.turns ran.answers start mid now turn answer ran.runs was_clean takes;
+          runs = through_more stands is_live is_clean keys ran.turns ran.answers start mid now turn answer ran.runs was_clean shows takes;
           script = rw (events_more ran.turns turn)
               (script_more (events_of ran.turns) ran.text front turn.event ran.script written);
           size = omega (arith, length-append ran.turns (turn ∷ []), ran.size);
@@ -134,14 +137,15 @@ module _ {T : Type 0} (stands : T → Content → Type 0) (is_live is_clean : T 
 
     -- the writer fails in a turn's answer
     pub ran_writes : (count : ℕ) (fault : ScriptFault) → Ran mid input left old new count → count < 100000 → (is_clean now → is_clean mid)
-        → IsWritten turn.event front → Gives left left' front → GoesByTurn stands is_live is_clean keys turn answer mid now → fault ≡ Write
+        → IsWritten turn.event front → Gives left left' front → ShowsEvent stands is_live turn.event answer mid now
+        → GoesByTurn stands is_live is_clean keys turn answer mid now → fault ≡ Write
         → GetsFront new new' (answer_text answer) → RunsScript stands is_live is_clean keys start now input left' old new' (Err fault)
-    ran_writes count fault ran few was_clean written consumed takes is (begun, rest, parts, appended) =
+    ran_writes count fault ran few was_clean written consumed shows takes is (begun, rest, parts, appended) =
         let result : RunsScript stands is_live is_clean keys start now input left' old new' (Err Write) = (
           ran.turns ++ turn ∷ [],
           ran.answers ++ answer ∷ [],
           ran.text ++ front,
-          through_more stands is_live is_clean keys ran.turns ran.answers start mid now turn answer ran.runs was_clean takes,
+          through_more stands is_live is_clean keys ran.turns ran.answers start mid now turn answer ran.runs was_clean shows takes,
           rw (events_more ran.turns turn) (script_more (events_of ran.turns) ran.text front turn.event ran.script written),
           consumes_consumes input.held left.held left'.held ran.text front ran.consumed consumed,
           (

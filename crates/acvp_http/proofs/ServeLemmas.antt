@@ -1,7 +1,7 @@
 -- Lemmas on how a request is served, for any tables.
 use Rattle.std.proofs.Common.{◌≡◌, ◌<◌, ◌≤◌, ◌⊎◌, inl, inr, ℕ, List, Bool, true, false, Option, Some, None, Result, Ok, Err, [], drop, refl, ap, ◌∙◌, Vec}
 use Rattle.std.specs.Global.{Global}
-use Rattle.std.specs.Prelude.{nat_lt}
+use Rattle.std.specs.Prelude.{nat_lt, ⊤}
 use Rattle.std.proofs.lemmas.Bool.{lt-ltb, le-ltb}
 use Rattle.acvp_policy.specs.declared.rule.Rule.{Rule}
 use Rattle.acvp_policy.specs.declared.rule.Rule.TheVariants as rule
@@ -16,7 +16,7 @@ use Rattle.acvp_desk.specs.declared.desk.DeskReply.TheVariants.{Given, Denied}
 use Rattle.acvp_desk.specs.declared.keys.Keys.{Keys}
 use Rattle.acvp_http.specs.Asks.{ParsedRequest, Asks}
 use Rattle.acvp_http.specs.Reply.{refusal, framed, IsDateOf}
-use Rattle.acvp_http.specs.Serve.{RefusesAtOnce, IsRefused, AsksTheDesk, RequestAnswered, IsReplied, ShowsReply, RequestTaken, LeavesRequest}
+use Rattle.acvp_http.specs.Serve.{RefusesAtOnce, IsRefused, AsksTheDesk, RequestAnswered, IsReplied, IsShown, ShowsReply, ShowsRequest, RequestTaken, LeavesRequest}
 
 -- a rule is that of an unavailable server, or another
 is_unavailable : (r : Rule) → (r ≡ rule.Unavailable) ⊎ (r ≡ rule.Unavailable → ⊥)
@@ -36,6 +36,17 @@ refused_early m bytes parsed date reply early asks dated is =
     let in_time : nat_lt m end_of_moments ≡ true = lt-ltb m end_of_moments early in rw in_time (parsed, date, asks, dated, is)
 
 module _ {T : Type 0} (stands : T → Content → Type 0) (is_live is_clean : T → Type 0) (leaves : T → Content → Content → Type 0) (keys : Keys) (m : ℕ) (bytes : List ℕ) where
+  -- what is shown of a request, without what a crash finds
+  form_of : (reply : List ℕ) (old new : T) → ShowsReply stands is_live is_clean leaves m reply old new → IsShown stands is_live (λ rule. ⊤) m reply old new
+  form_of reply old new (date, dated, inl given) = (date, dated, inl given)
+  form_of reply old new (date, dated, inr (told, is, keeps, left)) = (date, dated, inr (told, is, keeps, tt))
+
+  pub shows_request : (reply : List ℕ) (old new : T)
+      → (RefusesAtOnce m bytes reply × (new ≡ old)) ⊎ ((r : RequestValue) × AsksTheDesk m bytes r × ShowsReply stands is_live is_clean leaves m reply old new)
+      → ShowsRequest stands is_live m bytes reply old new
+  shows_request reply old new (inl at_once) = inl at_once
+  shows_request reply old new (inr (r, asks, shows)) = inr (r, asks, form_of reply old new shows)
+
   -- nobody was looked at
   pub taken_at_once : (t : T) (reply : List ℕ) → RefusesAtOnce m bytes reply → RequestTaken stands is_live is_clean keys m bytes reply t t
   taken_at_once t reply refuses = (false, λ clean c kept h. (c, inl (refl, refuses), h, kept))

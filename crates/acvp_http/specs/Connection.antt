@@ -8,7 +8,7 @@ use Rattle.acvp_http.specs.declared.connection.ServeFault.{ServeFault}
 use Rattle.acvp_http.specs.declared.connection.ServeFault.TheVariants.{Read, Write, Turns}
 use Rattle.acvp_http.specs.Needed.{IsNeededAt, IsWithinNeeded}
 use Rattle.acvp_http.specs.Reply.{refusal}
-use Rattle.acvp_http.specs.Serve.{RequestTaken}
+use Rattle.acvp_http.specs.Serve.{RequestTaken, ShowsRequest}
 use Rattle.acvp_http.specs.Source.{InputStream, OutputStream, Gives, Gets, GetsFront, ReadsTooOften}
 
 -- the most reads for one request
@@ -27,11 +27,13 @@ IsUnhandled moment input left written out old new =
 
 module _ {T : Type 0} (stands : T → Content → Type 0) (is_live is_clean : T → Type 0) where
   -- What was taken is what the request of the known input needs, and nothing behind it. The reply, and what becomes of the
-  -- records, are those of the whole input as a request, or it is unavailable.
+  -- records, are those of the whole input as a request, or it is unavailable. The reply has its form, whatever the tables
+  -- stand for.
   abbrev pub AnswersNeeded : Keys → ℕ → InputStream → InputStream → List ℕ → T → T → Type 0
   AnswersNeeded keys moment input left reply old new =
       (front : List ℕ) × Gives input left front × RequestTaken stands is_live is_clean keys moment front reply old new
       × IfSome input.held (λ bytes. IsNeededAt moment bytes front × RequestTaken stands is_live is_clean keys moment bytes reply old new)
+      × ShowsRequest stands is_live moment front reply old new
 
   -- Or memory for what it needs was refused: the records stay, and some of it may be taken.
   abbrev pub AnswersNothing : ℕ → InputStream → InputStream → List ℕ → T → T → Type 0

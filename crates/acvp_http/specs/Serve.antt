@@ -1,5 +1,5 @@
 -- What an event does to the records, and what it is answered.
-use Rattle.std.specs.Prelude.{◌≡◌, ◌<◌, ◌⊎◌, ℕ, List, [], ◌∷◌, Bool, nat_lt, MatchBool, Option, Some, None, Result, Ok, Err}
+use Rattle.std.specs.Prelude.{◌≡◌, ◌<◌, ◌⊎◌, ℕ, List, [], ◌∷◌, Bool, nat_lt, MatchBool, Option, Some, None, Result, Ok, Err, ⊤}
 use Rattle.acvp_policy.specs.declared.rule.Rule.{Rule}
 use Rattle.acvp_policy.specs.declared.rule.Rule.TheVariants.{ClockOutOfRange, Unavailable as UnavailableRule}
 use Rattle.acvp_tables.specs.Content.{Content}
@@ -9,7 +9,7 @@ use Rattle.acvp_desk.specs.Data.{Data}
 use Rattle.acvp_desk.specs.Kept.{IsKept}
 use Rattle.acvp_desk.specs.Serves.{Holds}
 use Rattle.acvp_desk.specs.Request.{RequestValue}
-use Rattle.acvp_desk.specs.Orders.{order_reply, content_order_effect}
+use Rattle.acvp_desk.specs.Orders.{order_reply, content_order_effect, ByReply}
 use Rattle.acvp_desk.specs.Written.{body_of}
 use Rattle.acvp_desk.specs.declared.keys.Keys.{Keys}
 use Rattle.acvp_desk.specs.declared.order.OrderReply.TheVariants.{Unavailable}
@@ -93,6 +93,31 @@ Runs keys (turn ∷ turns) old new (answer ∷ answers) =
 
 -- ---- the tables
 
+module _ {T : Type 0} (stands : T → Content → Type 0) (is_live : T → Type 0) where
+  -- they stand for what they stood for
+  abbrev pub Keeps : T → T → Type 0
+  Keeps old new = is_live new → (c : Content) → stands old c → stands new c
+
+  -- What is shown of a request of the desk, whatever the tables stand for: a reply with a body; or a denial by some rule, after
+  -- which they stand for what they stood for, and of which something more may be said.
+  abbrev pub IsShown : (Rule → Type 0) → ℕ → List ℕ → T → T → Type 0
+  IsShown Denied moment reply old new =
+      (date : List ℕ) × IsDateOf moment date
+      × (((body : List ℕ) × (reply ≡ framed 200 (Some date) [] body))
+      ⊎ ((rule : Rule) × (reply ≡ refusal (Some date) rule) × Keeps old new × Denied rule))
+
+  -- what is shown of the bytes of any request
+  abbrev pub ShowsRequest : ℕ → List ℕ → List ℕ → T → T → Type 0
+  ShowsRequest moment bytes reply old new = (RefusesAtOnce moment bytes reply × (new ≡ old))
+      ⊎ ((r : RequestValue) × AsksTheDesk moment bytes r × IsShown (λ rule. ⊤) moment reply old new)
+
+  -- and of any event: an order that isn't done changes nothing
+  abbrev pub ShowsEvent : Event → Answer → T → T → Type 0
+  ShowsEvent (request moment bytes) (replied reply) old new = ShowsRequest moment bytes reply old new
+  ShowsEvent (request moment bytes) (ordered reply) old new = ⊥
+  ShowsEvent (order moment o) (replied reply) old new = ⊥
+  ShowsEvent (order moment o) (ordered reply) old new = ByReply reply ⊤ (Keeps old new) (Keeps old new)
+
 module _ {T : Type 0} (stands : T → Content → Type 0) (is_live is_clean : T → Type 0) where
   -- While the disk tells no lie, the tables went by something: for every content that they stood for before, if they were
   -- open, and that holds what holds at all times, they stand for the content after it, if they are open, and it holds it too.
@@ -109,13 +134,15 @@ module _ {T : Type 0} (stands : T → Content → Type 0) (is_live is_clean : T 
   abbrev pub GoesByTurns : Keys → List Turn → List Answer → T → T → Type 0
   GoesByTurns keys turns answers old new = GoesBy keys (λ c next. Runs keys turns c next answers) old new
 
-  -- and turn by turn, so that what a later turn does to them says nothing against an earlier one
+  -- and turn by turn, so that what a later turn does to them says nothing against an earlier one; each answer has its form,
+  -- whatever they stand for
   abbrev pub GoesThrough : Keys → List Turn → List Answer → T → T → Type 0
   GoesThrough keys [] [] old new = new ≡ old
   GoesThrough keys [] (answer ∷ answers) old new = ⊥
   GoesThrough keys (turn ∷ turns) [] old new = ⊥
   GoesThrough keys (turn ∷ turns) (answer ∷ answers) old new =
-      (mid : T) × (is_clean mid → is_clean old) × GoesByTurn keys turn answer old mid × GoesThrough keys turns answers mid new
+      (mid : T) × (is_clean mid → is_clean old) × ShowsEvent stands is_live turn.event answer old mid
+      × GoesByTurn keys turn answer old mid × GoesThrough keys turns answers mid new
 
   -- a request is served, or it is unavailable
   abbrev pub RequestTaken : Keys → ℕ → List ℕ → List ℕ → T → T → Type 0
@@ -123,14 +150,11 @@ module _ {T : Type 0} (stands : T → Content → Type 0) (is_live is_clean : T 
       (unavailable : Bool) × GoesByTurn keys (record { event = request moment bytes; unavailable = unavailable }) (replied reply) old new
 
 module _ {T : Type 0} (stands : T → Content → Type 0) (is_live is_clean : T → Type 0) (leaves : T → Content → Content → Type 0) where
-  -- What is shown of a request of the desk, whatever the tables stand for: a reply with a body, or a denial by some rule, after
-  -- which they stand for what they stood for; and unless it is unavailable, a crash finds what it found before.
+  -- after a denial a crash finds what it found before, unless it is unavailable
   abbrev pub ShowsReply : ℕ → List ℕ → T → T → Type 0
   ShowsReply moment reply old new =
-      (date : List ℕ) × IsDateOf moment date
-      × (((body : List ℕ) × (reply ≡ framed 200 (Some date) [] body))
-      ⊎ ((rule : Rule) × (reply ≡ refusal (Some date) rule) × (is_live new → (c : Content) → stands old c → stands new c)
-      × ((rule ≡ UnavailableRule) ⊎ (is_clean new → (c d : Content) → leaves old c d → leaves new c d))))
+      IsShown stands is_live (λ rule. (rule ≡ UnavailableRule) ⊎ (is_clean new → (c d : Content) → leaves old c d → leaves new c d))
+      moment reply old new
 
   -- What a crash finds after the bytes of a request, while the disk tells no lie, of tables that were live: the records after it
   -- alone where it was answered; where it was unavailable, those before it, or those with its effect.

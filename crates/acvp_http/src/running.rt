@@ -6,7 +6,7 @@ ghost use Rattle.acvp_http.specs.Private.Turns.{CanHappen};
 ghost use Rattle.acvp_http.specs.Private.Reading.{event_of};
 ghost use Rattle.acvp_http.specs.Run.{RunsScript, is_read_answer, is_write_answer};
 ghost use Rattle.acvp_http.specs.Script.{answer_text};
-ghost use Rattle.acvp_http.specs.Serve.{GoesByTurn, GoesByTurns, GoesThrough};
+ghost use Rattle.acvp_http.specs.Serve.{GoesByTurn, GoesByTurns, GoesThrough, ShowsEvent};
 ghost use Rattle.acvp_http.specs.Private.Writing.{WritesText};
 
 use crate::reading::{ScriptEvent, next_event, read_byte};
@@ -36,6 +36,7 @@ fn take_turn<T: Tables, K: Sink>(
     ensures was_live { T.is_live desk.new.tables → T.is_live desk.old.tables }
     ensures was_clean { T.is_clean desk.new.tables → T.is_clean desk.old.tables }
     ensures turn { (unavailable : Bool) × (answer : Answer)
+        × ShowsEvent T.stands T.is_live (event_of event.now) answer desk.old.tables desk.new.tables
         × GoesByTurn T.stands T.is_live T.is_clean desk.old.keys (record { event = event_of event.now; unavailable = unavailable }) answer desk.old.tables desk.new.tables
         × WritesText (K.stream writer.old) (K.stream writer.new) (answer_text answer) result }
 {

@@ -43,6 +43,7 @@ pub fn handle_bytes<T: Tables>(
         ⊎ ((r : RequestValue) × AsksTheDesk moment bytes.now r × ShowsReply T.stands T.is_live T.is_clean T.leaves moment result desk.old.tables desk.new.tables) }
     ensures served { RequestTaken T.stands T.is_live T.is_clean desk.old.keys moment bytes.now result desk.old.tables desk.new.tables }
     ensures left { LeavesRequest T.stands T.is_live T.is_clean T.leaves desk.old.keys moment bytes.now result desk.old.tables desk.new.tables }
+    ensures shut { T.is_clean desk.new.tables → (T.is_live desk.old.tables → ⊥) → (c d : Content) → T.leaves desk.old.tables c d → T.leaves desk.new.tables c d }
 {
     if moment >= END_OF_MOMENTS {
         return Reply::refusal(None, Rule::ClockOutOfRange);

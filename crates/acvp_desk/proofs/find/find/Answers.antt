@@ -1,7 +1,7 @@
 use Rattle.std.proofs.Common.{inr}
 use Rattle.acvp_tables.specs.State.{state_of}
 use Rattle.acvp_desk.proofs.Finding.{account_is, refused_caller, login_found, caller_found}
-use Rattle.acvp_desk.proofs.Looking.{row_is_there}
+use Rattle.acvp_desk.proofs.Looking.{row_is_there, login_changes, caller_changes}
 use Rattle.acvp_desk.proofs.find.find.Goals as goal
 
 pub returns-in-Err-clause-refused : goal.returns-in-Err-clause-refused
@@ -39,3 +39,15 @@ returns-in-Ok-look_at-clause-found g c =
     (account_is c.args.ask.now content c.in-Ok.account c.who.result c.who.ensures (c.in-Ok.ensures.found before seeds content kept h))
     (c.in-Ok-reviewer.ensures.found reviewed seeds content kept (λ _. there))
     (c.in-Ok-look_at.ensures.found live seeds content kept (c.in-Ok-reviewer.ensures.looks.same late content there))
+
+pub returns-in_default-ask-clause-open : goal.returns-in_default-ask-clause-open
+returns-in_default-ask-clause-open g c =
+    login_changes c.args.ask.now c.in_default-ask.field-0 c.in-Ok.account c.in-Ok-reviewer.reviewer c.nothing-caller.result _ _
+    c.in_default-ask.is c.nothing-caller.ensures (λ said clean. (said (c.in-Ok-reviewer.ensures.looks.was_clean clean)).0) c.in-Ok.ensures.open
+
+pub returns-in-Ok-look_at-clause-open : goal.returns-in-Ok-look_at-clause-open
+returns-in-Ok-look_at-clause-open g c =
+    caller_changes c.args.ask.now c.in-Caller.asked _ _ c.in-Caller.is
+    (λ clean. (row_is_there c.args.moment c.args.ask.now c.in-Caller.asked c.action.result c.facts_for.result c.nothing-caller.result c.in-Ok.account c.in-Ok-reviewer.reviewer c.admit.result _
+    c.in-Caller.is c.action.ensures c.facts_for.ensures c.nothing-caller.ensures c.admit.ensures.judged c.in_default-admit.is c.in-Ok.ensures.open
+    (c.in-Ok-reviewer.ensures.looks.was_clean (c.in-Ok-look_at.ensures.looks.was_clean clean))).0)

@@ -38,7 +38,7 @@ returns-in-Ok-apply-clause-served g c =
     (c.records_are_kept.ensures.request (keys_of c.args.ring.now c.args.cache.now.seeds) c.args.moment (request_value c.args.request.now))
     c.in-Ok.ensures.moment c.in-Ok.ask c.in-Ok.ensures.ok.0 (c.in-Ok.ensures.ok.1 c.args.cache.now.seeds) c.args.tables.now c.find.new.tables c.in-Ok-find.found
     c.in-Ok-find.ensures.looks c.in-Ok-find.ensures.found c.in-Ok-plan.allowed.draft.reply c.in-Ok-plan.ensures.held
-    c.in-Ok-plan.ensures.reply c.in-Some.change (sym c.in-Some.is ∙ c.in-Ok-plan.ensures.change) c.apply.new.self
+    c.in-Ok-plan.ensures.reply c.in-Some.change (sym c.in-Some.is ∙ c.in-Ok-plan.ensures.change) c.in-Ok-find.ensures.open c.apply.new.self
     g.T.Tables.faults _ c.in-Ok-apply.ensures
 
 pub returns-in-Err-apply-clause-served : goal.returns-in-Err-apply-clause-served
@@ -47,5 +47,5 @@ returns-in-Err-apply-clause-served g c =
     (c.records_are_kept.ensures.request (keys_of c.args.ring.now c.args.cache.now.seeds) c.args.moment (request_value c.args.request.now))
     c.in-Ok.ensures.moment c.in-Ok.ask c.in-Ok.ensures.ok.0 (c.in-Ok.ensures.ok.1 c.args.cache.now.seeds) c.args.tables.now c.find.new.tables c.in-Ok-find.found
     c.in-Ok-find.ensures.looks c.in-Ok-find.ensures.found c.in-Ok-plan.allowed.draft.reply c.in-Ok-plan.ensures.held
-    c.in-Ok-plan.ensures.reply c.in-Some.change (sym c.in-Some.is ∙ c.in-Ok-plan.ensures.change) c.apply.new.self
+    c.in-Ok-plan.ensures.reply c.in-Some.change (sym c.in-Some.is ∙ c.in-Ok-plan.ensures.change) c.in-Ok-find.ensures.open c.apply.new.self
     g.T.Tables.faults _ c.in-Err-apply.ensures

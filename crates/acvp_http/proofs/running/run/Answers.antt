@@ -19,7 +19,7 @@ loop-count-init g c = record {
 pub returns-in_err-take_turn-clause-run : goal.returns-in_err-take_turn-clause-run
 returns-in_err-take_turn-clause-run g c =
     let (clear, (front, written, consumed)) = rw c.in-Some.is at c.in_ok-event.ensures in
-    let (unavailable, answer, takes, stopped) = c.in_err-take_turn.ensures.turn in
+    let (unavailable, answer, shows, takes, stopped) = c.in_err-take_turn.ensures.turn in
     let ends : RunsScript g.T.Tables.stands g.T.Tables.is_live g.T.Tables.is_clean c.args.desk.now.keys c.args.desk.now.tables c.take_turn.new.desk.tables
     (g.S.Source.stream c.args.reader.now) (g.S.Source.stream c.next_event.new.reader)
     (g.K.Sink.stream c.args.writer.now) (g.K.Sink.stream c.take_turn.new.writer)
@@ -32,7 +32,7 @@ returns-in_err-take_turn-clause-run g c =
       unavailable = unavailable;
     }) answer front
     c.loop-count.count c.in_err-take_turn.field-0.0
-    c.loop-count.invariant.ran (omega arith) c.in_err-take_turn.ensures.was_clean written consumed
+    c.loop-count.invariant.ran (omega arith) c.in_err-take_turn.ensures.was_clean written consumed shows
     (under g.T.Tables.stands g.T.Tables.is_live g.T.Tables.is_clean c.loop-count.desk.keys c.args.desk.now.keys c.loop-count.desk.tables c.take_turn.new.desk.tables _ answer
     c.loop-count.invariant.keys takes) stopped.0 stopped.2 in
     search rules
@@ -40,7 +40,7 @@ returns-in_err-take_turn-clause-run g c =
 pub loop-count-preserved : goal.loop-count-preserved
 loop-count-preserved g c =
     let (clear, (front, written, consumed)) = rw c.in-Some.is at c.in_ok-event.ensures in
-    let (unavailable, answer, takes, done) = c.in_ok-take_turn.ensures.turn in
+    let (unavailable, answer, shows, takes, done) = c.in_ok-take_turn.ensures.turn in
     record {
       reader_clear = clear;
       writer_clear = done.0;
@@ -54,7 +54,7 @@ loop-count-preserved g c =
           (record {
             event = event_of c.in-Some.event;
             unavailable = unavailable;
-          }) answer front c.loop-count.count c.loop-count.invariant.ran c.take_turn.ensures.was_clean written consumed
+          }) answer front c.loop-count.count c.loop-count.invariant.ran c.take_turn.ensures.was_clean written consumed shows
           (under g.T.Tables.stands g.T.Tables.is_live g.T.Tables.is_clean c.loop-count.desk.keys c.args.desk.now.keys c.loop-count.desk.tables c.take_turn.new.desk.tables _ answer
           c.loop-count.invariant.keys takes) done.1;
     }

@@ -1,4 +1,6 @@
+use Rattle.std.proofs.Common.{inl, inr}
 use Rattle.acvp_http.specs.Event.{replied, ordered}
+use Rattle.acvp_http.proofs.ServeLemmas.{shows_request}
 use Rattle.acvp_http.proofs.TurnLemmas.{order_taken}
 use Rattle.acvp_http.proofs.running.take_turn.Goals as goal
 
@@ -7,6 +9,12 @@ returns-in-Request-clause-turn g c =
     let (unavailable, takes) = rw c.deref.ensures.value at c.handle_bytes-reply.ensures.served in (
       unavailable,
       replied c.handle_bytes-reply.result,
+      rw c.in-Request.is
+          (shows_request g.T.Tables.stands g.T.Tables.is_live g.T.Tables.is_clean g.T.Tables.leaves c.args.desk.now.keys c.in-Request.moment _ c.handle_bytes-reply.result
+          c.args.desk.now.tables c.handle_bytes-reply.new.desk.tables (elim (rw c.deref.ensures.value at c.handle_bytes-reply.ensures.shown) [
+            | inl at_once ↦ inl (at_once.0, (let same = at_once.1 in cc))
+            | inr asked ↦ inr asked
+          ])),
       rw c.in-Request.is takes,
       rw c.bytes.ensures at c.write_reply.ensures,
     )
@@ -19,4 +27,4 @@ returns-in-Order-clause-turn g c =
     (λ content kept. c.records_are_kept.ensures.order c.args.desk.now.keys.seed c.in-Order.order content
     (rw c.in-Order.is at c.requires.event).0 (rw c.in-Order.is at c.requires.event).1 kept)
     c.order-reply.result c.order-reply.ensures.answered in
-    (unavailable, ordered c.order-reply.result, rw c.in-Order.is takes, c.write_order.ensures)
+    (unavailable, ordered c.order-reply.result, rw c.in-Order.is c.order-reply.ensures.answered.same, rw c.in-Order.is takes, c.write_order.ensures)

@@ -17,6 +17,7 @@ returns-then-moment-ge-END_OF_MOMENTS g c =
           c.args.desk.now.tables c.refusal.result at_once;
       left = left_at_once g.T.Tables.stands g.T.Tables.is_live g.T.Tables.is_clean g.T.Tables.leaves c.args.desk.now.keys c.args.moment c.args.bytes.now
           g.met.T.Tables.rests c.args.desk.now.tables c.refusal.result at_once;
+      shut = λ clean off c d left. left;
     }
 
 pub returns-in-Err-ByRule : goal.returns-in-Err-ByRule
@@ -34,6 +35,7 @@ returns-in-Err-ByRule g c =
           c.args.desk.now.tables c.refusal-in-Err-ByRule.result at_once;
       left = left_at_once g.T.Tables.stands g.T.Tables.is_live g.T.Tables.is_clean g.T.Tables.leaves c.args.desk.now.keys c.args.moment c.args.bytes.now
           g.met.T.Tables.rests c.args.desk.now.tables c.refusal-in-Err-ByRule.result at_once;
+      shut = λ clean off c d left. left;
     }
 
 pub returns-in-Err-WrongMethod : goal.returns-in-Err-WrongMethod
@@ -51,6 +53,7 @@ returns-in-Err-WrongMethod g c =
           c.args.desk.now.tables c.wrong_method.result at_once;
       left = left_at_once g.T.Tables.stands g.T.Tables.is_live g.T.Tables.is_clean g.T.Tables.leaves c.args.desk.now.keys c.args.moment c.args.bytes.now
           g.met.T.Tables.rests c.args.desk.now.tables c.wrong_method.result at_once;
+      shut = λ clean off c d left. left;
     }
 
 pub returns-in-Given-clause-shown : goal.returns-in-Given-clause-shown
@@ -107,3 +110,9 @@ returns-in-Denied-clause-left g c =
     (request_value c.in-Ok.request) (c.if-moment-ge-END_OF_MOMENTS.false, c.in-Ok.ensures) c.date_of-date.result c.date_of-date.ensures
     c.args.desk.now.tables c.handle.new.self.tables c.handle.result.changed g.met.T.Tables.rests c.in-Denied.rule c.refusal-in-Denied.result
     (rw c.in-Denied.is at c.handle.ensures.served) c.refusal-in-Denied.ensures
+
+pub returns-in-Given-clause-shut : goal.returns-in-Given-clause-shut
+returns-in-Given-clause-shut g c = let serves = rw c.in-Given.is at c.handle.ensures.served in serves.shut
+
+pub returns-in-Denied-clause-shut : goal.returns-in-Denied-clause-shut
+returns-in-Denied-clause-shut g c = let serves = rw c.in-Denied.is at c.handle.ensures.served in serves.shut
