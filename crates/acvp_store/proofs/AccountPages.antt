@@ -21,7 +21,7 @@ use Rattle.acvp_tables.specs.Content.{Content, page, sessions_of}
 use Rattle.acvp_tables.specs.State.{IsSound}
 use Rattle.acvp_tables.specs.declared.rows.SessionRow.{SessionRow}
 use Rattle.acvp_store.specs.Values.{whole}
-use Rattle.acvp_store.specs.Schema.{store_schema}
+use Rattle.acvp_store.specs.Schema.{Layout, schema_of}
 use Rattle.acvp_store.specs.Rows.{session_tree, session_row, HoldsSessions, session_shown}
 use Rattle.acvp_store.proofs.Owned.{first_number, last_number, in_range, of_account, range_is, session_numbers, session_selection}
 use Rattle.acvp_store.proofs.Paging.{paged, capped_page}
@@ -50,9 +50,9 @@ page_params u o l = whole (first_number u) ∷ whole (last_number u) ∷ whole (
 
 -- ---- sessions
 
-pub session_page : (u o l : ℕ) (old new : State) (rows : List Row) → old.now.schema ≡ store_schema → Shown page_sessions (page_params u o l) old new rows
+pub session_page : (layout : Layout) (u o l : ℕ) (old new : State) (rows : List Row) → old.now.schema ≡ schema_of layout → Shown page_sessions (page_params u o l) old new rows
     → (c : Content) → IsSound c → HoldsSessions (old.now.trees session_tree) c.sessions → rows ≡ map session_shown (page o l (sessions_of u c.sessions))
-session_page u o l old new rows schema shown c sound h =
+session_page layout u o l old new rows schema shown c sound h =
     let key = λ (s : SessionRow). s.number in
     let account = λ (s : SessionRow). s.account in
     let picked = range_is key account u c.sessions (session_numbers c sound) in
@@ -60,5 +60,5 @@ session_page u o l old new rows schema shown c sound h =
     let whole_list = subst (λ xs. IsPermutation xs c.sessions) (sym (map-id h.ordered)) h.same in
     let it = paged (page_params u o l) session_row (λ s. s) (in_range key account u) (within 0) session_columns 0 key session_shown (λ s. test_range s.number (first_number u) (last_number u)) (λ s. refl) (λ s. refl) session_tree (min l most) (min o most) refl refl
     (overlay old.now.trees []) h.ordered c.sessions rows h.rows_are whole_list (rw picked selection.rises)
-    ((reads_as page_sessions (page_params u o l) old new store_schema schema _ sessions_is sessions_plain sessions_unlisted rows shown).answer Null) in
+    ((reads_as page_sessions (page_params u o l) old new (schema_of layout) schema _ (sessions_is layout) (sessions_plain layout) (sessions_unlisted layout) rows shown).answer Null) in
     it ∙ ap (map session_shown) (ap (λ xs. take (min l most) (drop (min o most) xs)) picked ∙ capped_page o l (sessions_of u c.sessions) selection.few)

@@ -23,7 +23,7 @@ use Rattle.acvp_tables.specs.declared.rows.SessionRow.{SessionRow}
 use Rattle.acvp_tables.specs.declared.rows.ObjectRow.{ObjectRow}
 use Rattle.acvp_tables.specs.declared.rows.RequestRow.{RequestRow}
 use Rattle.acvp_store.specs.Values.{whole}
-use Rattle.acvp_store.specs.Schema.{store_schema}
+use Rattle.acvp_store.specs.Schema.{Layout, schema_of}
 use Rattle.acvp_store.specs.Rows.{session_tree, session_row, HoldsSessions}
 use Rattle.acvp_store.specs.Stands.{Entry, entry_row, object_tree, object_columns, HoldsObjects, request_tree, request_row, HoldsRequests}
 use Rattle.acvp_store.proofs.AccountPages.{test_range}
@@ -72,37 +72,37 @@ module _ {E A : Type 0} (params : Row) (encode : E → Row) (member : E → A) (
 abbrev pub range_params : ℕ → Row
 range_params u = whole (first_number u) ∷ whole (last_number u) ∷ []
 
-pub sessions_counted : (u : ℕ) (old new : State) (rows : List Row) → old.now.schema ≡ store_schema → Shown count_sessions (range_params u) old new rows
+pub sessions_counted : (layout : Layout) (u : ℕ) (old new : State) (rows : List Row) → old.now.schema ≡ schema_of layout → Shown count_sessions (range_params u) old new rows
     → (c : Content) → IsSound c → HoldsSessions (old.now.trees session_tree) c.sessions → rows ≡ (whole (length (sessions_of u c.sessions)) ∷ []) ∷ []
-sessions_counted u old new rows schema shown c sound h =
+sessions_counted layout u old new rows schema shown c sound h =
     let key = λ (s : SessionRow). s.number in
     let account = λ (s : SessionRow). s.account in
     counted_rows (range_params u) session_row (λ s. s) (in_range key account u) (within 0) (λ s. test_range s.number (first_number u) (last_number u)) session_tree (overlay old.now.trees []) h.ordered c.sessions (sessions_of u c.sessions) rows h.rows_are
     (subst (λ xs. IsPermutation xs c.sessions) (sym (map-id h.ordered)) h.same) (range_is key account u c.sessions (session_numbers c sound)) (session_selection c u sound).few
-    ((reads_as count_sessions (range_params u) old new store_schema schema _ sessions_count_is sessions_count_plain sessions_count_unlisted rows shown).answer Null)
+    ((reads_as count_sessions (range_params u) old new (schema_of layout) schema _ (sessions_count_is layout) (sessions_count_plain layout) (sessions_count_unlisted layout) rows shown).answer Null)
 
-pub requests_counted : (u : ℕ) (old new : State) (rows : List Row) → old.now.schema ≡ store_schema → Shown count_requests (range_params u) old new rows
+pub requests_counted : (layout : Layout) (u : ℕ) (old new : State) (rows : List Row) → old.now.schema ≡ schema_of layout → Shown count_requests (range_params u) old new rows
     → (c : Content) → IsSound c → HoldsRequests (old.now.trees request_tree) c.requests → rows ≡ (whole (length (requests_of u c.requests)) ∷ []) ∷ []
-requests_counted u old new rows schema shown c sound h =
+requests_counted layout u old new rows schema shown c sound h =
     let key = λ (r : RequestRow). r.number in
     let account = λ (r : RequestRow). r.account in
     counted_rows (range_params u) request_row (λ r. r) (in_range key account u) (within 0) (λ r. test_range r.number (first_number u) (last_number u)) request_tree (overlay old.now.trees []) h.kept.ordered c.requests (requests_of u c.requests) rows h.kept.rows_are
     (subst (λ xs. IsPermutation xs c.requests) (sym (map-id h.kept.ordered)) h.kept.same) (range_is key account u c.requests (request_numbers c sound)) (request_selection c u sound).few
-    ((reads_as count_requests (range_params u) old new store_schema schema _ requests_count_is requests_count_plain requests_count_unlisted rows shown).answer Null)
+    ((reads_as count_requests (range_params u) old new (schema_of layout) schema _ (requests_count_is layout) (requests_count_plain layout) (requests_count_unlisted layout) rows shown).answer Null)
 
 abbrev pub kind_params : Kind → ℕ → Row
 kind_params kind u = whole (first_number u) ∷ whole (last_number u) ∷ whole (kind_number kind) ∷ []
 
-pub objects_counted : (kind : Kind) (u : ℕ) (old new : State) (rows : List Row) → old.now.schema ≡ store_schema → Shown count_objects (kind_params kind u) old new rows
+pub objects_counted : (layout : Layout) (kind : Kind) (u : ℕ) (old new : State) (rows : List Row) → old.now.schema ≡ schema_of layout → Shown count_objects (kind_params kind u) old new rows
     → (c : Content) → IsSound c → HoldsObjects (old.now.trees object_tree) c.objects → rows ≡ (whole (length (objects_of kind u c.objects)) ∷ []) ∷ []
-objects_counted kind u old new rows schema shown c sound h =
+objects_counted layout kind u old new rows schema shown c sound h =
     let key = λ (x : ObjectRow). x.number in
     let account = λ (x : ObjectRow). x.account in
     let of_kind = λ (x : ObjectRow). is_kind x.object.kind kind in
     counted_rows (kind_params kind u) (entry_row object_columns) (λ (e : Entry ObjectRow). e.row) (λ x. of_kind x && in_range key account u x) (equals 1 2 ∷ within 2)
     (λ e. ap₂ (λ a b. a && b) (test_equals (kind_number e.row.object.kind) (kind_number kind)) (test_range e.row.number (first_number u) (last_number u))) object_tree (overlay old.now.trees []) h.entries c.objects (objects_of kind u c.objects) rows h.rows_are
     h.same (range_with key account u of_kind c.objects (object_numbers c sound)) (object_selection c kind u sound).few
-    ((reads_as count_objects (kind_params kind u) old new store_schema schema _ objects_count_is objects_count_plain objects_count_unlisted rows shown).answer Null)
+    ((reads_as count_objects (kind_params kind u) old new (schema_of layout) schema _ (objects_count_is layout) (objects_count_plain layout) (objects_count_unlisted layout) rows shown).answer Null)
 
 -- what a query's answer counts, of each content that is meant
 pub count_found : {C X E F : Type 0} (Sound Held : C → Type 0) (outcome : Result X E) (rows_of : X → List Row) (result : Result ℕ F) (total : C → ℕ) → (IsOk result → IsOk outcome)

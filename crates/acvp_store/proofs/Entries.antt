@@ -21,7 +21,7 @@ use Rattle.sqlite_schema.specs.Rules.{agree, differ, clashes}
 use Rattle.sqlite_trees.proofs.ListLemmas.{map-map, filter-map, all_both, ascending-filter, IsPermutation-filter, pull_back}
 use Rattle.sqlite_value.specs.Keys.{plain}
 use Rattle.acvp_store.specs.Values.{whole}
-use Rattle.acvp_store.specs.Schema.{store_schema}
+use Rattle.acvp_store.specs.Schema.{Layout, schema_of}
 use Rattle.acvp_store.specs.Stands.{Entry, entry_row, HoldsEntries}
 use Rattle.acvp_store.proofs.Idle.{applied}
 use Rattle.acvp_store.proofs.Keyed.{order_whole, without_key}
@@ -85,14 +85,14 @@ module _ {A : Type 0} (columns : A → Row) where
   abbrev pub entry_for : List (Entry A) → A → Entry A
   entry_for es new = record { id = next_from 1 es; row = new }
 
-  module _ (table : Table) (new : A) (casts : cast_row table (Null ∷ columns new) ≡ Null ∷ columns new) (trees next : Trees) (list : List A) (h : HoldsEntries columns (trees table.tree) list)
-      (wrote : Writes store_schema Enforced trees (edit_of trees table [] Chosen 0 ((Null ∷ columns new) ∷ [])) (Ok next)) where
+  module _ (layout : Layout) (table : Table) (new : A) (casts : cast_row table (Null ∷ columns new) ≡ Null ∷ columns new) (trees next : Trees) (list : List A) (h : HoldsEntries columns (trees table.tree) list)
+      (wrote : Writes (schema_of layout) Enforced trees (edit_of trees table [] Chosen 0 ((Null ∷ columns new) ∷ [])) (Ok next)) where
     below : AllByRecursion (λ e. e.id < (entry_for h.entries new).id) h.entries
     below = all_below_from 1 h.entries h.rising
 
     pub rows_put : next table.tree ≡ map stored (h.entries ++ entry_for h.entries new ∷ [])
     rows_put =
-        let it = applied trees next (edit_of trees table [] Chosen 0 ((Null ∷ columns new) ∷ [])) wrote in
+        let it = applied layout trees next (edit_of trees table [] Chosen 0 ((Null ∷ columns new) ∷ [])) wrote in
         let news = numbered_next (cast_row table (Null ∷ columns new)) new h.entries (trees table.tree) h.rows_are casts in
         it.rows ∙ ap (put_all (trees table.tree)) news ∙ rw h.rows_are (put_last (entry_for h.entries new) h.entries below)
 

@@ -7,7 +7,9 @@ use Rattle.sqlite.proofs.Callers.{one_permutation}
 use Rattle.sqlite.specs.Order.{Row}
 use Rattle.sqlite.specs.State.{State}
 use Rattle.acvp_store.specs.Kept.{IsKept}
-use Rattle.acvp_store.specs.Connection.{IsRead}
+use Rattle.sqlite.specs.Effect.{Database}
+use Rattle.acvp_store.specs.Schema.{Layout, schema_of}
+use Rattle.acvp_store.specs.Connection.{InStore, IsRead}
 use Rattle.acvp_store.proofs.Keyed.{keyed, keyed_same, find_is}
 
 -- what is made of a query's answer was read as the query was
@@ -15,6 +17,11 @@ pub read_as : {X Y E F : Type 0} (r : Result X E) (q : Result Y F) (old new : St
 read_as (Ok x) (Ok y) old new same h = record { stays = h.stays; was_clean = h.was_clean; live = h.live; left = h.left }
 read_as (Err e) (Ok y) old new same h = absurd (let impossible = same refl in cc)
 read_as r (Err f) old new same h = record { stays = h.stays; was_clean = h.was_clean; live = tt; left = h.left }
+
+-- what is found, whichever way the store's tables lie
+pub in_store : {X E : Type 0} (r : Result X E) (db : Database) (P : X → Layout → Type 0) → ((layout : Layout) → db.schema ≡ schema_of layout → IfOk r (λ x. P x layout)) → IfOk r (λ x. InStore db (P x))
+in_store (Ok x) db P h = h
+in_store (Err e) db P h = tt
 
 -- ---- one row at most
 

@@ -13,7 +13,7 @@ use Rattle.sqlite_schema.specs.declared.schema.Keys.TheVariants.{Enforced}
 use Rattle.sqlite_schema.specs.Rules.{parent_key}
 use Rattle.sqlite_rules.specs.Action.{works, work_for, work_by, pairs, deed_for, Writes}
 use Rattle.sqlite_rules.specs.Edit.{Applies, taken_by}
-use Rattle.acvp_store.specs.Schema.{store_schema}
+use Rattle.acvp_store.specs.Schema.{Layout, Created, Migrated, schema_of}
 
 abbrev IsQuiet : Reference → Type 0
 IsQuiet ref = (ref.on_delete ≡ NoAction) × (ref.on_update ≡ NoAction)
@@ -34,10 +34,13 @@ module _ (schema : Schema) (depth tree : ℕ) (olds news : List Row) where
   quiet_tables [] h = refl
   quiet_tables (t ∷ tables) h = rw (quiet_references t t.references h.0) (quiet_tables tables h.1)
 
-idle : (depth tree : ℕ) (olds news : List Row) → works store_schema Enforced depth tree olds news ≡ []
-idle depth tree olds news = quiet_tables store_schema depth tree olds news store_schema.tables
-    (tt, (tt, (((refl, refl), ((refl, refl), tt)), (((refl, refl), tt), (((refl, refl), tt), (((refl, refl), tt), (((refl, refl), tt), tt)))))))
+all_quiet : (layout : Layout) → AllByRecursion (λ t. AllByRecursion IsQuiet t.references) (schema_of layout).tables
+all_quiet Created = (tt, (tt, (((refl, refl), ((refl, refl), tt)), (((refl, refl), tt), (((refl, refl), tt), (((refl, refl), tt), (((refl, refl), tt), tt)))))))
+all_quiet Migrated = (tt, (tt, (((refl, refl), ((refl, refl), tt)), (((refl, refl), tt), (((refl, refl), tt), (((refl, refl), tt), (((refl, refl), tt), (((refl, refl), tt), tt))))))))
+
+idle : (layout : Layout) (depth tree : ℕ) (olds news : List Row) → works (schema_of layout) Enforced depth tree olds news ≡ []
+idle layout depth tree olds news = quiet_tables (schema_of layout) depth tree olds news (schema_of layout).tables (all_quiet layout)
 
 -- so a write is its one step
-pub applied : (trees next : Trees) (edit : Edit) → Writes store_schema Enforced trees edit (Ok next) → Applies store_schema Enforced trees edit next
-applied trees next edit wrote = one_step store_schema Enforced trees next edit (idle 0 edit.table.tree (taken_by trees edit) edit.news) wrote
+pub applied : (layout : Layout) (trees next : Trees) (edit : Edit) → Writes (schema_of layout) Enforced trees edit (Ok next) → Applies (schema_of layout) Enforced trees edit next
+applied layout trees next edit wrote = one_step (schema_of layout) Enforced trees next edit (idle layout 0 edit.table.tree (taken_by trees edit) edit.news) wrote

@@ -13,7 +13,7 @@ use Rattle.sqlite.specs.Tree.{Trees, rowid}
 use Rattle.sqlite_rules.specs.Edit.{put_all, are_fresh, numbered as numbered_rows}
 use Rattle.sqlite_rules.specs.Action.{Writes}
 use Rattle.sqlite_schema.specs.declared.schema.Keys.TheVariants.{Enforced}
-use Rattle.acvp_store.specs.Schema.{store_schema}
+use Rattle.acvp_store.specs.Schema.{Layout, schema_of}
 use Rattle.acvp_store.specs.Values.{whole}
 use Rattle.acvp_store.specs.Kept.{IsKept}
 use Rattle.acvp_store.proofs.Idle.{applied}
@@ -26,11 +26,11 @@ not_false false h = refl
 numbered_one : (r s : Row) (n : ℕ) (rows : List Row) → r ≡ s → rowid s ≡ whole n → numbered_rows Chosen rows (r ∷ []) ≡ s ∷ []
 numbered_one r s n rows same given = rw (same, given) refl
 
-module _ {A : Type 0} (key : A → ℕ) (stored : A → Row) (rowid_is : (a : A) → rowid (stored a) ≡ whole (key a)) (table : Table) (new : A) (given : Row) (casts : cast_row table given ≡ stored new) (trees next : Trees)
+module _ (layout : Layout) {A : Type 0} (key : A → ℕ) (stored : A → Row) (rowid_is : (a : A) → rowid (stored a) ≡ whole (key a)) (table : Table) (new : A) (given : Row) (casts : cast_row table given ≡ stored new) (trees next : Trees)
     (low : key new < 2 ^ 63) where
-  pub inserts : Writes store_schema Enforced trees (edit_of trees table [] Chosen 0 (given ∷ [])) (Ok next) → (list : List A) → IsKept key stored (trees table.tree) list → IsKept key stored (next table.tree) (list ++ new ∷ [])
+  pub inserts : Writes (schema_of layout) Enforced trees (edit_of trees table [] Chosen 0 (given ∷ [])) (Ok next) → (list : List A) → IsKept key stored (trees table.tree) list → IsKept key stored (next table.tree) (list ++ new ∷ [])
   inserts wrote list kept =
-      let it = applied trees next (edit_of trees table [] Chosen 0 (given ∷ [])) wrote in
+      let it = applied layout trees next (edit_of trees table [] Chosen 0 (given ∷ [])) wrote in
       let news = numbered_one (cast_row table given) (stored new) (key new) (trees table.tree) casts (rowid_is new) in
       let one = subst (λ rs. are_fresh (trees table.tree) rs ≡ true) news it.fresh in
       let fresh = not_false _ (subst (λ rows. are_fresh rows (stored new ∷ []) ≡ true) kept.rows_are one) in

@@ -3,6 +3,7 @@ pub mod Silent
 pub mod Reading
 pub mod Together
 pub mod Parts
+pub mod Places
 pub mod Texts
 pub mod Making
 pub mod Idle

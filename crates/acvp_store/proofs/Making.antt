@@ -23,7 +23,7 @@ use Rattle.sqlite_rules.specs.Edit.{put_all, numbered as numbered_rows}
 use Rattle.sqlite_rules.specs.Action.{Writes}
 use Rattle.sqlite_schema.specs.declared.schema.Keys.TheVariants.{Enforced}
 use Rattle.acvp_store.specs.Values.{whole}
-use Rattle.acvp_store.specs.Schema.{store_schema, meta_table}
+use Rattle.acvp_store.specs.Schema.{Created, schema_of, meta_table}
 use Rattle.acvp_store.specs.Alters.{SparesOthers}
 use Rattle.acvp_store.specs.Stands.{version_row}
 use Rattle.acvp_store.specs.Private.Creating.{text_of, table_of, before, Makes, WritesVersion}
@@ -56,6 +56,11 @@ unsequenced table.Set = refl
 unsequenced table.Object = refl
 unsequenced table.Request = refl
 unsequenced table.Reviewer = refl
+unsequenced table.OldSet = refl
+unsequenced table.LaterObject = refl
+unsequenced table.LaterRequest = refl
+unsequenced table.LaterSet = refl
+unsequenced table.LaterReviewer = refl
 
 pub make_effect : (old : State) (t : StoreTable) → old.now.schema ≡ before t → (tally : Tally) (after : Database)
     → Does old.step_limit (mode_of old) [] old.now (statement_of (text_of t) (understood (before t) (text_of t))) None CreateTable (Ok (tally, after)) → Makes t old.now after
@@ -78,8 +83,8 @@ numbered_first : (r : Row) (rows : List Row) → rows ≡ [] → r ≡ given →
 numbered_first r rows none is = rw (is, none) refl
 
 versions : (limit : Option ℕ) (text : List ℕ) (trees : Trees) (tally : Tally) (after : Database)
-    → Does limit (record { keys = Enforced; in_doubt = false; may_wait = false }) [] (record { schema = store_schema; trees = trees }) text None (Insert 0 (Values version_terms 3)) (Ok (tally, after))
-    → WritesVersion 3 (record { schema = store_schema; trees = trees }) after
+    → Does limit (record { keys = Enforced; in_doubt = false; may_wait = false }) [] (record { schema = schema_of Created; trees = trees }) text None (Insert 0 (Values version_terms 3)) (Ok (tally, after))
+    → WritesVersion 3 (record { schema = schema_of Created; trees = trees }) after
 versions limit text trees tally after does =
     let done = went does in
     let now = ap (λ (p : Tally × Database). p.1) (same_value (went (went done.2).2).2) in
@@ -87,20 +92,20 @@ versions limit text trees tally after does =
     let written = went (went source.2).2 in
     let counted = went written.2 in
     let trees_are : done.0.trees ≡ written.0 = ap (λ (it : Written). it.trees) (same_value counted.2) ∙ same_value counted.1 in
-    let wrote = subst (λ rs. Writes store_schema Enforced trees (edit_of trees (meta_table 0) [] Chosen 0 rs) (Ok written.0)) source.1.1 written.1 in
-    let applied = one_step store_schema Enforced trees written.0 (edit_of trees (meta_table 0) [] Chosen 0 (given ∷ [])) refl wrote in
+    let wrote = subst (λ rs. Writes (schema_of Created) Enforced trees (edit_of trees (meta_table 0) [] Chosen 0 rs) (Ok written.0)) source.1.1 written.1 in
+    let applied = one_step (schema_of Created) Enforced trees written.0 (edit_of trees (meta_table 0) [] Chosen 0 (given ∷ [])) refl wrote in
     let rows : trees 0 ≡ [] → written.0 0 ≡ version_row 3 ∷ [] = λ none. applied.rows ∙ ap (put_all (trees 0)) (numbered_first (cast_row (meta_table 0) given) (trees 0) none cast_given) ∙ rw none refl in
     let next : written.0 ≡ after.trees = sym (ap (λ (d : Database). d.trees) now ∙ trees_are) in
     record {
       schema = ap (λ (d : Database). d.schema) now;
       written = λ none. subst (λ (t : Trees). t 0 ≡ version_row 3 ∷ []) next (rows none);
-      others = subst (SparesOthers 0 trees) next applied.tables;
+      others = subst (SparesOthers Created 0 trees) next applied.tables;
     }
 
-pub version_effect : (old : State) → old.now.schema ≡ store_schema → (tally : Tally) (after : Database)
-    → Does old.step_limit (mode_of old) [] old.now (statement_of add_version (understood store_schema add_version)) None (Insert 0 (Values version_terms 3)) (Ok (tally, after)) → WritesVersion 3 old.now after
+pub version_effect : (old : State) → old.now.schema ≡ schema_of Created → (tally : Tally) (after : Database)
+    → Does old.step_limit (mode_of old) [] old.now (statement_of add_version (understood (schema_of Created) add_version)) None (Insert 0 (Values version_terms 3)) (Ok (tally, after)) → WritesVersion 3 old.now after
 version_effect old schema tally after does =
-    let text = statement_of add_version (understood store_schema add_version) in
+    let text = statement_of add_version (understood (schema_of Created) add_version) in
     let it = subst (λ s. Does old.step_limit (mode_of old) [] (record old.now { schema = s }) text None (Insert 0 (Values version_terms 3)) (Ok (tally, after))) schema does in
     let made = versions old.step_limit text old.now.trees tally after it in
     record { schema = made.schema; written = made.written; others = made.others }

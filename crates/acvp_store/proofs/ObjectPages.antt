@@ -20,7 +20,7 @@ use Rattle.acvp_tables.specs.Content.{Content, kind_number, is_kind, object_at, 
 use Rattle.acvp_tables.specs.State.{IsSound}
 use Rattle.acvp_tables.specs.declared.rows.ObjectRow.{ObjectRow}
 use Rattle.acvp_store.specs.Values.{whole}
-use Rattle.acvp_store.specs.Schema.{store_schema}
+use Rattle.acvp_store.specs.Schema.{Layout, schema_of}
 use Rattle.acvp_store.specs.Stands.{Entry, entry_row, HoldsObjects, object_columns, object_tree, IsKeepable, FitColumns}
 use Rattle.acvp_store.proofs.AccountPages.{test_range, most, page_params}
 use Rattle.acvp_store.proofs.Listing.{all_taken, all_dropped}
@@ -35,31 +35,31 @@ use Rattle.acvp_store.proofs.Texts.{equals}
 -- ---- by its kind and number
 
 -- the rows that pass, as those of the list
-module _ (k : ℕ) (n : ℤ) (p : ObjectRow → Bool) (tests : (o : ObjectRow) → (is_true (binary (Compare Eq Binary) (whole (kind_number o.object.kind)) (whole k)) && (is_true (binary (Compare Eq Binary) (whole o.number) (Int n)) && true)) ≡ p o) where
-  rows_of : (old new : State) (rows : List Row) → old.now.schema ≡ store_schema → Shown find_object (whole k ∷ Int n ∷ []) old new rows → (objects : List ObjectRow) → HoldsObjects (old.now.trees object_tree) objects → IsPermutation (map object_columns (filter p objects)) rows
+module _ (layout : Layout) (k : ℕ) (n : ℤ) (p : ObjectRow → Bool) (tests : (o : ObjectRow) → (is_true (binary (Compare Eq Binary) (whole (kind_number o.object.kind)) (whole k)) && (is_true (binary (Compare Eq Binary) (whole o.number) (Int n)) && true)) ≡ p o) where
+  rows_of : (old new : State) (rows : List Row) → old.now.schema ≡ schema_of layout → Shown find_object (whole k ∷ Int n ∷ []) old new rows → (objects : List ObjectRow) → HoldsObjects (old.now.trees object_tree) objects → IsPermutation (map object_columns (filter p objects)) rows
   rows_of old new rows schema shown objects h =
       let row = λ (e : Entry ObjectRow). e.row in
       let found = selected (whole k ∷ Int n ∷ []) (entry_row object_columns) (λ e. p e.row) (equals 1 0 ∷ equals 2 1 ∷ []) (λ e. tests e.row) object_tree object_fields (λ e. object_columns e.row) (λ e. refl) (overlay old.now.trees []) h.entries rows h.rows_are
-      ((reads_as find_object (whole k ∷ Int n ∷ []) old new store_schema schema _ object_is object_plain object_unlisted rows shown).answer Null) in
+      ((reads_as find_object (whole k ∷ Int n ∷ []) old new (schema_of layout) schema _ (object_is layout) (object_plain layout) (object_unlisted layout) rows shown).answer Null) in
       let same : IsPermutation (map row (filter (λ e. p e.row) h.entries)) (filter p objects) = subst (λ xs. IsPermutation xs (filter p objects)) (filter-map p row h.entries) (IsPermutation-filter p _ objects h.same) in
       IsPermutation-trans _ _ _ (IsPermutation-sym _ _ (IsPermutation-map object_columns _ _ same)) (subst (λ xs. IsPermutation xs rows) (sym (map-map object_columns row (filter (λ e. p e.row) h.entries))) found)
 
-object_rows : (kind : Kind) (n : ℕ) (k : ℤ) → (n < 2 ^ 63 → k ≡ pos n) → (2 ^ 63 ≤ n → k ≡ negsuc 0) → (old new : State) (rows : List Row) → old.now.schema ≡ store_schema → Shown find_object (whole (kind_number kind) ∷ Int k ∷ []) old new rows
+object_rows : (layout : Layout) (kind : Kind) (n : ℕ) (k : ℤ) → (n < 2 ^ 63 → k ≡ pos n) → (2 ^ 63 ≤ n → k ≡ negsuc 0) → (old new : State) (rows : List Row) → old.now.schema ≡ schema_of layout → Shown find_object (whole (kind_number kind) ∷ Int k ∷ []) old new rows
     → (objects : List ObjectRow) → HoldsObjects (old.now.trees object_tree) objects → FitColumns objects → IsPermutation (map object_columns (filter (is_it kind n) objects)) rows
-object_rows kind n k fits large old new rows schema shown objects h fit = elim (small_or_large n) [
+object_rows layout kind n k fits large old new rows schema shown objects h fit = elim (small_or_large n) [
   | inl low ↦
-      rows_of (kind_number kind) k (is_it kind n) (λ o. both_true _ _ (is_kind o.object.kind kind) (o.number == n) (test_equals (kind_number o.object.kind) (kind_number kind)) (rw (fits low) (test_equals o.number n))) old new rows schema shown objects h
+      rows_of layout (kind_number kind) k (is_it kind n) (λ o. both_true _ _ (is_kind o.object.kind kind) (o.number == n) (test_equals (kind_number o.object.kind) (kind_number kind)) (rw (fits low) (test_equals o.number n))) old new rows schema shown objects h
   | inr high ↦
-      let found = rows_of (kind_number kind) k (λ o. false) (λ o. both_true _ _ (is_kind o.object.kind kind) false (test_equals (kind_number o.object.kind) (kind_number kind)) (rw (large high) (test_none o.number)) ∙ neither _) old new rows schema shown objects h in
+      let found = rows_of layout (kind_number kind) k (λ o. false) (λ o. both_true _ _ (is_kind o.object.kind kind) false (test_equals (kind_number o.object.kind) (kind_number kind)) (rw (large high) (test_none o.number)) ∙ neither _) old new rows schema shown objects h in
       rw (none_fits kind n objects high fit) (rw (none_passes objects) at found)
 ]
   where
     small_or_large : (n : ℕ) → (n < 2 ^ 63) ⊎ (2 ^ 63 ≤ n)
     small_or_large n = search arith
 
-pub object_found : (kind : Kind) (n : ℕ) (k : ℤ) → (n < 2 ^ 63 → k ≡ pos n) → (2 ^ 63 ≤ n → k ≡ negsuc 0) → (old new : State) (rows : List Row) → old.now.schema ≡ store_schema → Shown find_object (whole (kind_number kind) ∷ Int k ∷ []) old new rows
+pub object_found : (layout : Layout) (kind : Kind) (n : ℕ) (k : ℤ) → (n < 2 ^ 63 → k ≡ pos n) → (2 ^ 63 ≤ n → k ≡ negsuc 0) → (old new : State) (rows : List Row) → old.now.schema ≡ schema_of layout → Shown find_object (whole (kind_number kind) ∷ Int k ∷ []) old new rows
     → (objects : List ObjectRow) → HoldsObjects (old.now.trees object_tree) objects → FitColumns objects → AllByRecursion IsKeepable (filter (is_it kind n) objects) × IsPermutation (map object_columns (filter (is_it kind n) objects)) rows
-object_found kind n k fits large old new rows schema shown objects h fit = (all-filter IsKeepable (is_it kind n) objects fit, object_rows kind n k fits large old new rows schema shown objects h fit)
+object_found layout kind n k fits large old new rows schema shown objects h fit = (all-filter IsKeepable (is_it kind n) objects fit, object_rows layout kind n k fits large old new rows schema shown objects h fit)
 
 pub first_object : (kind : Kind) (n : ℕ) (objects : List ObjectRow) → slice_get (filter (is_it kind n) objects) 0 ≡ object_at kind n objects
 first_object kind n [] = refl
@@ -73,10 +73,10 @@ first_object kind n (o ∷ objects) = elim (cases_Bool (is_it kind n o)) [
 abbrev pub objects_params : Kind → ℕ → ℕ → ℕ → Row
 objects_params kind u o l = whole (first_number u) ∷ whole (last_number u) ∷ whole (min l most) ∷ whole (min o most) ∷ whole (kind_number kind) ∷ []
 
-pub object_page : (kind : Kind) (u o l : ℕ) (old new : State) (rows : List Row) → old.now.schema ≡ store_schema → Shown page_objects (objects_params kind u o l) old new rows
+pub object_page : (layout : Layout) (kind : Kind) (u o l : ℕ) (old new : State) (rows : List Row) → old.now.schema ≡ schema_of layout → Shown page_objects (objects_params kind u o l) old new rows
     → (c : Content) → IsSound c → HoldsObjects (old.now.trees object_tree) c.objects → FitColumns c.objects
     → AllByRecursion IsKeepable (page o l (objects_of kind u c.objects)) × (rows ≡ map object_columns (page o l (objects_of kind u c.objects)))
-object_page kind u o l old new rows schema shown c sound h fit =
+object_page layout kind u o l old new rows schema shown c sound h fit =
     let key = λ (x : ObjectRow). x.number in
     let account = λ (x : ObjectRow). x.account in
     let of_kind = λ (x : ObjectRow). is_kind x.object.kind kind in
@@ -86,7 +86,7 @@ object_page kind u o l old new rows schema shown c sound h fit =
     let it = paged (objects_params kind u o l) (entry_row object_columns) (λ (e : Entry ObjectRow). e.row) (λ x. of_kind x && in_range key account u x) (equals 1 4 ∷ within 2) object_fields 2 key object_columns
     (λ e. ap₂ (λ a b. a && b) (test_equals (kind_number e.row.object.kind) (kind_number kind)) (test_range e.row.number (first_number u) (last_number u))) (λ e. refl) (λ e. refl) object_tree (min l most) (min o most) refl refl
     (overlay old.now.trees []) h.entries c.objects rows h.rows_are h.same (rw picked selection.rises)
-    ((reads_as page_objects (objects_params kind u o l) old new store_schema schema _ objects_is objects_plain objects_unlisted rows shown).answer Null) in (
+    ((reads_as page_objects (objects_params kind u o l) old new (schema_of layout) schema _ (objects_is layout) (objects_plain layout) (objects_unlisted layout) rows shown).answer Null) in (
       all_taken IsKeepable l _ (all_dropped IsKeepable o mine (all-filter IsKeepable (λ x. of_kind x && (x.account == u)) c.objects fit)),
       it ∙ ap (map object_columns) (ap (λ xs. take (min l most) (drop (min o most) xs)) picked ∙ capped_page o l mine selection.few),
     )

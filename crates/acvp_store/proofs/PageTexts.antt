@@ -14,7 +14,7 @@ use Rattle.sqlite_sql.specs.Group.{Grouping}
 use Rattle.sqlite_tied.specs.Compute.{everything}
 use Rattle.sqlite_value.specs.Keys.{ascending}
 use Rattle.sqlite.proofs.Callers.{IsPlain, command_of}
-use Rattle.acvp_store.specs.Schema.{store_schema}
+use Rattle.acvp_store.specs.Schema.{Layout, Created, Migrated, schema_of}
 use Rattle.acvp_store.proofs.Silent.{asks}
 use Rattle.acvp_store.proofs.Texts.{simple, equals}
 
@@ -44,18 +44,21 @@ page_sessions = codes "SELECT session, account, sample, created, cancelled, cert
 abbrev pub session_columns : List Term
 session_columns = col 1 0 ∷ col 1 2 ∷ col 1 3 ∷ col 1 4 ∷ col 1 5 ∷ col 1 6 ∷ col 1 7 ∷ col 1 8 ∷ []
 
-pub sessions_is : command_of (understood store_schema page_sessions) ≡ Select (record { lets = []; body = paging 3 (within 0) session_columns 0 })
+pub sessions_is : (layout : Layout) → command_of (understood (schema_of layout) page_sessions) ≡ Select (record { lets = []; body = paging 3 (within 0) session_columns 0 })
     (codes "session" ∷ codes "account" ∷ codes "sample" ∷ codes "created" ∷ codes "cancelled" ∷ codes "certify" ∷ codes "live" ∷ codes "passed" ∷ [])
 unfolding understood everything
-sessions_is = refl
+sessions_is Created = refl
+sessions_is Migrated = refl
 
-pub sessions_unlisted : reads_listing store_schema page_sessions ≡ false
+pub sessions_unlisted : (layout : Layout) → reads_listing (schema_of layout) page_sessions ≡ false
 unfolding understood everything
-sessions_unlisted = refl
+sessions_unlisted Created = refl
+sessions_unlisted Migrated = refl
 
-pub sessions_plain : IsPlain (understood store_schema page_sessions)
+pub sessions_plain : (layout : Layout) → IsPlain (understood (schema_of layout) page_sessions)
 unfolding understood everything
-sessions_plain = (refl, refl)
+sessions_plain Created = (refl, refl)
+sessions_plain Migrated = (refl, refl)
 
 pub sessions_ask : asks (first page_sessions) ≡ true
 unfolding first everything
@@ -69,17 +72,20 @@ find_request = codes "SELECT request, account, kind, CASE WHEN kind = 4 THEN bod
 abbrev pub request_columns : List Term
 request_columns = col 1 0 ∷ col 1 2 ∷ col 1 3 ∷ case (op2 (Compare Eq Binary) (col 1 3) (lit (Int (pos 4)))) (col 1 4) (lit Null) ∷ col 1 5 ∷ col 1 6 ∷ []
 
-pub request_is : command_of (understood store_schema find_request) ≡ Select (record { lets = []; body = simple 7 (equals 0 0 ∷ []) request_columns }) (codes "request" ∷ codes "account" ∷ codes "kind" ∷ codes "CASE WHEN kind = 4 THEN body END" ∷ codes "status" ∷ codes "approved" ∷ [])
+pub request_is : (layout : Layout) → command_of (understood (schema_of layout) find_request) ≡ Select (record { lets = []; body = simple 7 (equals 0 0 ∷ []) request_columns }) (codes "request" ∷ codes "account" ∷ codes "kind" ∷ codes "CASE WHEN kind = 4 THEN body END" ∷ codes "status" ∷ codes "approved" ∷ [])
 unfolding understood everything
-request_is = refl
+request_is Created = refl
+request_is Migrated = refl
 
-pub request_unlisted : reads_listing store_schema find_request ≡ false
+pub request_unlisted : (layout : Layout) → reads_listing (schema_of layout) find_request ≡ false
 unfolding understood everything
-request_unlisted = refl
+request_unlisted Created = refl
+request_unlisted Migrated = refl
 
-pub request_plain : IsPlain (understood store_schema find_request)
+pub request_plain : (layout : Layout) → IsPlain (understood (schema_of layout) find_request)
 unfolding understood everything
-request_plain = (refl, refl)
+request_plain Created = (refl, refl)
+request_plain Migrated = (refl, refl)
 
 pub request_ask : asks (first find_request) ≡ true
 unfolding first everything
@@ -88,17 +94,20 @@ request_ask = refl
 abbrev pub page_requests : List ℕ
 page_requests = codes "SELECT request, account, kind, CASE WHEN kind = 4 THEN body END, status, approved FROM request WHERE request BETWEEN ?1 AND ?2 ORDER BY request LIMIT ?3 OFFSET ?4"
 
-pub requests_is : command_of (understood store_schema page_requests) ≡ Select (record { lets = []; body = paging 7 (within 0) request_columns 0 }) (codes "request" ∷ codes "account" ∷ codes "kind" ∷ codes "CASE WHEN kind = 4 THEN body END" ∷ codes "status" ∷ codes "approved" ∷ [])
+pub requests_is : (layout : Layout) → command_of (understood (schema_of layout) page_requests) ≡ Select (record { lets = []; body = paging 7 (within 0) request_columns 0 }) (codes "request" ∷ codes "account" ∷ codes "kind" ∷ codes "CASE WHEN kind = 4 THEN body END" ∷ codes "status" ∷ codes "approved" ∷ [])
 unfolding understood everything
-requests_is = refl
+requests_is Created = refl
+requests_is Migrated = refl
 
-pub requests_unlisted : reads_listing store_schema page_requests ≡ false
+pub requests_unlisted : (layout : Layout) → reads_listing (schema_of layout) page_requests ≡ false
 unfolding understood everything
-requests_unlisted = refl
+requests_unlisted Created = refl
+requests_unlisted Migrated = refl
 
-pub requests_plain : IsPlain (understood store_schema page_requests)
+pub requests_plain : (layout : Layout) → IsPlain (understood (schema_of layout) page_requests)
 unfolding understood everything
-requests_plain = (refl, refl)
+requests_plain Created = (refl, refl)
+requests_plain Migrated = (refl, refl)
 
 pub requests_ask : asks (first page_requests) ≡ true
 unfolding first everything
@@ -112,17 +121,20 @@ find_object = codes "SELECT kind, number, account, body FROM object WHERE kind =
 abbrev pub object_fields : List Term
 object_fields = col 1 1 ∷ col 1 2 ∷ col 1 3 ∷ col 1 4 ∷ []
 
-pub object_is : command_of (understood store_schema find_object) ≡ Select (record { lets = []; body = simple 5 (equals 1 0 ∷ equals 2 1 ∷ []) object_fields }) (codes "kind" ∷ codes "number" ∷ codes "account" ∷ codes "body" ∷ [])
+pub object_is : (layout : Layout) → command_of (understood (schema_of layout) find_object) ≡ Select (record { lets = []; body = simple 5 (equals 1 0 ∷ equals 2 1 ∷ []) object_fields }) (codes "kind" ∷ codes "number" ∷ codes "account" ∷ codes "body" ∷ [])
 unfolding understood everything
-object_is = refl
+object_is Created = refl
+object_is Migrated = refl
 
-pub object_unlisted : reads_listing store_schema find_object ≡ false
+pub object_unlisted : (layout : Layout) → reads_listing (schema_of layout) find_object ≡ false
 unfolding understood everything
-object_unlisted = refl
+object_unlisted Created = refl
+object_unlisted Migrated = refl
 
-pub object_plain : IsPlain (understood store_schema find_object)
+pub object_plain : (layout : Layout) → IsPlain (understood (schema_of layout) find_object)
 unfolding understood everything
-object_plain = (refl, refl)
+object_plain Created = (refl, refl)
+object_plain Migrated = (refl, refl)
 
 pub object_ask : asks (first find_object) ≡ true
 unfolding first everything
@@ -131,17 +143,20 @@ object_ask = refl
 abbrev pub page_objects : List ℕ
 page_objects = codes "SELECT kind, number, account, body FROM object WHERE kind = ?5 AND number BETWEEN ?1 AND ?2 ORDER BY number LIMIT ?3 OFFSET ?4"
 
-pub objects_is : command_of (understood store_schema page_objects) ≡ Select (record { lets = []; body = paging 5 (equals 1 4 ∷ within 2) object_fields 2 }) (codes "kind" ∷ codes "number" ∷ codes "account" ∷ codes "body" ∷ [])
+pub objects_is : (layout : Layout) → command_of (understood (schema_of layout) page_objects) ≡ Select (record { lets = []; body = paging 5 (equals 1 4 ∷ within 2) object_fields 2 }) (codes "kind" ∷ codes "number" ∷ codes "account" ∷ codes "body" ∷ [])
 unfolding understood everything
-objects_is = refl
+objects_is Created = refl
+objects_is Migrated = refl
 
-pub objects_unlisted : reads_listing store_schema page_objects ≡ false
+pub objects_unlisted : (layout : Layout) → reads_listing (schema_of layout) page_objects ≡ false
 unfolding understood everything
-objects_unlisted = refl
+objects_unlisted Created = refl
+objects_unlisted Migrated = refl
 
-pub objects_plain : IsPlain (understood store_schema page_objects)
+pub objects_plain : (layout : Layout) → IsPlain (understood (schema_of layout) page_objects)
 unfolding understood everything
-objects_plain = (refl, refl)
+objects_plain Created = (refl, refl)
+objects_plain Migrated = (refl, refl)
 
 pub objects_ask : asks (first page_objects) ≡ true
 unfolding first everything
@@ -169,17 +184,20 @@ counting tree terms = record {
 abbrev pub count_sessions : List ℕ
 count_sessions = codes "SELECT COUNT(*) FROM session WHERE session BETWEEN ?1 AND ?2"
 
-pub sessions_count_is : command_of (understood store_schema count_sessions) ≡ Select (record { lets = []; body = counting 3 (within 0) }) (codes "COUNT(*)" ∷ [])
+pub sessions_count_is : (layout : Layout) → command_of (understood (schema_of layout) count_sessions) ≡ Select (record { lets = []; body = counting 3 (within 0) }) (codes "COUNT(*)" ∷ [])
 unfolding understood everything
-sessions_count_is = refl
+sessions_count_is Created = refl
+sessions_count_is Migrated = refl
 
-pub sessions_count_unlisted : reads_listing store_schema count_sessions ≡ false
+pub sessions_count_unlisted : (layout : Layout) → reads_listing (schema_of layout) count_sessions ≡ false
 unfolding understood everything
-sessions_count_unlisted = refl
+sessions_count_unlisted Created = refl
+sessions_count_unlisted Migrated = refl
 
-pub sessions_count_plain : IsPlain (understood store_schema count_sessions)
+pub sessions_count_plain : (layout : Layout) → IsPlain (understood (schema_of layout) count_sessions)
 unfolding understood everything
-sessions_count_plain = (refl, refl)
+sessions_count_plain Created = (refl, refl)
+sessions_count_plain Migrated = (refl, refl)
 
 pub sessions_count_ask : asks (first count_sessions) ≡ true
 unfolding first everything
@@ -188,17 +206,20 @@ sessions_count_ask = refl
 abbrev pub count_objects : List ℕ
 count_objects = codes "SELECT COUNT(*) FROM object WHERE kind = ?3 AND number BETWEEN ?1 AND ?2"
 
-pub objects_count_is : command_of (understood store_schema count_objects) ≡ Select (record { lets = []; body = counting 5 (equals 1 2 ∷ within 2) }) (codes "COUNT(*)" ∷ [])
+pub objects_count_is : (layout : Layout) → command_of (understood (schema_of layout) count_objects) ≡ Select (record { lets = []; body = counting 5 (equals 1 2 ∷ within 2) }) (codes "COUNT(*)" ∷ [])
 unfolding understood everything
-objects_count_is = refl
+objects_count_is Created = refl
+objects_count_is Migrated = refl
 
-pub objects_count_unlisted : reads_listing store_schema count_objects ≡ false
+pub objects_count_unlisted : (layout : Layout) → reads_listing (schema_of layout) count_objects ≡ false
 unfolding understood everything
-objects_count_unlisted = refl
+objects_count_unlisted Created = refl
+objects_count_unlisted Migrated = refl
 
-pub objects_count_plain : IsPlain (understood store_schema count_objects)
+pub objects_count_plain : (layout : Layout) → IsPlain (understood (schema_of layout) count_objects)
 unfolding understood everything
-objects_count_plain = (refl, refl)
+objects_count_plain Created = (refl, refl)
+objects_count_plain Migrated = (refl, refl)
 
 pub objects_count_ask : asks (first count_objects) ≡ true
 unfolding first everything
@@ -207,17 +228,20 @@ objects_count_ask = refl
 abbrev pub count_requests : List ℕ
 count_requests = codes "SELECT COUNT(*) FROM request WHERE request BETWEEN ?1 AND ?2"
 
-pub requests_count_is : command_of (understood store_schema count_requests) ≡ Select (record { lets = []; body = counting 7 (within 0) }) (codes "COUNT(*)" ∷ [])
+pub requests_count_is : (layout : Layout) → command_of (understood (schema_of layout) count_requests) ≡ Select (record { lets = []; body = counting 7 (within 0) }) (codes "COUNT(*)" ∷ [])
 unfolding understood everything
-requests_count_is = refl
+requests_count_is Created = refl
+requests_count_is Migrated = refl
 
-pub requests_count_unlisted : reads_listing store_schema count_requests ≡ false
+pub requests_count_unlisted : (layout : Layout) → reads_listing (schema_of layout) count_requests ≡ false
 unfolding understood everything
-requests_count_unlisted = refl
+requests_count_unlisted Created = refl
+requests_count_unlisted Migrated = refl
 
-pub requests_count_plain : IsPlain (understood store_schema count_requests)
+pub requests_count_plain : (layout : Layout) → IsPlain (understood (schema_of layout) count_requests)
 unfolding understood everything
-requests_count_plain = (refl, refl)
+requests_count_plain Created = (refl, refl)
+requests_count_plain Migrated = (refl, refl)
 
 pub requests_count_ask : asks (first count_requests) ≡ true
 unfolding first everything

@@ -1,6 +1,7 @@
 -- The parts of what a statement does, and what a column makes of a value.
-use Rattle.std.proofs.Common.{◌≡◌, ◌⊎◌, inl, inr, ℕ, List, Bool, true, false, cond, Option, Some, None, Ok, Err, Result, refl, ◌∙◌}
-use Rattle.std.specs.Prelude.{◌&&◌}
+use Rattle.std.proofs.Common.{◌≡◌, ◌≢◌, ◌⊎◌, inl, inr, ℕ, List, Bool, true, false, cond, Option, Some, None, Ok, Err, Result, refl, ◌∙◌, arith}
+use Rattle.std.specs.Prelude.{◌==◌, ◌&&◌}
+use Rattle.std.proofs.lemmas.Bool.Decides.{nat_tests}
 use Rattle.sqlite.specs.declared.types.Value.{Value}
 use Rattle.sqlite.specs.declared.types.Value.TheVariants.{Null, Text}
 use Rattle.sqlite.specs.Ops.{unary}
@@ -28,6 +29,9 @@ both_true true b true d e f = and_true b ∙ f
 both_true false b false d e f = refl
 both_true true b false d e f = absurd (cc)
 both_true false b true d e f = absurd (cc)
+
+pub apart : (m n : ℕ) → (m == n) ≡ false → m ≢ n
+apart m n h e = absurd (let same : (m == n) ≡ true = grind (arith, nat_tests, e) in cc)
 
 -- ---- a column of integers
 

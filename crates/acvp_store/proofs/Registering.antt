@@ -32,7 +32,7 @@ use Rattle.acvp_tables.specs.declared.rows.RequestBody.{RequestBody}
 use Rattle.acvp_tables.specs.declared.rows.RequestBody.TheVariants as body
 use Rattle.acvp_store.specs.Kept.{IsKept}
 use Rattle.acvp_store.specs.Values.{whole}
-use Rattle.acvp_store.specs.Schema.{store_schema, object_table}
+use Rattle.acvp_store.specs.Schema.{Layout, schema_of, object_table}
 use Rattle.acvp_store.specs.Alters.{SparesOthers}
 use Rattle.acvp_store.specs.Stands.{object_tree, HoldsObjects, object_columns, request_tree, request_key, request_row, body_number, body_text}
 use Rattle.acvp_store.specs.Private.Objects.{IsOfKind, Registers}
@@ -75,18 +75,18 @@ mapped number a = elim (cases_Bool (is_registration a)) [
 cast_given : (o : ObjectRow) → cast_row (object_table 5) (Null ∷ object_columns o) ≡ Null ∷ object_columns o
 cast_given o = rw (cast_null, cast_whole (kind_number o.object.kind), cast_whole o.number, cast_whole o.account) refl
 
-module _ (number : ℕ) (trees next : Trees) (objects : List ObjectRow) (h : HoldsObjects (trees object_tree) objects) where
+module _ (layout : Layout) (number : ℕ) (trees next : Trees) (objects : List ObjectRow) (h : HoldsObjects (trees object_tree) objects) where
   abbrev WritesFrom : List Row → Type 0
-  WritesFrom rows = Writes store_schema Enforced trees (edit_of trees (object_table 5) [] Chosen 0 rows) (Ok next)
+  WritesFrom rows = Writes (schema_of layout) Enforced trees (edit_of trees (object_table 5) [] Chosen 0 rows) (Ok next)
 
   nothing : WritesFrom [] → HoldsObjects (next object_tree) (objects ++ [])
-  nothing wrote = rw append-nil (subst (λ rows. HoldsObjects rows objects) (sym (applied trees next (edit_of trees (object_table 5) [] Chosen 0 []) wrote).rows) h)
+  nothing wrote = rw append-nil (subst (λ rows. HoldsObjects rows objects) (sym (applied layout trees next (edit_of trees (object_table 5) [] Chosen 0 []) wrote).rows) h)
 
   of_body : (account : ℕ) (b : RequestBody) (rows : List Row) → IsOfKind b → IsPermutation (if_registered number account b) rows → WritesFrom rows → HoldsObjects (next object_tree) (objects ++ new_objects account b number)
   of_body account (body.Registration o) rows kind same wrote =
       let hit : nat_lt (kind_number o.kind) 4 ≡ true = grind (arith, nat_tests, kind) in
       let one = one_permutation (row_of_body number account (body.Registration o)) rows (rw hit at same) in
-      puts object_columns (object_table 5) (record { number = number; account = account; object = o }) (cast_given (record { number = number; account = account; object = o })) trees next objects h (subst WritesFrom one wrote)
+      puts object_columns layout (object_table 5) (record { number = number; account = account; object = o }) (cast_given (record { number = number; account = account; object = o })) trees next objects h (subst WritesFrom one wrote)
   of_body account (body.Certification c) rows kind same wrote = nothing (subst WritesFrom (none_left rows same) wrote)
 
   registered : (n : ℕ) (requests : List RequestRow) (held : IsKept request_key request_row (trees request_tree) requests) → AllByRecursion (λ (r : RequestRow). IsOfKind r.body) requests → (rows : List Row)
@@ -114,12 +114,12 @@ module _ (number : ℕ) (trees next : Trees) (objects : List ObjectRow) (h : Hol
 abbrev pub register_params : ℕ → ℕ → Row
 register_params n number = whole n ∷ whole number ∷ []
 
-registers : (limit : Option ℕ) (text : List ℕ) (n number : ℕ) → number < 2 ^ 63 → (trees : Trees) (tally : Tally) (after : Database)
-    → Does limit (record { keys = Enforced; in_doubt = false; may_wait = false }) (register_params n number) (record { schema = store_schema; trees = trees }) text None (Insert 4 (source.Query (record { lets = []; body = register_query }))) (Ok (tally, after))
-    → Registers n number (record { schema = store_schema; trees = trees }) after
-registers limit text n number low trees tally after does =
+registers : (layout : Layout) (limit : Option ℕ) (text : List ℕ) (n number : ℕ) → number < 2 ^ 63 → (trees : Trees) (tally : Tally) (after : Database)
+    → Does limit (record { keys = Enforced; in_doubt = false; may_wait = false }) (register_params n number) (record { schema = schema_of layout; trees = trees }) text None (Insert 4 (source.Query (record { lets = []; body = register_query }))) (Ok (tally, after))
+    → Registers layout n number (record { schema = schema_of layout; trees = trees }) after
+registers layout limit text n number low trees tally after does =
     let done = went does in
-    let now = concluded (task_of limit (object_table 5) (register_params n number)) done.0 tally after done.2 in
+    let now = concluded (task_of layout limit (object_table 5) (register_params n number)) done.0 tally after done.2 in
     let rows = went done.1 in
     let written = went (went rows.2).2 in
     let counted = went written.2 in
@@ -131,15 +131,15 @@ registers limit text n number low trees tally after does =
       kept = λ requests objects kinds held h.
           let found = selected_by (register_params n number) request_row (λ r. (r.number == n) && is_registration r) register_query.filter
           (λ r. both_true _ _ (r.number == n) (is_registration r) (test_equals r.number n) (test_less (body_number r.body) 4)) register_query.collations request_tree register_query.project (row_for number) (λ r. refl) (overlay trees []) held.kept.ordered rows.0 held.kept.rows_are (rows.1.answer Null) in
-          subst (λ (t : Trees). HoldsObjects (t object_tree) (objects ++ approved_objects (request_at n requests) number)) next (registered number trees written.0 objects h n requests held.kept kinds rows.0 found written.1);
-      others = subst (SparesOthers object_tree trees) next (applied trees written.0 (edit_of trees (object_table 5) [] Chosen 0 rows.0) written.1).tables;
+          subst (λ (t : Trees). HoldsObjects (t object_tree) (objects ++ approved_objects (request_at n requests) number)) next (registered layout number trees written.0 objects h n requests held.kept kinds rows.0 found written.1);
+      others = subst (SparesOthers layout object_tree trees) next (applied layout trees written.0 (edit_of trees (object_table 5) [] Chosen 0 rows.0) written.1).tables;
     }
 
-pub register_effect : (old : State) (n number : ℕ) → number < 2 ^ 63 → old.now.schema ≡ store_schema → (tally : Tally) (after : Database)
-    → Does old.step_limit (mode_of old) (register_params n number) old.now (statement_of register_object (understood store_schema register_object)) None (Insert 4 (source.Query (record { lets = []; body = register_query }))) (Ok (tally, after))
-    → Registers n number old.now after
-register_effect old n number low schema tally after does =
-    let text = statement_of register_object (understood store_schema register_object) in
+pub register_effect : (layout : Layout) (old : State) (n number : ℕ) → number < 2 ^ 63 → old.now.schema ≡ schema_of layout → (tally : Tally) (after : Database)
+    → Does old.step_limit (mode_of old) (register_params n number) old.now (statement_of register_object (understood (schema_of layout) register_object)) None (Insert 4 (source.Query (record { lets = []; body = register_query }))) (Ok (tally, after))
+    → Registers layout n number old.now after
+register_effect layout old n number low schema tally after does =
+    let text = statement_of register_object (understood (schema_of layout) register_object) in
     let it = subst (λ s. Does old.step_limit (mode_of old) (register_params n number) (record old.now { schema = s }) text None (Insert 4 (source.Query (record { lets = []; body = register_query }))) (Ok (tally, after))) schema does in
-    let made = registers old.step_limit text n number low old.now.trees tally after it in
+    let made = registers layout old.step_limit text n number low old.now.trees tally after it in
     record { schema = made.schema; fits = made.fits; kept = made.kept; others = made.others }

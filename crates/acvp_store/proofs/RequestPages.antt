@@ -25,7 +25,7 @@ use Rattle.acvp_tables.specs.declared.rows.RequestRow.{RequestRow}
 use Rattle.acvp_tables.specs.declared.summary.RequestSummary.{RequestSummary}
 use Rattle.acvp_store.specs.Values.{whole}
 use Rattle.acvp_store.specs.Kept.{IsKept}
-use Rattle.acvp_store.specs.Schema.{store_schema}
+use Rattle.acvp_store.specs.Schema.{Layout, schema_of}
 use Rattle.acvp_store.specs.Stands.{request_tree, request_key, request_row, HoldsRequests, BodyReads, body_number, body_text, status_number}
 use Rattle.acvp_store.specs.Private.Objects.{IsOfKind}
 use Rattle.acvp_store.specs.Private.Summaries.{SubjectReads, subject_number, subject_text, summary_shown}
@@ -80,33 +80,33 @@ summaries_read (r ∷ list) kinds reads = (subject_reads r.body kinds.0 reads.0,
 
 -- ---- by its number
 
-rows_by : (k : ℤ) (p : RequestRow → Bool) → ((r : RequestRow) → is_true (binary (Compare Eq Binary) (whole r.number) (Int k)) ≡ p r) → (old new : State) (rows : List Row) → old.now.schema ≡ store_schema → Shown find_request (Int k ∷ []) old new rows
+rows_by : (layout : Layout) (k : ℤ) (p : RequestRow → Bool) → ((r : RequestRow) → is_true (binary (Compare Eq Binary) (whole r.number) (Int k)) ≡ p r) → (old new : State) (rows : List Row) → old.now.schema ≡ schema_of layout → Shown find_request (Int k ∷ []) old new rows
     → (list : List RequestRow) (kept : IsKept request_key request_row (old.now.trees request_tree) list) → IsPermutation (map request_shown (filter p kept.ordered)) rows
-rows_by k p tests old new rows schema h list kept =
+rows_by layout k p tests old new rows schema h list kept =
     selected (Int k ∷ []) request_row p (equals 0 0 ∷ []) (λ r. rw tests (and_true _)) request_tree request_columns request_shown (shows (Int k ∷ [])) (overlay old.now.trees []) kept.ordered rows kept.rows_are
-    ((reads_as find_request (Int k ∷ []) old new store_schema schema _ request_is request_plain request_unlisted rows h).answer Null)
+    ((reads_as find_request (Int k ∷ []) old new (schema_of layout) schema _ (request_is layout) (request_plain layout) (request_unlisted layout) rows h).answer Null)
 
 none_passes : {A : Type 0} (xs : List A) → filter (λ x. false) xs ≡ []
 none_passes [] = refl
 none_passes (x ∷ xs) = none_passes xs
 
-request_rows : (n : ℕ) (k : ℤ) → (n < 2 ^ 63 → k ≡ pos n) → (2 ^ 63 ≤ n → k ≡ negsuc 0) → (old new : State) (rows : List Row) → old.now.schema ≡ store_schema → Shown find_request (Int k ∷ []) old new rows
+request_rows : (layout : Layout) (n : ℕ) (k : ℤ) → (n < 2 ^ 63 → k ≡ pos n) → (2 ^ 63 ≤ n → k ≡ negsuc 0) → (old new : State) (rows : List Row) → old.now.schema ≡ schema_of layout → Shown find_request (Int k ∷ []) old new rows
     → (list : List RequestRow) (kept : IsKept request_key request_row (old.now.trees request_tree) list) → IsPermutation (map request_shown (keyed request_key n kept.ordered)) rows
-request_rows n k fits large old new rows schema h list kept = elim (small_or_large n) [
-  | inl low ↦ rows_by k (λ r. r.number == n) (λ r. rw (fits low) (test_equals r.number n)) old new rows schema h list kept
-  | inr high ↦ rw (none_fits request_key n kept.ordered high kept.fits) (rw (none_passes kept.ordered) at (rows_by k (λ r. false) (λ r. rw (large high) (test_none r.number)) old new rows schema h list kept))
+request_rows layout n k fits large old new rows schema h list kept = elim (small_or_large n) [
+  | inl low ↦ rows_by layout k (λ r. r.number == n) (λ r. rw (fits low) (test_equals r.number n)) old new rows schema h list kept
+  | inr high ↦ rw (none_fits request_key n kept.ordered high kept.fits) (rw (none_passes kept.ordered) at (rows_by layout k (λ r. false) (λ r. rw (large high) (test_none r.number)) old new rows schema h list kept))
 ]
   where
     small_or_large : (n : ℕ) → (n < 2 ^ 63) ⊎ (2 ^ 63 ≤ n)
     small_or_large n = search arith
 
-pub request_found : (n : ℕ) (k : ℤ) → (n < 2 ^ 63 → k ≡ pos n) → (2 ^ 63 ≤ n → k ≡ negsuc 0) → (old new : State) (rows : List Row) → old.now.schema ≡ store_schema → Shown find_request (Int k ∷ []) old new rows
+pub request_found : (layout : Layout) (n : ℕ) (k : ℤ) → (n < 2 ^ 63 → k ≡ pos n) → (2 ^ 63 ≤ n → k ≡ negsuc 0) → (old new : State) (rows : List Row) → old.now.schema ≡ schema_of layout → Shown find_request (Int k ∷ []) old new rows
     → (c : Content) → IsSound c → HoldsRequests (old.now.trees request_tree) c.requests → AllByRecursion Reads (summaries (keyed request_key n c.requests)) × IsPermutation (map summary_shown (summaries (keyed request_key n c.requests))) rows
-request_found n k fits large old new rows schema shown c sound h =
+request_found layout n k fits large old new rows schema shown c sound h =
     let mine = keyed request_key n c.requests in
     let kinds = all-filter (λ (r : RequestRow). IsOfKind r.body) (λ r. r.number == n) c.requests (kinds_of c sound) in
     let same = keyed_same request_key n h.kept.ordered c.requests h.kept.rising h.kept.same in
-    let found = request_rows n k fits large old new rows schema shown c.requests h.kept in (
+    let found = request_rows layout n k fits large old new rows schema shown c.requests h.kept in (
       summaries_read mine kinds (all-filter (λ (r : RequestRow). BodyReads r.body) (λ r. r.number == n) c.requests h.texts),
       subst (λ xs. IsPermutation xs rows) (ap (map request_shown) same ∙ summaries_are mine kinds) found,
     )
@@ -120,10 +120,10 @@ summary_of n requests = first_summary (keyed request_key n requests) ∙ ap (opt
 
 -- ---- a page
 
-pub request_page : (u o l : ℕ) (old new : State) (rows : List Row) → old.now.schema ≡ store_schema → Shown page_requests (page_params u o l) old new rows
+pub request_page : (layout : Layout) (u o l : ℕ) (old new : State) (rows : List Row) → old.now.schema ≡ schema_of layout → Shown page_requests (page_params u o l) old new rows
     → (c : Content) → IsSound c → HoldsRequests (old.now.trees request_tree) c.requests
     → AllByRecursion Reads (page o l (summaries (requests_of u c.requests))) × (rows ≡ map summary_shown (page o l (summaries (requests_of u c.requests))))
-request_page u o l old new rows schema shown c sound h =
+request_page layout u o l old new rows schema shown c sound h =
     let key = λ (r : RequestRow). r.number in
     let account = λ (r : RequestRow). r.account in
     let mine = requests_of u c.requests in
@@ -132,7 +132,7 @@ request_page u o l old new rows schema shown c sound h =
     let whole_list = subst (λ xs. IsPermutation xs c.requests) (sym (map-id h.kept.ordered)) h.kept.same in
     let it = paged (page_params u o l) request_row (λ r. r) (in_range key account u) (within 0) request_columns 0 key request_shown (λ r. test_range r.number (first_number u) (last_number u)) (λ r. refl) (shows (page_params u o l)) request_tree (min l most) (min o most) refl refl
     (overlay old.now.trees []) h.kept.ordered c.requests rows h.kept.rows_are whole_list (rw picked selection.rises)
-    ((reads_as page_requests (page_params u o l) old new store_schema schema _ requests_is requests_plain requests_unlisted rows shown).answer Null) in
+    ((reads_as page_requests (page_params u o l) old new (schema_of layout) schema _ (requests_is layout) (requests_plain layout) (requests_unlisted layout) rows shown).answer Null) in
     let kinds = all-filter (λ (r : RequestRow). IsOfKind r.body) (λ r. r.account == u) c.requests (kinds_of c sound) in
     let texts = all-filter (λ (r : RequestRow). BodyReads r.body) (λ r. r.account == u) c.requests h.texts in
     let exact = it ∙ ap (map request_shown) (ap (λ xs. take (min l most) (drop (min o most) xs)) picked ∙ capped_page o l mine selection.few) in (

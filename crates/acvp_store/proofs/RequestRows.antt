@@ -20,7 +20,7 @@ use Rattle.acvp_tables.specs.declared.rows.RequestStatus.{RequestStatus}
 use Rattle.sqlite_trees.proofs.ListLemmas.{all-append}
 use Rattle.acvp_store.specs.Kept.{IsKept}
 use Rattle.acvp_store.specs.Values.{whole}
-use Rattle.acvp_store.specs.Schema.{store_schema, request_table}
+use Rattle.acvp_store.specs.Schema.{Layout, schema_of, request_table}
 use Rattle.acvp_store.specs.Alters.{Alters}
 use Rattle.acvp_store.specs.Stands.{request_tree, request_key, request_row, HoldsRequests, BodyReads, body_number, body_text, status_number}
 use Rattle.acvp_store.specs.Private.Requests.{IsAsked}
@@ -31,9 +31,9 @@ use Rattle.acvp_store.proofs.Texts.{add_request, add_request_terms, decide_reque
 
 -- ---- what is kept, with texts that read
 
-keeps_texts : (change : List RequestRow → List RequestRow) → ((list : List RequestRow) → AllByRecursion (λ (r : RequestRow). BodyReads r.body) list → AllByRecursion (λ (r : RequestRow). BodyReads r.body) (change list)) → (old new : Database)
-    → Alters request_tree (IsKept request_key request_row) change old new → Alters request_tree HoldsRequests change old new
-keeps_texts change keeps old new h = record {
+keeps_texts : (layout : Layout) (change : List RequestRow → List RequestRow) → ((list : List RequestRow) → AllByRecursion (λ (r : RequestRow). BodyReads r.body) list → AllByRecursion (λ (r : RequestRow). BodyReads r.body) (change list)) → (old new : Database)
+    → Alters layout request_tree (IsKept request_key request_row) change old new → Alters layout request_tree HoldsRequests change old new
+keeps_texts layout change keeps old new h = record {
   schema = h.schema;
   kept = λ list held. record { kept = h.kept list held.kept; texts = keeps list held.texts };
   others = h.others;
@@ -61,13 +61,13 @@ asked_is row number account kind body is = rw (← is.number_is, ← is.account_
 abbrev pub request_params : ℕ → ℕ → ℕ → List ℕ → Row
 request_params number account kind body = whole number ∷ whole account ∷ whole kind ∷ Text body ∷ []
 
-pub add_request_effect : (old : State) (row : RequestRow) (number account kind : ℕ) (body : List ℕ) → IsAsked row number account kind body → number < 2 ^ 63 → old.now.schema ≡ store_schema → (tally : Tally) (after : Database)
-    → Does old.step_limit (mode_of old) (request_params number account kind body) old.now (statement_of add_request (understood store_schema add_request)) None (Insert 5 (Values add_request_terms 7)) (Ok (tally, after))
-    → Alters request_tree HoldsRequests (λ list. list ++ row ∷ []) old.now after
-add_request_effect old row number account kind body is low schema tally after does =
-    keeps_texts (λ list. list ++ row ∷ []) (λ list all. all-append (λ (r : RequestRow). BodyReads r.body) list (row ∷ []) all (is.reads, tt)) old.now after
-    (insert_effect request_key request_row (λ x. refl) 5 _ _ _ _ refl add_request_terms 7 (request_params number account kind body) (asked number account kind body) refl row
-    (cast_asked number account kind body ∙ asked_is row number account kind body is) (rw is.number_is low) old (statement_of add_request (understood store_schema add_request)) schema tally after does)
+pub add_request_effect : (layout : Layout) (old : State) (row : RequestRow) (number account kind : ℕ) (body : List ℕ) → IsAsked row number account kind body → number < 2 ^ 63 → old.now.schema ≡ schema_of layout → (tally : Tally) (after : Database)
+    → Does old.step_limit (mode_of old) (request_params number account kind body) old.now (statement_of add_request (understood (schema_of layout) add_request)) None (Insert 5 (Values add_request_terms 7)) (Ok (tally, after))
+    → Alters layout request_tree HoldsRequests (λ list. list ++ row ∷ []) old.now after
+add_request_effect layout old row number account kind body is low schema tally after does =
+    keeps_texts layout (λ list. list ++ row ∷ []) (λ list all. all-append (λ (r : RequestRow). BodyReads r.body) list (row ∷ []) all (is.reads, tt)) old.now after
+    (insert_effect layout request_key request_row (λ x. refl) 5 _ _ _ _ refl add_request_terms 7 (request_params number account kind body) (asked number account kind body) refl row
+    (cast_asked number account kind body ∙ asked_is row number account kind body is) (rw is.number_is low) old (statement_of add_request (understood (schema_of layout) add_request)) schema tally after does)
 
 -- ---- what is decided
 
@@ -80,10 +80,10 @@ cast_decided s r = rw (cast_whole r.number, cast_null, cast_whole r.account, cas
 abbrev pub decide_params : ℕ → RequestStatus → Row
 decide_params n s = whole n ∷ whole (status_number s) ∷ or_null whole (given_number s) ∷ []
 
-pub decide_effect : (old : State) (n : ℕ) (s : RequestStatus) → old.now.schema ≡ store_schema → (tally : Tally) (after : Database)
-    → Does old.step_limit (mode_of old) (decide_params n s) old.now (statement_of decide_request (understood store_schema decide_request)) None (Update 5 (record { lets = []; body = decide_query })) (Ok (tally, after))
-    → Alters request_tree HoldsRequests (changed (is_request n) (with_status s)) old.now after
-decide_effect old n s schema tally after does =
-    keeps_texts (changed (is_request n) (with_status s)) (read_decided n s) old.now after
-    (update_effect request_key request_row (λ x. refl) 5 (request_table 7) refl (λ trees. refl) decide_query.filter decide_query.project (decide_params n s) n (with_status s) (λ r. refl) (decided s) (λ r. refl) (cast_decided s)
-    (λ r. rw test_equals (and_true _)) (λ r. refl) old (statement_of decide_request (understood store_schema decide_request)) schema tally after does)
+pub decide_effect : (layout : Layout) (old : State) (n : ℕ) (s : RequestStatus) → old.now.schema ≡ schema_of layout → (tally : Tally) (after : Database)
+    → Does old.step_limit (mode_of old) (decide_params n s) old.now (statement_of decide_request (understood (schema_of layout) decide_request)) None (Update 5 (record { lets = []; body = decide_query })) (Ok (tally, after))
+    → Alters layout request_tree HoldsRequests (changed (is_request n) (with_status s)) old.now after
+decide_effect layout old n s schema tally after does =
+    keeps_texts layout (changed (is_request n) (with_status s)) (read_decided n s) old.now after
+    (update_effect layout request_key request_row (λ x. refl) 5 (request_table 7) refl (λ trees. refl) decide_query.filter decide_query.project (decide_params n s) n (with_status s) (λ r. refl) (decided s) (λ r. refl) (cast_decided s)
+    (λ r. rw test_equals (and_true _)) (λ r. refl) old (statement_of decide_request (understood (schema_of layout) decide_request)) schema tally after does)

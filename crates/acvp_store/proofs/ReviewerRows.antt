@@ -1,6 +1,6 @@
 -- The statements on reviewers.
 use Rattle.std.proofs.Common.{inl, inr, ◌≡◌, ℕ, List, [], ◌∷◌, ◌++◌, map, length, Bool, true, false, not, Option, None, Ok, Err, Result, IfOk, IsOk, refl, sym, ap, subst, ◌∙◌, arith}
-use Rattle.std.specs.Prelude.{◌==◌, nat_lt, if◌then◌else◌}
+use Rattle.std.specs.Prelude.{◌==◌, ◌&&◌, nat_lt, if◌then◌else◌}
 use Rattle.std.specs.List.{filter, list_any, AllByRecursion}
 use Rattle.std.specs.List.Sorted.{IsPermutation}
 use Rattle.std.proofs.lemmas.Bool.{cases_Bool}
@@ -13,10 +13,11 @@ use Rattle.sqlite.specs.Command.TheVariants.{Insert, Delete}
 use Rattle.sqlite.specs.Source.TheVariants.{Values}
 use Rattle.sqlite.specs.Edit.{edit_of}
 use Rattle.sqlite.specs.Rowids.TheVariants.{Chosen, Given}
+use Rattle.sqlite.specs.Table.{Table}
 use Rattle.sqlite.specs.Cast.{cast_row}
 use Rattle.sqlite.specs.Tree.{Trees}
 use Rattle.sqlite.specs.Effect.{Database}
-use Rattle.sqlite.specs.Does.{Tally, Does}
+use Rattle.sqlite.specs.Does.{Tally, Does, AtPlace, OnRows}
 use Rattle.sqlite.specs.Rows.{Written}
 use Rattle.sqlite.specs.State.{State, Shown, mode_of}
 use Rattle.sqlite.specs.Listing.{understood}
@@ -32,25 +33,26 @@ use Rattle.acvp_tables.specs.Content.{is_reviewer}
 use Rattle.acvp_tables.specs.Changes.{is_pair, with_reviewer}
 use Rattle.acvp_tables.specs.declared.rows.ReviewerRow.{ReviewerRow}
 use Rattle.acvp_store.specs.Values.{whole}
-use Rattle.acvp_store.specs.Schema.{store_schema, reviewer_table}
+use Rattle.acvp_store.specs.Schema.{Layout, Created, Migrated, schema_of, reviewer_table}
 use Rattle.acvp_store.specs.Alters.{Alters, SparesOthers}
 use Rattle.acvp_store.specs.Stands.{Entry, entry_row, HoldsReviewers, reviewer_columns, reviewer_tree}
-use Rattle.acvp_store.proofs.Effects.{task_of, concluded}
+use Rattle.acvp_store.proofs.Effects.{mode, task_of, concluded}
 use Rattle.acvp_store.proofs.Entries.{entry_for, map_last, rows_put, puts, was_free, removed, takes}
 use Rattle.acvp_store.proofs.Idle.{applied}
 use Rattle.acvp_store.proofs.Inserting.{not_false}
 use Rattle.acvp_store.proofs.Parts.{went, same_value, cast_null, cast_whole, both_true}
 use Rattle.acvp_store.proofs.Selecting.{test_equals, selected}
-use Rattle.acvp_store.proofs.Texts.{find_reviewer, reviewer_query, reviewer_is, reviewer_plain, reviewer_unlisted, add_reviewer, add_reviewer_terms, remove_reviewer, remove_query}
+use Rattle.acvp_store.proofs.Places.{reviewers_at, of_reviewers, reviewers_seen}
+use Rattle.acvp_store.proofs.Texts.{reviewer_place, find_reviewer, reviewer_query, reviewer_is, reviewer_plain, reviewer_unlisted, add_reviewer, add_reviewer_terms, remove_reviewer, remove_query}
 
 -- ---- whether one is there
 
-pub reviewer_rows : (r : ReviewerRow) (old new : State) (rows : List Row) → old.now.schema ≡ store_schema → Shown find_reviewer (reviewer_columns r) old new rows → (list : List ReviewerRow) (h : HoldsReviewers (old.now.trees reviewer_tree) list)
+pub reviewer_rows : (layout : Layout) (r : ReviewerRow) (old new : State) (rows : List Row) → old.now.schema ≡ schema_of layout → Shown find_reviewer (reviewer_columns r) old new rows → (list : List ReviewerRow) (h : HoldsReviewers (old.now.trees (reviewer_tree layout)) list)
     → IsPermutation (map (λ (e : Entry ReviewerRow). whole e.row.account ∷ []) (filter (λ e. is_pair r e.row) h.entries)) rows
-reviewer_rows r old new rows schema shown list h =
-    selected (reviewer_columns r) (entry_row reviewer_columns) (λ e. is_pair r e.row) reviewer_query.filter (λ e. both_true _ _ (e.row.session == r.session) (e.row.account == r.account) (test_equals e.row.session r.session) (test_equals e.row.account r.account))
-    reviewer_tree reviewer_query.project (λ e. whole e.row.account ∷ []) (λ e. refl) (overlay old.now.trees []) h.entries rows h.rows_are
-    ((reads_as find_reviewer (reviewer_columns r) old new store_schema schema _ reviewer_is reviewer_plain reviewer_unlisted rows shown).answer Null)
+reviewer_rows layout r old new rows schema shown list h =
+    selected (reviewer_columns r) (entry_row reviewer_columns) (λ e. is_pair r e.row) (reviewer_query layout).filter (λ e. both_true _ _ (e.row.session == r.session) (e.row.account == r.account) (test_equals e.row.session r.session) (test_equals e.row.account r.account))
+    (reviewer_tree layout) (reviewer_query layout).project (λ e. whole e.row.account ∷ []) (λ e. refl) (overlay old.now.trees []) h.entries rows (reviewers_seen layout old.now.trees ∙ h.rows_are)
+    ((reads_as find_reviewer (reviewer_columns r) old new (schema_of layout) schema _ (reviewer_is layout) (reviewer_plain layout) (reviewer_unlisted layout) rows shown).answer Null)
 
 -- there is one exactly where one passes
 counted : {A : Type 0} (shown : A → Row) (p : A → Bool) (xs : List A) → nat_lt 0 (length (map shown (filter p xs))) ≡ list_any p xs
@@ -82,8 +84,8 @@ found_reviewer r table (Ok x) rows_in (Ok b) ok found rows = λ list h.
 
 -- ---- one who is put in
 
-cast_given : (r : ReviewerRow) → cast_row (reviewer_table 8) (Null ∷ reviewer_columns r) ≡ Null ∷ reviewer_columns r
-cast_given r = rw (cast_null, cast_whole r.session, cast_whole r.account) refl
+cast_given : (tree : ℕ) (r : ReviewerRow) → cast_row (reviewer_table tree) (Null ∷ reviewer_columns r) ≡ Null ∷ reviewer_columns r
+cast_given tree r = rw (cast_null, cast_whole r.session, cast_whole r.account) refl
 
 agrees : (r a : ReviewerRow) (i j : ℕ) → agree plain (1 ∷ 2 ∷ []) (whole i ∷ reviewer_columns a) (1 ∷ 2 ∷ []) (whole j ∷ reviewer_columns r) ≡ is_pair r a
 unfolding first_key
@@ -93,78 +95,84 @@ all_last : (P : Row → Type 0) (xs : List Row) (r : Row) → AllByRecursion P (
 all_last P [] r h = h.0
 all_last P (x ∷ xs) r h = all_last P xs r h.1
 
-module _ (r : ReviewerRow) (trees next : Trees) (wrote : Writes store_schema Enforced trees (edit_of trees (reviewer_table 8) [] Chosen 0 ((Null ∷ reviewer_columns r) ∷ [])) (Ok next)) (list : List ReviewerRow) (h : HoldsReviewers (trees reviewer_tree) list) where
+only_index : (layout : Layout) (db : Trees) (row : Row) → passes Unique (schema_of layout) db (reviewer_table (reviewer_tree layout)) row ≡ (not (clashes plain (1 ∷ 2 ∷ []) (db (reviewer_tree layout)) row) && true)
+only_index Created db row = refl
+only_index Migrated db row = refl
+
+module _ (layout : Layout) (r : ReviewerRow) (trees next : Trees) (wrote : Writes (schema_of layout) Enforced trees (edit_of trees (reviewer_table (reviewer_tree layout)) [] Chosen 0 ((Null ∷ reviewer_columns r) ∷ [])) (Ok next)) (list : List ReviewerRow) (h : HoldsReviewers (trees (reviewer_tree layout)) list) where
   abbrev new : Entry ReviewerRow
   new = entry_for reviewer_columns h.entries r
 
-  clear : clashes plain (1 ∷ 2 ∷ []) (next reviewer_tree) (entry_row reviewer_columns new) ≡ false
+  clear : clashes plain (1 ∷ 2 ∷ []) (next (reviewer_tree layout)) (entry_row reviewer_columns new) ≡ false
   clear =
-      let it = applied trees next (edit_of trees (reviewer_table 8) [] Chosen 0 ((Null ∷ reviewer_columns r) ∷ [])) wrote in
-      let rows = rows_put reviewer_columns (reviewer_table 8) r (cast_given r) trees next list h wrote ∙ map_last reviewer_columns new h.entries in
-      let unique = subst (λ rows. AllByRecursion (λ row. passes Unique store_schema next (reviewer_table 8) row ≡ true) rows) rows (it.fits.rules Unique (λ e. absurd (cc))).1.1.1.1.1.1.0 in
-      not_false _ (all_last _ (map (entry_row reviewer_columns) h.entries) (entry_row reviewer_columns new) unique)
+      let it = applied layout trees next (edit_of trees (reviewer_table (reviewer_tree layout)) [] Chosen 0 ((Null ∷ reviewer_columns r) ∷ [])) wrote in
+      let rows = rows_put reviewer_columns layout (reviewer_table (reviewer_tree layout)) r (cast_given (reviewer_tree layout) r) trees next list h wrote ∙ map_last reviewer_columns new h.entries in
+      let unique = subst (λ rows. AllByRecursion (λ row. passes Unique (schema_of layout) next (reviewer_table (reviewer_tree layout)) row ≡ true) rows) rows (of_reviewers layout (λ t. AllByRecursion (λ row. passes Unique (schema_of layout) next t row ≡ true) (next t.tree)) (it.fits.rules Unique (λ e. absurd (cc)))) in
+      not_false _ (sym (only_index layout next (entry_row reviewer_columns new)) ∙ all_last _ (map (entry_row reviewer_columns) h.entries) (entry_row reviewer_columns new) unique)
 
-  joins : HoldsReviewers (next reviewer_tree) (with_reviewer r list)
+  joins : HoldsReviewers (next (reviewer_tree layout)) (with_reviewer r list)
   joins =
-      let free = was_free reviewer_columns (reviewer_table 8) r (cast_given r) trees next list h wrote (1 ∷ 2 ∷ []) (is_pair r) (agrees r) clear in
-      subst (λ b. HoldsReviewers (next reviewer_tree) (if b then list else list ++ r ∷ [])) (sym free) (puts reviewer_columns (reviewer_table 8) r (cast_given r) trees next list h wrote)
+      let free = was_free reviewer_columns layout (reviewer_table (reviewer_tree layout)) r (cast_given (reviewer_tree layout) r) trees next list h wrote (1 ∷ 2 ∷ []) (is_pair r) (agrees r) clear in
+      subst (λ b. HoldsReviewers (next (reviewer_tree layout)) (if b then list else list ++ r ∷ [])) (sym free) (puts reviewer_columns layout (reviewer_table (reviewer_tree layout)) r (cast_given (reviewer_tree layout) r) trees next list h wrote)
 
-adds : (limit : Option ℕ) (text : List ℕ) (r : ReviewerRow) (trees : Trees) (tally : Tally) (after : Database)
-    → Does limit (record { keys = Enforced; in_doubt = false; may_wait = false }) (reviewer_columns r) (record { schema = store_schema; trees = trees }) text None (Insert 6 (Values add_reviewer_terms 3)) (Ok (tally, after))
-    → Alters reviewer_tree HoldsReviewers (with_reviewer r) (record { schema = store_schema; trees = trees }) after
-adds limit text r trees tally after does =
-    let done = went does in
-    let now = concluded (task_of limit (reviewer_table 8) (reviewer_columns r)) done.0 tally after done.2 in
+adds : (layout : Layout) (limit : Option ℕ) (text : List ℕ) (r : ReviewerRow) (trees : Trees) (tally : Tally) (after : Database)
+    → Does limit (record { keys = Enforced; in_doubt = false; may_wait = false }) (reviewer_columns r) (record { schema = schema_of layout; trees = trees }) text None (Insert (reviewer_place layout) (Values add_reviewer_terms 3)) (Ok (tally, after))
+    → Alters layout (reviewer_tree layout) HoldsReviewers (with_reviewer r) (record { schema = schema_of layout; trees = trees }) after
+adds layout limit text r trees tally after does =
+    let q = Insert (reviewer_place layout) (Values add_reviewer_terms 3) in
+    let done = went (subst (λ (o : Option Table). AtPlace (λ t. OnRows (task_of layout limit t (reviewer_columns r)) mode None q trees) o (Ok (tally, after))) (reviewers_at layout) does) in
+    let now = concluded (task_of layout limit (reviewer_table (reviewer_tree layout)) (reviewer_columns r)) done.0 tally after done.2 in
     let source = went done.1 in
     let written = went (went source.2).2 in
     let counted = went written.2 in
     let trees_are : done.0.trees ≡ written.0 = ap (λ (it : Written). it.trees) (same_value counted.2) ∙ same_value counted.1 in
-    let wrote = subst (λ rs. Writes store_schema Enforced trees (edit_of trees (reviewer_table 8) [] Chosen 0 rs) (Ok written.0)) source.1.1 written.1 in
+    let wrote = subst (λ rs. Writes (schema_of layout) Enforced trees (edit_of trees (reviewer_table (reviewer_tree layout)) [] Chosen 0 rs) (Ok written.0)) source.1.1 written.1 in
     let next : written.0 ≡ after.trees = sym (ap (λ (d : Database). d.trees) now ∙ trees_are) in
     record {
       schema = ap (λ (d : Database). d.schema) now;
-      kept = λ list h. subst (λ (t : Trees). HoldsReviewers (t reviewer_tree) (with_reviewer r list)) next (joins r trees written.0 wrote list h);
-      others = subst (SparesOthers reviewer_tree trees) next (applied trees written.0 (edit_of trees (reviewer_table 8) [] Chosen 0 ((Null ∷ reviewer_columns r) ∷ [])) wrote).tables;
+      kept = λ list h. subst (λ (t : Trees). HoldsReviewers (t (reviewer_tree layout)) (with_reviewer r list)) next (joins layout r trees written.0 wrote list h);
+      others = subst (SparesOthers layout (reviewer_tree layout) trees) next (applied layout trees written.0 (edit_of trees (reviewer_table (reviewer_tree layout)) [] Chosen 0 ((Null ∷ reviewer_columns r) ∷ [])) wrote).tables;
     }
 
-pub add_reviewer_effect : (old : State) (r : ReviewerRow) → old.now.schema ≡ store_schema → (tally : Tally) (after : Database)
-    → Does old.step_limit (mode_of old) (reviewer_columns r) old.now (statement_of add_reviewer (understood store_schema add_reviewer)) None (Insert 6 (Values add_reviewer_terms 3)) (Ok (tally, after))
-    → Alters reviewer_tree HoldsReviewers (with_reviewer r) old.now after
-add_reviewer_effect old r schema tally after does =
-    let text = statement_of add_reviewer (understood store_schema add_reviewer) in
-    let it = subst (λ s. Does old.step_limit (mode_of old) (reviewer_columns r) (record old.now { schema = s }) text None (Insert 6 (Values add_reviewer_terms 3)) (Ok (tally, after))) schema does in
-    let made = adds old.step_limit text r old.now.trees tally after it in
+pub add_reviewer_effect : (layout : Layout) (old : State) (r : ReviewerRow) → old.now.schema ≡ schema_of layout → (tally : Tally) (after : Database)
+    → Does old.step_limit (mode_of old) (reviewer_columns r) old.now (statement_of add_reviewer (understood (schema_of layout) add_reviewer)) None (Insert (reviewer_place layout) (Values add_reviewer_terms 3)) (Ok (tally, after))
+    → Alters layout (reviewer_tree layout) HoldsReviewers (with_reviewer r) old.now after
+add_reviewer_effect layout old r schema tally after does =
+    let text = statement_of add_reviewer (understood (schema_of layout) add_reviewer) in
+    let it = subst (λ s. Does old.step_limit (mode_of old) (reviewer_columns r) (record old.now { schema = s }) text None (Insert (reviewer_place layout) (Values add_reviewer_terms 3)) (Ok (tally, after))) schema does in
+    let made = adds layout old.step_limit text r old.now.trees tally after it in
     record { schema = made.schema; kept = made.kept; others = made.others }
 
 -- ---- one who is taken out
 
-removes : (limit : Option ℕ) (text : List ℕ) (r : ReviewerRow) (trees : Trees) (tally : Tally) (after : Database)
-    → Does limit (record { keys = Enforced; in_doubt = false; may_wait = false }) (reviewer_columns r) (record { schema = store_schema; trees = trees }) text None (Delete 6 (record { lets = []; body = remove_query })) (Ok (tally, after))
-    → Alters reviewer_tree HoldsReviewers (filter (λ row. not (is_pair r row))) (record { schema = store_schema; trees = trees }) after
-removes limit text r trees tally after does =
-    let done = went does in
-    let now = concluded (task_of limit (reviewer_table 8) (reviewer_columns r)) done.0 tally after done.2 in
+removes : (layout : Layout) (limit : Option ℕ) (text : List ℕ) (r : ReviewerRow) (trees : Trees) (tally : Tally) (after : Database)
+    → Does limit (record { keys = Enforced; in_doubt = false; may_wait = false }) (reviewer_columns r) (record { schema = schema_of layout; trees = trees }) text None (Delete (reviewer_place layout) (record { lets = []; body = (remove_query layout) })) (Ok (tally, after))
+    → Alters layout (reviewer_tree layout) HoldsReviewers (filter (λ row. not (is_pair r row))) (record { schema = schema_of layout; trees = trees }) after
+removes layout limit text r trees tally after does =
+    let q = Delete (reviewer_place layout) (record { lets = []; body = remove_query layout }) in
+    let done = went (subst (λ (o : Option Table). AtPlace (λ t. OnRows (task_of layout limit t (reviewer_columns r)) mode None q trees) o (Ok (tally, after))) (reviewers_at layout) does) in
+    let now = concluded (task_of layout limit (reviewer_table (reviewer_tree layout)) (reviewer_columns r)) done.0 tally after done.2 in
     let found = went done.1 in
     let written = went found.2 in
     let trees_are : done.0.trees ≡ written.0 = ap (λ (it : Written). it.trees) (same_value written.2) in
     let next : written.0 ≡ after.trees = sym (ap (λ (d : Database). d.trees) now ∙ trees_are) in
-    let it = applied trees written.0 (edit_of trees (reviewer_table 8) (ids_of found.0) Given 0 []) written.1 in
+    let it = applied layout trees written.0 (edit_of trees (reviewer_table (reviewer_tree layout)) (ids_of found.0) Given 0 []) written.1 in
     record {
       schema = ap (λ (d : Database). d.schema) now;
       kept = λ list h.
-          let rows = selected (reviewer_columns r) (entry_row reviewer_columns) (λ e. is_pair r e.row) remove_query.filter
+          let rows = selected (reviewer_columns r) (entry_row reviewer_columns) (λ e. is_pair r e.row) (remove_query layout).filter
           (λ e. both_true _ _ (e.row.session == r.session) (e.row.account == r.account) (test_equals e.row.session r.session) (test_equals e.row.account r.account))
-          reviewer_tree remove_query.project (λ e. whole e.id ∷ []) (λ e. refl) (overlay trees []) h.entries found.0 h.rows_are (found.1.answer Null) in
+          (reviewer_tree layout) (remove_query layout).project (λ e. whole e.id ∷ []) (λ e. refl) (overlay trees []) h.entries found.0 (reviewers_seen layout trees ∙ h.rows_are) (found.1.answer Null) in
           let left = it.rows ∙ ap (λ all. without_all all (ids_of found.0)) h.rows_are ∙ removed reviewer_columns (λ e. is_pair r e.row) h.entries found.0 h.rising rows in
-          subst (λ (t : Trees). HoldsReviewers (t reviewer_tree) (filter (λ row. not (is_pair r row)) list)) next (takes reviewer_columns (is_pair r) trees written.0 reviewer_tree list h left);
-      others = subst (SparesOthers reviewer_tree trees) next it.tables;
+          subst (λ (t : Trees). HoldsReviewers (t (reviewer_tree layout)) (filter (λ row. not (is_pair r row)) list)) next (takes reviewer_columns (is_pair r) trees written.0 (reviewer_tree layout) list h left);
+      others = subst (SparesOthers layout (reviewer_tree layout) trees) next it.tables;
     }
 
-pub remove_reviewer_effect : (old : State) (r : ReviewerRow) → old.now.schema ≡ store_schema → (tally : Tally) (after : Database)
-    → Does old.step_limit (mode_of old) (reviewer_columns r) old.now (statement_of remove_reviewer (understood store_schema remove_reviewer)) None (Delete 6 (record { lets = []; body = remove_query })) (Ok (tally, after))
-    → Alters reviewer_tree HoldsReviewers (filter (λ row. not (is_pair r row))) old.now after
-remove_reviewer_effect old r schema tally after does =
-    let text = statement_of remove_reviewer (understood store_schema remove_reviewer) in
-    let it = subst (λ s. Does old.step_limit (mode_of old) (reviewer_columns r) (record old.now { schema = s }) text None (Delete 6 (record { lets = []; body = remove_query })) (Ok (tally, after))) schema does in
-    let made = removes old.step_limit text r old.now.trees tally after it in
+pub remove_reviewer_effect : (layout : Layout) (old : State) (r : ReviewerRow) → old.now.schema ≡ schema_of layout → (tally : Tally) (after : Database)
+    → Does old.step_limit (mode_of old) (reviewer_columns r) old.now (statement_of remove_reviewer (understood (schema_of layout) remove_reviewer)) None (Delete (reviewer_place layout) (record { lets = []; body = (remove_query layout) })) (Ok (tally, after))
+    → Alters layout (reviewer_tree layout) HoldsReviewers (filter (λ row. not (is_pair r row))) old.now after
+remove_reviewer_effect layout old r schema tally after does =
+    let text = statement_of remove_reviewer (understood (schema_of layout) remove_reviewer) in
+    let it = subst (λ s. Does old.step_limit (mode_of old) (reviewer_columns r) (record old.now { schema = s }) text None (Delete (reviewer_place layout) (record { lets = []; body = (remove_query layout) })) (Ok (tally, after))) schema does in
+    let made = removes layout old.step_limit text r old.now.trees tally after it in
     record { schema = made.schema; kept = made.kept; others = made.others }

@@ -19,11 +19,12 @@ use Rattle.acvp_tables.specs.Private.Ascending.{with_number, ascending}
 use Rattle.acvp_tables.specs.declared.rows.ReviewerRow.{ReviewerRow}
 use Rattle.acvp_tables.proofs.Reviewers.{accounts_in, reviewers_read}
 use Rattle.acvp_store.specs.Values.{whole}
-use Rattle.acvp_store.specs.Schema.{store_schema}
+use Rattle.acvp_store.specs.Schema.{Layout, schema_of}
 use Rattle.acvp_store.specs.Stands.{Entry, entry_row, HoldsReviewers, reviewer_columns, reviewer_tree}
 use Rattle.acvp_store.proofs.Parts.{and_true}
 use Rattle.acvp_store.proofs.Ranging.{ranged}
 use Rattle.acvp_store.proofs.Selecting.{test_equals}
+use Rattle.acvp_store.proofs.Places.{reviewers_seen}
 use Rattle.acvp_store.proofs.Texts.{find_reviewers, reviewers_query, reviewers_is, reviewers_plain, reviewers_unlisted}
 
 abbrev pub account_shown : ℕ → Row
@@ -34,14 +35,14 @@ Rising = IsAscending (λ m n. m < n)
 
 -- ---- the rows that the query gives
 
-pub session_rows : (s : ℕ) (old new : State) (rows : List Row) → old.now.schema ≡ store_schema → Shown find_reviewers (whole s ∷ []) old new rows → (list : List ReviewerRow) → HoldsReviewers (old.now.trees reviewer_tree) list
+pub session_rows : (layout : Layout) (s : ℕ) (old new : State) (rows : List Row) → old.now.schema ≡ schema_of layout → Shown find_reviewers (whole s ∷ []) old new rows → (list : List ReviewerRow) → HoldsReviewers (old.now.trees (reviewer_tree layout)) list
     → (numbers : List ℕ) → IsPermutation (accounts_in s list) numbers → Rising numbers → rows ≡ map account_shown numbers
-session_rows s old new rows schema shown list h numbers same rise =
+session_rows layout s old new rows schema shown list h numbers same rise =
     let of_session = λ (e : Entry ReviewerRow). e.row.session == s in
-    ranged (whole s ∷ []) (entry_row reviewer_columns) of_session reviewers_query.filter (λ e. rw test_equals (and_true _)) (λ e. e.row.account) (λ n. n) account_shown
-    2 reviewer_tree reviewers_query.project (λ e. refl) (λ e. refl) (overlay old.now.trees []) h.entries numbers rows h.rows_are
+    ranged (whole s ∷ []) (entry_row reviewer_columns) of_session (reviewers_query layout).filter (λ e. rw test_equals (and_true _)) (λ e. e.row.account) (λ n. n) account_shown
+    2 (reviewer_tree layout) (reviewers_query layout).project (λ e. refl) (λ e. refl) (overlay old.now.trees []) h.entries numbers rows (reviewers_seen layout old.now.trees ∙ h.rows_are)
     (IsPermutation-trans _ (accounts_in s list) _ (told h.entries h.same) same) rise
-    ((reads_as find_reviewers (whole s ∷ []) old new store_schema schema _ reviewers_is reviewers_plain reviewers_unlisted rows shown).answer Null)
+    ((reads_as find_reviewers (whole s ∷ []) old new (schema_of layout) schema _ (reviewers_is layout) (reviewers_plain layout) (reviewers_unlisted layout) rows shown).answer Null)
   where
     told : (es : List (Entry ReviewerRow)) → IsPermutation (map (λ e. e.row) es) list → IsPermutation (map (λ e. e.row.account) (filter (λ e. e.row.session == s) es)) (accounts_in s list)
     told es same =

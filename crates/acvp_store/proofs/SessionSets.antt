@@ -24,7 +24,7 @@ use Rattle.acvp_tables.specs.declared.summary.SetSummary.{SetSummary}
 use Rattle.acvp_tables.proofs.Numbers.{keyed, sets_numbered}
 use Rattle.acvp_tables.proofs.Selections.{sets_follow}
 use Rattle.acvp_store.specs.Values.{whole, flag}
-use Rattle.acvp_store.specs.Schema.{store_schema}
+use Rattle.acvp_store.specs.Schema.{Layout, schema_of}
 use Rattle.acvp_store.specs.Kept.{IsKept}
 use Rattle.acvp_store.specs.Stands.{SetColumns, set_key, set_row, set_tree, IsSet, HoldsSets}
 use Rattle.acvp_store.specs.Private.Sets.{short_shown, short_of, IsSummary}
@@ -33,6 +33,7 @@ use Rattle.acvp_store.proofs.Parts.{and_true}
 use Rattle.acvp_store.proofs.Ranging.{ranged}
 use Rattle.acvp_store.proofs.Selecting.{test_equals, test_at_least, test_at_most}
 use Rattle.acvp_store.proofs.SetRows.{set_shown, summary_is}
+use Rattle.acvp_store.proofs.Places.{sets_seen}
 use Rattle.acvp_store.proofs.Texts.{find_sets, sets_query, sets_is, sets_plain, sets_unlisted}
 
 -- a number of a session's sets, of one that isn't cancelled
@@ -54,14 +55,14 @@ test_off false = test_equals 0 0
 three_true : (a b c d e f : Bool) → a ≡ d → b ≡ e → c ≡ f → (a && (b && (c && true))) ≡ (d && (e && f))
 three_true a b c d e f p q r = rw (p, q, r, and_true f) refl
 
-pub live_rows : (s : ℕ) (old new : State) (rows : List Row) → old.now.schema ≡ store_schema → Shown find_sets (whole (s * 100) ∷ whole (s * 100 + 99) ∷ []) old new rows
-    → (columns : List SetColumns) → IsKept set_key set_row (old.now.trees set_tree) columns → Rising (filter (is_live_set s) columns) → rows ≡ map set_shown (filter (is_live_set s) columns)
-live_rows s old new rows schema h columns kept rise =
+pub live_rows : (layout : Layout) (s : ℕ) (old new : State) (rows : List Row) → old.now.schema ≡ schema_of layout → Shown find_sets (whole (s * 100) ∷ whole (s * 100 + 99) ∷ []) old new rows
+    → (columns : List SetColumns) → IsKept set_key set_row (old.now.trees (set_tree layout)) columns → Rising (filter (is_live_set s) columns) → rows ≡ map set_shown (filter (is_live_set s) columns)
+live_rows layout s old new rows schema h columns kept rise =
     let params = whole (s * 100) ∷ whole (s * 100 + 99) ∷ [] in
-    ranged params set_row (is_live_set s) sets_query.filter (λ c. three_true _ _ _ _ _ _ (test_at_least c.number (s * 100)) (test_at_most c.number (s * 100 + 99)) (test_off c.cancelled)) (λ c. c) set_key set_shown
-    0 set_tree sets_query.project (λ c. refl) (λ c. refl) (overlay old.now.trees []) kept.ordered (filter (is_live_set s) columns) rows kept.rows_are
+    ranged params set_row (is_live_set s) (sets_query layout).filter (λ c. three_true _ _ _ _ _ _ (test_at_least c.number (s * 100)) (test_at_most c.number (s * 100 + 99)) (test_off c.cancelled)) (λ c. c) set_key set_shown
+    0 (set_tree layout) (sets_query layout).project (λ c. refl) (λ c. refl) (overlay old.now.trees []) kept.ordered (filter (is_live_set s) columns) rows (sets_seen layout old.now.trees ∙ kept.rows_are)
     (same_told (filter (is_live_set s) kept.ordered) (IsPermutation-filter (is_live_set s) kept.ordered columns kept.same)) rise
-    ((reads_as find_sets params old new store_schema schema _ sets_is sets_plain sets_unlisted rows h).answer Null)
+    ((reads_as find_sets params old new (schema_of layout) schema _ (sets_is layout) (sets_plain layout) (sets_unlisted layout) rows h).answer Null)
   where
     map_same : (xs : List SetColumns) → map (λ c. c) xs ≡ xs
     map_same [] = refl

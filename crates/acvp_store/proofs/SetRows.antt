@@ -37,9 +37,9 @@ use Rattle.acvp_tables.specs.Graded.{GradedValue}
 use Rattle.acvp_tables.specs.declared.rows.SetRow.{SetRow}
 use Rattle.acvp_tables.specs.declared.summary.SetSummary.{SetSummary}
 use Rattle.acvp_store.specs.Values.{whole, flag}
-use Rattle.acvp_store.specs.Schema.{store_schema, set_table}
+use Rattle.acvp_store.specs.Schema.{Layout, schema_of, set_table}
 use Rattle.acvp_store.specs.Alters.{Alters}
-use Rattle.acvp_store.specs.Connection.{Under, Both}
+use Rattle.acvp_store.specs.Connection.{UnderStore, Both}
 use Rattle.acvp_store.specs.Kept.{IsKept}
 use Rattle.acvp_store.specs.Stands.{SetColumns, set_key, set_row, set_tree, disposition_number, IsGradedAs, IsSet, HoldsSets}
 use Rattle.acvp_store.specs.Private.Sets.{short_shown, short_of, IsDispositionOf, IsSummary, IsSummaryOf, new_set, AddsSets}
@@ -48,7 +48,8 @@ use Rattle.acvp_store.proofs.Keyed.{keyed, changing, keyed_same, find_is, none_f
 use Rattle.acvp_store.proofs.Parts.{and_true, cast_null, cast_whole, cast_flag, cast_option, cast_text_option}
 use Rattle.acvp_store.proofs.Selecting.{test_equals, test_none, selected}
 use Rattle.acvp_store.proofs.Effects.{insert_effect, update_effect, spares_then}
-use Rattle.acvp_store.proofs.Texts.{simple, equals, find_set, set_query, set_is, set_plain, set_unlisted, find_capability, capability_is, capability_plain, capability_unlisted, find_verdicts, verdicts_is, verdicts_plain, verdicts_unlisted, cancel_set, cancel_set_query, grade_set, grade_query, add_set, add_set_terms}
+use Rattle.acvp_store.proofs.Places.{sets_at, sets_seen}
+use Rattle.acvp_store.proofs.Texts.{set_place, simple, equals, find_set, set_query, set_is, set_plain, set_unlisted, find_capability, capability_is, capability_plain, capability_unlisted, find_verdicts, verdicts_is, verdicts_plain, verdicts_unlisted, cancel_set, cancel_set_query, grade_set, grade_query, add_set, add_set_terms}
 
 abbrev pub set_shown : SetColumns → Row
 set_shown c = short_shown (short_of c)
@@ -60,16 +61,16 @@ none_passes [] = refl
 none_passes (x ∷ xs) = none_passes xs
 
 -- a SELECT of columns of the set of a number
-module _ (text : List ℕ) (names : List (List ℕ)) (project : List Term) (show : SetColumns → Row) (shows : (k : ℤ) (c : SetColumns) → eval_all project ((Int k ∷ []) ∷ set_row c ∷ []) ≡ show c)
-    (is : command_of (understood store_schema text) ≡ Select (record { lets = []; body = simple set_tree (equals 0 0 ∷ []) project }) names) (plain : IsPlain (understood store_schema text)) (unlisted : reads_listing store_schema text ≡ false) where
-  rows_by : (k : ℤ) (p : SetColumns → Bool) → ((c : SetColumns) → is_true (binary (Compare Eq Binary) (whole c.number) (Int k)) ≡ p c) → (old new : State) (rows : List Row) → old.now.schema ≡ store_schema → Shown text (Int k ∷ []) old new rows
-      → (list : List SetColumns) (kept : IsKept set_key set_row (old.now.trees set_tree) list) → IsPermutation (map show (filter p kept.ordered)) rows
+module _ (layout : Layout) (text : List ℕ) (names : List (List ℕ)) (project : List Term) (show : SetColumns → Row) (shows : (k : ℤ) (c : SetColumns) → eval_all project ((Int k ∷ []) ∷ set_row c ∷ []) ≡ show c)
+    (is : command_of (understood (schema_of layout) text) ≡ Select (record { lets = []; body = simple (set_tree layout) (equals 0 0 ∷ []) project }) names) (plain : IsPlain (understood (schema_of layout) text)) (unlisted : reads_listing (schema_of layout) text ≡ false) where
+  rows_by : (k : ℤ) (p : SetColumns → Bool) → ((c : SetColumns) → is_true (binary (Compare Eq Binary) (whole c.number) (Int k)) ≡ p c) → (old new : State) (rows : List Row) → old.now.schema ≡ schema_of layout → Shown text (Int k ∷ []) old new rows
+      → (list : List SetColumns) (kept : IsKept set_key set_row (old.now.trees (set_tree layout)) list) → IsPermutation (map show (filter p kept.ordered)) rows
   rows_by k p tests old new rows schema h list kept =
-      selected (Int k ∷ []) set_row p (equals 0 0 ∷ []) (λ c. rw tests (and_true _)) set_tree project show (shows k) (overlay old.now.trees []) kept.ordered rows kept.rows_are
-      ((reads_as text (Int k ∷ []) old new store_schema schema _ is plain unlisted rows h).answer Null)
+      selected (Int k ∷ []) set_row p (equals 0 0 ∷ []) (λ c. rw tests (and_true _)) (set_tree layout) project show (shows k) (overlay old.now.trees []) kept.ordered rows (sets_seen layout old.now.trees ∙ kept.rows_are)
+      ((reads_as text (Int k ∷ []) old new (schema_of layout) schema _ is plain unlisted rows h).answer Null)
 
-  pub rows_at : (n : ℕ) (k : ℤ) → (n < 2 ^ 63 → k ≡ pos n) → (2 ^ 63 ≤ n → k ≡ negsuc 0) → (old new : State) (rows : List Row) → old.now.schema ≡ store_schema → Shown text (Int k ∷ []) old new rows
-      → (list : List SetColumns) (kept : IsKept set_key set_row (old.now.trees set_tree) list) → IsPermutation (map show (keyed set_key n kept.ordered)) rows
+  pub rows_at : (n : ℕ) (k : ℤ) → (n < 2 ^ 63 → k ≡ pos n) → (2 ^ 63 ≤ n → k ≡ negsuc 0) → (old new : State) (rows : List Row) → old.now.schema ≡ schema_of layout → Shown text (Int k ∷ []) old new rows
+      → (list : List SetColumns) (kept : IsKept set_key set_row (old.now.trees (set_tree layout)) list) → IsPermutation (map show (keyed set_key n kept.ordered)) rows
   rows_at n k fits large old new rows schema h list kept = elim (small_or_large n) [
     | inl low ↦ rows_by k (λ c. c.number == n) (λ c. rw (fits low) (test_equals c.number n)) old new rows schema h list kept
     | inr high ↦ rw (none_fits set_key n kept.ordered high kept.fits) (rw (none_passes kept.ordered) at (rows_by k (λ c. false) (λ c. rw (large high) (test_none c.number)) old new rows schema h list kept))
@@ -78,17 +79,17 @@ module _ (text : List ℕ) (names : List (List ℕ)) (project : List Term) (show
       small_or_large : (n : ℕ) → (n < 2 ^ 63) ⊎ (2 ^ 63 ≤ n)
       small_or_large n = search arith
 
-pub set_rows : (n : ℕ) (k : ℤ) → (n < 2 ^ 63 → k ≡ pos n) → (2 ^ 63 ≤ n → k ≡ negsuc 0) → (old new : State) (rows : List Row) → old.now.schema ≡ store_schema → Shown find_set (Int k ∷ []) old new rows
-    → (list : List SetColumns) (kept : IsKept set_key set_row (old.now.trees set_tree) list) → IsPermutation (map set_shown (keyed set_key n kept.ordered)) rows
-set_rows = rows_at find_set _ set_query.project set_shown (λ k c. refl) set_is set_plain set_unlisted
+pub set_rows : (layout : Layout) (n : ℕ) (k : ℤ) → (n < 2 ^ 63 → k ≡ pos n) → (2 ^ 63 ≤ n → k ≡ negsuc 0) → (old new : State) (rows : List Row) → old.now.schema ≡ schema_of layout → Shown find_set (Int k ∷ []) old new rows
+    → (list : List SetColumns) (kept : IsKept set_key set_row (old.now.trees (set_tree layout)) list) → IsPermutation (map set_shown (keyed set_key n kept.ordered)) rows
+set_rows layout = rows_at layout find_set _ (set_query layout).project set_shown (λ k c. refl) (set_is layout) (set_plain layout) (set_unlisted layout)
 
-pub capability_rows : (n : ℕ) (k : ℤ) → (n < 2 ^ 63 → k ≡ pos n) → (2 ^ 63 ≤ n → k ≡ negsuc 0) → (old new : State) (rows : List Row) → old.now.schema ≡ store_schema → Shown find_capability (Int k ∷ []) old new rows
-    → (list : List SetColumns) (kept : IsKept set_key set_row (old.now.trees set_tree) list) → IsPermutation (map (λ c. text_shown (Some c.capability)) (keyed set_key n kept.ordered)) rows
-capability_rows = rows_at find_capability _ (col 1 3 ∷ []) (λ c. text_shown (Some c.capability)) (λ k c. refl) capability_is capability_plain capability_unlisted
+pub capability_rows : (layout : Layout) (n : ℕ) (k : ℤ) → (n < 2 ^ 63 → k ≡ pos n) → (2 ^ 63 ≤ n → k ≡ negsuc 0) → (old new : State) (rows : List Row) → old.now.schema ≡ schema_of layout → Shown find_capability (Int k ∷ []) old new rows
+    → (list : List SetColumns) (kept : IsKept set_key set_row (old.now.trees (set_tree layout)) list) → IsPermutation (map (λ c. text_shown (Some c.capability)) (keyed set_key n kept.ordered)) rows
+capability_rows layout = rows_at layout find_capability _ (col 1 3 ∷ []) (λ c. text_shown (Some c.capability)) (λ k c. refl) (capability_is layout) (capability_plain layout) (capability_unlisted layout)
 
-pub verdict_rows : (n : ℕ) (k : ℤ) → (n < 2 ^ 63 → k ≡ pos n) → (2 ^ 63 ≤ n → k ≡ negsuc 0) → (old new : State) (rows : List Row) → old.now.schema ≡ store_schema → Shown find_verdicts (Int k ∷ []) old new rows
-    → (list : List SetColumns) (kept : IsKept set_key set_row (old.now.trees set_tree) list) → IsPermutation (map (λ c. text_shown c.verdicts) (keyed set_key n kept.ordered)) rows
-verdict_rows = rows_at find_verdicts _ (col 1 6 ∷ []) (λ c. text_shown c.verdicts) (λ k c. refl) verdicts_is verdicts_plain verdicts_unlisted
+pub verdict_rows : (layout : Layout) (n : ℕ) (k : ℤ) → (n < 2 ^ 63 → k ≡ pos n) → (2 ^ 63 ≤ n → k ≡ negsuc 0) → (old new : State) (rows : List Row) → old.now.schema ≡ schema_of layout → Shown find_verdicts (Int k ∷ []) old new rows
+    → (list : List SetColumns) (kept : IsKept set_key set_row (old.now.trees (set_tree layout)) list) → IsPermutation (map (λ c. text_shown c.verdicts) (keyed set_key n kept.ordered)) rows
+verdict_rows layout = rows_at layout find_verdicts _ (col 1 6 ∷ []) (λ c. text_shown c.verdicts) (λ k c. refl) (verdicts_is layout) (verdicts_plain layout) (verdicts_unlisted layout)
 
 -- ---- what they tell
 
@@ -202,14 +203,14 @@ zip_changed n f g turns (c ∷ columns) (r ∷ sets) h = (
 )
 
 -- An UPDATE of the set of a number: `renewed c` is the number of `c` and the row that is written for it.
-module _ (terms project : List Term) (params : Row) (n : ℕ) (f : SetColumns → SetColumns) (keeps : (c : SetColumns) → (f c).number ≡ c.number) (renewed : SetColumns → Row) (ids : (c : SetColumns) → ids_of (renewed c ∷ []) ≡ pos c.number ∷ [])
-    (casts : (c : SetColumns) → cast_row (set_table 4) (drop 1 (renewed c)) ≡ set_row (f c)) (tests : (c : SetColumns) → list_all (holds (params ∷ set_row c ∷ [])) terms ≡ (c.number == n))
+module _ (layout : Layout) (terms project : List Term) (params : Row) (n : ℕ) (f : SetColumns → SetColumns) (keeps : (c : SetColumns) → (f c).number ≡ c.number) (renewed : SetColumns → Row) (ids : (c : SetColumns) → ids_of (renewed c ∷ []) ≡ pos c.number ∷ [])
+    (casts : (c : SetColumns) → cast_row (set_table (set_tree layout)) (drop 1 (renewed c)) ≡ set_row (f c)) (tests : (c : SetColumns) → list_all (holds (params ∷ set_row c ∷ [])) terms ≡ (c.number == n))
     (shows : (c : SetColumns) → eval_all project (params ∷ set_row c ∷ []) ≡ renewed c) (g : SetRow → SetRow) (turns : (c : SetColumns) (row : SetRow) → IsSet c row → IsSet (f c) (g row)) where
-  pub set_effect : (old : State) (text : List ℕ) → old.now.schema ≡ store_schema → (tally : Tally) (after : Database)
-      → Does old.step_limit (mode_of old) params old.now text None (Update 3 (record { lets = []; body = simple 4 terms project })) (Ok (tally, after))
-      → Alters set_tree HoldsSets (changed (is_set n) g) old.now after
+  pub set_effect : (old : State) (text : List ℕ) → old.now.schema ≡ schema_of layout → (tally : Tally) (after : Database)
+      → Does old.step_limit (mode_of old) params old.now text None (Update (set_place layout) (record { lets = []; body = simple (set_tree layout) terms project })) (Ok (tally, after))
+      → Alters layout (set_tree layout) HoldsSets (changed (is_set n) g) old.now after
   set_effect old text schema tally after does =
-      let made = update_effect set_key set_row (λ x. refl) 3 (set_table 4) refl (λ trees. refl) terms project params n f keeps renewed ids casts tests shows old text schema tally after does in
+      let made = update_effect layout set_key set_row (λ x. refl) (set_place layout) (set_table (set_tree layout)) (sets_at layout) (sets_seen layout) terms project params n f keeps renewed ids casts tests shows old text schema tally after does in
       record {
         schema = made.schema;
         kept = λ sets h. record { columns = map (changing set_key n f) h.columns; kept = made.kept h.columns h.kept; same = zip_changed n f g turns h.columns sets h.same };
@@ -224,20 +225,20 @@ off c = record c { cancelled = true }
 abbrev called_off : SetColumns → Row
 called_off c = whole c.number ∷ whole c.number ∷ Null ∷ whole c.session ∷ Text c.capability ∷ whole 1 ∷ or_null Text c.answers ∷ or_null Text c.verdicts ∷ or_null whole c.disposition ∷ whole c.epoch ∷ []
 
-cast_off : (c : SetColumns) → cast_row (set_table 4) (drop 1 (called_off c)) ≡ set_row (off c)
-cast_off c = rw (cast_whole c.number, cast_null, cast_whole c.session, cast_whole 1, cast_text_option c.answers, cast_text_option c.verdicts, cast_option c.disposition, cast_whole c.epoch) refl
+cast_off : (tree : ℕ) (c : SetColumns) → cast_row (set_table tree) (drop 1 (called_off c)) ≡ set_row (off c)
+cast_off tree c = rw (cast_whole c.number, cast_null, cast_whole c.session, cast_whole 1, cast_text_option c.answers, cast_text_option c.verdicts, cast_option c.disposition, cast_whole c.epoch) refl
 
 graded_off : (c : SetColumns) (g : Option GradedValue) → IsGradedAs c g → IsGradedAs (off c) g
 graded_off c None h = h
 graded_off c (Some g) h = h
 
-pub cancel_set_effect : (old : State) (n : ℕ) → old.now.schema ≡ store_schema → (tally : Tally) (after : Database)
-    → Does old.step_limit (mode_of old) (whole n ∷ []) old.now (statement_of cancel_set (understood store_schema cancel_set)) None (Update 3 (record { lets = []; body = cancel_set_query })) (Ok (tally, after))
-    → Alters set_tree HoldsSets (changed (is_set n) cancelled_set) old.now after
-cancel_set_effect old n schema tally after does =
-    set_effect cancel_set_query.filter cancel_set_query.project (whole n ∷ []) n off (λ c. refl) called_off (λ c. refl) cast_off (λ c. rw test_equals (and_true _)) (λ c. refl) cancelled_set
+pub cancel_set_effect : (layout : Layout) (old : State) (n : ℕ) → old.now.schema ≡ schema_of layout → (tally : Tally) (after : Database)
+    → Does old.step_limit (mode_of old) (whole n ∷ []) old.now (statement_of cancel_set (understood (schema_of layout) cancel_set)) None (Update (set_place layout) (record { lets = []; body = (cancel_set_query layout) })) (Ok (tally, after))
+    → Alters layout (set_tree layout) HoldsSets (changed (is_set n) cancelled_set) old.now after
+cancel_set_effect layout old n schema tally after does =
+    set_effect layout (cancel_set_query layout).filter (cancel_set_query layout).project (whole n ∷ []) n off (λ c. refl) called_off (λ c. refl) (cast_off (set_tree layout)) (λ c. rw test_equals (and_true _)) (λ c. refl) cancelled_set
     (λ c row is. record { number = is.number; session = is.session; capability = is.capability; cancelled = refl; graded = graded_off c row.graded is.graded; epoch = is.epoch })
-    old (statement_of cancel_set (understood store_schema cancel_set)) schema tally after does
+    old (statement_of cancel_set (understood (schema_of layout) cancel_set)) schema tally after does
 
 -- ---- answers to a set
 
@@ -247,22 +248,22 @@ answered answers verdicts disposition c = record c { answers = Some answers; ver
 abbrev answers_in : List ℕ → List ℕ → ℕ → SetColumns → Row
 answers_in answers verdicts disposition c = whole c.number ∷ whole c.number ∷ Null ∷ whole c.session ∷ Text c.capability ∷ flag c.cancelled ∷ Text answers ∷ Text verdicts ∷ whole disposition ∷ whole c.epoch ∷ []
 
-cast_answers : (answers verdicts : List ℕ) (disposition : ℕ) (c : SetColumns) → cast_row (set_table 4) (drop 1 (answers_in answers verdicts disposition c)) ≡ set_row (answered answers verdicts disposition c)
-cast_answers answers verdicts disposition c = rw (cast_whole c.number, cast_null, cast_whole c.session, cast_flag c.cancelled, cast_whole disposition, cast_whole c.epoch) refl
+cast_answers : (tree : ℕ) (answers verdicts : List ℕ) (disposition : ℕ) (c : SetColumns) → cast_row (set_table tree) (drop 1 (answers_in answers verdicts disposition c)) ≡ set_row (answered answers verdicts disposition c)
+cast_answers tree answers verdicts disposition c = rw (cast_whole c.number, cast_null, cast_whole c.session, cast_flag c.cancelled, cast_whole disposition, cast_whole c.epoch) refl
 
 abbrev pub grade_params : ℕ → List ℕ → List ℕ → ℕ → Row
 grade_params n answers verdicts disposition = whole n ∷ Text answers ∷ Text verdicts ∷ whole disposition ∷ []
 
 -- the columns are those of graded answers
-pub grade_effect : (old : State) (n : ℕ) (g : GradedValue) (answers verdicts : List ℕ) (disposition : ℕ) → answers ≡ kept_text g.answers → verdicts ≡ verdicts_text g.verdicts → disposition_number g.disposition ≡ Some disposition
-    → old.now.schema ≡ store_schema → (tally : Tally) (after : Database)
-    → Does old.step_limit (mode_of old) (grade_params n answers verdicts disposition) old.now (statement_of grade_set (understood store_schema grade_set)) None (Update 3 (record { lets = []; body = grade_query })) (Ok (tally, after))
-    → Alters set_tree HoldsSets (changed (is_set n) (with_graded g)) old.now after
-grade_effect old n g answers verdicts disposition a v d schema tally after does =
-    set_effect grade_query.filter grade_query.project (grade_params n answers verdicts disposition) n (answered answers verdicts disposition) (λ c. refl) (answers_in answers verdicts disposition) (λ c. refl) (cast_answers answers verdicts disposition)
+pub grade_effect : (layout : Layout) (old : State) (n : ℕ) (g : GradedValue) (answers verdicts : List ℕ) (disposition : ℕ) → answers ≡ kept_text g.answers → verdicts ≡ verdicts_text g.verdicts → disposition_number g.disposition ≡ Some disposition
+    → old.now.schema ≡ schema_of layout → (tally : Tally) (after : Database)
+    → Does old.step_limit (mode_of old) (grade_params n answers verdicts disposition) old.now (statement_of grade_set (understood (schema_of layout) grade_set)) None (Update (set_place layout) (record { lets = []; body = (grade_query layout) })) (Ok (tally, after))
+    → Alters layout (set_tree layout) HoldsSets (changed (is_set n) (with_graded g)) old.now after
+grade_effect layout old n g answers verdicts disposition a v d schema tally after does =
+    set_effect layout (grade_query layout).filter (grade_query layout).project (grade_params n answers verdicts disposition) n (answered answers verdicts disposition) (λ c. refl) (answers_in answers verdicts disposition) (λ c. refl) (cast_answers (set_tree layout) answers verdicts disposition)
     (λ c. rw test_equals (and_true _)) (λ c. refl) (with_graded g)
     (λ c row is. record { number = is.number; session = is.session; capability = is.capability; cancelled = is.cancelled; graded = (ap Some a, ap Some v, disposition, refl, d); epoch = is.epoch })
-    old (statement_of grade_set (understood store_schema grade_set)) schema tally after does
+    old (statement_of grade_set (understood (schema_of layout) grade_set)) schema tally after does
 
 -- ---- a new set
 
@@ -272,18 +273,18 @@ new_columns number session text epoch = record { number = number; session = sess
 abbrev given : ℕ → ℕ → List ℕ → ℕ → Row
 given number session text epoch = whole number ∷ Null ∷ whole session ∷ Text text ∷ whole 0 ∷ Null ∷ Null ∷ Null ∷ whole epoch ∷ []
 
-cast_given : (number session : ℕ) (text : List ℕ) (epoch : ℕ) → cast_row (set_table 4) (given number session text epoch) ≡ set_row (new_columns number session text epoch)
-cast_given number session text epoch = rw (cast_whole number, cast_null, cast_whole session, cast_whole 0, cast_whole epoch) refl
+cast_given : (tree number session : ℕ) (text : List ℕ) (epoch : ℕ) → cast_row (set_table tree) (given number session text epoch) ≡ set_row (new_columns number session text epoch)
+cast_given tree number session text epoch = rw (cast_whole number, cast_null, cast_whole session, cast_whole 0, cast_whole epoch) refl
 
 abbrev pub add_set_params : ℕ → ℕ → List ℕ → ℕ → Row
 add_set_params number session text epoch = whole number ∷ whole session ∷ Text text ∷ whole epoch ∷ []
 
-pub add_set_effect : (old : State) (number session : ℕ) (capability : CapabilityValue) (text : List ℕ) (epoch : ℕ) → registered_text text ≡ Ok (Some capability) → number < 2 ^ 63 → old.now.schema ≡ store_schema → (tally : Tally) (after : Database)
-    → Does old.step_limit (mode_of old) (add_set_params number session text epoch) old.now (statement_of add_set (understood store_schema add_set)) None (Insert 3 (Values add_set_terms 9)) (Ok (tally, after))
-    → AddsSets (new_set number session capability epoch ∷ []) old.now after
-add_set_effect old number session capability text epoch reads low schema tally after does =
-    let made = insert_effect set_key set_row (λ x. refl) 3 _ _ _ _ refl add_set_terms 9 (add_set_params number session text epoch) (given number session text epoch) refl (new_columns number session text epoch)
-    (cast_given number session text epoch) low old (statement_of add_set (understood store_schema add_set)) schema tally after does in
+pub add_set_effect : (layout : Layout) (old : State) (number session : ℕ) (capability : CapabilityValue) (text : List ℕ) (epoch : ℕ) → registered_text text ≡ Ok (Some capability) → number < 2 ^ 63 → old.now.schema ≡ schema_of layout → (tally : Tally) (after : Database)
+    → Does old.step_limit (mode_of old) (add_set_params number session text epoch) old.now (statement_of add_set (understood (schema_of layout) add_set)) None (Insert (set_place layout) (Values add_set_terms 9)) (Ok (tally, after))
+    → AddsSets layout (new_set number session capability epoch ∷ []) old.now after
+add_set_effect layout old number session capability text epoch reads low schema tally after does =
+    let made = insert_effect layout set_key set_row (λ x. refl) (set_place layout) _ _ _ _ (sets_at layout) add_set_terms 9 (add_set_params number session text epoch) (given number session text epoch) refl (new_columns number session text epoch)
+    (cast_given (set_tree layout) number session text epoch) low old (statement_of add_set (understood (schema_of layout) add_set)) schema tally after does in
     let is : IsSet (new_columns number session text epoch) (new_set number session capability epoch) = record { number = refl; session = refl; capability = reads; cancelled = refl; graded = (refl, refl, refl); epoch = refl } in
     record {
       schema = made.schema;
@@ -294,14 +295,14 @@ add_set_effect old number session capability text epoch reads low schema tally a
 -- ---- new sets, one after the other
 
 -- a set more
-pub one_more : (mores news : List SetRow) (d e : Database) → Both (Under store_schema (AddsSets mores)) (Under store_schema (AddsSets news)) d e → Under store_schema (AddsSets (mores ++ news)) d e
-one_more mores news d e h schema =
-    let first = h.1 schema in
-    let second = h.2 first.schema in
+pub one_more : (mores news : List SetRow) (d e : Database) → Both (UnderStore (λ layout. AddsSets layout mores)) (UnderStore (λ layout. AddsSets layout news)) d e → UnderStore (λ layout. AddsSets layout (mores ++ news)) d e
+one_more mores news d e h layout schema =
+    let first = h.1 layout schema in
+    let second = h.2 layout first.schema in
     record {
       schema = second.schema;
       kept = λ sets held. rw (← append_assoc sets mores news) (second.kept _ (first.kept sets held));
-      others = spares_then set_tree d.trees h.0.trees e.trees first.others second.others;
+      others = spares_then layout (set_tree layout) d.trees h.0.trees e.trees first.others second.others;
     }
 
 -- the sets of one capability more

@@ -1,9 +1,8 @@
 -- From what statements do to what the tables promise.
-use Rattle.std.proofs.Common.{◌≡◌, ◌≢◌, ◌<◌, ◌^◌, inl, inr, ℕ, Option, Some, None, List, [], ◌∷◌, ◌++◌, true, false, Result, Ok, Err, IsTrue, IfErr, OnOk, refl, sym, ap, subst, ◌∙◌, arith}
+use Rattle.std.proofs.Common.{◌≡◌, ◌<◌, ◌^◌, inl, inr, ℕ, Option, Some, None, List, [], ◌∷◌, ◌++◌, true, Result, Ok, Err, IsTrue, IfOk, IfErr, OnOk, refl, sym, ap, subst, ◌∙◌}
 use Rattle.std.specs.Prelude.{◌==◌, not, filter, if◌then◌else◌}
 use Rattle.std.specs.List.{AllByRecursion}
 use Rattle.std.proofs.lemmas.Bool.{cases_Bool}
-use Rattle.std.proofs.lemmas.Bool.Decides.{nat_tests}
 use Rattle.std.proofs.lemmas.List.Sorted.{IsPermutation-refl}
 use Rattle.sqlite.specs.Effect.{Database}
 use Rattle.sqlite.specs.Held.{Held, state}
@@ -12,7 +11,7 @@ use Rattle.sqlite.specs.State.{State}
 use Rattle.sqlite_trees.specs.declared.store.Store.{Ghosts}
 use Rattle.sqlite_trees.proofs.ListLemmas.{all-append}
 use Rattle.sqlite_trees.specs.Tree.{Trees}
-use Rattle.acvp_tables.specs.Calls.{Reads, Changes}
+use Rattle.acvp_tables.specs.Calls.{Finds, Reads, Changes}
 use Rattle.acvp_tables.specs.Content.{Content, is_reviewer, request_at}
 use Rattle.acvp_tables.specs.Changes.{after, after_order, changed, is_account, with_step, disabled, new_account, is_session, cancelled_session, with_counts, with_passed, with_certify, new_session, is_set, cancelled_set, with_graded, new_sets, is_request, with_status, new_request, new_certification, with_reviewer, is_pair, approved_objects, new_objects}
 use Rattle.acvp_tables.specs.State.{IsSound}
@@ -38,21 +37,23 @@ use Rattle.acvp_tables.specs.declared.change.OrderChange.TheVariants as order
 use Rattle.acvp_tables.specs.declared.tables.StoreFault.{StoreFault}
 use Rattle.acvp_store.specs.Kept.{IsKept}
 use Rattle.acvp_store.specs.Rows.{account_tree, HoldsAccounts, session_tree, HoldsSessions}
-use Rattle.acvp_store.specs.Schema.{no_schema, store_schema}
+use Rattle.acvp_store.specs.Schema.{Layout, Created, no_schema, schema_of}
 use Rattle.acvp_store.specs.Stands.{Stands, set_tree, HoldsSets, HoldsObjects, IsKeepable, FitColumns, BodyReads, request_tree, HoldsRequests, reviewer_tree, HoldsReviewers}
-use Rattle.acvp_store.specs.Connection.{ServesStore, IsRead, IsWritten, Under, Both}
+use Rattle.acvp_store.specs.Connection.{ServesStore, InStore, IsRead, IsWritten, Under, UnderStore, Both}
 use Rattle.acvp_store.specs.Alters.{Alters}
-use Rattle.acvp_store.specs.Store.{may_fail, Begins, stands, IsLive, is_clean, leaves}
+use Rattle.acvp_store.specs.Store.{may_fail, Begins, BecomesMigrated, stands, IsLive, is_clean, leaves}
 use Rattle.acvp_store.specs.Private.Objects.{Registers}
 use Rattle.acvp_store.proofs.Sound.{kinds_of}
 use Rattle.acvp_store.specs.Private.Creating.{Makes, WritesVersion, before}
 use Rattle.acvp_store.specs.declared.setup.StoreTable.TheVariants as table
-use Rattle.acvp_store.proofs.Texts.{whole_schema}
+use Rattle.acvp_store.proofs.Parts.{apart}
+use Rattle.acvp_store.proofs.Places.{set_apart, reviewer_apart, set_is_no_reviewer, sets_spared, reviewers_spared}
+use Rattle.acvp_store.proofs.Texts.{whole_schema, migrated_schema}
 
 -- ---- reads
 
 pub serves_read : {X E : Type 0} (r : Result X E) (old new : State) → ServesStore old → IsRead r old new → ServesStore new
-serves_read r old new serves h live = record { ready = h.stays.settled live; schema = ap (λ (d : Database). d.schema) (h.stays.now live) ∙ (serves (h.stays.was_open live)).schema }
+serves_read r old new serves h live = let was = (serves (h.stays.was_open live)).schema in record { ready = h.stays.settled live; schema = (was.0, ap (λ (d : Database). d.schema) (h.stays.now live) ∙ was.1) }
 
 module _ {S : Type 0} (g : Ghosts S) (a b : Held S) (serves : ServesStore (state g a)) (settled : (db : Trees) → IsTrue (state g a).is_open → (state g a).may_leave db → db ≡ (state g a).committed.trees) where
   pub reads : {X : Type 0} (r : Result X StoreFault) → IsRead r (state g a) (state g b) → Reads may_fail (stands g) (IsLive g) (is_clean g) (leaves g) r a b
@@ -61,12 +62,19 @@ module _ {S : Type 0} (g : Ghosts S) (a b : Held S) (serves : ServesStore (state
     was_live = λ live. record { is_open = h.stays.was_open live.is_open; store = serves (h.stays.was_open live.is_open) };
     was_clean = h.was_clean;
     live = lives r h;
-    same = λ live c st. subst (λ (d : Database). Stands d.trees c) (sym (h.stays.now live.is_open)) st;
-    left = λ clean live c d st clean' db may.
-        inl (subst (λ t. Stands t c) (sym (settled db live.is_open (h.left clean db may) ∙ ap (λ (x : Database). x.trees) (sym (live.store.ready.settled)))) st);
-    kept = λ clean c d was clean' db may. was (h.was_clean clean) db (h.left clean db may);
+    same = λ live c st. (st.0, same_schema live.is_open st.0 st.1, subst (λ (d : Database). Stands st.0 d.trees c) (sym (h.stays.now live.is_open)) st.2);
+    left = λ clean live c d st clean'. (
+      st.0,
+      λ now. same_schema now st.0 st.1,
+      λ db may.
+          inl (subst (λ t. Stands st.0 t c) (sym (settled db live.is_open (h.left clean db may) ∙ ap (λ (x : Database). x.trees) (sym (live.store.ready.settled)))) st.2),
+    );
+    kept = λ clean c d was clean'. let it = was (h.was_clean clean) in (it.0, λ now. same_schema now it.0 (it.1 (h.stays.was_open now)), λ db may. it.2 db (h.left clean db may));
   }
     where
+      same_schema : IsTrue (state g b).is_open → (layout : Layout) → (state g a).now.schema ≡ schema_of layout → (state g b).now.schema ≡ schema_of layout
+      same_schema now layout is = ap (λ (d : Database). d.schema) (h.stays.now now) ∙ is
+
       any : {X : Type 0} (r : Result X StoreFault) → IfErr r may_fail
       any (Ok x) = tt
       any (Err e) = tt
@@ -75,6 +83,14 @@ module _ {S : Type 0} (g : Ghosts S) (a b : Held S) (serves : ServesStore (state
       lives (Ok x) h = λ clean. let open_both = h.live clean in
           (record { is_open = open_both.0; store = serves open_both.0 }, record { is_open = open_both.1; store = serves_read (Ok x) (state g a) (state g b) serves h open_both.1 })
       lives (Err e) h = tt
+
+-- what is found of the rows, whichever way the tables lie
+module _ {S : Type 0} (g : Ghosts S) (a b : Held S) where
+  pub finds : {X Y : Type 0} (r : Result X StoreFault) (shown : X → Y) (selected : Content → Y)
+      → (IsTrue (state g b).is_open → IfOk r (λ x. InStore (state g a).now (λ layout. (c : Content) → IsSound c → Stands layout (state g a).now.trees c → shown x ≡ selected c)))
+      → Finds IsSound (stands g) (IsLive g) shown r a b selected
+  finds (Ok x) shown selected found live = λ c sound st. found live.is_open st.0 st.1 c sound st.2
+  finds (Err e) shown selected found live = tt
 
 -- ---- changes
 
@@ -101,22 +117,27 @@ written_as (Err e) old new P Q turns h = record {
 }
 
 -- the tables are the store's after a change that keeps the schema
-pub serves_written : {X E : Type 0} (r : Result X E) (old new : State) (Change : Database → Database → Type 0) → ServesStore old → ((d e : Database) → Change d e → e.schema ≡ store_schema) → IsWritten r old new (Under store_schema Change) → ServesStore new
-serves_written (Ok x) old new Change serves keeps h live = record { ready = h.settled live; schema = keeps _ _ (h.ok live (serves (h.was_open live)).schema) }
-serves_written (Err e) old new Change serves keeps h live = record { ready = h.settled live; schema = ap (λ (d : Database). d.schema) (h.err live) ∙ (serves (h.was_open live)).schema }
+pub serves_written : {X E : Type 0} (r : Result X E) (old new : State) (Change : Layout → Database → Database → Type 0) → ServesStore old → ((layout : Layout) (d e : Database) → Change layout d e → e.schema ≡ schema_of layout)
+    → IsWritten r old new (UnderStore Change) → ServesStore new
+serves_written (Ok x) old new Change serves keeps h live = let was = (serves (h.was_open live)).schema in record { ready = h.settled live; schema = (was.0, keeps was.0 _ _ (h.ok live was.0 was.1)) }
+serves_written (Err e) old new Change serves keeps h live = let was = (serves (h.was_open live)).schema in record { ready = h.settled live; schema = (was.0, ap (λ (d : Database). d.schema) (h.err live) ∙ was.1) }
 
-module _ {S : Type 0} (g : Ghosts S) (a b : Held S) (Change : Database → Database → Type 0) (change : Content → Content) (serves : ServesStore (state g a)) (keeps : (d e : Database) → Change d e → e.schema ≡ store_schema)
-    (turns : (d e : Database) → Change d e → (c : Content) → IsSound c → Stands d.trees c → Stands e.trees (change c)) where
-  pub changes_sound : {X : Type 0} (r : Result X StoreFault) → IsWritten r (state g a) (state g b) (Under store_schema Change) → Changes IsSound may_fail (stands g) (IsLive g) (is_clean g) (leaves g) r a b change
+module _ {S : Type 0} (g : Ghosts S) (a b : Held S) (Change : Layout → Database → Database → Type 0) (change : Content → Content) (serves : ServesStore (state g a)) (keeps : (layout : Layout) (d e : Database) → Change layout d e → e.schema ≡ schema_of layout)
+    (turns : (layout : Layout) (d e : Database) → Change layout d e → (c : Content) → IsSound c → Stands layout d.trees c → Stands layout e.trees (change c)) where
+  pub changes_sound : {X : Type 0} (r : Result X StoreFault) → IsWritten r (state g a) (state g b) (UnderStore Change) → Changes IsSound may_fail (stands g) (IsLive g) (is_clean g) (leaves g) r a b change
   changes_sound (Ok x) h = record {
     fault = tt;
     was_live = λ live. record { is_open = h.was_open live.is_open; store = serves (h.was_open live.is_open) };
     was_clean = h.was_clean;
     live = λ clean live. let now = h.live clean live.is_open in record { is_open = now; store = serves_written (Ok x) (state g a) (state g b) Change serves keeps h now };
-    ok = λ live c sound st. turns _ _ (h.ok live.is_open (serves (h.was_open live.is_open)).schema) c sound st;
+    ok = λ live c sound st. let it = h.ok live.is_open st.0 st.1 in (st.0, keeps st.0 _ _ it, turns st.0 _ _ it c sound st.2);
     err = tt;
-    settled = λ clean live c d sound st clean' db may. let it = h.left_ok clean live.is_open db may in
-        inl (subst (λ t. Stands t (change c)) it.1 (turns _ _ (it.2 live.store.schema) c sound st));
+    settled = λ clean live c d sound st clean'. (
+      st.0,
+      λ now. keeps st.0 _ _ (h.ok now st.0 st.1),
+      λ db may. let it = h.left_ok clean live.is_open db may in
+          inl (subst (λ t. Stands st.0 t (change c)) it.1 (turns st.0 _ _ (it.2 st.0 st.1) c sound st.2)),
+    );
     unsettled = tt;
   }
   changes_sound (Err e) h = record {
@@ -125,29 +146,34 @@ module _ {S : Type 0} (g : Ghosts S) (a b : Held S) (Change : Database → Datab
     was_clean = h.was_clean;
     live = tt;
     ok = tt;
-    err = λ live c st. subst (λ (d : Database). Stands d.trees c) (sym (h.err live.is_open)) st;
+    err = λ live c st. (st.0, ap (λ (d : Database). d.schema) (h.err live.is_open) ∙ st.1, subst (λ (d : Database). Stands st.0 d.trees c) (sym (h.err live.is_open)) st.2);
     settled = tt;
-    unsettled = λ clean live c sound st clean' db may. elim (h.left_err clean live.is_open db may) [
-      | inl was ↦ inl (subst (λ t. Stands t c) (sym was) st)
-      | inr it ↦ inr (subst (λ t. Stands t (change c)) it.1 (turns _ _ (it.2 live.store.schema) c sound st))
-    ];
+    unsettled = λ clean live c sound st clean'. (
+      st.0,
+      λ now. ap (λ (d : Database). d.schema) (h.err now) ∙ st.1,
+      λ db may. elim (h.left_err clean live.is_open db may) [
+        | inl was ↦ inl (subst (λ t. Stands st.0 t c) (sym was) st.2)
+        | inr it ↦ inr (subst (λ t. Stands st.0 t (change c)) it.1 (turns st.0 _ _ (it.2 st.0 st.1) c sound st.2))
+      ],
+    );
   }
 
 -- of whichever content
-module _ {S : Type 0} (g : Ghosts S) (a b : Held S) (Change : Database → Database → Type 0) (change : Content → Content) (serves : ServesStore (state g a)) (keeps : (d e : Database) → Change d e → e.schema ≡ store_schema)
-    (turns : (d e : Database) → Change d e → (c : Content) → Stands d.trees c → Stands e.trees (change c)) where
-  pub changes : {X : Type 0} (r : Result X StoreFault) → IsWritten r (state g a) (state g b) (Under store_schema Change) → Changes IsSound may_fail (stands g) (IsLive g) (is_clean g) (leaves g) r a b change
-  changes r h = changes_sound g a b Change change serves keeps (λ d e h c sound st. turns d e h c st) r h
+module _ {S : Type 0} (g : Ghosts S) (a b : Held S) (Change : Layout → Database → Database → Type 0) (change : Content → Content) (serves : ServesStore (state g a)) (keeps : (layout : Layout) (d e : Database) → Change layout d e → e.schema ≡ schema_of layout)
+    (turns : (layout : Layout) (d e : Database) → Change layout d e → (c : Content) → Stands layout d.trees c → Stands layout e.trees (change c)) where
+  pub changes : {X : Type 0} (r : Result X StoreFault) → IsWritten r (state g a) (state g b) (UnderStore Change) → Changes IsSound may_fail (stands g) (IsLive g) (is_clean g) (leaves g) r a b change
+  changes r h = changes_sound g a b Change change serves keeps (λ layout d e h c sound st. turns layout d e h c st) r h
 
 -- the tables are the store's after the first of two parts
-both_under : (First Second : Database → Database → Type 0) → ((d e : Database) → First d e → e.schema ≡ store_schema) → (d e : Database) → Both (Under store_schema First) (Under store_schema Second) d e → Under store_schema (Both First Second) d e
-both_under First Second keeps d e h schema = let first = h.1 schema in (h.0, first, h.2 (keeps d h.0 first))
+both_under : (First Second : Layout → Database → Database → Type 0) → ((layout : Layout) (d e : Database) → First layout d e → e.schema ≡ schema_of layout)
+    → (d e : Database) → Both (UnderStore First) (UnderStore Second) d e → UnderStore (λ layout. Both (First layout) (Second layout)) d e
+both_under First Second keeps d e h layout schema = let first = h.1 layout schema in (h.0, first, h.2 layout (keeps layout d h.0 first))
 
-module _ {S : Type 0} (g : Ghosts S) (a b : Held S) (First Second : Database → Database → Type 0) (change : Content → Content) (serves : ServesStore (state g a))
-    (keeps_first : (d e : Database) → First d e → e.schema ≡ store_schema) (keeps : (d e : Database) → Second d e → e.schema ≡ store_schema)
-    (turns : (d e : Database) → Both First Second d e → (c : Content) → IsSound c → Stands d.trees c → Stands e.trees (change c)) where
-  pub changes_both : {X : Type 0} (r : Result X StoreFault) → IsWritten r (state g a) (state g b) (Both (Under store_schema First) (Under store_schema Second)) → Changes IsSound may_fail (stands g) (IsLive g) (is_clean g) (leaves g) r a b change
-  changes_both r h = changes_sound g a b (Both First Second) change serves (λ d e h. keeps _ _ h.2) turns r (written_as r (state g a) (state g b) _ _ (both_under First Second keeps_first) h)
+module _ {S : Type 0} (g : Ghosts S) (a b : Held S) (First Second : Layout → Database → Database → Type 0) (change : Content → Content) (serves : ServesStore (state g a))
+    (keeps_first : (layout : Layout) (d e : Database) → First layout d e → e.schema ≡ schema_of layout) (keeps : (layout : Layout) (d e : Database) → Second layout d e → e.schema ≡ schema_of layout)
+    (turns : (layout : Layout) (d e : Database) → Both (First layout) (Second layout) d e → (c : Content) → IsSound c → Stands layout d.trees c → Stands layout e.trees (change c)) where
+  pub changes_both : {X : Type 0} (r : Result X StoreFault) → IsWritten r (state g a) (state g b) (Both (UnderStore First) (UnderStore Second)) → Changes IsSound may_fail (stands g) (IsLive g) (is_clean g) (leaves g) r a b change
+  changes_both r h = changes_sound g a b (λ layout. Both (First layout) (Second layout)) change serves (λ layout d e h. keeps layout _ _ h.2) turns r (written_as r (state g a) (state g b) _ _ (both_under First Second keeps_first) h)
 
 -- ---- a read before a change
 
@@ -203,122 +229,119 @@ module _ {S : Type 0} (g : Ghosts S) (a m b : Held S) (change : Content → Cont
 
 -- ---- one table after another
 
-pub apart : (m n : ℕ) → (m == n) ≡ false → m ≢ n
-apart m n h e = absurd (let same : (m == n) ≡ true = grind (arith, nat_tests, e) in cc)
-
-pub accounts_altered : (change : List AccountRow → List AccountRow) (d e : Database) → Alters account_tree HoldsAccounts change d e → (c : Content) → Stands d.trees c → Stands e.trees (record c { accounts = change c.accounts })
-accounts_altered change d e h c st = record {
+pub accounts_altered : (change : List AccountRow → List AccountRow) (layout : Layout) (d e : Database) → Alters layout account_tree HoldsAccounts change d e → (c : Content) → Stands layout d.trees c → Stands layout e.trees (record c { accounts = change c.accounts })
+accounts_altered change layout d e h c st = record {
   version = h.others.0 (apart 0 2 refl) ∙ st.version;
   accounts = h.kept c.accounts st.accounts;
   sessions = subst (λ rows. HoldsSessions rows c.sessions) (sym (h.others.1.1.0 (apart 3 2 refl))) st.sessions;
-  sets = subst (λ rows. HoldsSets rows c.sets) (sym (h.others.1.1.1.0 (apart 4 2 refl))) st.sets;
+  sets = subst (λ rows. HoldsSets rows c.sets) (sym (sets_spared layout 2 d.trees e.trees (set_apart layout 2 refl refl) h.others)) st.sets;
   objects = subst (λ rows. HoldsObjects rows c.objects) (sym (h.others.1.1.1.1.0 (apart 5 2 refl))) st.objects;
   object_numbers = st.object_numbers;
   requests = subst (λ rows. HoldsRequests rows c.requests) (sym (h.others.1.1.1.1.1.0 (apart 7 2 refl))) st.requests;
-  reviewers = subst (λ rows. HoldsReviewers rows c.reviewers) (sym (h.others.1.1.1.1.1.1.0 (apart 8 2 refl))) st.reviewers;
+  reviewers = subst (λ rows. HoldsReviewers rows c.reviewers) (sym (reviewers_spared layout 2 d.trees e.trees (reviewer_apart layout 2 refl refl) h.others)) st.reviewers;
 }
 
-pub sessions_altered : (change : List SessionRow → List SessionRow) (d e : Database) → Alters session_tree HoldsSessions change d e → (c : Content) → Stands d.trees c → Stands e.trees (record c { sessions = change c.sessions })
-sessions_altered change d e h c st = record {
+pub sessions_altered : (change : List SessionRow → List SessionRow) (layout : Layout) (d e : Database) → Alters layout session_tree HoldsSessions change d e → (c : Content) → Stands layout d.trees c → Stands layout e.trees (record c { sessions = change c.sessions })
+sessions_altered change layout d e h c st = record {
   version = h.others.0 (apart 0 3 refl) ∙ st.version;
   accounts = subst (λ rows. HoldsAccounts rows c.accounts) (sym (h.others.1.0 (apart 2 3 refl))) st.accounts;
   sessions = h.kept c.sessions st.sessions;
-  sets = subst (λ rows. HoldsSets rows c.sets) (sym (h.others.1.1.1.0 (apart 4 3 refl))) st.sets;
+  sets = subst (λ rows. HoldsSets rows c.sets) (sym (sets_spared layout 3 d.trees e.trees (set_apart layout 3 refl refl) h.others)) st.sets;
   objects = subst (λ rows. HoldsObjects rows c.objects) (sym (h.others.1.1.1.1.0 (apart 5 3 refl))) st.objects;
   object_numbers = st.object_numbers;
   requests = subst (λ rows. HoldsRequests rows c.requests) (sym (h.others.1.1.1.1.1.0 (apart 7 3 refl))) st.requests;
-  reviewers = subst (λ rows. HoldsReviewers rows c.reviewers) (sym (h.others.1.1.1.1.1.1.0 (apart 8 3 refl))) st.reviewers;
+  reviewers = subst (λ rows. HoldsReviewers rows c.reviewers) (sym (reviewers_spared layout 3 d.trees e.trees (reviewer_apart layout 3 refl refl) h.others)) st.reviewers;
 }
 
-pub sets_altered : (change : List SetRow → List SetRow) (d e : Database) → Alters set_tree HoldsSets change d e → (c : Content) → Stands d.trees c → Stands e.trees (record c { sets = change c.sets })
-sets_altered change d e h c st = record {
-  version = h.others.0 (apart 0 4 refl) ∙ st.version;
-  accounts = subst (λ rows. HoldsAccounts rows c.accounts) (sym (h.others.1.0 (apart 2 4 refl))) st.accounts;
-  sessions = subst (λ rows. HoldsSessions rows c.sessions) (sym (h.others.1.1.0 (apart 3 4 refl))) st.sessions;
+pub sets_altered : (change : List SetRow → List SetRow) (layout : Layout) (d e : Database) → Alters layout (set_tree layout) HoldsSets change d e → (c : Content) → Stands layout d.trees c → Stands layout e.trees (record c { sets = change c.sets })
+sets_altered change layout d e h c st = record {
+  version = h.others.0 (λ e. set_apart layout 0 refl refl (sym e)) ∙ st.version;
+  accounts = subst (λ rows. HoldsAccounts rows c.accounts) (sym (h.others.1.0 (λ e. set_apart layout 2 refl refl (sym e)))) st.accounts;
+  sessions = subst (λ rows. HoldsSessions rows c.sessions) (sym (h.others.1.1.0 (λ e. set_apart layout 3 refl refl (sym e)))) st.sessions;
   sets = h.kept c.sets st.sets;
-  objects = subst (λ rows. HoldsObjects rows c.objects) (sym (h.others.1.1.1.1.0 (apart 5 4 refl))) st.objects;
+  objects = subst (λ rows. HoldsObjects rows c.objects) (sym (h.others.1.1.1.1.0 (λ e. set_apart layout 5 refl refl (sym e)))) st.objects;
   object_numbers = st.object_numbers;
-  requests = subst (λ rows. HoldsRequests rows c.requests) (sym (h.others.1.1.1.1.1.0 (apart 7 4 refl))) st.requests;
-  reviewers = subst (λ rows. HoldsReviewers rows c.reviewers) (sym (h.others.1.1.1.1.1.1.0 (apart 8 4 refl))) st.reviewers;
+  requests = subst (λ rows. HoldsRequests rows c.requests) (sym (h.others.1.1.1.1.1.0 (λ e. set_apart layout 7 refl refl (sym e)))) st.requests;
+  reviewers = subst (λ rows. HoldsReviewers rows c.reviewers) (sym (reviewers_spared layout (set_tree layout) d.trees e.trees (λ e. set_is_no_reviewer layout (sym e)) h.others)) st.reviewers;
 }
 
-pub requests_altered : (change : List RequestRow → List RequestRow) (d e : Database) → Alters request_tree HoldsRequests change d e → (c : Content) → Stands d.trees c → Stands e.trees (record c { requests = change c.requests })
-requests_altered change d e h c st = record {
+pub requests_altered : (change : List RequestRow → List RequestRow) (layout : Layout) (d e : Database) → Alters layout request_tree HoldsRequests change d e → (c : Content) → Stands layout d.trees c → Stands layout e.trees (record c { requests = change c.requests })
+requests_altered change layout d e h c st = record {
   version = h.others.0 (apart 0 7 refl) ∙ st.version;
   accounts = subst (λ rows. HoldsAccounts rows c.accounts) (sym (h.others.1.0 (apart 2 7 refl))) st.accounts;
   sessions = subst (λ rows. HoldsSessions rows c.sessions) (sym (h.others.1.1.0 (apart 3 7 refl))) st.sessions;
-  sets = subst (λ rows. HoldsSets rows c.sets) (sym (h.others.1.1.1.0 (apart 4 7 refl))) st.sets;
+  sets = subst (λ rows. HoldsSets rows c.sets) (sym (sets_spared layout 7 d.trees e.trees (set_apart layout 7 refl refl) h.others)) st.sets;
   objects = subst (λ rows. HoldsObjects rows c.objects) (sym (h.others.1.1.1.1.0 (apart 5 7 refl))) st.objects;
   object_numbers = st.object_numbers;
   requests = h.kept c.requests st.requests;
-  reviewers = subst (λ rows. HoldsReviewers rows c.reviewers) (sym (h.others.1.1.1.1.1.1.0 (apart 8 7 refl))) st.reviewers;
+  reviewers = subst (λ rows. HoldsReviewers rows c.reviewers) (sym (reviewers_spared layout 7 d.trees e.trees (reviewer_apart layout 7 refl refl) h.others)) st.reviewers;
 }
 
-pub reviewers_altered : (change : List ReviewerRow → List ReviewerRow) (d e : Database) → Alters reviewer_tree HoldsReviewers change d e → (c : Content) → Stands d.trees c → Stands e.trees (record c { reviewers = change c.reviewers })
-reviewers_altered change d e h c st = record {
-  version = h.others.0 (apart 0 8 refl) ∙ st.version;
-  accounts = subst (λ rows. HoldsAccounts rows c.accounts) (sym (h.others.1.0 (apart 2 8 refl))) st.accounts;
-  sessions = subst (λ rows. HoldsSessions rows c.sessions) (sym (h.others.1.1.0 (apart 3 8 refl))) st.sessions;
-  sets = subst (λ rows. HoldsSets rows c.sets) (sym (h.others.1.1.1.0 (apart 4 8 refl))) st.sets;
-  objects = subst (λ rows. HoldsObjects rows c.objects) (sym (h.others.1.1.1.1.0 (apart 5 8 refl))) st.objects;
+pub reviewers_altered : (change : List ReviewerRow → List ReviewerRow) (layout : Layout) (d e : Database) → Alters layout (reviewer_tree layout) HoldsReviewers change d e → (c : Content) → Stands layout d.trees c → Stands layout e.trees (record c { reviewers = change c.reviewers })
+reviewers_altered change layout d e h c st = record {
+  version = h.others.0 (λ e. reviewer_apart layout 0 refl refl (sym e)) ∙ st.version;
+  accounts = subst (λ rows. HoldsAccounts rows c.accounts) (sym (h.others.1.0 (λ e. reviewer_apart layout 2 refl refl (sym e)))) st.accounts;
+  sessions = subst (λ rows. HoldsSessions rows c.sessions) (sym (h.others.1.1.0 (λ e. reviewer_apart layout 3 refl refl (sym e)))) st.sessions;
+  sets = subst (λ rows. HoldsSets rows c.sets) (sym (sets_spared layout (reviewer_tree layout) d.trees e.trees (set_is_no_reviewer layout) h.others)) st.sets;
+  objects = subst (λ rows. HoldsObjects rows c.objects) (sym (h.others.1.1.1.1.0 (λ e. reviewer_apart layout 5 refl refl (sym e)))) st.objects;
   object_numbers = st.object_numbers;
-  requests = subst (λ rows. HoldsRequests rows c.requests) (sym (h.others.1.1.1.1.1.0 (apart 7 8 refl))) st.requests;
+  requests = subst (λ rows. HoldsRequests rows c.requests) (sym (h.others.1.1.1.1.1.0 (λ e. reviewer_apart layout 7 refl refl (sym e)))) st.requests;
   reviewers = h.kept c.reviewers st.reviewers;
 }
 
-pub cancelled : (n : ℕ) (d e : Database) → Alters session_tree HoldsSessions (changed (is_session n) cancelled_session) d e → (c : Content) → Stands d.trees c → Stands e.trees (after (change.CancelSession n) c)
+pub cancelled : (n : ℕ) (layout : Layout) (d e : Database) → Alters layout session_tree HoldsSessions (changed (is_session n) cancelled_session) d e → (c : Content) → Stands layout d.trees c → Stands layout e.trees (after (change.CancelSession n) c)
 unfolding after
-cancelled n d e h c st = sessions_altered (changed (is_session n) cancelled_session) d e h c st
+cancelled n layout d e h c st = sessions_altered (changed (is_session n) cancelled_session) layout d e h c st
 
-pub added : (a : NewAccount) (d e : Database) → Alters account_tree HoldsAccounts (λ rows. rows ++ new_account a ∷ []) d e → (c : Content) → Stands d.trees c → Stands e.trees (after_order (order.AddAccount a) c)
+pub added : (a : NewAccount) (layout : Layout) (d e : Database) → Alters layout account_tree HoldsAccounts (λ rows. rows ++ new_account a ∷ []) d e → (c : Content) → Stands layout d.trees c → Stands layout e.trees (after_order (order.AddAccount a) c)
 unfolding after_order
-added a d e h c st = accounts_altered (λ rows. rows ++ new_account a ∷ []) d e h c st
+added a layout d e h c st = accounts_altered (λ rows. rows ++ new_account a ∷ []) layout d e h c st
 
-pub turned_off : (n : ℕ) (d e : Database) → Alters account_tree HoldsAccounts (changed (is_account n) disabled) d e → (c : Content) → Stands d.trees c → Stands e.trees (after_order (order.DisableAccount n) c)
+pub turned_off : (n : ℕ) (layout : Layout) (d e : Database) → Alters layout account_tree HoldsAccounts (changed (is_account n) disabled) d e → (c : Content) → Stands layout d.trees c → Stands layout e.trees (after_order (order.DisableAccount n) c)
 unfolding after_order
-turned_off n d e h c st = accounts_altered (changed (is_account n) disabled) d e h c st
+turned_off n layout d e h c st = accounts_altered (changed (is_account n) disabled) layout d e h c st
 
-pub stepped : (u : UsedStep) (d e : Database) → Alters account_tree HoldsAccounts (changed (is_account u.account) (with_step u.step)) d e → (c : Content) → Stands d.trees c → Stands e.trees (after (change.UseStep u) c)
+pub stepped : (u : UsedStep) (layout : Layout) (d e : Database) → Alters layout account_tree HoldsAccounts (changed (is_account u.account) (with_step u.step)) d e → (c : Content) → Stands layout d.trees c → Stands layout e.trees (after (change.UseStep u) c)
 unfolding after
-stepped u d e h c st = accounts_altered (changed (is_account u.account) (with_step u.step)) d e h c st
+stepped u layout d e h c st = accounts_altered (changed (is_account u.account) (with_step u.step)) layout d e h c st
 
 -- ---- two parts
 
-pub set_cancelled : (x : CancelledSet) (d e : Database) → Both (Alters set_tree HoldsSets (changed (is_set x.set) cancelled_set)) (Alters session_tree HoldsSessions (changed (is_session x.session) (with_counts x.live x.passed))) d e
-    → (c : Content) → IsSound c → Stands d.trees c → Stands e.trees (after (change.CancelSet x) c)
+pub set_cancelled : (x : CancelledSet) (layout : Layout) (d e : Database) → Both (Alters layout (set_tree layout) HoldsSets (changed (is_set x.set) cancelled_set)) (Alters layout session_tree HoldsSessions (changed (is_session x.session) (with_counts x.live x.passed))) d e
+    → (c : Content) → IsSound c → Stands layout d.trees c → Stands layout e.trees (after (change.CancelSet x) c)
 unfolding after
-set_cancelled x d e h c sound st = sessions_altered (changed (is_session x.session) (with_counts x.live x.passed)) h.0 e h.2 _ (sets_altered (changed (is_set x.set) cancelled_set) d h.0 h.1 c st)
+set_cancelled x layout d e h c sound st = sessions_altered (changed (is_session x.session) (with_counts x.live x.passed)) layout h.0 e h.2 _ (sets_altered (changed (is_set x.set) cancelled_set) layout d h.0 h.1 c st)
 
-pub answers_kept : (k : KeptAnswers) (d e : Database) → Both (Alters set_tree HoldsSets (changed (is_set k.set) (with_graded k.graded))) (Alters session_tree HoldsSessions (changed (is_session k.session) (with_passed k.passed))) d e
-    → (c : Content) → IsSound c → Stands d.trees c → Stands e.trees (after (change.KeepAnswers k) c)
+pub answers_kept : (k : KeptAnswers) (layout : Layout) (d e : Database) → Both (Alters layout (set_tree layout) HoldsSets (changed (is_set k.set) (with_graded k.graded))) (Alters layout session_tree HoldsSessions (changed (is_session k.session) (with_passed k.passed))) d e
+    → (c : Content) → IsSound c → Stands layout d.trees c → Stands layout e.trees (after (change.KeepAnswers k) c)
 unfolding after
-answers_kept k d e h c sound st = sessions_altered (changed (is_session k.session) (with_passed k.passed)) h.0 e h.2 _ (sets_altered (changed (is_set k.set) (with_graded k.graded)) d h.0 h.1 c st)
+answers_kept k layout d e h c sound st = sessions_altered (changed (is_session k.session) (with_passed k.passed)) layout h.0 e h.2 _ (sets_altered (changed (is_set k.set) (with_graded k.graded)) layout d h.0 h.1 c st)
 
-pub session_begun : (s : NewSession) (d e : Database) → Both (Alters session_tree HoldsSessions (λ rows. rows ++ new_session s ∷ [])) (Alters set_tree HoldsSets (λ rows. rows ++ new_sets s.number s.epoch 1 s.registration.capabilities)) d e
-    → (c : Content) → IsSound c → Stands d.trees c → Stands e.trees (after (change.NewSession s) c)
+pub session_begun : (s : NewSession) (layout : Layout) (d e : Database) → Both (Alters layout session_tree HoldsSessions (λ rows. rows ++ new_session s ∷ [])) (Alters layout (set_tree layout) HoldsSets (λ rows. rows ++ new_sets s.number s.epoch 1 s.registration.capabilities)) d e
+    → (c : Content) → IsSound c → Stands layout d.trees c → Stands layout e.trees (after (change.NewSession s) c)
 unfolding after
-session_begun s d e h c sound st = sets_altered (λ rows. rows ++ new_sets s.number s.epoch 1 s.registration.capabilities) h.0 e h.2 _ (sessions_altered (λ rows. rows ++ new_session s ∷ []) d h.0 h.1 c st)
+session_begun s layout d e h c sound st = sets_altered (λ rows. rows ++ new_sets s.number s.epoch 1 s.registration.capabilities) layout h.0 e h.2 _ (sessions_altered (λ rows. rows ++ new_session s ∷ []) layout d h.0 h.1 c st)
 
-pub request_made : (r : NewRequest) (d e : Database) → Alters request_tree HoldsRequests (λ rows. rows ++ new_request r ∷ []) d e → (c : Content) → Stands d.trees c → Stands e.trees (after (change.NewRequest r) c)
+pub request_made : (r : NewRequest) (layout : Layout) (d e : Database) → Alters layout request_tree HoldsRequests (λ rows. rows ++ new_request r ∷ []) d e → (c : Content) → Stands layout d.trees c → Stands layout e.trees (after (change.NewRequest r) c)
 unfolding after
-request_made r d e h c st = requests_altered (λ rows. rows ++ new_request r ∷ []) d e h c st
+request_made r layout d e h c st = requests_altered (λ rows. rows ++ new_request r ∷ []) layout d e h c st
 
-pub certification_asked : (x : NewCertification) (d e : Database) → Both (Alters request_tree HoldsRequests (λ rows. rows ++ new_certification x ∷ [])) (Alters session_tree HoldsSessions (changed (is_session x.certification.session) (with_certify x.number))) d e
-    → (c : Content) → IsSound c → Stands d.trees c → Stands e.trees (after (change.Certify x) c)
+pub certification_asked : (x : NewCertification) (layout : Layout) (d e : Database) → Both (Alters layout request_tree HoldsRequests (λ rows. rows ++ new_certification x ∷ [])) (Alters layout session_tree HoldsSessions (changed (is_session x.certification.session) (with_certify x.number))) d e
+    → (c : Content) → IsSound c → Stands layout d.trees c → Stands layout e.trees (after (change.Certify x) c)
 unfolding after
-certification_asked x d e h c sound st = sessions_altered (changed (is_session x.certification.session) (with_certify x.number)) h.0 e h.2 _ (requests_altered (λ rows. rows ++ new_certification x ∷ []) d h.0 h.1 c st)
+certification_asked x layout d e h c sound st = sessions_altered (changed (is_session x.certification.session) (with_certify x.number)) layout h.0 e h.2 _ (requests_altered (λ rows. rows ++ new_certification x ∷ []) layout d h.0 h.1 c st)
 
-pub rejected : (n : ℕ) (d e : Database) → Alters request_tree HoldsRequests (changed (is_request n) (with_status status.Rejected)) d e → (c : Content) → Stands d.trees c → Stands e.trees (after_order (order.Reject n) c)
+pub rejected : (n : ℕ) (layout : Layout) (d e : Database) → Alters layout request_tree HoldsRequests (changed (is_request n) (with_status status.Rejected)) d e → (c : Content) → Stands layout d.trees c → Stands layout e.trees (after_order (order.Reject n) c)
 unfolding after_order
-rejected n d e h c st = requests_altered (changed (is_request n) (with_status status.Rejected)) d e h c st
+rejected n layout d e h c st = requests_altered (changed (is_request n) (with_status status.Rejected)) layout d e h c st
 
-pub reviewer_added : (r : ReviewerRow) (d e : Database) → Alters reviewer_tree HoldsReviewers (with_reviewer r) d e → (c : Content) → Stands d.trees c → Stands e.trees (after (change.AddReviewer r) c)
+pub reviewer_added : (r : ReviewerRow) (layout : Layout) (d e : Database) → Alters layout (reviewer_tree layout) HoldsReviewers (with_reviewer r) d e → (c : Content) → Stands layout d.trees c → Stands layout e.trees (after (change.AddReviewer r) c)
 unfolding after
-reviewer_added r d e h c st = reviewers_altered (with_reviewer r) d e h c st
+reviewer_added r layout d e h c st = reviewers_altered (with_reviewer r) layout d e h c st
 
-pub reviewer_removed : (r : ReviewerRow) (d e : Database) → Alters reviewer_tree HoldsReviewers (filter (λ row. not (is_pair r row))) d e → (c : Content) → Stands d.trees c → Stands e.trees (after (change.RemoveReviewer r) c)
+pub reviewer_removed : (r : ReviewerRow) (layout : Layout) (d e : Database) → Alters layout (reviewer_tree layout) HoldsReviewers (filter (λ row. not (is_pair r row))) d e → (c : Content) → Stands layout d.trees c → Stands layout e.trees (after (change.RemoveReviewer r) c)
 unfolding after
-reviewer_removed r d e h c st = reviewers_altered (filter (λ row. not (is_pair r row))) d e h c st
+reviewer_removed r layout d e h c st = reviewers_altered (filter (λ row. not (is_pair r row))) layout d e h c st
 
 fit_registered : (n number : ℕ) → number < 2 ^ 63 → (requests : List RequestRow) → AllByRecursion (λ (r : RequestRow). BodyReads r.body) requests → FitColumns (approved_objects (request_at n requests) number)
 fit_registered n number low [] all = tt
@@ -331,22 +354,22 @@ fit_registered n number low (r ∷ requests) all = elim (cases_Bool (r.number ==
     go account (body.Registration o) reads = ((low, reads), tt)
     go account (body.Certification c) reads = tt
 
-registered : (n number : ℕ) (d e : Database) → Registers n number d e → (c : Content) → IsSound c → Stands d.trees c → Stands e.trees (record c { objects = c.objects ++ approved_objects (request_at n c.requests) number })
-registered n number d e h c sound st = record {
+registered : (n number : ℕ) (layout : Layout) (d e : Database) → Registers layout n number d e → (c : Content) → IsSound c → Stands layout d.trees c → Stands layout e.trees (record c { objects = c.objects ++ approved_objects (request_at n c.requests) number })
+registered n number layout d e h c sound st = record {
   version = h.others.0 (apart 0 5 refl) ∙ st.version;
   accounts = subst (λ rows. HoldsAccounts rows c.accounts) (sym (h.others.1.0 (apart 2 5 refl))) st.accounts;
   sessions = subst (λ rows. HoldsSessions rows c.sessions) (sym (h.others.1.1.0 (apart 3 5 refl))) st.sessions;
-  sets = subst (λ rows. HoldsSets rows c.sets) (sym (h.others.1.1.1.0 (apart 4 5 refl))) st.sets;
+  sets = subst (λ rows. HoldsSets rows c.sets) (sym (sets_spared layout 5 d.trees e.trees (set_apart layout 5 refl refl) h.others)) st.sets;
   objects = h.kept c.requests c.objects (kinds_of c sound) st.requests st.objects;
   object_numbers = all-append IsKeepable c.objects _ st.object_numbers (fit_registered n number h.fits c.requests st.requests.texts);
   requests = subst (λ rows. HoldsRequests rows c.requests) (sym (h.others.1.1.1.1.1.0 (apart 7 5 refl))) st.requests;
-  reviewers = subst (λ rows. HoldsReviewers rows c.reviewers) (sym (h.others.1.1.1.1.1.1.0 (apart 8 5 refl))) st.reviewers;
+  reviewers = subst (λ rows. HoldsReviewers rows c.reviewers) (sym (reviewers_spared layout 5 d.trees e.trees (reviewer_apart layout 5 refl refl) h.others)) st.reviewers;
 }
 
-pub approved : (x : Approval) (d e : Database) → Both (Registers x.request x.approved) (Alters request_tree HoldsRequests (changed (is_request x.request) (with_status (status.Approved x.approved)))) d e
-    → (c : Content) → IsSound c → Stands d.trees c → Stands e.trees (after_order (order.Approve x) c)
+pub approved : (x : Approval) (layout : Layout) (d e : Database) → Both (Registers layout x.request x.approved) (Alters layout request_tree HoldsRequests (changed (is_request x.request) (with_status (status.Approved x.approved)))) d e
+    → (c : Content) → IsSound c → Stands layout d.trees c → Stands layout e.trees (after_order (order.Approve x) c)
 unfolding after_order
-approved x d e h c sound st = requests_altered (changed (is_request x.request) (with_status (status.Approved x.approved))) h.0 e h.2 _ (registered x.request x.approved d h.0 h.1 c sound st)
+approved x layout d e h c sound st = requests_altered (changed (is_request x.request) (with_status (status.Approved x.approved))) layout h.0 e h.2 _ (registered x.request x.approved layout d h.0 h.1 c sound st)
 
 -- one who is there already
 pub reviewer_there : (r : ReviewerRow) (c : Content) → is_reviewer r.session r.account c.reviewers ≡ true → after (change.AddReviewer r) c ≡ c
@@ -362,7 +385,7 @@ kept_none key stored rows none = record { ordered = []; rows_are = none; rising 
 abbrev pub MakesAll : Database → Database → Type 0
 MakesAll = Both (Under (before table.Meta) (Makes table.Meta)) (Both (Under (before table.Account) (Makes table.Account)) (Both (Under (before table.Session) (Makes table.Session))
     (Both (Under (before table.Set) (Makes table.Set)) (Both (Under (before table.Object) (Makes table.Object)) (Both (Under (before table.Request) (Makes table.Request))
-    (Both (Under (before table.Reviewer) (Makes table.Reviewer)) (Under store_schema (WritesVersion 3))))))))
+    (Both (Under (before table.Reviewer) (Makes table.Reviewer)) (Under (schema_of Created) (WritesVersion 3))))))))
 
 pub begins : (old new : Database) → MakesAll old new → old.schema ≡ no_schema → Begins old new
 begins old new h start =
@@ -394,3 +417,21 @@ begins old new h start =
         reviewers = record { entries = []; rows_are = reviewers; rising = tt; same = IsPermutation-refl [] };
       };
     }
+
+-- the same of those that make the tables as they lie where those of the first schema were there before them
+abbrev pub MakesMigrated : Database → Database → Type 0
+MakesMigrated = Both (Under (before table.Meta) (Makes table.Meta)) (Both (Under (before table.Account) (Makes table.Account)) (Both (Under (before table.Session) (Makes table.Session))
+    (Both (Under (before table.OldSet) (Makes table.OldSet)) (Both (Under (before table.LaterObject) (Makes table.LaterObject)) (Both (Under (before table.LaterRequest) (Makes table.LaterRequest))
+    (Both (Under (before table.LaterSet) (Makes table.LaterSet)) (Under (before table.LaterReviewer) (Makes table.LaterReviewer))))))))
+
+pub becomes_migrated : (old new : Database) → MakesMigrated old new → old.schema ≡ no_schema → BecomesMigrated old new
+becomes_migrated old new h start =
+    let m1 = h.1 start in
+    let m2 = h.2.1 m1.schema in
+    let m3 = h.2.2.1 m2.schema in
+    let m4 = h.2.2.2.1 m3.schema in
+    let m5 = h.2.2.2.2.1 m4.schema in
+    let m6 = h.2.2.2.2.2.1 m5.schema in
+    let m7 = h.2.2.2.2.2.2.1 m6.schema in
+    let m8 = h.2.2.2.2.2.2.2 m7.schema in
+    m8.schema ∙ migrated_schema

@@ -19,7 +19,8 @@ use Rattle.sqlite_sql.specs.declared.aggregate.AggregateOp.TheVariants.{Max}
 use Rattle.sqlite_value.specs.Keys.{ascending}
 use Rattle.sqlite_tied.specs.Compute.{everything}
 use Rattle.sqlite.proofs.Callers.{IsPlain, command_of, statement_of}
-use Rattle.acvp_store.specs.Schema.{store_schema}
+use Rattle.acvp_store.specs.Schema.{Layout, Created, Migrated, schema_of}
+use Rattle.acvp_store.specs.Stands.{set_tree, reviewer_tree}
 use Rattle.acvp_store.specs.Private.Creating.{text_of, table_of, before}
 use Rattle.acvp_store.specs.declared.setup.StoreTable.{StoreTable}
 use Rattle.acvp_store.specs.declared.setup.StoreTable.TheVariants as table
@@ -27,9 +28,13 @@ use Rattle.acvp_store.proofs.Silent.{asks}
 
 -- ---- the tables
 
-pub whole_schema : created (before table.Reviewer) (table_of table.Reviewer) ≡ store_schema
+pub whole_schema : created (before table.Reviewer) (table_of table.Reviewer) ≡ schema_of Created
 unfolding digits
 whole_schema = refl
+
+pub migrated_schema : created (before table.LaterReviewer) (table_of table.LaterReviewer) ≡ schema_of Migrated
+unfolding digits
+migrated_schema = refl
 
 -- a text makes a table in the schema that is there before it
 abbrev pub IsMaking : StoreTable → Type 0
@@ -44,6 +49,23 @@ is_making table.Set = (refl, refl, refl, (refl, refl))
 is_making table.Object = (refl, refl, refl, (refl, refl))
 is_making table.Request = (refl, refl, refl, (refl, refl))
 is_making table.Reviewer = (refl, refl, refl, (refl, refl))
+is_making table.OldSet = (refl, refl, refl, (refl, refl))
+is_making table.LaterObject = (refl, refl, refl, (refl, refl))
+is_making table.LaterRequest = (refl, refl, refl, (refl, refl))
+is_making table.LaterSet = (refl, refl, refl, (refl, refl))
+is_making table.LaterReviewer = (refl, refl, refl, (refl, refl))
+
+-- ---- where the tables are named
+
+-- the place of the table of sets among the tables
+abbrev pub set_place : Layout → ℕ
+set_place Created = 3
+set_place Migrated = 6
+
+-- the place of the table of reviewers
+abbrev pub reviewer_place : Layout → ℕ
+reviewer_place Created = 6
+reviewer_place Migrated = 7
 
 -- ---- words for the others
 
@@ -80,13 +102,15 @@ add_version = codes "INSERT INTO meta (name, value) VALUES ('schema', 3)"
 abbrev pub version_terms : List Term
 version_terms = lit Null ∷ lit (Text (codes "schema")) ∷ lit (Int (pos 3)) ∷ []
 
-pub version_is : command_of (understood store_schema add_version) ≡ Insert 0 (Values version_terms 3)
+pub version_is : (layout : Layout) → command_of (understood (schema_of layout) add_version) ≡ Insert 0 (Values version_terms 3)
 unfolding understood everything
-version_is = refl
+version_is Created = refl
+version_is Migrated = refl
 
-pub version_plain : IsPlain (understood store_schema add_version)
+pub version_plain : (layout : Layout) → IsPlain (understood (schema_of layout) add_version)
 unfolding understood everything
-version_plain = (refl, refl)
+version_plain Created = (refl, refl)
+version_plain Migrated = (refl, refl)
 
 abbrev pub find_version : List ℕ
 find_version = codes "SELECT value FROM meta WHERE name = 'schema' AND value = 3"
@@ -94,21 +118,48 @@ find_version = codes "SELECT value FROM meta WHERE name = 'schema' AND value = 3
 abbrev pub find_version_query : Query
 find_version_query = simple 0 (op2 (Compare Eq Binary) (col 1 1) (lit (Text (codes "schema"))) ∷ op2 (Compare Eq Binary) (col 1 2) (lit (Int (pos 3))) ∷ []) (col 1 2 ∷ [])
 
-pub find_version_is : command_of (understood store_schema find_version) ≡ Select (record { lets = []; body = find_version_query }) (codes "value" ∷ [])
+pub find_version_is : (layout : Layout) → command_of (understood (schema_of layout) find_version) ≡ Select (record { lets = []; body = find_version_query }) (codes "value" ∷ [])
 unfolding understood everything
-find_version_is = refl
+find_version_is Created = refl
+find_version_is Migrated = refl
 
-pub find_version_unlisted : reads_listing store_schema find_version ≡ false
+pub find_version_unlisted : (layout : Layout) → reads_listing (schema_of layout) find_version ≡ false
 unfolding understood everything
-find_version_unlisted = refl
+find_version_unlisted Created = refl
+find_version_unlisted Migrated = refl
 
-pub find_version_plain : IsPlain (understood store_schema find_version)
+pub find_version_plain : (layout : Layout) → IsPlain (understood (schema_of layout) find_version)
 unfolding understood everything
-find_version_plain = (refl, refl)
+find_version_plain Created = (refl, refl)
+find_version_plain Migrated = (refl, refl)
 
 pub find_version_asks : asks (first find_version) ≡ true
 unfolding first everything
 find_version_asks = refl
+
+-- ---- the vector sets of an earlier schema
+
+abbrev pub find_old_sets : List ℕ
+find_old_sets = codes "SELECT vs FROM vset"
+
+abbrev pub old_sets_query : Query
+old_sets_query = simple 4 [] (col 1 0 ∷ [])
+
+pub old_sets_is : command_of (understood (schema_of Migrated) find_old_sets) ≡ Select (record { lets = []; body = old_sets_query }) (codes "vs" ∷ [])
+unfolding understood everything
+old_sets_is = refl
+
+pub old_sets_unlisted : reads_listing (schema_of Migrated) find_old_sets ≡ false
+unfolding understood everything
+old_sets_unlisted = refl
+
+pub old_sets_plain : IsPlain (understood (schema_of Migrated) find_old_sets)
+unfolding understood everything
+old_sets_plain = (refl, refl)
+
+pub old_sets_asks : asks (first find_old_sets) ≡ true
+unfolding first everything
+old_sets_asks = refl
 
 -- ---- accounts
 
@@ -118,17 +169,20 @@ find_account = codes "SELECT account, secret, enabled, last_step FROM account WH
 abbrev pub account_query : Query
 account_query = simple 2 (equals 0 0 ∷ []) (col 1 0 ∷ col 1 2 ∷ col 1 3 ∷ col 1 4 ∷ [])
 
-pub account_is : command_of (understood store_schema find_account) ≡ Select (record { lets = []; body = account_query }) (codes "account" ∷ codes "secret" ∷ codes "enabled" ∷ codes "last_step" ∷ [])
+pub account_is : (layout : Layout) → command_of (understood (schema_of layout) find_account) ≡ Select (record { lets = []; body = account_query }) (codes "account" ∷ codes "secret" ∷ codes "enabled" ∷ codes "last_step" ∷ [])
 unfolding understood everything
-account_is = refl
+account_is Created = refl
+account_is Migrated = refl
 
-pub account_unlisted : reads_listing store_schema find_account ≡ false
+pub account_unlisted : (layout : Layout) → reads_listing (schema_of layout) find_account ≡ false
 unfolding understood everything
-account_unlisted = refl
+account_unlisted Created = refl
+account_unlisted Migrated = refl
 
-pub account_plain : IsPlain (understood store_schema find_account)
+pub account_plain : (layout : Layout) → IsPlain (understood (schema_of layout) find_account)
 unfolding understood everything
-account_plain = (refl, refl)
+account_plain Created = (refl, refl)
+account_plain Migrated = (refl, refl)
 
 pub account_asks : asks (first find_account) ≡ true
 unfolding first everything
@@ -140,13 +194,15 @@ add_account = codes "INSERT INTO account (account, secret, enabled, last_step) V
 abbrev pub add_account_terms : List Term
 add_account_terms = col 0 0 ∷ lit Null ∷ col 0 1 ∷ lit (Int (pos 1)) ∷ lit Null ∷ []
 
-pub add_account_is : command_of (understood store_schema add_account) ≡ Insert 1 (Values add_account_terms 5)
+pub add_account_is : (layout : Layout) → command_of (understood (schema_of layout) add_account) ≡ Insert 1 (Values add_account_terms 5)
 unfolding understood everything
-add_account_is = refl
+add_account_is Created = refl
+add_account_is Migrated = refl
 
-pub add_account_plain : IsPlain (understood store_schema add_account)
+pub add_account_plain : (layout : Layout) → IsPlain (understood (schema_of layout) add_account)
 unfolding understood everything
-add_account_plain = (refl, refl)
+add_account_plain Created = (refl, refl)
+add_account_plain Migrated = (refl, refl)
 
 abbrev pub set_step : List ℕ
 set_step = codes "UPDATE account SET last_step = ?2 WHERE account = ?1"
@@ -154,13 +210,15 @@ set_step = codes "UPDATE account SET last_step = ?2 WHERE account = ?1"
 abbrev pub step_query : Query
 step_query = simple 2 (equals 0 0 ∷ []) (col 1 0 ∷ col 1 0 ∷ lit Null ∷ col 1 2 ∷ col 1 3 ∷ col 0 1 ∷ [])
 
-pub step_is : command_of (understood store_schema set_step) ≡ Update 1 (record { lets = []; body = step_query })
+pub step_is : (layout : Layout) → command_of (understood (schema_of layout) set_step) ≡ Update 1 (record { lets = []; body = step_query })
 unfolding understood everything
-step_is = refl
+step_is Created = refl
+step_is Migrated = refl
 
-pub step_plain : IsPlain (understood store_schema set_step)
+pub step_plain : (layout : Layout) → IsPlain (understood (schema_of layout) set_step)
 unfolding understood everything
-step_plain = (refl, refl)
+step_plain Created = (refl, refl)
+step_plain Migrated = (refl, refl)
 
 abbrev pub disable_account : List ℕ
 disable_account = codes "UPDATE account SET enabled = 0 WHERE account = ?1"
@@ -168,13 +226,15 @@ disable_account = codes "UPDATE account SET enabled = 0 WHERE account = ?1"
 abbrev pub disable_query : Query
 disable_query = simple 2 (equals 0 0 ∷ []) (col 1 0 ∷ col 1 0 ∷ lit Null ∷ col 1 2 ∷ lit (Int (pos 0)) ∷ col 1 4 ∷ [])
 
-pub disable_is : command_of (understood store_schema disable_account) ≡ Update 1 (record { lets = []; body = disable_query })
+pub disable_is : (layout : Layout) → command_of (understood (schema_of layout) disable_account) ≡ Update 1 (record { lets = []; body = disable_query })
 unfolding understood everything
-disable_is = refl
+disable_is Created = refl
+disable_is Migrated = refl
 
-pub disable_plain : IsPlain (understood store_schema disable_account)
+pub disable_plain : (layout : Layout) → IsPlain (understood (schema_of layout) disable_account)
 unfolding understood everything
-disable_plain = (refl, refl)
+disable_plain Created = (refl, refl)
+disable_plain Migrated = (refl, refl)
 
 -- ---- sessions
 
@@ -184,18 +244,21 @@ find_session = codes "SELECT session, account, sample, created, cancelled, certi
 abbrev pub session_query : Query
 session_query = simple 3 (equals 0 0 ∷ []) (col 1 0 ∷ col 1 2 ∷ col 1 3 ∷ col 1 4 ∷ col 1 5 ∷ col 1 6 ∷ col 1 7 ∷ col 1 8 ∷ [])
 
-pub session_is : command_of (understood store_schema find_session) ≡ Select (record { lets = []; body = session_query })
+pub session_is : (layout : Layout) → command_of (understood (schema_of layout) find_session) ≡ Select (record { lets = []; body = session_query })
     (codes "session" ∷ codes "account" ∷ codes "sample" ∷ codes "created" ∷ codes "cancelled" ∷ codes "certify" ∷ codes "live" ∷ codes "passed" ∷ [])
 unfolding understood everything
-session_is = refl
+session_is Created = refl
+session_is Migrated = refl
 
-pub session_unlisted : reads_listing store_schema find_session ≡ false
+pub session_unlisted : (layout : Layout) → reads_listing (schema_of layout) find_session ≡ false
 unfolding understood everything
-session_unlisted = refl
+session_unlisted Created = refl
+session_unlisted Migrated = refl
 
-pub session_plain : IsPlain (understood store_schema find_session)
+pub session_plain : (layout : Layout) → IsPlain (understood (schema_of layout) find_session)
 unfolding understood everything
-session_plain = (refl, refl)
+session_plain Created = (refl, refl)
+session_plain Migrated = (refl, refl)
 
 pub session_asks : asks (first find_session) ≡ true
 unfolding first everything
@@ -210,13 +273,15 @@ cancel_terms = equals 0 0 ∷ []
 abbrev pub cancel_columns : List Term
 cancel_columns = col 1 0 ∷ col 1 0 ∷ lit Null ∷ col 1 2 ∷ col 1 3 ∷ col 1 4 ∷ lit (Int (pos 1)) ∷ col 1 6 ∷ col 1 7 ∷ col 1 8 ∷ []
 
-pub cancel_is : command_of (understood store_schema cancel_session) ≡ Update 2 (record { lets = []; body = simple 3 cancel_terms cancel_columns })
+pub cancel_is : (layout : Layout) → command_of (understood (schema_of layout) cancel_session) ≡ Update 2 (record { lets = []; body = simple 3 cancel_terms cancel_columns })
 unfolding understood everything
-cancel_is = refl
+cancel_is Created = refl
+cancel_is Migrated = refl
 
-pub cancel_plain : IsPlain (understood store_schema cancel_session)
+pub cancel_plain : (layout : Layout) → IsPlain (understood (schema_of layout) cancel_session)
 unfolding understood everything
-cancel_plain = (refl, refl)
+cancel_plain Created = (refl, refl)
+cancel_plain Migrated = (refl, refl)
 
 abbrev pub count_session : List ℕ
 count_session = codes "UPDATE session SET live = ?2, passed = ?3 WHERE session = ?1"
@@ -224,13 +289,15 @@ count_session = codes "UPDATE session SET live = ?2, passed = ?3 WHERE session =
 abbrev pub count_query : Query
 count_query = simple 3 (equals 0 0 ∷ []) (col 1 0 ∷ col 1 0 ∷ lit Null ∷ col 1 2 ∷ col 1 3 ∷ col 1 4 ∷ col 1 5 ∷ col 1 6 ∷ col 0 1 ∷ col 0 2 ∷ [])
 
-pub count_is : command_of (understood store_schema count_session) ≡ Update 2 (record { lets = []; body = count_query })
+pub count_is : (layout : Layout) → command_of (understood (schema_of layout) count_session) ≡ Update 2 (record { lets = []; body = count_query })
 unfolding understood everything
-count_is = refl
+count_is Created = refl
+count_is Migrated = refl
 
-pub count_plain : IsPlain (understood store_schema count_session)
+pub count_plain : (layout : Layout) → IsPlain (understood (schema_of layout) count_session)
 unfolding understood everything
-count_plain = (refl, refl)
+count_plain Created = (refl, refl)
+count_plain Migrated = (refl, refl)
 
 abbrev pub pass_session : List ℕ
 pass_session = codes "UPDATE session SET passed = ?2 WHERE session = ?1"
@@ -238,13 +305,15 @@ pass_session = codes "UPDATE session SET passed = ?2 WHERE session = ?1"
 abbrev pub pass_query : Query
 pass_query = simple 3 (equals 0 0 ∷ []) (col 1 0 ∷ col 1 0 ∷ lit Null ∷ col 1 2 ∷ col 1 3 ∷ col 1 4 ∷ col 1 5 ∷ col 1 6 ∷ col 1 7 ∷ col 0 1 ∷ [])
 
-pub pass_is : command_of (understood store_schema pass_session) ≡ Update 2 (record { lets = []; body = pass_query })
+pub pass_is : (layout : Layout) → command_of (understood (schema_of layout) pass_session) ≡ Update 2 (record { lets = []; body = pass_query })
 unfolding understood everything
-pass_is = refl
+pass_is Created = refl
+pass_is Migrated = refl
 
-pub pass_plain : IsPlain (understood store_schema pass_session)
+pub pass_plain : (layout : Layout) → IsPlain (understood (schema_of layout) pass_session)
 unfolding understood everything
-pass_plain = (refl, refl)
+pass_plain Created = (refl, refl)
+pass_plain Migrated = (refl, refl)
 
 abbrev pub certify_session : List ℕ
 certify_session = codes "UPDATE session SET certify = ?2 WHERE session = ?1"
@@ -252,13 +321,15 @@ certify_session = codes "UPDATE session SET certify = ?2 WHERE session = ?1"
 abbrev pub certify_query : Query
 certify_query = simple 3 (equals 0 0 ∷ []) (col 1 0 ∷ col 1 0 ∷ lit Null ∷ col 1 2 ∷ col 1 3 ∷ col 1 4 ∷ col 1 5 ∷ col 0 1 ∷ col 1 7 ∷ col 1 8 ∷ [])
 
-pub certify_is : command_of (understood store_schema certify_session) ≡ Update 2 (record { lets = []; body = certify_query })
+pub certify_is : (layout : Layout) → command_of (understood (schema_of layout) certify_session) ≡ Update 2 (record { lets = []; body = certify_query })
 unfolding understood everything
-certify_is = refl
+certify_is Created = refl
+certify_is Migrated = refl
 
-pub certify_plain : IsPlain (understood store_schema certify_session)
+pub certify_plain : (layout : Layout) → IsPlain (understood (schema_of layout) certify_session)
 unfolding understood everything
-certify_plain = (refl, refl)
+certify_plain Created = (refl, refl)
+certify_plain Migrated = (refl, refl)
 
 abbrev pub add_session : List ℕ
 add_session = codes "INSERT INTO session (session, account, sample, created, cancelled, certify, live, passed) VALUES (?1, ?2, ?3, ?4, 0, NULL, ?5, 0)"
@@ -266,13 +337,15 @@ add_session = codes "INSERT INTO session (session, account, sample, created, can
 abbrev pub add_session_terms : List Term
 add_session_terms = col 0 0 ∷ lit Null ∷ col 0 1 ∷ col 0 2 ∷ col 0 3 ∷ lit (Int (pos 0)) ∷ lit Null ∷ col 0 4 ∷ lit (Int (pos 0)) ∷ []
 
-pub add_session_is : command_of (understood store_schema add_session) ≡ Insert 2 (Values add_session_terms 9)
+pub add_session_is : (layout : Layout) → command_of (understood (schema_of layout) add_session) ≡ Insert 2 (Values add_session_terms 9)
 unfolding understood everything
-add_session_is = refl
+add_session_is Created = refl
+add_session_is Migrated = refl
 
-pub add_session_plain : IsPlain (understood store_schema add_session)
+pub add_session_plain : (layout : Layout) → IsPlain (understood (schema_of layout) add_session)
 unfolding understood everything
-add_session_plain = (refl, refl)
+add_session_plain Created = (refl, refl)
+add_session_plain Migrated = (refl, refl)
 
 -- ---- registered objects
 
@@ -282,17 +355,20 @@ find_owner = codes "SELECT account FROM object WHERE kind = ?1 AND number = ?2"
 abbrev pub owner_query : Query
 owner_query = simple 5 (equals 1 0 ∷ equals 2 1 ∷ []) (col 1 3 ∷ [])
 
-pub owner_is : command_of (understood store_schema find_owner) ≡ Select (record { lets = []; body = owner_query }) (codes "account" ∷ [])
+pub owner_is : (layout : Layout) → command_of (understood (schema_of layout) find_owner) ≡ Select (record { lets = []; body = owner_query }) (codes "account" ∷ [])
 unfolding understood everything
-owner_is = refl
+owner_is Created = refl
+owner_is Migrated = refl
 
-pub owner_unlisted : reads_listing store_schema find_owner ≡ false
+pub owner_unlisted : (layout : Layout) → reads_listing (schema_of layout) find_owner ≡ false
 unfolding understood everything
-owner_unlisted = refl
+owner_unlisted Created = refl
+owner_unlisted Migrated = refl
 
-pub owner_plain : IsPlain (understood store_schema find_owner)
+pub owner_plain : (layout : Layout) → IsPlain (understood (schema_of layout) find_owner)
 unfolding understood everything
-owner_plain = (refl, refl)
+owner_plain Created = (refl, refl)
+owner_plain Migrated = (refl, refl)
 
 pub owner_asks : asks (first find_owner) ≡ true
 unfolding first everything
@@ -304,33 +380,38 @@ register_object = codes "INSERT INTO object (kind, number, account, body) SELECT
 abbrev pub register_query : Query
 register_query = collated (Binary ∷ Binary ∷ Binary ∷ Binary ∷ Binary ∷ []) 7 (equals 0 0 ∷ op2 (Compare Lt Binary) (col 1 3) (lit (Int (pos 4))) ∷ []) (lit Null ∷ col 1 3 ∷ col 0 1 ∷ col 1 2 ∷ col 1 4 ∷ [])
 
-pub register_is : command_of (understood store_schema register_object) ≡ Insert 4 (source.Query (record { lets = []; body = register_query }))
+pub register_is : (layout : Layout) → command_of (understood (schema_of layout) register_object) ≡ Insert 4 (source.Query (record { lets = []; body = register_query }))
 unfolding understood everything
-register_is = refl
+register_is Created = refl
+register_is Migrated = refl
 
-pub register_plain : IsPlain (understood store_schema register_object)
+pub register_plain : (layout : Layout) → IsPlain (understood (schema_of layout) register_object)
 unfolding understood everything
-register_plain = (refl, refl)
+register_plain Created = (refl, refl)
+register_plain Migrated = (refl, refl)
 
 -- ---- vector sets
 
 abbrev pub find_set : List ℕ
 find_set = codes "SELECT vs, session, cancelled, disposition, epoch FROM vset2 WHERE vs = ?1"
 
-abbrev pub set_query : Query
-set_query = simple 4 (equals 0 0 ∷ []) (col 1 0 ∷ col 1 2 ∷ col 1 4 ∷ col 1 7 ∷ col 1 8 ∷ [])
+abbrev pub set_query : Layout → Query
+set_query layout = simple (set_tree layout) (equals 0 0 ∷ []) (col 1 0 ∷ col 1 2 ∷ col 1 4 ∷ col 1 7 ∷ col 1 8 ∷ [])
 
-pub set_is : command_of (understood store_schema find_set) ≡ Select (record { lets = []; body = set_query }) (codes "vs" ∷ codes "session" ∷ codes "cancelled" ∷ codes "disposition" ∷ codes "epoch" ∷ [])
+pub set_is : (layout : Layout) → command_of (understood (schema_of layout) find_set) ≡ Select (record { lets = []; body = set_query layout }) (codes "vs" ∷ codes "session" ∷ codes "cancelled" ∷ codes "disposition" ∷ codes "epoch" ∷ [])
 unfolding understood everything
-set_is = refl
+set_is Created = refl
+set_is Migrated = refl
 
-pub set_unlisted : reads_listing store_schema find_set ≡ false
+pub set_unlisted : (layout : Layout) → reads_listing (schema_of layout) find_set ≡ false
 unfolding understood everything
-set_unlisted = refl
+set_unlisted Created = refl
+set_unlisted Migrated = refl
 
-pub set_plain : IsPlain (understood store_schema find_set)
+pub set_plain : (layout : Layout) → IsPlain (understood (schema_of layout) find_set)
 unfolding understood everything
-set_plain = (refl, refl)
+set_plain Created = (refl, refl)
+set_plain Migrated = (refl, refl)
 
 pub set_asks : asks (first find_set) ≡ true
 unfolding first everything
@@ -339,17 +420,20 @@ set_asks = refl
 abbrev pub find_capability : List ℕ
 find_capability = codes "SELECT capability FROM vset2 WHERE vs = ?1"
 
-pub capability_is : command_of (understood store_schema find_capability) ≡ Select (record { lets = []; body = simple 4 (equals 0 0 ∷ []) (col 1 3 ∷ []) }) (codes "capability" ∷ [])
+pub capability_is : (layout : Layout) → command_of (understood (schema_of layout) find_capability) ≡ Select (record { lets = []; body = simple (set_tree layout) (equals 0 0 ∷ []) (col 1 3 ∷ []) }) (codes "capability" ∷ [])
 unfolding understood everything
-capability_is = refl
+capability_is Created = refl
+capability_is Migrated = refl
 
-pub capability_unlisted : reads_listing store_schema find_capability ≡ false
+pub capability_unlisted : (layout : Layout) → reads_listing (schema_of layout) find_capability ≡ false
 unfolding understood everything
-capability_unlisted = refl
+capability_unlisted Created = refl
+capability_unlisted Migrated = refl
 
-pub capability_plain : IsPlain (understood store_schema find_capability)
+pub capability_plain : (layout : Layout) → IsPlain (understood (schema_of layout) find_capability)
 unfolding understood everything
-capability_plain = (refl, refl)
+capability_plain Created = (refl, refl)
+capability_plain Migrated = (refl, refl)
 
 pub capability_asks : asks (first find_capability) ≡ true
 unfolding first everything
@@ -358,17 +442,20 @@ capability_asks = refl
 abbrev pub find_verdicts : List ℕ
 find_verdicts = codes "SELECT verdicts FROM vset2 WHERE vs = ?1"
 
-pub verdicts_is : command_of (understood store_schema find_verdicts) ≡ Select (record { lets = []; body = simple 4 (equals 0 0 ∷ []) (col 1 6 ∷ []) }) (codes "verdicts" ∷ [])
+pub verdicts_is : (layout : Layout) → command_of (understood (schema_of layout) find_verdicts) ≡ Select (record { lets = []; body = simple (set_tree layout) (equals 0 0 ∷ []) (col 1 6 ∷ []) }) (codes "verdicts" ∷ [])
 unfolding understood everything
-verdicts_is = refl
+verdicts_is Created = refl
+verdicts_is Migrated = refl
 
-pub verdicts_unlisted : reads_listing store_schema find_verdicts ≡ false
+pub verdicts_unlisted : (layout : Layout) → reads_listing (schema_of layout) find_verdicts ≡ false
 unfolding understood everything
-verdicts_unlisted = refl
+verdicts_unlisted Created = refl
+verdicts_unlisted Migrated = refl
 
-pub verdicts_plain : IsPlain (understood store_schema find_verdicts)
+pub verdicts_plain : (layout : Layout) → IsPlain (understood (schema_of layout) find_verdicts)
 unfolding understood everything
-verdicts_plain = (refl, refl)
+verdicts_plain Created = (refl, refl)
+verdicts_plain Migrated = (refl, refl)
 
 pub verdicts_asks : asks (first find_verdicts) ≡ true
 unfolding first everything
@@ -377,20 +464,23 @@ verdicts_asks = refl
 abbrev pub find_sets : List ℕ
 find_sets = codes "SELECT vs, session, cancelled, disposition, epoch FROM vset2 WHERE vs BETWEEN ?1 AND ?2 AND cancelled = 0 ORDER BY vs"
 
-abbrev pub sets_query : Query
-sets_query = ordered_by 0 4 (op2 (Compare Ge Binary) (col 1 0) (col 0 0) ∷ op2 (Compare Le Binary) (col 1 0) (col 0 1) ∷ op2 (Compare Eq Binary) (col 1 4) (lit (Int (pos 0))) ∷ []) (col 1 0 ∷ col 1 2 ∷ col 1 4 ∷ col 1 7 ∷ col 1 8 ∷ [])
+abbrev pub sets_query : Layout → Query
+sets_query layout = ordered_by 0 (set_tree layout) (op2 (Compare Ge Binary) (col 1 0) (col 0 0) ∷ op2 (Compare Le Binary) (col 1 0) (col 0 1) ∷ op2 (Compare Eq Binary) (col 1 4) (lit (Int (pos 0))) ∷ []) (col 1 0 ∷ col 1 2 ∷ col 1 4 ∷ col 1 7 ∷ col 1 8 ∷ [])
 
-pub sets_is : command_of (understood store_schema find_sets) ≡ Select (record { lets = []; body = sets_query }) (codes "vs" ∷ codes "session" ∷ codes "cancelled" ∷ codes "disposition" ∷ codes "epoch" ∷ [])
+pub sets_is : (layout : Layout) → command_of (understood (schema_of layout) find_sets) ≡ Select (record { lets = []; body = sets_query layout }) (codes "vs" ∷ codes "session" ∷ codes "cancelled" ∷ codes "disposition" ∷ codes "epoch" ∷ [])
 unfolding understood everything
-sets_is = refl
+sets_is Created = refl
+sets_is Migrated = refl
 
-pub sets_unlisted : reads_listing store_schema find_sets ≡ false
+pub sets_unlisted : (layout : Layout) → reads_listing (schema_of layout) find_sets ≡ false
 unfolding understood everything
-sets_unlisted = refl
+sets_unlisted Created = refl
+sets_unlisted Migrated = refl
 
-pub sets_plain : IsPlain (understood store_schema find_sets)
+pub sets_plain : (layout : Layout) → IsPlain (understood (schema_of layout) find_sets)
 unfolding understood everything
-sets_plain = (refl, refl)
+sets_plain Created = (refl, refl)
+sets_plain Migrated = (refl, refl)
 
 pub sets_asks : asks (first find_sets) ≡ true
 unfolding first everything
@@ -399,20 +489,23 @@ sets_asks = refl
 abbrev pub find_epoch : List ℕ
 find_epoch = codes "SELECT MAX(epoch) FROM vset2"
 
-abbrev pub epoch_query : Query
-epoch_query = record (simple 4 [] (col 1 0 ∷ [])) { group = Some (record { keys = []; collations = []; aggregates = record { op = Max; distinct = false; collation = Binary; argument = col 1 8 } ∷ []; having = [] }) }
+abbrev pub epoch_query : Layout → Query
+epoch_query layout = record (simple (set_tree layout) [] (col 1 0 ∷ [])) { group = Some (record { keys = []; collations = []; aggregates = record { op = Max; distinct = false; collation = Binary; argument = col 1 8 } ∷ []; having = [] }) }
 
-pub epoch_is : command_of (understood store_schema find_epoch) ≡ Select (record { lets = []; body = epoch_query }) (codes "MAX(epoch)" ∷ [])
+pub epoch_is : (layout : Layout) → command_of (understood (schema_of layout) find_epoch) ≡ Select (record { lets = []; body = epoch_query layout }) (codes "MAX(epoch)" ∷ [])
 unfolding understood everything
-epoch_is = refl
+epoch_is Created = refl
+epoch_is Migrated = refl
 
-pub epoch_unlisted : reads_listing store_schema find_epoch ≡ false
+pub epoch_unlisted : (layout : Layout) → reads_listing (schema_of layout) find_epoch ≡ false
 unfolding understood everything
-epoch_unlisted = refl
+epoch_unlisted Created = refl
+epoch_unlisted Migrated = refl
 
-pub epoch_plain : IsPlain (understood store_schema find_epoch)
+pub epoch_plain : (layout : Layout) → IsPlain (understood (schema_of layout) find_epoch)
 unfolding understood everything
-epoch_plain = (refl, refl)
+epoch_plain Created = (refl, refl)
+epoch_plain Migrated = (refl, refl)
 
 pub epoch_asks : asks (first find_epoch) ≡ true
 unfolding first everything
@@ -421,30 +514,34 @@ epoch_asks = refl
 abbrev pub cancel_set : List ℕ
 cancel_set = codes "UPDATE vset2 SET cancelled = 1 WHERE vs = ?1"
 
-abbrev pub cancel_set_query : Query
-cancel_set_query = simple 4 (equals 0 0 ∷ []) (col 1 0 ∷ col 1 0 ∷ lit Null ∷ col 1 2 ∷ col 1 3 ∷ lit (Int (pos 1)) ∷ col 1 5 ∷ col 1 6 ∷ col 1 7 ∷ col 1 8 ∷ [])
+abbrev pub cancel_set_query : Layout → Query
+cancel_set_query layout = simple (set_tree layout) (equals 0 0 ∷ []) (col 1 0 ∷ col 1 0 ∷ lit Null ∷ col 1 2 ∷ col 1 3 ∷ lit (Int (pos 1)) ∷ col 1 5 ∷ col 1 6 ∷ col 1 7 ∷ col 1 8 ∷ [])
 
-pub cancel_set_is : command_of (understood store_schema cancel_set) ≡ Update 3 (record { lets = []; body = cancel_set_query })
+pub cancel_set_is : (layout : Layout) → command_of (understood (schema_of layout) cancel_set) ≡ Update (set_place layout) (record { lets = []; body = cancel_set_query layout })
 unfolding understood everything
-cancel_set_is = refl
+cancel_set_is Created = refl
+cancel_set_is Migrated = refl
 
-pub cancel_set_plain : IsPlain (understood store_schema cancel_set)
+pub cancel_set_plain : (layout : Layout) → IsPlain (understood (schema_of layout) cancel_set)
 unfolding understood everything
-cancel_set_plain = (refl, refl)
+cancel_set_plain Created = (refl, refl)
+cancel_set_plain Migrated = (refl, refl)
 
 abbrev pub grade_set : List ℕ
 grade_set = codes "UPDATE vset2 SET answers = ?2, verdicts = ?3, disposition = ?4 WHERE vs = ?1"
 
-abbrev pub grade_query : Query
-grade_query = simple 4 (equals 0 0 ∷ []) (col 1 0 ∷ col 1 0 ∷ lit Null ∷ col 1 2 ∷ col 1 3 ∷ col 1 4 ∷ col 0 1 ∷ col 0 2 ∷ col 0 3 ∷ col 1 8 ∷ [])
+abbrev pub grade_query : Layout → Query
+grade_query layout = simple (set_tree layout) (equals 0 0 ∷ []) (col 1 0 ∷ col 1 0 ∷ lit Null ∷ col 1 2 ∷ col 1 3 ∷ col 1 4 ∷ col 0 1 ∷ col 0 2 ∷ col 0 3 ∷ col 1 8 ∷ [])
 
-pub grade_is : command_of (understood store_schema grade_set) ≡ Update 3 (record { lets = []; body = grade_query })
+pub grade_is : (layout : Layout) → command_of (understood (schema_of layout) grade_set) ≡ Update (set_place layout) (record { lets = []; body = grade_query layout })
 unfolding understood everything
-grade_is = refl
+grade_is Created = refl
+grade_is Migrated = refl
 
-pub grade_plain : IsPlain (understood store_schema grade_set)
+pub grade_plain : (layout : Layout) → IsPlain (understood (schema_of layout) grade_set)
 unfolding understood everything
-grade_plain = (refl, refl)
+grade_plain Created = (refl, refl)
+grade_plain Migrated = (refl, refl)
 
 -- ---- requests
 
@@ -454,13 +551,15 @@ add_request = codes "INSERT INTO request (request, account, kind, body, status, 
 abbrev pub add_request_terms : List Term
 add_request_terms = col 0 0 ∷ lit Null ∷ col 0 1 ∷ col 0 2 ∷ col 0 3 ∷ lit (Int (pos 0)) ∷ lit Null ∷ []
 
-pub add_request_is : command_of (understood store_schema add_request) ≡ Insert 5 (Values add_request_terms 7)
+pub add_request_is : (layout : Layout) → command_of (understood (schema_of layout) add_request) ≡ Insert 5 (Values add_request_terms 7)
 unfolding understood everything
-add_request_is = refl
+add_request_is Created = refl
+add_request_is Migrated = refl
 
-pub add_request_plain : IsPlain (understood store_schema add_request)
+pub add_request_plain : (layout : Layout) → IsPlain (understood (schema_of layout) add_request)
 unfolding understood everything
-add_request_plain = (refl, refl)
+add_request_plain Created = (refl, refl)
+add_request_plain Migrated = (refl, refl)
 
 abbrev pub decide_request : List ℕ
 decide_request = codes "UPDATE request SET status = ?2, approved = ?3 WHERE request = ?1"
@@ -468,13 +567,15 @@ decide_request = codes "UPDATE request SET status = ?2, approved = ?3 WHERE requ
 abbrev pub decide_query : Query
 decide_query = simple 7 (equals 0 0 ∷ []) (col 1 0 ∷ col 1 0 ∷ lit Null ∷ col 1 2 ∷ col 1 3 ∷ col 1 4 ∷ col 0 1 ∷ col 0 2 ∷ [])
 
-pub decide_is : command_of (understood store_schema decide_request) ≡ Update 5 (record { lets = []; body = decide_query })
+pub decide_is : (layout : Layout) → command_of (understood (schema_of layout) decide_request) ≡ Update 5 (record { lets = []; body = decide_query })
 unfolding understood everything
-decide_is = refl
+decide_is Created = refl
+decide_is Migrated = refl
 
-pub decide_plain : IsPlain (understood store_schema decide_request)
+pub decide_plain : (layout : Layout) → IsPlain (understood (schema_of layout) decide_request)
 unfolding understood everything
-decide_plain = (refl, refl)
+decide_plain Created = (refl, refl)
+decide_plain Migrated = (refl, refl)
 
 -- ---- new vector sets
 
@@ -484,33 +585,38 @@ add_set = codes "INSERT INTO vset2 (vs, session, capability, cancelled, answers,
 abbrev pub add_set_terms : List Term
 add_set_terms = col 0 0 ∷ lit Null ∷ col 0 1 ∷ col 0 2 ∷ lit (Int (pos 0)) ∷ lit Null ∷ lit Null ∷ lit Null ∷ col 0 3 ∷ []
 
-pub add_set_is : command_of (understood store_schema add_set) ≡ Insert 3 (Values add_set_terms 9)
+pub add_set_is : (layout : Layout) → command_of (understood (schema_of layout) add_set) ≡ Insert (set_place layout) (Values add_set_terms 9)
 unfolding understood everything
-add_set_is = refl
+add_set_is Created = refl
+add_set_is Migrated = refl
 
-pub add_set_plain : IsPlain (understood store_schema add_set)
+pub add_set_plain : (layout : Layout) → IsPlain (understood (schema_of layout) add_set)
 unfolding understood everything
-add_set_plain = (refl, refl)
+add_set_plain Created = (refl, refl)
+add_set_plain Migrated = (refl, refl)
 
 -- ---- reviewers
 
 abbrev pub find_reviewer : List ℕ
 find_reviewer = codes "SELECT account FROM reviewer WHERE session = ?1 AND account = ?2"
 
-abbrev pub reviewer_query : Query
-reviewer_query = simple 8 (equals 1 0 ∷ equals 2 1 ∷ []) (col 1 2 ∷ [])
+abbrev pub reviewer_query : Layout → Query
+reviewer_query layout = simple (reviewer_tree layout) (equals 1 0 ∷ equals 2 1 ∷ []) (col 1 2 ∷ [])
 
-pub reviewer_is : command_of (understood store_schema find_reviewer) ≡ Select (record { lets = []; body = reviewer_query }) (codes "account" ∷ [])
+pub reviewer_is : (layout : Layout) → command_of (understood (schema_of layout) find_reviewer) ≡ Select (record { lets = []; body = reviewer_query layout }) (codes "account" ∷ [])
 unfolding understood everything
-reviewer_is = refl
+reviewer_is Created = refl
+reviewer_is Migrated = refl
 
-pub reviewer_unlisted : reads_listing store_schema find_reviewer ≡ false
+pub reviewer_unlisted : (layout : Layout) → reads_listing (schema_of layout) find_reviewer ≡ false
 unfolding understood everything
-reviewer_unlisted = refl
+reviewer_unlisted Created = refl
+reviewer_unlisted Migrated = refl
 
-pub reviewer_plain : IsPlain (understood store_schema find_reviewer)
+pub reviewer_plain : (layout : Layout) → IsPlain (understood (schema_of layout) find_reviewer)
 unfolding understood everything
-reviewer_plain = (refl, refl)
+reviewer_plain Created = (refl, refl)
+reviewer_plain Migrated = (refl, refl)
 
 pub reviewer_asks : asks (first find_reviewer) ≡ true
 unfolding first everything
@@ -519,20 +625,23 @@ reviewer_asks = refl
 abbrev pub find_reviewers : List ℕ
 find_reviewers = codes "SELECT account FROM reviewer WHERE session = ?1 ORDER BY account"
 
-abbrev pub reviewers_query : Query
-reviewers_query = ordered_by 2 8 (equals 1 0 ∷ []) (col 1 2 ∷ [])
+abbrev pub reviewers_query : Layout → Query
+reviewers_query layout = ordered_by 2 (reviewer_tree layout) (equals 1 0 ∷ []) (col 1 2 ∷ [])
 
-pub reviewers_is : command_of (understood store_schema find_reviewers) ≡ Select (record { lets = []; body = reviewers_query }) (codes "account" ∷ [])
+pub reviewers_is : (layout : Layout) → command_of (understood (schema_of layout) find_reviewers) ≡ Select (record { lets = []; body = reviewers_query layout }) (codes "account" ∷ [])
 unfolding understood everything
-reviewers_is = refl
+reviewers_is Created = refl
+reviewers_is Migrated = refl
 
-pub reviewers_unlisted : reads_listing store_schema find_reviewers ≡ false
+pub reviewers_unlisted : (layout : Layout) → reads_listing (schema_of layout) find_reviewers ≡ false
 unfolding understood everything
-reviewers_unlisted = refl
+reviewers_unlisted Created = refl
+reviewers_unlisted Migrated = refl
 
-pub reviewers_plain : IsPlain (understood store_schema find_reviewers)
+pub reviewers_plain : (layout : Layout) → IsPlain (understood (schema_of layout) find_reviewers)
 unfolding understood everything
-reviewers_plain = (refl, refl)
+reviewers_plain Created = (refl, refl)
+reviewers_plain Migrated = (refl, refl)
 
 pub reviewers_asks : asks (first find_reviewers) ≡ true
 unfolding first everything
@@ -544,24 +653,28 @@ add_reviewer = codes "INSERT INTO reviewer (session, account) VALUES (?1, ?2)"
 abbrev pub add_reviewer_terms : List Term
 add_reviewer_terms = lit Null ∷ col 0 0 ∷ col 0 1 ∷ []
 
-pub add_reviewer_is : command_of (understood store_schema add_reviewer) ≡ Insert 6 (Values add_reviewer_terms 3)
+pub add_reviewer_is : (layout : Layout) → command_of (understood (schema_of layout) add_reviewer) ≡ Insert (reviewer_place layout) (Values add_reviewer_terms 3)
 unfolding understood everything
-add_reviewer_is = refl
+add_reviewer_is Created = refl
+add_reviewer_is Migrated = refl
 
-pub add_reviewer_plain : IsPlain (understood store_schema add_reviewer)
+pub add_reviewer_plain : (layout : Layout) → IsPlain (understood (schema_of layout) add_reviewer)
 unfolding understood everything
-add_reviewer_plain = (refl, refl)
+add_reviewer_plain Created = (refl, refl)
+add_reviewer_plain Migrated = (refl, refl)
 
 abbrev pub remove_reviewer : List ℕ
 remove_reviewer = codes "DELETE FROM reviewer WHERE session = ?1 AND account = ?2"
 
-abbrev pub remove_query : Query
-remove_query = simple 8 (equals 1 0 ∷ equals 2 1 ∷ []) (col 1 0 ∷ [])
+abbrev pub remove_query : Layout → Query
+remove_query layout = simple (reviewer_tree layout) (equals 1 0 ∷ equals 2 1 ∷ []) (col 1 0 ∷ [])
 
-pub remove_reviewer_is : command_of (understood store_schema remove_reviewer) ≡ Delete 6 (record { lets = []; body = remove_query })
+pub remove_reviewer_is : (layout : Layout) → command_of (understood (schema_of layout) remove_reviewer) ≡ Delete (reviewer_place layout) (record { lets = []; body = remove_query layout })
 unfolding understood everything
-remove_reviewer_is = refl
+remove_reviewer_is Created = refl
+remove_reviewer_is Migrated = refl
 
-pub remove_reviewer_plain : IsPlain (understood store_schema remove_reviewer)
+pub remove_reviewer_plain : (layout : Layout) → IsPlain (understood (schema_of layout) remove_reviewer)
 unfolding understood everything
-remove_reviewer_plain = (refl, refl)
+remove_reviewer_plain Created = (refl, refl)
+remove_reviewer_plain Migrated = (refl, refl)

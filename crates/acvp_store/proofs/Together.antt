@@ -14,7 +14,8 @@ use Rattle.sqlite.proofs.StateLemmas.{survives_then}
 use Rattle.sqlite.proofs.Callers.{command_of, statement_of, runs_as}
 use Rattle.sqlite_schema.specs.declared.command.Command.{Command}
 use Rattle.sqlite_schema.specs.declared.schema.Schema.{Schema}
-use Rattle.acvp_store.specs.Connection.{IsReady, Stays, IsWritten, Kept, IsInside, Under, Both}
+use Rattle.acvp_store.specs.Schema.{Layout, Created, schema_of}
+use Rattle.acvp_store.specs.Connection.{IsReady, Stays, IsWritten, Kept, IsInside, Under, UnderStore, Both}
 use Rattle.acvp_store.proofs.Reading.{clean_before}
 
 inside_kept : (sql : List ℕ) (params : Row) (old new : State) (r : Result ℕ Error) → ExecutesInside 0 sql params old new r → Kept old new
@@ -55,6 +56,15 @@ module _ (schema : Schema) (sql : List ℕ) (params : Row) (old new : State) (cl
           → OnOk r (IsTrue old.is_open → IsTrue old.in_transaction → HasCleanDisk new → IsTrue new.is_open × IsTrue new.in_transaction × Under schema Effect old.now new.now)
       ok (Ok count) runs = did count runs
       ok (Err e) runs = tt
+
+-- whichever way the store's tables lie
+pub inside_store : {X E : Type 0} (r : Result X E) (old new : State) (Change : Layout → Database → Database → Type 0) → ((layout : Layout) → IsInside r old new (Under (schema_of layout) (Change layout))) → IsInside r old new (UnderStore Change)
+inside_store (Ok x) old new Change h = record {
+  kept = (h Created).kept;
+  ok = λ live on clean. let it = (h Created).ok live on clean in (it.0, it.1, λ layout. ((h layout).ok live on clean).2);
+  survives = (h Created).survives;
+}
+inside_store (Err e) old new Change h = record { kept = (h Created).kept; ok = tt; survives = (h Created).survives }
 
 -- the same of another answer, where that is Ok only if the first is
 pub inside_as : {X Y E F : Type 0} (r : Result X E) (q : Result Y F) (old new : State) (Change : Database → Database → Type 0) → (IsOk q → IsOk r) → IsInside r old new Change → IsInside q old new Change

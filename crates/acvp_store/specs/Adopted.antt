@@ -1,5 +1,5 @@
 -- When a database is a store's, and what taking it over leaves.
-use Rattle.std.specs.Prelude.{◌≡◌, Bool, true, ◌&&◌, IsTrue, codes}
+use Rattle.std.specs.Prelude.{◌≡◌, ⊤, [], Bool, true, ◌&&◌, IsTrue, codes}
 use Rattle.std.specs.List.{list_any}
 use Rattle.std.specs.Ordering.{is_eq}
 use Rattle.sqlite.specs.Effect.{Database}
@@ -9,7 +9,7 @@ use Rattle.sqlite_value.specs.declared.value.Value.{Value}
 use Rattle.sqlite_value.specs.declared.value.Value.TheVariants.{Text}
 use Rattle.sqlite_value.specs.Order.{Row, column, value_cmp}
 use Rattle.acvp_store.specs.Values.{whole}
-use Rattle.acvp_store.specs.Schema.{store_schema}
+use Rattle.acvp_store.specs.Schema.{Layout, Created, Migrated, schema_of}
 
 -- the equality of SQL
 abbrev pub is_equal : Value → Value → Bool
@@ -22,10 +22,17 @@ is_version_row row = is_equal (column row 1) (Text (codes "schema")) && is_equal
 abbrev pub HasVersion : Trees → Type 0
 HasVersion trees = list_any is_version_row (trees 0) ≡ true
 
--- the tables are the store's, and `meta` says so
+-- the table of sets of an earlier schema has no row, where it is there
+abbrev pub HasNoOldSets : Layout → Trees → Type 0
+HasNoOldSets Created trees = ⊤
+HasNoOldSets Migrated trees = trees 4 ≡ []
+
+-- the tables are the store's, `meta` says so, and nothing is left in an earlier table of sets
 pub record IsOurs (db : Database) : Type 0 where
-  pub schema : db.schema ≡ store_schema
+  pub layout : Layout
+  pub schema : db.schema ≡ schema_of layout
   pub version : HasVersion db.trees
+  pub no_old_sets : HasNoOldSets layout db.trees
 
 -- it was a store's, and every row is as it was
 pub record IsAdopted (old new : State) : Type 0 where

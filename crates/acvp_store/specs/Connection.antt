@@ -4,7 +4,7 @@ use Rattle.sqlite.specs.Effect.{Database}
 use Rattle.sqlite.specs.State.{State, HasCleanDisk, Survives}
 use Rattle.sqlite_schema.specs.declared.schema.Schema.{Schema}
 use Rattle.sqlite_trees.specs.Tree.{Trees}
-use Rattle.acvp_store.specs.Schema.{store_schema}
+use Rattle.acvp_store.specs.Schema.{Layout, schema_of, IsStoreSchema}
 
 -- nothing waits to be committed
 pub record IsSettled (s : State) : Type 0 where
@@ -18,7 +18,7 @@ IsReady s = IsTrue s.is_open → IsSettled s
 -- a connection to the store's tables that is settled
 pub record IsStore (s : State) : Type 0 where
   pub ready : IsSettled s
-  pub schema : s.now.schema ≡ store_schema
+  pub schema : IsStoreSchema s.now.schema
 
 -- an open connection is to the store's tables
 abbrev pub ServesStore : State → Type 0
@@ -78,6 +78,14 @@ pub record IsInside {X E : Type 0} (result : Result X E) (old new : State) (Chan
 -- what a change makes of a database with this schema
 abbrev pub Under : Schema → (Database → Database → Type 0) → Database → Database → Type 0
 Under schema Change old new = old.schema ≡ schema → Change old new
+
+-- what is so of a database with the store's tables, whichever way they lie
+abbrev pub InStore : Database → (Layout → Type 0) → Type 0
+InStore db P = (layout : Layout) → db.schema ≡ schema_of layout → P layout
+
+-- what a change makes of such a database
+abbrev pub UnderStore : (Layout → Database → Database → Type 0) → Database → Database → Type 0
+UnderStore Change old new = InStore old (λ layout. Change layout old new)
 
 -- one change, and then another
 abbrev pub Both : (Database → Database → Type 0) → (Database → Database → Type 0) → Database → Database → Type 0

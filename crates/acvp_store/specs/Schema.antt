@@ -1,5 +1,5 @@
 -- The tables of the store, and the schema that they make.
-use Rattle.std.specs.Prelude.{true, false, Bool, [], ◌∷◌, Some, None, codes, List, ℕ}
+use Rattle.std.specs.Prelude.{◌≡◌, true, false, Bool, [], ◌∷◌, Some, None, codes, List, ℕ}
 use Rattle.sqlite.specs.Collation.TheVariants.{Binary}
 use Rattle.sqlite.specs.declared.types.Value.TheVariants.{Null}
 use Rattle.sqlite.specs.Table.{Table}
@@ -85,6 +85,14 @@ set_table tree = table_by_number (codes "vset2") tree
     ∷ column_of (codes "disposition") Integer false ∷ column_of (codes "epoch") Integer true ∷ [])
     (refers 2 (codes "session") ∷ [])
 
+-- the table of sets before schema 2
+abbrev pub old_set_table : ℕ → Table
+old_set_table tree = table_by_number (codes "vset") tree
+    (column_of (codes "vs") Integer false ∷ column_of (codes "session") Integer true ∷ column_of (codes "capability") Text true
+    ∷ column_of (codes "cancelled") Integer true ∷ column_of (codes "answers") Text false ∷ column_of (codes "verdicts") Text false
+    ∷ column_of (codes "disposition") Integer false ∷ [])
+    (refers 2 (codes "session") ∷ [])
+
 abbrev pub object_table : ℕ → Table
 object_table tree = table_by_columns (codes "object") tree (1 ∷ 2 ∷ [])
     (column_of (codes "kind") Integer true ∷ column_of (codes "number") Integer true ∷ column_of (codes "account") Integer true
@@ -107,12 +115,36 @@ reviewer_table tree = table_by_columns (codes "reviewer") tree (1 ∷ 2 ∷ [])
 abbrev pub no_schema : Schema
 no_schema = record { tables = []; indexes = []; views = [] }
 
--- the seven tables of schema 3, and the indexes that their keys make
-abbrev pub store_schema : Schema
-store_schema = record {
-  tables = meta_table 0 ∷ account_table 2 ∷ session_table 3 ∷ set_table 4 ∷ object_table 5 ∷ request_table 7 ∷ reviewer_table 8 ∷ [];
+-- The tables of schema 3 lie in one of two ways: as they are made in a new database, or as they are where those of an
+-- earlier schema were there first. The second have the earlier table of sets, `vset`, among them.
+pub data Layout : Type 0 where
+  Created : Layout
+  Migrated : Layout
+
+-- the table after the first three, in the tree 4
+abbrev pub fourth_table : Layout → Table
+fourth_table Created = set_table 4
+fourth_table Migrated = old_set_table 4
+
+-- the tables after the first six
+abbrev pub last_tables : Layout → List Table
+last_tables Created = reviewer_table 8 ∷ []
+last_tables Migrated = set_table 8 ∷ reviewer_table 9 ∷ []
+
+abbrev pub reviewer_index : Layout → Index
+reviewer_index Created = index_by_columns (codes "sqlite_autoindex_reviewer_1") 9 8 (1 ∷ 2 ∷ [])
+reviewer_index Migrated = index_by_columns (codes "sqlite_autoindex_reviewer_1") 10 9 (1 ∷ 2 ∷ [])
+
+-- the tables of schema 3, and the indexes that their keys make
+abbrev pub schema_of : Layout → Schema
+schema_of layout = record {
+  tables = meta_table 0 ∷ account_table 2 ∷ session_table 3 ∷ fourth_table layout ∷ object_table 5 ∷ request_table 7 ∷ last_tables layout;
   indexes = index_by_columns (codes "sqlite_autoindex_meta_1") 1 0 (1 ∷ [])
       ∷ index_by_columns (codes "sqlite_autoindex_object_1") 6 5 (1 ∷ 2 ∷ [])
-      ∷ index_by_columns (codes "sqlite_autoindex_reviewer_1") 9 8 (1 ∷ 2 ∷ []) ∷ [];
+      ∷ reviewer_index layout ∷ [];
   views = [];
 }
+
+-- the tables of schema 3, in one of the two ways
+abbrev pub IsStoreSchema : Schema → Type 0
+IsStoreSchema schema = (layout : Layout) × (schema ≡ schema_of layout)

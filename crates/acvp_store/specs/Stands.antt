@@ -31,6 +31,7 @@ use Rattle.acvp_tables.specs.declared.rows.Certification.{Certification}
 use Rattle.acvp_tables.specs.declared.rows.ReviewerRow.{ReviewerRow}
 use Rattle.acvp_store.specs.Values.{whole, flag}
 use Rattle.acvp_store.specs.Kept.{IsKept}
+use Rattle.acvp_store.specs.Schema.{Layout, Created, Migrated}
 use Rattle.acvp_store.specs.Rows.{account_tree, HoldsAccounts, session_tree, HoldsSessions}
 
 -- ---- the version
@@ -51,8 +52,9 @@ pub record SetColumns : Type 0 where
   pub disposition : Option ℕ
   pub epoch : ℕ
 
-abbrev pub set_tree : ℕ
-set_tree = 4
+abbrev pub set_tree : Layout → ℕ
+set_tree Created = 4
+set_tree Migrated = 8
 
 abbrev pub set_key : SetColumns → ℕ
 set_key c = c.number
@@ -122,8 +124,9 @@ IsKeepable o = (o.number < 2 ^ 63) × (body_json (object_text o.object) ≡ Some
 abbrev pub FitColumns : List ObjectRow → Type 0
 FitColumns objects = AllByRecursion IsKeepable objects
 
-abbrev pub reviewer_tree : ℕ
-reviewer_tree = 8
+abbrev pub reviewer_tree : Layout → ℕ
+reviewer_tree Created = 8
+reviewer_tree Migrated = 9
 
 abbrev pub reviewer_columns : ReviewerRow → Row
 reviewer_columns r = whole r.session ∷ whole r.account ∷ []
@@ -174,12 +177,12 @@ pub record HoldsRequests (rows : List Row) (requests : List RequestRow) : Type 0
 
 -- ---- the whole
 
-pub record Stands (trees : Trees) (c : Content) : Type 0 where
+pub record Stands (layout : Layout) (trees : Trees) (c : Content) : Type 0 where
   pub version : trees 0 ≡ version_row 3 ∷ []
   pub accounts : HoldsAccounts (trees account_tree) c.accounts
   pub sessions : HoldsSessions (trees session_tree) c.sessions
-  pub sets : HoldsSets (trees set_tree) c.sets
+  pub sets : HoldsSets (trees (set_tree layout)) c.sets
   pub objects : HoldsObjects (trees object_tree) c.objects
   pub object_numbers : FitColumns c.objects
   pub requests : HoldsRequests (trees request_tree) c.requests
-  pub reviewers : HoldsReviewers (trees reviewer_tree) c.reviewers
+  pub reviewers : HoldsReviewers (trees (reviewer_tree layout)) c.reviewers

@@ -5,9 +5,8 @@ ghost use Rattle.acvp_tables.specs.Content.{account_at};
 ghost use Rattle.acvp_tables.specs.Changes.{changed, is_account, with_step, disabled, new_account};
 ghost use Rattle.acvp_tables.specs.declared.rows.AccountRow.{AccountRow as Account};
 ghost use Rattle.acvp_store.specs.Alters.{Alters};
-ghost use Rattle.acvp_store.specs.Connection.{ServesStore, IsRead, IsInside, Under};
+ghost use Rattle.acvp_store.specs.Connection.{ServesStore, IsRead, IsInside, UnderStore};
 ghost use Rattle.acvp_store.specs.Rows.{account_tree, HoldsAccounts, account_shown};
-ghost use Rattle.acvp_store.specs.Schema.{store_schema};
 
 use crate::fault::done;
 use crate::shown::{Shown, account_number, answered, field, fitting, truth};
@@ -56,11 +55,10 @@ impl Work for NewAccount {
     ghost use Rattle.std.specs.Prelude.{◌++◌, ◌∷◌, []};
     ghost use Rattle.acvp_tables.specs.Changes.{new_account};
     ghost use Rattle.acvp_store.specs.Alters.{Alters};
-    ghost use Rattle.acvp_store.specs.Connection.{Under};
+    ghost use Rattle.acvp_store.specs.Connection.{UnderStore};
     ghost use Rattle.acvp_store.specs.Rows.{account_tree, HoldsAccounts};
-    ghost use Rattle.acvp_store.specs.Schema.{store_schema};
 
-    ghost change = { λ a. Under store_schema (Alters account_tree HoldsAccounts (λ accounts. accounts ++ new_account a ∷ [])) };
+    ghost change = { λ a. UnderStore (λ layout. Alters layout account_tree HoldsAccounts (λ accounts. accounts ++ new_account a ∷ [])) };
 
     fn run<S: Alter>(&self, tx: &mut Transaction<'_, S>) -> Result<(), StoreFault> {
         done(tx.execute(
@@ -73,11 +71,10 @@ impl Work for NewAccount {
 impl Work for UsedStep {
     ghost use Rattle.acvp_tables.specs.Changes.{changed, is_account, with_step};
     ghost use Rattle.acvp_store.specs.Alters.{Alters};
-    ghost use Rattle.acvp_store.specs.Connection.{Under};
+    ghost use Rattle.acvp_store.specs.Connection.{UnderStore};
     ghost use Rattle.acvp_store.specs.Rows.{account_tree, HoldsAccounts};
-    ghost use Rattle.acvp_store.specs.Schema.{store_schema};
 
-    ghost change = { λ u. Under store_schema (Alters account_tree HoldsAccounts (changed (is_account u.account) (with_step u.step))) };
+    ghost change = { λ u. UnderStore (λ layout. Alters layout account_tree HoldsAccounts (changed (is_account u.account) (with_step u.step))) };
 
     fn run<S: Alter>(&self, tx: &mut Transaction<'_, S>) -> Result<(), StoreFault> {
         let step = fitting(self.step)?;
@@ -97,11 +94,10 @@ pub(crate) struct DisabledAccount {
 impl Work for DisabledAccount {
     ghost use Rattle.acvp_tables.specs.Changes.{changed, is_account, disabled};
     ghost use Rattle.acvp_store.specs.Alters.{Alters};
-    ghost use Rattle.acvp_store.specs.Connection.{Under};
+    ghost use Rattle.acvp_store.specs.Connection.{UnderStore};
     ghost use Rattle.acvp_store.specs.Rows.{account_tree, HoldsAccounts};
-    ghost use Rattle.acvp_store.specs.Schema.{store_schema};
 
-    ghost change = { λ d. Under store_schema (Alters account_tree HoldsAccounts (changed (is_account d.account) disabled)) };
+    ghost change = { λ d. UnderStore (λ layout. Alters layout account_tree HoldsAccounts (changed (is_account d.account) disabled)) };
 
     fn run<S: Alter>(&self, tx: &mut Transaction<'_, S>) -> Result<(), StoreFault> {
         done(tx.execute(

@@ -2,9 +2,13 @@
 #![tactic(auto)]
 
 mod accounts;
+#[cfg(test)]
+mod cases;
 mod counts;
 mod fault;
 mod objects;
+#[cfg(test)]
+mod over_both_forms;
 mod pages;
 mod requests;
 mod reviewers;

@@ -6,8 +6,7 @@ ghost use Rattle.acvp_registry.specs.Object.{KeptObject, object_text};
 ghost use Rattle.acvp_tables.specs.Content.{Content, kind_number, object_at, objects_of, page};
 ghost use Rattle.acvp_tables.specs.State.{IsSound};
 ghost use Rattle.acvp_tables.specs.declared.rows.ObjectRow.{ObjectRow as Registration};
-ghost use Rattle.acvp_store.specs.Connection.{ServesStore, IsRead, IsInside, Under};
-ghost use Rattle.acvp_store.specs.Schema.{store_schema};
+ghost use Rattle.acvp_store.specs.Connection.{ServesStore, IsRead, IsInside, UnderStore};
 ghost use Rattle.acvp_store.specs.Private.Objects.{Registers};
 ghost use Rattle.acvp_store.specs.Stands.{HoldsObjects, FitColumns, object_tree};
 
@@ -155,11 +154,10 @@ pub(crate) struct Registered {
 }
 
 impl Work for Registered {
-    ghost use Rattle.acvp_store.specs.Connection.{Under};
-    ghost use Rattle.acvp_store.specs.Schema.{store_schema};
+    ghost use Rattle.acvp_store.specs.Connection.{UnderStore};
     ghost use Rattle.acvp_store.specs.Private.Objects.{Registers};
 
-    ghost change = { λ r. Under store_schema (Registers r.request r.number) };
+    ghost change = { λ r. UnderStore (λ layout. Registers layout r.request r.number) };
 
     fn run<S: Alter>(&self, tx: &mut Transaction<'_, S>) -> Result<(), StoreFault> {
         let request = fitting(self.request)?;

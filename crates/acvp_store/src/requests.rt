@@ -6,8 +6,7 @@ ghost use Rattle.acvp_tables.specs.Changes.{changed, is_request, with_status, ne
 ghost use Rattle.acvp_tables.specs.declared.rows.RequestBody.TheVariants as body;
 ghost use Rattle.acvp_tables.specs.declared.rows.RequestRow.{RequestRow as Request};
 ghost use Rattle.acvp_store.specs.Alters.{Alters};
-ghost use Rattle.acvp_store.specs.Connection.{ServesStore, IsRead, IsInside, Under};
-ghost use Rattle.acvp_store.specs.Schema.{store_schema};
+ghost use Rattle.acvp_store.specs.Connection.{ServesStore, IsRead, IsInside, UnderStore};
 ghost use Rattle.acvp_store.specs.Stands.{request_tree, HoldsRequests, BodyReads, certification_data, body_text, status_number};
 ghost use Rattle.acvp_registry.specs.Url.{url_of};
 ghost use Rattle.acvp_tables.specs.Content.{Content, page, request_at, requests_of, request_summary};
@@ -36,7 +35,7 @@ fn insert_request<S: Alter>(
     body: &str,
 ) -> Result<(), StoreFault>
     ensures same_reference { tx.new.conn.ghost_name ≡ tx.old.conn.ghost_name }
-    ensures inside { (row : Request) → IsAsked row number account kind body.now → IsInside result (state S.Store tx.old.conn.now) (state S.Store tx.new.conn.now) (Under store_schema (Alters request_tree HoldsRequests (λ rows. rows ++ row ∷ []))) }
+    ensures inside { (row : Request) → IsAsked row number account kind body.now → IsInside result (state S.Store tx.old.conn.now) (state S.Store tx.new.conn.now) (UnderStore (λ layout. Alters layout request_tree HoldsRequests (λ rows. rows ++ row ∷ []))) }
 {
     let number = fitting(number)?;
     done(tx.execute(
@@ -49,11 +48,10 @@ impl Work for NewRequest {
     ghost use Rattle.std.specs.Prelude.{◌++◌, ◌∷◌, []};
     ghost use Rattle.acvp_tables.specs.Changes.{new_request};
     ghost use Rattle.acvp_store.specs.Alters.{Alters};
-    ghost use Rattle.acvp_store.specs.Connection.{Under};
-    ghost use Rattle.acvp_store.specs.Schema.{store_schema};
+    ghost use Rattle.acvp_store.specs.Connection.{UnderStore};
     ghost use Rattle.acvp_store.specs.Stands.{request_tree, HoldsRequests};
 
-    ghost change = { λ r. Under store_schema (Alters request_tree HoldsRequests (λ rows. rows ++ new_request r ∷ [])) };
+    ghost change = { λ r. UnderStore (λ layout. Alters layout request_tree HoldsRequests (λ rows. rows ++ new_request r ∷ [])) };
 
     fn run<S: Alter>(&self, tx: &mut Transaction<'_, S>) -> Result<(), StoreFault> {
         insert_request(
@@ -105,11 +103,10 @@ impl Work for CertificationAsked {
     ghost use Rattle.std.specs.Prelude.{◌++◌, ◌∷◌, []};
     ghost use Rattle.acvp_tables.specs.Changes.{new_certification};
     ghost use Rattle.acvp_store.specs.Alters.{Alters};
-    ghost use Rattle.acvp_store.specs.Connection.{Under};
-    ghost use Rattle.acvp_store.specs.Schema.{store_schema};
+    ghost use Rattle.acvp_store.specs.Connection.{UnderStore};
     ghost use Rattle.acvp_store.specs.Stands.{request_tree, HoldsRequests};
 
-    ghost change = { λ c. Under store_schema (Alters request_tree HoldsRequests (λ rows. rows ++ new_certification c.request ∷ [])) };
+    ghost change = { λ c. UnderStore (λ layout. Alters layout request_tree HoldsRequests (λ rows. rows ++ new_certification c.request ∷ [])) };
 
     fn run<S: Alter>(&self, tx: &mut Transaction<'_, S>) -> Result<(), StoreFault> {
         let body = certification_text(self.alloc, self.request.certification)?;
@@ -154,11 +151,10 @@ fn given(status: RequestStatus) -> Result<Option<i64>, StoreFault>
 impl Work for DecidedRequest {
     ghost use Rattle.acvp_tables.specs.Changes.{changed, is_request, with_status};
     ghost use Rattle.acvp_store.specs.Alters.{Alters};
-    ghost use Rattle.acvp_store.specs.Connection.{Under};
-    ghost use Rattle.acvp_store.specs.Schema.{store_schema};
+    ghost use Rattle.acvp_store.specs.Connection.{UnderStore};
     ghost use Rattle.acvp_store.specs.Stands.{request_tree, HoldsRequests};
 
-    ghost change = { λ r. Under store_schema (Alters request_tree HoldsRequests (changed (is_request r.number) (with_status r.status))) };
+    ghost change = { λ r. UnderStore (λ layout. Alters layout request_tree HoldsRequests (changed (is_request r.number) (with_status r.status))) };
 
     fn run<S: Alter>(&self, tx: &mut Transaction<'_, S>) -> Result<(), StoreFault> {
         let number = fitting(self.number)?;

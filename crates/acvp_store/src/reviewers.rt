@@ -6,8 +6,7 @@ ghost use Rattle.acvp_tables.specs.State.{IsSound};
 ghost use Rattle.acvp_tables.specs.Changes.{is_pair, with_reviewer};
 ghost use Rattle.acvp_tables.specs.declared.rows.ReviewerRow.{ReviewerRow as Reviewer};
 ghost use Rattle.acvp_store.specs.Alters.{Alters};
-ghost use Rattle.acvp_store.specs.Connection.{ServesStore, IsRead, IsInside, Under};
-ghost use Rattle.acvp_store.specs.Schema.{store_schema};
+ghost use Rattle.acvp_store.specs.Connection.{ServesStore, InStore, IsRead, IsInside, UnderStore};
 ghost use Rattle.acvp_store.specs.Stands.{reviewer_tree, HoldsReviewers};
 
 use crate::fault::{done, fault_of};
@@ -36,7 +35,7 @@ pub(crate) fn find_reviewer<S: Alter>(
     account: u16,
 ) -> Result<bool, StoreFault>
     requires { ServesStore (state S.Store conn.old) }
-    ensures found { IsTrue (state S.Store conn.new).is_open → IfOk result (λ found. (reviewers : List Reviewer) → HoldsReviewers ((state S.Store conn.old).now.trees reviewer_tree) reviewers → found ≡ is_reviewer session account reviewers) }
+    ensures found { IsTrue (state S.Store conn.new).is_open → IfOk result (λ found. InStore (state S.Store conn.old).now (λ layout. (reviewers : List Reviewer) → HoldsReviewers ((state S.Store conn.old).now.trees (reviewer_tree layout)) reviewers → found ≡ is_reviewer session account reviewers)) }
     ensures read { IsRead result (state S.Store conn.old) (state S.Store conn.new) }
 {
     let kept = fitting(session)?;
@@ -53,7 +52,7 @@ pub(crate) fn find_reviewers<S: Alter>(
     session: u64,
 ) -> Result<Vec<u16>, StoreFault>
     requires { ServesStore (state S.Store conn.old) }
-    ensures found { IsTrue (state S.Store conn.new).is_open → IfOk result (λ found. (c : Content) → IsSound c → HoldsReviewers ((state S.Store conn.old).now.trees reviewer_tree) c.reviewers → found.items ≡ reviewers_of session c.reviewers) }
+    ensures found { IsTrue (state S.Store conn.new).is_open → IfOk result (λ found. InStore (state S.Store conn.old).now (λ layout. (c : Content) → IsSound c → HoldsReviewers ((state S.Store conn.old).now.trees (reviewer_tree layout)) c.reviewers → found.items ≡ reviewers_of session c.reviewers)) }
     ensures read { IsRead result (state S.Store conn.old) (state S.Store conn.new) }
 {
     let kept = fitting(session)?;
@@ -75,11 +74,10 @@ pub(crate) struct ReviewerAdded {
 impl Work for ReviewerAdded {
     ghost use Rattle.acvp_tables.specs.Changes.{with_reviewer};
     ghost use Rattle.acvp_store.specs.Alters.{Alters};
-    ghost use Rattle.acvp_store.specs.Connection.{Under};
-    ghost use Rattle.acvp_store.specs.Schema.{store_schema};
+    ghost use Rattle.acvp_store.specs.Connection.{UnderStore};
     ghost use Rattle.acvp_store.specs.Stands.{reviewer_tree, HoldsReviewers};
 
-    ghost change = { λ r. Under store_schema (Alters reviewer_tree HoldsReviewers (with_reviewer r.reviewer)) };
+    ghost change = { λ r. UnderStore (λ layout. Alters layout (reviewer_tree layout) HoldsReviewers (with_reviewer r.reviewer)) };
 
     fn run<S: Alter>(&self, tx: &mut Transaction<'_, S>) -> Result<(), StoreFault> {
         let session = fitting(self.reviewer.session)?;
@@ -100,11 +98,10 @@ impl Work for ReviewerRemoved {
     ghost use Rattle.std.specs.Prelude.{not, filter};
     ghost use Rattle.acvp_tables.specs.Changes.{is_pair};
     ghost use Rattle.acvp_store.specs.Alters.{Alters};
-    ghost use Rattle.acvp_store.specs.Connection.{Under};
-    ghost use Rattle.acvp_store.specs.Schema.{store_schema};
+    ghost use Rattle.acvp_store.specs.Connection.{UnderStore};
     ghost use Rattle.acvp_store.specs.Stands.{reviewer_tree, HoldsReviewers};
 
-    ghost change = { λ r. Under store_schema (Alters reviewer_tree HoldsReviewers (filter (λ row. not (is_pair r.reviewer row)))) };
+    ghost change = { λ r. UnderStore (λ layout. Alters layout (reviewer_tree layout) HoldsReviewers (filter (λ row. not (is_pair r.reviewer row)))) };
 
     fn run<S: Alter>(&self, tx: &mut Transaction<'_, S>) -> Result<(), StoreFault> {
         let session = fitting(self.reviewer.session)?;

@@ -6,9 +6,8 @@ ghost use Rattle.acvp_tables.specs.Content.{Content, session_at, sessions_of, pa
 ghost use Rattle.acvp_tables.specs.State.{IsSound};
 ghost use Rattle.acvp_tables.specs.declared.rows.SessionRow.{SessionRow as Session};
 ghost use Rattle.acvp_store.specs.Alters.{Alters};
-ghost use Rattle.acvp_store.specs.Connection.{ServesStore, IsRead, IsInside, Under};
+ghost use Rattle.acvp_store.specs.Connection.{ServesStore, IsRead, IsInside, UnderStore};
 ghost use Rattle.acvp_store.specs.Rows.{session_tree, HoldsSessions};
-ghost use Rattle.acvp_store.specs.Schema.{store_schema};
 
 use crate::fault::done;
 use crate::pages::{Member, listed, page_of};
@@ -104,11 +103,10 @@ pub(crate) struct CancelledSession {
 impl Work for CancelledSession {
     ghost use Rattle.acvp_tables.specs.Changes.{changed, is_session, cancelled_session};
     ghost use Rattle.acvp_store.specs.Alters.{Alters};
-    ghost use Rattle.acvp_store.specs.Connection.{Under};
+    ghost use Rattle.acvp_store.specs.Connection.{UnderStore};
     ghost use Rattle.acvp_store.specs.Rows.{session_tree, HoldsSessions};
-    ghost use Rattle.acvp_store.specs.Schema.{store_schema};
 
-    ghost change = { λ s. Under store_schema (Alters session_tree HoldsSessions (changed (is_session s.number) cancelled_session)) };
+    ghost change = { λ s. UnderStore (λ layout. Alters layout session_tree HoldsSessions (changed (is_session s.number) cancelled_session)) };
 
     fn run<S: Alter>(&self, tx: &mut Transaction<'_, S>) -> Result<(), StoreFault> {
         let number = fitting(self.number)?;
@@ -130,11 +128,10 @@ pub(crate) struct CountedSession {
 impl Work for CountedSession {
     ghost use Rattle.acvp_tables.specs.Changes.{changed, is_session, with_counts};
     ghost use Rattle.acvp_store.specs.Alters.{Alters};
-    ghost use Rattle.acvp_store.specs.Connection.{Under};
+    ghost use Rattle.acvp_store.specs.Connection.{UnderStore};
     ghost use Rattle.acvp_store.specs.Rows.{session_tree, HoldsSessions};
-    ghost use Rattle.acvp_store.specs.Schema.{store_schema};
 
-    ghost change = { λ s. Under store_schema (Alters session_tree HoldsSessions (changed (is_session s.number) (with_counts s.live s.passed))) };
+    ghost change = { λ s. UnderStore (λ layout. Alters layout session_tree HoldsSessions (changed (is_session s.number) (with_counts s.live s.passed))) };
 
     fn run<S: Alter>(&self, tx: &mut Transaction<'_, S>) -> Result<(), StoreFault> {
         let number = fitting(self.number)?;
@@ -157,11 +154,10 @@ pub(crate) struct PassedSession {
 impl Work for PassedSession {
     ghost use Rattle.acvp_tables.specs.Changes.{changed, is_session, with_passed};
     ghost use Rattle.acvp_store.specs.Alters.{Alters};
-    ghost use Rattle.acvp_store.specs.Connection.{Under};
+    ghost use Rattle.acvp_store.specs.Connection.{UnderStore};
     ghost use Rattle.acvp_store.specs.Rows.{session_tree, HoldsSessions};
-    ghost use Rattle.acvp_store.specs.Schema.{store_schema};
 
-    ghost change = { λ s. Under store_schema (Alters session_tree HoldsSessions (changed (is_session s.number) (with_passed s.passed))) };
+    ghost change = { λ s. UnderStore (λ layout. Alters layout session_tree HoldsSessions (changed (is_session s.number) (with_passed s.passed))) };
 
     fn run<S: Alter>(&self, tx: &mut Transaction<'_, S>) -> Result<(), StoreFault> {
         let number = fitting(self.number)?;
@@ -183,11 +179,10 @@ pub(crate) struct CertifiedSession {
 impl Work for CertifiedSession {
     ghost use Rattle.acvp_tables.specs.Changes.{changed, is_session, with_certify};
     ghost use Rattle.acvp_store.specs.Alters.{Alters};
-    ghost use Rattle.acvp_store.specs.Connection.{Under};
+    ghost use Rattle.acvp_store.specs.Connection.{UnderStore};
     ghost use Rattle.acvp_store.specs.Rows.{session_tree, HoldsSessions};
-    ghost use Rattle.acvp_store.specs.Schema.{store_schema};
 
-    ghost change = { λ s. Under store_schema (Alters session_tree HoldsSessions (changed (is_session s.number) (with_certify s.request))) };
+    ghost change = { λ s. UnderStore (λ layout. Alters layout session_tree HoldsSessions (changed (is_session s.number) (with_certify s.request))) };
 
     fn run<S: Alter>(&self, tx: &mut Transaction<'_, S>) -> Result<(), StoreFault> {
         let number = fitting(self.number)?;
@@ -209,11 +204,10 @@ impl<'a> Work for SessionBegun<'a> {
     ghost use Rattle.std.specs.Prelude.{◌++◌, ◌∷◌, []};
     ghost use Rattle.acvp_tables.specs.Changes.{new_session};
     ghost use Rattle.acvp_store.specs.Alters.{Alters};
-    ghost use Rattle.acvp_store.specs.Connection.{Under};
+    ghost use Rattle.acvp_store.specs.Connection.{UnderStore};
     ghost use Rattle.acvp_store.specs.Rows.{session_tree, HoldsSessions};
-    ghost use Rattle.acvp_store.specs.Schema.{store_schema};
 
-    ghost change = { λ s. Under store_schema (Alters session_tree HoldsSessions (λ rows. rows ++ new_session s.session.now ∷ [])) };
+    ghost change = { λ s. UnderStore (λ layout. Alters layout session_tree HoldsSessions (λ rows. rows ++ new_session s.session.now ∷ [])) };
 
     fn run<S: Alter>(&self, tx: &mut Transaction<'_, S>) -> Result<(), StoreFault> {
         let session = self.session;

@@ -3,7 +3,7 @@ ghost use Rattle.std.specs.Prelude.{◌≡◌, IsTrue, IfOk, IsOk, List, option_
 ghost use Rattle.sqlite.specs.Held.{state};
 ghost use Rattle.acvp_tables.specs.Content.{set_at, set_verdicts};
 ghost use Rattle.acvp_tables.specs.declared.rows.SetRow.{SetRow as Set};
-ghost use Rattle.acvp_store.specs.Connection.{ServesStore, IsRead};
+ghost use Rattle.acvp_store.specs.Connection.{ServesStore, InStore, IsRead};
 ghost use Rattle.acvp_store.specs.Stands.{HoldsSets, set_tree};
 ghost use Rattle.acvp_store.specs.Private.SetTexts.{IsCapabilityOf, AreVerdictsOf, TellsCapability, TellsVerdicts};
 
@@ -80,7 +80,7 @@ pub(crate) fn find_capability<S: Alter>(
     number: u64,
 ) -> Result<Option<Capability>, StoreFault>
     requires { ServesStore (state S.Store conn.old) }
-    ensures found { IsTrue (state S.Store conn.new).is_open → IfOk result (λ found. (sets : List Set) → HoldsSets ((state S.Store conn.old).now.trees set_tree) sets → found ≡ option_map (λ row. row.capability) (set_at number sets)) }
+    ensures found { IsTrue (state S.Store conn.new).is_open → IfOk result (λ found. InStore (state S.Store conn.old).now (λ layout. (sets : List Set) → HoldsSets ((state S.Store conn.old).now.trees (set_tree layout)) sets → found ≡ option_map (λ row. row.capability) (set_at number sets))) }
     ensures read { IsRead result (state S.Store conn.old) (state S.Store conn.new) }
 {
     capability_in(
@@ -128,7 +128,7 @@ pub(crate) fn find_verdicts<S: Alter>(
     number: u64,
 ) -> Result<Option<Vec<Verdict>>, StoreFault>
     requires { ServesStore (state S.Store conn.old) }
-    ensures found { IsTrue (state S.Store conn.new).is_open → IfOk result (λ found. (sets : List Set) → HoldsSets ((state S.Store conn.old).now.trees set_tree) sets → option_map (λ v. v.items) found ≡ option_and_then set_verdicts (set_at number sets)) }
+    ensures found { IsTrue (state S.Store conn.new).is_open → IfOk result (λ found. InStore (state S.Store conn.old).now (λ layout. (sets : List Set) → HoldsSets ((state S.Store conn.old).now.trees (set_tree layout)) sets → option_map (λ v. v.items) found ≡ option_and_then set_verdicts (set_at number sets))) }
     ensures read { IsRead result (state S.Store conn.old) (state S.Store conn.new) }
 {
     verdicts_in(

@@ -7,8 +7,7 @@ ghost use Rattle.acvp_tables.specs.State.{IsSound};
 ghost use Rattle.acvp_tables.specs.declared.rows.SetRow.{SetRow as Set};
 ghost use Rattle.acvp_tables.specs.Changes.{changed, is_set, cancelled_set, with_graded, new_sets};
 ghost use Rattle.acvp_store.specs.Alters.{Alters};
-ghost use Rattle.acvp_store.specs.Connection.{ServesStore, IsRead, IsInside, Under};
-ghost use Rattle.acvp_store.specs.Schema.{store_schema};
+ghost use Rattle.acvp_store.specs.Connection.{ServesStore, InStore, IsRead, IsInside, UnderStore};
 ghost use Rattle.acvp_store.specs.Stands.{HoldsSets, disposition_number, set_tree};
 ghost use Rattle.acvp_store.specs.Private.Sets.{IsSummary, IsSummaryOf, new_set, AddsSets};
 
@@ -120,7 +119,7 @@ pub(crate) fn find_set<S: Alter>(
     number: u64,
 ) -> Result<Option<SetSummary>, StoreFault>
     requires { ServesStore (state S.Store conn.old) }
-    ensures found { IsTrue (state S.Store conn.new).is_open → IfOk result (λ found. (sets : List Set) → HoldsSets ((state S.Store conn.old).now.trees set_tree) sets → found ≡ option_map set_summary (set_at number sets)) }
+    ensures found { IsTrue (state S.Store conn.new).is_open → IfOk result (λ found. InStore (state S.Store conn.old).now (λ layout. (sets : List Set) → HoldsSets ((state S.Store conn.old).now.trees (set_tree layout)) sets → found ≡ option_map set_summary (set_at number sets))) }
     ensures read { IsRead result (state S.Store conn.old) (state S.Store conn.new) }
 {
     summarized(answered(conn.query_all(
@@ -165,7 +164,7 @@ pub(crate) fn find_sets<S: Alter>(
     session: u64,
 ) -> Result<Vec<SetSummary>, StoreFault>
     requires { ServesStore (state S.Store conn.old) }
-    ensures found { IsTrue (state S.Store conn.new).is_open → IfOk result (λ found. (c : Content) → IsSound c → HoldsSets ((state S.Store conn.old).now.trees set_tree) c.sets → found.items ≡ map set_summary (live_sets session c.sets)) }
+    ensures found { IsTrue (state S.Store conn.new).is_open → IfOk result (λ found. InStore (state S.Store conn.old).now (λ layout. (c : Content) → IsSound c → HoldsSets ((state S.Store conn.old).now.trees (set_tree layout)) c.sets → found.items ≡ map set_summary (live_sets session c.sets))) }
     ensures read { IsRead result (state S.Store conn.old) (state S.Store conn.new) }
 {
     if 92233720368547757 < session {
@@ -210,7 +209,7 @@ fn epoch_in(found: Result<Option<Option<u64>>, StoreFault>) -> Result<Option<u64
 /// The greatest epoch of all vector sets; none where there is no set.
 pub(crate) fn find_epoch<S: Alter>(conn: &mut Connection<S>) -> Result<Option<u64>, StoreFault>
     requires { ServesStore (state S.Store conn.old) }
-    ensures found { IsTrue (state S.Store conn.new).is_open → IfOk result (λ found. (sets : List Set) → HoldsSets ((state S.Store conn.old).now.trees set_tree) sets → found ≡ greatest_epoch_of sets) }
+    ensures found { IsTrue (state S.Store conn.new).is_open → IfOk result (λ found. InStore (state S.Store conn.old).now (λ layout. (sets : List Set) → HoldsSets ((state S.Store conn.old).now.trees (set_tree layout)) sets → found ≡ greatest_epoch_of sets)) }
     ensures read { IsRead result (state S.Store conn.old) (state S.Store conn.new) }
 {
     epoch_in(answered(conn.query_all("SELECT MAX(epoch) FROM vset2", &[])))
@@ -225,11 +224,10 @@ pub(crate) struct SetCancelled {
 impl Work for SetCancelled {
     ghost use Rattle.acvp_tables.specs.Changes.{changed, is_set, cancelled_set};
     ghost use Rattle.acvp_store.specs.Alters.{Alters};
-    ghost use Rattle.acvp_store.specs.Connection.{Under};
-    ghost use Rattle.acvp_store.specs.Schema.{store_schema};
+    ghost use Rattle.acvp_store.specs.Connection.{UnderStore};
     ghost use Rattle.acvp_store.specs.Stands.{set_tree, HoldsSets};
 
-    ghost change = { λ s. Under store_schema (Alters set_tree HoldsSets (changed (is_set s.number) cancelled_set)) };
+    ghost change = { λ s. UnderStore (λ layout. Alters layout (set_tree layout) HoldsSets (changed (is_set s.number) cancelled_set)) };
 
     fn run<S: Alter>(&self, tx: &mut Transaction<'_, S>) -> Result<(), StoreFault> {
         let number = fitting(self.number)?;
@@ -263,11 +261,10 @@ pub(crate) struct GradedSet<'a> {
 impl<'a> Work for GradedSet<'a> {
     ghost use Rattle.acvp_tables.specs.Changes.{changed, is_set, with_graded};
     ghost use Rattle.acvp_store.specs.Alters.{Alters};
-    ghost use Rattle.acvp_store.specs.Connection.{Under};
-    ghost use Rattle.acvp_store.specs.Schema.{store_schema};
+    ghost use Rattle.acvp_store.specs.Connection.{UnderStore};
     ghost use Rattle.acvp_store.specs.Stands.{set_tree, HoldsSets};
 
-    ghost change = { λ s. Under store_schema (Alters set_tree HoldsSets (changed (is_set s.number) (with_graded s.graded.now))) };
+    ghost change = { λ s. UnderStore (λ layout. Alters layout (set_tree layout) HoldsSets (changed (is_set s.number) (with_graded s.graded.now))) };
 
     fn run<S: Alter>(&self, tx: &mut Transaction<'_, S>) -> Result<(), StoreFault> {
         let number = fitting(self.number)?;
@@ -293,7 +290,7 @@ fn insert_set<S: Alter>(
     epoch: u64,
 ) -> Result<(), StoreFault>
     ensures same_reference { tx.new.conn.ghost_name ≡ tx.old.conn.ghost_name }
-    ensures inside { IsInside result (state S.Store tx.old.conn.now) (state S.Store tx.new.conn.now) (Under store_schema (AddsSets (new_set number session capability.now epoch ∷ []))) }
+    ensures inside { IsInside result (state S.Store tx.old.conn.now) (state S.Store tx.new.conn.now) (UnderStore (λ layout. AddsSets layout (new_set number session capability.now epoch ∷ []))) }
 {
     let number = fitting(number)?;
     let session = fitting(session)?;
@@ -314,11 +311,10 @@ pub(crate) struct SetsBegun<'a> {
 
 impl<'a> Work for SetsBegun<'a> {
     ghost use Rattle.acvp_tables.specs.Changes.{new_sets};
-    ghost use Rattle.acvp_store.specs.Connection.{Under};
-    ghost use Rattle.acvp_store.specs.Schema.{store_schema};
+    ghost use Rattle.acvp_store.specs.Connection.{UnderStore};
     ghost use Rattle.acvp_store.specs.Private.Sets.{AddsSets};
 
-    ghost change = { λ s. Under store_schema (AddsSets (new_sets s.session.now.number s.session.now.epoch 1 s.session.now.registration.capabilities)) };
+    ghost change = { λ s. UnderStore (λ layout. AddsSets layout (new_sets s.session.now.number s.session.now.epoch 1 s.session.now.registration.capabilities)) };
 
     fn run<S: Alter>(&self, tx: &mut Transaction<'_, S>) -> Result<(), StoreFault> {
         let session = self.session;

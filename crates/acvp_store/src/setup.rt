@@ -2,7 +2,7 @@
 ghost use Rattle.std.specs.Prelude.{◌≡◌};
 ghost use Rattle.sqlite.specs.Held.{state};
 ghost use Rattle.acvp_store.specs.Connection.{IsInside, Under};
-ghost use Rattle.acvp_store.specs.Schema.{store_schema};
+ghost use Rattle.acvp_store.specs.Schema.{Created, schema_of};
 ghost use Rattle.acvp_store.specs.Private.Creating.{text_of, before, Makes, WritesVersion};
 
 use crate::fault::done;
@@ -10,7 +10,8 @@ use crate::work::Work;
 use acvp_tables::StoreFault;
 use sqlite::{Alter, Transaction};
 
-/// The tables, in the order in which they are made.
+/// The tables, in the order in which they are made; and those that come after the sessions where the table of sets of an
+/// earlier schema is among them.
 #[derive(Clone, Copy)]
 pub(crate) enum StoreTable {
     Meta,
@@ -20,6 +21,11 @@ pub(crate) enum StoreTable {
     Object,
     Request,
     Reviewer,
+    OldSet,
+    LaterObject,
+    LaterRequest,
+    LaterSet,
+    LaterReviewer,
 }
 
 impl StoreTable {
@@ -37,17 +43,20 @@ impl StoreTable {
             StoreTable::Session => {
                 "CREATE TABLE session (session INTEGER PRIMARY KEY, account INTEGER NOT NULL REFERENCES account, sample INTEGER NOT NULL, created INTEGER NOT NULL, cancelled INTEGER NOT NULL, certify INTEGER REFERENCES request, live INTEGER NOT NULL, passed INTEGER NOT NULL) STRICT"
             }
-            StoreTable::Set => {
+            StoreTable::Set | StoreTable::LaterSet => {
                 "CREATE TABLE vset2 (vs INTEGER PRIMARY KEY, session INTEGER NOT NULL REFERENCES session, capability TEXT NOT NULL, cancelled INTEGER NOT NULL, answers TEXT, verdicts TEXT, disposition INTEGER, epoch INTEGER NOT NULL) STRICT"
             }
-            StoreTable::Object => {
+            StoreTable::Object | StoreTable::LaterObject => {
                 "CREATE TABLE object (kind INTEGER NOT NULL, number INTEGER NOT NULL, account INTEGER NOT NULL REFERENCES account, body TEXT NOT NULL, PRIMARY KEY (kind, number)) STRICT"
             }
-            StoreTable::Request => {
+            StoreTable::Request | StoreTable::LaterRequest => {
                 "CREATE TABLE request (request INTEGER PRIMARY KEY, account INTEGER NOT NULL REFERENCES account, kind INTEGER NOT NULL, body TEXT NOT NULL, status INTEGER NOT NULL, approved INTEGER) STRICT"
             }
-            StoreTable::Reviewer => {
+            StoreTable::Reviewer | StoreTable::LaterReviewer => {
                 "CREATE TABLE reviewer (session INTEGER NOT NULL REFERENCES session, account INTEGER NOT NULL, PRIMARY KEY (session, account)) STRICT"
+            }
+            StoreTable::OldSet => {
+                "CREATE TABLE vset (vs INTEGER PRIMARY KEY, session INTEGER NOT NULL REFERENCES session, capability TEXT NOT NULL, cancelled INTEGER NOT NULL, answers TEXT, verdicts TEXT, disposition INTEGER) STRICT"
             }
         }
     }
@@ -70,10 +79,10 @@ pub(crate) struct Version;
 
 impl Work for Version {
     ghost use Rattle.acvp_store.specs.Connection.{Under};
-    ghost use Rattle.acvp_store.specs.Schema.{store_schema};
+    ghost use Rattle.acvp_store.specs.Schema.{Created, schema_of};
     ghost use Rattle.acvp_store.specs.Private.Creating.{WritesVersion};
 
-    ghost change = { λ _. Under store_schema (WritesVersion 3) };
+    ghost change = { λ _. Under (schema_of Created) (WritesVersion 3) };
 
     fn run<S: Alter>(&self, tx: &mut Transaction<'_, S>) -> Result<(), StoreFault> {
         done(tx.execute("INSERT INTO meta (name, value) VALUES ('schema', 3)", &[]))

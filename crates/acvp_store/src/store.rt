@@ -3,16 +3,16 @@ ghost use Rattle.std.specs.Prelude.{◌≡◌, ◌↔◌, IsTrue, IfOk, IfErr, M
 ghost use Rattle.sqlite.specs.Held.{state};
 ghost use Rattle.sqlite.specs.State.{HasCleanDisk};
 ghost use Rattle.sqlite.specs.Steps.{over_memory};
-ghost use Rattle.acvp_store.specs.Adopted.{IsAdopted, IsOurs};
+ghost use Rattle.acvp_store.specs.Adopted.{HasVersion, IsAdopted, IsOurs};
 ghost use Rattle.acvp_tables.specs.Calls.{Changes};
 ghost use Rattle.acvp_tables.specs.Content.{no_rows};
 ghost use Rattle.acvp_tables.specs.Changes.{after, after_order};
 ghost use Rattle.acvp_tables.specs.State.{IsSound};
 ghost use Rattle.acvp_tables.specs.declared.change.Change.TheVariants as change;
 ghost use Rattle.acvp_tables.specs.declared.change.OrderChange.TheVariants as order;
-ghost use Rattle.acvp_store.specs.Connection.{IsReady, ServesStore, IsWritten, LeavesNoMore, Under};
-ghost use Rattle.acvp_store.specs.Schema.{no_schema, store_schema};
-ghost use Rattle.acvp_store.specs.Store.{may_fail, Begins, stands, IsLive, is_clean, leaves};
+ghost use Rattle.acvp_store.specs.Connection.{IsSettled, IsReady, ServesStore, IsWritten, LeavesNoMore, Under};
+ghost use Rattle.acvp_store.specs.Schema.{Created, Migrated, no_schema, schema_of};
+ghost use Rattle.acvp_store.specs.Store.{may_fail, Begins, BecomesMigrated, stands, IsLive, is_clean, leaves};
 
 use crate::accounts::{DisabledAccount, find_account};
 use crate::counts::find_counts;
@@ -28,7 +28,7 @@ use crate::sessions::{
 use crate::set_texts::{find_capability, find_verdicts};
 use crate::sets::{GradedSet, SetCancelled, SetsBegun, find_epoch, find_set, find_sets};
 use crate::setup::{StoreTable, Version};
-use crate::version::has_version;
+use crate::version::{has_old_sets, has_version};
 use crate::work::{Then, commit};
 use acvp_answers::Verdict;
 use acvp_caps::Capability;
@@ -112,6 +112,7 @@ pub fn create<S: Alter>(
     alloc: Global,
     mut connection: Connection<S>,
 ) -> Result<SqlTables<S>, (Connection<S>, StoreFault)>
+    ensures tables { IfOk result (λ t. IsTrue (state S.Store t).is_open → (state S.Store t).now.schema ≡ schema_of Created) }
     ensures begins { IfOk result (λ t. IsTrue (state S.Store t).is_open → stands S.Store t no_rows) }
     ensures live { IfOk result (λ t. HasCleanDisk (state S.Store t) → IsTrue (state S.Store connection).is_open → IsLive S.Store t) }
     ensures unchanged { IfErr result (λ e. IsTrue (state S.Store e.0).is_open → (state S.Store e.0).now ≡ (state S.Store connection).now) }
@@ -126,8 +127,8 @@ pub fn create<S: Alter>(
 }
 
 /// The connection to a new store in memory.
-fn new_in_memory(alloc: Global) -> Result<Connection<MemStore>, StoreFault>
-    ensures { IfOk result (λ connection. (state over_memory connection).now.schema ≡ store_schema) }
+fn created_in_memory(alloc: Global) -> Result<Connection<MemStore>, StoreFault>
+    ensures { IfOk result (λ connection. (state over_memory connection).now.schema ≡ schema_of Created) }
 {
     let connection = Connection::open_in_memory(alloc)?;
     match create(alloc, connection) {
@@ -136,23 +137,122 @@ fn new_in_memory(alloc: Global) -> Result<Connection<MemStore>, StoreFault>
     }
 }
 
-/// Whether the tables of a database are the store's, as those of a new store in memory are.
-fn has_store_schema<S: Alter>(alloc: Global, connection: &Connection<S>) -> Result<bool, StoreFault>
-    ensures { IfOk result (λ has. IsTrue has ↔ ((state S.Store connection.now).now.schema ≡ store_schema)) }
+/// Makes the tables as they lie where those of the first schema were there before them, in one transaction. `meta` names no
+/// version.
+fn make_migrated_tables<S: Alter>(connection: &mut Connection<S>) -> Result<(), StoreFault>
+    requires { IsReady (state S.Store connection.old) }
+    ensures { IsWritten result (state S.Store connection.old) (state S.Store connection.new) (Under no_schema BecomesMigrated) }
 {
-    let ours = new_in_memory(alloc)?;
+    let last = Then {
+        first: StoreTable::LaterSet,
+        second: StoreTable::LaterReviewer,
+    };
+    let requests = Then {
+        first: StoreTable::LaterObject,
+        second: Then {
+            first: StoreTable::LaterRequest,
+            second: last,
+        },
+    };
+    let sessions = Then {
+        first: StoreTable::Session,
+        second: Then {
+            first: StoreTable::OldSet,
+            second: requests,
+        },
+    };
+    let tables = Then {
+        first: StoreTable::Meta,
+        second: Then {
+            first: StoreTable::Account,
+            second: sessions,
+        },
+    };
+    commit(connection, &tables)
+}
+
+/// The connection to a database in memory with the tables as they lie where those of the first schema were there before
+/// them.
+pub(crate) fn migrated_in_memory(alloc: Global) -> Result<Connection<MemStore>, StoreFault>
+    ensures { IfOk result (λ connection. (state over_memory connection).now.schema ≡ schema_of Migrated) }
+{
+    let mut connection = Connection::open_in_memory(alloc)?;
+    if !connection.is_autocommit() || !is_empty(&connection) {
+        return Err(StoreFault::Refused);
+    }
+    make_migrated_tables(&mut connection)?;
+    Ok(connection)
+}
+
+/// Whether the tables of a database are the store's, as `create` makes them.
+fn is_created<S: Alter>(alloc: Global, connection: &Connection<S>) -> Result<bool, StoreFault>
+    ensures { IfOk result (λ has. IsTrue has ↔ ((state S.Store connection.now).now.schema ≡ schema_of Created)) }
+{
+    let ours = created_in_memory(alloc)?;
     match same_schema(alloc, connection.schema(), ours.schema()) {
         Ok(same) => Ok(same),
         Err(_) => Err(StoreFault::Memory),
     }
 }
 
-/// Takes over a database whose tables are the store's, with the rows that are there. A fault hands the connection back,
-/// and the database is as it was: Schema where the tables aren't exactly those that `create` makes, or `meta` lacks the
-/// row that names their version. The memory is for the texts of the rows.
-pub fn adopt<S: Alter>(
+/// Whether the tables of a database are the store's, where those of the first schema were there before them.
+fn is_migrated<S: Alter>(alloc: Global, connection: &Connection<S>) -> Result<bool, StoreFault>
+    ensures { IfOk result (λ has. IsTrue has ↔ ((state S.Store connection.now).now.schema ≡ schema_of Migrated)) }
+{
+    let ours = migrated_in_memory(alloc)?;
+    match same_schema(alloc, connection.schema(), ours.schema()) {
+        Ok(same) => Ok(same),
+        Err(_) => Err(StoreFault::Memory),
+    }
+}
+
+/// Takes over a database whose tables are the store's, where `meta` names their version.
+fn adopt_named<S: Alter>(
     alloc: Global,
     mut connection: Connection<S>,
+) -> Result<SqlTables<S>, (Connection<S>, AdoptFault)>
+    requires { ServesStore (state S.Store connection) }
+    ensures named { IfOk result (λ t. IsTrue (state S.Store t).is_open → IsTrue (state S.Store connection).is_open × HasVersion (state S.Store connection).now.trees × ((state S.Store t).now ≡ (state S.Store connection).now)) }
+    ensures live { IfOk result (λ t. HasCleanDisk (state S.Store t) → HasCleanDisk (state S.Store connection) × IsTrue (state S.Store connection).is_open × IsLive S.Store t) }
+    ensures schema { IfErr result (λ e. e.1 ≡ AdoptFault.Schema → IsTrue (state S.Store e.0).is_open → IsTrue (state S.Store connection).is_open × ¬ HasVersion (state S.Store connection).now.trees) }
+    ensures unchanged { IfErr result (λ e. IsTrue (state S.Store e.0).is_open → IsTrue (state S.Store connection).is_open × ((state S.Store e.0).now ≡ (state S.Store connection).now)) }
+    ensures left { MatchResult result (λ t. LeavesNoMore (state S.Store connection) (state S.Store t)) (λ e. LeavesNoMore (state S.Store connection) (state S.Store e.0)) }
+    ensures was_clean { IfErr result (λ e. HasCleanDisk (state S.Store e.0) → HasCleanDisk (state S.Store connection)) }
+{
+    match has_version(&mut connection) {
+        Ok(true) => Ok(SqlTables { alloc, connection }),
+        Ok(false) => Err((connection, AdoptFault::Schema)),
+        Err(fault) => Err((connection, adopt_fault(fault))),
+    }
+}
+
+/// Takes over a database whose tables are the store's, where those of the first schema were there before them: its table
+/// of sets has to be empty.
+fn adopt_migrated<S: Alter>(
+    alloc: Global,
+    mut connection: Connection<S>,
+) -> Result<SqlTables<S>, (Connection<S>, AdoptFault)>
+    requires { IsTrue (state S.Store connection).is_open → IsSettled (state S.Store connection) × ((state S.Store connection).now.schema ≡ schema_of Migrated) }
+    ensures adopted { IfOk result (λ t. IsTrue (state S.Store t).is_open → IsAdopted (state S.Store connection) (state S.Store t)) }
+    ensures live { IfOk result (λ t. HasCleanDisk (state S.Store t) → IsTrue (state S.Store connection).is_open × IsLive S.Store t) }
+    ensures schema { IfErr result (λ e. e.1 ≡ AdoptFault.Schema → IsTrue (state S.Store e.0).is_open → ¬ IsOurs (state S.Store connection).now) }
+    ensures unchanged { IfErr result (λ e. IsTrue (state S.Store e.0).is_open → (state S.Store e.0).now ≡ (state S.Store connection).now) }
+    ensures left { MatchResult result (λ t. LeavesNoMore (state S.Store connection) (state S.Store t)) (λ e. LeavesNoMore (state S.Store connection) (state S.Store e.0)) }
+{
+    match has_old_sets(&mut connection) {
+        Ok(false) => adopt_named(alloc, connection),
+        Ok(true) => Err((connection, AdoptFault::Schema)),
+        Err(fault) => Err((connection, adopt_fault(fault))),
+    }
+}
+
+/// Takes over a database whose tables are the store's, with the rows that are there. Beside them an empty table `vset` of an
+/// earlier schema may stand, as a migration leaves it. A fault hands the connection back, and the database is as it was:
+/// Schema where the tables aren't exactly these, where `vset` has a row, or where `meta` lacks the row that names their
+/// version. The memory is for the texts of the rows.
+pub fn adopt<S: Alter>(
+    alloc: Global,
+    connection: Connection<S>,
 ) -> Result<SqlTables<S>, (Connection<S>, AdoptFault)>
     ensures adopted { IfOk result (λ t. IsTrue (state S.Store t).is_open → IsAdopted (state S.Store connection) (state S.Store t)) }
     ensures live { IfOk result (λ t. HasCleanDisk (state S.Store t) → IsTrue (state S.Store connection).is_open × IsLive S.Store t) }
@@ -163,13 +263,13 @@ pub fn adopt<S: Alter>(
     if !connection.is_autocommit() {
         return Err((connection, AdoptFault::Refused));
     }
-    match has_store_schema(alloc, &connection) {
-        Ok(true) => {}
-        Ok(false) => return Err((connection, AdoptFault::Schema)),
+    match is_created(alloc, &connection) {
+        Ok(true) => return adopt_named(alloc, connection),
+        Ok(false) => {}
         Err(fault) => return Err((connection, adopt_fault(fault))),
     }
-    match has_version(&mut connection) {
-        Ok(true) => Ok(SqlTables { alloc, connection }),
+    match is_migrated(alloc, &connection) {
+        Ok(true) => adopt_migrated(alloc, connection),
         Ok(false) => Err((connection, AdoptFault::Schema)),
         Err(fault) => Err((connection, adopt_fault(fault))),
     }
@@ -380,7 +480,7 @@ impl<S: Alter> Tables for SqlTables<S> {
 
     ghost clean = { λ t live. open_is_clean (S.Store.shut_if_dirty t.store) live.is_open };
 
-    ghost rests = { λ t c d live h clean db may. inl (subst (λ x. Stands x c) (sym (S.Store.settled t.store db live.is_open may ∙ ap (λ (x : Database). x.trees) (sym live.store.ready.settled))) h) };
+    ghost rests = { λ t c d live h clean. (h.0, λ _. h.1, λ db may. inl (subst (λ x. Stands h.0 x c) (sym (S.Store.settled t.store db live.is_open may ∙ ap (λ (x : Database). x.trees) (sym live.store.ready.settled))) h.2)) };
 
     fn account(&mut self, number: u16) -> Result<Option<AccountRow>, StoreFault> {
         find_account(&mut self.connection, number)

@@ -1,6 +1,7 @@
 //! The tables over a database in memory, by numbers worked by hand. What is stored is read back by statements that the
 //! crate itself doesn't have.
 
+use crate::store::migrated_in_memory;
 use crate::{AdoptFault, SqlTables, adopt, create};
 use acvp_answers::{Answers, Disposition, Verdict};
 use acvp_caps::{Algorithm, read_registration};
@@ -25,7 +26,7 @@ const VENDOR: &str = r#"{"name":"V"}"#;
 const ENVIRONMENT: &str = r#"{"name":"E"}"#;
 
 /// A new store in memory.
-fn new_store(rt: &HostRuntime) -> Result<SqlTables<MemStore>, Fail> {
+pub(crate) fn new_store(rt: &HostRuntime) -> Result<SqlTables<MemStore>, Fail> {
     let connection = Connection::open_in_memory(rt.alloc())?;
     match create(rt.alloc(), connection) {
         Ok(tables) => Ok(tables),
@@ -36,6 +37,23 @@ fn new_store(rt: &HostRuntime) -> Result<SqlTables<MemStore>, Fail> {
 /// A new store in memory that has account 7.
 fn store_of_seven(rt: &HostRuntime) -> Result<SqlTables<MemStore>, Fail> {
     let mut tables = new_store(rt)?;
+    tables.add_account(&NewAccount {
+        account: 7,
+        secret: [49; 32],
+    })?;
+    Ok(tables)
+}
+
+/// A store in memory that has account 7, in which the table of sets of the first schema is among the tables.
+fn migrated_store(rt: &HostRuntime) -> Result<SqlTables<MemStore>, Fail> {
+    let mut connection = migrated_in_memory(rt.alloc())?;
+    connection.execute(
+        "INSERT INTO meta (name, value) VALUES ('schema', 3)",
+        params![],
+    )?;
+    let Ok(mut tables) = adopt(rt.alloc(), connection) else {
+        return Err("not taken over".into());
+    };
     tables.add_account(&NewAccount {
         account: 7,
         secret: [49; 32],
@@ -219,13 +237,16 @@ fn a_database_that_has_a_table_is_handed_back(rt: HostRuntime) -> Result<(), Fai
     }
 }
 
-#[test]
-fn a_session_is_begun_answered_and_loses_a_set(rt: HostRuntime) -> Result<(), Fail> {
-    let mut tables = store_of_seven(&rt)?;
-    tables.new_session(&new_session(&rt, 7000001)?)?;
-    tables.new_session(&new_session(&rt, 7000002)?)?;
+/// Sessions with their sets in a store that has account 7.
+fn begins_and_answers(
+    rt: &impl Abort,
+    host: &HostRuntime,
+    mut tables: SqlTables<MemStore>,
+) -> Result<(), Fail> {
+    tables.new_session(&new_session(host, 7000001)?)?;
+    tables.new_session(&new_session(host, 7000002)?)?;
     assert_eq!(rt;
-        numbers(&rt, &tables.sets_of(7000001)?)?.as_slice(),
+        numbers(host, &tables.sets_of(7000001)?)?.as_slice(),
         [700000101, 700000102].as_slice()
     );
     assert!(rt; tables.verdicts(700000101)?.is_none());
@@ -244,7 +265,7 @@ fn a_session_is_begun_answered_and_loses_a_set(rt: HostRuntime) -> Result<(), Fa
         tables.keep_answers(&KeptAnswers {
             session: 7000001,
             set: 700000101,
-            graded: graded(&rt, verdict)?,
+            graded: graded(host, verdict)?,
             passed,
         })?;
         let row = tables.session(7000001)?.ok_or("no session")?;
@@ -261,7 +282,7 @@ fn a_session_is_begun_answered_and_loses_a_set(rt: HostRuntime) -> Result<(), Fa
     let row = tables.session(7000001)?.ok_or("no session")?;
     assert_eq!(rt; (row.live, row.passed), (1, 1));
     assert_eq!(rt;
-        numbers(&rt, &tables.sets_of(7000001)?)?.as_slice(),
+        numbers(host, &tables.sets_of(7000001)?)?.as_slice(),
         [700000101].as_slice()
     );
     let verdicts = tables.verdicts(700000101)?.ok_or("no verdicts")?;
@@ -278,6 +299,46 @@ fn a_session_is_begun_answered_and_loses_a_set(rt: HostRuntime) -> Result<(), Fa
     let capability =
         "SELECT count(*) FROM vset2 WHERE vs = 700000101 AND capability = '{\"algorithm\":\"SHA2-256\",\"messageLength\":[8],\"revision\":\"1.0\"}'";
     assert_eq!(rt; number_by(&mut connection, capability)?, 1);
+    Ok(())
+}
+
+#[test]
+fn a_session_is_begun_answered_and_loses_a_set(rt: HostRuntime) -> Result<(), Fail> {
+    let tables = store_of_seven(&rt)?;
+    begins_and_answers(&rt, &rt, tables)
+}
+
+#[test]
+fn a_session_is_begun_answered_and_loses_a_set_beside_an_old_table(
+    rt: HostRuntime,
+) -> Result<(), Fail> {
+    let tables = migrated_store(&rt)?;
+    begins_and_answers(&rt, &rt, tables)
+}
+
+#[test]
+fn an_old_table_of_sets_has_to_be_empty(rt: HostRuntime) -> Result<(), Fail> {
+    let mut tables = migrated_store(&rt)?;
+    tables.new_session(&new_session(&rt, 7000001)?)?;
+    let mut connection = tables.into_connection();
+    let old =
+        "INSERT INTO vset (vs, session, capability, cancelled, answers, verdicts, disposition) VALUES (700000101, 7000001, '', 0, NULL, NULL, NULL)";
+    connection.execute(old, params![])?;
+    let Err((mut connection, fault)) = adopt(rt.alloc(), connection) else {
+        return Err("an earlier set".into());
+    };
+    assert_eq!(rt; fault, AdoptFault::Schema);
+    connection.execute("DELETE FROM vset", params![])?;
+    let Ok(mut taken) = adopt(rt.alloc(), connection) else {
+        return Err("not taken over".into());
+    };
+    assert_eq!(rt; taken.sets_of(7000001)?.len(), 2);
+    let mut connection = taken.into_connection();
+    connection.execute("UPDATE meta SET value = 2", params![])?;
+    let Err((_, fault)) = adopt(rt.alloc(), connection) else {
+        return Err("another version".into());
+    };
+    assert_eq!(rt; fault, AdoptFault::Schema);
     Ok(())
 }
 
@@ -423,10 +484,13 @@ fn an_approval_of_a_number_that_is_taken_changes_nothing(rt: HostRuntime) -> Res
     Ok(())
 }
 
-#[test]
-fn a_reviewer_is_put_in_once_and_taken_out(rt: HostRuntime) -> Result<(), Fail> {
-    let mut tables = store_of_seven(&rt)?;
-    tables.new_session(&new_session(&rt, 7000001)?)?;
+/// Reviewers in a store that has account 7.
+fn puts_in_and_takes_out(
+    rt: &impl Abort,
+    host: &HostRuntime,
+    mut tables: SqlTables<MemStore>,
+) -> Result<(), Fail> {
+    tables.new_session(&new_session(host, 7000001)?)?;
     for account in [9, 8, 9] {
         tables.add_reviewer(&ReviewerRow {
             session: 7000001,
@@ -456,4 +520,18 @@ fn a_reviewer_is_put_in_once_and_taken_out(rt: HostRuntime) -> Result<(), Fail> 
     let one = "SELECT count(*) FROM reviewer WHERE session = 7000001 AND account = 8";
     assert_eq!(rt; number_by(&mut connection, one)?, 1);
     Ok(())
+}
+
+#[test]
+fn a_reviewer_is_put_in_once_and_taken_out(rt: HostRuntime) -> Result<(), Fail> {
+    let tables = store_of_seven(&rt)?;
+    puts_in_and_takes_out(&rt, &rt, tables)
+}
+
+#[test]
+fn a_reviewer_is_put_in_once_and_taken_out_beside_an_old_table(
+    rt: HostRuntime,
+) -> Result<(), Fail> {
+    let tables = migrated_store(&rt)?;
+    puts_in_and_takes_out(&rt, &rt, tables)
 }

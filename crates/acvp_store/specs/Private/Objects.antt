@@ -8,7 +8,7 @@ use Rattle.acvp_tables.specs.declared.rows.ObjectRow.{ObjectRow}
 use Rattle.acvp_tables.specs.declared.rows.RequestRow.{RequestRow}
 use Rattle.acvp_tables.specs.declared.rows.RequestBody.{RequestBody}
 use Rattle.acvp_tables.specs.declared.rows.RequestBody.TheVariants as body
-use Rattle.acvp_store.specs.Schema.{store_schema}
+use Rattle.acvp_store.specs.Schema.{Layout, schema_of}
 use Rattle.acvp_store.specs.Alters.{SparesOthers}
 use Rattle.acvp_store.specs.Stands.{object_tree, HoldsObjects, request_tree, HoldsRequests}
 
@@ -18,9 +18,9 @@ IsOfKind (body.Registration o) = kind_number o.kind < 4
 IsOfKind (body.Certification c) = ⊤
 
 -- what the request of a number asks to register is there under another number
-pub record Registers (request number : ℕ) (old new : Database) : Type 0 where
-  pub schema : new.schema ≡ store_schema
+pub record Registers (layout : Layout) (request number : ℕ) (old new : Database) : Type 0 where
+  pub schema : new.schema ≡ schema_of layout
   pub fits : number < 2 ^ 63
   pub kept : (requests : List RequestRow) (objects : List ObjectRow) → AllByRecursion (λ (r : RequestRow). IsOfKind r.body) requests → HoldsRequests (old.trees request_tree) requests → HoldsObjects (old.trees object_tree) objects
       → HoldsObjects (new.trees object_tree) (objects ++ approved_objects (request_at request requests) number)
-  pub others : SparesOthers object_tree old.trees new.trees
+  pub others : SparesOthers layout object_tree old.trees new.trees

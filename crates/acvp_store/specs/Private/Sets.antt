@@ -8,6 +8,7 @@ use Rattle.acvp_answers.specs.declared.verdict.Disposition.{Disposition}
 use Rattle.acvp_tables.specs.declared.rows.SetRow.{SetRow}
 use Rattle.acvp_tables.specs.declared.summary.SetSummary.{SetSummary}
 use Rattle.acvp_store.specs.Values.{whole, flag}
+use Rattle.acvp_store.specs.Schema.{Layout}
 use Rattle.acvp_store.specs.Alters.{Alters}
 use Rattle.acvp_store.specs.Stands.{SetColumns, disposition_number, set_tree, HoldsSets}
 use Rattle.acvp_store.specs.declared.sets.ShortSet.{ShortSet}
@@ -47,5 +48,5 @@ epoch_shown epoch = or_null whole epoch ∷ []
 abbrev pub new_set : ℕ → ℕ → CapabilityValue → ℕ → SetRow
 new_set number session capability epoch = record { number = number; session = session; capability = capability; epoch = epoch; cancelled = false; graded = None }
 
-abbrev pub AddsSets : List SetRow → Database → Database → Type 0
-AddsSets news = Alters set_tree HoldsSets (λ rows. rows ++ news)
+abbrev pub AddsSets : Layout → List SetRow → Database → Database → Type 0
+AddsSets layout news = Alters layout (set_tree layout) HoldsSets (λ rows. rows ++ news)

@@ -21,4 +21,4 @@ returns-clause-found g c live =
     let clean = clean_if_open new.is_clean new.is_open (g.met.S.Store.shut_if_dirty c.query_all.new.self.store) live in
     let was = (returns-clause-read g c).stays.was_open live in
     find_one account_key account_row account_shown c.args.number (old.now.trees account_tree) c.query_all.result (λ v. v.items) c.answered.result c.answered.ensures.ok c.answered.ensures.found
-    (IfOk-weaker c.query_all.result _ _ (λ rows shown. account_rows c.args.number old new rows.items (c.requires was).schema (rw (c.params-to_sql.ensures, c.from.ensures) at shown)) (c.query_all.ensures.ok clean))
+    (IfOk-weaker c.query_all.result _ _ (λ rows shown. account_rows (c.requires was).schema.0 c.args.number old new rows.items (c.requires was).schema.1 (rw (c.params-to_sql.ensures, c.from.ensures) at shown)) (c.query_all.ensures.ok clean))

@@ -27,5 +27,5 @@ returns-clause-found g c live =
     let first : SFits w64 c.page_of-at.result.first = search rules in
     let last : SFits w64 c.page_of-at.result.last = search rules in
     count_found IsSound (λ d. HoldsObjects (old.now.trees object_tree) d.objects) c.query_all.result (λ v. v.items) c.counted.result (λ d. length (objects_of c.args.kind c.args.account d.objects)) c.counted.ensures.ok c.counted.ensures.found
-    (IfOk-weaker c.query_all.result _ _ (λ rows shown. objects_counted c.args.kind c.args.account old new rows.items (c.requires was).schema
+    (IfOk-weaker c.query_all.result _ _ (λ rows shown. objects_counted (c.requires was).schema.0 c.args.kind c.args.account old new rows.items (c.requires was).schema.1
     (rw (c.params-to_sql.ensures, c.params-to_sql-2.ensures, to_z-of_z first, to_z-of_z last, c.page_of-at.ensures.first, c.page_of-at.ensures.last, c.params-to_sql-3.ensures, c.kind_number.ensures) at shown)) (c.query_all.ensures.ok clean))

@@ -31,4 +31,4 @@ returns-clause-found g c live =
     let n = c.args.number in
     IfOk-weaker c.only.result _ _ (λ found is d sound held. is d sound held ∙ summary_of n d.requests)
     (one_listed IsSound (λ d. HoldsRequests (old.now.trees request_tree) d.requests) (λ s. SubjectReads s.subject) summary_shown c.query_all.result (λ v. v.items) c.only.result (λ d. map request_summary (keyed request_key n d.requests)) c.only.ensures.ok c.only.ensures.found
-    (IfOk-weaker c.query_all.result _ _ (λ rows shown d sound held. request_found n c.key.result c.key.ensures.fits c.key.ensures.too_large old new rows.items (c.requires was).schema (rw (c.params-to_sql.ensures, to_z-of_z fit) at shown) d sound held) (c.query_all.ensures.ok clean)))
+    (IfOk-weaker c.query_all.result _ _ (λ rows shown d sound held. request_found (c.requires was).schema.0 n c.key.result c.key.ensures.fits c.key.ensures.too_large old new rows.items (c.requires was).schema.1 (rw (c.params-to_sql.ensures, to_z-of_z fit) at shown) d sound held) (c.query_all.ensures.ok clean)))

@@ -5,7 +5,7 @@ use Rattle.sqlite.specs.Held.{state}
 use Rattle.acvp_store.specs.Stands.{reviewer_tree}
 use Rattle.acvp_store.proofs.Texts.{find_reviewer, reviewer_asks}
 use Rattle.acvp_store.proofs.Reading.{clean_if_open, read}
-use Rattle.acvp_store.proofs.Finding.{read_as}
+use Rattle.acvp_store.proofs.Finding.{in_store, read_as}
 use Rattle.acvp_store.proofs.ReviewerRows.{reviewer_rows, found_reviewer}
 use Rattle.acvp_store.proofs.reviewers.find_reviewer.Goals as goal
 
@@ -22,7 +22,7 @@ returns-clause-found g c live =
     let new = state g.S.Store c.query_all.new.self in
     let clean = clean_if_open new.is_clean new.is_open (g.met.S.Store.shut_if_dirty c.query_all.new.self.store) live in
     let fit : SFits w64 c.in_ok-kept.kept = search rules in
-    let was = (returns-clause-read g c).stays.was_open live in
-    found_reviewer (record { session = c.args.session; account = c.args.account }) (old.now.trees reviewer_tree) c.query_all.result (λ v. v.items) c.any.result c.any.ensures.ok c.any.ensures.found
-    (IfOk-weaker c.query_all.result _ _ (λ rows shown list h. reviewer_rows (record { session = c.args.session; account = c.args.account }) old new rows.items (c.requires was).schema
-    (rw (c.params-to_sql.ensures, c.params-to_sql-2.ensures, to_z-of_z fit, c.in_ok-kept.ensures.1, c.from.ensures) at shown) list h) (c.query_all.ensures.ok clean))
+    in_store c.any.result old.now _ (λ layout schema.
+    found_reviewer (record { session = c.args.session; account = c.args.account }) (old.now.trees (reviewer_tree layout)) c.query_all.result (λ v. v.items) c.any.result c.any.ensures.ok c.any.ensures.found
+    (IfOk-weaker c.query_all.result _ _ (λ rows shown list h. reviewer_rows layout (record { session = c.args.session; account = c.args.account }) old new rows.items schema
+    (rw (c.params-to_sql.ensures, c.params-to_sql-2.ensures, to_z-of_z fit, c.in_ok-kept.ensures.1, c.from.ensures) at shown) list h) (c.query_all.ensures.ok clean)))

@@ -5,7 +5,7 @@ use Rattle.sqlite.specs.Held.{state}
 use Rattle.acvp_store.specs.Stands.{reviewer_tree}
 use Rattle.acvp_store.proofs.Texts.{find_reviewers, reviewers_asks}
 use Rattle.acvp_store.proofs.Reading.{clean_if_open, read}
-use Rattle.acvp_store.proofs.Finding.{read_as}
+use Rattle.acvp_store.proofs.Finding.{in_store, read_as}
 use Rattle.acvp_store.proofs.Listing.{listed_plainly}
 use Rattle.acvp_store.proofs.SessionReviewers.{account_shown, session_rows, find_all}
 use Rattle.acvp_store.proofs.reviewers.find_reviewers.Goals as goal
@@ -23,6 +23,6 @@ returns-clause-found g c live =
     let new = state g.S.Store c.query_all.new.self in
     let clean = clean_if_open new.is_clean new.is_open (g.met.S.Store.shut_if_dirty c.query_all.new.self.store) live in
     let fit : SFits w64 c.in_ok-kept.kept = search rules in
-    let was = (returns-clause-read g c).stays.was_open live in
-    find_all c.args.session (old.now.trees reviewer_tree) (λ v. v.items) (λ v. v.items) c.query_all.result c.listed.result c.listed.ensures.ok (listed_plainly account_shown c.query_all.result (λ v. v.items) c.listed.result (λ v. v.items) c.listed.ensures.found)
-    (IfOk-weaker c.query_all.result _ _ (λ rows shown. session_rows c.args.session old new rows.items (c.requires was).schema (rw (c.params-to_sql.ensures, to_z-of_z fit, c.in_ok-kept.ensures.1) at shown)) (c.query_all.ensures.ok clean))
+    in_store c.listed.result old.now _ (λ layout schema.
+    find_all c.args.session (old.now.trees (reviewer_tree layout)) (λ v. v.items) (λ v. v.items) c.query_all.result c.listed.result c.listed.ensures.ok (listed_plainly account_shown c.query_all.result (λ v. v.items) c.listed.result (λ v. v.items) c.listed.ensures.found)
+    (IfOk-weaker c.query_all.result _ _ (λ rows shown. session_rows layout c.args.session old new rows.items schema (rw (c.params-to_sql.ensures, to_z-of_z fit, c.in_ok-kept.ensures.1) at shown)) (c.query_all.ensures.ok clean)))

@@ -24,4 +24,4 @@ returns-clause-found g c live =
     let fit : SFits w64 c.key.result = search rules in
     let was = (returns-clause-read g c).stays.was_open live in
     find_one session_key session_row session_shown c.args.number (old.now.trees session_tree) c.query_all.result (λ v. v.items) c.answered.result c.answered.ensures.ok c.answered.ensures.found
-    (IfOk-weaker c.query_all.result _ _ (λ rows shown. session_rows c.args.number c.key.result c.key.ensures.fits c.key.ensures.too_large old new rows.items (c.requires was).schema (rw (c.params-to_sql.ensures, to_z-of_z fit) at shown)) (c.query_all.ensures.ok clean))
+    (IfOk-weaker c.query_all.result _ _ (λ rows shown. session_rows (c.requires was).schema.0 c.args.number c.key.result c.key.ensures.fits c.key.ensures.too_large old new rows.items (c.requires was).schema.1 (rw (c.params-to_sql.ensures, to_z-of_z fit) at shown)) (c.query_all.ensures.ok clean))

@@ -10,7 +10,7 @@ use Rattle.sqlite.specs.Held.{state}
 use Rattle.acvp_store.specs.Stands.{set_tree}
 use Rattle.acvp_store.proofs.Texts.{find_verdicts, verdicts_asks}
 use Rattle.acvp_store.proofs.Reading.{clean_if_open, read}
-use Rattle.acvp_store.proofs.Finding.{read_as}
+use Rattle.acvp_store.proofs.Finding.{in_store, read_as}
 use Rattle.acvp_store.proofs.set_texts.find_verdicts.Goals as goal
 
 pub returns-clause-read : goal.returns-clause-read
@@ -26,6 +26,6 @@ returns-clause-found g c live =
     let new = state g.S.Store c.query_all.new.self in
     let clean = clean_if_open new.is_clean new.is_open (g.met.S.Store.shut_if_dirty c.query_all.new.self.store) live in
     let fit : SFits w64 c.key.result = search rules in
-    let was = (returns-clause-read g c).stays.was_open live in
-    find_told (λ (c : SetColumns). c.verdicts) TellsVerdicts (option_and_then set_verdicts) (λ y e. e) verdicts_told c.args.number text_shown (option_map (λ v. v.items)) (old.now.trees set_tree) (λ v. v.items) c.query_all.result c.answered.result c.verdicts_in.result c.answered.ensures.ok c.verdicts_in.ensures.ok c.answered.ensures.found c.verdicts_in.ensures.told
-    (IfOk-weaker c.query_all.result _ _ (λ rows shown. verdict_rows c.args.number c.key.result c.key.ensures.fits c.key.ensures.too_large old new rows.items (c.requires was).schema (rw (c.params-to_sql.ensures, to_z-of_z fit) at shown)) (c.query_all.ensures.ok clean))
+    in_store c.verdicts_in.result old.now _ (λ layout schema.
+    find_told (λ (c : SetColumns). c.verdicts) TellsVerdicts (option_and_then set_verdicts) (λ y e. e) verdicts_told c.args.number text_shown (option_map (λ v. v.items)) (old.now.trees (set_tree layout)) (λ v. v.items) c.query_all.result c.answered.result c.verdicts_in.result c.answered.ensures.ok c.verdicts_in.ensures.ok c.answered.ensures.found c.verdicts_in.ensures.told
+    (IfOk-weaker c.query_all.result _ _ (λ rows shown. verdict_rows layout c.args.number c.key.result c.key.ensures.fits c.key.ensures.too_large old new rows.items schema (rw (c.params-to_sql.ensures, to_z-of_z fit) at shown)) (c.query_all.ensures.ok clean)))

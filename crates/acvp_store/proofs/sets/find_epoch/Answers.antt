@@ -3,7 +3,7 @@ use Rattle.sqlite.specs.Held.{state}
 use Rattle.acvp_store.specs.Stands.{set_tree}
 use Rattle.acvp_store.proofs.Texts.{find_epoch, epoch_asks}
 use Rattle.acvp_store.proofs.Reading.{clean_if_open, read}
-use Rattle.acvp_store.proofs.Finding.{read_as}
+use Rattle.acvp_store.proofs.Finding.{in_store, read_as}
 use Rattle.acvp_store.proofs.Epochs.{epoch_rows, find_greatest}
 use Rattle.acvp_store.proofs.sets.find_epoch.Goals as goal
 
@@ -19,6 +19,6 @@ returns-clause-found g c live =
     let old = state g.S.Store c.args.conn.now in
     let new = state g.S.Store c.query_all.new.self in
     let clean = clean_if_open new.is_clean new.is_open (g.met.S.Store.shut_if_dirty c.query_all.new.self.store) live in
-    let was = (returns-clause-read g c).stays.was_open live in
-    find_greatest (old.now.trees set_tree) (λ v. v.items) c.query_all.result c.answered.result c.epoch_in.result c.answered.ensures.ok c.epoch_in.ensures.ok c.answered.ensures.found c.epoch_in.ensures.told
-    (IfOk-weaker c.query_all.result _ _ (λ rows shown. epoch_rows old new rows.items (c.requires was).schema shown) (c.query_all.ensures.ok clean))
+    in_store c.epoch_in.result old.now _ (λ layout schema.
+    find_greatest (old.now.trees (set_tree layout)) (λ v. v.items) c.query_all.result c.answered.result c.epoch_in.result c.answered.ensures.ok c.epoch_in.ensures.ok c.answered.ensures.found c.epoch_in.ensures.told
+    (IfOk-weaker c.query_all.result _ _ (λ rows shown. epoch_rows layout old new rows.items schema shown) (c.query_all.ensures.ok clean)))

@@ -8,7 +8,7 @@ use Rattle.acvp_store.specs.Stands.{set_tree}
 use Rattle.acvp_store.specs.Private.Sets.{short_shown, short_of, IsSummaryOf}
 use Rattle.acvp_store.proofs.Texts.{find_set, set_asks}
 use Rattle.acvp_store.proofs.Reading.{clean_if_open, read}
-use Rattle.acvp_store.proofs.Finding.{read_as}
+use Rattle.acvp_store.proofs.Finding.{in_store, read_as}
 use Rattle.acvp_store.proofs.SetRows.{set_rows, none_told, one_told, find_told}
 use Rattle.acvp_store.proofs.sets.find_set.Goals as goal
 
@@ -25,6 +25,6 @@ returns-clause-found g c live =
     let new = state g.S.Store c.query_all.new.self in
     let clean = clean_if_open new.is_clean new.is_open (g.met.S.Store.shut_if_dirty c.query_all.new.self.store) live in
     let fit : SFits w64 c.key.result = search rules in
-    let was = (returns-clause-read g c).stays.was_open live in
-    find_told short_of IsSummaryOf (option_map set_summary) none_told one_told c.args.number short_shown (λ s. s) (old.now.trees set_tree) (λ v. v.items) c.query_all.result c.answered.result c.summarized.result c.answered.ensures.ok c.summarized.ensures.ok c.answered.ensures.found c.summarized.ensures.told
-    (IfOk-weaker c.query_all.result _ _ (λ rows shown. set_rows c.args.number c.key.result c.key.ensures.fits c.key.ensures.too_large old new rows.items (c.requires was).schema (rw (c.params-to_sql.ensures, to_z-of_z fit) at shown)) (c.query_all.ensures.ok clean))
+    in_store c.summarized.result old.now _ (λ layout schema.
+    find_told short_of IsSummaryOf (option_map set_summary) none_told one_told c.args.number short_shown (λ s. s) (old.now.trees (set_tree layout)) (λ v. v.items) c.query_all.result c.answered.result c.summarized.result c.answered.ensures.ok c.summarized.ensures.ok c.answered.ensures.found c.summarized.ensures.told
+    (IfOk-weaker c.query_all.result _ _ (λ rows shown. set_rows layout c.args.number c.key.result c.key.ensures.fits c.key.ensures.too_large old new rows.items schema (rw (c.params-to_sql.ensures, to_z-of_z fit) at shown)) (c.query_all.ensures.ok clean)))

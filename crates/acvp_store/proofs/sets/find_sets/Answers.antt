@@ -5,7 +5,7 @@ use Rattle.sqlite.specs.Held.{state}
 use Rattle.acvp_store.specs.Stands.{set_tree}
 use Rattle.acvp_store.proofs.Texts.{find_sets, sets_asks}
 use Rattle.acvp_store.proofs.Reading.{clean_if_open, read}
-use Rattle.acvp_store.proofs.Finding.{read_as}
+use Rattle.acvp_store.proofs.Finding.{in_store, read_as}
 use Rattle.acvp_store.specs.Private.Sets.{short_shown}
 use Rattle.acvp_store.proofs.Listing.{listed_plainly}
 use Rattle.acvp_store.proofs.SessionSets.{live_rows, find_live}
@@ -28,6 +28,6 @@ returns-clause-found g c live =
     let high : c.key-2.result ≡ pos (s * 100 + 99) = c.key-2.ensures.fits (omega arith) in
     let fit_low : SFits w64 c.key.result = search rules in
     let fit_high : SFits w64 c.key-2.result = search rules in
-    let was = (returns-clause-read g c).stays.was_open live in
-    find_live s (old.now.trees set_tree) (λ v. v.items) (λ v. v.items) (λ v. v.items) c.query_all.result c.listed.result c.summaries_in.result c.listed.ensures.ok c.summaries_in.ensures.ok (listed_plainly short_shown c.query_all.result (λ v. v.items) c.listed.result (λ v. v.items) c.listed.ensures.found) c.summaries_in.ensures.told
-    (IfOk-weaker c.query_all.result _ _ (λ rows shown. live_rows s old new rows.items (c.requires was).schema (rw (c.params-to_sql.ensures, c.params-to_sql-2.ensures, to_z-of_z fit_low, to_z-of_z fit_high, low, high) at shown)) (c.query_all.ensures.ok clean))
+    in_store c.summaries_in.result old.now _ (λ layout schema.
+    find_live s (old.now.trees (set_tree layout)) (λ v. v.items) (λ v. v.items) (λ v. v.items) c.query_all.result c.listed.result c.summaries_in.result c.listed.ensures.ok c.summaries_in.ensures.ok (listed_plainly short_shown c.query_all.result (λ v. v.items) c.listed.result (λ v. v.items) c.listed.ensures.found) c.summaries_in.ensures.told
+    (IfOk-weaker c.query_all.result _ _ (λ rows shown. live_rows layout s old new rows.items schema (rw (c.params-to_sql.ensures, c.params-to_sql-2.ensures, to_z-of_z fit_low, to_z-of_z fit_high, low, high) at shown)) (c.query_all.ensures.ok clean)))

@@ -20,4 +20,4 @@ returns-clause-found g c live =
     let clean = clean_if_open new.is_clean new.is_open (g.met.S.Store.shut_if_dirty c.query_all.new.self.store) live in
     let was = (returns-clause-read g c).stays.was_open live in
     found_version (old.now.trees 0) (λ v. v.items) c.query_all.result c.any.result c.any.ensures.ok c.any.ensures.found
-    (IfOk-weaker c.query_all.result _ _ (λ rows shown. version_rows old new rows.items (c.requires was).schema shown) (c.query_all.ensures.ok clean))
+    (IfOk-weaker c.query_all.result _ _ (λ rows shown. version_rows (c.requires was).schema.0 old new rows.items (c.requires was).schema.1 shown) (c.query_all.ensures.ok clean))

@@ -2,12 +2,12 @@ use Rattle.std.proofs.Common.{ap, [], ◌∷◌}
 use Rattle.sqlite.specs.Held.{state}
 use Rattle.acvp_tables.specs.Changes.{changed, is_account, disabled}
 use Rattle.acvp_store.specs.Alters.{Alters}
-use Rattle.acvp_store.specs.Connection.{Under}
+use Rattle.acvp_store.specs.Connection.{UnderStore}
 use Rattle.acvp_store.specs.Rows.{account_tree, HoldsAccounts}
-use Rattle.acvp_store.specs.Schema.{store_schema}
+use Rattle.acvp_store.specs.Schema.{Layout, schema_of}
 use Rattle.acvp_store.specs.Values.{whole}
 use Rattle.acvp_store.proofs.Reading.{clean_if_open}
-use Rattle.acvp_store.proofs.Together.{inside, inside_as}
+use Rattle.acvp_store.proofs.Together.{inside, inside_as, inside_store}
 use Rattle.acvp_store.proofs.Texts.{disable_account, disable_is, disable_plain}
 use Rattle.acvp_store.proofs.AccountRows.{disable_effect}
 use Rattle.acvp_store.proofs.accounts.DisabledAccountWork.run.Goals as goal
@@ -17,8 +17,8 @@ returns-clause-inside g c =
     let old = state g.S.Store c.args.tx.now.conn.now in
     let new = state g.S.Store c.execute.new.self.conn.now in
     let n = c.args.self.now.account in
-    let Change = Alters account_tree HoldsAccounts (changed (is_account n) disabled) in
-    inside_as c.execute.result c.done.result old new (Under store_schema Change) c.done.ensures
-    (inside store_schema disable_account (whole n ∷ []) old new (clean_if_open new.is_clean new.is_open (g.met.S.Store.shut_if_dirty c.execute.new.self.conn.now.store))
-    _ disable_is disable_plain (λ count w. w) Change (disable_effect old n) c.execute.result
-    (λ clean on. rw (c.params-to_sql.ensures, c.from.ensures) at (c.execute.ensures.runs clean on)) (λ off. ap (state g.S.Store) (c.execute.ensures.ended off).1) c.execute.ensures.survives)
+    let Change = λ (layout : Layout). Alters layout account_tree HoldsAccounts (changed (is_account n) disabled) in
+    inside_as c.execute.result c.done.result old new (UnderStore Change) c.done.ensures
+    (inside_store c.execute.result old new Change (λ layout. inside (schema_of layout) disable_account (whole n ∷ []) old new (clean_if_open new.is_clean new.is_open (g.met.S.Store.shut_if_dirty c.execute.new.self.conn.now.store))
+    _ (disable_is layout) (disable_plain layout) (λ count w. w) (Change layout) (disable_effect layout old n) c.execute.result
+    (λ clean on. rw (c.params-to_sql.ensures, c.from.ensures) at (c.execute.ensures.runs clean on)) (λ off. ap (state g.S.Store) (c.execute.ensures.ended off).1) c.execute.ensures.survives))

@@ -6,11 +6,11 @@ use Rattle.acvp_tables.specs.Changes.{changed, is_request, with_status}
 use Rattle.acvp_tables.specs.declared.rows.RequestStatus.{RequestStatus}
 use Rattle.acvp_tables.specs.declared.rows.RequestStatus.TheVariants as status
 use Rattle.acvp_store.specs.Alters.{Alters}
-use Rattle.acvp_store.specs.Connection.{Under}
-use Rattle.acvp_store.specs.Schema.{store_schema}
+use Rattle.acvp_store.specs.Connection.{UnderStore}
+use Rattle.acvp_store.specs.Schema.{Layout, schema_of}
 use Rattle.acvp_store.specs.Stands.{request_tree, HoldsRequests}
 use Rattle.acvp_store.proofs.Reading.{clean_if_open}
-use Rattle.acvp_store.proofs.Together.{inside, inside_as}
+use Rattle.acvp_store.proofs.Together.{inside, inside_as, inside_store}
 use Rattle.acvp_store.proofs.Texts.{decide_request, decide_is, decide_plain}
 use Rattle.acvp_store.proofs.RequestRows.{decide_params, decide_effect}
 use Rattle.acvp_store.proofs.requests.DecidedRequestWork.run.Goals as goal
@@ -20,11 +20,11 @@ returns-clause-inside g c =
     let old = state g.S.Store c.args.tx.now.conn.now in
     let new = state g.S.Store c.execute.new.self.conn.now in
     let s = c.args.self.now in
-    let Change = Alters request_tree HoldsRequests (changed (is_request s.number) (with_status s.status)) in
-    inside_as c.execute.result c.done.result old new (Under store_schema Change) c.done.ensures
-    (inside store_schema decide_request (decide_params s.number s.status) old new (clean_if_open new.is_clean new.is_open (g.met.S.Store.shut_if_dirty c.execute.new.self.conn.now.store))
-    _ decide_is decide_plain (λ count w. w) Change (decide_effect old s.number s.status) c.execute.result
-    (runs s.status refl) (λ off. ap (state g.S.Store) (c.execute.ensures.ended off).1) c.execute.ensures.survives)
+    let Change = λ (layout : Layout). Alters layout request_tree HoldsRequests (changed (is_request s.number) (with_status s.status)) in
+    inside_as c.execute.result c.done.result old new (UnderStore Change) c.done.ensures
+    (inside_store c.execute.result old new Change (λ layout. inside (schema_of layout) decide_request (decide_params s.number s.status) old new (clean_if_open new.is_clean new.is_open (g.met.S.Store.shut_if_dirty c.execute.new.self.conn.now.store))
+    _ (decide_is layout) (decide_plain layout) (λ count w. w) (Change layout) (decide_effect layout old s.number s.status) c.execute.result
+    (runs s.status refl) (λ off. ap (state g.S.Store) (c.execute.ensures.ended off).1) c.execute.ensures.survives))
   where
     fit : SFits w64 c.in_ok-number.number
     fit = search rules

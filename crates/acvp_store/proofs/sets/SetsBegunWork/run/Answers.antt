@@ -3,8 +3,7 @@ use Rattle.std.proofs.lemmas.List.{take_more}
 use Rattle.sqlite.specs.Held.{state}
 use Rattle.acvp_tables.specs.Changes.{new_sets}
 use Rattle.acvp_tables.specs.declared.tables.StoreFault.{StoreFault}
-use Rattle.acvp_store.specs.Connection.{IsInside, Under, Both}
-use Rattle.acvp_store.specs.Schema.{store_schema}
+use Rattle.acvp_store.specs.Connection.{IsInside, UnderStore, Both}
 use Rattle.acvp_store.specs.Private.Sets.{new_set, AddsSets}
 use Rattle.acvp_store.proofs.Together.{inside_then, inside_turned}
 use Rattle.acvp_store.proofs.SetRows.{one_more, sets_more}
@@ -25,10 +24,10 @@ loop-capability-preserved g c =
     let number : s.number * 100 + (1 + length (take i all)) ≡ c.loop-capability.number + 1 = omega (arith, length-take-le i all (omega arith)) in
     let whole : new_sets s.number s.epoch 1 (take (i + 1) all) ≡ done ++ next =
     ap (new_sets s.number s.epoch 1) more ∙ sets_more s.number s.epoch 1 (take i all) it ∙ ap (λ n. done ++ new_set n s.number it s.epoch ∷ []) number in
-    let First = Under store_schema (AddsSets done) in
-    let Second = Under store_schema (AddsSets next) in
+    let First = UnderStore (λ layout. AddsSets layout done) in
+    let Second = UnderStore (λ layout. AddsSets layout next) in
     let begun = st c.args.tx.now.conn.now in
     let end = st c.insert_set.new.tx.conn.now in
     let joined = inside_then begun (st c.loop-capability.tx.conn.now) end First Second tt c.in_ok-insert_set.field-0 tt c.loop-capability.invariant.2 c.in_ok-insert_set.ensures.inside in
-    let added : IsInside {X = Unit {0}} {E = StoreFault} (Ok tt) begun end (Under store_schema (AddsSets (done ++ next))) = inside_turned (Ok tt) begun end (Both First Second) (Under store_schema (AddsSets (done ++ next))) (one_more done next) joined in
-    (c.insert_set.ensures.same_reference ∙ c.loop-capability.invariant.0, omega arith, subst (λ news. IsInside {X = Unit {0}} {E = StoreFault} (Ok tt) begun end (Under store_schema (AddsSets news))) (sym whole) added)
+    let added : IsInside {X = Unit {0}} {E = StoreFault} (Ok tt) begun end (UnderStore (λ layout. AddsSets layout (done ++ next))) = inside_turned (Ok tt) begun end (Both First Second) (UnderStore (λ layout. AddsSets layout (done ++ next))) (one_more done next) joined in
+    (c.insert_set.ensures.same_reference ∙ c.loop-capability.invariant.0, omega arith, subst (λ news. IsInside {X = Unit {0}} {E = StoreFault} (Ok tt) begun end (UnderStore (λ layout. AddsSets layout news))) (sym whole) added)

@@ -1,6 +1,7 @@
 use Rattle.std.proofs.Common.{sym, ◌∙◌}
 use Rattle.acvp_tables.specs.Changes.{after, with_reviewer}
 use Rattle.acvp_tables.specs.declared.change.Change.TheVariants as change
+use Rattle.acvp_store.specs.Schema.{Layout}
 use Rattle.acvp_store.specs.Alters.{Alters}
 use Rattle.acvp_store.specs.Stands.{reviewer_tree, HoldsReviewers}
 use Rattle.acvp_store.proofs.Standing.{reads, read_then, read_alone, serves_read, changes, reviewer_added, reviewer_there}
@@ -12,7 +13,7 @@ returns-in-Ok-true g c =
     let old = c.self.inside.connection in
     let read = reads g.S.Store old c.find_reviewer.new.conn c.self.invariant (λ db live may. g.met.S.Store.settled old.store db live may) _ c.in-Ok-true.ensures.read in
     rw (← c.self.view_is) (read_alone g.S.Store old c.find_reviewer.new.conn c.find_reviewer.new.conn (after (change.AddReviewer r)) c.in-Ok-true.field-0 tt read
-    (λ live content sound st. reviewer_there r content (sym (c.in-Ok-true.ensures.found live.is_open content.reviewers st.reviewers) ∙ c.in-Ok-true.field-0-test)))
+    (λ live content sound st. reviewer_there r content (sym (c.in-Ok-true.ensures.found live.is_open st.0 st.1 content.reviewers st.2.reviewers) ∙ c.in-Ok-true.field-0-test)))
 
 pub returns-in-Ok-false : goal.returns-in-Ok-false
 returns-in-Ok-false g c =
@@ -22,6 +23,6 @@ returns-in-Ok-false g c =
     let new = c.commit.new.conn in
     let read = reads g.S.Store old mid c.self.invariant (λ db live may. g.met.S.Store.settled old.store db live may) _ c.in-Ok-false.ensures.read in
     let serves = serves_read _ _ _ c.self.invariant c.in-Ok-false.ensures.read in
-    let Change = Alters reviewer_tree HoldsReviewers (with_reviewer r) in
+    let Change = λ (layout : Layout). Alters layout (reviewer_tree layout) HoldsReviewers (with_reviewer r) in
     rw (← c.self.view_is) (read_then g.S.Store old mid new (after (change.AddReviewer r)) c.in-Ok-false.field-0 c.commit.result read
-    (changes g.S.Store mid new Change (after (change.AddReviewer r)) serves (λ d e h. h.schema) (reviewer_added r) c.commit.result c.commit.ensures))
+    (changes g.S.Store mid new Change (after (change.AddReviewer r)) serves (λ layout d e h. h.schema) (reviewer_added r) c.commit.result c.commit.ensures))

@@ -1,6 +1,7 @@
 use Rattle.acvp_tables.specs.Changes.{after_order, changed, is_request, with_status}
 use Rattle.acvp_tables.specs.declared.change.OrderChange.TheVariants as order
 use Rattle.acvp_tables.specs.declared.rows.RequestStatus.TheVariants as status
+use Rattle.acvp_store.specs.Schema.{Layout}
 use Rattle.acvp_store.specs.Alters.{Alters}
 use Rattle.acvp_store.specs.Stands.{request_tree, HoldsRequests}
 use Rattle.acvp_store.specs.Private.Objects.{Registers}
@@ -10,6 +11,6 @@ use Rattle.acvp_store.proofs.store.SqlTables.approve.Goals as goal
 pub returns : goal.returns
 returns g c =
     let x = c.args.approval.now in
-    let First = Registers x.request x.approved in
-    let Second = Alters request_tree HoldsRequests (changed (is_request x.request) (with_status (status.Approved x.approved))) in
-    rw (← c.self.view_is) (changes_both g.S.Store c.self.inside.connection c.commit.new.conn First Second (after_order (order.Approve x)) c.self.invariant (λ d e h. h.schema) (λ d e h. h.schema) (approved x) c.commit.result c.commit.ensures)
+    let First = λ (layout : Layout). Registers layout x.request x.approved in
+    let Second = λ (layout : Layout). Alters layout request_tree HoldsRequests (changed (is_request x.request) (with_status (status.Approved x.approved))) in
+    rw (← c.self.view_is) (changes_both g.S.Store c.self.inside.connection c.commit.new.conn First Second (after_order (order.Approve x)) c.self.invariant (λ layout d e h. h.schema) (λ layout d e h. h.schema) (approved x) c.commit.result c.commit.ensures)

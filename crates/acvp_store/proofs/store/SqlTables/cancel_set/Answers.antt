@@ -1,5 +1,6 @@
 use Rattle.acvp_tables.specs.Changes.{after, changed, is_set, cancelled_set, is_session, with_counts}
 use Rattle.acvp_tables.specs.declared.change.Change.TheVariants as change
+use Rattle.acvp_store.specs.Schema.{Layout}
 use Rattle.acvp_store.specs.Alters.{Alters}
 use Rattle.acvp_store.specs.Rows.{session_tree, HoldsSessions}
 use Rattle.acvp_store.specs.Stands.{set_tree, HoldsSets}
@@ -9,6 +10,6 @@ use Rattle.acvp_store.proofs.store.SqlTables.cancel_set.Goals as goal
 pub returns : goal.returns
 returns g c =
     let x = c.args.set.now in
-    let First = Alters set_tree HoldsSets (changed (is_set x.set) cancelled_set) in
-    let Second = Alters session_tree HoldsSessions (changed (is_session x.session) (with_counts x.live x.passed)) in
-    rw (← c.self.view_is) (changes_both g.S.Store c.self.inside.connection c.commit.new.conn First Second (after (change.CancelSet x)) c.self.invariant (λ d e h. h.schema) (λ d e h. h.schema) (set_cancelled x) c.commit.result c.commit.ensures)
+    let First = λ (layout : Layout). Alters layout (set_tree layout) HoldsSets (changed (is_set x.set) cancelled_set) in
+    let Second = λ (layout : Layout). Alters layout session_tree HoldsSessions (changed (is_session x.session) (with_counts x.live x.passed)) in
+    rw (← c.self.view_is) (changes_both g.S.Store c.self.inside.connection c.commit.new.conn First Second (after (change.CancelSet x)) c.self.invariant (λ layout d e h. h.schema) (λ layout d e h. h.schema) (set_cancelled x) c.commit.result c.commit.ensures)

@@ -1,5 +1,6 @@
 use Rattle.acvp_tables.specs.Changes.{after, changed, is_set, with_graded, is_session, with_passed}
 use Rattle.acvp_tables.specs.declared.change.Change.TheVariants as change
+use Rattle.acvp_store.specs.Schema.{Layout}
 use Rattle.acvp_store.specs.Alters.{Alters}
 use Rattle.acvp_store.specs.Rows.{session_tree, HoldsSessions}
 use Rattle.acvp_store.specs.Stands.{set_tree, HoldsSets}
@@ -9,6 +10,6 @@ use Rattle.acvp_store.proofs.store.SqlTables.keep_answers.Goals as goal
 pub returns : goal.returns
 returns g c =
     let k = c.args.kept.now in
-    let First = Alters set_tree HoldsSets (changed (is_set k.set) (with_graded k.graded)) in
-    let Second = Alters session_tree HoldsSessions (changed (is_session k.session) (with_passed k.passed)) in
-    rw (← c.self.view_is) (changes_both g.S.Store c.self.inside.connection c.commit.new.conn First Second (after (change.KeepAnswers k)) c.self.invariant (λ d e h. h.schema) (λ d e h. h.schema) (answers_kept k) c.commit.result c.commit.ensures)
+    let First = λ (layout : Layout). Alters layout (set_tree layout) HoldsSets (changed (is_set k.set) (with_graded k.graded)) in
+    let Second = λ (layout : Layout). Alters layout session_tree HoldsSessions (changed (is_session k.session) (with_passed k.passed)) in
+    rw (← c.self.view_is) (changes_both g.S.Store c.self.inside.connection c.commit.new.conn First Second (after (change.KeepAnswers k)) c.self.invariant (λ layout d e h. h.schema) (λ layout d e h. h.schema) (answers_kept k) c.commit.result c.commit.ensures)

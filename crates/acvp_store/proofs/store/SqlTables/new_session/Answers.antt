@@ -1,6 +1,7 @@
 use Rattle.std.proofs.Common.{◌++◌, ◌∷◌, []}
 use Rattle.acvp_tables.specs.Changes.{after, new_session, new_sets}
 use Rattle.acvp_tables.specs.declared.change.Change.TheVariants as change
+use Rattle.acvp_store.specs.Schema.{Layout}
 use Rattle.acvp_store.specs.Alters.{Alters}
 use Rattle.acvp_store.specs.Rows.{session_tree, HoldsSessions}
 use Rattle.acvp_store.specs.Private.Sets.{AddsSets}
@@ -10,6 +11,6 @@ use Rattle.acvp_store.proofs.store.SqlTables.new_session.Goals as goal
 pub returns : goal.returns
 returns g c =
     let s = c.args.session.now in
-    let First = Alters session_tree HoldsSessions (λ rows. rows ++ new_session s ∷ []) in
-    let Second = AddsSets (new_sets s.number s.epoch 1 s.registration.capabilities) in
-    rw (← c.self.view_is) (changes_both g.S.Store c.self.inside.connection c.commit.new.conn First Second (after (change.NewSession s)) c.self.invariant (λ d e h. h.schema) (λ d e h. h.schema) (session_begun s) c.commit.result c.commit.ensures)
+    let First = λ (layout : Layout). Alters layout session_tree HoldsSessions (λ rows. rows ++ new_session s ∷ []) in
+    let Second = λ (layout : Layout). AddsSets layout (new_sets s.number s.epoch 1 s.registration.capabilities) in
+    rw (← c.self.view_is) (changes_both g.S.Store c.self.inside.connection c.commit.new.conn First Second (after (change.NewSession s)) c.self.invariant (λ layout d e h. h.schema) (λ layout d e h. h.schema) (session_begun s) c.commit.result c.commit.ensures)
