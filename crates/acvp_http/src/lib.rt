@@ -7,7 +7,7 @@ mod connection;
 mod framing;
 mod head;
 #[cfg(test)]
-mod over_lists;
+mod over_both_forms;
 mod path;
 mod promise;
 mod reading;

@@ -1,14 +1,11 @@
 //! What is answered to who submits answers to vector sets.
 
+use crate::cases::Answer::{Denied, Made, Shown};
+use crate::cases::Ask::{AddsReviewer, OnSet, WithAnswers, WithToken};
+use crate::cases::Step::{At, Caches};
 use crate::cases::set::UNRECEIVED;
-use crate::cases::{
-    NINE, NINE_REVIEWS, OF_NINE, OF_THE_SESSION, OF_THE_SESSION_LATE, Over, REGISTERED, add,
-    denied, made, meets, meets_each, on_set, server_with_session, shown, with_answers, with_token,
-};
+use crate::cases::{Ask, NINE, NINE_REVIEWS, OF_NINE, OF_THE_SESSION, OF_THE_SESSION_LATE, Step};
 use acvp_policy::{Action, Rule};
-use acvp_tables::Tables;
-use std::alloc::Global;
-use std::process::Abort;
 
 pub(crate) const RECEIVED: &[u8] =
     br#"[{"acvVersion":"1.0"},{"status":"received","url":"/acvp/v1/testSessions/7000001/vectorSets/700000101/results"}]"#;
@@ -64,37 +61,59 @@ const MISSING: &[u8] =
 const MISSING_BUT_THE_THIRD: &[u8] =
     br#"[{"acvVersion":"1.0"},{"disposition":"missing","tests":[{"result":"missing","tcId":1},{"result":"missing","tcId":2},{"result":"passed","tcId":3},{"result":"missing","tcId":4},{"result":"missing","tcId":5},{"result":"missing","tcId":6},{"result":"missing","tcId":7},{"result":"missing","tcId":8},{"result":"missing","tcId":9},{"result":"missing","tcId":10},{"result":"missing","tcId":11},{"result":"missing","tcId":12},{"result":"missing","tcId":13},{"result":"missing","tcId":14},{"result":"missing","tcId":15},{"result":"missing","tcId":16},{"result":"missing","tcId":17}],"vsId":700000101}]"#;
 
-/// Answers are graded and kept whole, and each takes the place of all those before it.
-pub(crate) fn answers_are_graded_and_kept_whole<T: Tables + Drop>(
-    rt: &impl Abort,
-    alloc: Global,
-    over: Over<T>,
-) {
-    let mut server = server_with_session(rt, alloc, over, REGISTERED);
-    let results = on_set(Action::SetResults, 700000101, OF_THE_SESSION);
-    let again = with_answers(Action::Resubmit, 700000101, OF_THE_SESSION, ALL_RIGHT);
-    let first = with_answers(Action::Submit, 700000101, OF_THE_SESSION, ALL_RIGHT);
-    let cases = [
-        denied(61, again, Rule::NotSubmitted),
-        made(61, first, RECEIVED),
-        shown(62, results, PASSED),
-        denied(62, first, Rule::AlreadySubmitted),
-    ];
-    meets_each(rt, &mut server, &cases);
-    let bodies: [(&[u8], &[u8]); 5] = [
-        (ONE_WRONG, FAILED),
-        (ONE_MISSING, MISSING),
-        (THE_THIRD, MISSING_BUT_THE_THIRD),
-        (OF_THE_SECONDS_MESSAGES, ALL_FAILED),
-        (ALL_RIGHT, PASSED),
-    ];
-    for (body, wanted) in bodies {
-        let again = with_answers(Action::Resubmit, 700000101, OF_THE_SESSION, body);
-        let cases = [made(63, again, RECEIVED), shown(64, results, wanted)];
-        meets_each(rt, &mut server, &cases);
-    }
-    assert_eq!(rt; server.desk.cached(), 1);
-}
+/// The results of the first set, and right answers to it, the first time and again.
+const RESULTS: Ask = OnSet(Action::SetResults, 700000101, OF_THE_SESSION);
+
+const SUBMIT: Ask = WithAnswers(Action::Submit, 700000101, OF_THE_SESSION, ALL_RIGHT);
+
+const RESUBMIT: Ask = WithAnswers(Action::Resubmit, 700000101, OF_THE_SESSION, ALL_RIGHT);
+
+/// Answers are graded and kept whole, and each takes the place of all those before it: the first ones, then those that
+/// are wrong or without a test, and then those to one test or to another set, before right ones again.
+pub(crate) const ANSWERS_ARE_GRADED: &[Step] = &[
+    At(61, RESUBMIT, Denied(Rule::NotSubmitted)),
+    At(61, SUBMIT, Made(RECEIVED)),
+    At(62, RESULTS, Shown(PASSED)),
+    At(62, SUBMIT, Denied(Rule::AlreadySubmitted)),
+];
+
+pub(crate) const WRONG_AND_MISSING_ONES_ARE_GRADED: &[Step] = &[
+    At(
+        63,
+        WithAnswers(Action::Resubmit, 700000101, OF_THE_SESSION, ONE_WRONG),
+        Made(RECEIVED),
+    ),
+    At(64, RESULTS, Shown(FAILED)),
+    At(
+        63,
+        WithAnswers(Action::Resubmit, 700000101, OF_THE_SESSION, ONE_MISSING),
+        Made(RECEIVED),
+    ),
+    At(64, RESULTS, Shown(MISSING)),
+];
+
+pub(crate) const EACH_TAKES_THE_PLACE_OF_ALL_BEFORE: &[Step] = &[
+    At(
+        63,
+        WithAnswers(Action::Resubmit, 700000101, OF_THE_SESSION, THE_THIRD),
+        Made(RECEIVED),
+    ),
+    At(64, RESULTS, Shown(MISSING_BUT_THE_THIRD)),
+    At(
+        63,
+        WithAnswers(
+            Action::Resubmit,
+            700000101,
+            OF_THE_SESSION,
+            OF_THE_SECONDS_MESSAGES,
+        ),
+        Made(RECEIVED),
+    ),
+    At(64, RESULTS, Shown(ALL_FAILED)),
+    At(63, RESUBMIT, Made(RECEIVED)),
+    At(64, RESULTS, Shown(PASSED)),
+    Caches(1),
+];
 
 /// Two sets of a session, each with whether it passed: what is told of the session.
 const ONE_OF_TWO: &[u8] =
@@ -116,82 +135,104 @@ const THE_FIRST_ALONE: &[u8] =
 const CANCELLED: &[u8] =
     br#"[{"acvVersion":"1.0"},{"status":"cancelled","url":"/acvp/v1/testSessions/7000001/vectorSets/700000102"}]"#;
 
-/// A session has passed where each of its sets that isn't cancelled has.
-pub(crate) fn a_session_passes_with_its_sets_alone<T: Tables + Drop>(
-    rt: &impl Abort,
-    alloc: Global,
-    over: Over<T>,
-) {
-    let mut server = server_with_session(rt, alloc, over, REGISTERED);
-    let results = with_token(Action::SessionResults, 7000001, OF_THE_SESSION);
-    let steps: [(Action, u64, &[u8], &[u8], &[u8]); 5] = [
-        (Action::Submit, 700000101, ALL_RIGHT, RECEIVED, ONE_OF_TWO),
-        (
-            Action::Submit,
-            700000102,
-            SECOND_RIGHT,
-            SECOND_RECEIVED,
-            BOTH,
-        ),
-        (Action::Resubmit, 700000101, ONE_WRONG, RECEIVED, THE_SECOND),
-        (Action::Resubmit, 700000101, ALL_RIGHT, RECEIVED, BOTH),
-        (
-            Action::Resubmit,
-            700000102,
-            SECOND_WRONG,
-            SECOND_RECEIVED,
-            THE_FIRST,
-        ),
-    ];
-    for (action, set, body, received, wanted) in steps {
-        let sent = with_answers(action, set, OF_THE_SESSION, body);
-        meets_each(
-            rt,
-            &mut server,
-            &[made(61, sent, received), shown(62, results, wanted)],
-        );
-    }
-    let cancel = on_set(Action::CancelSet, 700000102, OF_THE_SESSION);
-    let cases = [
-        made(63, cancel, CANCELLED),
-        shown(63, results, THE_FIRST_ALONE),
-    ];
-    meets_each(rt, &mut server, &cases);
-}
+/// The results of the session.
+const RESULTS_OF_BOTH: Ask = WithToken(Action::SessionResults, 7000001, OF_THE_SESSION);
 
-/// The rule of each body that is refused; none of them is kept.
-pub(crate) fn answers_that_are_refused_are_not_kept<T: Tables + Drop>(
-    rt: &impl Abort,
-    alloc: Global,
-    over: Over<T>,
-) {
-    let mut server = server_with_session(rt, alloc, over, REGISTERED);
-    let bodies: [(&[u8], Rule); 6] = [
-        (b"answers", Rule::BodyNotJson),
-        (b"{}", Rule::BodyEnvelope),
-        (
+/// A session has passed where each of its sets that isn't cancelled has: with both, and then with each alone.
+pub(crate) const A_SESSION_PASSES_WITH_BOTH_SETS: &[Step] = &[
+    At(61, SUBMIT, Made(RECEIVED)),
+    At(62, RESULTS_OF_BOTH, Shown(ONE_OF_TWO)),
+    At(
+        61,
+        WithAnswers(Action::Submit, 700000102, OF_THE_SESSION, SECOND_RIGHT),
+        Made(SECOND_RECEIVED),
+    ),
+    At(62, RESULTS_OF_BOTH, Shown(BOTH)),
+];
+
+pub(crate) const AND_NOT_WITH_ONE_OF_THEM: &[Step] = &[
+    At(
+        61,
+        WithAnswers(Action::Resubmit, 700000101, OF_THE_SESSION, ONE_WRONG),
+        Made(RECEIVED),
+    ),
+    At(62, RESULTS_OF_BOTH, Shown(THE_SECOND)),
+    At(61, RESUBMIT, Made(RECEIVED)),
+    At(62, RESULTS_OF_BOTH, Shown(BOTH)),
+    At(
+        61,
+        WithAnswers(Action::Resubmit, 700000102, OF_THE_SESSION, SECOND_WRONG),
+        Made(SECOND_RECEIVED),
+    ),
+    At(62, RESULTS_OF_BOTH, Shown(THE_FIRST)),
+    At(
+        63,
+        OnSet(Action::CancelSet, 700000102, OF_THE_SESSION),
+        Made(CANCELLED),
+    ),
+    At(63, RESULTS_OF_BOTH, Shown(THE_FIRST_ALONE)),
+];
+
+/// The rule of each body that is refused; then who may not submit and when, and that none of them is kept.
+pub(crate) const ANSWERS_THAT_ARE_REFUSED: &[Step] = &[
+    At(
+        61,
+        WithAnswers(Action::Submit, 700000101, OF_THE_SESSION, b"answers"),
+        Denied(Rule::BodyNotJson),
+    ),
+    At(
+        61,
+        WithAnswers(Action::Submit, 700000101, OF_THE_SESSION, b"{}"),
+        Denied(Rule::BodyEnvelope),
+    ),
+    At(
+        61,
+        WithAnswers(
+            Action::Submit,
+            700000101,
+            OF_THE_SESSION,
             br#"[{"acvVersion":"1.0"},{"vsId":700000101}]"#,
-            Rule::BodyField,
         ),
-        (SECOND_RIGHT, Rule::SetMismatch),
-        (TWICE, Rule::DuplicateTest),
-        (UNKNOWN, Rule::UnknownTest),
-    ];
-    for (body, rule) in bodies {
-        let sent = with_answers(Action::Submit, 700000101, OF_THE_SESSION, body);
-        meets(rt, &mut server, &denied(61, sent, rule));
-    }
-    let elsewhere = with_answers(Action::Submit, 900000101, OF_THE_SESSION, ALL_RIGHT);
-    let reviewed = with_answers(Action::Submit, 700000101, OF_NINE, ALL_RIGHT);
-    let late = with_answers(Action::Submit, 700000101, OF_THE_SESSION_LATE, ALL_RIGHT);
-    let results = on_set(Action::SetResults, 700000101, OF_THE_SESSION);
-    let cases = [
-        denied(61, elsewhere, Rule::NoResource),
-        made(61, add(NINE), NINE_REVIEWS),
-        denied(61, reviewed, Rule::SessionTokenNeeded),
-        shown(62, results, UNRECEIVED),
-        denied(604860, late, Rule::SetExpired),
-        made(604859, late, RECEIVED),
-    ];
-    meets_each(rt, &mut server, &cases);
-}
+        Denied(Rule::BodyField),
+    ),
+    At(
+        61,
+        WithAnswers(Action::Submit, 700000101, OF_THE_SESSION, SECOND_RIGHT),
+        Denied(Rule::SetMismatch),
+    ),
+    At(
+        61,
+        WithAnswers(Action::Submit, 700000101, OF_THE_SESSION, TWICE),
+        Denied(Rule::DuplicateTest),
+    ),
+    At(
+        61,
+        WithAnswers(Action::Submit, 700000101, OF_THE_SESSION, UNKNOWN),
+        Denied(Rule::UnknownTest),
+    ),
+];
+
+pub(crate) const ARE_NOT_KEPT: &[Step] = &[
+    At(
+        61,
+        WithAnswers(Action::Submit, 900000101, OF_THE_SESSION, ALL_RIGHT),
+        Denied(Rule::NoResource),
+    ),
+    At(61, AddsReviewer(NINE), Made(NINE_REVIEWS)),
+    At(
+        61,
+        WithAnswers(Action::Submit, 700000101, OF_NINE, ALL_RIGHT),
+        Denied(Rule::SessionTokenNeeded),
+    ),
+    At(62, RESULTS, Shown(UNRECEIVED)),
+    At(
+        604860,
+        WithAnswers(Action::Submit, 700000101, OF_THE_SESSION_LATE, ALL_RIGHT),
+        Denied(Rule::SetExpired),
+    ),
+    At(
+        604859,
+        WithAnswers(Action::Submit, 700000101, OF_THE_SESSION_LATE, ALL_RIGHT),
+        Made(RECEIVED),
+    ),
+];

@@ -2,167 +2,318 @@
 
 use acvp_desk::{TokenField, TypedRequest};
 use acvp_policy::{Action, Rule};
-use std::alloc::{AllocError, Global};
+use std::alloc::Global;
+use std::process::Abort;
 
-/// The method of an action, how many numbers its path has, and what stands before, between and behind them.
-fn path_of(action: Action) -> (&'static str, usize, [&'static str; 3]) {
-    match action {
-        Action::Login => ("POST", 0, ["/login", "", ""]),
-        Action::ReadAccount => ("GET", 0, ["/account", "", ""]),
-        Action::ListAlgorithms => ("GET", 0, ["/algorithms", "", ""]),
-        Action::ReadAlgorithm => ("GET", 1, ["/algorithms/", "", ""]),
-        Action::ListSessions => ("GET", 0, ["/testSessions", "", ""]),
-        Action::NewSession => ("POST", 0, ["/testSessions", "", ""]),
-        Action::ReadSession => ("GET", 1, ["/testSessions/", "", ""]),
-        Action::Certify => ("PUT", 1, ["/testSessions/", "", ""]),
-        Action::CancelSession => ("DELETE", 1, ["/testSessions/", "", ""]),
-        Action::SessionResults => ("GET", 1, ["/testSessions/", "/results", ""]),
-        Action::ListSets => ("GET", 1, ["/testSessions/", "/vectorSets", ""]),
-        Action::ReadSet => ("GET", 2, ["/testSessions/", "/vectorSets/", ""]),
-        Action::CancelSet => ("DELETE", 2, ["/testSessions/", "/vectorSets/", ""]),
-        Action::SetResults => ("GET", 2, ["/testSessions/", "/vectorSets/", "/results"]),
-        Action::Submit => ("POST", 2, ["/testSessions/", "/vectorSets/", "/results"]),
-        Action::Resubmit => ("PUT", 2, ["/testSessions/", "/vectorSets/", "/results"]),
-        Action::Expected => ("GET", 2, ["/testSessions/", "/vectorSets/", "/expected"]),
-        Action::ListVendors => ("GET", 0, ["/vendors", "", ""]),
-        Action::NewVendor => ("POST", 0, ["/vendors", "", ""]),
-        Action::ReadVendor => ("GET", 1, ["/vendors/", "", ""]),
-        Action::ListModules => ("GET", 0, ["/modules", "", ""]),
-        Action::NewModule => ("POST", 0, ["/modules", "", ""]),
-        Action::ReadModule => ("GET", 1, ["/modules/", "", ""]),
-        Action::ListEnvironments => ("GET", 0, ["/oes", "", ""]),
-        Action::NewEnvironment => ("POST", 0, ["/oes", "", ""]),
-        Action::ReadEnvironment => ("GET", 1, ["/oes/", "", ""]),
-        Action::ListRequests => ("GET", 0, ["/requests", "", ""]),
-        Action::ReadRequest => ("GET", 1, ["/requests/", "", ""]),
-        Action::ListReviewers => ("GET", 1, ["/testSessions/", "/reviewers", ""]),
-        Action::AddReviewer => ("POST", 1, ["/testSessions/", "/reviewers", ""]),
-        Action::RemoveReviewer => ("DELETE", 2, ["/testSessions/", "/reviewers/", ""]),
+/// The path of an action: its method, how many numbers it has, and what stands before, between and behind them.
+#[derive(Clone, Copy)]
+struct ActionPath {
+    action: Action,
+    method: &'static [u8],
+    numbers: u8,
+    parts: [&'static [u8]; 3],
+}
+
+/// A row of the table of paths.
+macro_rules! path {
+    ($action:ident, $method:literal, $numbers:literal, $start:literal, $middle:literal, $end:literal) => {
+        ActionPath {
+            action: Action::$action,
+            method: $method,
+            numbers: $numbers,
+            parts: [$start, $middle, $end],
+        }
+    };
+}
+
+const PATHS: &[ActionPath] = &[
+    path!(Login, b"POST", 0, b"/login", b"", b""),
+    path!(ReadAccount, b"GET", 0, b"/account", b"", b""),
+    path!(ListAlgorithms, b"GET", 0, b"/algorithms", b"", b""),
+    path!(ReadAlgorithm, b"GET", 1, b"/algorithms/", b"", b""),
+    path!(ListSessions, b"GET", 0, b"/testSessions", b"", b""),
+    path!(NewSession, b"POST", 0, b"/testSessions", b"", b""),
+    path!(ReadSession, b"GET", 1, b"/testSessions/", b"", b""),
+    path!(Certify, b"PUT", 1, b"/testSessions/", b"", b""),
+    path!(CancelSession, b"DELETE", 1, b"/testSessions/", b"", b""),
+    path!(
+        SessionResults,
+        b"GET",
+        1,
+        b"/testSessions/",
+        b"/results",
+        b""
+    ),
+    path!(ListSets, b"GET", 1, b"/testSessions/", b"/vectorSets", b""),
+    path!(ReadSet, b"GET", 2, b"/testSessions/", b"/vectorSets/", b""),
+    path!(
+        CancelSet,
+        b"DELETE",
+        2,
+        b"/testSessions/",
+        b"/vectorSets/",
+        b""
+    ),
+    path!(
+        SetResults,
+        b"GET",
+        2,
+        b"/testSessions/",
+        b"/vectorSets/",
+        b"/results"
+    ),
+    path!(
+        Submit,
+        b"POST",
+        2,
+        b"/testSessions/",
+        b"/vectorSets/",
+        b"/results"
+    ),
+    path!(
+        Resubmit,
+        b"PUT",
+        2,
+        b"/testSessions/",
+        b"/vectorSets/",
+        b"/results"
+    ),
+    path!(
+        Expected,
+        b"GET",
+        2,
+        b"/testSessions/",
+        b"/vectorSets/",
+        b"/expected"
+    ),
+    path!(ListVendors, b"GET", 0, b"/vendors", b"", b""),
+    path!(NewVendor, b"POST", 0, b"/vendors", b"", b""),
+    path!(ReadVendor, b"GET", 1, b"/vendors/", b"", b""),
+    path!(ListModules, b"GET", 0, b"/modules", b"", b""),
+    path!(NewModule, b"POST", 0, b"/modules", b"", b""),
+    path!(ReadModule, b"GET", 1, b"/modules/", b"", b""),
+    path!(ListEnvironments, b"GET", 0, b"/oes", b"", b""),
+    path!(NewEnvironment, b"POST", 0, b"/oes", b"", b""),
+    path!(ReadEnvironment, b"GET", 1, b"/oes/", b"", b""),
+    path!(ListRequests, b"GET", 0, b"/requests", b"", b""),
+    path!(ReadRequest, b"GET", 1, b"/requests/", b"", b""),
+    path!(
+        ListReviewers,
+        b"GET",
+        1,
+        b"/testSessions/",
+        b"/reviewers",
+        b""
+    ),
+    path!(
+        AddReviewer,
+        b"POST",
+        1,
+        b"/testSessions/",
+        b"/reviewers",
+        b""
+    ),
+    path!(
+        RemoveReviewer,
+        b"DELETE",
+        2,
+        b"/testSessions/",
+        b"/reviewers/",
+        b""
+    ),
+];
+
+/// The path of an action, or one of no method.
+fn path_of(action: Action) -> ActionPath {
+    for path in PATHS {
+        if path.action == action {
+            return *path;
+        }
     }
+    path!(Login, b"", 0, b"", b"", b"")
 }
 
 /// The Date of the moments of the cases, as Python's email.utils writes it.
-fn date_of(moment: u64) -> &'static str {
-    match moment {
-        59 => "Thu, 01 Jan 1970 00:00:59 GMT",
-        60 => "Thu, 01 Jan 1970 00:01:00 GMT",
-        61 => "Thu, 01 Jan 1970 00:01:01 GMT",
-        62 => "Thu, 01 Jan 1970 00:01:02 GMT",
-        63 => "Thu, 01 Jan 1970 00:01:03 GMT",
-        64 => "Thu, 01 Jan 1970 00:01:04 GMT",
-        89 => "Thu, 01 Jan 1970 00:01:29 GMT",
-        90 => "Thu, 01 Jan 1970 00:01:30 GMT",
-        100 => "Thu, 01 Jan 1970 00:01:40 GMT",
-        101 => "Thu, 01 Jan 1970 00:01:41 GMT",
-        102 => "Thu, 01 Jan 1970 00:01:42 GMT",
-        103 => "Thu, 01 Jan 1970 00:01:43 GMT",
-        1858 => "Thu, 01 Jan 1970 00:30:58 GMT",
-        1859 => "Thu, 01 Jan 1970 00:30:59 GMT",
-        604859 => "Thu, 08 Jan 1970 00:00:59 GMT",
-        604860 => "Thu, 08 Jan 1970 00:01:00 GMT",
-        2592059 => "Sat, 31 Jan 1970 00:00:59 GMT",
-        2592060 => "Sat, 31 Jan 1970 00:01:00 GMT",
-        _ => "",
+const DATES: &[(u64, &[u8])] = &[
+    (59, b"Thu, 01 Jan 1970 00:00:59 GMT"),
+    (60, b"Thu, 01 Jan 1970 00:01:00 GMT"),
+    (61, b"Thu, 01 Jan 1970 00:01:01 GMT"),
+    (62, b"Thu, 01 Jan 1970 00:01:02 GMT"),
+    (63, b"Thu, 01 Jan 1970 00:01:03 GMT"),
+    (64, b"Thu, 01 Jan 1970 00:01:04 GMT"),
+    (89, b"Thu, 01 Jan 1970 00:01:29 GMT"),
+    (90, b"Thu, 01 Jan 1970 00:01:30 GMT"),
+    (100, b"Thu, 01 Jan 1970 00:01:40 GMT"),
+    (101, b"Thu, 01 Jan 1970 00:01:41 GMT"),
+    (102, b"Thu, 01 Jan 1970 00:01:42 GMT"),
+    (103, b"Thu, 01 Jan 1970 00:01:43 GMT"),
+    (1858, b"Thu, 01 Jan 1970 00:30:58 GMT"),
+    (1859, b"Thu, 01 Jan 1970 00:30:59 GMT"),
+    (604859, b"Thu, 08 Jan 1970 00:00:59 GMT"),
+    (604860, b"Thu, 08 Jan 1970 00:01:00 GMT"),
+    (2592059, b"Sat, 31 Jan 1970 00:00:59 GMT"),
+    (2592060, b"Sat, 31 Jan 1970 00:01:00 GMT"),
+];
+
+/// The Date of a moment, or nothing.
+fn date_of(moment: u64) -> &'static [u8] {
+    for (of, date) in DATES {
+        if *of == moment {
+            return *date;
+        }
+    }
+    b""
+}
+
+/// The status and the word of each refusal of the desk.
+const REFUSALS: &[(Rule, &[u8], &[u8])] = &[
+    (Rule::BodyNotJson, b"400 Bad Request", b"bodyNotJson"),
+    (Rule::BodyEnvelope, b"400 Bad Request", b"bodyEnvelope"),
+    (Rule::BodyField, b"400 Bad Request", b"bodyField"),
+    (
+        Rule::NotByteOriented,
+        b"400 Bad Request",
+        b"notByteOriented",
+    ),
+    (
+        Rule::LengthOutOfRange,
+        b"400 Bad Request",
+        b"lengthOutOfRange",
+    ),
+    (Rule::Unsupported, b"400 Bad Request", b"unsupported"),
+    (Rule::UnknownTest, b"400 Bad Request", b"unknownTest"),
+    (Rule::DuplicateTest, b"400 Bad Request", b"duplicateTest"),
+    (Rule::SetMismatch, b"400 Bad Request", b"setMismatch"),
+    (Rule::NoReference, b"400 Bad Request", b"noReference"),
+    (Rule::BadPage, b"400 Bad Request", b"badPage"),
+    (Rule::TokenMissing, b"401 Unauthorized", b"tokenMissing"),
+    (Rule::TokenMalformed, b"401 Unauthorized", b"tokenMalformed"),
+    (Rule::TokenSignature, b"401 Unauthorized", b"tokenSignature"),
+    (Rule::TokenClaims, b"401 Unauthorized", b"tokenClaims"),
+    (Rule::TokenExpired, b"401 Unauthorized", b"tokenExpired"),
+    (Rule::AccountRefused, b"403 Forbidden", b"accountRefused"),
+    (
+        Rule::AccountTokenNeeded,
+        b"403 Forbidden",
+        b"accountTokenNeeded",
+    ),
+    (
+        Rule::SessionTokenNeeded,
+        b"403 Forbidden",
+        b"sessionTokenNeeded",
+    ),
+    (Rule::OtherSession, b"403 Forbidden", b"otherSession"),
+    (Rule::NotSample, b"403 Forbidden", b"notSample"),
+    (
+        Rule::SampleNotCertifiable,
+        b"403 Forbidden",
+        b"sampleNotCertifiable",
+    ),
+    (Rule::AccountFull, b"403 Forbidden", b"accountFull"),
+    (Rule::LoginRefused, b"403 Forbidden", b"loginRefused"),
+    (Rule::RenewalRefused, b"403 Forbidden", b"renewalRefused"),
+    (Rule::ReviewersFull, b"403 Forbidden", b"reviewersFull"),
+    (Rule::NoResource, b"404 Not Found", b"noResource"),
+    (Rule::SessionCancelled, b"409 Conflict", b"sessionCancelled"),
+    (Rule::SessionExpired, b"409 Conflict", b"sessionExpired"),
+    (Rule::SessionFrozen, b"409 Conflict", b"sessionFrozen"),
+    (Rule::SetCancelled, b"409 Conflict", b"setCancelled"),
+    (Rule::SetExpired, b"409 Conflict", b"setExpired"),
+    (Rule::AlreadySubmitted, b"409 Conflict", b"alreadySubmitted"),
+    (Rule::NotSubmitted, b"409 Conflict", b"notSubmitted"),
+    (Rule::NotPassed, b"409 Conflict", b"notPassed"),
+    (
+        Rule::ClockOutOfRange,
+        b"503 Service Unavailable",
+        b"clockOutOfRange",
+    ),
+];
+
+/// The status and the word of a refusal of the desk, or nothing.
+fn refusal_of(rule: Rule) -> (&'static [u8], &'static [u8]) {
+    for (of, status, word) in REFUSALS {
+        if *of == rule {
+            return (*status, *word);
+        }
+    }
+    (b"", b"")
+}
+
+/// Puts bytes behind others.
+pub(crate) fn push(rt: &impl Abort, bytes: &mut Vec<u8>, part: &[u8]) {
+    bytes.extend_from_slice(part).ok().expect(rt, "memory");
+}
+
+/// Puts the digits of a number behind bytes.
+fn push_number(rt: &impl Abort, alloc: Global, bytes: &mut Vec<u8>, number: u64) {
+    let digits = format!(in alloc; "{number}").ok().expect(rt, "memory");
+    push(rt, bytes, digits.as_bytes());
+}
+
+/// These bytes, one behind the other.
+pub(crate) fn joined(rt: &impl Abort, alloc: Global, parts: &[&[u8]]) -> Vec<u8> {
+    let mut bytes = Vec::new(alloc);
+    for part in parts {
+        push(rt, &mut bytes, *part);
+    }
+    bytes
+}
+
+/// Puts the path of a request, with its query, behind bytes.
+fn push_target(
+    rt: &impl Abort,
+    alloc: Global,
+    bytes: &mut Vec<u8>,
+    path: &ActionPath,
+    request: &TypedRequest<'_>,
+) {
+    let [start, middle, end] = path.parts;
+    push(rt, bytes, b"/acvp/v1");
+    push(rt, bytes, start);
+    if path.numbers > 0 {
+        push_number(rt, alloc, bytes, request.numbers.first);
+    }
+    push(rt, bytes, middle);
+    if path.numbers > 1 {
+        push_number(rt, alloc, bytes, request.numbers.second);
+    }
+    push(rt, bytes, end);
+    if !request.query.is_empty() {
+        push(rt, bytes, b"?");
+        push(rt, bytes, request.query);
     }
 }
 
-/// The status and the word of a refusal of the desk.
-fn refusal_of(rule: Rule) -> (&'static str, &'static str) {
-    match rule {
-        Rule::BodyNotJson => ("400 Bad Request", "bodyNotJson"),
-        Rule::BodyEnvelope => ("400 Bad Request", "bodyEnvelope"),
-        Rule::BodyField => ("400 Bad Request", "bodyField"),
-        Rule::NotByteOriented => ("400 Bad Request", "notByteOriented"),
-        Rule::LengthOutOfRange => ("400 Bad Request", "lengthOutOfRange"),
-        Rule::Unsupported => ("400 Bad Request", "unsupported"),
-        Rule::UnknownTest => ("400 Bad Request", "unknownTest"),
-        Rule::DuplicateTest => ("400 Bad Request", "duplicateTest"),
-        Rule::SetMismatch => ("400 Bad Request", "setMismatch"),
-        Rule::NoReference => ("400 Bad Request", "noReference"),
-        Rule::BadPage => ("400 Bad Request", "badPage"),
-        Rule::TokenMissing => ("401 Unauthorized", "tokenMissing"),
-        Rule::TokenMalformed => ("401 Unauthorized", "tokenMalformed"),
-        Rule::TokenSignature => ("401 Unauthorized", "tokenSignature"),
-        Rule::TokenClaims => ("401 Unauthorized", "tokenClaims"),
-        Rule::TokenExpired => ("401 Unauthorized", "tokenExpired"),
-        Rule::AccountRefused => ("403 Forbidden", "accountRefused"),
-        Rule::AccountTokenNeeded => ("403 Forbidden", "accountTokenNeeded"),
-        Rule::SessionTokenNeeded => ("403 Forbidden", "sessionTokenNeeded"),
-        Rule::OtherSession => ("403 Forbidden", "otherSession"),
-        Rule::NotSample => ("403 Forbidden", "notSample"),
-        Rule::SampleNotCertifiable => ("403 Forbidden", "sampleNotCertifiable"),
-        Rule::AccountFull => ("403 Forbidden", "accountFull"),
-        Rule::LoginRefused => ("403 Forbidden", "loginRefused"),
-        Rule::RenewalRefused => ("403 Forbidden", "renewalRefused"),
-        Rule::ReviewersFull => ("403 Forbidden", "reviewersFull"),
-        Rule::NoResource => ("404 Not Found", "noResource"),
-        Rule::SessionCancelled => ("409 Conflict", "sessionCancelled"),
-        Rule::SessionExpired => ("409 Conflict", "sessionExpired"),
-        Rule::SessionFrozen => ("409 Conflict", "sessionFrozen"),
-        Rule::SetCancelled => ("409 Conflict", "setCancelled"),
-        Rule::SetExpired => ("409 Conflict", "setExpired"),
-        Rule::AlreadySubmitted => ("409 Conflict", "alreadySubmitted"),
-        Rule::NotSubmitted => ("409 Conflict", "notSubmitted"),
-        Rule::NotPassed => ("409 Conflict", "notPassed"),
-        Rule::ClockOutOfRange => ("503 Service Unavailable", "clockOutOfRange"),
-        _ => ("", ""),
+/// Puts the token's field, or two of them, behind bytes.
+fn push_token(rt: &impl Abort, bytes: &mut Vec<u8>, token: &TokenField<'_>) {
+    match token {
+        TokenField::Missing => {}
+        TokenField::Doubled => {
+            push(rt, bytes, b"Authorization: Bearer a.b.c\r\n");
+            push(rt, bytes, b"Authorization: Bearer a.b.c\r\n");
+        }
+        TokenField::Bearer(token) => {
+            push(rt, bytes, b"Authorization: Bearer ");
+            push(rt, bytes, *token);
+            push(rt, bytes, b"\r\n");
+        }
     }
-}
-
-/// The path of a request, with its query.
-fn target_of(alloc: Global, request: &TypedRequest<'_>) -> Result<String, AllocError> {
-    let (_, numbers, [start, middle, end]) = path_of(request.action);
-    let first = request.numbers.first;
-    let second = request.numbers.second;
-    match numbers {
-        0 => format!(in alloc; "/acvp/v1{start}"),
-        1 => format!(in alloc; "/acvp/v1{start}{first}{middle}"),
-        _ => format!(in alloc; "/acvp/v1{start}{first}{middle}{second}{end}"),
-    }
-}
-
-/// Puts a line of a head behind the others.
-fn push_line(bytes: &mut Vec<u8>, name: &[u8], value: &[u8]) -> Result<(), AllocError> {
-    bytes.extend_from_slice(name)?;
-    bytes.extend_from_slice(value)?;
-    bytes.extend_from_slice(b"\r\n")
 }
 
 /// A request in bytes.
-pub(crate) fn request_bytes(
-    alloc: Global,
-    request: &TypedRequest<'_>,
-) -> Result<Vec<u8>, AllocError> {
-    let (method, _, _) = path_of(request.action);
-    let target = target_of(alloc, request)?;
-    let length = request.body.len();
+pub(crate) fn request_bytes(rt: &impl Abort, alloc: Global, request: &TypedRequest<'_>) -> Vec<u8> {
+    let path = path_of(request.action);
     let mut bytes = Vec::new(alloc);
-    bytes.extend_from_slice(method.as_bytes())?;
-    bytes.extend_from_slice(b" ")?;
-    bytes.extend_from_slice(target.as_bytes())?;
-    if !request.query.is_empty() {
-        bytes.extend_from_slice(b"?")?;
-        bytes.extend_from_slice(request.query)?;
-    }
-    push_line(&mut bytes, b" HTTP/1.1\r\nHost: ", b"localhost")?;
-    push_token(&mut bytes, &request.token)?;
-    let told = format!(in alloc; "{length}")?;
-    push_line(&mut bytes, b"Content-Length: ", told.as_bytes())?;
-    bytes.extend_from_slice(b"\r\n")?;
-    bytes.extend_from_slice(request.body)?;
-    Ok(bytes)
-}
-
-/// The token's field, or two of them.
-fn push_token(bytes: &mut Vec<u8>, token: &TokenField<'_>) -> Result<(), AllocError> {
-    match token {
-        TokenField::Missing => Ok(()),
-        TokenField::Doubled => {
-            push_line(bytes, b"Authorization: ", b"Bearer a.b.c")?;
-            push_line(bytes, b"Authorization: ", b"Bearer a.b.c")
-        }
-        TokenField::Bearer(token) => push_line(bytes, b"Authorization: Bearer ", token),
-    }
+    push(rt, &mut bytes, path.method);
+    push(rt, &mut bytes, b" ");
+    push_target(rt, alloc, &mut bytes, &path, request);
+    push(rt, &mut bytes, b" HTTP/1.1\r\nHost: localhost\r\n");
+    push_token(rt, &mut bytes, &request.token);
+    push(rt, &mut bytes, b"Content-Length: ");
+    push_number(rt, alloc, &mut bytes, request.body.len() as u64);
+    push(rt, &mut bytes, b"\r\n\r\n");
+    push(rt, &mut bytes, request.body);
+    bytes
 }
 
 /// What stands behind the head of a reply.
@@ -175,46 +326,58 @@ pub(crate) fn body_in(reply: &[u8]) -> &[u8] {
     b""
 }
 
-/// A reply's head and its body.
-fn replied(
+/// A reply with this status, this Date unless it is empty, these further lines of its head, and this body.
+pub(crate) fn replied(
+    rt: &impl Abort,
     alloc: Global,
-    status: &str,
-    date: &str,
-    more: &str,
+    status: &[u8],
+    date: &[u8],
+    more: &[u8],
     body: &[u8],
-) -> Result<Vec<u8>, AllocError> {
-    let length = body.len();
-    let head = format!(in alloc;
-        "HTTP/1.1 {status}\r\n{date}Content-Type: application/json\r\nContent-Length: {length}\r\nConnection: close\r\n{more}\r\n"
-    )?;
+) -> Vec<u8> {
     let mut bytes = Vec::new(alloc);
-    bytes.extend_from_slice(head.as_bytes())?;
-    bytes.extend_from_slice(body)?;
-    Ok(bytes)
+    push(rt, &mut bytes, b"HTTP/1.1 ");
+    push(rt, &mut bytes, status);
+    if !date.is_empty() {
+        push(rt, &mut bytes, b"\r\nDate: ");
+        push(rt, &mut bytes, date);
+    }
+    let next: &[u8] = b"\r\nContent-Type: application/json\r\nContent-Length: ";
+    push(rt, &mut bytes, next);
+    push_number(rt, alloc, &mut bytes, body.len() as u64);
+    push(rt, &mut bytes, b"\r\nConnection: close\r\n");
+    push(rt, &mut bytes, more);
+    push(rt, &mut bytes, b"\r\n");
+    push(rt, &mut bytes, body);
+    bytes
+}
+
+/// The body of a refusal.
+pub(crate) fn error_body(rt: &impl Abort, alloc: Global, word: &[u8]) -> Vec<u8> {
+    let mut body = Vec::new(alloc);
+    push(rt, &mut body, br#"[{"acvVersion":"1.0"},{"error":""#);
+    push(rt, &mut body, word);
+    push(rt, &mut body, br#""}]"#);
+    body
 }
 
 /// The bytes of a reply with this body.
-pub(crate) fn framed(alloc: Global, moment: u64, body: &[u8]) -> Result<Vec<u8>, AllocError> {
-    let date = date_of(moment);
-    let line = format!(in alloc; "Date: {date}\r\n")?;
-    replied(alloc, "200 OK", &line, "", body)
+pub(crate) fn framed(rt: &impl Abort, alloc: Global, moment: u64, body: &[u8]) -> Vec<u8> {
+    replied(rt, alloc, b"200 OK", date_of(moment), b"", body)
 }
 
 /// The bytes of a refusal.
-pub(crate) fn refused(alloc: Global, moment: u64, rule: Rule) -> Result<Vec<u8>, AllocError> {
+pub(crate) fn refused(rt: &impl Abort, alloc: Global, moment: u64, rule: Rule) -> Vec<u8> {
     let (status, word) = refusal_of(rule);
-    let body = format!(in alloc; "[{{\"acvVersion\":\"1.0\"}},{{\"error\":\"{word}\"}}]")?;
-    let date = date_of(moment);
-    let line = format!(in alloc; "Date: {date}\r\n")?;
-    let more = if status == "401 Unauthorized" {
-        "WWW-Authenticate: Bearer\r\n"
+    let body = error_body(rt, alloc, word);
+    let more: &[u8] = if status.starts_with(b"401 ") {
+        b"WWW-Authenticate: Bearer\r\n"
     } else {
-        ""
+        b""
     };
-    let dated = if rule == Rule::ClockOutOfRange {
-        ""
-    } else {
-        line.as_str()
+    let date = match rule {
+        Rule::ClockOutOfRange => b"".as_slice(),
+        _ => date_of(moment),
     };
-    replied(alloc, status, dated, more, body.as_bytes())
+    replied(rt, alloc, status, date, more, &body)
 }

@@ -1,10 +1,12 @@
 //! What callers with tokens are answered, and what a path names.
 
-use crate::cases::login::{ACCEPTED, LOGIN, NO_ROWS, login};
-use crate::cases::{
-    OF_SEVEN, Over, denied, made, meets, meets_each, new_server, request, shown, with_token,
-};
-use acvp_desk::{Order, OrderReply, TokenField, TypedRequest};
+use crate::cases::Answer::{Denied, Made, Shown};
+use crate::cases::Ask::{Bare, LogsIn, WithToken};
+use crate::cases::Step::At;
+use crate::cases::login::{ACCEPTED, LOGIN, NO_ROWS};
+use crate::cases::server::{Over, follows, is_ordered, new_server};
+use crate::cases::{Ask, OF_SEVEN, Step};
+use acvp_desk::{Order, OrderReply, TokenField};
 use acvp_policy::{Action, Rule};
 use acvp_tables::Tables;
 use std::alloc::Global;
@@ -29,93 +31,115 @@ const OF_THE_SECOND: &[u8] =
 const ALL_TWELVE: &[u8] =
     br#"[{"acvVersion":"1.0"},{"algorithms":[{"name":"SHA2-224","revision":"1.0","url":"/acvp/v1/algorithms/1"},{"name":"SHA2-256","revision":"1.0","url":"/acvp/v1/algorithms/2"},{"name":"SHA2-384","revision":"1.0","url":"/acvp/v1/algorithms/3"},{"name":"SHA2-512","revision":"1.0","url":"/acvp/v1/algorithms/4"},{"name":"SHA2-512/224","revision":"1.0","url":"/acvp/v1/algorithms/5"},{"name":"SHA2-512/256","revision":"1.0","url":"/acvp/v1/algorithms/6"},{"name":"HMAC-SHA2-224","revision":"1.0","url":"/acvp/v1/algorithms/7"},{"name":"HMAC-SHA2-256","revision":"1.0","url":"/acvp/v1/algorithms/8"},{"name":"HMAC-SHA2-384","revision":"1.0","url":"/acvp/v1/algorithms/9"},{"name":"HMAC-SHA2-512","revision":"1.0","url":"/acvp/v1/algorithms/10"},{"name":"HMAC-SHA2-512/224","revision":"1.0","url":"/acvp/v1/algorithms/11"},{"name":"HMAC-SHA2-512/256","revision":"1.0","url":"/acvp/v1/algorithms/12"}]}]"#;
 
-fn read_algorithm(number: u64) -> TypedRequest<'static> {
-    with_token(Action::ReadAlgorithm, number, OF_SEVEN)
-}
-
-fn read_session(session: u64, token: &[u8]) -> TypedRequest<'_> {
-    with_token(Action::ReadSession, session, token)
-}
+/// The account that is read by its token.
+const READ: Ask = WithToken(Action::ReadAccount, 0, OF_SEVEN);
 
 /// A token is good until the second before its end.
-pub(crate) fn an_account_is_read_until_its_token_ends<T: Tables + Drop>(
-    rt: &impl Abort,
-    alloc: Global,
-    over: Over<T>,
-) {
-    let mut server = new_server(rt, alloc, over);
-    let read = with_token(Action::ReadAccount, 0, OF_SEVEN);
-    let cases = [
-        made(59, login(LOGIN), ACCEPTED),
-        shown(1858, read, NO_ROWS),
-        denied(1859, read, Rule::TokenExpired),
-    ];
-    meets_each(rt, &mut server, &cases);
-}
+pub(crate) const AN_ACCOUNT_IS_READ_UNTIL_ITS_TOKEN_ENDS: &[Step] = &[
+    At(59, LogsIn(LOGIN), Made(ACCEPTED)),
+    At(1858, READ, Shown(NO_ROWS)),
+    At(1859, READ, Denied(Rule::TokenExpired)),
+];
+
+/// The second and the last algorithm.
+const SECOND: &[u8] =
+    br#"[{"acvVersion":"1.0"},{"name":"SHA2-256","revision":"1.0","url":"/acvp/v1/algorithms/2"}]"#;
+
+const LAST: &[u8] =
+    br#"[{"acvVersion":"1.0"},{"name":"HMAC-SHA2-512/256","revision":"1.0","url":"/acvp/v1/algorithms/12"}]"#;
 
 /// There are twelve algorithms.
-pub(crate) fn algorithms_are_numbered_from_one_to_twelve<T: Tables + Drop>(
-    rt: &impl Abort,
-    alloc: Global,
-    over: Over<T>,
-) {
-    let mut server = new_server(rt, alloc, over);
-    let second: &[u8] =
-        br#"[{"acvVersion":"1.0"},{"name":"SHA2-256","revision":"1.0","url":"/acvp/v1/algorithms/2"}]"#;
-    let last: &[u8] =
-        br#"[{"acvVersion":"1.0"},{"name":"HMAC-SHA2-512/256","revision":"1.0","url":"/acvp/v1/algorithms/12"}]"#;
-    let cases = [
-        shown(61, read_algorithm(2), second),
-        shown(61, read_algorithm(12), last),
-        denied(61, read_algorithm(0), Rule::NoResource),
-        denied(61, read_algorithm(13), Rule::NoResource),
-        shown(
-            61,
-            with_token(Action::ListAlgorithms, 0, OF_SEVEN),
-            ALL_TWELVE,
-        ),
-    ];
-    meets_each(rt, &mut server, &cases);
-}
+pub(crate) const ALGORITHMS_ARE_NUMBERED_FROM_ONE_TO_TWELVE: &[Step] = &[
+    At(
+        61,
+        WithToken(Action::ReadAlgorithm, 2, OF_SEVEN),
+        Shown(SECOND),
+    ),
+    At(
+        61,
+        WithToken(Action::ReadAlgorithm, 12, OF_SEVEN),
+        Shown(LAST),
+    ),
+    At(
+        61,
+        WithToken(Action::ReadAlgorithm, 0, OF_SEVEN),
+        Denied(Rule::NoResource),
+    ),
+    At(
+        61,
+        WithToken(Action::ReadAlgorithm, 13, OF_SEVEN),
+        Denied(Rule::NoResource),
+    ),
+    At(
+        61,
+        WithToken(Action::ListAlgorithms, 0, OF_SEVEN),
+        Shown(ALL_TWELVE),
+    ),
+];
 
 /// The caller is looked at before what the path names, in the order of the rules.
-pub(crate) fn tokens_are_asked_for_before_what_a_path_names<T: Tables + Drop>(
-    rt: &impl Abort,
-    alloc: Global,
-    over: Over<T>,
-) {
-    let mut server = new_server(rt, alloc, over);
-    let missing = request(Action::ReadAccount, 0, 0, TokenField::Missing);
-    let doubled = request(Action::ReadAccount, 0, 0, TokenField::Doubled);
-    let cases = [
-        denied(61, missing, Rule::TokenMissing),
-        denied(61, doubled, Rule::TokenMalformed),
-        denied(61, read_session(7000001, b"a.b"), Rule::TokenMalformed),
-        denied(
-            61,
-            read_session(7000001, WRONGLY_SIGNED),
-            Rule::TokenSignature,
-        ),
-        denied(61, read_session(7000001, OF_NOBODY), Rule::TokenClaims),
-        denied(
-            61,
-            read_session(7000001, OF_SEVEN),
-            Rule::SessionTokenNeeded,
-        ),
-        denied(
-            61,
-            read_session(9000001, OF_ANOTHERS_SESSION),
-            Rule::OtherSession,
-        ),
-        denied(
-            61,
-            read_session(7000001, OF_ANOTHERS_SESSION),
-            Rule::OtherSession,
-        ),
-        denied(61, read_session(7000002, OF_THE_SECOND), Rule::NoResource),
-    ];
-    meets_each(rt, &mut server, &cases);
-}
+pub(crate) const TOKENS_ARE_ASKED_FOR_BEFORE_WHAT_A_PATH_NAMES: &[Step] = &[
+    At(
+        61,
+        Bare(Action::ReadAccount, 0, 0, TokenField::Missing),
+        Denied(Rule::TokenMissing),
+    ),
+    At(
+        61,
+        Bare(Action::ReadAccount, 0, 0, TokenField::Doubled),
+        Denied(Rule::TokenMalformed),
+    ),
+    At(
+        61,
+        WithToken(Action::ReadSession, 7000001, b"a.b"),
+        Denied(Rule::TokenMalformed),
+    ),
+    At(
+        61,
+        WithToken(Action::ReadSession, 7000001, WRONGLY_SIGNED),
+        Denied(Rule::TokenSignature),
+    ),
+    At(
+        61,
+        WithToken(Action::ReadSession, 7000001, OF_NOBODY),
+        Denied(Rule::TokenClaims),
+    ),
+    At(
+        61,
+        WithToken(Action::ReadSession, 7000001, OF_SEVEN),
+        Denied(Rule::SessionTokenNeeded),
+    ),
+    At(
+        61,
+        WithToken(Action::ReadSession, 9000001, OF_ANOTHERS_SESSION),
+        Denied(Rule::OtherSession),
+    ),
+    At(
+        61,
+        WithToken(Action::ReadSession, 7000001, OF_ANOTHERS_SESSION),
+        Denied(Rule::OtherSession),
+    ),
+    At(
+        61,
+        WithToken(Action::ReadSession, 7000002, OF_THE_SECOND),
+        Denied(Rule::NoResource),
+    ),
+];
+
+/// Each of the tokens of account 7 once it is disabled.
+const REFUSED: &[Step] = &[
+    At(61, READ, Denied(Rule::AccountRefused)),
+    At(
+        61,
+        WithToken(Action::ReadAccount, 0, OF_ANOTHERS_SESSION),
+        Denied(Rule::AccountRefused),
+    ),
+    At(
+        61,
+        WithToken(Action::ReadAccount, 0, OF_THE_SECOND),
+        Denied(Rule::AccountRefused),
+    ),
+];
 
 /// A disabled account is refused with any of its tokens.
 pub(crate) fn a_disabled_account_is_refused<T: Tables + Drop>(
@@ -125,9 +149,6 @@ pub(crate) fn a_disabled_account_is_refused<T: Tables + Drop>(
 ) {
     let mut server = new_server(rt, alloc, over);
     let disabled = Order::DisableAccount { account: 7 };
-    assert_eq!(rt; server.desk.order(0, &disabled), OrderReply::Done(None));
-    for token in [OF_SEVEN, OF_ANOTHERS_SESSION, OF_THE_SECOND] {
-        let read = with_token(Action::ReadAccount, 0, token);
-        meets(rt, &mut server, &denied(61, read, Rule::AccountRefused));
-    }
+    is_ordered(rt, &mut server, &disabled, OrderReply::Done(None));
+    follows(rt, &mut server, REFUSED);
 }

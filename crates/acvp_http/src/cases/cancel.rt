@@ -1,9 +1,10 @@
 //! What is answered to who cancels a vector set.
 
-use crate::cases::{
-    NINE, NINE_REVIEWS, OF_NINE, OF_THE_SESSION, Over, REGISTERED, add, denied, made, meets,
-    meets_each, on_set, server_with_session, shown, with_token,
-};
+use crate::cases::Answer::{Denied, Made, Shown};
+use crate::cases::Ask::{AddsReviewer, OnSet, WithToken};
+use crate::cases::Step::At;
+use crate::cases::server::{Over, server_after};
+use crate::cases::{Ask, NINE, NINE_REVIEWS, OF_NINE, OF_THE_SESSION, Step, WITH_SESSION};
 use acvp_policy::{Action, Rule};
 use acvp_tables::Tables;
 use std::alloc::Global;
@@ -25,31 +26,39 @@ const RESULTS_OF_THE_SECOND: &[u8] =
 
 const NO_RESULTS: &[u8] = br#"[{"acvVersion":"1.0"},{"passed":false,"results":[]}]"#;
 
-/// A cancelled set is neither listed nor read; without any a session hasn't passed, and isn't cancelled itself.
-pub(crate) fn a_cancelled_set_is_neither_listed_nor_read<T: Tables + Drop>(
-    rt: &impl Abort,
-    alloc: Global,
-    over: Over<T>,
-) {
-    let mut server = server_with_session(rt, alloc, over, REGISTERED);
-    let first = on_set(Action::CancelSet, 700000101, OF_THE_SESSION);
-    let second = on_set(Action::CancelSet, 700000102, OF_THE_SESSION);
-    let sets = with_token(Action::ListSets, 7000001, OF_THE_SESSION);
-    let results = with_token(Action::SessionResults, 7000001, OF_THE_SESSION);
-    let read = on_set(Action::ReadSet, 700000101, OF_THE_SESSION);
-    let its_results = on_set(Action::SetResults, 700000101, OF_THE_SESSION);
-    let cases = [
-        made(61, first, FIRST_CANCELLED),
-        denied(61, first, Rule::SetCancelled),
-        denied(61, read, Rule::SetCancelled),
-        denied(61, its_results, Rule::SetCancelled),
-        shown(61, sets, THE_SECOND),
-        shown(61, results, RESULTS_OF_THE_SECOND),
-        made(61, second, SECOND_CANCELLED),
-        shown(61, results, NO_RESULTS),
-    ];
-    meets_each(rt, &mut server, &cases);
-    let mut tables = server.into_tables();
+/// Who cancels the sets, and the results of the session.
+const CANCEL_THE_FIRST: Ask = OnSet(Action::CancelSet, 700000101, OF_THE_SESSION);
+
+const CANCEL_THE_SECOND: Ask = OnSet(Action::CancelSet, 700000102, OF_THE_SESSION);
+
+const RESULTS: Ask = WithToken(Action::SessionResults, 7000001, OF_THE_SESSION);
+
+/// Both sets are cancelled.
+const BOTH_CANCELLED: &[Step] = &[
+    At(61, CANCEL_THE_FIRST, Made(FIRST_CANCELLED)),
+    At(61, CANCEL_THE_FIRST, Denied(Rule::SetCancelled)),
+    At(
+        61,
+        OnSet(Action::ReadSet, 700000101, OF_THE_SESSION),
+        Denied(Rule::SetCancelled),
+    ),
+    At(
+        61,
+        OnSet(Action::SetResults, 700000101, OF_THE_SESSION),
+        Denied(Rule::SetCancelled),
+    ),
+    At(
+        61,
+        WithToken(Action::ListSets, 7000001, OF_THE_SESSION),
+        Shown(THE_SECOND),
+    ),
+    At(61, RESULTS, Shown(RESULTS_OF_THE_SECOND)),
+    At(61, CANCEL_THE_SECOND, Made(SECOND_CANCELLED)),
+    At(61, RESULTS, Shown(NO_RESULTS)),
+];
+
+/// Asserts that the session has no sets left, hasn't passed, and isn't cancelled.
+fn is_left_open<T: Tables>(rt: &impl Abort, tables: &mut T) {
     let session = tables
         .session(7000001)
         .ok()
@@ -60,22 +69,37 @@ pub(crate) fn a_cancelled_set_is_neither_listed_nor_read<T: Tables + Drop>(
     assert!(rt; !session.cancelled);
 }
 
-/// A set is cancelled by its own session alone.
-pub(crate) fn a_set_is_cancelled_by_its_own_session_alone<T: Tables + Drop>(
+/// A cancelled set is neither listed nor read; without any a session hasn't passed, and isn't cancelled itself.
+pub(crate) fn a_cancelled_set_is_neither_listed_nor_read<T: Tables + Drop>(
     rt: &impl Abort,
     alloc: Global,
     over: Over<T>,
 ) {
-    let mut server = server_with_session(rt, alloc, over, REGISTERED);
-    meets(rt, &mut server, &made(61, add(NINE), NINE_REVIEWS));
-    let cases: [(u64, &[u8], Rule); 4] = [
-        (700000101, OF_NINE, Rule::SessionTokenNeeded),
-        (700000103, OF_THE_SESSION, Rule::NoResource),
-        (900000101, OF_THE_SESSION, Rule::NoResource),
-        (0, OF_THE_SESSION, Rule::NoResource),
-    ];
-    for (set, token, rule) in cases {
-        let asked = on_set(Action::CancelSet, set, token);
-        meets(rt, &mut server, &denied(61, asked, rule));
-    }
+    let server = server_after(rt, alloc, over, &[WITH_SESSION, BOTH_CANCELLED]);
+    is_left_open(rt, &mut server.into_over().tables);
 }
+
+/// A set is cancelled by its own session alone.
+pub(crate) const A_SET_IS_CANCELLED_BY_ITS_OWN_SESSION_ALONE: &[Step] = &[
+    At(61, AddsReviewer(NINE), Made(NINE_REVIEWS)),
+    At(
+        61,
+        OnSet(Action::CancelSet, 700000101, OF_NINE),
+        Denied(Rule::SessionTokenNeeded),
+    ),
+    At(
+        61,
+        OnSet(Action::CancelSet, 700000103, OF_THE_SESSION),
+        Denied(Rule::NoResource),
+    ),
+    At(
+        61,
+        OnSet(Action::CancelSet, 900000101, OF_THE_SESSION),
+        Denied(Rule::NoResource),
+    ),
+    At(
+        61,
+        OnSet(Action::CancelSet, 0, OF_THE_SESSION),
+        Denied(Rule::NoResource),
+    ),
+];

@@ -1,10 +1,13 @@
 //! Logins and orders.
 
-use crate::cases::{
-    OF_SEVEN, Over, SECRET, denied, made, meets, meets_each, new_server, request, server_with,
-    shown, with_token,
+use crate::cases::Answer::{Denied, Made, Shown};
+use crate::cases::Ask::{LogsIn, WithToken};
+use crate::cases::Step::At;
+use crate::cases::server::{
+    Over, follows, is_ordered, keys_of, new_server, server_after, server_with,
 };
-use acvp_desk::{KeyRing, Keys, Order, OrderReply, Seeds, TokenField, TypedRequest};
+use crate::cases::{Ask, OF_SEVEN, SECRET, Step};
+use acvp_desk::{Keys, Order, OrderReply};
 use acvp_policy::{Action, Rule};
 use acvp_tables::Tables;
 use std::alloc::Global;
@@ -58,23 +61,14 @@ const RENEWED_WITHOUT_SESSION: &[u8] =
 pub(crate) const NO_ROWS: &[u8] =
     br#"[{"acvVersion":"1.0"},{"account":7,"modules":0,"oes":0,"requests":0,"sessions":0,"vendors":0}]"#;
 
-/// The request for a login with this body.
-pub(crate) fn login(body: &[u8]) -> TypedRequest<'_> {
-    TypedRequest {
-        body,
-        ..request(Action::Login, 0, 0, TokenField::Missing)
-    }
-}
+/// Who logs in with that code is accepted once.
+const ONCE: &[Step] = &[
+    At(59, LogsIn(LOGIN), Made(ACCEPTED)),
+    At(60, LogsIn(LOGIN), Denied(Rule::LoginRefused)),
+];
 
-/// The code of step 1 logs in once, and its step is kept.
-pub(crate) fn a_code_logs_in_once<T: Tables + Drop>(rt: &impl Abort, alloc: Global, over: Over<T>) {
-    let mut server = new_server(rt, alloc, over);
-    let cases = [
-        made(59, login(LOGIN), ACCEPTED),
-        denied(60, login(LOGIN), Rule::LoginRefused),
-    ];
-    meets_each(rt, &mut server, &cases);
-    let mut tables = server.into_tables();
+/// Asserts that the step of its code is kept with account 7.
+fn is_kept<T: Tables>(rt: &impl Abort, tables: &mut T) {
     let row = tables
         .account(7)
         .ok()
@@ -83,26 +77,48 @@ pub(crate) fn a_code_logs_in_once<T: Tables + Drop>(rt: &impl Abort, alloc: Glob
     assert_eq!(rt; row.last_step, Some(1));
 }
 
+/// The code of step 1 logs in once, and its step is kept.
+pub(crate) fn a_code_logs_in_once<T: Tables + Drop>(rt: &impl Abort, alloc: Global, over: Over<T>) {
+    let server = server_after(rt, alloc, over, &[ONCE]);
+    is_kept(rt, &mut server.into_over().tables);
+}
+
 /// The code of step 1 is accepted throughout step 2, and no longer.
-pub(crate) fn a_code_lasts_to_the_end_of_the_next_step<T: Tables + Drop>(
+pub(crate) const A_CODE_LASTS_TO_THE_END_OF_THE_NEXT_STEP: &[Step] = &[
+    At(90, LogsIn(LOGIN), Denied(Rule::LoginRefused)),
+    At(89, LogsIn(LOGIN), Made(ACCEPTED_LATE)),
+];
+
+/// The account that is read by a token of the first key, and by one that names a third.
+const READ: Ask = WithToken(Action::ReadAccount, 0, OF_SEVEN);
+
+const READ_BY_A_THIRD_KEY: Ask = WithToken(Action::ReadAccount, 0, OF_A_THIRD_KEY);
+
+/// Where there are two keys, and where the first is retired.
+const UNDER_TWO_KEYS: &[Step] = &[
+    At(60, READ, Shown(NO_ROWS)),
+    At(60, READ_BY_A_THIRD_KEY, Denied(Rule::TokenMalformed)),
+    At(59, LogsIn(LOGIN), Made(UNDER_THE_SECOND)),
+];
+
+const WITHOUT_THE_FIRST_KEY: &[Step] = &[At(60, READ, Denied(Rule::TokenMalformed))];
+
+/// Takes steps under other keys.
+fn follows_under<T: Tables + Drop>(
     rt: &impl Abort,
     alloc: Global,
+    keys: Keys,
     over: Over<T>,
-) {
-    let mut server = new_server(rt, alloc, over);
-    let cases = [
-        denied(90, login(LOGIN), Rule::LoginRefused),
-        made(89, login(LOGIN), ACCEPTED_LATE),
-    ];
-    meets_each(rt, &mut server, &cases);
+    steps: &[Step<'_>],
+) -> Over<T> {
+    let mut server = server_with(rt, alloc, keys, over);
+    follows(rt, &mut server, steps);
+    server.into_over()
 }
 
 /// Token keys of zeros, which may be retired, and of ones, with the one seed.
 fn two_keys(rt: &impl Abort, first: Option<[u8; 32]>) -> Keys {
-    Keys {
-        token: KeyRing::of(&[first, Some([1; 32])]).expect(rt, "a ring"),
-        seed: Seeds::of(&[[0; 32]]).expect(rt, "seeds"),
-    }
+    keys_of(rt, &[first, Some([1; 32])], &[[0; 32]])
 }
 
 /// A token lasts when a key is added, until its own is retired; new ones name the last key.
@@ -111,96 +127,113 @@ pub(crate) fn keys_change_between_runs<T: Tables + Drop>(
     alloc: Global,
     over: Over<T>,
 ) {
-    let server = new_server(rt, alloc, over);
-    let read = with_token(Action::ReadAccount, 0, OF_SEVEN);
-    let third = with_token(Action::ReadAccount, 0, OF_A_THIRD_KEY);
+    let over = new_server(rt, alloc, over).into_over();
     let keys = two_keys(rt, Some([0; 32]));
-    let mut server = server_with(rt, alloc, keys, server.into_over());
-    let cases = [
-        shown(60, read, NO_ROWS),
-        denied(60, third, Rule::TokenMalformed),
-        made(59, login(LOGIN), UNDER_THE_SECOND),
-    ];
-    meets_each(rt, &mut server, &cases);
+    let over = follows_under(rt, alloc, keys, over, UNDER_TWO_KEYS);
     let keys = two_keys(rt, None);
-    let mut server = server_with(rt, alloc, keys, server.into_over());
-    meets(rt, &mut server, &denied(60, read, Rule::TokenMalformed));
+    follows_under(rt, alloc, keys, over, WITHOUT_THE_FIRST_KEY);
 }
 
 /// The rule of each login that is refused, none of which uses the code.
-pub(crate) fn conditions_are_looked_at_in_their_order<T: Tables + Drop>(
-    rt: &impl Abort,
-    alloc: Global,
-    over: Over<T>,
-) {
-    let mut server = new_server(rt, alloc, over);
-    let bodies: [(&[u8], Rule); 15] = [
-        (b"[", Rule::BodyNotJson),
-        (br#"[{"acvVersion":"1.0"},{"n":1.5}]"#, Rule::BodyNotJson),
-        (
-            br#"[{"acvVersion":"1.0"},{"n":[{"m":1e2}]}]"#,
-            Rule::BodyNotJson,
-        ),
-        (br#"[{"acvVersion":"1.1"},{}]"#, Rule::BodyEnvelope),
-        (br#"[{"acvVersion":"1.0"},{},{}]"#, Rule::BodyEnvelope),
-        (br#"[{"acvVersion":"1.0"},[]]"#, Rule::BodyEnvelope),
-        (br#"{"acvVersion":"1.0"}"#, Rule::BodyEnvelope),
-        (br#"[{"acvVersion":"1.0"},{"user":"7"}]"#, Rule::BodyField),
-        (
-            br#"[{"acvVersion":"1.0"},{"password":"46119246","user":7}]"#,
-            Rule::BodyField,
-        ),
-        (
-            br#"[{"acvVersion":"1.0"},{"accessToken":null,"password":"46119246","user":"7"}]"#,
-            Rule::BodyField,
-        ),
-        (
-            br#"[{"acvVersion":"1.0"},{"password":"46119246","user":"07"}]"#,
-            Rule::LoginRefused,
-        ),
-        (
-            br#"[{"acvVersion":"1.0"},{"password":"46119246","user":"8"}]"#,
-            Rule::LoginRefused,
-        ),
-        (
-            br#"[{"acvVersion":"1.0"},{"password":"46119246","user":"10000"}]"#,
-            Rule::LoginRefused,
-        ),
-        (
-            br#"[{"acvVersion":"1.0"},{"accessToken":"a.b","password":"4611924","user":"7"}]"#,
-            Rule::LoginRefused,
-        ),
-        (
-            br#"[{"acvVersion":"1.0"},{"accessToken":"a.b","password":"46119246","user":"7"}]"#,
-            Rule::RenewalRefused,
-        ),
-    ];
-    for (body, rule) in bodies {
-        meets(rt, &mut server, &denied(59, login(body), rule));
-    }
-    let cases = [
-        denied(4102444800, login(b"["), Rule::ClockOutOfRange),
-        made(59, login(LOGIN), ACCEPTED),
-    ];
-    meets_each(rt, &mut server, &cases);
-}
+pub(crate) const CONDITIONS_ARE_LOOKED_AT_IN_THEIR_ORDER: &[Step] = &[
+    At(59, LogsIn(b"["), Denied(Rule::BodyNotJson)),
+    At(
+        59,
+        LogsIn(br#"[{"acvVersion":"1.0"},{"n":1.5}]"#),
+        Denied(Rule::BodyNotJson),
+    ),
+    At(
+        59,
+        LogsIn(br#"[{"acvVersion":"1.0"},{"n":[{"m":1e2}]}]"#),
+        Denied(Rule::BodyNotJson),
+    ),
+    At(
+        59,
+        LogsIn(br#"[{"acvVersion":"1.1"},{}]"#),
+        Denied(Rule::BodyEnvelope),
+    ),
+    At(
+        59,
+        LogsIn(br#"[{"acvVersion":"1.0"},{},{}]"#),
+        Denied(Rule::BodyEnvelope),
+    ),
+    At(
+        59,
+        LogsIn(br#"[{"acvVersion":"1.0"},[]]"#),
+        Denied(Rule::BodyEnvelope),
+    ),
+    At(
+        59,
+        LogsIn(br#"{"acvVersion":"1.0"}"#),
+        Denied(Rule::BodyEnvelope),
+    ),
+    At(
+        59,
+        LogsIn(br#"[{"acvVersion":"1.0"},{"user":"7"}]"#),
+        Denied(Rule::BodyField),
+    ),
+    At(
+        59,
+        LogsIn(br#"[{"acvVersion":"1.0"},{"password":"46119246","user":7}]"#),
+        Denied(Rule::BodyField),
+    ),
+    At(
+        59,
+        LogsIn(br#"[{"acvVersion":"1.0"},{"accessToken":null,"password":"46119246","user":"7"}]"#),
+        Denied(Rule::BodyField),
+    ),
+    At(
+        59,
+        LogsIn(br#"[{"acvVersion":"1.0"},{"password":"46119246","user":"07"}]"#),
+        Denied(Rule::LoginRefused),
+    ),
+    At(
+        59,
+        LogsIn(br#"[{"acvVersion":"1.0"},{"password":"46119246","user":"8"}]"#),
+        Denied(Rule::LoginRefused),
+    ),
+    At(
+        59,
+        LogsIn(br#"[{"acvVersion":"1.0"},{"password":"46119246","user":"10000"}]"#),
+        Denied(Rule::LoginRefused),
+    ),
+    At(
+        59,
+        LogsIn(br#"[{"acvVersion":"1.0"},{"accessToken":"a.b","password":"4611924","user":"7"}]"#),
+        Denied(Rule::LoginRefused),
+    ),
+    At(
+        59,
+        LogsIn(br#"[{"acvVersion":"1.0"},{"accessToken":"a.b","password":"46119246","user":"7"}]"#),
+        Denied(Rule::RenewalRefused),
+    ),
+    At(4102444800, LogsIn(b"["), Denied(Rule::ClockOutOfRange)),
+    At(59, LogsIn(LOGIN), Made(ACCEPTED)),
+];
 
 /// A token of the account itself is renewed with its session.
-pub(crate) fn an_expired_token_is_renewed_with_its_session<T: Tables + Drop>(
-    rt: &impl Abort,
-    alloc: Global,
-    over: Over<T>,
-) {
-    let mut server = new_server(rt, alloc, over);
-    let cases = [
-        denied(59, login(RENEWING_ANOTHERS), Rule::RenewalRefused),
-        denied(59, login(RENEWING_ANOTHERS_SESSION), Rule::RenewalRefused),
-        denied(59, login(RENEWING_UNDER_ANOTHER_KEY), Rule::RenewalRefused),
-        made(59, login(RENEWING), RENEWED),
-        made(59, login(RENEWING_WITHOUT_SESSION), RENEWED_WITHOUT_SESSION),
-    ];
-    meets_each(rt, &mut server, &cases);
-}
+pub(crate) const AN_EXPIRED_TOKEN_IS_RENEWED_WITH_ITS_SESSION: &[Step] = &[
+    At(59, LogsIn(RENEWING_ANOTHERS), Denied(Rule::RenewalRefused)),
+    At(
+        59,
+        LogsIn(RENEWING_ANOTHERS_SESSION),
+        Denied(Rule::RenewalRefused),
+    ),
+    At(
+        59,
+        LogsIn(RENEWING_UNDER_ANOTHER_KEY),
+        Denied(Rule::RenewalRefused),
+    ),
+    At(59, LogsIn(RENEWING), Made(RENEWED)),
+    At(
+        59,
+        LogsIn(RENEWING_WITHOUT_SESSION),
+        Made(RENEWED_WITHOUT_SESSION),
+    ),
+];
+
+/// A login of a disabled account.
+const REFUSED: &[Step] = &[At(59, LogsIn(LOGIN), Denied(Rule::LoginRefused))];
 
 /// What orders on accounts are answered.
 pub(crate) fn orders_are_answered<T: Tables + Drop>(rt: &impl Abort, alloc: Global, over: Over<T>) {
@@ -209,15 +242,11 @@ pub(crate) fn orders_are_answered<T: Tables + Drop>(rt: &impl Abort, alloc: Glob
         account: 7,
         secret: SECRET,
     };
-    assert_eq!(rt; server.desk.order(0, &added), OrderReply::Taken);
+    is_ordered(rt, &mut server, &added, OrderReply::Taken);
     let disabled = Order::DisableAccount { account: 8 };
-    assert_eq!(rt; server.desk.order(0, &disabled), OrderReply::Unknown);
+    is_ordered(rt, &mut server, &disabled, OrderReply::Unknown);
     let disabled = Order::DisableAccount { account: 7 };
-    assert_eq!(rt; server.desk.order(0, &disabled), OrderReply::Done(None));
-    assert_eq!(rt; server.desk.order(0, &disabled), OrderReply::Done(None));
-    meets(
-        rt,
-        &mut server,
-        &denied(59, login(LOGIN), Rule::LoginRefused),
-    );
+    is_ordered(rt, &mut server, &disabled, OrderReply::Done(None));
+    is_ordered(rt, &mut server, &disabled, OrderReply::Done(None));
+    follows(rt, &mut server, REFUSED);
 }

@@ -2,14 +2,16 @@
 //! answers, and what is answered to who sends these back. Digests are of bodies that a program in Python makes with
 //! ChaCha20 of its `cryptography`, hashlib and hmac.
 
+use crate::cases::Answer::{Digested, Made};
+use crate::cases::Ask::{OnSet, Registers, WithAnswers};
+use crate::cases::Step::At;
 use crate::cases::answers::{RECEIVED, SECOND_RECEIVED};
-use crate::cases::{
-    OF_THE_SESSION, Over, Server, digested, made, meets_each, on_set, reply_of,
-    server_with_session, with_answers,
-};
+use crate::cases::asked::joined;
+use crate::cases::server::{Over, Server, asks, reply_of, server_after};
+use crate::cases::{Ask, FIRST, OF_SEVEN, OF_THE_SESSION, Step};
 use acvp_policy::Action;
 use acvp_tables::Tables;
-use std::alloc::{AllocError, Global};
+use std::alloc::Global;
 use std::process::Abort;
 
 /// SHA2-256 over 0 to 1024 bits, and HMAC-SHA2-256 with keys of 8 to 1024 bits, of a sample.
@@ -54,6 +56,34 @@ const ENTRIES: usize = 7399;
 
 const GROUP: usize = 28;
 
+/// The session with both sets.
+pub(crate) const WITH_WIDE_SETS: &[Step] = &[At(60, Registers(OF_SEVEN, WIDE), Made(FIRST))];
+
+/// The expected answers to the sets, and their results.
+const SHOW_EXPECTED: Ask = OnSet(Action::Expected, 700000101, OF_THE_SESSION);
+
+const SHOW_EXPECTED_OF_HMAC: Ask = OnSet(Action::Expected, 700000102, OF_THE_SESSION);
+
+const RESULTS: Ask = OnSet(Action::SetResults, 700000101, OF_THE_SESSION);
+
+const RESULTS_OF_HMAC: Ask = OnSet(Action::SetResults, 700000102, OF_THE_SESSION);
+
+/// The prompts and the expected answers of both sets.
+pub(crate) const WIDE_SETS_ARE_MADE_BY_THEIR_STANDARDS: &[Step] = &[
+    At(
+        61,
+        OnSet(Action::ReadSet, 700000101, OF_THE_SESSION),
+        Digested(PROMPTS),
+    ),
+    At(61, SHOW_EXPECTED, Digested(EXPECTED)),
+    At(
+        61,
+        OnSet(Action::ReadSet, 700000102, OF_THE_SESSION),
+        Digested(HMAC_PROMPTS),
+    ),
+    At(61, SHOW_EXPECTED_OF_HMAC, Digested(HMAC_EXPECTED)),
+];
+
 /// A text without its last bytes, so many, and these.
 fn parted<'a>(rt: &impl Abort, text: &'a [u8], last: usize) -> (&'a [u8], &'a [u8]) {
     let place = text.len().checked_sub(last).expect(rt, "a longer text");
@@ -61,55 +91,55 @@ fn parted<'a>(rt: &impl Abort, text: &'a [u8], last: usize) -> (&'a [u8], &'a [u
     (first, text.get(place..).expect(rt, "a place of the text"))
 }
 
-/// Two texts, one after the other.
-fn joined(alloc: Global, first: &[u8], second: &[u8]) -> Result<Vec<u8>, AllocError> {
-    let mut text = Vec::new(alloc);
-    text.extend_from_slice(first)?;
-    text.extend_from_slice(second)?;
-    Ok(text)
-}
-
-/// Sends answers to the first set again, and asserts what its results are.
-fn again<T: Tables + Drop>(rt: &impl Abort, server: &mut Server<T>, body: &[u8], wanted: &[u8]) {
-    let sent = with_answers(Action::Resubmit, 700000101, OF_THE_SESSION, body);
-    let results = on_set(Action::SetResults, 700000101, OF_THE_SESSION);
-    meets_each(
-        rt,
-        server,
-        &[made(62, sent, RECEIVED), digested(62, results, wanted)],
-    );
-}
-
-/// The prompts and the expected answers of both sets.
-pub(crate) fn wide_sets_are_made_by_their_standards<T: Tables + Drop>(
+/// Sends answers to the first set again, in parts, and asserts what its results are.
+fn again<T: Tables>(
     rt: &impl Abort,
     alloc: Global,
-    over: Over<T>,
+    server: &mut Server<T>,
+    parts: &[&[u8]],
+    wanted: &[u8],
 ) {
-    let mut server = server_with_session(rt, alloc, over, WIDE);
-    let cases = [
-        digested(
-            61,
-            on_set(Action::ReadSet, 700000101, OF_THE_SESSION),
-            PROMPTS,
-        ),
-        digested(
-            61,
-            on_set(Action::Expected, 700000101, OF_THE_SESSION),
-            EXPECTED,
-        ),
-        digested(
-            61,
-            on_set(Action::ReadSet, 700000102, OF_THE_SESSION),
-            HMAC_PROMPTS,
-        ),
-        digested(
-            61,
-            on_set(Action::Expected, 700000102, OF_THE_SESSION),
-            HMAC_EXPECTED,
-        ),
-    ];
-    meets_each(rt, &mut server, &cases);
+    let body = joined(rt, alloc, parts);
+    let sent = WithAnswers(Action::Resubmit, 700000101, OF_THE_SESSION, &body);
+    asks(rt, server, 62, sent, Made(RECEIVED));
+    asks(rt, server, 62, RESULTS, Digested(wanted));
+}
+
+/// Sends the expected answers to the first set with an entry too few, one too many, none, and without its group.
+fn again_otherwise<T: Tables>(
+    rt: &impl Abort,
+    alloc: Global,
+    server: &mut Server<T>,
+    right: &[u8],
+) {
+    let (all, end) = parted(rt, right, END);
+    let (but_one, last) = parted(rt, all, ENTRY);
+    let (front, _) = parted(rt, all, ENTRIES);
+    let (first_group, _) = parted(rt, front, GROUP);
+    let after: &[u8] = br#"],"vsId":700000101}]"#;
+    again(rt, alloc, server, &[but_one, end], LAST_FAILED);
+    again(rt, alloc, server, &[all, last, end], LAST_FAILED);
+    again(rt, alloc, server, &[front, end], LAST_FAILED);
+    again(rt, alloc, server, &[first_group, after], LAST_MISSING);
+}
+
+/// Sends answers to the first set, and asserts that all are right.
+fn all_pass<T: Tables>(rt: &impl Abort, server: &mut Server<T>, right: &[u8]) {
+    let sent = WithAnswers(Action::Submit, 700000101, OF_THE_SESSION, right);
+    asks(rt, server, 61, sent, Made(RECEIVED));
+    asks(rt, server, 62, RESULTS, Digested(PASSED));
+}
+
+/// The same of the set for HMAC.
+fn all_of_hmac_pass<T: Tables>(rt: &impl Abort, server: &mut Server<T>, right: &[u8]) {
+    let sent = WithAnswers(Action::Submit, 700000102, OF_THE_SESSION, right);
+    asks(rt, server, 61, sent, Made(SECOND_RECEIVED));
+    asks(rt, server, 62, RESULTS_OF_HMAC, Digested(HMAC_PASSED));
+}
+
+/// A server with both sets.
+fn wide_server<T: Tables + Drop>(rt: &impl Abort, alloc: Global, over: Over<T>) -> Server<T> {
+    server_after(rt, alloc, over, &[WITH_WIDE_SETS])
 }
 
 /// The expected answers to a Monte Carlo test pass when they are sent. With an entry too few, one too many or none it
@@ -118,32 +148,12 @@ pub(crate) fn a_monte_carlo_test_needs_its_hundred_entries<T: Tables + Drop>(
     rt: &impl Abort,
     alloc: Global,
     over: Over<T>,
-) -> Result<(), AllocError> {
-    let mut server = server_with_session(rt, alloc, over, WIDE);
-    let expected = on_set(Action::Expected, 700000101, OF_THE_SESSION);
-    let reply = reply_of(rt, &mut server, 61, &expected);
-    let right = reply.as_slice();
-    let first = with_answers(Action::Submit, 700000101, OF_THE_SESSION, right);
-    let results = on_set(Action::SetResults, 700000101, OF_THE_SESSION);
-    let cases = [made(61, first, RECEIVED), digested(62, results, PASSED)];
-    meets_each(rt, &mut server, &cases);
-    let (all, end) = parted(rt, right, END);
-    let (but_one, last) = parted(rt, all, ENTRY);
-    let (front, _) = parted(rt, all, ENTRIES);
-    let (first_group, _) = parted(rt, front, GROUP);
-    again(rt, &mut server, &joined(alloc, but_one, end)?, LAST_FAILED);
-    let one_more = joined(alloc, all, last)?;
-    again(
-        rt,
-        &mut server,
-        &joined(alloc, &one_more, end)?,
-        LAST_FAILED,
-    );
-    again(rt, &mut server, &joined(alloc, front, end)?, LAST_FAILED);
-    let without = joined(alloc, first_group, br#"],"vsId":700000101}]"#)?;
-    again(rt, &mut server, &without, LAST_MISSING);
-    again(rt, &mut server, right, PASSED);
-    Ok(())
+) {
+    let mut server = wide_server(rt, alloc, over);
+    let right = reply_of(rt, &mut server, 61, SHOW_EXPECTED);
+    all_pass(rt, &mut server, &right);
+    again_otherwise(rt, alloc, &mut server, &right);
+    again(rt, alloc, &mut server, &[&right], PASSED);
 }
 
 /// The expected answers to the set for HMAC pass when they are sent.
@@ -152,15 +162,7 @@ pub(crate) fn expected_results_of_hmac_pass<T: Tables + Drop>(
     alloc: Global,
     over: Over<T>,
 ) {
-    let mut server = server_with_session(rt, alloc, over, WIDE);
-    let expected = on_set(Action::Expected, 700000102, OF_THE_SESSION);
-    let reply = reply_of(rt, &mut server, 61, &expected);
-    let right = reply.as_slice();
-    let sent = with_answers(Action::Submit, 700000102, OF_THE_SESSION, right);
-    let results = on_set(Action::SetResults, 700000102, OF_THE_SESSION);
-    let cases = [
-        made(61, sent, SECOND_RECEIVED),
-        digested(62, results, HMAC_PASSED),
-    ];
-    meets_each(rt, &mut server, &cases);
+    let mut server = wide_server(rt, alloc, over);
+    let right = reply_of(rt, &mut server, 61, SHOW_EXPECTED_OF_HMAC);
+    all_of_hmac_pass(rt, &mut server, &right);
 }

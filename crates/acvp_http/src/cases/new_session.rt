@@ -1,13 +1,10 @@
 //! What is answered to who registers a new test session. Times are those of Python's datetime.
 
-use crate::cases::{
-    FIRST, OF_NINE, OF_SEVEN, OF_THE_SESSION, ONE, Over, REGISTERED, denied, made, meets,
-    meets_each, new_server, registers, shown, with_token,
-};
+use crate::cases::Answer::{Denied, Made, Shown};
+use crate::cases::Ask::{Registers, WithToken};
+use crate::cases::Step::At;
+use crate::cases::{FIRST, OF_NINE, OF_SEVEN, OF_THE_SESSION, ONE, REGISTERED, Step};
 use acvp_policy::{Action, Rule};
-use acvp_tables::Tables;
-use std::alloc::Global;
-use std::process::Abort;
 
 /// The replies to the second session of account 7, and to the first of account 9, at 61.
 pub(crate) const SECOND: &[u8] =
@@ -24,76 +21,79 @@ const TWO_SESSIONS: &[u8] =
     br#"[{"acvVersion":"1.0"},{"account":7,"modules":0,"oes":0,"requests":0,"sessions":2,"vendors":0}]"#;
 
 /// Numbers, URLs and tokens of the sessions of two accounts.
-pub(crate) fn each_account_numbers_its_own_sessions<T: Tables + Drop>(
-    rt: &impl Abort,
-    alloc: Global,
-    over: Over<T>,
-) {
-    let mut server = new_server(rt, alloc, over);
-    let cases = [
-        made(60, registers(OF_SEVEN, REGISTERED), FIRST),
-        made(61, registers(OF_NINE, ONE), FIRST_OF_NINE),
-        made(61, registers(OF_SEVEN, ONE), SECOND),
-        shown(
-            61,
-            with_token(Action::ListSets, 7000001, OF_THE_SESSION),
-            SETS,
-        ),
-        shown(
-            61,
-            with_token(Action::ReadAccount, 0, OF_SEVEN),
-            TWO_SESSIONS,
-        ),
-    ];
-    meets_each(rt, &mut server, &cases);
-}
+pub(crate) const EACH_ACCOUNT_NUMBERS_ITS_OWN_SESSIONS: &[Step] = &[
+    At(60, Registers(OF_SEVEN, REGISTERED), Made(FIRST)),
+    At(61, Registers(OF_NINE, ONE), Made(FIRST_OF_NINE)),
+    At(61, Registers(OF_SEVEN, ONE), Made(SECOND)),
+    At(
+        61,
+        WithToken(Action::ListSets, 7000001, OF_THE_SESSION),
+        Shown(SETS),
+    ),
+    At(
+        61,
+        WithToken(Action::ReadAccount, 0, OF_SEVEN),
+        Shown(TWO_SESSIONS),
+    ),
+];
 
 /// The rule of each body that is no registration; none of them leaves a session.
-pub(crate) fn what_no_registration_is_has_its_rule<T: Tables + Drop>(
-    rt: &impl Abort,
-    alloc: Global,
-    over: Over<T>,
-) {
-    let mut server = new_server(rt, alloc, over);
-    let bodies: [(&[u8], Rule); 8] = [
-        (b"{", Rule::BodyNotJson),
-        (b"[{},{}]", Rule::BodyEnvelope),
-        (
-            br#"[{"acvVersion":"1.0"},{"algorithms":[]}]"#,
-            Rule::BodyField,
-        ),
-        (
+pub(crate) const WHAT_NO_REGISTRATION_IS_HAS_ITS_RULE: &[Step] = &[
+    At(61, Registers(OF_SEVEN, b"{"), Denied(Rule::BodyNotJson)),
+    At(
+        61,
+        Registers(OF_SEVEN, b"[{},{}]"),
+        Denied(Rule::BodyEnvelope),
+    ),
+    At(
+        61,
+        Registers(OF_SEVEN, br#"[{"acvVersion":"1.0"},{"algorithms":[]}]"#),
+        Denied(Rule::BodyField),
+    ),
+    At(
+        61,
+        Registers(
+            OF_SEVEN,
             br#"[{"acvVersion":"1.0"},{"algorithms":[{"algorithm":"SHA-1","messageLength":[8],"revision":"1.0"}]}]"#,
-            Rule::Unsupported,
         ),
-        (
+        Denied(Rule::Unsupported),
+    ),
+    At(
+        61,
+        Registers(
+            OF_SEVEN,
             br#"[{"acvVersion":"1.0"},{"algorithms":[{"algorithm":"SHA2-256","messageLength":[{"increment":1,"max":1024,"min":0}],"revision":"1.0"}]}]"#,
-            Rule::NotByteOriented,
         ),
-        (
+        Denied(Rule::NotByteOriented),
+    ),
+    At(
+        61,
+        Registers(
+            OF_SEVEN,
             br#"[{"acvVersion":"1.0"},{"algorithms":[{"algorithm":"SHA2-256","messageLength":[65544],"revision":"1.0"}]}]"#,
-            Rule::LengthOutOfRange,
         ),
-        (
+        Denied(Rule::LengthOutOfRange),
+    ),
+    At(
+        61,
+        Registers(
+            OF_SEVEN,
             br#"[{"acvVersion":"1.0"},{"algorithms":[{"algorithm":"HMAC-SHA2-256","keyLen":[0],"revision":"1.0"}]}]"#,
-            Rule::LengthOutOfRange,
         ),
-        (
+        Denied(Rule::LengthOutOfRange),
+    ),
+    At(
+        61,
+        Registers(
+            OF_SEVEN,
             br#"[{"acvVersion":"1.0"},{"algorithms":[{"algorithm":"SHA2-256","messageLength":[8],"revision":"1.0"}],"encryptAtRest":true}]"#,
-            Rule::Unsupported,
         ),
-    ];
-    for (body, rule) in bodies {
-        meets(
-            rt,
-            &mut server,
-            &denied(61, registers(OF_SEVEN, body), rule),
-        );
-    }
-    let bound = registers(OF_THE_SESSION, REGISTERED);
-    let cases = [
-        denied(61, bound, Rule::AccountTokenNeeded),
-        made(60, registers(OF_SEVEN, REGISTERED), FIRST),
-    ];
-    meets_each(rt, &mut server, &cases);
-}
+        Denied(Rule::Unsupported),
+    ),
+    At(
+        61,
+        Registers(OF_THE_SESSION, REGISTERED),
+        Denied(Rule::AccountTokenNeeded),
+    ),
+    At(60, Registers(OF_SEVEN, REGISTERED), Made(FIRST)),
+];

@@ -1,15 +1,11 @@
 //! What is answered to who lists sessions by pages.
 
+use crate::cases::Answer::{Denied, Made, Shown};
+use crate::cases::Ask::{Registers, WithQuery};
+use crate::cases::Step::At;
 use crate::cases::new_session::SECOND;
-use crate::cases::{
-    FIRST, OF_NINE, OF_SEVEN, ONE, Over, REGISTERED, denied, made, meets, meets_each, new_server,
-    registers, shown, with_token,
-};
-use acvp_desk::TypedRequest;
+use crate::cases::{FIRST, OF_NINE, OF_SEVEN, ONE, REGISTERED, Step};
 use acvp_policy::{Action, Rule};
-use acvp_tables::Tables;
-use std::alloc::Global;
-use std::process::Abort;
 
 /// Two sessions of account 7, on one page, the first by itself, the second by itself, and past both; and none of
 /// account 9.
@@ -28,59 +24,92 @@ const PAST: &[u8] =
 const NONE: &[u8] =
     br#"[{"acvVersion":"1.0"},{"data":[],"incomplete":false,"links":{"first":"/acvp/v1/testSessions?offset=0&limit=20","last":"/acvp/v1/testSessions?offset=0&limit=20","next":null,"prev":null},"totalCount":0}]"#;
 
-/// A request for a page of sessions.
-fn list<'a>(token: &'a [u8], query: &'a [u8]) -> TypedRequest<'a> {
-    TypedRequest {
-        query,
-        ..with_token(Action::ListSessions, 0, token)
-    }
-}
-
 /// The pages of an account with two sessions, and of one with none.
-pub(crate) fn an_account_lists_its_own_sessions_by_pages<T: Tables + Drop>(
-    rt: &impl Abort,
-    alloc: Global,
-    over: Over<T>,
-) {
-    let mut server = new_server(rt, alloc, over);
-    let cases = [
-        made(60, registers(OF_SEVEN, REGISTERED), FIRST),
-        made(61, registers(OF_SEVEN, ONE), SECOND),
-        shown(62, list(OF_SEVEN, b""), BOTH),
-        shown(62, list(OF_SEVEN, b"limit=1"), FIRST_ALONE),
-        shown(62, list(OF_SEVEN, b"offset=1&limit=1"), SECOND_ALONE),
-        shown(62, list(OF_SEVEN, b"limit=1&offset=1"), SECOND_ALONE),
-        shown(62, list(OF_SEVEN, b"offset=5"), PAST),
-        shown(62, list(OF_NINE, b""), NONE),
-    ];
-    meets_each(rt, &mut server, &cases);
-}
+pub(crate) const AN_ACCOUNT_LISTS_ITS_OWN_SESSIONS_BY_PAGES: &[Step] = &[
+    At(60, Registers(OF_SEVEN, REGISTERED), Made(FIRST)),
+    At(61, Registers(OF_SEVEN, ONE), Made(SECOND)),
+    At(
+        62,
+        WithQuery(Action::ListSessions, OF_SEVEN, b""),
+        Shown(BOTH),
+    ),
+    At(
+        62,
+        WithQuery(Action::ListSessions, OF_SEVEN, b"limit=1"),
+        Shown(FIRST_ALONE),
+    ),
+    At(
+        62,
+        WithQuery(Action::ListSessions, OF_SEVEN, b"offset=1&limit=1"),
+        Shown(SECOND_ALONE),
+    ),
+    At(
+        62,
+        WithQuery(Action::ListSessions, OF_SEVEN, b"limit=1&offset=1"),
+        Shown(SECOND_ALONE),
+    ),
+    At(
+        62,
+        WithQuery(Action::ListSessions, OF_SEVEN, b"offset=5"),
+        Shown(PAST),
+    ),
+    At(
+        62,
+        WithQuery(Action::ListSessions, OF_NINE, b""),
+        Shown(NONE),
+    ),
+];
 
 /// What is no page is refused, after the caller was looked at.
-pub(crate) fn what_no_page_is_is_refused<T: Tables + Drop>(
-    rt: &impl Abort,
-    alloc: Global,
-    over: Over<T>,
-) {
-    let mut server = new_server(rt, alloc, over);
-    let queries: [&[u8]; 9] = [
-        b"limit=0",
-        b"limit=101",
-        b"limit=1&limit=1",
-        b"offset=01",
-        b"offset=",
-        b"offset=12345678901",
-        b"limit=1&",
-        b"name=x",
-        b"limit",
-    ];
-    for query in queries {
-        meets(
-            rt,
-            &mut server,
-            &denied(62, list(OF_SEVEN, query), Rule::BadPage),
-        );
-    }
-    let expired = list(OF_SEVEN, b"name=x");
-    meets(rt, &mut server, &denied(1859, expired, Rule::TokenExpired));
-}
+pub(crate) const WHAT_NO_PAGE_IS_IS_REFUSED: &[Step] = &[
+    At(
+        62,
+        WithQuery(Action::ListSessions, OF_SEVEN, b"limit=0"),
+        Denied(Rule::BadPage),
+    ),
+    At(
+        62,
+        WithQuery(Action::ListSessions, OF_SEVEN, b"limit=101"),
+        Denied(Rule::BadPage),
+    ),
+    At(
+        62,
+        WithQuery(Action::ListSessions, OF_SEVEN, b"limit=1&limit=1"),
+        Denied(Rule::BadPage),
+    ),
+    At(
+        62,
+        WithQuery(Action::ListSessions, OF_SEVEN, b"offset=01"),
+        Denied(Rule::BadPage),
+    ),
+    At(
+        62,
+        WithQuery(Action::ListSessions, OF_SEVEN, b"offset="),
+        Denied(Rule::BadPage),
+    ),
+    At(
+        62,
+        WithQuery(Action::ListSessions, OF_SEVEN, b"offset=12345678901"),
+        Denied(Rule::BadPage),
+    ),
+    At(
+        62,
+        WithQuery(Action::ListSessions, OF_SEVEN, b"limit=1&"),
+        Denied(Rule::BadPage),
+    ),
+    At(
+        62,
+        WithQuery(Action::ListSessions, OF_SEVEN, b"name=x"),
+        Denied(Rule::BadPage),
+    ),
+    At(
+        62,
+        WithQuery(Action::ListSessions, OF_SEVEN, b"limit"),
+        Denied(Rule::BadPage),
+    ),
+    At(
+        1859,
+        WithQuery(Action::ListSessions, OF_SEVEN, b"name=x"),
+        Denied(Rule::TokenExpired),
+    ),
+];

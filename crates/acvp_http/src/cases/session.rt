@@ -1,13 +1,13 @@
 //! What is answered on a test session.
 
+use crate::cases::Answer::{Denied, Made, Shown};
+use crate::cases::Ask::{AddsReviewer, WithToken};
+use crate::cases::Step::{At, Each};
 use crate::cases::{
-    NINE, NINE_REVIEWS, OF_NINE, OF_SEVEN, OF_THE_SESSION, OF_THE_SESSION_LATE, Over, REGISTERED,
-    add, denied, made, meets_each, server_with_session, shown, with_token,
+    Ask, NINE, NINE_REVIEWS, OF_NINE, OF_SEVEN, OF_THE_SESSION, OF_THE_SESSION_LATE, Step,
 };
+use acvp_desk::TokenField;
 use acvp_policy::{Action, Rule};
-use acvp_tables::Tables;
-use std::alloc::Global;
-use std::process::Abort;
 
 /// A token of account 9 that is bound to a session of its own.
 const OF_THE_SESSION_OF_NINE: &[u8] =
@@ -40,96 +40,82 @@ const UNRECEIVED: &[u8] =
 const EXPIRED: &[u8] =
     br#"[{"acvVersion":"1.0"},{"passed":false,"results":[{"status":"expired","vectorSetUrl":"/acvp/v1/testSessions/7000001/vectorSets/700000101"},{"status":"expired","vectorSetUrl":"/acvp/v1/testSessions/7000001/vectorSets/700000102"}]}]"#;
 
+/// Of the first session of account 7, by its own token.
+const READ: Ask = WithToken(Action::ReadSession, 7000001, OF_THE_SESSION);
+
+const CANCEL: Ask = WithToken(Action::CancelSession, 7000001, OF_THE_SESSION);
+
+const RESULTS: Ask = WithToken(Action::SessionResults, 7000001, OF_THE_SESSION);
+
+const LIST_SETS: Ask = WithToken(Action::ListSets, 7000001, OF_THE_SESSION);
+
+const LIST_REVIEWERS: Ask = WithToken(Action::ListReviewers, 7000001, OF_THE_SESSION);
+
 /// A session is read, and cancelled once; then it is read as before, and has no results.
-pub(crate) fn a_session_is_read_and_cancelled<T: Tables + Drop>(
-    rt: &impl Abort,
-    alloc: Global,
-    over: Over<T>,
-) {
-    let mut server = server_with_session(rt, alloc, over, REGISTERED);
-    let read = with_token(Action::ReadSession, 7000001, OF_THE_SESSION);
-    let cancel = with_token(Action::CancelSession, 7000001, OF_THE_SESSION);
-    let results = with_token(Action::SessionResults, 7000001, OF_THE_SESSION);
-    let list = with_token(Action::ListSets, 7000001, OF_THE_SESSION);
-    let cases = [
-        shown(61, read, OPEN),
-        made(61, cancel, CANCELLED),
-        denied(61, cancel, Rule::SessionCancelled),
-        denied(61, results, Rule::SessionCancelled),
-        shown(61, read, AFTERWARDS),
-        shown(61, list, SETS),
-    ];
-    meets_each(rt, &mut server, &cases);
-}
+pub(crate) const A_SESSION_IS_READ_AND_CANCELLED: &[Step] = &[
+    At(61, READ, Shown(OPEN)),
+    At(61, CANCEL, Made(CANCELLED)),
+    At(61, CANCEL, Denied(Rule::SessionCancelled)),
+    At(61, RESULTS, Denied(Rule::SessionCancelled)),
+    At(61, READ, Shown(AFTERWARDS)),
+    At(61, LIST_SETS, Shown(SETS)),
+];
 
 /// Its lists, and its account's counts by the session's own token.
-pub(crate) fn the_lists_of_a_session_are_read<T: Tables + Drop>(
-    rt: &impl Abort,
-    alloc: Global,
-    over: Over<T>,
-) {
-    let mut server = server_with_session(rt, alloc, over, REGISTERED);
-    let sets = with_token(Action::ListSets, 7000001, OF_THE_SESSION);
-    let reviewers = with_token(Action::ListReviewers, 7000001, OF_THE_SESSION);
-    let account = with_token(Action::ReadAccount, 0, OF_THE_SESSION);
-    let cases = [
-        shown(61, sets, SETS),
-        shown(61, reviewers, NOBODY),
-        shown(61, account, ONE_SESSION),
-    ];
-    meets_each(rt, &mut server, &cases);
-}
+pub(crate) const THE_LISTS_OF_A_SESSION_ARE_READ: &[Step] = &[
+    At(61, LIST_SETS, Shown(SETS)),
+    At(61, LIST_REVIEWERS, Shown(NOBODY)),
+    At(
+        61,
+        WithToken(Action::ReadAccount, 0, OF_THE_SESSION),
+        Shown(ONE_SESSION),
+    ),
+];
+
+/// The results by a later token of the session, and by one of account 9.
+const RESULTS_LATE: Ask = WithToken(Action::SessionResults, 7000001, OF_THE_SESSION_LATE);
+
+const RESULTS_BY_NINE: Ask = WithToken(Action::SessionResults, 7000001, OF_NINE);
 
 /// The end of a session's vector sets is that of its results.
-pub(crate) fn results_wait_until_their_sets_end<T: Tables + Drop>(
-    rt: &impl Abort,
-    alloc: Global,
-    over: Over<T>,
-) {
-    let mut server = server_with_session(rt, alloc, over, REGISTERED);
-    let early = with_token(Action::SessionResults, 7000001, OF_THE_SESSION);
-    let late = with_token(Action::SessionResults, 7000001, OF_THE_SESSION_LATE);
-    let cases = [
-        shown(61, early, UNRECEIVED),
-        shown(604859, late, UNRECEIVED),
-        shown(604860, late, EXPIRED),
-    ];
-    meets_each(rt, &mut server, &cases);
-}
+pub(crate) const RESULTS_WAIT_UNTIL_THEIR_SETS_END: &[Step] = &[
+    At(61, RESULTS, Shown(UNRECEIVED)),
+    At(604859, RESULTS_LATE, Shown(UNRECEIVED)),
+    At(604860, RESULTS_LATE, Shown(EXPIRED)),
+];
 
 /// A reviewer reads the results of the session that names it, and nothing else.
-pub(crate) fn a_reviewer_reads_results_and_nothing_else<T: Tables + Drop>(
-    rt: &impl Abort,
-    alloc: Global,
-    over: Over<T>,
-) {
-    let mut server = server_with_session(rt, alloc, over, REGISTERED);
-    let results = with_token(Action::SessionResults, 7000001, OF_NINE);
-    let bound = with_token(Action::SessionResults, 7000001, OF_THE_SESSION_OF_NINE);
-    let another = with_token(Action::SessionResults, 7000002, OF_NINE);
-    let unbound = with_token(Action::SessionResults, 7000001, OF_SEVEN);
-    let cases = [
-        denied(61, results, Rule::SessionTokenNeeded),
-        made(61, add(NINE), NINE_REVIEWS),
-        shown(61, results, UNRECEIVED),
-        denied(61, bound, Rule::OtherSession),
-        denied(61, another, Rule::SessionTokenNeeded),
-        denied(61, unbound, Rule::SessionTokenNeeded),
-    ];
-    meets_each(rt, &mut server, &cases);
-    for action in [
-        Action::ReadSession,
-        Action::ListSets,
-        Action::ListReviewers,
-        Action::CancelSession,
-    ] {
-        let asked = with_token(action, 7000001, OF_NINE);
-        meets_each(
-            rt,
-            &mut server,
-            &[denied(61, asked, Rule::SessionTokenNeeded)],
-        );
-    }
-    let reviewers = with_token(Action::ListReviewers, 7000001, OF_THE_SESSION);
-    meets_each(rt, &mut server, &[shown(61, reviewers, NINE_REVIEWS)]);
-}
+pub(crate) const A_REVIEWER_READS_RESULTS_AND_NOTHING_ELSE: &[Step] = &[
+    At(61, RESULTS_BY_NINE, Denied(Rule::SessionTokenNeeded)),
+    At(61, AddsReviewer(NINE), Made(NINE_REVIEWS)),
+    At(61, RESULTS_BY_NINE, Shown(UNRECEIVED)),
+    At(
+        61,
+        WithToken(Action::SessionResults, 7000001, OF_THE_SESSION_OF_NINE),
+        Denied(Rule::OtherSession),
+    ),
+    At(
+        61,
+        WithToken(Action::SessionResults, 7000002, OF_NINE),
+        Denied(Rule::SessionTokenNeeded),
+    ),
+    At(
+        61,
+        WithToken(Action::SessionResults, 7000001, OF_SEVEN),
+        Denied(Rule::SessionTokenNeeded),
+    ),
+    Each(
+        61,
+        &[
+            Action::ReadSession,
+            Action::ListSets,
+            Action::ListReviewers,
+            Action::CancelSession,
+        ],
+        7000001,
+        0,
+        TokenField::Bearer(OF_NINE),
+        Denied(Rule::SessionTokenNeeded),
+    ),
+    At(61, LIST_REVIEWERS, Shown(NINE_REVIEWS)),
+];
