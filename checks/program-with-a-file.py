@@ -3,7 +3,7 @@
 
     program-with-a-file.py PROGRAM [KILLS]
 
-KILLS is how often serving is killed while it writes, 20 where it isn't given."""
+KILLS is how often serving is killed while it writes, 100 where it isn't given."""
 import hashlib
 import os
 import random
@@ -538,7 +538,7 @@ PARTS = [refused_lines, files_that_are_none, made_once, orders, faults_in_their_
 
 
 def main():
-    program, count = os.path.abspath(sys.argv[1]), int(sys.argv[2]) if len(sys.argv) > 2 else 20
+    program, count = os.path.abspath(sys.argv[1]), int(sys.argv[2]) if len(sys.argv) > 2 else 100
     began = time.time()
     with tempfile.TemporaryDirectory() as folder:
         lab = Laboratory(program, folder)

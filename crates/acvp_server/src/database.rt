@@ -1,7 +1,8 @@
-//! The records in a file: its tables are made, or taken over where they are there.
+//! The records in a file, whose tables are made, or taken over where they are there; or in memory.
 use crate::fault::Fault;
 use acvp_store::{SqlTables, adopt, create};
-use sqlite::{Connection, FileFrom, FileStore, Start};
+use sqlite::{Connection, FileFrom, FileStore, MemStore, Start};
+use std::alloc::Global;
 use std::fs;
 
 /// The records in a file.
@@ -16,6 +17,15 @@ fn connect<S: Start>(
     match Connection::open_from(rt, path, false, start) {
         Ok(connection) => Ok(connection),
         Err((error, _)) => Err(Fault::of_database(error)),
+    }
+}
+
+/// Makes the tables of records that are kept in memory alone.
+pub(crate) fn tables_in_memory(alloc: Global) -> Result<SqlTables<MemStore>, Fault> {
+    let connection = Connection::open_in_memory(alloc)?;
+    match create(alloc, connection) {
+        Ok(tables) => Ok(tables),
+        Err((_, fault)) => Err(Fault::from(fault)),
     }
 }
 

@@ -1,9 +1,9 @@
 //! Script mode: a script on standard input, over records in memory.
+use crate::database::tables_in_memory;
 use crate::fault::Fault;
 use crate::keys::keys_in;
 use acvp_desk::Desk;
 use acvp_http::{Flagged, Routes, run};
-use acvp_tables::ListTables;
 use std::io::{self, BufReader};
 use std::rt::Files;
 
@@ -14,7 +14,8 @@ pub(crate) fn script<R: Files + Input + Print + AllocGlobal>(
 ) -> Result<(), Fault> {
     let keys = keys_in(rt, keys)?;
     let routes = Routes::new(rt.alloc())?;
-    let mut desk = match Desk::new(rt.alloc(), keys, ListTables::new(rt.alloc())) {
+    let tables = tables_in_memory(rt.alloc())?;
+    let mut desk = match Desk::new(rt.alloc(), keys, tables) {
         Ok(desk) => desk,
         Err((_, fault)) => return Err(Fault::from(fault)),
     };

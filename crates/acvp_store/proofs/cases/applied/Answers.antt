@@ -4,4 +4,4 @@ use Rattle.acvp_tables.specs.Covers.{Covers}
 use Rattle.acvp_store.proofs.cases.applied.Goals as goal
 
 pub apply-requires-clause-covers : goal.apply-requires-clause-covers
-apply-requires-clause-covers c = subst (λ (g : Granted). Covers g c.args.change.now) (sym c.in-Ok.ensures.grant) c.requires.covers
+apply-requires-clause-covers g c = subst (λ (granted : Granted). Covers granted c.args.change.now) (sym c.in-Ok.ensures.grant) c.requires.covers
