@@ -6,41 +6,25 @@
 For each number of sessions of other accounts that are there, a run of the script that makes them is timed, and one that
 goes on with so many logins, reads of a vector set, or submissions; the difference is theirs. Tokens and codes are Python's
 own, so that a script stands before the program begins. The least of the runs counts. It is no part of the gate."""
-import hashlib
-import json
-import os
 import subprocess
 import sys
 import time
 
-sys.path.insert(0, os.path.join(os.path.dirname(os.path.abspath(__file__)), "..", "examples"))
-from validation import one_time_code  # noqa: E402
-import base64  # noqa: E402
-import hmac  # noqa: E402
+import laboratory
+from validation import one_time_code
 
 RUNS, MORE = 5, 2000
 SECRET = b"12345678901234567890123456789012"
 CAPABILITY = {"algorithm": "SHA2-256", "messageLength": [8], "revision": "1.0"}
 
 
-def encoded(part):
-    return base64.urlsafe_b64encode(part).rstrip(b"=")
-
-
 def signed(account, moment, session=None):
     claims = {"sub": str(account), "iat": moment, "exp": moment + 1800}
-    if session is not None:
-        claims["sid"] = session
-    text = encoded(b'{"alg":"HS256"}') + b"." + encoded(json.dumps(claims).encode())
-    return (text + b"." + encoded(hmac.new(bytes(32), text, hashlib.sha256).digest())).decode()
+    return laboratory.signed(claims if session is None else {**claims, "sid": session})
 
 
 def request(moment, method, path, token=None, thing=None):
-    body = b"" if thing is None else json.dumps([{"acvVersion": "1.0"}, thing]).encode()
-    lines = [f"{method} /acvp/v1{path} HTTP/1.1", "Host: h"]
-    lines += [f"Authorization: Bearer {token}"] if token is not None else []
-    lines += [f"Content-Length: {len(body)}"] if thing is not None else []
-    text = "\r\n".join(lines + ["", ""]).encode() + body
+    text = laboratory.request(method, path, token, thing)
     return b"request %d %d\n%s\n" % (moment, len(text), text)
 
 
@@ -94,4 +78,5 @@ def main():
         print(f"{sessions} sessions:", ", ".join(f"{MORE / (taken - alone):.0f} {name}/s" for name, taken in least.items()), flush=True)
 
 
-main()
+if __name__ == "__main__":
+    main()

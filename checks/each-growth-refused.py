@@ -6,16 +6,16 @@ With nothing refused every answer is right, and none is `unavailable`. With one 
 being handled may be answered `unavailable`, and has then changed nothing: every other answer is right, and so is
 that to the same event where it is sent again. Or the run ends there as `fault: memory`, with the answers to the
 events before it."""
-import base64
 import hashlib
-import hmac
-import json
 import os
-import struct
 import subprocess
 import sys
 import tempfile
 import time
+
+from chacha20 import Words
+from laboratory import compact, signed
+from validation import one_time_code
 
 PROGRAM, SHIM = sys.argv[1:3]
 TOKEN_KEY, SEED = bytes(range(32)), bytes(32)
@@ -24,26 +24,9 @@ DAYS = ["Mon", "Tue", "Wed", "Thu", "Fri", "Sat", "Sun"]
 MONTHS = ["Jan", "Feb", "Mar", "Apr", "May", "Jun", "Jul", "Aug", "Sep", "Oct", "Nov", "Dec"]
 
 
-def code(step):
-    mac = hmac.new(SECRET, step.to_bytes(8, "big"), hashlib.sha256).digest()
-    at = mac[-1] & 15
-    return "%08d" % ((int.from_bytes(mac[at:at + 4], "big") & 0x7fffffff) % 10**8)
-
-
-def compact(value):
-    return json.dumps(value, separators=(",", ":"), sort_keys=True).encode()
-
-
-def encoded(part):
-    return base64.urlsafe_b64encode(part).rstrip(b"=")
-
-
 def token(issued, session=None, account="7", key=TOKEN_KEY):
     claims = {"exp": issued + 1800, "iat": issued, "sub": account}
-    if session is not None:
-        claims["sid"] = session
-    signed = encoded(b'{"alg":"HS256","typ":"JWT"}') + b"." + encoded(compact(claims))
-    return (signed + b"." + encoded(hmac.new(key, signed, hashlib.sha256).digest())).decode()
+    return signed(claims if session is None else {**claims, "sid": session}, key)
 
 
 def reply(status, phrase, thing, moment=None, besides=b""):
@@ -106,7 +89,7 @@ def posting(body, path=b"/acvp/v1/login", method=b"POST"):
 def login(what, moment, step, access=None, renews=True, session=None, number=7):
     """A login with the code of a step, which is the moment's own or the one before it."""
     assert moment // 30 - step in (0, 1)
-    members = {"password": code(step), "user": str(number)}
+    members = {"password": one_time_code(SECRET, step * 30), "user": str(number)}
     if access is not None:
         members["accessToken"] = access
 
@@ -121,34 +104,12 @@ def login(what, moment, step, access=None, renews=True, session=None, number=7):
     return request(what, moment, posting(compact([{"acvVersion": "1.0"}, members])), answer)
 
 
-def key_stream(seed, stream, count):
-    """So many words of ChaCha20 (RFC 8439) under a seed, with a counter and the number of the stream of 64 bits each."""
-    def rotated(word, by):
-        return (word << by | word >> 32 - by) & 0xffffffff
-
-    def quarter(state, a, b, c, d):
-        for x, y, z, by in ((a, b, d, 16), (c, d, b, 12), (a, b, d, 8), (c, d, b, 7)):
-            state[x] = (state[x] + state[y]) & 0xffffffff
-            state[z] = rotated(state[z] ^ state[x], by)
-
-    words, block = [], 0
-    while len(words) < count:
-        start = [0x61707865, 0x3320646e, 0x79622d32, 0x6b206574, *struct.unpack("<8I", seed), block, 0,
-                 stream & 0xffffffff, stream >> 32]
-        state = list(start)
-        for _ in range(10):
-            for places in ((0, 4, 8, 12), (1, 5, 9, 13), (2, 6, 10, 14), (3, 7, 11, 15),
-                           (0, 5, 10, 15), (1, 6, 11, 12), (2, 7, 8, 13), (3, 4, 9, 14)):
-                quarter(state, *places)
-        words += [(x + y) & 0xffffffff for x, y in zip(state, start)]
-        block += 1
-    return words[:count]
-
-
 # The one vector set of the first session of account 7: SHA2-256 over messages of one byte. The greatest length and 16 drawn
 # ones are the same; the words of the draws come first.
 SESSION, SET = 7000001, 700000101
-MESSAGES = [bytes([word & 255]) for word in key_stream(SEED, SET, 33)[16:]]
+WORDS = Words(SEED, SET)
+WORDS.take(16 * 4)
+MESSAGES = [WORDS.take(1) for _ in range(17)]
 SESSION_URL = f"/acvp/v1/testSessions/{SESSION}"
 SET_URL = f"{SESSION_URL}/vectorSets/{SET}"
 REGISTERED = {"algorithms": [{"algorithm": "SHA2-256", "messageLength": [8], "revision": "1.0"}]}

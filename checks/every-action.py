@@ -3,17 +3,13 @@
 rule of refusal is met but three: that an account is full, that the moment isn't served, and that memory is refused. With
 ample memory no reply has status 503 and no order is unavailable. Tokens that are no good are signed by Python's hmac. Each
 account after the first also asks for what the one before it has, and is told no more than of what isn't there."""
-import base64
 import hashlib
-import hmac
 import json
-import os
 import sys
 
-sys.path.insert(0, os.path.join(os.path.dirname(os.path.abspath(__file__)), "..", "examples"))
-from validation import Server, answers, one_time_code  # noqa: E402
+from laboratory import signed
+from validation import Server, answers, one_time_code
 
-KEY = bytes(32)
 STATUSES = {400: "badHead truncated badLength hostMissing bodyNotJson bodyEnvelope bodyField notByteOriented lengthOutOfRange"
                  " unsupported unknownTest duplicateTest setMismatch noReference badPage",
             401: "tokenMissing tokenMalformed tokenSignature tokenClaims tokenExpired",
@@ -24,15 +20,6 @@ STATUSES = {400: "badHead truncated badLength hostMissing bodyNotJson bodyEnvelo
             501: "transferCoding"}
 STATUS_OF = {word: status for status, words in STATUSES.items() for word in words.split()}
 DAY = 86400
-
-
-def encoded(part):
-    return base64.urlsafe_b64encode(part).rstrip(b"=")
-
-
-def signed(claims, key=KEY):
-    text = encoded(b'{"alg":"HS256","typ":"JWT"}') + b"." + encoded(json.dumps(claims).encode())
-    return (text + b"." + encoded(hmac.new(key, text, hashlib.sha256).digest())).decode()
 
 
 def hash_set(*lengths):

@@ -1,6 +1,8 @@
 """A laboratory whose records are in a file, as the checks of the program see it: its operator's commands, what is served,
 and a client of it, in standard Python."""
+import base64
 import hashlib
+import hmac
 import json
 import os
 import socket
@@ -12,6 +14,7 @@ sys.path.insert(0, os.path.join(os.path.dirname(os.path.abspath(__file__)), ".."
 from validation import one_time_code  # noqa: E402
 
 STEP = 30
+KEY, SEED = bytes(32), bytes([17] * 32)
 checked = 0
 
 
@@ -38,6 +41,25 @@ def request(method, path, token=None, thing=None, body=None):
     return "\r\n".join(lines + ["", ""]).encode() + (body or b"")
 
 
+def compact(value):
+    """The text of a value as JSON without white space, with its members in ascending order."""
+    return json.dumps(value, separators=(",", ":"), sort_keys=True).encode()
+
+
+def encoded(part):
+    return base64.urlsafe_b64encode(part).rstrip(b"=")
+
+
+def decoded(part):
+    return base64.urlsafe_b64decode(part + "=" * (-len(part) % 4))
+
+
+def signed(claims, key=KEY):
+    """A token with these claims, as the server issues it under its first key."""
+    text = encoded(b'{"alg":"HS256","typ":"JWT"}') + b"." + encoded(compact(claims))
+    return (text + b"." + encoded(hmac.digest(key, text, "sha256"))).decode()
+
+
 def read_all(connection):
     """What comes until the server ends its side."""
     return b"".join(iter(lambda: connection.recv(65536), b""))
@@ -62,7 +84,7 @@ class Laboratory:
         self.program, self.folder = program, folder
         self.db, self.keys = self.path("laboratory.db"), self.path("keys.txt")
         self.process = self.port = None
-        self.write(self.keys, f"{'0' * 64}\n{'1' * 64}\n")
+        self.write(self.keys, f"{KEY.hex()}\n{SEED.hex()}\n")
 
     def path(self, name):
         return os.path.join(self.folder, name)

@@ -3,7 +3,7 @@
 
     program-with-a-file.py PROGRAM [KILLS]
 
-KILLS is how often serving is killed while it writes, 100 where it isn't given."""
+KILLS is how often serving is killed while it writes: 100 where it isn't given, and 1000 for a longer run."""
 import hashlib
 import os
 import random
@@ -26,6 +26,8 @@ from validation import answers
 CHECKS = os.path.dirname(os.path.abspath(__file__))
 REGISTRATION = {"algorithms": [{"algorithm": "SHA2-256", "messageLength": [8], "revision": "1.0"}]}
 WHOLE_BODY = 2097152
+# How often serving is killed over one file, so that neither the file nor the age of a token grows with the run.
+KILLS_OF_A_FILE = 100
 
 
 def sum_of(path):
@@ -42,7 +44,7 @@ def short(url):
 
 def options_of(db="absent.db"):
     """Each command with all its options, over a database that isn't there."""
-    return {"init": ["--db", db], "account-add": ["--db", db, "--account", "7", "--secret", "secret"],
+    return {"init": ["--db", db], "migrate": ["--db", db], "account-add": ["--db", db, "--account", "7", "--secret", "secret"],
             "account-disable": ["--db", db, "--account", "7"], "request-approve": ["--db", db, "--request", "7000001"],
             "request-reject": ["--db", db, "--request", "7000001"],
             "serve": ["--db", db, "--keys", "keys.txt", "--port", "8080", "--count", "1"], "script": ["--keys", "keys.txt"]}
@@ -127,6 +129,7 @@ def made_once(lab):
         connection.commit()
         connection.close()
         lab.fails("schema", "account-disable", "--db", copy, "--account", "7", what=what)
+        lab.fails("schema", "migrate", "--db", copy, what=what)
         for left in ("copy.db", "copy.db-wal"):
             if os.path.exists(lab.path(left)):
                 os.remove(lab.path(left))
@@ -408,7 +411,7 @@ def documents(lab):
     other.kill()
     rest = [line for line in lines[place:] if "account-disable" not in line]
     output = shell(other, rest, folder)
-    wanted = ["request 7000001 approved /acvp/v1/vendors/7000001\n", "request 7000002 rejected\n"]
+    wanted = ["request 7000001 approved /acvp/v1/vendors/7000001\n", "request 7000002 rejected\n", "schema 3\n"]
     if shutil.which("sqlite3"):
         wanted += ['vendor  {"name":"Vendor two"}', "ok\n"]
     for part in wanted:
@@ -525,12 +528,21 @@ def kills(lab, count):
             reader.looks()
             lab.serve()
             now = everything_is_there(lab, token, now, writer)
-        lab.kill()
     except (SystemExit, Exception):
         print(f"the moments were those of seed {seed}")
         raise
+    finally:
+        lab.kill()
     reader.looks()
     return now["requests"] + now["sessions"]
+
+
+def made(program, folder):
+    """A laboratory in a folder of its own, with the tables that init makes."""
+    os.mkdir(folder)
+    lab = Laboratory(program, folder)
+    lab.does("ready", "init", "--db", lab.db)
+    return lab
 
 
 PARTS = [refused_lines, files_that_are_none, made_once, orders, faults_in_their_order, no_connection_can_be_taken, certified,
@@ -546,8 +558,12 @@ def main():
             for part in PARTS:
                 part(lab)
                 print(f"{part.__name__.replace('_', ' ')}: done after {time.time() - began:.0f} s", flush=True)
-            changes = kills(lab, count)
-            print(f"{count} stops by SIGKILL: done after {time.time() - began:.0f} s, with {changes} changes in the file")
+            for done in range(0, count, KILLS_OF_A_FILE):
+                lab = made(program, os.path.join(folder, f"stops-{done}")) if done else lab
+                more = min(KILLS_OF_A_FILE, count - done)
+                changes = kills(lab, more)
+                print(f"{done + more} stops by SIGKILL: done after {time.time() - began:.0f} s, the last {more} of them with "
+                      f"{changes} changes in the file", flush=True)
         finally:
             lab.kill()
     print(f"{laboratory.checked} comparisons")

@@ -9,7 +9,7 @@ use Rattle.acvp_desk.specs.declared.order.OrderReply.TheVariants as reply
 use Rattle.acvp_server.specs.declared.fault.Fault.{Fault}
 use Rattle.acvp_server.specs.declared.fault.Fault.TheVariants as fault
 use Rattle.acvp_server.specs.declared.lines.Line.{Line}
-use Rattle.acvp_server.specs.declared.lines.Line.TheVariants.{Ready, Added, Disabled, Approved, Rejected, Listening, Served}
+use Rattle.acvp_server.specs.declared.lines.Line.TheVariants.{Ready, Migrated, Added, Disabled, Approved, Rejected, Listening, Served}
 
 -- the URL of what was approved: of an object of the registries, or of the test session that is certified
 abbrev pub approved_url : Kind → ℕ → List ℕ
@@ -18,6 +18,7 @@ approved_url kind n = unwrap_or (url_of kind n) (codes "/acvp/v1/testSessions/" 
 -- the line, without its line feed
 abbrev pub line_text : Line → List ℕ
 line_text Ready = codes "ready"
+line_text Migrated = codes "schema 3"
 line_text (Added account) = codes "account " ++ decimal account ++ codes " added"
 line_text (Disabled account) = codes "account " ++ decimal account ++ codes " disabled"
 line_text (Approved request kind n) = (codes "request " ++ decimal request ++ codes " approved ") ++ approved_url kind n

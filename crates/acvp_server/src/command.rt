@@ -13,6 +13,9 @@ pub(crate) enum Asked<'a> {
     Init {
         db: &'a str,
     },
+    Migrate {
+        db: &'a str,
+    },
     AddAccount {
         db: &'a str,
         account: u16,
@@ -84,6 +87,7 @@ fn wish_by_name<'a>(name: &str, matches: &ArgMatches<'a>) -> Result<Option<Asked
     let db = value(matches, "db");
     let asked = match name {
         "init" => Asked::Init { db },
+        "migrate" => Asked::Migrate { db },
         "account-add" => Asked::AddAccount {
             db,
             account: account(matches)?,
@@ -178,6 +182,15 @@ fn init<'a>(alloc: Global) -> Result<Command<'a>, AllocError> {
         .arg(db(alloc))
 }
 
+fn migrate<'a>(alloc: Global) -> Result<Command<'a>, AllocError> {
+    Command::new(alloc, "migrate")
+        .about(
+            "Moves the tables in a file of an earlier version to today's schema, with all records",
+        )
+        .after_help("Example: acvp_server migrate --db laboratory.db")
+        .arg(db(alloc))
+}
+
 fn account_add<'a>(alloc: Global) -> Result<Command<'a>, AllocError> {
     let secret = option(
         alloc,
@@ -257,6 +270,7 @@ pub(crate) fn command<'a>(alloc: Global) -> Result<Command<'a>, AllocError> {
         .after_help("Example: acvp_server init --db laboratory.db")
         .subcommand_required(true)
         .subcommand(init(alloc)?)?
+        .subcommand(migrate(alloc)?)?
         .subcommand(account_add(alloc)?)?
         .subcommand(account_disable(alloc)?)?
         .subcommand(request_approve(alloc)?)?

@@ -1,6 +1,6 @@
-//! The records in a file, whose tables are made, or taken over where they are there; or in memory.
+//! The records in a file, whose tables are made, or taken over where they are there, or moved to today's schema; or in memory.
 use crate::fault::Fault;
-use acvp_store::{SqlTables, adopt, create};
+use acvp_store::{SqlTables, adopt, create, migrate};
 use sqlite::{Connection, FileFrom, FileStore, MemStore, Start};
 use std::alloc::Global;
 use std::fs;
@@ -42,19 +42,40 @@ pub(crate) fn make_tables<S: Start>(
     }
 }
 
+/// A connection to the database in a file that is there.
+fn connect_existing<S: Start>(
+    rt: &HostRuntime,
+    path: &str,
+    start: S,
+) -> Result<Connection<FileStore<FileFrom<S>>>, Fault> {
+    match fs::exists(rt, path) {
+        Ok(true) => connect(rt, path, start),
+        Ok(false) => Err(Fault::Unavailable),
+        Err(error) => Err(Fault::Unavailable.of_system(&error)),
+    }
+}
+
 /// Takes over the tables in a file that is there.
 pub(crate) fn take_over<S: Start>(
     rt: &HostRuntime,
     path: &str,
     start: S,
 ) -> Result<FileTables<S>, Fault> {
-    match fs::exists(rt, path) {
-        Ok(true) => {}
-        Ok(false) => return Err(Fault::Unavailable),
-        Err(error) => return Err(Fault::Unavailable.of_system(&error)),
-    }
-    let connection = connect(rt, path, start)?;
+    let connection = connect_existing(rt, path, start)?;
     match adopt(rt.alloc(), connection) {
+        Ok(tables) => Ok(tables),
+        Err((_, fault)) => Err(Fault::from(fault)),
+    }
+}
+
+/// Moves the tables in a file that is there from an earlier schema to today's, and takes them over.
+pub(crate) fn move_tables<S: Start>(
+    rt: &HostRuntime,
+    path: &str,
+    start: S,
+) -> Result<FileTables<S>, Fault> {
+    let connection = connect_existing(rt, path, start)?;
+    match migrate(rt.alloc(), connection) {
         Ok(tables) => Ok(tables),
         Err((_, fault)) => Err(Fault::from(fault)),
     }

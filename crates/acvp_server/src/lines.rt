@@ -11,6 +11,9 @@ pub(crate) enum Line {
     /// The tables are there.
     Ready,
 
+    /// The tables are those of schema 3.
+    Migrated,
+
     /// The account of this number is added.
     Added(u16),
 
@@ -69,6 +72,7 @@ impl Line {
     {
         match self {
             Line::Ready => String::from_str(alloc, "ready"),
+            Line::Migrated => String::from_str(alloc, "schema 3"),
             Line::Added(account) => format!(in alloc; "account {account} added"),
             Line::Disabled(account) => format!(in alloc; "account {account} disabled"),
             Line::Approved(request, kind, number) => {

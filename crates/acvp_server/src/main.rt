@@ -39,12 +39,19 @@ fn init(rt: &HostRuntime, db: &str) -> Result<Line, Fault> {
     Ok(Line::Ready)
 }
 
+/// Moves the tables in a file to today's schema.
+fn migrate(rt: &HostRuntime, db: &str) -> Result<Line, Fault> {
+    database::close(database::move_tables(rt, db, Wary)?);
+    Ok(Line::Migrated)
+}
+
 /// Carries out what the command line asks for, and gives the line that says so, where there is one.
 fn carry_out(rt: &HostRuntime, asked: Asked<'_>) -> Result<Option<Line>, Fault>
     requires { NamesAccount asked }
 {
     let line = match asked {
         Asked::Init { db } => init(rt, db)?,
+        Asked::Migrate { db } => migrate(rt, db)?,
         Asked::AddAccount {
             db,
             account,

@@ -29,6 +29,10 @@ pub none_left : {X : Type 0} (ys : List X) → IsPermutation [] ys → ys ≡ []
 none_left [] h = refl
 none_left (y ∷ ys) h = absurd (omega (arith, length_permutation _ _ h))
 
+pub none_passes : {A : Type 0} (xs : List A) → filter (λ x. false) xs ≡ []
+none_passes [] = refl
+none_passes (x ∷ xs) = none_passes xs
+
 module _ {A : Type 0} (key : A → ℕ) where
   abbrev pub keyed : ℕ → List A → List A
   keyed n all = filter (λ a. key a == n) all

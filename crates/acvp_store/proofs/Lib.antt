@@ -37,3 +37,6 @@ pub mod CertificationTexts
 pub mod RequestPages
 pub mod ObjectPages
 pub mod Counting
+pub mod Migrating
+pub mod Moving
+pub mod Known

@@ -1,12 +1,12 @@
 -- Where the tables lie that don't lie alike in every store.
-use Rattle.std.proofs.Common.{◌≡◌, ◌≢◌, ℕ, [], Some, false, refl, slice_get}
-use Rattle.std.specs.Prelude.{◌==◌}
+use Rattle.std.proofs.Common.{◌≡◌, ◌≢◌, ℕ, [], Some, false, refl, slice_get, ◌∙◌}
+use Rattle.std.specs.Prelude.{◌==◌, ⊤}
 use Rattle.std.specs.List.{AllByRecursion}
 use Rattle.sqlite.specs.Program.{overlay}
 use Rattle.sqlite.specs.Table.{Table}
 use Rattle.sqlite_trees.specs.Tree.{Trees}
 use Rattle.acvp_store.specs.Schema.{Layout, Created, Migrated, schema_of, set_table, reviewer_table}
-use Rattle.acvp_store.specs.Stands.{set_tree, reviewer_tree}
+use Rattle.acvp_store.specs.Stands.{set_tree, reviewer_tree, HasNoOldSets}
 use Rattle.acvp_store.specs.Alters.{SparesOthers}
 use Rattle.acvp_store.proofs.Parts.{apart}
 use Rattle.acvp_store.proofs.Texts.{set_place, reviewer_place}
@@ -60,3 +60,25 @@ sets_spared layout tree old new other spared = of_sets layout (λ t. t.tree ≢ 
 
 pub reviewers_spared : (layout : Layout) (tree : ℕ) (old new : Trees) → reviewer_tree layout ≢ tree → SparesOthers layout tree old new → new (reviewer_tree layout) ≡ old (reviewer_tree layout)
 reviewers_spared layout tree old new other spared = of_reviewers layout (λ t. t.tree ≢ tree → new t.tree ≡ old t.tree) spared other
+
+-- the earlier table of sets lies in the tree 4
+
+abbrev pub OldApart : Layout → ℕ → Type 0
+OldApart Created tree = ⊤
+OldApart Migrated tree = 4 ≢ tree
+
+pub old_apart : (layout : Layout) (tree : ℕ) → (4 == tree) ≡ false → OldApart layout tree
+old_apart Created tree other = tt
+old_apart Migrated tree other = apart 4 tree other
+
+pub old_is_no_set : (layout : Layout) → OldApart layout (set_tree layout)
+old_is_no_set Created = tt
+old_is_no_set Migrated = apart 4 8 refl
+
+pub old_is_no_reviewer : (layout : Layout) → OldApart layout (reviewer_tree layout)
+old_is_no_reviewer Created = tt
+old_is_no_reviewer Migrated = apart 4 9 refl
+
+pub old_spared : (layout : Layout) (tree : ℕ) (old new : Trees) → OldApart layout tree → SparesOthers layout tree old new → HasNoOldSets layout old → HasNoOldSets layout new
+old_spared Created tree old new other spared none = tt
+old_spared Migrated tree old new other spared none = spared.1.1.1.0 other ∙ none

@@ -1,12 +1,14 @@
 -- The statements on reviewers.
-use Rattle.std.proofs.Common.{inl, inr, ◌≡◌, ℕ, List, [], ◌∷◌, ◌++◌, map, length, Bool, true, false, not, Option, None, Ok, Err, Result, IfOk, IsOk, refl, sym, ap, subst, ◌∙◌, arith}
+use Rattle.std.proofs.Common.{inl, inr, ◌⊎◌, ◌<◌, ◌≤◌, ◌^◌, ℤ, pos, negsuc, ◌≡◌, ℕ, List, [], ◌∷◌, ◌++◌, map, length, Bool, true, false, not, Option, None, Ok, Err, Result, IfOk, IsOk, refl, sym, ap, subst, ◌∙◌, arith}
 use Rattle.std.specs.Prelude.{◌==◌, ◌&&◌, nat_lt, if◌then◌else◌}
-use Rattle.std.specs.List.{filter, list_any, AllByRecursion}
+use Rattle.std.specs.List.{filter, list_any, list_all, AllByRecursion}
 use Rattle.std.specs.List.Sorted.{IsPermutation}
 use Rattle.std.proofs.lemmas.Bool.{cases_Bool}
 use Rattle.std.proofs.lemmas.Bool.Decides.{nat_tests}
-use Rattle.std.proofs.lemmas.List.Sorted.{length_permutation, list_any-IsPermutation}
-use Rattle.sqlite.specs.declared.types.Value.TheVariants.{Null}
+use Rattle.std.proofs.lemmas.List.Sorted.{length_permutation, list_any-IsPermutation, IsPermutation-sym}
+use Rattle.sqlite.specs.declared.types.Value.TheVariants.{Null, Int}
+use Rattle.sqlite.specs.Term.{holds}
+use Rattle.sqlite_trees.proofs.ListLemmas.{all-append, all-filter, all-permutation}
 use Rattle.sqlite.specs.Order.{Row}
 use Rattle.sqlite.specs.Program.{overlay}
 use Rattle.sqlite.specs.Command.TheVariants.{Insert, Delete}
@@ -35,24 +37,64 @@ use Rattle.acvp_tables.specs.declared.rows.ReviewerRow.{ReviewerRow}
 use Rattle.acvp_store.specs.Values.{whole}
 use Rattle.acvp_store.specs.Schema.{Layout, Created, Migrated, schema_of, reviewer_table}
 use Rattle.acvp_store.specs.Alters.{Alters, SparesOthers}
-use Rattle.acvp_store.specs.Stands.{Entry, entry_row, HoldsReviewers, reviewer_columns, reviewer_tree}
+use Rattle.acvp_store.specs.Stands.{Entry, entry_row, HoldsEntries, HoldsReviewers, reviewer_columns, reviewer_tree}
 use Rattle.acvp_store.proofs.Effects.{mode, task_of, concluded}
 use Rattle.acvp_store.proofs.Entries.{entry_for, map_last, rows_put, puts, was_free, removed, takes}
 use Rattle.acvp_store.proofs.Idle.{applied}
 use Rattle.acvp_store.proofs.Inserting.{not_false}
 use Rattle.acvp_store.proofs.Parts.{went, same_value, cast_null, cast_whole, both_true}
-use Rattle.acvp_store.proofs.Selecting.{test_equals, selected}
+use Rattle.acvp_store.proofs.Selecting.{test_equals, test_none, selected}
+use Rattle.acvp_store.proofs.Keyed.{none_passes}
 use Rattle.acvp_store.proofs.Places.{reviewers_at, of_reviewers, reviewers_seen}
 use Rattle.acvp_store.proofs.Texts.{reviewer_place, find_reviewer, reviewer_query, reviewer_is, reviewer_plain, reviewer_unlisted, add_reviewer, add_reviewer_terms, remove_reviewer, remove_query}
 
 -- ---- whether one is there
 
-pub reviewer_rows : (layout : Layout) (r : ReviewerRow) (old new : State) (rows : List Row) → old.now.schema ≡ schema_of layout → Shown find_reviewer (reviewer_columns r) old new rows → (list : List ReviewerRow) (h : HoldsReviewers (old.now.trees (reviewer_tree layout)) list)
-    → IsPermutation (map (λ (e : Entry ReviewerRow). whole e.row.account ∷ []) (filter (λ e. is_pair r e.row) h.entries)) rows
-reviewer_rows layout r old new rows schema shown list h =
-    selected (reviewer_columns r) (entry_row reviewer_columns) (λ e. is_pair r e.row) (reviewer_query layout).filter (λ e. both_true _ _ (e.row.session == r.session) (e.row.account == r.account) (test_equals e.row.session r.session) (test_equals e.row.account r.account))
-    (reviewer_tree layout) (reviewer_query layout).project (λ e. whole e.row.account ∷ []) (λ e. refl) (overlay old.now.trees []) h.entries rows (reviewers_seen layout old.now.trees ∙ h.rows_are)
-    ((reads_as find_reviewer (reviewer_columns r) old new (schema_of layout) schema _ (reviewer_is layout) (reviewer_plain layout) (reviewer_unlisted layout) rows shown).answer Null)
+abbrev pub pair_params : ℤ → ℕ → Row
+pair_params k account = Int k ∷ whole account ∷ []
+
+abbrev FitsColumn : ReviewerRow → Type 0
+FitsColumn r = r.session < 2 ^ 63
+
+-- what is so of the members is so of their entries
+pub each_entry : (P : ReviewerRow → Type 0) (es : List (Entry ReviewerRow)) → AllByRecursion P (map (λ (e : Entry ReviewerRow). e.row) es) → AllByRecursion (λ (e : Entry ReviewerRow). P e.row) es
+each_entry P [] h = tt
+each_entry P (e ∷ es) h = (h.0, each_entry P es h.1)
+
+pub entries_fit : (rows : List Row) (list : List ReviewerRow) (h : HoldsReviewers rows list) → AllByRecursion (λ (e : Entry ReviewerRow). e.row.session < 2 ^ 63) h.kept.entries
+entries_fit rows list h = each_entry FitsColumn h.kept.entries (all-permutation FitsColumn list (map (λ (e : Entry ReviewerRow). e.row) h.kept.entries) (IsPermutation-sym _ _ h.kept.same) h.fits)
+
+-- a session with a number that no column keeps has none
+none_paired : (r : ReviewerRow) (es : List (Entry ReviewerRow)) → 2 ^ 63 ≤ r.session → AllByRecursion (λ (e : Entry ReviewerRow). e.row.session < 2 ^ 63) es → filter (λ (e : Entry ReviewerRow). is_pair r e.row) es ≡ []
+none_paired r [] high low = refl
+none_paired r (e ∷ es) high low =
+    let under = low.0 in
+    let apart : (e.row.session == r.session) ≡ false = grind (arith, nat_tests, under, high) in
+    rw apart (none_paired r es high low.1)
+
+pub small_or_large : (n : ℕ) → (n < 2 ^ 63) ⊎ (2 ^ 63 ≤ n)
+small_or_large n = search arith
+
+module _ (layout : Layout) (r : ReviewerRow) (old new : State) (rows : List Row) (schema : old.now.schema ≡ schema_of layout) (list : List ReviewerRow) (h : HoldsReviewers (old.now.trees (reviewer_tree layout)) list) where
+  rows_by : (k : ℤ) (p : Entry ReviewerRow → Bool) → ((e : Entry ReviewerRow) → list_all (holds (pair_params k r.account ∷ entry_row reviewer_columns e ∷ [])) (reviewer_query layout).filter ≡ p e)
+      → Shown find_reviewer (pair_params k r.account) old new rows → IsPermutation (map (λ (e : Entry ReviewerRow). whole e.row.account ∷ []) (filter p h.kept.entries)) rows
+  rows_by k p tests shown =
+      selected (pair_params k r.account) (entry_row reviewer_columns) p (reviewer_query layout).filter tests
+      (reviewer_tree layout) (reviewer_query layout).project (λ e. whole e.row.account ∷ []) (λ e. refl) (overlay old.now.trees []) h.kept.entries rows (reviewers_seen layout old.now.trees ∙ h.kept.rows_are)
+      ((reads_as find_reviewer (pair_params k r.account) old new (schema_of layout) schema _ (reviewer_is layout) (reviewer_plain layout) (reviewer_unlisted layout) rows shown).answer Null)
+
+  pub reviewer_rows : (k : ℤ) → (r.session < 2 ^ 63 → k ≡ pos r.session) → (2 ^ 63 ≤ r.session → k ≡ negsuc 0) → Shown find_reviewer (pair_params k r.account) old new rows
+      → IsPermutation (map (λ (e : Entry ReviewerRow). whole e.row.account ∷ []) (filter (λ e. is_pair r e.row) h.kept.entries)) rows
+  reviewer_rows k fits large shown = elim (small_or_large r.session) [
+    | inl low ↦
+        let at = subst (λ k. Shown find_reviewer (pair_params k r.account) old new rows) (fits low) shown in
+        rows_by (pos r.session) (λ e. is_pair r e.row) (λ e. both_true _ _ (e.row.session == r.session) (e.row.account == r.account) (test_equals e.row.session r.session) (test_equals e.row.account r.account)) at
+    | inr high ↦
+        let at = subst (λ k. Shown find_reviewer (pair_params k r.account) old new rows) (large high) shown in
+        let none = rows_by (negsuc 0) (λ e. false) (λ e. both_true _ _ false (e.row.account == r.account) (test_none e.row.session) (test_equals e.row.account r.account)) at in
+        let empty : filter (λ (e : Entry ReviewerRow). false) h.kept.entries ≡ filter (λ (e : Entry ReviewerRow). is_pair r e.row) h.kept.entries = none_passes h.kept.entries ∙ sym (none_paired r h.kept.entries high (entries_fit (old.now.trees (reviewer_tree layout)) list h)) in
+        subst (λ es. IsPermutation (map (λ (e : Entry ReviewerRow). whole e.row.account ∷ []) es) rows) empty none
+  ]
 
 -- there is one exactly where one passes
 counted : {A : Type 0} (shown : A → Row) (p : A → Bool) (xs : List A) → nat_lt 0 (length (map shown (filter p xs))) ≡ list_any p xs
@@ -74,13 +116,13 @@ any_row p (e ∷ es) = elim (cases_Bool (p e.row)) [
 
 pub found_reviewer : {X E F : Type 0} (r : ReviewerRow) (table : List Row) (outcome : Result X E) (rows_in : X → List Row) (result : Result Bool F) → (IsOk result → IsOk outcome)
     → IfOk result (λ found. IfOk outcome (λ x. found ≡ nat_lt 0 (length (rows_in x))))
-    → IfOk outcome (λ x. (list : List ReviewerRow) (h : HoldsReviewers table list) → IsPermutation (map (λ (e : Entry ReviewerRow). whole e.row.account ∷ []) (filter (λ e. is_pair r e.row) h.entries)) (rows_in x))
+    → IfOk outcome (λ x. (list : List ReviewerRow) (h : HoldsReviewers table list) → IsPermutation (map (λ (e : Entry ReviewerRow). whole e.row.account ∷ []) (filter (λ e. is_pair r e.row) h.kept.entries)) (rows_in x))
     → IfOk result (λ found. (list : List ReviewerRow) → HoldsReviewers table list → found ≡ is_reviewer r.session r.account list)
 found_reviewer r table outcome rows_in (Err f) ok found rows = tt
 found_reviewer r table (Err e) rows_in (Ok b) ok found rows = absurd (let impossible = ok refl in cc)
 found_reviewer r table (Ok x) rows_in (Ok b) ok found rows = λ list h.
-    found ∙ any_passes (λ (e : Entry ReviewerRow). whole e.row.account ∷ []) (λ e. is_pair r e.row) h.entries (rows_in x) (rows list h)
-    ∙ any_row (is_pair r) h.entries ∙ list_any-IsPermutation (is_pair r) _ list h.same
+    found ∙ any_passes (λ (e : Entry ReviewerRow). whole e.row.account ∷ []) (λ e. is_pair r e.row) h.kept.entries (rows_in x) (rows list h)
+    ∙ any_row (is_pair r) h.kept.entries ∙ list_any-IsPermutation (is_pair r) _ list h.kept.same
 
 -- ---- one who is put in
 
@@ -99,7 +141,10 @@ only_index : (layout : Layout) (db : Trees) (row : Row) → passes Unique (schem
 only_index Created db row = refl
 only_index Migrated db row = refl
 
-module _ (layout : Layout) (r : ReviewerRow) (trees next : Trees) (wrote : Writes (schema_of layout) Enforced trees (edit_of trees (reviewer_table (reviewer_tree layout)) [] Chosen 0 ((Null ∷ reviewer_columns r) ∷ [])) (Ok next)) (list : List ReviewerRow) (h : HoldsReviewers (trees (reviewer_tree layout)) list) where
+module _ (layout : Layout) (r : ReviewerRow) (trees next : Trees) (wrote : Writes (schema_of layout) Enforced trees (edit_of trees (reviewer_table (reviewer_tree layout)) [] Chosen 0 ((Null ∷ reviewer_columns r) ∷ [])) (Ok next)) (list : List ReviewerRow) (held : HoldsReviewers (trees (reviewer_tree layout)) list) (low : r.session < 2 ^ 63) where
+  abbrev h : HoldsEntries reviewer_columns (trees (reviewer_tree layout)) list
+  h = held.kept
+
   abbrev new : Entry ReviewerRow
   new = entry_for reviewer_columns h.entries r
 
@@ -113,12 +158,15 @@ module _ (layout : Layout) (r : ReviewerRow) (trees next : Trees) (wrote : Write
   joins : HoldsReviewers (next (reviewer_tree layout)) (with_reviewer r list)
   joins =
       let free = was_free reviewer_columns layout (reviewer_table (reviewer_tree layout)) r (cast_given (reviewer_tree layout) r) trees next list h wrote (1 ∷ 2 ∷ []) (is_pair r) (agrees r) clear in
-      subst (λ b. HoldsReviewers (next (reviewer_tree layout)) (if b then list else list ++ r ∷ [])) (sym free) (puts reviewer_columns layout (reviewer_table (reviewer_tree layout)) r (cast_given (reviewer_tree layout) r) trees next list h wrote)
+      record {
+        kept = subst (λ b. HoldsEntries reviewer_columns (next (reviewer_tree layout)) (if b then list else list ++ r ∷ [])) (sym free) (puts reviewer_columns layout (reviewer_table (reviewer_tree layout)) r (cast_given (reviewer_tree layout) r) trees next list h wrote);
+        fits = subst (λ b. AllByRecursion FitsColumn (if b then list else list ++ r ∷ [])) (sym free) (all-append FitsColumn list (r ∷ []) held.fits (low, tt));
+      }
 
-adds : (layout : Layout) (limit : Option ℕ) (text : List ℕ) (r : ReviewerRow) (trees : Trees) (tally : Tally) (after : Database)
+adds : (layout : Layout) (limit : Option ℕ) (text : List ℕ) (r : ReviewerRow) → r.session < 2 ^ 63 → (trees : Trees) (tally : Tally) (after : Database)
     → Does limit (record { keys = Enforced; in_doubt = false; may_wait = false }) (reviewer_columns r) (record { schema = schema_of layout; trees = trees }) text None (Insert (reviewer_place layout) (Values add_reviewer_terms 3)) (Ok (tally, after))
     → Alters layout (reviewer_tree layout) HoldsReviewers (with_reviewer r) (record { schema = schema_of layout; trees = trees }) after
-adds layout limit text r trees tally after does =
+adds layout limit text r low trees tally after does =
     let q = Insert (reviewer_place layout) (Values add_reviewer_terms 3) in
     let done = went (subst (λ (o : Option Table). AtPlace (λ t. OnRows (task_of layout limit t (reviewer_columns r)) mode None q trees) o (Ok (tally, after))) (reviewers_at layout) does) in
     let now = concluded (task_of layout limit (reviewer_table (reviewer_tree layout)) (reviewer_columns r)) done.0 tally after done.2 in
@@ -130,17 +178,17 @@ adds layout limit text r trees tally after does =
     let next : written.0 ≡ after.trees = sym (ap (λ (d : Database). d.trees) now ∙ trees_are) in
     record {
       schema = ap (λ (d : Database). d.schema) now;
-      kept = λ list h. subst (λ (t : Trees). HoldsReviewers (t (reviewer_tree layout)) (with_reviewer r list)) next (joins layout r trees written.0 wrote list h);
+      kept = λ list h. subst (λ (t : Trees). HoldsReviewers (t (reviewer_tree layout)) (with_reviewer r list)) next (joins layout r trees written.0 wrote list h low);
       others = subst (SparesOthers layout (reviewer_tree layout) trees) next (applied layout trees written.0 (edit_of trees (reviewer_table (reviewer_tree layout)) [] Chosen 0 ((Null ∷ reviewer_columns r) ∷ [])) wrote).tables;
     }
 
-pub add_reviewer_effect : (layout : Layout) (old : State) (r : ReviewerRow) → old.now.schema ≡ schema_of layout → (tally : Tally) (after : Database)
+pub add_reviewer_effect : (layout : Layout) (old : State) (r : ReviewerRow) → r.session < 2 ^ 63 → old.now.schema ≡ schema_of layout → (tally : Tally) (after : Database)
     → Does old.step_limit (mode_of old) (reviewer_columns r) old.now (statement_of add_reviewer (understood (schema_of layout) add_reviewer)) None (Insert (reviewer_place layout) (Values add_reviewer_terms 3)) (Ok (tally, after))
     → Alters layout (reviewer_tree layout) HoldsReviewers (with_reviewer r) old.now after
-add_reviewer_effect layout old r schema tally after does =
+add_reviewer_effect layout old r low schema tally after does =
     let text = statement_of add_reviewer (understood (schema_of layout) add_reviewer) in
     let it = subst (λ s. Does old.step_limit (mode_of old) (reviewer_columns r) (record old.now { schema = s }) text None (Insert (reviewer_place layout) (Values add_reviewer_terms 3)) (Ok (tally, after))) schema does in
-    let made = adds layout old.step_limit text r old.now.trees tally after it in
+    let made = adds layout old.step_limit text r low old.now.trees tally after it in
     record { schema = made.schema; kept = made.kept; others = made.others }
 
 -- ---- one who is taken out
@@ -159,12 +207,16 @@ removes layout limit text r trees tally after does =
     let it = applied layout trees written.0 (edit_of trees (reviewer_table (reviewer_tree layout)) (ids_of found.0) Given 0 []) written.1 in
     record {
       schema = ap (λ (d : Database). d.schema) now;
-      kept = λ list h.
+      kept = λ list held.
+          let h = held.kept in
           let rows = selected (reviewer_columns r) (entry_row reviewer_columns) (λ e. is_pair r e.row) (remove_query layout).filter
           (λ e. both_true _ _ (e.row.session == r.session) (e.row.account == r.account) (test_equals e.row.session r.session) (test_equals e.row.account r.account))
           (reviewer_tree layout) (remove_query layout).project (λ e. whole e.id ∷ []) (λ e. refl) (overlay trees []) h.entries found.0 (reviewers_seen layout trees ∙ h.rows_are) (found.1.answer Null) in
           let left = it.rows ∙ ap (λ all. without_all all (ids_of found.0)) h.rows_are ∙ removed reviewer_columns (λ e. is_pair r e.row) h.entries found.0 h.rising rows in
-          subst (λ (t : Trees). HoldsReviewers (t (reviewer_tree layout)) (filter (λ row. not (is_pair r row)) list)) next (takes reviewer_columns (is_pair r) trees written.0 (reviewer_tree layout) list h left);
+          record {
+            kept = subst (λ (t : Trees). HoldsEntries reviewer_columns (t (reviewer_tree layout)) (filter (λ row. not (is_pair r row)) list)) next (takes reviewer_columns (is_pair r) trees written.0 (reviewer_tree layout) list h left);
+            fits = all-filter FitsColumn (λ row. not (is_pair r row)) list held.fits;
+          };
       others = subst (SparesOthers layout (reviewer_tree layout) trees) next it.tables;
     }
 

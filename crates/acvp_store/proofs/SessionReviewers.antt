@@ -1,11 +1,13 @@
 -- The reviewers of a session, in the order of their numbers.
-use Rattle.std.proofs.Common.{◌≡◌, ◌<◌, ◌+◌, ℕ, zero, suc, List, [], ◌∷◌, ◌++◌, map, Bool, true, false, Ok, Err, Result, IfOk, IsOk, refl, ap, subst, ◌∙◌, arith}
+use Rattle.std.proofs.Common.{inl, inr, ◌≤◌, ◌^◌, ℤ, pos, negsuc, ◌≡◌, ◌<◌, ◌+◌, ℕ, zero, suc, List, [], ◌∷◌, ◌++◌, map, Bool, true, false, Ok, Err, Result, IfOk, IsOk, refl, ap, subst, ◌∙◌, arith}
 use Rattle.std.specs.Prelude.{◌==◌, nat_le, if◌then◌else◌}
-use Rattle.std.specs.List.{filter, range_with_len, AllByRecursion}
+use Rattle.std.specs.List.{filter, list_all, range_with_len, AllByRecursion}
+use Rattle.std.proofs.lemmas.Bool.Decides.{nat_tests}
 use Rattle.std.specs.List.Sorted.{IsPermutation}
 use Rattle.std.proofs.lemmas.List.Sorted.{IsPermutation-refl, IsPermutation-cons, IsPermutation-trans, IsPermutation-sym, IsPermutation-map, IsPermutation-middle, IsPermutation-append_left, IsPermutation-append_right, IsPermutation-append_comm}
 use Rattle.std.proofs.lemmas.List.{append-nil}
-use Rattle.sqlite.specs.declared.types.Value.TheVariants.{Null}
+use Rattle.sqlite.specs.declared.types.Value.TheVariants.{Null, Int}
+use Rattle.sqlite.specs.Term.{holds}
 use Rattle.sqlite.specs.Order.{Row}
 use Rattle.sqlite.specs.Program.{overlay}
 use Rattle.sqlite.specs.State.{State, Shown}
@@ -23,7 +25,9 @@ use Rattle.acvp_store.specs.Schema.{Layout, schema_of}
 use Rattle.acvp_store.specs.Stands.{Entry, entry_row, HoldsReviewers, reviewer_columns, reviewer_tree}
 use Rattle.acvp_store.proofs.Parts.{and_true}
 use Rattle.acvp_store.proofs.Ranging.{ranged}
-use Rattle.acvp_store.proofs.Selecting.{test_equals}
+use Rattle.acvp_store.proofs.Selecting.{test_equals, test_none}
+use Rattle.acvp_store.proofs.Keyed.{none_left, none_passes}
+use Rattle.acvp_store.proofs.ReviewerRows.{small_or_large}
 use Rattle.acvp_store.proofs.Places.{reviewers_seen}
 use Rattle.acvp_store.proofs.Texts.{find_reviewers, reviewers_query, reviewers_is, reviewers_plain, reviewers_unlisted}
 
@@ -35,20 +39,39 @@ Rising = IsAscending (λ m n. m < n)
 
 -- ---- the rows that the query gives
 
-pub session_rows : (layout : Layout) (s : ℕ) (old new : State) (rows : List Row) → old.now.schema ≡ schema_of layout → Shown find_reviewers (whole s ∷ []) old new rows → (list : List ReviewerRow) → HoldsReviewers (old.now.trees (reviewer_tree layout)) list
-    → (numbers : List ℕ) → IsPermutation (accounts_in s list) numbers → Rising numbers → rows ≡ map account_shown numbers
-session_rows layout s old new rows schema shown list h numbers same rise =
-    let of_session = λ (e : Entry ReviewerRow). e.row.session == s in
-    ranged (whole s ∷ []) (entry_row reviewer_columns) of_session (reviewers_query layout).filter (λ e. rw test_equals (and_true _)) (λ e. e.row.account) (λ n. n) account_shown
-    2 (reviewer_tree layout) (reviewers_query layout).project (λ e. refl) (λ e. refl) (overlay old.now.trees []) h.entries numbers rows (reviewers_seen layout old.now.trees ∙ h.rows_are)
-    (IsPermutation-trans _ (accounts_in s list) _ (told h.entries h.same) same) rise
-    ((reads_as find_reviewers (whole s ∷ []) old new (schema_of layout) schema _ (reviewers_is layout) (reviewers_plain layout) (reviewers_unlisted layout) rows shown).answer Null)
-  where
-    told : (es : List (Entry ReviewerRow)) → IsPermutation (map (λ e. e.row) es) list → IsPermutation (map (λ e. e.row.account) (filter (λ e. e.row.session == s) es)) (accounts_in s list)
-    told es same =
-        let kept = IsPermutation-map (λ (r : ReviewerRow). r.account) _ _ (IsPermutation-filter (λ (r : ReviewerRow). r.session == s) _ _ same) in
-        let is = ap (map (λ (r : ReviewerRow). r.account)) (filter-map (λ (r : ReviewerRow). r.session == s) (λ (e : Entry ReviewerRow). e.row) es) ∙ map-map (λ (r : ReviewerRow). r.account) (λ (e : Entry ReviewerRow). e.row) (filter (λ e. e.row.session == s) es) in
-        subst (λ accounts. IsPermutation accounts (accounts_in s list)) is kept
+-- a session with a number that no column keeps has none
+none_reviews : (s : ℕ) (list : List ReviewerRow) → 2 ^ 63 ≤ s → AllByRecursion (λ (r : ReviewerRow). r.session < 2 ^ 63) list → accounts_in s list ≡ []
+none_reviews s [] high low = refl
+none_reviews s (r ∷ list) high low =
+    let under = low.0 in
+    let apart : (r.session == s) ≡ false = grind (arith, nat_tests, under, high) in
+    rw apart (none_reviews s list high low.1)
+
+module _ (layout : Layout) (s : ℕ) (old new : State) (rows : List Row) (schema : old.now.schema ≡ schema_of layout) (list : List ReviewerRow) (h : HoldsReviewers (old.now.trees (reviewer_tree layout)) list) (numbers : List ℕ) (rise : Rising numbers) where
+  rows_by : (k : ℤ) (p : Entry ReviewerRow → Bool) → ((e : Entry ReviewerRow) → list_all (holds ((Int k ∷ []) ∷ entry_row reviewer_columns e ∷ [])) (reviewers_query layout).filter ≡ p e)
+      → Shown find_reviewers (Int k ∷ []) old new rows → IsPermutation (map (λ (e : Entry ReviewerRow). e.row.account) (filter p h.kept.entries)) numbers → rows ≡ map account_shown numbers
+  rows_by k p tests shown same =
+      ranged (Int k ∷ []) (entry_row reviewer_columns) p (reviewers_query layout).filter tests (λ e. e.row.account) (λ n. n) account_shown
+      2 (reviewer_tree layout) (reviewers_query layout).project (λ e. refl) (λ e. refl) (overlay old.now.trees []) h.kept.entries numbers rows (reviewers_seen layout old.now.trees ∙ h.kept.rows_are) same rise
+      ((reads_as find_reviewers (Int k ∷ []) old new (schema_of layout) schema _ (reviewers_is layout) (reviewers_plain layout) (reviewers_unlisted layout) rows shown).answer Null)
+
+  pub session_rows : (k : ℤ) → (s < 2 ^ 63 → k ≡ pos s) → (2 ^ 63 ≤ s → k ≡ negsuc 0) → Shown find_reviewers (Int k ∷ []) old new rows → IsPermutation (accounts_in s list) numbers → rows ≡ map account_shown numbers
+  session_rows k fits large shown same = elim (small_or_large s) [
+    | inl low ↦
+        let at = subst (λ k. Shown find_reviewers (Int k ∷ []) old new rows) (fits low) shown in
+        rows_by (pos s) (λ e. e.row.session == s) (λ e. rw test_equals (and_true _)) at (IsPermutation-trans _ (accounts_in s list) _ (told h.kept.entries h.kept.same) same)
+    | inr high ↦
+        let at = subst (λ k. Shown find_reviewers (Int k ∷ []) old new rows) (large high) shown in
+        let none = none_left numbers (rw (none_reviews s list high h.fits) at same) in
+        let empty : filter (λ (e : Entry ReviewerRow). false) h.kept.entries ≡ [] = none_passes h.kept.entries in
+        rows_by (negsuc 0) (λ e. false) (λ e. rw test_none refl) at (rw (empty, none) (IsPermutation-refl []))
+  ]
+    where
+      told : (es : List (Entry ReviewerRow)) → IsPermutation (map (λ e. e.row) es) list → IsPermutation (map (λ e. e.row.account) (filter (λ e. e.row.session == s) es)) (accounts_in s list)
+      told es same =
+          let kept = IsPermutation-map (λ (r : ReviewerRow). r.account) _ _ (IsPermutation-filter (λ (r : ReviewerRow). r.session == s) _ _ same) in
+          let is = ap (map (λ (r : ReviewerRow). r.account)) (filter-map (λ (r : ReviewerRow). r.session == s) (λ (e : Entry ReviewerRow). e.row) es) ∙ map-map (λ (r : ReviewerRow). r.account) (λ (e : Entry ReviewerRow). e.row) (filter (λ e. e.row.session == s) es) in
+          subst (λ accounts. IsPermutation accounts (accounts_in s list)) is kept
 
 -- ---- numbers put in order
 
@@ -89,8 +112,8 @@ reviewers_rise s rows = ascending-filter (λ m n. m < n) (λ account. is_reviewe
 module _ {X L E F : Type 0} (s : ℕ) (table : List Row) (rows_in : X → List Row) (listed : L → List ℕ) where
   pub find_all : (outcome : Result X E) (result : Result L F) → (IsOk result → IsOk outcome)
       → IfOk result (λ l. IfOk outcome (λ x. (list : List ℕ) → rows_in x ≡ map account_shown list → listed l ≡ list))
-      → IfOk outcome (λ x. (list : List ReviewerRow) → HoldsReviewers table list → (numbers : List ℕ) → IsPermutation (accounts_in s list) numbers → Rising numbers → rows_in x ≡ map account_shown numbers)
+      → IfOk outcome (λ x. (list : List ReviewerRow) → HoldsReviewers table list → (numbers : List ℕ) → Rising numbers → IsPermutation (accounts_in s list) numbers → rows_in x ≡ map account_shown numbers)
       → IfOk result (λ l. (c : Content) → IsSound c → HoldsReviewers table c.reviewers → listed l ≡ reviewers_of s c.reviewers)
   find_all outcome (Err f) ok lists rows = tt
   find_all (Err e) (Ok l) ok lists rows = absurd (let impossible = ok refl in cc)
-  find_all (Ok x) (Ok l) ok lists rows = λ c sound h. lists (reviewers_of s c.reviewers) (rows c.reviewers h (reviewers_of s c.reviewers) (reviewers_same s c sound) (reviewers_rise s c.reviewers))
+  find_all (Ok x) (Ok l) ok lists rows = λ c sound h. lists (reviewers_of s c.reviewers) (rows c.reviewers h (reviewers_of s c.reviewers) (reviewers_rise s c.reviewers) (reviewers_same s c sound))

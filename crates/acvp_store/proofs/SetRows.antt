@@ -44,7 +44,7 @@ use Rattle.acvp_store.specs.Kept.{IsKept}
 use Rattle.acvp_store.specs.Stands.{SetColumns, set_key, set_row, set_tree, disposition_number, IsGradedAs, IsSet, HoldsSets}
 use Rattle.acvp_store.specs.Private.Sets.{short_shown, short_of, IsDispositionOf, IsSummary, IsSummaryOf, new_set, AddsSets}
 use Rattle.acvp_store.specs.Private.SetTexts.{text_shown, TellsCapability, AreVerdictsOf}
-use Rattle.acvp_store.proofs.Keyed.{keyed, changing, keyed_same, find_is, none_fits}
+use Rattle.acvp_store.proofs.Keyed.{none_passes, keyed, changing, keyed_same, find_is, none_fits}
 use Rattle.acvp_store.proofs.Parts.{and_true, cast_null, cast_whole, cast_flag, cast_option, cast_text_option}
 use Rattle.acvp_store.proofs.Selecting.{test_equals, test_none, selected}
 use Rattle.acvp_store.proofs.Effects.{insert_effect, update_effect, spares_then}
@@ -55,10 +55,6 @@ abbrev pub set_shown : SetColumns → Row
 set_shown c = short_shown (short_of c)
 
 -- ---- the rows of a number
-
-none_passes : {A : Type 0} (xs : List A) → filter (λ x. false) xs ≡ []
-none_passes [] = refl
-none_passes (x ∷ xs) = none_passes xs
 
 -- a SELECT of columns of the set of a number
 module _ (layout : Layout) (text : List ℕ) (names : List (List ℕ)) (project : List Term) (show : SetColumns → Row) (shows : (k : ℤ) (c : SetColumns) → eval_all project ((Int k ∷ []) ∷ set_row c ∷ []) ≡ show c)

@@ -14,11 +14,11 @@ use Rattle.acvp_tables.specs.declared.rows.RequestBody.TheVariants as body
 use Rattle.acvp_tables.specs.declared.rows.RequestRow.{RequestRow}
 use Rattle.acvp_store.specs.Private.Objects.{IsOfKind}
 
-first_of : (a b : Bool) → (a && b) ≡ true → a ≡ true
+pub first_of : (a b : Bool) → (a && b) ≡ true → a ≡ true
 first_of true b h = refl
 first_of false b h = absurd (cc)
 
-then_of : (a b : Bool) → (a && b) ≡ true → b ≡ true
+pub then_of : (a b : Bool) → (a && b) ≡ true → b ≡ true
 then_of true b h = h
 then_of false b h = absurd (cc)
 

@@ -47,7 +47,7 @@ use Rattle.acvp_store.proofs.Sound.{kinds_of}
 use Rattle.acvp_store.specs.Private.Creating.{Makes, WritesVersion, before}
 use Rattle.acvp_store.specs.declared.setup.StoreTable.TheVariants as table
 use Rattle.acvp_store.proofs.Parts.{apart}
-use Rattle.acvp_store.proofs.Places.{set_apart, reviewer_apart, set_is_no_reviewer, sets_spared, reviewers_spared}
+use Rattle.acvp_store.proofs.Places.{set_apart, reviewer_apart, set_is_no_reviewer, sets_spared, reviewers_spared, old_apart, old_is_no_set, old_is_no_reviewer, old_spared}
 use Rattle.acvp_store.proofs.Texts.{whole_schema, migrated_schema}
 
 -- ---- reads
@@ -235,6 +235,7 @@ accounts_altered change layout d e h c st = record {
   accounts = h.kept c.accounts st.accounts;
   sessions = subst (λ rows. HoldsSessions rows c.sessions) (sym (h.others.1.1.0 (apart 3 2 refl))) st.sessions;
   sets = subst (λ rows. HoldsSets rows c.sets) (sym (sets_spared layout 2 d.trees e.trees (set_apart layout 2 refl refl) h.others)) st.sets;
+  no_old_sets = old_spared layout 2 d.trees e.trees (old_apart layout 2 refl) h.others st.no_old_sets;
   objects = subst (λ rows. HoldsObjects rows c.objects) (sym (h.others.1.1.1.1.0 (apart 5 2 refl))) st.objects;
   object_numbers = st.object_numbers;
   requests = subst (λ rows. HoldsRequests rows c.requests) (sym (h.others.1.1.1.1.1.0 (apart 7 2 refl))) st.requests;
@@ -247,6 +248,7 @@ sessions_altered change layout d e h c st = record {
   accounts = subst (λ rows. HoldsAccounts rows c.accounts) (sym (h.others.1.0 (apart 2 3 refl))) st.accounts;
   sessions = h.kept c.sessions st.sessions;
   sets = subst (λ rows. HoldsSets rows c.sets) (sym (sets_spared layout 3 d.trees e.trees (set_apart layout 3 refl refl) h.others)) st.sets;
+  no_old_sets = old_spared layout 3 d.trees e.trees (old_apart layout 3 refl) h.others st.no_old_sets;
   objects = subst (λ rows. HoldsObjects rows c.objects) (sym (h.others.1.1.1.1.0 (apart 5 3 refl))) st.objects;
   object_numbers = st.object_numbers;
   requests = subst (λ rows. HoldsRequests rows c.requests) (sym (h.others.1.1.1.1.1.0 (apart 7 3 refl))) st.requests;
@@ -259,6 +261,7 @@ sets_altered change layout d e h c st = record {
   accounts = subst (λ rows. HoldsAccounts rows c.accounts) (sym (h.others.1.0 (λ e. set_apart layout 2 refl refl (sym e)))) st.accounts;
   sessions = subst (λ rows. HoldsSessions rows c.sessions) (sym (h.others.1.1.0 (λ e. set_apart layout 3 refl refl (sym e)))) st.sessions;
   sets = h.kept c.sets st.sets;
+  no_old_sets = old_spared layout (set_tree layout) d.trees e.trees (old_is_no_set layout) h.others st.no_old_sets;
   objects = subst (λ rows. HoldsObjects rows c.objects) (sym (h.others.1.1.1.1.0 (λ e. set_apart layout 5 refl refl (sym e)))) st.objects;
   object_numbers = st.object_numbers;
   requests = subst (λ rows. HoldsRequests rows c.requests) (sym (h.others.1.1.1.1.1.0 (λ e. set_apart layout 7 refl refl (sym e)))) st.requests;
@@ -271,6 +274,7 @@ requests_altered change layout d e h c st = record {
   accounts = subst (λ rows. HoldsAccounts rows c.accounts) (sym (h.others.1.0 (apart 2 7 refl))) st.accounts;
   sessions = subst (λ rows. HoldsSessions rows c.sessions) (sym (h.others.1.1.0 (apart 3 7 refl))) st.sessions;
   sets = subst (λ rows. HoldsSets rows c.sets) (sym (sets_spared layout 7 d.trees e.trees (set_apart layout 7 refl refl) h.others)) st.sets;
+  no_old_sets = old_spared layout 7 d.trees e.trees (old_apart layout 7 refl) h.others st.no_old_sets;
   objects = subst (λ rows. HoldsObjects rows c.objects) (sym (h.others.1.1.1.1.0 (apart 5 7 refl))) st.objects;
   object_numbers = st.object_numbers;
   requests = h.kept c.requests st.requests;
@@ -283,6 +287,7 @@ reviewers_altered change layout d e h c st = record {
   accounts = subst (λ rows. HoldsAccounts rows c.accounts) (sym (h.others.1.0 (λ e. reviewer_apart layout 2 refl refl (sym e)))) st.accounts;
   sessions = subst (λ rows. HoldsSessions rows c.sessions) (sym (h.others.1.1.0 (λ e. reviewer_apart layout 3 refl refl (sym e)))) st.sessions;
   sets = subst (λ rows. HoldsSets rows c.sets) (sym (sets_spared layout (reviewer_tree layout) d.trees e.trees (set_is_no_reviewer layout) h.others)) st.sets;
+  no_old_sets = old_spared layout (reviewer_tree layout) d.trees e.trees (old_is_no_reviewer layout) h.others st.no_old_sets;
   objects = subst (λ rows. HoldsObjects rows c.objects) (sym (h.others.1.1.1.1.0 (λ e. reviewer_apart layout 5 refl refl (sym e)))) st.objects;
   object_numbers = st.object_numbers;
   requests = subst (λ rows. HoldsRequests rows c.requests) (sym (h.others.1.1.1.1.1.0 (λ e. reviewer_apart layout 7 refl refl (sym e)))) st.requests;
@@ -360,6 +365,7 @@ registered n number layout d e h c sound st = record {
   accounts = subst (λ rows. HoldsAccounts rows c.accounts) (sym (h.others.1.0 (apart 2 5 refl))) st.accounts;
   sessions = subst (λ rows. HoldsSessions rows c.sessions) (sym (h.others.1.1.0 (apart 3 5 refl))) st.sessions;
   sets = subst (λ rows. HoldsSets rows c.sets) (sym (sets_spared layout 5 d.trees e.trees (set_apart layout 5 refl refl) h.others)) st.sets;
+  no_old_sets = old_spared layout 5 d.trees e.trees (old_apart layout 5 refl) h.others st.no_old_sets;
   objects = h.kept c.requests c.objects (kinds_of c sound) st.requests st.objects;
   object_numbers = all-append IsKeepable c.objects _ st.object_numbers (fit_registered n number h.fits c.requests st.requests.texts);
   requests = subst (λ rows. HoldsRequests rows c.requests) (sym (h.others.1.1.1.1.1.0 (apart 7 5 refl))) st.requests;
@@ -378,7 +384,7 @@ reviewer_there r c there = ap (λ rows. record c { reviewers = rows }) (ap (λ b
 
 -- ---- the beginning
 
-kept_none : {A : Type 0} (key : A → ℕ) (stored : A → Row) (rows : List Row) → rows ≡ [] → IsKept key stored rows []
+pub kept_none : {A : Type 0} (key : A → ℕ) (stored : A → Row) (rows : List Row) → rows ≡ [] → IsKept key stored rows []
 kept_none key stored rows none = record { ordered = []; rows_are = none; rising = tt; fits = tt; same = IsPermutation-refl [] }
 
 -- what all the statements that make the store do, one after the other
@@ -411,10 +417,11 @@ begins old new h start =
         accounts = kept_none _ _ _ accounts;
         sessions = kept_none _ _ _ sessions;
         sets = record { columns = []; kept = kept_none _ _ _ sets; same = tt };
+        no_old_sets = tt;
         objects = record { entries = []; rows_are = objects; rising = tt; same = IsPermutation-refl [] };
         object_numbers = tt;
         requests = record { kept = kept_none _ _ _ requests; texts = tt };
-        reviewers = record { entries = []; rows_are = reviewers; rising = tt; same = IsPermutation-refl [] };
+        reviewers = record { kept = record { entries = []; rows_are = reviewers; rising = tt; same = IsPermutation-refl [] }; fits = tt };
       };
     }
 

@@ -9,6 +9,7 @@ use Rattle.sqlite.specs.Command.TheVariants.{Insert, Select, CreateTable, Update
 use Rattle.sqlite.specs.declared.types.Value.TheVariants.{Null, Int, Text}
 use Rattle.sqlite.specs.Listing.{understood, reads_listing}
 use Rattle.sqlite.specs.Query.{Query, inner, end}
+use Rattle.sqlite.specs.Schema.{Schema}
 use Rattle.sqlite.specs.Source.TheVariants.{Values}
 use Rattle.sqlite.specs.Source.TheVariants as source
 use Rattle.sqlite.specs.Term.{Term, lit, col, op2}
@@ -19,7 +20,7 @@ use Rattle.sqlite_sql.specs.declared.aggregate.AggregateOp.TheVariants.{Max}
 use Rattle.sqlite_value.specs.Keys.{ascending}
 use Rattle.sqlite_tied.specs.Compute.{everything}
 use Rattle.sqlite.proofs.Callers.{IsPlain, command_of, statement_of}
-use Rattle.acvp_store.specs.Schema.{Layout, Created, Migrated, schema_of}
+use Rattle.acvp_store.specs.Schema.{Layout, Created, Migrated, schema_of, SchemaVersion, First, Second, Third, schema_at, first_schema, second_schema}
 use Rattle.acvp_store.specs.Stands.{set_tree, reviewer_tree}
 use Rattle.acvp_store.specs.Private.Creating.{text_of, table_of, before}
 use Rattle.acvp_store.specs.declared.setup.StoreTable.{StoreTable}
@@ -35,6 +36,20 @@ whole_schema = refl
 pub migrated_schema : created (before table.LaterReviewer) (table_of table.LaterReviewer) ≡ schema_of Migrated
 unfolding digits
 migrated_schema = refl
+
+-- those of the earlier schemas are there before the last of them
+
+pub first_is : first_schema ≡ before table.LaterSet
+unfolding digits
+first_is = refl
+
+pub second_is : second_schema Created ≡ before table.Reviewer
+unfolding digits
+second_is = refl
+
+pub second_beside_is : second_schema Migrated ≡ before table.LaterReviewer
+unfolding digits
+second_beside_is = refl
 
 -- a text makes a table in the schema that is there before it
 abbrev pub IsMaking : StoreTable → Type 0
@@ -113,29 +128,54 @@ version_plain Created = (refl, refl)
 version_plain Migrated = (refl, refl)
 
 abbrev pub find_version : List ℕ
-find_version = codes "SELECT value FROM meta WHERE name = 'schema' AND value = 3"
+find_version = codes "SELECT value FROM meta WHERE name = 'schema' AND value = ?1"
 
 abbrev pub find_version_query : Query
-find_version_query = simple 0 (op2 (Compare Eq Binary) (col 1 1) (lit (Text (codes "schema"))) ∷ op2 (Compare Eq Binary) (col 1 2) (lit (Int (pos 3))) ∷ []) (col 1 2 ∷ [])
+find_version_query = simple 0 (op2 (Compare Eq Binary) (col 1 1) (lit (Text (codes "schema"))) ∷ equals 2 0 ∷ []) (col 1 2 ∷ [])
 
-pub find_version_is : (layout : Layout) → command_of (understood (schema_of layout) find_version) ≡ Select (record { lets = []; body = find_version_query }) (codes "value" ∷ [])
+pub find_version_is : (version : SchemaVersion) → command_of (understood (schema_at version) find_version) ≡ Select (record { lets = []; body = find_version_query }) (codes "value" ∷ [])
 unfolding understood everything
-find_version_is Created = refl
-find_version_is Migrated = refl
+find_version_is First = refl
+find_version_is (Second Created) = refl
+find_version_is (Second Migrated) = refl
+find_version_is (Third Created) = refl
+find_version_is (Third Migrated) = refl
 
-pub find_version_unlisted : (layout : Layout) → reads_listing (schema_of layout) find_version ≡ false
+pub find_version_unlisted : (version : SchemaVersion) → reads_listing (schema_at version) find_version ≡ false
 unfolding understood everything
-find_version_unlisted Created = refl
-find_version_unlisted Migrated = refl
+find_version_unlisted First = refl
+find_version_unlisted (Second Created) = refl
+find_version_unlisted (Second Migrated) = refl
+find_version_unlisted (Third Created) = refl
+find_version_unlisted (Third Migrated) = refl
 
-pub find_version_plain : (layout : Layout) → IsPlain (understood (schema_of layout) find_version)
+pub find_version_plain : (version : SchemaVersion) → IsPlain (understood (schema_at version) find_version)
 unfolding understood everything
-find_version_plain Created = (refl, refl)
-find_version_plain Migrated = (refl, refl)
+find_version_plain First = (refl, refl)
+find_version_plain (Second Created) = (refl, refl)
+find_version_plain (Second Migrated) = (refl, refl)
+find_version_plain (Third Created) = (refl, refl)
+find_version_plain (Third Migrated) = (refl, refl)
 
 pub find_version_asks : asks (first find_version) ≡ true
 unfolding first everything
 find_version_asks = refl
+
+abbrev pub raise_version : List ℕ
+raise_version = codes "UPDATE meta SET value = 3 WHERE name = 'schema'"
+
+abbrev pub raise_query : Query
+raise_query = simple 0 (op2 (Compare Eq Binary) (col 1 1) (lit (Text (codes "schema"))) ∷ []) (col 1 0 ∷ col 1 0 ∷ col 1 1 ∷ lit (Int (pos 3)) ∷ [])
+
+pub raise_is : (layout : Layout) → command_of (understood (schema_of layout) raise_version) ≡ Update 0 (record { lets = []; body = raise_query })
+unfolding understood everything
+raise_is Created = refl
+raise_is Migrated = refl
+
+pub raise_plain : (layout : Layout) → IsPlain (understood (schema_of layout) raise_version)
+unfolding understood everything
+raise_plain Created = (refl, refl)
+raise_plain Migrated = (refl, refl)
 
 -- ---- the vector sets of an earlier schema
 
@@ -145,21 +185,49 @@ find_old_sets = codes "SELECT vs FROM vset"
 abbrev pub old_sets_query : Query
 old_sets_query = simple 4 [] (col 1 0 ∷ [])
 
-pub old_sets_is : command_of (understood (schema_of Migrated) find_old_sets) ≡ Select (record { lets = []; body = old_sets_query }) (codes "vs" ∷ [])
-unfolding understood everything
-old_sets_is = refl
+abbrev pub FindsOldSets : Schema → Type 0
+FindsOldSets schema = (command_of (understood schema find_old_sets) ≡ Select (record { lets = []; body = old_sets_query }) (codes "vs" ∷ [])) × IsPlain (understood schema find_old_sets) × (reads_listing schema find_old_sets ≡ false)
 
-pub old_sets_unlisted : reads_listing (schema_of Migrated) find_old_sets ≡ false
+pub old_sets_are : FindsOldSets (schema_of Migrated)
 unfolding understood everything
-old_sets_unlisted = refl
+old_sets_are = (refl, (refl, refl), refl)
 
-pub old_sets_plain : IsPlain (understood (schema_of Migrated) find_old_sets)
+pub old_sets_were : FindsOldSets (second_schema Migrated)
 unfolding understood everything
-old_sets_plain = (refl, refl)
+old_sets_were = (refl, (refl, refl), refl)
 
 pub old_sets_asks : asks (first find_old_sets) ≡ true
 unfolding first everything
 old_sets_asks = refl
+
+abbrev pub copy_sets : List ℕ
+copy_sets = codes "INSERT INTO vset2 (vs, session, capability, cancelled, answers, verdicts, disposition, epoch) SELECT vs, session, capability, cancelled, answers, verdicts, disposition, 0 FROM vset"
+
+abbrev pub copy_query : Query
+copy_query = collated (Binary ∷ Binary ∷ Binary ∷ Binary ∷ Binary ∷ Binary ∷ Binary ∷ Binary ∷ Binary ∷ []) 4 []
+    (col 1 0 ∷ lit Null ∷ col 1 2 ∷ col 1 3 ∷ col 1 4 ∷ col 1 5 ∷ col 1 6 ∷ col 1 7 ∷ lit (Int (pos 0)) ∷ [])
+
+pub copy_is : command_of (understood (schema_of Migrated) copy_sets) ≡ Insert 6 (source.Query (record { lets = []; body = copy_query }))
+unfolding understood everything
+copy_is = refl
+
+pub copy_plain : IsPlain (understood (schema_of Migrated) copy_sets)
+unfolding understood everything
+copy_plain = (refl, refl)
+
+abbrev pub delete_sets : List ℕ
+delete_sets = codes "DELETE FROM vset"
+
+abbrev pub delete_query : Query
+delete_query = simple 4 [] (col 1 0 ∷ [])
+
+pub delete_is : command_of (understood (schema_of Migrated) delete_sets) ≡ Delete 3 (record { lets = []; body = delete_query })
+unfolding understood everything
+delete_is = refl
+
+pub delete_plain : IsPlain (understood (schema_of Migrated) delete_sets)
+unfolding understood everything
+delete_plain = (refl, refl)
 
 -- ---- accounts
 

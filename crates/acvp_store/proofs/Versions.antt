@@ -1,5 +1,5 @@
 -- Whether the table `meta` names the version.
-use Rattle.std.proofs.Common.{◌≡◌, ℕ, List, [], ◌∷◌, map, length, Bool, true, false, Ok, Err, Result, IfOk, IsOk, codes, refl, sym, ap, ◌∙◌, arith}
+use Rattle.std.proofs.Common.{inl, inr, ◌≡◌, ℕ, List, [], ◌∷◌, map, length, Bool, true, false, Ok, Err, Result, IfOk, IsOk, codes, refl, sym, ap, ◌∙◌, arith}
 use Rattle.std.specs.Prelude.{nat_lt}
 use Rattle.std.specs.List.{filter, list_any}
 use Rattle.std.specs.List.Sorted.{IsPermutation}
@@ -17,15 +17,17 @@ use Rattle.sqlite_sql.specs.declared.ops.BinaryOp.TheVariants.{Compare}
 use Rattle.sqlite_sql.specs.declared.ops.CompareOp.TheVariants.{Eq}
 use Rattle.sqlite_value.proofs.OrderLemmas.{value_cmp-apart}
 use Rattle.acvp_store.specs.Adopted.{is_equal, is_version_row}
+use Rattle.acvp_store.specs.Private.Migration.{HasOldTable}
 use Rattle.acvp_store.specs.Values.{whole}
-use Rattle.acvp_store.specs.Schema.{Layout, Migrated, schema_of}
+use Rattle.sqlite.specs.Schema.{Schema}
+use Rattle.acvp_store.specs.Schema.{Migrated, schema_of, SchemaVersion, schema_at, second_schema}
 use Rattle.acvp_store.proofs.Parts.{both_true}
 use Rattle.acvp_store.proofs.ReviewerRows.{any_passes}
 use Rattle.acvp_store.proofs.Selecting.{truth_back, selected}
-use Rattle.acvp_store.proofs.Texts.{find_version, find_version_query, find_version_is, find_version_plain, find_version_unlisted, find_old_sets, old_sets_query, old_sets_is, old_sets_plain, old_sets_unlisted}
+use Rattle.acvp_store.proofs.Texts.{find_version, find_version_query, find_version_is, find_version_plain, find_version_unlisted, find_old_sets, old_sets_query, FindsOldSets, old_sets_are, old_sets_were}
 
 -- a column of any type is tested against a text, and against a whole number
-test_text : (v : Value) (s : List ℕ) → is_true (binary (Compare Eq Binary) v (Text s)) ≡ is_equal v (Text s)
+pub test_text : (v : Value) (s : List ℕ) → is_true (binary (Compare Eq Binary) v (Text s)) ≡ is_equal v (Text s)
 unfolding binary
 test_text Null s = sym (ap is_eq (value_cmp-apart Null (Text s) (λ e. absurd (omega arith))))
 test_text (Int n) s = truth_back _
@@ -44,35 +46,39 @@ test_whole (Blob b) n = truth_back _
 abbrev value_of : Row → Row
 value_of row = column row 2 ∷ []
 
-map_same : (rows : List Row) → rows ≡ map (λ r. r) rows
+pub map_same : (rows : List Row) → rows ≡ map (λ r. r) rows
 map_same [] = refl
 map_same (r ∷ rows) = ap (λ l. r ∷ l) (map_same rows)
 
-pub version_rows : (layout : Layout) (old new : State) (rows : List Row) → old.now.schema ≡ schema_of layout → Shown find_version [] old new rows → IsPermutation (map value_of (filter is_version_row (old.now.trees 0))) rows
-version_rows layout old new rows schema h =
-    selected [] (λ (r : Row). r) is_version_row find_version_query.filter (λ r. both_true _ _ _ _ (test_text (column r 1) (codes "schema")) (test_whole (column r 2) 3)) 0 find_version_query.project value_of (λ r. refl) (overlay old.now.trees []) (old.now.trees 0) rows (map_same _)
-    ((reads_as find_version [] old new (schema_of layout) schema _ (find_version_is layout) (find_version_plain layout) (find_version_unlisted layout) rows h).answer Null)
+pub version_rows : (version : SchemaVersion) (n : ℕ) (old new : State) (rows : List Row) → old.now.schema ≡ schema_at version → Shown find_version (whole n ∷ []) old new rows → IsPermutation (map value_of (filter (is_version_row n) (old.now.trees 0))) rows
+version_rows version n old new rows schema h =
+    selected (whole n ∷ []) (λ (r : Row). r) (is_version_row n) find_version_query.filter (λ r. both_true _ _ _ _ (test_text (column r 1) (codes "schema")) (test_whole (column r 2) n)) 0 find_version_query.project value_of (λ r. refl) (overlay old.now.trees []) (old.now.trees 0) rows (map_same _)
+    ((reads_as find_version (whole n ∷ []) old new (schema_at version) schema _ (find_version_is version) (find_version_plain version) (find_version_unlisted version) rows h).answer Null)
 
 -- ---- the whole
 
-module _ {X E F : Type 0} (table : List Row) (rows_in : X → List Row) where
+module _ {X E F : Type 0} (n : ℕ) (table : List Row) (rows_in : X → List Row) where
   pub found_version : (outcome : Result X E) (result : Result Bool F) → (IsOk result → IsOk outcome)
       → IfOk result (λ found. IfOk outcome (λ x. found ≡ nat_lt 0 (length (rows_in x))))
-      → IfOk outcome (λ x. IsPermutation (map value_of (filter is_version_row table)) (rows_in x))
-      → IfOk result (λ found. found ≡ list_any is_version_row table)
+      → IfOk outcome (λ x. IsPermutation (map value_of (filter (is_version_row n) table)) (rows_in x))
+      → IfOk result (λ found. found ≡ list_any (is_version_row n) table)
   found_version outcome (Err f) ok found rows = tt
   found_version (Err e) (Ok b) ok found rows = absurd (let impossible = ok refl in cc)
-  found_version (Ok x) (Ok b) ok found rows = found ∙ any_passes value_of is_version_row table (rows_in x) rows
+  found_version (Ok x) (Ok b) ok found rows = found ∙ any_passes value_of (is_version_row n) table (rows_in x) rows
 
 -- ---- whether the table of sets of an earlier schema has a row
 
 abbrev number_of : Row → Row
 number_of row = column row 0 ∷ []
 
-pub old_rows : (old new : State) (rows : List Row) → old.now.schema ≡ schema_of Migrated → Shown find_old_sets [] old new rows → IsPermutation (map number_of (filter (λ row. true) (old.now.trees 4))) rows
-old_rows old new rows schema h =
+in_old : (schema : Schema) → FindsOldSets schema → (old new : State) (rows : List Row) → old.now.schema ≡ schema → Shown find_old_sets [] old new rows → IsPermutation (map number_of (filter (λ row. true) (old.now.trees 4))) rows
+in_old schema finds old new rows is h =
     selected [] (λ (r : Row). r) (λ r. true) [] (λ r. refl) 4 old_sets_query.project number_of (λ r. refl) (overlay old.now.trees []) (old.now.trees 4) rows (map_same _)
-    ((reads_as find_old_sets [] old new (schema_of Migrated) schema _ old_sets_is old_sets_plain old_sets_unlisted rows h).answer Null)
+    ((reads_as find_old_sets [] old new schema is _ finds.0 finds.1 finds.2 rows h).answer Null)
+
+pub old_rows : (old new : State) (rows : List Row) → HasOldTable old.now.schema → Shown find_old_sets [] old new rows → IsPermutation (map number_of (filter (λ row. true) (old.now.trees 4))) rows
+old_rows old new rows (inl was) h = in_old (second_schema Migrated) old_sets_were old new rows was h
+old_rows old new rows (inr is) h = in_old (schema_of Migrated) old_sets_are old new rows is h
 
 any_row : (rows : List Row) → list_any (λ row. true) rows ≡ nat_lt 0 (length rows)
 any_row [] = refl

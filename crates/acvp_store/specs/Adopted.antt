@@ -1,5 +1,5 @@
 -- When a database is a store's, and what taking it over leaves.
-use Rattle.std.specs.Prelude.{◌≡◌, ⊤, [], Bool, true, ◌&&◌, IsTrue, codes}
+use Rattle.std.specs.Prelude.{◌≡◌, ℕ, Bool, true, ◌&&◌, IsTrue, codes}
 use Rattle.std.specs.List.{list_any}
 use Rattle.std.specs.Ordering.{is_eq}
 use Rattle.sqlite.specs.Effect.{Database}
@@ -9,29 +9,29 @@ use Rattle.sqlite_value.specs.declared.value.Value.{Value}
 use Rattle.sqlite_value.specs.declared.value.Value.TheVariants.{Text}
 use Rattle.sqlite_value.specs.Order.{Row, column, value_cmp}
 use Rattle.acvp_store.specs.Values.{whole}
-use Rattle.acvp_store.specs.Schema.{Layout, Created, Migrated, schema_of}
+use Rattle.acvp_store.specs.Schema.{Layout, schema_of}
+use Rattle.acvp_store.specs.Stands.{HasNoOldSets}
 
 -- the equality of SQL
 abbrev pub is_equal : Value → Value → Bool
 is_equal a b = is_eq (value_cmp a b)
 
--- the row 'schema' of the table `meta`, at 3
-abbrev pub is_version_row : Row → Bool
-is_version_row row = is_equal (column row 1) (Text (codes "schema")) && is_equal (column row 2) (whole 3)
+-- the row 'schema' of the table `meta`
+abbrev pub is_schema_row : Row → Bool
+is_schema_row row = is_equal (column row 1) (Text (codes "schema"))
 
-abbrev pub HasVersion : Trees → Type 0
-HasVersion trees = list_any is_version_row (trees 0) ≡ true
+-- the same row, at a version
+abbrev pub is_version_row : ℕ → Row → Bool
+is_version_row version row = is_schema_row row && is_equal (column row 2) (whole version)
 
--- the table of sets of an earlier schema has no row, where it is there
-abbrev pub HasNoOldSets : Layout → Trees → Type 0
-HasNoOldSets Created trees = ⊤
-HasNoOldSets Migrated trees = trees 4 ≡ []
+abbrev pub HasVersion : ℕ → Trees → Type 0
+HasVersion version trees = list_any (is_version_row version) (trees 0) ≡ true
 
 -- the tables are the store's, `meta` says so, and nothing is left in an earlier table of sets
 pub record IsOurs (db : Database) : Type 0 where
   pub layout : Layout
   pub schema : db.schema ≡ schema_of layout
-  pub version : HasVersion db.trees
+  pub version : HasVersion 3 db.trees
   pub no_old_sets : HasNoOldSets layout db.trees
 
 -- it was a store's, and every row is as it was

@@ -30,6 +30,12 @@ pub record Stays (old new : State) : Type 0 where
   pub now : IsTrue new.is_open → new.now ≡ old.now
   pub settled : IsTrue new.is_open → IsSettled new
 
+-- handed back as it was: the same rows, nothing more committed, and a transaction under way exactly where one was
+pub record IsHandedBack (old new : State) : Type 0 where
+  pub now : new.now ≡ old.now
+  pub committed : new.committed ≡ old.committed
+  pub in_transaction : new.in_transaction ≡ old.in_transaction
+
 -- after a crash an open finds nothing that it wouldn't have found before the call
 abbrev pub LeavesNoMore : State → State → Type 0
 LeavesNoMore old new = HasCleanDisk new → (db : Trees) → new.may_leave db → old.may_leave db

@@ -7,4 +7,5 @@ pub mod Connection
 pub mod Alters
 pub mod Store
 pub mod Adopted
+pub mod Migrated
 pub mod Private

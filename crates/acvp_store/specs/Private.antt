@@ -7,3 +7,4 @@ pub mod Pages
 pub mod Summaries
 pub mod Bare
 pub mod Clean
+pub mod Migration

@@ -148,3 +148,52 @@ schema_of layout = record {
 -- the tables of schema 3, in one of the two ways
 abbrev pub IsStoreSchema : Schema → Type 0
 IsStoreSchema schema = (layout : Layout) × (schema ≡ schema_of layout)
+
+-- ---- earlier schemas
+
+-- the indexes that the keys of `meta` and `object` make
+abbrev pub first_indexes : List Index
+first_indexes = index_by_columns (codes "sqlite_autoindex_meta_1") 1 0 (1 ∷ [])
+    ∷ index_by_columns (codes "sqlite_autoindex_object_1") 6 5 (1 ∷ 2 ∷ [])
+    ∷ []
+
+-- the tables of schema 1
+abbrev pub first_schema : Schema
+first_schema = record {
+  tables = meta_table 0 ∷ account_table 2 ∷ session_table 3 ∷ old_set_table 4 ∷ object_table 5 ∷ request_table 7 ∷ [];
+  indexes = first_indexes;
+  views = [];
+}
+
+-- the later table of sets, where the earlier one stands before it
+abbrev pub later_sets : Layout → List Table
+later_sets Created = []
+later_sets Migrated = set_table 8 ∷ []
+
+-- the tables of schema 2: those of schema 3 without the reviewers, in one of the same two ways
+abbrev pub second_schema : Layout → Schema
+second_schema layout = record {
+  tables = meta_table 0 ∷ account_table 2 ∷ session_table 3 ∷ fourth_table layout ∷ object_table 5 ∷ request_table 7 ∷ later_sets layout;
+  indexes = first_indexes;
+  views = [];
+}
+
+-- the version of a schema; from the second on its tables lie in one of two ways
+pub data SchemaVersion : Type 0 where
+  First : SchemaVersion
+  Second : Layout → SchemaVersion
+  Third : Layout → SchemaVersion
+
+abbrev pub schema_at : SchemaVersion → Schema
+schema_at First = first_schema
+schema_at (Second layout) = second_schema layout
+schema_at (Third layout) = schema_of layout
+
+abbrev pub version_number : SchemaVersion → ℕ
+version_number First = 1
+version_number (Second layout) = 2
+version_number (Third layout) = 3
+
+-- the tables of some version
+abbrev pub IsKnownSchema : Schema → Type 0
+IsKnownSchema schema = (version : SchemaVersion) × (schema ≡ schema_at version)

@@ -1,5 +1,5 @@
 -- Which rows of the tables stand for a content.
-use Rattle.std.specs.Prelude.{◌≡◌, ◌<◌, ◌^◌, ℕ, Bool, List, [], ◌∷◌, map, codes, Option, Some, None, Ok, unwrap_or}
+use Rattle.std.specs.Prelude.{◌≡◌, ◌<◌, ◌^◌, ⊤, ℕ, Bool, List, [], ◌∷◌, map, codes, Option, Some, None, Ok, unwrap_or}
 use Rattle.std.specs.List.{AllZip, AllByRecursion}
 use Rattle.std.specs.List.Sorted.{IsPermutation}
 use Rattle.serde_json.specs.Data.{Data, number, unsigned, string, object, member, no_members}
@@ -31,7 +31,7 @@ use Rattle.acvp_tables.specs.declared.rows.Certification.{Certification}
 use Rattle.acvp_tables.specs.declared.rows.ReviewerRow.{ReviewerRow}
 use Rattle.acvp_store.specs.Values.{whole, flag}
 use Rattle.acvp_store.specs.Kept.{IsKept}
-use Rattle.acvp_store.specs.Schema.{Layout, Created, Migrated}
+use Rattle.acvp_store.specs.Schema.{Layout, Created, Migrated, SchemaVersion, First, Second, Third, version_number}
 use Rattle.acvp_store.specs.Rows.{account_tree, HoldsAccounts, session_tree, HoldsSessions}
 
 -- ---- the version
@@ -91,6 +91,23 @@ pub record HoldsSets (rows : List Row) (sets : List SetRow) : Type 0 where
   pub kept : IsKept set_key set_row rows columns
   pub same : AllZip IsSet columns sets
 
+-- The earlier table of sets keeps no epoch.
+abbrev pub old_set_columns : SetColumns → Row
+old_set_columns c = Null ∷ whole c.session ∷ Text c.capability ∷ flag c.cancelled ∷ or_null Text c.answers ∷ or_null Text c.verdicts
+    ∷ or_null whole c.disposition ∷ []
+
+abbrev pub old_set_row : SetColumns → Row
+old_set_row c = whole c.number ∷ old_set_columns c
+
+-- its sets are of epoch 0
+abbrev pub of_first_epoch : SetColumns → SetColumns
+of_first_epoch c = record c { epoch = 0 }
+
+pub record HoldsOldSets (rows : List Row) (sets : List SetRow) : Type 0 where
+  pub columns : List SetColumns
+  pub kept : IsKept set_key old_set_row rows columns
+  pub same : AllZip IsSet (map of_first_epoch columns) sets
+
 -- ---- tables under a key of two columns: each row has a number in its tree that the database chose
 
 pub record Entry (A : Type 0) : Type 0 where
@@ -131,8 +148,10 @@ reviewer_tree Migrated = 9
 abbrev pub reviewer_columns : ReviewerRow → Row
 reviewer_columns r = whole r.session ∷ whole r.account ∷ []
 
-abbrev pub HoldsReviewers : List Row → List ReviewerRow → Type 0
-HoldsReviewers = HoldsEntries reviewer_columns
+-- each session's number fits a column
+pub record HoldsReviewers (rows : List Row) (reviewers : List ReviewerRow) : Type 0 where
+  pub kept : HoldsEntries reviewer_columns rows reviewers
+  pub fits : AllByRecursion (λ (r : ReviewerRow). r.session < 2 ^ 63) reviewers
 
 -- ---- requests
 
@@ -177,12 +196,40 @@ pub record HoldsRequests (rows : List Row) (requests : List RequestRow) : Type 0
 
 -- ---- the whole
 
-pub record Stands (layout : Layout) (trees : Trees) (c : Content) : Type 0 where
-  pub version : trees 0 ≡ version_row 3 ∷ []
+-- schema 1 has its own table of sets
+abbrev pub HoldsSetsAt : SchemaVersion → Trees → List SetRow → Type 0
+HoldsSetsAt First trees sets = HoldsOldSets (trees 4) sets
+HoldsSetsAt (Second layout) trees sets = HoldsSets (trees (set_tree layout)) sets
+HoldsSetsAt (Third layout) trees sets = HoldsSets (trees (set_tree layout)) sets
+
+-- reviewers are there from schema 3 on
+abbrev pub HoldsReviewersAt : SchemaVersion → Trees → List ReviewerRow → Type 0
+HoldsReviewersAt First trees reviewers = reviewers ≡ []
+HoldsReviewersAt (Second layout) trees reviewers = reviewers ≡ []
+HoldsReviewersAt (Third layout) trees reviewers = HoldsReviewers (trees (reviewer_tree layout)) reviewers
+
+-- the table of sets of schema 1 has no row where it stands beside the later one
+abbrev pub HasNoOldSets : Layout → Trees → Type 0
+HasNoOldSets Created trees = ⊤
+HasNoOldSets Migrated trees = trees 4 ≡ []
+
+abbrev pub HasNoOldSetsAt : SchemaVersion → Trees → Type 0
+HasNoOldSetsAt First trees = ⊤
+HasNoOldSetsAt (Second layout) trees = HasNoOldSets layout trees
+HasNoOldSetsAt (Third layout) trees = HasNoOldSets layout trees
+
+-- the rows of the tables of a version
+pub record StandsAt (version_of : SchemaVersion) (trees : Trees) (c : Content) : Type 0 where
+  pub version : trees 0 ≡ version_row (version_number version_of) ∷ []
   pub accounts : HoldsAccounts (trees account_tree) c.accounts
   pub sessions : HoldsSessions (trees session_tree) c.sessions
-  pub sets : HoldsSets (trees (set_tree layout)) c.sets
+  pub sets : HoldsSetsAt version_of trees c.sets
+  pub no_old_sets : HasNoOldSetsAt version_of trees
   pub objects : HoldsObjects (trees object_tree) c.objects
   pub object_numbers : FitColumns c.objects
   pub requests : HoldsRequests (trees request_tree) c.requests
-  pub reviewers : HoldsReviewers (trees (reviewer_tree layout)) c.reviewers
+  pub reviewers : HoldsReviewersAt version_of trees c.reviewers
+
+-- those of schema 3
+abbrev pub Stands : Layout → Trees → Content → Type 0
+Stands layout = StandsAt (Third layout)

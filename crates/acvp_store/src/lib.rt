@@ -6,6 +6,9 @@ mod accounts;
 mod cases;
 mod counts;
 mod fault;
+mod migration;
+#[cfg(test)]
+mod migration_tests;
 mod objects;
 #[cfg(test)]
 mod over_both_forms;
@@ -26,4 +29,4 @@ mod version;
 mod work;
 
 pub use fault::AdoptFault;
-pub use store::{SqlTables, adopt, create};
+pub use store::{SqlTables, adopt, create, migrate};

@@ -11,7 +11,7 @@ ghost use Rattle.acvp_store.specs.Stands.{reviewer_tree, HoldsReviewers};
 
 use crate::fault::{done, fault_of};
 use crate::pages::listed;
-use crate::shown::fitting;
+use crate::shown::{fitting, key};
 use crate::work::Work;
 use acvp_tables::{ReviewerRow, StoreFault};
 use sqlite::{Alter, Connection, Error, Row, Transaction, params};
@@ -38,10 +38,9 @@ pub(crate) fn find_reviewer<S: Alter>(
     ensures found { IsTrue (state S.Store conn.new).is_open → IfOk result (λ found. InStore (state S.Store conn.old).now (λ layout. (reviewers : List Reviewer) → HoldsReviewers ((state S.Store conn.old).now.trees (reviewer_tree layout)) reviewers → found ≡ is_reviewer session account reviewers)) }
     ensures read { IsRead result (state S.Store conn.old) (state S.Store conn.new) }
 {
-    let kept = fitting(session)?;
     any(conn.query_all(
         "SELECT account FROM reviewer WHERE session = ?1 AND account = ?2",
-        params![kept, u32::from(account)],
+        params![key(session), u32::from(account)],
     ))
 }
 
@@ -55,12 +54,11 @@ pub(crate) fn find_reviewers<S: Alter>(
     ensures found { IsTrue (state S.Store conn.new).is_open → IfOk result (λ found. InStore (state S.Store conn.old).now (λ layout. (c : Content) → IsSound c → HoldsReviewers ((state S.Store conn.old).now.trees (reviewer_tree layout)) c.reviewers → found.items ≡ reviewers_of session c.reviewers)) }
     ensures read { IsRead result (state S.Store conn.old) (state S.Store conn.new) }
 {
-    let kept = fitting(session)?;
     listed(
         alloc,
         conn.query_all(
             "SELECT account FROM reviewer WHERE session = ?1 ORDER BY account",
-            params![kept],
+            params![key(session)],
         ),
     )
 }

@@ -1,7 +1,8 @@
 //! Whether two schemas are the same.
-ghost use Rattle.std.specs.Prelude.{◌≡◌, ◌↔◌, [], IsTrue, IfOk};
+ghost use Rattle.std.specs.Prelude.{◌≡◌, ◌≤◌, ◌↔◌, [], length, IsTrue, IfOk};
 ghost use Rattle.std.specs.List.{AllByRecursion};
 ghost use Rattle.acvp_store.specs.Private.Bare.{IsBare, AreBare};
+ghost use Rattle.acvp_store.specs.Private.Migration.{front};
 
 use sqlite_items::Items;
 use sqlite_schema::code::{Terms, lend_value};
@@ -216,4 +217,24 @@ pub(crate) fn same_schema(alloc: Global, a: &Schema, b: &Schema) -> Result<bool,
 {
     let tables = same_tables(alloc, a.tables.as_slice(), b.tables.as_slice())?;
     Ok(tables && a.indexes.same(&b.indexes) && a.views.same(&b.views))
+}
+
+/// Whether a schema has the first tables and the first indexes of one whose tables have no terms, so many of them, and its
+/// views.
+pub(crate) fn same_front(
+    alloc: Global,
+    a: &Schema,
+    b: &Schema,
+    tables: usize,
+    indexes: usize,
+) -> Result<bool, AllocError>
+    requires bare { AreBare b.now }
+    requires tables { tables ≤ length b.now.tables }
+    requires indexes { indexes ≤ length b.now.indexes }
+    ensures { IfOk result (λ same. IsTrue same ↔ (a.now ≡ front tables indexes b.now)) }
+{
+    let first = &b.tables.as_slice()[..tables];
+    let keys = &b.indexes.as_slice()[..indexes];
+    let same = same_tables(alloc, a.tables.as_slice(), first)?;
+    Ok(same && same_all(a.indexes.as_slice(), keys) && a.views.same(&b.views))
 }

@@ -1,5 +1,5 @@
 //! The records in SQL tables.
-ghost use Rattle.std.specs.Prelude.{◌≡◌, ◌↔◌, IsTrue, IfOk, IfErr, MatchResult};
+ghost use Rattle.std.specs.Prelude.{◌≡◌, ◌↔◌, ◌⊎◌, IsTrue, IfOk, IfErr, MatchResult};
 ghost use Rattle.sqlite.specs.Held.{state};
 ghost use Rattle.sqlite.specs.State.{HasCleanDisk};
 ghost use Rattle.sqlite.specs.Steps.{over_memory};
@@ -10,17 +10,20 @@ ghost use Rattle.acvp_tables.specs.Changes.{after, after_order};
 ghost use Rattle.acvp_tables.specs.State.{IsSound};
 ghost use Rattle.acvp_tables.specs.declared.change.Change.TheVariants as change;
 ghost use Rattle.acvp_tables.specs.declared.change.OrderChange.TheVariants as order;
-ghost use Rattle.acvp_store.specs.Connection.{IsSettled, IsReady, ServesStore, IsWritten, LeavesNoMore, Under};
-ghost use Rattle.acvp_store.specs.Schema.{Created, Migrated, no_schema, schema_of};
+ghost use Rattle.acvp_store.specs.Connection.{IsSettled, IsReady, IsHandedBack, ServesStore, IsWritten, LeavesNoMore, LeavesSo, Under};
+ghost use Rattle.acvp_store.specs.Migrated.{IsKnown, IsMigrated, IsAfterMigration, IsOf, Turns};
+ghost use Rattle.acvp_store.specs.Schema.{Created, Migrated, no_schema, schema_of, schema_at};
+ghost use Rattle.acvp_store.specs.Private.Migration.{version_of, IsEarlierOf};
 ghost use Rattle.acvp_store.specs.Store.{may_fail, Begins, BecomesMigrated, stands, IsLive, is_clean, leaves};
 
 use crate::accounts::{DisabledAccount, find_account};
 use crate::counts::find_counts;
 use crate::fault::{AdoptFault, adopt_fault};
+use crate::migration::{Earlier, turn};
 use crate::objects::{Registered, find_object, find_owner, page_objects};
 use crate::requests::{CertificationAsked, DecidedRequest, find_request, page_requests};
 use crate::reviewers::{ReviewerAdded, ReviewerRemoved, find_reviewer, find_reviewers};
-use crate::same::same_schema;
+use crate::same::{same_front, same_schema};
 use crate::sessions::{
     CancelledSession, CertifiedSession, CountedSession, PassedSession, SessionBegun, find_session,
     page_sessions,
@@ -28,7 +31,7 @@ use crate::sessions::{
 use crate::set_texts::{find_capability, find_verdicts};
 use crate::sets::{GradedSet, SetCancelled, SetsBegun, find_epoch, find_set, find_sets};
 use crate::setup::{StoreTable, Version};
-use crate::version::{has_old_sets, has_version};
+use crate::version::{has_old_sets, has_version, is_earlier};
 use crate::work::{Then, commit};
 use acvp_answers::Verdict;
 use acvp_caps::Capability;
@@ -114,10 +117,14 @@ pub fn create<S: Alter>(
 ) -> Result<SqlTables<S>, (Connection<S>, StoreFault)>
     ensures tables { IfOk result (λ t. IsTrue (state S.Store t).is_open → (state S.Store t).now.schema ≡ schema_of Created) }
     ensures begins { IfOk result (λ t. IsTrue (state S.Store t).is_open → stands S.Store t no_rows) }
+    ensures fresh { IfOk result (λ t. (state S.Store connection).now.schema ≡ no_schema) }
     ensures live { IfOk result (λ t. HasCleanDisk (state S.Store t) → IsTrue (state S.Store connection).is_open → IsLive S.Store t) }
-    ensures unchanged { IfErr result (λ e. IsTrue (state S.Store e.0).is_open → (state S.Store e.0).now ≡ (state S.Store connection).now) }
+    ensures unchanged { IfErr result (λ e. IsTrue (state S.Store e.0).is_open → IsHandedBack (state S.Store connection) (state S.Store e.0)) }
 {
-    if !connection.is_autocommit() || !is_empty(&connection) {
+    if !connection.is_autocommit() {
+        return Err((connection, StoreFault::Refused));
+    }
+    if !is_empty(&connection) {
         return Err((connection, StoreFault::Refused));
     }
     match make_tables(&mut connection) {
@@ -212,14 +219,14 @@ fn adopt_named<S: Alter>(
     mut connection: Connection<S>,
 ) -> Result<SqlTables<S>, (Connection<S>, AdoptFault)>
     requires { ServesStore (state S.Store connection) }
-    ensures named { IfOk result (λ t. IsTrue (state S.Store t).is_open → IsTrue (state S.Store connection).is_open × HasVersion (state S.Store connection).now.trees × ((state S.Store t).now ≡ (state S.Store connection).now)) }
+    ensures named { IfOk result (λ t. IsTrue (state S.Store t).is_open → IsTrue (state S.Store connection).is_open × HasVersion 3 (state S.Store connection).now.trees × ((state S.Store t).now ≡ (state S.Store connection).now)) }
     ensures live { IfOk result (λ t. HasCleanDisk (state S.Store t) → HasCleanDisk (state S.Store connection) × IsTrue (state S.Store connection).is_open × IsLive S.Store t) }
-    ensures schema { IfErr result (λ e. e.1 ≡ AdoptFault.Schema → IsTrue (state S.Store e.0).is_open → IsTrue (state S.Store connection).is_open × ¬ HasVersion (state S.Store connection).now.trees) }
-    ensures unchanged { IfErr result (λ e. IsTrue (state S.Store e.0).is_open → IsTrue (state S.Store connection).is_open × ((state S.Store e.0).now ≡ (state S.Store connection).now)) }
+    ensures schema { IfErr result (λ e. e.1 ≡ AdoptFault.Schema → IsTrue (state S.Store e.0).is_open → IsTrue (state S.Store connection).is_open × ¬ HasVersion 3 (state S.Store connection).now.trees) }
+    ensures unchanged { IfErr result (λ e. IsTrue (state S.Store e.0).is_open → IsTrue (state S.Store connection).is_open × IsHandedBack (state S.Store connection) (state S.Store e.0)) }
     ensures left { MatchResult result (λ t. LeavesNoMore (state S.Store connection) (state S.Store t)) (λ e. LeavesNoMore (state S.Store connection) (state S.Store e.0)) }
     ensures was_clean { IfErr result (λ e. HasCleanDisk (state S.Store e.0) → HasCleanDisk (state S.Store connection)) }
 {
-    match has_version(&mut connection) {
+    match has_version(&mut connection, 3) {
         Ok(true) => Ok(SqlTables { alloc, connection }),
         Ok(false) => Err((connection, AdoptFault::Schema)),
         Err(fault) => Err((connection, adopt_fault(fault))),
@@ -236,7 +243,7 @@ fn adopt_migrated<S: Alter>(
     ensures adopted { IfOk result (λ t. IsTrue (state S.Store t).is_open → IsAdopted (state S.Store connection) (state S.Store t)) }
     ensures live { IfOk result (λ t. HasCleanDisk (state S.Store t) → IsTrue (state S.Store connection).is_open × IsLive S.Store t) }
     ensures schema { IfErr result (λ e. e.1 ≡ AdoptFault.Schema → IsTrue (state S.Store e.0).is_open → ¬ IsOurs (state S.Store connection).now) }
-    ensures unchanged { IfErr result (λ e. IsTrue (state S.Store e.0).is_open → (state S.Store e.0).now ≡ (state S.Store connection).now) }
+    ensures unchanged { IfErr result (λ e. IsTrue (state S.Store e.0).is_open → IsHandedBack (state S.Store connection) (state S.Store e.0)) }
     ensures left { MatchResult result (λ t. LeavesNoMore (state S.Store connection) (state S.Store t)) (λ e. LeavesNoMore (state S.Store connection) (state S.Store e.0)) }
 {
     match has_old_sets(&mut connection) {
@@ -257,7 +264,7 @@ pub fn adopt<S: Alter>(
     ensures adopted { IfOk result (λ t. IsTrue (state S.Store t).is_open → IsAdopted (state S.Store connection) (state S.Store t)) }
     ensures live { IfOk result (λ t. HasCleanDisk (state S.Store t) → IsTrue (state S.Store connection).is_open × IsLive S.Store t) }
     ensures schema { IfErr result (λ e. e.1 ≡ AdoptFault.Schema → IsTrue (state S.Store e.0).is_open → ¬ IsOurs (state S.Store connection).now) }
-    ensures unchanged { IfErr result (λ e. IsTrue (state S.Store e.0).is_open → (state S.Store e.0).now ≡ (state S.Store connection).now) }
+    ensures unchanged { IfErr result (λ e. IsTrue (state S.Store e.0).is_open → IsHandedBack (state S.Store connection) (state S.Store e.0)) }
     ensures left { MatchResult result (λ t. LeavesNoMore (state S.Store connection) (state S.Store t)) (λ e. LeavesNoMore (state S.Store connection) (state S.Store e.0)) }
 {
     if !connection.is_autocommit() {
@@ -275,12 +282,84 @@ pub fn adopt<S: Alter>(
     }
 }
 
+/// Which of the earlier schemas the tables of a database are of, if of one.
+fn earlier_of<S: Alter>(
+    alloc: Global,
+    connection: &Connection<S>,
+) -> Result<Option<Earlier>, StoreFault>
+    ensures { IfOk result (IsEarlierOf (state S.Store connection.now).now.schema) }
+{
+    let created = created_in_memory(alloc)?;
+    let migrated = migrated_in_memory(alloc)?;
+    let schema = connection.schema();
+    if same_front(alloc, schema, migrated.schema(), 6, 2)? {
+        return Ok(Some(Earlier::First));
+    }
+    if same_front(alloc, schema, created.schema(), 6, 2)? {
+        return Ok(Some(Earlier::Second));
+    }
+    if same_front(alloc, schema, migrated.schema(), 7, 2)? {
+        return Ok(Some(Earlier::SecondBeside));
+    }
+    Ok(None)
+}
+
+/// Takes over a database with the tables of an earlier schema, once they are moved to those of schema 3.
+fn migrate_from<S: Alter>(
+    alloc: Global,
+    mut connection: Connection<S>,
+    from: Earlier,
+) -> Result<SqlTables<S>, (Connection<S>, AdoptFault)>
+    requires { IsTrue (state S.Store connection).is_open → IsSettled (state S.Store connection) × ((state S.Store connection).now.schema ≡ schema_at (version_of from)) }
+    ensures migrated { IfOk result (λ t. IsTrue (state S.Store t).is_open → IsMigrated (state S.Store connection) (state S.Store t)) }
+    ensures live { IfOk result (λ t. HasCleanDisk (state S.Store t) → IsTrue (state S.Store connection).is_open × IsLive S.Store t) }
+    ensures schema { IfErr result (λ e. e.1 ≡ AdoptFault.Schema → IsTrue (state S.Store e.0).is_open → ¬ IsOf (version_of from) (state S.Store connection).now) }
+    ensures unchanged { IfErr result (λ e. IsTrue (state S.Store e.0).is_open → IsHandedBack (state S.Store connection) (state S.Store e.0)) }
+    ensures left { IfErr result (λ e. LeavesSo (state S.Store connection) (state S.Store e.0) (λ db. (db ≡ (state S.Store connection).committed.trees) ⊎ IsAfterMigration (state S.Store connection).now db)) }
+{
+    match is_earlier(&mut connection, from) {
+        Ok(true) => {}
+        Ok(false) => return Err((connection, AdoptFault::Schema)),
+        Err(fault) => return Err((connection, adopt_fault(fault))),
+    }
+    match turn(&mut connection, from) {
+        Ok(()) => Ok(SqlTables { alloc, connection }),
+        Err(fault) => Err((connection, adopt_fault(fault))),
+    }
+}
+
+/// Takes over a database with the tables of schema 1, 2 or 3. Those of the first two are moved to schema 3, in one
+/// transaction: the vector sets of schema 1 get epoch 0, and no session has a reviewer; over schema 3 it is `adopt`. A fault
+/// hands the connection back, and the database is as it was: Schema where the tables aren't exactly those of one of the
+/// three, or `meta` lacks the row that names their version. The memory is for the texts of the rows.
+pub fn migrate<S: Alter>(
+    alloc: Global,
+    connection: Connection<S>,
+) -> Result<SqlTables<S>, (Connection<S>, AdoptFault)>
+    ensures migrated { IfOk result (λ t. IsTrue (state S.Store t).is_open → IsMigrated (state S.Store connection) (state S.Store t)) }
+    ensures live { IfOk result (λ t. HasCleanDisk (state S.Store t) → IsTrue (state S.Store connection).is_open × IsLive S.Store t) }
+    ensures schema { IfErr result (λ e. e.1 ≡ AdoptFault.Schema → IsTrue (state S.Store e.0).is_open → ¬ IsKnown (state S.Store connection).now) }
+    ensures unchanged { IfErr result (λ e. IsTrue (state S.Store e.0).is_open → IsHandedBack (state S.Store connection) (state S.Store e.0)) }
+    ensures settled { IfOk result (λ t. LeavesSo (state S.Store connection) (state S.Store t) (λ db. db ≡ (state S.Store t).now.trees)) }
+    ensures left { IfErr result (λ e. LeavesSo (state S.Store connection) (state S.Store e.0) (λ db. (db ≡ (state S.Store connection).committed.trees) ⊎ IsAfterMigration (state S.Store connection).now db)) }
+{
+    if !connection.is_autocommit() {
+        return Err((connection, AdoptFault::Refused));
+    }
+    match earlier_of(alloc, &connection) {
+        Ok(None) => adopt(alloc, connection),
+        Ok(Some(from)) => migrate_from(alloc, connection, from),
+        Err(fault) => Err((connection, adopt_fault(fault))),
+    }
+}
+
 impl<S: Alter> SqlTables<S> {
     /// The connection, with the same rows.
     pub fn into_connection(self) -> Connection<S>
         ensures { result ≡ self }
     {
-        self.connection
+        let SqlTables { connection, .. } = self;
+        connection
     }
 
     /// Adds an account.

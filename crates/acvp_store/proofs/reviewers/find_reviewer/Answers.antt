@@ -21,8 +21,8 @@ returns-clause-found g c live =
     let old = state g.S.Store c.args.conn.now in
     let new = state g.S.Store c.query_all.new.self in
     let clean = clean_if_open new.is_clean new.is_open (g.met.S.Store.shut_if_dirty c.query_all.new.self.store) live in
-    let fit : SFits w64 c.in_ok-kept.kept = search rules in
+    let fit : SFits w64 c.key.result = search rules in
     in_store c.any.result old.now _ (λ layout schema.
     found_reviewer (record { session = c.args.session; account = c.args.account }) (old.now.trees (reviewer_tree layout)) c.query_all.result (λ v. v.items) c.any.result c.any.ensures.ok c.any.ensures.found
-    (IfOk-weaker c.query_all.result _ _ (λ rows shown list h. reviewer_rows layout (record { session = c.args.session; account = c.args.account }) old new rows.items schema
-    (rw (c.params-to_sql.ensures, c.params-to_sql-2.ensures, to_z-of_z fit, c.in_ok-kept.ensures.1, c.from.ensures) at shown) list h) (c.query_all.ensures.ok clean)))
+    (IfOk-weaker c.query_all.result _ _ (λ rows shown list h. reviewer_rows layout (record { session = c.args.session; account = c.args.account }) old new rows.items schema list h c.key.result c.key.ensures.fits c.key.ensures.too_large
+    (rw (c.params-to_sql.ensures, c.params-to_sql-2.ensures, to_z-of_z fit, c.from.ensures) at shown)) (c.query_all.ensures.ok clean)))

@@ -23,7 +23,7 @@ returns-in-Ok-false-clause-adopted g c =
       ours = record {
         layout = Migrated;
         schema = (c.requires was).1;
-        version = subst (λ (d : Database). HasVersion d.trees) same it.1;
+        version = subst (λ (d : Database). HasVersion 3 d.trees) same it.1;
         no_old_sets = empty _ (sym (c.in-Ok-false.ensures.found it.0) ∙ c.in-Ok-false.field-0-test);
       };
       same = it.2 ∙ same;
@@ -34,4 +34,4 @@ returns-in-Ok-false-clause-schema g c =
     let stays = c.in-Ok-false.ensures.read.stays in
     IfErr-weaker c.adopt_named.result _ _ (λ e is schema live ours.
     let it = is schema live in
-    it.1 (subst (λ (d : Database). HasVersion d.trees) (sym (stays.now it.0)) ours.version)) c.adopt_named.ensures.schema
+    it.1 (subst (λ (d : Database). HasVersion 3 d.trees) (sym (stays.now it.0)) ours.version)) c.adopt_named.ensures.schema

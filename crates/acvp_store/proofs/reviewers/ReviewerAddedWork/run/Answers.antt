@@ -21,5 +21,5 @@ returns-clause-inside g c =
     let Change = λ (layout : Layout). Alters layout (reviewer_tree layout) HoldsReviewers (with_reviewer r) in
     inside_as c.execute.result c.done.result old new (UnderStore Change) c.done.ensures
     (inside_store c.execute.result old new Change (λ layout. inside (schema_of layout) add_reviewer (reviewer_columns r) old new (clean_if_open new.is_clean new.is_open (g.met.S.Store.shut_if_dirty c.execute.new.self.conn.now.store))
-    _ (add_reviewer_is layout) (add_reviewer_plain layout) (λ count w. w) (Change layout) (add_reviewer_effect layout old r) c.execute.result
+    _ (add_reviewer_is layout) (add_reviewer_plain layout) (λ count w. w) (Change layout) (add_reviewer_effect layout old r c.in_ok-session.ensures.0) c.execute.result
     (λ clean on. rw (c.params-to_sql.ensures, c.params-to_sql-2.ensures, to_z-of_z fit_session, c.in_ok-session.ensures.1, c.from.ensures) at (c.execute.ensures.runs clean on)) (λ off. ap (state g.S.Store) (c.execute.ensures.ended off).1) c.execute.ensures.survives))

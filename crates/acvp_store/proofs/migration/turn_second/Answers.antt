@@ -1,0 +1,10 @@
+use Rattle.sqlite.specs.Held.{state}
+use Rattle.acvp_store.specs.Connection.{Under}
+use Rattle.acvp_store.specs.Migrated.{Turns}
+use Rattle.acvp_store.specs.Schema.{Created, Second, schema_at}
+use Rattle.acvp_store.proofs.Moving.{MovesSecond, second_turns}
+use Rattle.acvp_store.proofs.Standing.{written_as}
+use Rattle.acvp_store.proofs.migration.turn_second.Goals as goal
+
+pub returns : goal.returns
+returns g c = written_as c.commit.result (state g.S.Store c.args.connection.now) (state g.S.Store c.commit.new.conn) MovesSecond (Under (schema_at (Second Created)) (Turns (Second Created))) second_turns c.commit.ensures

@@ -1,0 +1,50 @@
+use Rattle.std.proofs.Common.{sym, ap, subst, ◌∙◌}
+use Rattle.std.proofs.lemmas.Result.{IfOk-weaker, IfErr-weaker}
+use Rattle.sqlite.specs.Effect.{Database}
+use Rattle.sqlite.specs.Held.{state}
+use Rattle.acvp_store.specs.Migrated.{IsAfterMigration}
+use Rattle.acvp_store.specs.Schema.{Third}
+use Rattle.acvp_store.specs.Private.Migration.{version_of, IsEarlierOf}
+use Rattle.acvp_store.proofs.Known.{unknown, not_known, left_as_committed, of_fault}
+use Rattle.acvp_store.proofs.store.migrate.Goals as goal
+
+pub returns-then-not-is_autocommit-clause-left : goal.returns-then-not-is_autocommit-clause-left
+returns-then-not-is_autocommit-clause-left g c =
+    let old = c.args.connection in
+    left_as_committed (state g.S.Store old) (state g.S.Store old) (IsAfterMigration (state g.S.Store old).now) (λ db live may. g.met.S.Store.settled old.store db live may) (λ clean db may. may)
+
+pub returns-in-Ok-None-clause-migrated : goal.returns-in-Ok-None-clause-migrated
+returns-in-Ok-None-clause-migrated g c = IfOk-weaker c.adopt.result _ _ (λ t is live.
+    let it = is live in
+    record {
+      was_open = it.was_open;
+      from = Third it.ours.layout;
+      was = record { schema = it.ours.schema; named = it.ours.version; no_old_sets = it.ours.no_old_sets };
+      turned = it.same;
+    }) c.adopt.ensures.adopted
+
+pub returns-in-Ok-None-clause-schema : goal.returns-in-Ok-None-clause-schema
+returns-in-Ok-None-clause-schema g c = IfErr-weaker c.adopt.result _ _ (λ e is schema live. unknown (state g.S.Store c.args.connection).now (subst (IsEarlierOf (state g.S.Store c.args.connection).now.schema) c.in-Ok-None.field-0-is c.in-Ok-None.ensures) (is schema live)) c.adopt.ensures.schema
+
+pub returns-in-Ok-None-clause-settled : goal.returns-in-Ok-None-clause-settled
+returns-in-Ok-None-clause-settled g c = IfOk-weaker c.adopt.result _ _ (λ t is clean open_before db may.
+    let live = (is clean).1 in
+    g.met.S.Store.settled t.store db live.is_open may ∙ ap (λ (d : Database). d.trees) (sym live.store.ready.settled)) c.adopt.ensures.live
+
+pub returns-in-Ok-None-clause-left : goal.returns-in-Ok-None-clause-left
+returns-in-Ok-None-clause-left g c =
+    let old = c.args.connection in
+    of_fault c.adopt.result _ _ _ (λ e none. left_as_committed (state g.S.Store old) (state g.S.Store e.0) (IsAfterMigration (state g.S.Store old).now) (λ db live may. g.met.S.Store.settled old.store db live may) none) c.adopt.ensures.left
+
+pub returns-in-Ok-Some-clause-schema : goal.returns-in-Ok-Some-clause-schema
+returns-in-Ok-Some-clause-schema g c = IfErr-weaker c.migrate_from.result _ _ (λ e is schema live. not_known (version_of c.in-Ok-Some.from) (state g.S.Store c.args.connection).now (subst (IsEarlierOf (state g.S.Store c.args.connection).now.schema) c.in-Ok-Some.field-0-is c.in-Ok-Some.ensures) (is schema live)) c.migrate_from.ensures.schema
+
+pub returns-in-Ok-Some-clause-settled : goal.returns-in-Ok-Some-clause-settled
+returns-in-Ok-Some-clause-settled g c = IfOk-weaker c.migrate_from.result _ _ (λ t is clean open_before db may.
+    let live = (is clean).1 in
+    g.met.S.Store.settled t.store db live.is_open may ∙ ap (λ (d : Database). d.trees) (sym live.store.ready.settled)) c.migrate_from.ensures.live
+
+pub returns-in-Err-clause-left : goal.returns-in-Err-clause-left
+returns-in-Err-clause-left g c =
+    let old = c.args.connection in
+    left_as_committed (state g.S.Store old) (state g.S.Store old) (IsAfterMigration (state g.S.Store old).now) (λ db live may. g.met.S.Store.settled old.store db live may) (λ clean db may. may)
