@@ -1,18 +1,16 @@
 -- The pages of an account's rows.
-use Rattle.std.proofs.Common.{◌≡◌, ℕ, ◌*◌, ◌+◌, pos, List, [], ◌∷◌, map, take, drop, Bool, true, refl, sym, ap, subst, ◌∙◌, arith}
-use Rattle.std.specs.Prelude.{◌==◌, ◌&&◌, nat_le, nat_lt, not, min, filter}
-use Rattle.std.specs.List.{list_all}
+use Rattle.std.proofs.Common.{◌≡◌, ℕ, pos, List, [], ◌∷◌, map, take, drop, true, refl, sym, ap, subst, ◌∙◌, arith}
+use Rattle.std.specs.Prelude.{◌&&◌, nat_le, min}
 use Rattle.std.specs.List.Sorted.{IsPermutation}
 use Rattle.std.specs.Ordering.{is_le, is_ge}
 use Rattle.std.proofs.lemmas.List.{map-id}
 use Rattle.std.proofs.lemmas.Bool.Decides.{nat_tests}
-use Rattle.sqlite.specs.declared.types.Value.TheVariants.{Null, Int}
+use Rattle.sqlite.specs.declared.types.Value.TheVariants.{Null}
 use Rattle.sqlite.specs.Order.{Row}
 use Rattle.sqlite.specs.Ops.{is_true, binary}
 use Rattle.sqlite.specs.Collation.TheVariants.{Binary}
 use Rattle.sqlite.specs.Program.{overlay}
 use Rattle.sqlite.specs.State.{State, Shown}
-use Rattle.sqlite.specs.Term.{holds}
 use Rattle.sqlite.proofs.Callers.{reads_as}
 use Rattle.sqlite_sql.specs.declared.ops.BinaryOp.TheVariants.{Compare}
 use Rattle.sqlite_sql.specs.declared.ops.CompareOp.TheVariants.{Le, Ge}
@@ -23,7 +21,7 @@ use Rattle.acvp_tables.specs.declared.rows.SessionRow.{SessionRow}
 use Rattle.acvp_store.specs.Values.{whole}
 use Rattle.acvp_store.specs.Schema.{Layout, schema_of}
 use Rattle.acvp_store.specs.Rows.{session_tree, session_row, HoldsSessions, session_shown}
-use Rattle.acvp_store.proofs.Owned.{first_number, last_number, in_range, of_account, range_is, session_numbers, session_selection}
+use Rattle.acvp_store.proofs.Owned.{first_number, last_number, in_range, range_is, session_numbers, session_selection}
 use Rattle.acvp_store.proofs.Paging.{paged, capped_page}
 use Rattle.acvp_store.proofs.PageTexts.{within, page_sessions, sessions_is, sessions_plain, sessions_unlisted, session_columns}
 use Rattle.acvp_store.proofs.Parts.{both_true}

@@ -40,3 +40,4 @@ pub mod Counting
 pub mod Migrating
 pub mod Moving
 pub mod Known
+pub mod OneSchema

@@ -1,10 +1,10 @@
 -- What the statements of a migration do.
-use Rattle.std.proofs.Common.{◌≡◌, ◌<◌, ◌^◌, ℕ, List, [], ◌∷◌, ◌++◌, append-nil, append_assoc, map, Bool, true, false, not, Option, None, Ok, codes, refl, sym, ap, subst, ◌∙◌, arith}
-use Rattle.std.specs.Prelude.{◌&&◌, drop}
-use Rattle.std.specs.List.{filter, list_any, AllZip, AllByRecursion}
+use Rattle.std.proofs.Common.{◌≡◌, ◌<◌, ◌^◌, ℕ, List, [], ◌∷◌, ◌++◌, append-nil, append_assoc, map, true, false, Option, None, Ok, codes, refl, sym, ap, subst, ◌∙◌}
+use Rattle.std.specs.Prelude.{drop}
+use Rattle.std.specs.List.{filter, list_any, AllByRecursion}
 use Rattle.std.specs.List.Sorted.{IsPermutation}
 use Rattle.std.specs.Ordering.{is_eq}
-use Rattle.std.proofs.lemmas.List.Sorted.{IsPermutation-refl, IsPermutation-map, IsPermutation-sym, IsPermutation-trans}
+use Rattle.std.proofs.lemmas.List.Sorted.{IsPermutation-map, IsPermutation-sym, IsPermutation-trans}
 use Rattle.sqlite.specs.declared.types.Value.TheVariants.{Null, Text}
 use Rattle.sqlite.specs.Order.{Row, column}
 use Rattle.sqlite.specs.Program.{overlay}
@@ -13,7 +13,6 @@ use Rattle.sqlite.specs.Source.TheVariants as source
 use Rattle.sqlite.specs.Edit.{edit_of}
 use Rattle.sqlite.specs.Rowids.TheVariants.{Chosen, Given}
 use Rattle.sqlite.specs.Cast.{cast_row}
-use Rattle.sqlite.specs.Table.{Table}
 use Rattle.sqlite.specs.Tree.{Trees, IsAscending, put_row, rowid}
 use Rattle.sqlite.specs.Effect.{Database}
 use Rattle.sqlite.specs.Does.{Tally, Does}
@@ -26,7 +25,7 @@ use Rattle.sqlite_rules.specs.Action.{Writes}
 use Rattle.sqlite_rules.specs.Calls.{ids_of}
 use Rattle.sqlite_rules.specs.Edit.{put_all, are_fresh, numbered as numbered_rows, without_all}
 use Rattle.sqlite_schema.specs.declared.schema.Keys.TheVariants.{Enforced}
-use Rattle.sqlite_trees.proofs.ListLemmas.{map-map, pull_back, all-permutation}
+use Rattle.sqlite_trees.proofs.ListLemmas.{pull_back, all-permutation}
 use Rattle.sqlite_value.specs.Order.{value_cmp}
 use Rattle.sqlite_value.proofs.OrderLemmas.{value_cmp-Text}
 use Rattle.acvp_tables.specs.declared.rows.SetRow.{SetRow}
@@ -34,7 +33,7 @@ use Rattle.acvp_store.specs.Adopted.{is_equal, is_schema_row}
 use Rattle.acvp_store.specs.Alters.{SparesOthers}
 use Rattle.acvp_store.specs.Kept.{IsKept}
 use Rattle.acvp_store.specs.Schema.{Layout, Migrated, schema_of, meta_table, old_set_table, set_table}
-use Rattle.acvp_store.specs.Stands.{version_row, SetColumns, set_key, set_row, old_set_columns, old_set_row, of_first_epoch, IsSet, HoldsSets, HoldsOldSets, Entry, entry_row}
+use Rattle.acvp_store.specs.Stands.{version_row, SetColumns, set_key, set_row, old_set_columns, old_set_row, of_first_epoch, HoldsSets, HoldsOldSets, Entry, entry_row}
 use Rattle.acvp_store.specs.Values.{whole, flag}
 use Rattle.acvp_store.specs.Private.Migration.{CopiesSets, EmptiesOldSets, RaisesVersion}
 use Rattle.acvp_store.proofs.Effects.{task_of, mode, concluded}
@@ -201,7 +200,7 @@ cast_version = rw (cast_whole 1, cast_whole 3) refl
 rewritten : (n : ℕ) (rows found : List Row) → rows ≡ version_row n ∷ [] → found ≡ renewed (version_row n) ∷ [] → put_all (without_all rows (ids_of found)) (numbered_rows Given (without_all rows (ids_of found)) (map (λ s. cast_row (meta_table 0) (drop 1 s)) found)) ≡ version_row 3 ∷ []
 rewritten n rows found was is = rw (was, is, cast_version, same_whole 1 1) refl
 
-its_name : is_equal (Text (codes "schema")) (Text (codes "schema")) ≡ true
+pub its_name : is_equal (Text (codes "schema")) (Text (codes "schema")) ≡ true
 its_name = ap is_eq (value_cmp-Text (codes "schema") (codes "schema"))
 
 one_row : (rows : List Row) (n : ℕ) → rows ≡ version_row n ∷ [] → filter is_schema_row rows ≡ version_row n ∷ []

@@ -1,6 +1,6 @@
 -- Registered objects: one by its kind and number, and the pages of an account's.
-use Rattle.std.proofs.Common.{◌≡◌, ◌⊎◌, inl, inr, ◌<◌, ◌≤◌, ◌^◌, ℕ, ℤ, pos, negsuc, List, [], ◌∷◌, map, take, drop, slice_get, Bool, true, false, Some, refl, sym, ap, ap₂, subst, ◌∙◌, arith}
-use Rattle.std.specs.Prelude.{◌==◌, ◌&&◌, min, filter, find}
+use Rattle.std.proofs.Common.{◌≡◌, ◌⊎◌, inl, inr, ◌<◌, ◌≤◌, ◌^◌, ℕ, ℤ, pos, negsuc, List, [], ◌∷◌, map, take, drop, slice_get, Bool, true, false, refl, sym, ap, ap₂, subst, ◌∙◌, arith}
+use Rattle.std.specs.Prelude.{◌==◌, ◌&&◌, min, filter}
 use Rattle.std.specs.List.{AllByRecursion}
 use Rattle.std.specs.List.Sorted.{IsPermutation}
 use Rattle.std.proofs.lemmas.Bool.{cases_Bool}
@@ -22,7 +22,7 @@ use Rattle.acvp_tables.specs.declared.rows.ObjectRow.{ObjectRow}
 use Rattle.acvp_store.specs.Values.{whole}
 use Rattle.acvp_store.specs.Schema.{Layout, schema_of}
 use Rattle.acvp_store.specs.Stands.{Entry, entry_row, HoldsObjects, object_columns, object_tree, IsKeepable, FitColumns}
-use Rattle.acvp_store.proofs.AccountPages.{test_range, most, page_params}
+use Rattle.acvp_store.proofs.AccountPages.{test_range, most}
 use Rattle.acvp_store.proofs.Listing.{all_taken, all_dropped}
 use Rattle.acvp_store.proofs.ObjectRows.{is_it, neither, none_passes, none_fits}
 use Rattle.acvp_store.proofs.Owned.{first_number, last_number, in_range, range_with, object_numbers, object_selection}

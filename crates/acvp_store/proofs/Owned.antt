@@ -1,5 +1,5 @@
 -- The rows of an account, by the range of their numbers.
-use Rattle.std.proofs.Common.{◌≡◌, ◌<◌, ◌≤◌, ℕ, ◌+◌, ◌*◌, ◌/◌, List, [], ◌∷◌, map, length, Bool, true, false, refl, sym, ap, subst, ◌∙◌, arith}
+use Rattle.std.proofs.Common.{◌≡◌, ◌<◌, ◌≤◌, ℕ, ◌+◌, ◌*◌, List, [], ◌∷◌, map, length, Bool, true, refl, sym, ap, subst, ◌∙◌, arith}
 use Rattle.std.specs.Prelude.{◌==◌, ◌&&◌, nat_le, filter}
 use Rattle.std.specs.List.{list_all, range_with_len, AllByRecursion}
 use Rattle.std.proofs.lemmas.List.{length-map}
@@ -7,7 +7,7 @@ use Rattle.std.proofs.lemmas.Bool.Decides.{nat_tests}
 use Rattle.sqlite_trees.proofs.ListLemmas.{map-map, filter-map}
 use Rattle.sqlite.specs.Tree.{IsAscending}
 use Rattle.acvp_registry.specs.declared.kind.Kind.{Kind}
-use Rattle.acvp_tables.specs.Content.{Content, is_kind, sessions_of, requests_of, objects_of}
+use Rattle.acvp_tables.specs.Content.{Content, sessions_of, requests_of, objects_of}
 use Rattle.acvp_tables.specs.State.{IsSound, IsWellNumbered, IsNumbered, state_of, own, owner_of, session_record, objects_in, first_of_account}
 use Rattle.acvp_tables.specs.declared.rows.SessionRow.{SessionRow}
 use Rattle.acvp_tables.specs.declared.rows.RequestRow.{RequestRow}

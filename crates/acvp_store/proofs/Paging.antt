@@ -1,5 +1,5 @@
 -- ORDER BY a column with LIMIT and OFFSET, over rows of members whose numbers in that column rise.
-use Rattle.std.proofs.Common.{◌≡◌, ◌⊎◌, inl, inr, ◌<◌, ◌≤◌, ℕ, pos, List, [], ◌∷◌, map, take, drop, length, Bool, true, false, None, Some, refl, sym, ap, subst, ◌∙◌, arith, Less, Equal}
+use Rattle.std.proofs.Common.{◌≡◌, ◌⊎◌, inl, inr, ◌<◌, ◌≤◌, ℕ, pos, List, [], ◌∷◌, map, take, drop, length, Bool, refl, sym, ap, subst, ◌∙◌, arith, Less, Equal}
 use Rattle.std.specs.Prelude.{min, filter}
 use Rattle.std.specs.List.{list_all, drop-map}
 use Rattle.std.specs.List.Sorted.{IsPermutation}
@@ -10,7 +10,7 @@ use Rattle.std.proofs.lemmas.List.Sorted.{IsPermutation-map, IsPermutation-trans
 use Rattle.std.proofs.lemmas.Bool.Decides.{nat_tests}
 use Rattle.sqlite_trees.proofs.ListLemmas.{map-map, filter-map, ascending-map, ascending_weaker, IsPermutation-filter}
 use Rattle.sqlite.specs.Order.{Row}
-use Rattle.sqlite.specs.Term.{Term, Env, col, holds, eval, eval_all}
+use Rattle.sqlite.specs.Term.{Term, col, holds, eval, eval_all}
 use Rattle.sqlite.specs.Query.{Query, IsAnswer, output, output_cmp, Output}
 use Rattle.sqlite.specs.Tree.{Trees, IsAscending}
 use Rattle.sqlite_value.proofs.OrderLemmas.{value_cmp-Int}

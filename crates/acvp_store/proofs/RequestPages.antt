@@ -1,7 +1,7 @@
 -- Requests without the objects that they ask to register: one by its number, and the pages of an account's.
-use Rattle.std.proofs.Common.{◌≡◌, ◌⊎◌, inl, inr, ◌<◌, ◌≤◌, ◌^◌, ℕ, ℤ, pos, negsuc, List, [], ◌∷◌, map, take, drop, slice_get, Bool, true, false, Option, Some, None, refl, sym, ap, subst, ◌∙◌, arith}
+use Rattle.std.proofs.Common.{◌≡◌, ◌⊎◌, inl, inr, ◌<◌, ◌≤◌, ◌^◌, ℕ, ℤ, pos, negsuc, List, [], ◌∷◌, map, take, drop, slice_get, Bool, false, refl, sym, ap, subst, ◌∙◌, arith}
 use Rattle.std.specs.Prelude.{◌==◌, min, filter, if◌then◌else◌, option_map}
-use Rattle.std.specs.List.{list_all, AllByRecursion, drop-map}
+use Rattle.std.specs.List.{AllByRecursion, drop-map}
 use Rattle.std.specs.List.Sorted.{IsPermutation}
 use Rattle.std.proofs.lemmas.Bool.Decides.{nat_tests}
 use Rattle.std.proofs.lemmas.List.{map-id, take-map}
@@ -16,7 +16,7 @@ use Rattle.sqlite.specs.Values.{or_null}
 use Rattle.sqlite.proofs.Callers.{reads_as}
 use Rattle.sqlite_sql.specs.declared.ops.BinaryOp.TheVariants.{Compare}
 use Rattle.sqlite_sql.specs.declared.ops.CompareOp.TheVariants.{Eq}
-use Rattle.sqlite_trees.proofs.ListLemmas.{map-map, all-filter}
+use Rattle.sqlite_trees.proofs.ListLemmas.{all-filter}
 use Rattle.acvp_tables.specs.Content.{Content, page, kind_number, request_at, request_summary, requests_of, subject_of}
 use Rattle.acvp_tables.specs.State.{IsSound, given_number}
 use Rattle.acvp_tables.specs.declared.rows.RequestBody.{RequestBody}

@@ -293,13 +293,17 @@ add_set_effect layout old number session capability text epoch reads low schema 
 -- a set more
 pub one_more : (mores news : List SetRow) (d e : Database) → Both (UnderStore (λ layout. AddsSets layout mores)) (UnderStore (λ layout. AddsSets layout news)) d e → UnderStore (λ layout. AddsSets layout (mores ++ news)) d e
 one_more mores news d e h layout schema =
-    let first = h.1 layout schema in
-    let second = h.2 layout first.schema in
-    record {
-      schema = second.schema;
-      kept = λ sets held. rw (← append_assoc sets mores news) (second.kept _ (first.kept sets held));
-      others = spares_then layout (set_tree layout) d.trees h.0.trees e.trees first.others second.others;
-    }
+    let begun = h.1 layout schema in
+    let first = begun.1 in
+    let ended = h.2 layout first.schema in
+    let second = ended.1 in (
+      λ sound. ended.0 (begun.0 sound),
+      record {
+        schema = second.schema;
+        kept = λ sets held. rw (← append_assoc sets mores news) (second.kept _ (first.kept sets held));
+        others = spares_then layout (set_tree layout) d.trees h.0.trees e.trees first.others second.others;
+      },
+    )
 
 -- the sets of one capability more
 pub sets_more : (session epoch i : ℕ) (done : List CapabilityValue) (capability : CapabilityValue) → new_sets session epoch i (done ++ capability ∷ []) ≡ new_sets session epoch i done ++ new_set (session * 100 + (i + length done)) session capability epoch ∷ []

@@ -1,10 +1,10 @@
 -- From what statements do to what the tables promise.
-use Rattle.std.proofs.Common.{◌≡◌, ◌<◌, ◌^◌, inl, inr, ℕ, Option, Some, None, List, [], ◌∷◌, ◌++◌, true, Result, Ok, Err, IsTrue, IfOk, IfErr, OnOk, refl, sym, ap, subst, ◌∙◌}
+use Rattle.std.proofs.Common.{◌≡◌, ◌<◌, ◌^◌, inl, inr, ℕ, List, [], ◌∷◌, ◌++◌, true, Result, Ok, Err, IsTrue, IfOk, IfErr, OnOk, refl, sym, ap, subst, ◌∙◌}
 use Rattle.std.specs.Prelude.{◌==◌, not, filter, if◌then◌else◌}
 use Rattle.std.specs.List.{AllByRecursion}
 use Rattle.std.proofs.lemmas.Bool.{cases_Bool}
 use Rattle.std.proofs.lemmas.List.Sorted.{IsPermutation-refl}
-use Rattle.sqlite.specs.Effect.{Database}
+use Rattle.sqlite.specs.Effect.{Database, IsDatabase}
 use Rattle.sqlite.specs.Held.{Held, state}
 use Rattle.sqlite.specs.Order.{Row}
 use Rattle.sqlite.specs.State.{State}
@@ -27,7 +27,6 @@ use Rattle.acvp_tables.specs.declared.rows.RequestRow.{RequestRow}
 use Rattle.acvp_tables.specs.declared.rows.RequestStatus.TheVariants as status
 use Rattle.acvp_tables.specs.declared.rows.RequestBody.{RequestBody}
 use Rattle.acvp_tables.specs.declared.rows.RequestBody.TheVariants as body
-use Rattle.acvp_tables.specs.declared.rows.ObjectRow.{ObjectRow}
 use Rattle.acvp_tables.specs.declared.change.Approval.{Approval}
 use Rattle.acvp_tables.specs.declared.rows.ReviewerRow.{ReviewerRow}
 use Rattle.acvp_tables.specs.declared.change.NewAccount.{NewAccount}
@@ -39,9 +38,10 @@ use Rattle.acvp_store.specs.Kept.{IsKept}
 use Rattle.acvp_store.specs.Rows.{account_tree, HoldsAccounts, session_tree, HoldsSessions}
 use Rattle.acvp_store.specs.Schema.{Layout, Created, no_schema, schema_of}
 use Rattle.acvp_store.specs.Stands.{Stands, set_tree, HoldsSets, HoldsObjects, IsKeepable, FitColumns, BodyReads, request_tree, HoldsRequests, reviewer_tree, HoldsReviewers}
-use Rattle.acvp_store.specs.Connection.{ServesStore, InStore, IsRead, IsWritten, Under, UnderStore, Both}
+use Rattle.acvp_store.specs.Connection.{ServesStore, InStore, IsRead, IsWritten, StaysSound, Under, UnderStore, Both}
 use Rattle.acvp_store.specs.Alters.{Alters}
-use Rattle.acvp_store.specs.Store.{may_fail, Begins, BecomesMigrated, stands, IsLive, is_clean, leaves}
+use Rattle.acvp_store.specs.Store.{may_fail, Begins, BecomesMigrated, IsStoreOf, stands, IsLive, is_clean, leaves}
+use Rattle.acvp_store.specs.Private.Found.{store_of}
 use Rattle.acvp_store.specs.Private.Objects.{Registers}
 use Rattle.acvp_store.proofs.Sound.{kinds_of}
 use Rattle.acvp_store.specs.Private.Creating.{Makes, WritesVersion, before}
@@ -53,7 +53,13 @@ use Rattle.acvp_store.proofs.Texts.{whole_schema, migrated_schema}
 -- ---- reads
 
 pub serves_read : {X E : Type 0} (r : Result X E) (old new : State) → ServesStore old → IsRead r old new → ServesStore new
-serves_read r old new serves h live = let was = (serves (h.stays.was_open live)).schema in record { ready = h.stays.settled live; schema = (was.0, ap (λ (d : Database). d.schema) (h.stays.now live) ∙ was.1) }
+serves_read r old new serves h live =
+    let was = serves (h.stays.was_open live) in
+    record {
+      ready = h.stays.settled live;
+      schema = (was.schema.0, ap (λ (d : Database). d.schema) (h.stays.now live) ∙ was.schema.1);
+      sound = subst IsDatabase (sym (h.stays.now live)) was.sound;
+    }
 
 module _ {S : Type 0} (g : Ghosts S) (a b : Held S) (serves : ServesStore (state g a)) (settled : (db : Trees) → IsTrue (state g a).is_open → (state g a).may_leave db → db ≡ (state g a).committed.trees) where
   pub reads : {X : Type 0} (r : Result X StoreFault) → IsRead r (state g a) (state g b) → Reads may_fail (stands g) (IsLive g) (is_clean g) (leaves g) r a b
@@ -63,13 +69,8 @@ module _ {S : Type 0} (g : Ghosts S) (a b : Held S) (serves : ServesStore (state
     was_clean = h.was_clean;
     live = lives r h;
     same = λ live c st. (st.0, same_schema live.is_open st.0 st.1, subst (λ (d : Database). Stands st.0 d.trees c) (sym (h.stays.now live.is_open)) st.2);
-    left = λ clean live c d st clean'. (
-      st.0,
-      λ now. same_schema now st.0 st.1,
-      λ db may.
-          inl (subst (λ t. Stands st.0 t c) (sym (settled db live.is_open (h.left clean db may) ∙ ap (λ (x : Database). x.trees) (sym (live.store.ready.settled)))) st.2),
-    );
-    kept = λ clean c d was clean'. let it = was (h.was_clean clean) in (it.0, λ now. same_schema now it.0 (it.1 (h.stays.was_open now)), λ db may. it.2 db (h.left clean db may));
+    left = λ clean live c d st clean' db may. inl (store_of st.0 (state g a).now db st.1 (sym (settled db live.is_open (h.left clean db may) ∙ ap (λ (x : Database). x.trees) (sym (live.store.ready.settled)))) live.store.sound c st.2);
+    kept = λ clean c d was clean' db may. was (h.was_clean clean) db (h.left clean db may);
   }
     where
       same_schema : IsTrue (state g b).is_open → (layout : Layout) → (state g a).now.schema ≡ schema_of layout → (state g b).now.schema ≡ schema_of layout
@@ -100,6 +101,7 @@ written_as (Ok x) old new P Q turns h = record {
   was_clean = h.was_clean;
   live = h.live;
   settled = h.settled;
+  limit = h.limit;
   ok = λ live. turns _ _ (h.ok live);
   err = tt;
   left_ok = λ clean live db may. let it = h.left_ok clean live db may in (it.0, it.1, turns _ _ it.2);
@@ -110,6 +112,7 @@ written_as (Err e) old new P Q turns h = record {
   was_clean = h.was_clean;
   live = tt;
   settled = h.settled;
+  limit = h.limit;
   ok = tt;
   err = h.err;
   left_ok = tt;
@@ -119,25 +122,30 @@ written_as (Err e) old new P Q turns h = record {
 -- the tables are the store's after a change that keeps the schema
 pub serves_written : {X E : Type 0} (r : Result X E) (old new : State) (Change : Layout → Database → Database → Type 0) → ServesStore old → ((layout : Layout) (d e : Database) → Change layout d e → e.schema ≡ schema_of layout)
     → IsWritten r old new (UnderStore Change) → ServesStore new
-serves_written (Ok x) old new Change serves keeps h live = let was = (serves (h.was_open live)).schema in record { ready = h.settled live; schema = (was.0, keeps was.0 _ _ (h.ok live was.0 was.1)) }
-serves_written (Err e) old new Change serves keeps h live = let was = (serves (h.was_open live)).schema in record { ready = h.settled live; schema = (was.0, ap (λ (d : Database). d.schema) (h.err live) ∙ was.1) }
+serves_written (Ok x) old new Change serves keeps h live =
+    let was = serves (h.was_open live) in
+    let made = h.ok live was.schema.0 was.schema.1 in
+    record { ready = h.settled live; schema = (was.schema.0, keeps was.schema.0 _ _ made.1); sound = made.0 was.sound }
+serves_written (Err e) old new Change serves keeps h live =
+    let was = serves (h.was_open live) in
+    record { ready = h.settled live; schema = (was.schema.0, ap (λ (d : Database). d.schema) (h.err live) ∙ was.schema.1); sound = subst IsDatabase (sym (h.err live)) was.sound }
 
 module _ {S : Type 0} (g : Ghosts S) (a b : Held S) (Change : Layout → Database → Database → Type 0) (change : Content → Content) (serves : ServesStore (state g a)) (keeps : (layout : Layout) (d e : Database) → Change layout d e → e.schema ≡ schema_of layout)
     (turns : (layout : Layout) (d e : Database) → Change layout d e → (c : Content) → IsSound c → Stands layout d.trees c → Stands layout e.trees (change c)) where
+  -- a database with the change is a store's, with the changed content
+  made : (live : IsLive g a) (c : Content) → IsSound c → (st : stands g a c) (after : Database) (db : Trees) → after.trees ≡ db → StaysSound (state g a).now after × Change st.0 (state g a).now after → IsStoreOf db (change c)
+  made live c sound st after db trees it = store_of st.0 after db (keeps st.0 _ _ it.1) trees (it.0 live.store.sound) (change c) (turns st.0 _ _ it.1 c sound st.2)
+
   pub changes_sound : {X : Type 0} (r : Result X StoreFault) → IsWritten r (state g a) (state g b) (UnderStore Change) → Changes IsSound may_fail (stands g) (IsLive g) (is_clean g) (leaves g) r a b change
   changes_sound (Ok x) h = record {
     fault = tt;
     was_live = λ live. record { is_open = h.was_open live.is_open; store = serves (h.was_open live.is_open) };
     was_clean = h.was_clean;
     live = λ clean live. let now = h.live clean live.is_open in record { is_open = now; store = serves_written (Ok x) (state g a) (state g b) Change serves keeps h now };
-    ok = λ live c sound st. let it = h.ok live.is_open st.0 st.1 in (st.0, keeps st.0 _ _ it, turns st.0 _ _ it c sound st.2);
+    ok = λ live c sound st. let it = (h.ok live.is_open st.0 st.1).1 in (st.0, keeps st.0 _ _ it, turns st.0 _ _ it c sound st.2);
     err = tt;
-    settled = λ clean live c d sound st clean'. (
-      st.0,
-      λ now. keeps st.0 _ _ (h.ok now st.0 st.1),
-      λ db may. let it = h.left_ok clean live.is_open db may in
-          inl (subst (λ t. Stands st.0 t (change c)) it.1 (turns st.0 _ _ (it.2 st.0 st.1) c sound st.2)),
-    );
+    settled = λ clean live c d sound st clean' db may. let it = h.left_ok clean live.is_open db may in
+        inl (made live c sound st it.0 db it.1 (it.2 st.0 st.1));
     unsettled = tt;
   }
   changes_sound (Err e) h = record {
@@ -148,14 +156,10 @@ module _ {S : Type 0} (g : Ghosts S) (a b : Held S) (Change : Layout → Databas
     ok = tt;
     err = λ live c st. (st.0, ap (λ (d : Database). d.schema) (h.err live.is_open) ∙ st.1, subst (λ (d : Database). Stands st.0 d.trees c) (sym (h.err live.is_open)) st.2);
     settled = tt;
-    unsettled = λ clean live c sound st clean'. (
-      st.0,
-      λ now. ap (λ (d : Database). d.schema) (h.err now) ∙ st.1,
-      λ db may. elim (h.left_err clean live.is_open db may) [
-        | inl was ↦ inl (subst (λ t. Stands st.0 t c) (sym was) st.2)
-        | inr it ↦ inr (subst (λ t. Stands st.0 t (change c)) it.1 (turns st.0 _ _ (it.2 st.0 st.1) c sound st.2))
-      ],
-    );
+    unsettled = λ clean live c sound st clean' db may. elim (h.left_err clean live.is_open db may) [
+      | inl was ↦ inl (store_of st.0 (state g a).now db st.1 (sym was) live.store.sound c st.2)
+      | inr it ↦ inr (made live c sound st it.0 db it.1 (it.2 st.0 st.1))
+    ];
   }
 
 -- of whichever content
@@ -167,7 +171,10 @@ module _ {S : Type 0} (g : Ghosts S) (a b : Held S) (Change : Layout → Databas
 -- the tables are the store's after the first of two parts
 both_under : (First Second : Layout → Database → Database → Type 0) → ((layout : Layout) (d e : Database) → First layout d e → e.schema ≡ schema_of layout)
     → (d e : Database) → Both (UnderStore First) (UnderStore Second) d e → UnderStore (λ layout. Both (First layout) (Second layout)) d e
-both_under First Second keeps d e h layout schema = let first = h.1 layout schema in (h.0, first, h.2 layout (keeps layout d h.0 first))
+both_under First Second keeps d e h layout schema =
+    let first = h.1 layout schema in
+    let second = h.2 layout (keeps layout d h.0 first.1) in
+    (λ sound. second.0 (first.0 sound), (h.0, first.1, second.1))
 
 module _ {S : Type 0} (g : Ghosts S) (a b : Held S) (First Second : Layout → Database → Database → Type 0) (change : Content → Content) (serves : ServesStore (state g a))
     (keeps_first : (layout : Layout) (d e : Database) → First layout d e → e.schema ≡ schema_of layout) (keeps : (layout : Layout) (d e : Database) → Second layout d e → e.schema ≡ schema_of layout)
@@ -393,37 +400,47 @@ MakesAll = Both (Under (before table.Meta) (Makes table.Meta)) (Both (Under (bef
     (Both (Under (before table.Set) (Makes table.Set)) (Both (Under (before table.Object) (Makes table.Object)) (Both (Under (before table.Request) (Makes table.Request))
     (Both (Under (before table.Reviewer) (Makes table.Reviewer)) (Under (schema_of Created) (WritesVersion 3))))))))
 
-pub begins : (old new : Database) → MakesAll old new → old.schema ≡ no_schema → Begins old new
+pub begins : (old new : Database) → MakesAll old new → Under no_schema Begins old new
 begins old new h start =
-    let m1 = h.1 start in
-    let m2 = h.2.1 m1.schema in
-    let m3 = h.2.2.1 m2.schema in
-    let m4 = h.2.2.2.1 m3.schema in
-    let m5 = h.2.2.2.2.1 m4.schema in
-    let m6 = h.2.2.2.2.2.1 m5.schema in
-    let m7 = h.2.2.2.2.2.2.1 m6.schema in
-    let v = h.2.2.2.2.2.2.2 (m7.schema ∙ whole_schema) in
+    let d1 = h.1 start in
+    let m1 = d1.1 in
+    let d2 = h.2.1 m1.schema in
+    let m2 = d2.1 in
+    let d3 = h.2.2.1 m2.schema in
+    let m3 = d3.1 in
+    let d4 = h.2.2.2.1 m3.schema in
+    let m4 = d4.1 in
+    let d5 = h.2.2.2.2.1 m4.schema in
+    let m5 = d5.1 in
+    let d6 = h.2.2.2.2.2.1 m5.schema in
+    let m6 = d6.1 in
+    let d7 = h.2.2.2.2.2.2.1 m6.schema in
+    let m7 = d7.1 in
+    let d8 = h.2.2.2.2.2.2.2 (m7.schema ∙ whole_schema) in
+    let v = d8.1 in
     let meta = m7.others.0 ∙ m6.others.0 ∙ m5.others.0 ∙ m4.others.0 ∙ m3.others.0 ∙ m2.others.0 ∙ m1.empty in
     let accounts = v.others.1.0 (apart 2 0 refl) ∙ m7.others.1.0 ∙ m6.others.1.0 ∙ m5.others.1.0 ∙ m4.others.1.0 ∙ m3.others.1.0 ∙ m2.empty in
     let sessions = v.others.1.1.0 (apart 3 0 refl) ∙ m7.others.1.1.0 ∙ m6.others.1.1.0 ∙ m5.others.1.1.0 ∙ m4.others.1.1.0 ∙ m3.empty in
     let sets = v.others.1.1.1.0 (apart 4 0 refl) ∙ m7.others.1.1.1.0 ∙ m6.others.1.1.1.0 ∙ m5.others.1.1.1.0 ∙ m4.empty in
     let objects = v.others.1.1.1.1.0 (apart 5 0 refl) ∙ m7.others.1.1.1.1.0 ∙ m6.others.1.1.1.1.0 ∙ m5.empty in
     let requests = v.others.1.1.1.1.1.0 (apart 7 0 refl) ∙ m7.others.1.1.1.1.1.0 ∙ m6.empty in
-    let reviewers = v.others.1.1.1.1.1.1.0 (apart 8 0 refl) ∙ m7.empty in
-    record {
-      schema = v.schema;
-      stands = record {
-        version = v.written meta;
-        accounts = kept_none _ _ _ accounts;
-        sessions = kept_none _ _ _ sessions;
-        sets = record { columns = []; kept = kept_none _ _ _ sets; same = tt };
-        no_old_sets = tt;
-        objects = record { entries = []; rows_are = objects; rising = tt; same = IsPermutation-refl [] };
-        object_numbers = tt;
-        requests = record { kept = kept_none _ _ _ requests; texts = tt };
-        reviewers = record { kept = record { entries = []; rows_are = reviewers; rising = tt; same = IsPermutation-refl [] }; fits = tt };
-      };
-    }
+    let reviewers = v.others.1.1.1.1.1.1.0 (apart 8 0 refl) ∙ m7.empty in (
+      λ sound. d8.0 (d7.0 (d6.0 (d5.0 (d4.0 (d3.0 (d2.0 (d1.0 sound))))))),
+      record {
+        schema = v.schema;
+        stands = record {
+          version = v.written meta;
+          accounts = kept_none _ _ _ accounts;
+          sessions = kept_none _ _ _ sessions;
+          sets = record { columns = []; kept = kept_none _ _ _ sets; same = tt };
+          no_old_sets = tt;
+          objects = record { entries = []; rows_are = objects; rising = tt; same = IsPermutation-refl [] };
+          object_numbers = tt;
+          requests = record { kept = kept_none _ _ _ requests; texts = tt };
+          reviewers = record { kept = record { entries = []; rows_are = reviewers; rising = tt; same = IsPermutation-refl [] }; fits = tt };
+        };
+      },
+    )
 
 -- the same of those that make the tables as they lie where those of the first schema were there before them
 abbrev pub MakesMigrated : Database → Database → Type 0
@@ -431,14 +448,14 @@ MakesMigrated = Both (Under (before table.Meta) (Makes table.Meta)) (Both (Under
     (Both (Under (before table.OldSet) (Makes table.OldSet)) (Both (Under (before table.LaterObject) (Makes table.LaterObject)) (Both (Under (before table.LaterRequest) (Makes table.LaterRequest))
     (Both (Under (before table.LaterSet) (Makes table.LaterSet)) (Under (before table.LaterReviewer) (Makes table.LaterReviewer))))))))
 
-pub becomes_migrated : (old new : Database) → MakesMigrated old new → old.schema ≡ no_schema → BecomesMigrated old new
+pub becomes_migrated : (old new : Database) → MakesMigrated old new → Under no_schema BecomesMigrated old new
 becomes_migrated old new h start =
-    let m1 = h.1 start in
-    let m2 = h.2.1 m1.schema in
-    let m3 = h.2.2.1 m2.schema in
-    let m4 = h.2.2.2.1 m3.schema in
-    let m5 = h.2.2.2.2.1 m4.schema in
-    let m6 = h.2.2.2.2.2.1 m5.schema in
-    let m7 = h.2.2.2.2.2.2.1 m6.schema in
-    let m8 = h.2.2.2.2.2.2.2 m7.schema in
-    m8.schema ∙ migrated_schema
+    let d1 = h.1 start in
+    let d2 = h.2.1 d1.1.schema in
+    let d3 = h.2.2.1 d2.1.schema in
+    let d4 = h.2.2.2.1 d3.1.schema in
+    let d5 = h.2.2.2.2.1 d4.1.schema in
+    let d6 = h.2.2.2.2.2.1 d5.1.schema in
+    let d7 = h.2.2.2.2.2.2.1 d6.1.schema in
+    let d8 = h.2.2.2.2.2.2.2 d7.1.schema in
+    (λ sound. d8.0 (d7.0 (d6.0 (d5.0 (d4.0 (d3.0 (d2.0 (d1.0 sound))))))), d8.1.schema ∙ migrated_schema)

@@ -41,7 +41,7 @@ module _ (schema : Schema) (sql : List ℕ) (params : Row) (old new : State) (cl
       → IsTrue old.is_open → IsTrue old.in_transaction → HasCleanDisk new → IsTrue new.is_open × IsTrue new.in_transaction × Under schema Effect old.now new.now
   did count runs was on sure =
       let h = runs sure on in
-      (h.1.is_open, h.1.mode, λ has. let w = writes count (runs_as sql params old new schema has command is plain count h.0) in effect has w.tally new.now w.changed)
+      (h.1.is_open, h.1.mode, λ has. let w = writes count (runs_as sql params old new schema has command is plain count h.0) in (λ _. w.sound, effect has w.tally new.now w.changed))
 
   pub inside : (r : Result ℕ Error) → (HasCleanDisk new → IsTrue old.in_transaction → ExecutesInside 0 sql params old new r) → (old.in_transaction ≡ false → new ≡ old) → Survives old new (λ _. ⊥) → IsInside r old new (Under schema Effect)
   inside r runs ended survives = record { kept = kept; ok = ok r runs; survives = survives }
@@ -132,6 +132,7 @@ module _ (old begun last new : State) (begins : begun ≡ record old { in_transa
         was_clean = λ sure. clean_before old.is_clean last.is_clean (survives_so (Err f) h).clean (clean_before last.is_clean new.is_clean gone.clean sure);
         live = tt;
         settled = stays.settled;
+        limit = gone.limit ∙ (survives_so (Err f) h).limit;
         ok = tt;
         err = stays.now;
         left_ok = tt;
@@ -157,6 +158,7 @@ module _ (old begun last new : State) (begins : begun ≡ record old { in_transa
           was_clean = sure_old;
           live = tt;
           settled = stays.settled;
+          limit = gone.limit ∙ (survives_so (Ok y) h).limit;
           ok = tt;
           err = stays.now;
           left_ok = tt;
@@ -183,6 +185,7 @@ module _ (old begun last new : State) (begins : begun ≡ record old { in_transa
           was_clean = sure_old;
           live = λ sure live. (shown sure).is_open;
           settled = λ live. let s = shown (clean live) in record { settled = s.now_is ∙ sym s.committed_is; autocommit = s.mode };
+          limit = gone.limit ∙ (survives_so (Ok y) h).limit;
           ok = λ live. subst (Change old.now) (sym (shown (clean live)).now_is) (made_so y h (was live) (sure_last (clean live))).2;
           err = tt;
           left_ok = λ sure live db may.

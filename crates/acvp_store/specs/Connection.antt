@@ -1,6 +1,6 @@
 -- What a call leaves of a connection, and what a crash at its end leaves of the store.
 use Rattle.std.specs.Prelude.{◌≡◌, ◌⊎◌, false, Result, OnOk, OnErr, IsTrue}
-use Rattle.sqlite.specs.Effect.{Database}
+use Rattle.sqlite.specs.Effect.{Database, IsDatabase}
 use Rattle.sqlite.specs.State.{State, HasCleanDisk, Survives}
 use Rattle.sqlite_schema.specs.declared.schema.Schema.{Schema}
 use Rattle.sqlite_trees.specs.Tree.{Trees}
@@ -15,10 +15,11 @@ pub record IsSettled (s : State) : Type 0 where
 abbrev pub IsReady : State → Type 0
 IsReady s = IsTrue s.is_open → IsSettled s
 
--- a connection to the store's tables that is settled
+-- a connection to the store's tables that is settled; the trees list these tables, and obey their schema
 pub record IsStore (s : State) : Type 0 where
   pub ready : IsSettled s
   pub schema : IsStoreSchema s.now.schema
+  pub sound : IsDatabase s.now
 
 -- an open connection is to the store's tables
 abbrev pub ServesStore : State → Type 0
@@ -30,11 +31,14 @@ pub record Stays (old new : State) : Type 0 where
   pub now : IsTrue new.is_open → new.now ≡ old.now
   pub settled : IsTrue new.is_open → IsSettled new
 
--- handed back as it was: the same rows, nothing more committed, and a transaction under way exactly where one was
+-- handed back as it was: it was open, and there are the same rows, nothing more is committed, a transaction is under way exactly
+-- where one was, and the limit on steps is the same
 pub record IsHandedBack (old new : State) : Type 0 where
+  pub was_open : IsTrue old.is_open
   pub now : new.now ≡ old.now
   pub committed : new.committed ≡ old.committed
   pub in_transaction : new.in_transaction ≡ old.in_transaction
+  pub limit : new.step_limit ≡ old.step_limit
 
 -- after a crash an open finds nothing that it wouldn't have found before the call
 abbrev pub LeavesNoMore : State → State → Type 0
@@ -53,6 +57,7 @@ pub record IsRead {X E : Type 0} (result : Result X E) (old new : State) : Type 
   pub stays : Stays old new
   pub was_clean : HasCleanDisk new → HasCleanDisk old
   pub live : OnOk result (HasCleanDisk new → IsTrue old.is_open × IsTrue new.is_open)
+  pub limit : new.step_limit ≡ old.step_limit
   pub left : LeavesNoMore old new
 
 -- a change that is made whole or not at all
@@ -61,6 +66,7 @@ pub record IsWritten {X E : Type 0} (result : Result X E) (old new : State) (Cha
   pub was_clean : HasCleanDisk new → HasCleanDisk old
   pub live : OnOk result (HasCleanDisk new → IsTrue old.is_open → IsTrue new.is_open)
   pub settled : IsReady new
+  pub limit : new.step_limit ≡ old.step_limit
   pub ok : OnOk result (IsTrue new.is_open → Change old.now new.now)
   pub err : OnErr result (IsTrue new.is_open → new.now ≡ old.now)
   pub left_ok : OnOk result (LeavesSo old new (IsAfter Change old.now))
@@ -81,9 +87,13 @@ pub record IsInside {X E : Type 0} (result : Result X E) (old new : State) (Chan
 
 -- ---- changes
 
+-- the trees go on listing the schema, and obeying it
+abbrev pub StaysSound : Database → Database → Type 0
+StaysSound old new = IsDatabase old → IsDatabase new
+
 -- what a change makes of a database with this schema
 abbrev pub Under : Schema → (Database → Database → Type 0) → Database → Database → Type 0
-Under schema Change old new = old.schema ≡ schema → Change old new
+Under schema Change old new = old.schema ≡ schema → StaysSound old new × Change old new
 
 -- what is so of a database with the store's tables, whichever way they lie
 abbrev pub InStore : Database → (Layout → Type 0) → Type 0
@@ -91,7 +101,7 @@ InStore db P = (layout : Layout) → db.schema ≡ schema_of layout → P layout
 
 -- what a change makes of such a database
 abbrev pub UnderStore : (Layout → Database → Database → Type 0) → Database → Database → Type 0
-UnderStore Change old new = InStore old (λ layout. Change layout old new)
+UnderStore Change old new = InStore old (λ layout. StaysSound old new × Change layout old new)
 
 -- one change, and then another
 abbrev pub Both : (Database → Database → Type 0) → (Database → Database → Type 0) → Database → Database → Type 0

@@ -1,11 +1,10 @@
 -- What a migration makes of the tables of an earlier schema.
 use Rattle.std.specs.Prelude.{◌≡◌, IsTrue}
-use Rattle.sqlite.specs.Effect.{Database}
+use Rattle.sqlite.specs.Effect.{Database, IsDatabase}
 use Rattle.sqlite.specs.State.{State}
 use Rattle.sqlite_trees.specs.Tree.{Trees}
 use Rattle.acvp_tables.specs.Content.{Content}
 use Rattle.acvp_store.specs.Adopted.{HasVersion}
-use Rattle.acvp_store.specs.Connection.{IsAfter}
 use Rattle.acvp_store.specs.Schema.{Layout, Migrated, SchemaVersion, First, Second, Third, schema_at, schema_of, version_number}
 use Rattle.acvp_store.specs.Stands.{StandsAt, Stands, HasNoOldSetsAt}
 
@@ -42,6 +41,11 @@ pub record IsMigrated (old new : State) : Type 0 where
   pub was : IsOf from old.now
   pub turned : Migrates from old.now new.now
 
--- these are the trees of a database that was so migrated
-abbrev pub IsAfterMigration : Database → Trees → Type 0
-IsAfterMigration old db = (from : SchemaVersion) × IsOf from old × IsAfter (Migrates from) old db
+-- these are the trees of a database that was so migrated, which list its schema and obey it
+pub record IsAfterMigration (old : Database) (db : Trees) : Type 0 where
+  pub from : SchemaVersion
+  pub was : IsOf from old
+  pub after : Database
+  pub trees : after.trees ≡ db
+  pub sound : IsDatabase after
+  pub turned : Migrates from old after

@@ -7,4 +7,5 @@ pub mod Pages
 pub mod Summaries
 pub mod Bare
 pub mod Clean
+pub mod Found
 pub mod Migration

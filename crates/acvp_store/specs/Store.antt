@@ -7,9 +7,10 @@ use Rattle.sqlite_trees.specs.Tree.{Trees}
 use Rattle.acvp_tables.specs.Content.{Content, no_rows}
 use Rattle.acvp_tables.specs.declared.tables.StoreFault.{StoreFault}
 use Rattle.acvp_store.specs.Connection.{IsStore}
-use Rattle.acvp_store.specs.Schema.{Layout, Created, Migrated, schema_of}
-use Rattle.acvp_store.specs.Stands.{Stands}
+use Rattle.acvp_store.specs.Schema.{Layout, Created, Migrated, schema_of, SchemaVersion, Third, schema_at}
+use Rattle.acvp_store.specs.Stands.{StandsAt, Stands}
 use Rattle.sqlite.specs.Effect.{Database}
+use Rattle.sqlite_catalog.specs.Listing.{IsSound}
 
 -- a call may be Refused, or find no memory
 abbrev pub may_fail : StoreFault → Type 0
@@ -24,12 +25,26 @@ pub record Begins (old new : Database) : Type 0 where
 abbrev pub BecomesMigrated : Database → Database → Type 0
 BecomesMigrated old new = new.schema ≡ schema_of Migrated
 
+-- The trees of a database of a version with the content: they list the tables of the version, and obey their schema, and
+-- the rows stand for the content.
+pub record IsStoreAt (version : SchemaVersion) (db : Trees) (c : Content) : Type 0 where
+  pub sound : IsSound (schema_at version) db
+  pub stands : StandsAt version db c
+
+-- the same of schema 3, in one of the two ways
+abbrev pub IsStoreOf : Trees → Content → Type 0
+IsStoreOf db c = (layout : Layout) × IsStoreAt (Third layout) db c
+
+-- each content stands in the tables of its version, as in the earlier trees, or in those of schema 3
+abbrev pub IsOldOrMigrated : Trees → Trees → Type 0
+IsOldOrMigrated old db = (version : SchemaVersion) (c : Content) → IsStoreAt version old c → IsStoreAt version db c ⊎ IsStoreOf db c
+
 module _ {S : Type 0} (g : Ghosts S) where
   -- the tables are the store's, and their rows stand for the content
   abbrev pub stands : Held S → Content → Type 0
   stands t c = (layout : Layout) × ((state g t).now.schema ≡ schema_of layout) × Stands layout (state g t).now.trees c
 
-  -- the connection is open and nothing in it waits to be committed; its tables are the store's
+  -- the connection is open and nothing in it waits to be committed; its tables are the store's, which the trees list and obey
   pub record IsLive (t : Held S) : Type 0 where
     pub is_open : IsTrue (state g t).is_open
     pub store : IsStore (state g t)
@@ -37,7 +52,6 @@ module _ {S : Type 0} (g : Ghosts S) where
   abbrev pub is_clean : Held S → Type 0
   is_clean t = HasCleanDisk (state g t)
 
-  -- whatever an open finds after a crash stands for one of the two, in tables that lie as those of the store do
+  -- while the disk tells no lie, whatever an open finds after a crash is a store's database with one of the two
   abbrev pub leaves : Held S → Content → Content → Type 0
-  leaves t c d = HasCleanDisk (state g t) → (layout : Layout) × (IsTrue (state g t).is_open → (state g t).now.schema ≡ schema_of layout)
-      × ((db : Trees) → (state g t).may_leave db → Stands layout db c ⊎ Stands layout db d)
+  leaves t c d = HasCleanDisk (state g t) → (db : Trees) → (state g t).may_leave db → IsStoreOf db c ⊎ IsStoreOf db d

@@ -1,5 +1,5 @@
 //! What the errors of statements are told as.
-ghost use Rattle.std.specs.Prelude.{◌≢◌, IsOk};
+ghost use Rattle.std.specs.Prelude.{◌≡◌, ◌≢◌, IsOk};
 
 use acvp_tables::StoreFault;
 use sqlite::{Error, ErrorCode};
@@ -19,7 +19,9 @@ pub enum AdoptFault {
 
 /// A call's fault, of a database whose tables may well be the store's.
 pub(crate) fn adopt_fault(fault: StoreFault) -> AdoptFault
-    ensures { result ≢ AdoptFault.Schema }
+    ensures refused { fault ≡ StoreFault.Refused → result ≡ AdoptFault.Refused }
+    ensures memory { fault ≡ StoreFault.Memory → result ≡ AdoptFault.Memory }
+    ensures other { result ≢ AdoptFault.Schema }
 {
     match fault {
         StoreFault::Refused => AdoptFault::Refused,
@@ -28,7 +30,10 @@ pub(crate) fn adopt_fault(fault: StoreFault) -> AdoptFault
 }
 
 /// Memory where memory ran out, else Refused.
-pub(crate) fn fault_of(error: Error) -> StoreFault {
+pub(crate) fn fault_of(error: Error) -> StoreFault
+    ensures memory { error ≡ Error.SqliteFailure ErrorCode.OutOfMemory → result ≡ StoreFault.Memory }
+    ensures refused { error ≢ Error.SqliteFailure ErrorCode.OutOfMemory → result ≡ StoreFault.Refused }
+{
     match error {
         Error::SqliteFailure(ErrorCode::OutOfMemory) => StoreFault::Memory,
         _ => StoreFault::Refused,

@@ -1,20 +1,21 @@
 //! The records in SQL tables.
 ghost use Rattle.std.specs.Prelude.{◌≡◌, ◌↔◌, ◌⊎◌, IsTrue, IfOk, IfErr, MatchResult};
+ghost use Rattle.sqlite.specs.Effect.{IsDatabase};
 ghost use Rattle.sqlite.specs.Held.{state};
 ghost use Rattle.sqlite.specs.State.{HasCleanDisk};
 ghost use Rattle.sqlite.specs.Steps.{over_memory};
 ghost use Rattle.acvp_store.specs.Adopted.{HasVersion, IsAdopted, IsOurs};
 ghost use Rattle.acvp_tables.specs.Calls.{Changes};
-ghost use Rattle.acvp_tables.specs.Content.{no_rows};
+ghost use Rattle.acvp_tables.specs.Content.{Content, no_rows};
 ghost use Rattle.acvp_tables.specs.Changes.{after, after_order};
 ghost use Rattle.acvp_tables.specs.State.{IsSound};
 ghost use Rattle.acvp_tables.specs.declared.change.Change.TheVariants as change;
 ghost use Rattle.acvp_tables.specs.declared.change.OrderChange.TheVariants as order;
 ghost use Rattle.acvp_store.specs.Connection.{IsSettled, IsReady, IsHandedBack, ServesStore, IsWritten, LeavesNoMore, LeavesSo, Under};
 ghost use Rattle.acvp_store.specs.Migrated.{IsKnown, IsMigrated, IsAfterMigration, IsOf, Turns};
-ghost use Rattle.acvp_store.specs.Schema.{Created, Migrated, no_schema, schema_of, schema_at};
+ghost use Rattle.acvp_store.specs.Schema.{Created, Migrated, no_schema, schema_of, SchemaVersion, schema_at};
 ghost use Rattle.acvp_store.specs.Private.Migration.{version_of, IsEarlierOf};
-ghost use Rattle.acvp_store.specs.Store.{may_fail, Begins, BecomesMigrated, stands, IsLive, is_clean, leaves};
+ghost use Rattle.acvp_store.specs.Store.{may_fail, Begins, BecomesMigrated, IsStoreAt, IsStoreOf, IsOldOrMigrated, stands, IsLive, is_clean, leaves};
 
 use crate::accounts::{DisabledAccount, find_account};
 use crate::counts::find_counts;
@@ -68,7 +69,8 @@ impl<S: Alter> Model for SqlTables<S> {
 
 /// Whether the database has no table, no index and no view.
 fn is_empty<S: Alter>(connection: &Connection<S>) -> bool
-    ensures { IsTrue result → (state S.Store connection.now).now.schema ≡ no_schema }
+    ensures empty { IsTrue result → (state S.Store connection.now).now.schema ≡ no_schema }
+    ensures sound { IsTrue (state S.Store connection.now).is_open → IsDatabase (state S.Store connection.now).now }
 {
     let schema = connection.schema();
     schema.tables.as_slice().is_empty()
@@ -120,6 +122,7 @@ pub fn create<S: Alter>(
     ensures fresh { IfOk result (λ t. (state S.Store connection).now.schema ≡ no_schema) }
     ensures live { IfOk result (λ t. HasCleanDisk (state S.Store t) → IsTrue (state S.Store connection).is_open → IsLive S.Store t) }
     ensures unchanged { IfErr result (λ e. IsTrue (state S.Store e.0).is_open → IsHandedBack (state S.Store connection) (state S.Store e.0)) }
+    ensures limit { IfOk result (λ t. (state S.Store t).step_limit ≡ (state S.Store connection).step_limit) }
 {
     if !connection.is_autocommit() {
         return Err((connection, StoreFault::Refused));
@@ -193,7 +196,8 @@ pub(crate) fn migrated_in_memory(alloc: Global) -> Result<Connection<MemStore>, 
 
 /// Whether the tables of a database are the store's, as `create` makes them.
 fn is_created<S: Alter>(alloc: Global, connection: &Connection<S>) -> Result<bool, StoreFault>
-    ensures { IfOk result (λ has. IsTrue has ↔ ((state S.Store connection.now).now.schema ≡ schema_of Created)) }
+    ensures same { IfOk result (λ has. IsTrue has ↔ ((state S.Store connection.now).now.schema ≡ schema_of Created)) }
+    ensures sound { IfOk result (λ has. IsTrue (state S.Store connection.now).is_open → IsDatabase (state S.Store connection.now).now) }
 {
     let ours = created_in_memory(alloc)?;
     match same_schema(alloc, connection.schema(), ours.schema()) {
@@ -222,7 +226,9 @@ fn adopt_named<S: Alter>(
     ensures named { IfOk result (λ t. IsTrue (state S.Store t).is_open → IsTrue (state S.Store connection).is_open × HasVersion 3 (state S.Store connection).now.trees × ((state S.Store t).now ≡ (state S.Store connection).now)) }
     ensures live { IfOk result (λ t. HasCleanDisk (state S.Store t) → HasCleanDisk (state S.Store connection) × IsTrue (state S.Store connection).is_open × IsLive S.Store t) }
     ensures schema { IfErr result (λ e. e.1 ≡ AdoptFault.Schema → IsTrue (state S.Store e.0).is_open → IsTrue (state S.Store connection).is_open × ¬ HasVersion 3 (state S.Store connection).now.trees) }
-    ensures unchanged { IfErr result (λ e. IsTrue (state S.Store e.0).is_open → IsTrue (state S.Store connection).is_open × IsHandedBack (state S.Store connection) (state S.Store e.0)) }
+    ensures open { IfErr result (λ e. e.1 ≡ AdoptFault.Schema → HasCleanDisk (state S.Store e.0) → IsTrue (state S.Store connection).is_open → IsTrue (state S.Store e.0).is_open) }
+    ensures unchanged { IfErr result (λ e. IsTrue (state S.Store e.0).is_open → IsHandedBack (state S.Store connection) (state S.Store e.0)) }
+    ensures limit { IfOk result (λ t. (state S.Store t).step_limit ≡ (state S.Store connection).step_limit) }
     ensures left { MatchResult result (λ t. LeavesNoMore (state S.Store connection) (state S.Store t)) (λ e. LeavesNoMore (state S.Store connection) (state S.Store e.0)) }
     ensures was_clean { IfErr result (λ e. HasCleanDisk (state S.Store e.0) → HasCleanDisk (state S.Store connection)) }
 {
@@ -239,11 +245,13 @@ fn adopt_migrated<S: Alter>(
     alloc: Global,
     mut connection: Connection<S>,
 ) -> Result<SqlTables<S>, (Connection<S>, AdoptFault)>
-    requires { IsTrue (state S.Store connection).is_open → IsSettled (state S.Store connection) × ((state S.Store connection).now.schema ≡ schema_of Migrated) }
+    requires { IsTrue (state S.Store connection).is_open → IsSettled (state S.Store connection) × ((state S.Store connection).now.schema ≡ schema_of Migrated) × IsDatabase (state S.Store connection).now }
     ensures adopted { IfOk result (λ t. IsTrue (state S.Store t).is_open → IsAdopted (state S.Store connection) (state S.Store t)) }
     ensures live { IfOk result (λ t. HasCleanDisk (state S.Store t) → IsTrue (state S.Store connection).is_open × IsLive S.Store t) }
     ensures schema { IfErr result (λ e. e.1 ≡ AdoptFault.Schema → IsTrue (state S.Store e.0).is_open → ¬ IsOurs (state S.Store connection).now) }
+    ensures open { IfErr result (λ e. e.1 ≡ AdoptFault.Schema → HasCleanDisk (state S.Store e.0) → IsTrue (state S.Store connection).is_open → IsTrue (state S.Store e.0).is_open) }
     ensures unchanged { IfErr result (λ e. IsTrue (state S.Store e.0).is_open → IsHandedBack (state S.Store connection) (state S.Store e.0)) }
+    ensures limit { IfOk result (λ t. (state S.Store t).step_limit ≡ (state S.Store connection).step_limit) }
     ensures left { MatchResult result (λ t. LeavesNoMore (state S.Store connection) (state S.Store t)) (λ e. LeavesNoMore (state S.Store connection) (state S.Store e.0)) }
 {
     match has_old_sets(&mut connection) {
@@ -262,9 +270,13 @@ pub fn adopt<S: Alter>(
     connection: Connection<S>,
 ) -> Result<SqlTables<S>, (Connection<S>, AdoptFault)>
     ensures adopted { IfOk result (λ t. IsTrue (state S.Store t).is_open → IsAdopted (state S.Store connection) (state S.Store t)) }
+    ensures found { IfOk result (λ t. IsTrue (state S.Store t).is_open → (c : Content) → IsStoreOf (state S.Store connection).now.trees c → stands S.Store t c) }
     ensures live { IfOk result (λ t. HasCleanDisk (state S.Store t) → IsTrue (state S.Store connection).is_open × IsLive S.Store t) }
     ensures schema { IfErr result (λ e. e.1 ≡ AdoptFault.Schema → IsTrue (state S.Store e.0).is_open → ¬ IsOurs (state S.Store connection).now) }
+    ensures open { IfErr result (λ e. e.1 ≡ AdoptFault.Schema → HasCleanDisk (state S.Store e.0) → IsTrue (state S.Store connection).is_open → IsTrue (state S.Store e.0).is_open) }
+    ensures recognized { IfErr result (λ e. e.1 ≡ AdoptFault.Schema → IsTrue (state S.Store e.0).is_open → (c : Content) → ¬ IsStoreOf (state S.Store connection).now.trees c) }
     ensures unchanged { IfErr result (λ e. IsTrue (state S.Store e.0).is_open → IsHandedBack (state S.Store connection) (state S.Store e.0)) }
+    ensures limit { IfOk result (λ t. (state S.Store t).step_limit ≡ (state S.Store connection).step_limit) }
     ensures left { MatchResult result (λ t. LeavesNoMore (state S.Store connection) (state S.Store t)) (λ e. LeavesNoMore (state S.Store connection) (state S.Store e.0)) }
 {
     if !connection.is_autocommit() {
@@ -287,7 +299,8 @@ fn earlier_of<S: Alter>(
     alloc: Global,
     connection: &Connection<S>,
 ) -> Result<Option<Earlier>, StoreFault>
-    ensures { IfOk result (IsEarlierOf (state S.Store connection.now).now.schema) }
+    ensures earlier { IfOk result (IsEarlierOf (state S.Store connection.now).now.schema) }
+    ensures sound { IfOk result (λ from. IsTrue (state S.Store connection.now).is_open → IsDatabase (state S.Store connection.now).now) }
 {
     let created = created_in_memory(alloc)?;
     let migrated = migrated_in_memory(alloc)?;
@@ -310,11 +323,13 @@ fn migrate_from<S: Alter>(
     mut connection: Connection<S>,
     from: Earlier,
 ) -> Result<SqlTables<S>, (Connection<S>, AdoptFault)>
-    requires { IsTrue (state S.Store connection).is_open → IsSettled (state S.Store connection) × ((state S.Store connection).now.schema ≡ schema_at (version_of from)) }
+    requires { IsTrue (state S.Store connection).is_open → IsSettled (state S.Store connection) × ((state S.Store connection).now.schema ≡ schema_at (version_of from)) × IsDatabase (state S.Store connection).now }
     ensures migrated { IfOk result (λ t. IsTrue (state S.Store t).is_open → IsMigrated (state S.Store connection) (state S.Store t)) }
     ensures live { IfOk result (λ t. HasCleanDisk (state S.Store t) → IsTrue (state S.Store connection).is_open × IsLive S.Store t) }
     ensures schema { IfErr result (λ e. e.1 ≡ AdoptFault.Schema → IsTrue (state S.Store e.0).is_open → ¬ IsOf (version_of from) (state S.Store connection).now) }
+    ensures open { IfErr result (λ e. e.1 ≡ AdoptFault.Schema → HasCleanDisk (state S.Store e.0) → IsTrue (state S.Store connection).is_open → IsTrue (state S.Store e.0).is_open) }
     ensures unchanged { IfErr result (λ e. IsTrue (state S.Store e.0).is_open → IsHandedBack (state S.Store connection) (state S.Store e.0)) }
+    ensures limit { IfOk result (λ t. (state S.Store t).step_limit ≡ (state S.Store connection).step_limit) }
     ensures left { IfErr result (λ e. LeavesSo (state S.Store connection) (state S.Store e.0) (λ db. (db ≡ (state S.Store connection).committed.trees) ⊎ IsAfterMigration (state S.Store connection).now db)) }
 {
     match is_earlier(&mut connection, from) {
@@ -338,10 +353,15 @@ pub fn migrate<S: Alter>(
 ) -> Result<SqlTables<S>, (Connection<S>, AdoptFault)>
     ensures migrated { IfOk result (λ t. IsTrue (state S.Store t).is_open → IsMigrated (state S.Store connection) (state S.Store t)) }
     ensures live { IfOk result (λ t. HasCleanDisk (state S.Store t) → IsTrue (state S.Store connection).is_open × IsLive S.Store t) }
+    ensures found { IfOk result (λ t. IsTrue (state S.Store t).is_open → (version : SchemaVersion) (c : Content) → IsStoreAt version (state S.Store connection).now.trees c → stands S.Store t c) }
     ensures schema { IfErr result (λ e. e.1 ≡ AdoptFault.Schema → IsTrue (state S.Store e.0).is_open → ¬ IsKnown (state S.Store connection).now) }
+    ensures open { IfErr result (λ e. e.1 ≡ AdoptFault.Schema → HasCleanDisk (state S.Store e.0) → IsTrue (state S.Store connection).is_open → IsTrue (state S.Store e.0).is_open) }
+    ensures recognized { IfErr result (λ e. e.1 ≡ AdoptFault.Schema → IsTrue (state S.Store e.0).is_open → (version : SchemaVersion) (c : Content) → ¬ IsStoreAt version (state S.Store connection).now.trees c) }
     ensures unchanged { IfErr result (λ e. IsTrue (state S.Store e.0).is_open → IsHandedBack (state S.Store connection) (state S.Store e.0)) }
+    ensures limit { IfOk result (λ t. (state S.Store t).step_limit ≡ (state S.Store connection).step_limit) }
     ensures settled { IfOk result (λ t. LeavesSo (state S.Store connection) (state S.Store t) (λ db. db ≡ (state S.Store t).now.trees)) }
     ensures left { IfErr result (λ e. LeavesSo (state S.Store connection) (state S.Store e.0) (λ db. (db ≡ (state S.Store connection).committed.trees) ⊎ IsAfterMigration (state S.Store connection).now db)) }
+    ensures crash { IfErr result (λ e. LeavesSo (state S.Store connection) (state S.Store e.0) (IsOldOrMigrated (state S.Store connection).committed.trees)) }
 {
     if !connection.is_autocommit() {
         return Err((connection, AdoptFault::Refused));
@@ -541,11 +561,11 @@ impl<S: Alter> SqlTables<S> {
 }
 
 impl<S: Alter> Tables for SqlTables<S> {
-    ghost use Rattle.std.proofs.Common.{◌∙◌, sym, ap, subst, inl};
+    ghost use Rattle.std.proofs.Common.{◌∙◌, sym, ap, inl};
     ghost use Rattle.sqlite.specs.Effect.{Database};
-    ghost use Rattle.acvp_store.specs.Stands.{Stands};
     ghost use Rattle.acvp_store.specs.Store.{may_fail, stands, IsLive, is_clean, leaves};
     ghost use Rattle.acvp_store.specs.Private.Clean.{open_is_clean};
+    ghost use Rattle.acvp_store.specs.Private.Found.{store_of};
 
     ghost faults = { may_fail };
 
@@ -559,7 +579,7 @@ impl<S: Alter> Tables for SqlTables<S> {
 
     ghost clean = { λ t live. open_is_clean (S.Store.shut_if_dirty t.store) live.is_open };
 
-    ghost rests = { λ t c d live h clean. (h.0, λ _. h.1, λ db may. inl (subst (λ x. Stands h.0 x c) (sym (S.Store.settled t.store db live.is_open may ∙ ap (λ (x : Database). x.trees) (sym live.store.ready.settled))) h.2)) };
+    ghost rests = { λ t c d live h clean db may. inl (store_of h.0 (record { schema = t.schema; trees = (S.Store.view t.store).trees }) db h.1 (sym (S.Store.settled t.store db live.is_open may ∙ ap (λ (x : Database). x.trees) (sym live.store.ready.settled))) live.store.sound c h.2) };
 
     fn account(&mut self, number: u16) -> Result<Option<AccountRow>, StoreFault> {
         find_account(&mut self.connection, number)

@@ -1,6 +1,6 @@
 use Rattle.std.proofs.Common.{sym, ap, subst, ◌∙◌}
 use Rattle.std.proofs.lemmas.Result.{IfOk-weaker, IfErr-weaker}
-use Rattle.sqlite.specs.Effect.{Database}
+use Rattle.sqlite.specs.Effect.{Database, IsDatabase}
 use Rattle.acvp_store.specs.Adopted.{HasVersion}
 use Rattle.acvp_store.specs.Schema.{Migrated}
 use Rattle.acvp_store.proofs.Versions.{empty}
@@ -9,7 +9,8 @@ use Rattle.acvp_store.proofs.store.adopt_migrated.Goals as goal
 pub adopt_named-requires : goal.adopt_named-requires
 adopt_named-requires g c live =
     let stays = c.in-Ok-false.ensures.read.stays in
-    record { ready = stays.settled live; schema = (Migrated, ap (λ (d : Database). d.schema) (stays.now live) ∙ (c.requires (stays.was_open live)).1) }
+    let was = c.requires (stays.was_open live) in
+    record { ready = stays.settled live; schema = (Migrated, ap (λ (d : Database). d.schema) (stays.now live) ∙ was.1); sound = subst IsDatabase (sym (stays.now live)) was.2 }
 
 pub returns-in-Ok-false-clause-adopted : goal.returns-in-Ok-false-clause-adopted
 returns-in-Ok-false-clause-adopted g c =
