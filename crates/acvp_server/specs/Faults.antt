@@ -23,7 +23,7 @@ fault_of_run run-syntax = Syntax
 fault_of_run run-limit = Limit
 fault_of_run run-memory = Memory
 
--- a vector set of another seed is a fault of the keys
+-- a vector set whose epoch has no seed is a fault of the keys
 unfoldable pub fault_of_desk : NewFault → Fault
 fault_of_desk refused.Memory = Memory
 fault_of_desk refused.Epoch = Keys

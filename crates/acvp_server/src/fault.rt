@@ -29,7 +29,7 @@ pub(crate) enum Fault {
     /// The tables of the database aren't those of this version.
     #[error("schema")]
     Schema,
-    /// The keys file can't be read, or is of neither form; or a vector set was made under another seed.
+    /// The keys file can't be read, or is of neither form; or a vector set's epoch has no seed in it.
     #[error("keys")]
     Keys,
     /// The secret file can't be read, or isn't a line of 64 hex digits.

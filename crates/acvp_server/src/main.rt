@@ -16,13 +16,14 @@ mod printing;
 mod script;
 mod serving;
 
-use crate::command::{Asked, BadNumber, command, wish_of};
+use crate::command::{Asked, command, wish_of};
 use crate::fault::Fault;
 use crate::lines::Line;
 use acvp_desk::Order;
 use clap::Error;
 use clap::error::ErrorKind;
 use sqlite::Wary;
+use std::io;
 use std::process::ExitCode;
 
 /// Adds an account with the secret in a file.
@@ -98,14 +99,22 @@ fn refused<R: Print + Eprint>(rt: &R, error: &Error) -> ExitCode {
     }
 }
 
-/// Refuses the command line for a number.
-fn refused_number(rt: &HostRuntime, bad: BadNumber) -> ExitCode {
+/// Refuses the command line, and says why.
+fn refused_for(rt: &HostRuntime, why: &str) -> ExitCode {
     let Ok(mut command) = command(rt.alloc()) else {
         return failed(rt, Fault::Memory);
     };
-    match command.error(ErrorKind::ValueValidation, bad.message()) {
+    match command.error(ErrorKind::ValueValidation, why) {
         Ok(error) => refused(rt, &error),
         Err(_) => failed(rt, Fault::Memory),
+    }
+}
+
+/// Refuses a command line whose words aren't all UTF-8; where there was no memory for them, that is the fault.
+fn unread(rt: &HostRuntime, error: &io::Error) -> ExitCode {
+    match error.kind() {
+        io::ErrorKind::InvalidData => refused_for(rt, "a word of the command line isn't UTF-8"),
+        _ => failed(rt, Fault::Memory),
     }
 }
 
@@ -118,8 +127,9 @@ fn failed(rt: &impl Eprint, fault: Fault) -> ExitCode {
 
 fn main(rt: HostRuntime) -> ExitCode {
     let alloc = rt.alloc();
-    let Ok(words) = std::env::args(&rt) else {
-        return failed(&rt, Fault::Memory);
+    let words = match std::env::args(&rt) {
+        Ok(words) => words,
+        Err(error) => return unread(&rt, &error),
     };
     let Ok(words) = words.collect::<Vec<String>>(alloc) else {
         return failed(&rt, Fault::Memory);
@@ -140,6 +150,6 @@ fn main(rt: HostRuntime) -> ExitCode {
             Err(fault) => failed(&rt, fault),
         },
         Ok(None) => ExitCode::SUCCESS,
-        Err(bad) => refused_number(&rt, bad),
+        Err(bad) => refused_for(&rt, bad.message()),
     }
 }
