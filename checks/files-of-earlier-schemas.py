@@ -13,7 +13,7 @@ import tempfile
 import time
 
 import laboratory
-from laboratory import Laboratory, compact, expect, signed
+from laboratory import Laboratory, compact, expect, free_port, signed
 
 META = "CREATE TABLE meta (name TEXT PRIMARY KEY NOT NULL, value INTEGER NOT NULL) STRICT"
 ACCOUNT = ("CREATE TABLE account (account INTEGER PRIMARY KEY, secret BLOB NOT NULL, enabled INTEGER NOT NULL, "
@@ -101,12 +101,30 @@ def is_moved(lab, path, form, before):
     expect(f"the rows of {form} after another", seen(path, form), wanted)
 
 
+def refused_before(lab, path):
+    """No other command takes a file of an earlier schema."""
+    db = ["--db", path]
+    lab.fails("unavailable", "init", *db)
+    lab.fails("schema", "account-add", *db, "--account", "8", "--secret", lab.write(lab.path("secret"), "0" * 64 + "\n"))
+    lab.fails("schema", "account-disable", *db, "--account", "7")
+    for command in ("request-approve", "request-reject"):
+        lab.fails("schema", command, *db, "--request", "7000001")
+    lab.fails("schema", "serve", *db, "--keys", lab.keys, "--port", str(free_port()), "--count", "1")
+
+
 def moved(lab):
+    """All rows go over, those that stand for nothing too."""
     for form in FORMS:
         path = older_file(lab.path("older.db"), form)
+        connection = opened(path)
+        sets = "vset" if form == "schema 1" else "vset2"
+        connection.execute(f"UPDATE {sets} SET verdicts = 'x', disposition = 9, capability = 'none' WHERE vs = 700000302")
+        connection.execute("UPDATE session SET cancelled = 5, passed = -1 WHERE session = 7000004")
+        connection.close()
         before = seen(path, form)
         expect(f"the vector sets of {form}", len(before["sets"]), 2 * SESSIONS)
-        lab.fails("schema", "account-disable", "--db", path, "--account", "7")
+        refused_before(lab, path)
+        expect(f"the rows of {form} after the other commands", seen(path, form), before)
         is_moved(lab, path, form, before)
         lab.does("account 7 disabled", "account-disable", "--db", path, "--account", "7")
         remove(path)

@@ -4,6 +4,9 @@
     program-with-a-file.py PROGRAM [KILLS]
 
 KILLS is how often serving is killed while it writes: 100 where it isn't given, and 1000 for a longer run."""
+import calendar
+import email.utils
+import errno
 import hashlib
 import os
 import random
@@ -68,6 +71,8 @@ def refused_lines(lab):
     refused("account-add", "--db", "lab.db", "--account", "0", "--secret", "s")
     refused("migration")
     refused()
+    refused("init", "--db", b"caf\xe9.db")
+    refused(b"\xff")
     for command, options in options_of().items():
         for place in range(0, len(options), 2):
             refused(command, *options[:place], *options[place + 2:])
@@ -315,6 +320,20 @@ def clients_that_break_off(lab):
     lab.served(9)
 
 
+def at_its_address_and_moment(lab):
+    """Only the machine's own address is listened on, and the moment of a connection is that at which it is taken."""
+    lab.serve(1)
+    with socket.socket() as other:
+        expect("another address", other.connect_ex(("127.0.0.2", lab.port)), errno.ECONNREFUSED)
+    time.sleep(2.5)
+    before = int(time.time())
+    reply = lab.ask(request("GET", "/algorithms"))
+    date = re.search(rb"\r\nDate: ([^\r]*)\r\n", reply).group(1).decode()
+    moment = calendar.timegm(email.utils.parsedate(date))
+    expect(f"{date} between the moments before and after", before <= moment <= time.time(), True)
+    lab.served(1)
+
+
 def large_bodies(lab):
     refusal = (403, {"error": "loginRefused"})
     text = b'[{"acvVersion":"1.0"},{"password":"00000000","user":"1"}]'
@@ -546,7 +565,8 @@ def made(program, folder):
 
 
 PARTS = [refused_lines, files_that_are_none, made_once, orders, faults_in_their_order, no_connection_can_be_taken, certified,
-         keys_that_change, clients_that_break_off, large_bodies, backlog, by_curl, documents, whole_validation]
+         keys_that_change, clients_that_break_off, at_its_address_and_moment, large_bodies, backlog, by_curl, documents,
+         whole_validation]
 
 
 def main():
