@@ -13,7 +13,7 @@ import time
 import laboratory
 from validation import one_time_code
 
-RUNS, MORE = 5, 2000
+RUNS, MORE = 5, 10000
 SECRET = b"12345678901234567890123456789012"
 CAPABILITY = {"algorithm": "SHA2-256", "messageLength": [8], "revision": "1.0"}
 
