@@ -40,7 +40,7 @@ class Timed:
         self.server = Server([program, "script", "--keys", keys])
         secret = bytes(32)
         self.server.order(f"account-add 0 7 {secret.hex()}")
-        login = {"password": one_time_code(secret), "user": "7"}
+        login = {"password": one_time_code(secret, time.time()), "user": "7"}
         token = self.server.must("POST", "/login", thing=login)["accessToken"]
         registered = {"algorithms": [dict(capability, revision="1.0")], "isSample": True}
         session = self.server.must("POST", "/testSessions", token, registered)
