@@ -88,6 +88,3 @@ pub fn serve_one<T: Tables, S: Source, K: Sink>(
         Err(_) => Err(ServeFault::Write),
     }
 }
-
-#[cfg(test)]
-mod tests;

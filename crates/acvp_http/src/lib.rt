@@ -1,13 +1,9 @@
 //! From the bytes of a request, or of a script, to the bytes of the replies.
 #![tactic(auto)]
 
-#[cfg(test)]
-mod cases;
 mod connection;
 mod framing;
 mod head;
-#[cfg(test)]
-mod over_both_forms;
 mod path;
 mod promise;
 mod reading;
@@ -19,11 +15,7 @@ mod running;
 mod script;
 mod serve;
 mod source;
-#[cfg(test)]
-mod streams;
 mod target;
-#[cfg(test)]
-mod tests;
 mod text;
 mod token;
 mod writing;

@@ -91,6 +91,3 @@ pub fn run<T: Tables, S: Source, K: Sink>(
         Some(_) => Err(ScriptFault::Limit),
     }
 }
-
-#[cfg(test)]
-mod tests;

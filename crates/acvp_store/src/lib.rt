@@ -2,16 +2,10 @@
 #![tactic(auto)]
 
 mod accounts;
-#[cfg(test)]
-mod cases;
 mod counts;
 mod fault;
 mod migration;
-#[cfg(test)]
-mod migration_tests;
 mod objects;
-#[cfg(test)]
-mod over_both_forms;
 mod pages;
 mod requests;
 mod reviewers;
@@ -23,8 +17,6 @@ mod setup;
 mod shown;
 mod store;
 mod summaries;
-#[cfg(test)]
-mod tests;
 mod version;
 mod work;
 

@@ -4,10 +4,10 @@ ghost use Rattle.acvp_desk.specs.Orders.{IsOrder};
 
 use crate::cases::asked::{body_in, framed, refused, request_bytes};
 use crate::cases::{Answer, Ask, SECRET, Step};
-use crate::{Reply, Routes, handle_bytes};
 use acvp_desk::{
     Desk, DeskReply, KeyRing, Keys, Order, OrderReply, Outcome, Seeds, TypedRequest, order_on,
 };
+use acvp_http::{Reply, Routes, handle_bytes};
 use acvp_mac::{HashName, hash};
 use acvp_policy::{Action, Rule};
 use acvp_tables::Tables;

@@ -1,7 +1,7 @@
 //! A database of an earlier schema, made by statements, and what a migration makes of it, by numbers worked by hand.
 
-use crate::{AdoptFault, SqlTables, adopt, migrate};
 use acvp_registry::Kind;
+use acvp_store::{AdoptFault, SqlTables, adopt, migrate};
 use acvp_tables::{SetSummary, Tables};
 use sqlite::{Connection, MemStore, params};
 use std::test::Fail;

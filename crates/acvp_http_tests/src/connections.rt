@@ -2,10 +2,10 @@
 
 use crate::cases::asked::push;
 use crate::cases::server::paths;
+use crate::requests::{ACCEPTED, LOGIN, desk_of_seven, refusal};
 use crate::streams::{FailsOnce, Interrupted, Narrow};
-use crate::tests::{ACCEPTED, LOGIN, desk_of_seven, refusal};
-use crate::{Flagged, ServeFault, serve_one};
 use acvp_desk::Desk;
+use acvp_http::{Flagged, ServeFault, serve_one};
 use acvp_tables::ListTables;
 use std::alloc::Global;
 use std::io::{ErrorKind, Read, Write};

@@ -3,8 +3,8 @@
 use crate::cases::asked::push;
 use crate::cases::server::{desk_over, keys_of, paths};
 use crate::streams::{FailsOnce, Narrow};
-use crate::{Flagged, ScriptFault, run};
 use acvp_desk::Desk;
+use acvp_http::{Flagged, ScriptFault, run};
 use acvp_tables::{AccountRow, ListTables, Tables};
 use std::alloc::Global;
 use std::io::{ErrorKind, Read, Write};

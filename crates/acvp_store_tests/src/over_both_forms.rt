@@ -2,7 +2,7 @@
 //! told by statements that the crate itself doesn't have.
 
 use crate::cases;
-use crate::tests::{gives, new_store, store_beside_an_old_table};
+use crate::databases::{gives, new_store, store_beside_an_old_table};
 use acvp_tables::ListTables;
 use std::test::Fail;
 

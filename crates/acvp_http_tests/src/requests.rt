@@ -1,9 +1,10 @@
 //! Whole requests, and what they are answered.
-use crate::cases::asked::{error_body, push, replied};
+use crate::cases::OF_SEVEN;
+use crate::cases::asked::{error_body, framed, joined, push, refused, replied};
+use crate::cases::login::NO_ROWS;
 use crate::cases::server::{adds_seven, answer_in_bytes, desk_over, keys, paths};
-use crate::request::parse_request;
-use crate::{Reply, Route, Routes};
-use acvp_desk::{Desk, Numbers, TokenField, TypedRequest};
+use acvp_desk::{Desk, Numbers};
+use acvp_http::{Reply, Route, Routes};
 use acvp_policy::{Action, Rule};
 use acvp_tables::ListTables;
 use std::alloc::Global;
@@ -221,91 +222,71 @@ fn another_method_is_told_the_paths_methods(rt: HostRuntime) {
     }
 }
 
-/// The login at this target with these further lines of its head.
-fn login_with(rt: &impl Abort, alloc: Global, target: &str, lines: &str) -> Vec<u8> {
-    let mut text = Vec::new(alloc);
-    push(rt, &mut text, b"POST ");
-    push(rt, &mut text, target.as_bytes());
-    push(
-        rt,
-        &mut text,
-        b" HTTP/1.1\r\nHost: h\r\nContent-Length: 2\r\n",
-    );
-    push(rt, &mut text, lines.as_bytes());
-    push(rt, &mut text, b"\r\n{} and more");
-    text
+/// Asserts what a new desk answers to a request at second 100, the account's counts where no rule is named.
+fn is_answered(rt: &impl Abort, alloc: Global, parts: &[&[u8]], broken: Option<Rule>) {
+    let mut desk = desk_of_seven(rt, alloc);
+    let request = joined(rt, alloc, parts);
+    let reply = answer_in_bytes(&paths(rt, alloc), &mut desk, 100, &request);
+    let wanted = match broken {
+        Some(rule) => refused(rt, alloc, 100, rule),
+        None => framed(rt, alloc, 100, NO_ROWS),
+    };
+    assert_eq!(rt; reply.bytes(), wanted.as_slice());
 }
 
-/// The request that these bytes are.
-fn parsed<'a>(rt: &impl Abort, routes: &Routes, bytes: &'a [u8]) -> TypedRequest<'a> {
-    parse_request(routes, bytes).ok().expect(rt, "a request")
-}
-
-/// Targets with their queries.
-const QUERIES: &[(&str, &str)] = &[
-    ("/acvp/v1/login", ""),
-    ("/acvp/v1/login?", ""),
-    ("/acvp/v1/login?limit=5&a?b", "limit=5&a?b"),
-];
-
-/// Asserts the query and the body of the login at this target.
-fn has_query(rt: &impl Abort, alloc: Global, target: &str, query: &str) {
-    let text = login_with(rt, alloc, target, "");
-    let routes = paths(rt, alloc);
-    let request = parsed(rt, &routes, &text);
-    assert_eq!(rt; request.query, query.as_bytes());
-    assert_eq!(rt; request.body, b"{}".as_slice());
-}
+/// A login whose code is no longer taken, with more behind its body, but for the query of its target.
+const LATE_LOGIN: &[u8] =
+    b" HTTP/1.1\r\nHost: h\r\nContent-Length: 57\r\n\r\n[{\"acvVersion\":\"1.0\"},{\"password\":\"46119246\",\"user\":\"7\"}] and more";
 
 #[test]
-fn a_head_gives_its_query_and_its_body(rt: HostRuntime) {
-    for (target, query) in QUERIES {
-        has_query(&rt, rt.alloc(), *target, *query);
+fn a_body_ends_with_its_length_whatever_the_query(rt: HostRuntime) {
+    let queries: [&[u8]; 3] = [b"", b"?", b"?limit=5&a?b"];
+    for query in queries {
+        let parts: [&[u8]; 3] = [b"POST /acvp/v1/login", query, LATE_LOGIN];
+        is_answered(&rt, rt.alloc(), &parts, Some(Rule::LoginRefused));
     }
 }
 
-/// Lines of a head with the token that they give.
-const TOKENS: &[(&str, Option<&str>)] = &[
-    ("", None),
-    ("Authorization: Bearer\r\n", None),
-    ("Authorization: Basic abc\r\n", None),
-    ("Authorization: Bearers abc\r\n", None),
-    ("Authorization: Bearer a.b.c\r\n", Some("a.b.c")),
-    ("authorization: \t bEARER   a b  \t\r\n", Some("a b")),
-    ("Authorization: Bearer \ta\r\n", Some("\ta")),
+/// The head of a read of the account, and what ends it, around the lines that name the token.
+const READ: &[u8] = b"GET /acvp/v1/account HTTP/1.1\r\nHost: h\r\n";
+
+const END: &[u8] = b"\r\n";
+
+/// What stands before a good token in a line of a head, what stands behind it, and the rule that such a read breaks.
+const TOKENS: &[(&[u8], &[u8], Option<Rule>)] = &[
+    (b"Authorization: Bearer ", b"\r\n", None),
+    (b"authorization: \t bEARER   ", b"  \t\r\n", None),
+    (
+        b"Authorization: Bearer \t",
+        b"\r\n",
+        Some(Rule::TokenMalformed),
+    ),
+    (
+        b"Authorization: Bearer ",
+        b" b\r\n",
+        Some(Rule::TokenMalformed),
+    ),
+    (b"Authorization: Basic ", b"\r\n", Some(Rule::TokenMissing)),
+    (
+        b"Authorization: Bearers ",
+        b"\r\n",
+        Some(Rule::TokenMissing),
+    ),
+    (
+        b"Authorization: Bearer\r\nToken: ",
+        b"\r\n",
+        Some(Rule::TokenMissing),
+    ),
 ];
-
-/// Asserts that a token's field holds this, or none.
-fn is_token(rt: &impl Abort, token: TokenField<'_>, wanted: Option<&str>, lines: &str) {
-    match (token, wanted) {
-        (TokenField::Missing, None) => {}
-        (TokenField::Bearer(token), Some(wanted)) => {
-            assert_eq!(rt; token, wanted.as_bytes());
-        }
-        _ => assert!(rt; false, "{lines}"),
-    }
-}
-
-/// Asserts the token of the login with these lines.
-fn has_token(rt: &impl Abort, alloc: Global, lines: &str, wanted: Option<&str>) {
-    let text = login_with(rt, alloc, "/acvp/v1/login", lines);
-    let routes = paths(rt, alloc);
-    is_token(rt, parsed(rt, &routes, &text).token, wanted, lines);
-}
-
-/// Asserts that the token's field of the login with these lines is there twice.
-fn has_two_tokens(rt: &impl Abort, alloc: Global, lines: &str) {
-    let text = login_with(rt, alloc, "/acvp/v1/login", lines);
-    let routes = paths(rt, alloc);
-    let request = parsed(rt, &routes, &text);
-    assert!(rt; matches!(request.token, TokenField::Doubled));
-}
 
 #[test]
 fn a_head_gives_its_token(rt: HostRuntime) {
-    for (lines, wanted) in TOKENS {
-        has_token(&rt, rt.alloc(), *lines, *wanted);
+    for (before, behind, broken) in TOKENS {
+        let parts = [READ, *before, OF_SEVEN, *behind, END];
+        is_answered(&rt, rt.alloc(), &parts, *broken);
     }
-    let twice = "Authorization: Bearer a\r\nAuthorization: Bearer a\r\n";
-    has_two_tokens(&rt, rt.alloc(), twice);
+    let line: &[u8] = b"Authorization: Bearer ";
+    let twice = [READ, line, OF_SEVEN, END, line, OF_SEVEN, END, END];
+    is_answered(&rt, rt.alloc(), &twice, Some(Rule::TokenMalformed));
+    is_answered(&rt, rt.alloc(), &[READ, END], Some(Rule::TokenMissing));
 }

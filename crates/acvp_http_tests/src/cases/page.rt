@@ -108,6 +108,11 @@ pub(crate) const WHAT_NO_PAGE_IS_IS_REFUSED: &[Step] = &[
         Denied(Rule::BadPage),
     ),
     At(
+        62,
+        WithQuery(Action::ListSessions, OF_SEVEN, b"limit=1?offset=0"),
+        Denied(Rule::BadPage),
+    ),
+    At(
         1859,
         WithQuery(Action::ListSessions, OF_SEVEN, b"name=x"),
         Denied(Rule::TokenExpired),

@@ -3,13 +3,13 @@
 
 use crate::cases::{
     MADE, REFUSED, SECRET, account, add_account, add_session, algorithm, approve, are,
-    ask_for_vendor, has_text, keep_answer, register_vendor, registration, set, sets_of, status,
-    use_step, verdict,
+    ask_for_vendor, has_text, keep_answer, register_vendor, set, sets_of, status, use_step,
+    verdict,
 };
-use crate::{AdoptFault, SqlTables, adopt, create};
 use acvp_answers::Verdict;
 use acvp_registry::Kind;
-use acvp_tables::{NewSession, ReviewerRow, StoreFault, Tables};
+use acvp_store::{AdoptFault, SqlTables, adopt, create};
+use acvp_tables::{StoreFault, Tables};
 use sqlite::{Connection, Error, MemStore, params};
 use std::alloc::Global;
 use std::process::Abort;
@@ -201,40 +201,6 @@ fn what_is_taken_or_names_nothing_is_refused(rt: HostRuntime) -> Result<(), Fail
     assert_eq!(rt; add_session(rt.alloc(), &mut tables, 7, 7000001), REFUSED);
     assert_eq!(rt; add_session(rt.alloc(), &mut tables, 8, 8000001), REFUSED);
     assert_eq!(rt; use_step(&mut tables, 7, 9223372036854775808), REFUSED);
-    gives(&rt, &mut tables.into_connection(), ONE_SESSION);
-    Ok(())
-}
-
-/// A session with a number whose sets have numbers that no column keeps.
-fn begin_too_large(
-    alloc: Global,
-    tables: &mut SqlTables<MemStore>,
-) -> Option<Result<(), StoreFault>> {
-    let session = NewSession {
-        number: 92233720368547758,
-        account: 7,
-        created: 60,
-        epoch: 2,
-        registration: registration(alloc)?,
-    };
-    Some(tables.new_session(&session))
-}
-
-/// A reviewer of a session with a number that no column keeps.
-fn review_too_large(tables: &mut SqlTables<MemStore>) -> Result<(), StoreFault> {
-    let reviewer = ReviewerRow {
-        session: 9223372036854775808,
-        account: 8,
-    };
-    tables.add_reviewer(&reviewer)
-}
-
-#[test]
-fn a_session_that_is_too_large_leaves_nothing(rt: HostRuntime) -> Result<(), Fail> {
-    let mut tables = new_store(&rt)?;
-    begins(&rt, rt.alloc(), &mut tables);
-    assert_eq!(rt; begin_too_large(rt.alloc(), &mut tables), REFUSED);
-    assert_eq!(rt; review_too_large(&mut tables), Err(StoreFault::Refused));
     gives(&rt, &mut tables.into_connection(), ONE_SESSION);
     Ok(())
 }
