@@ -1,10 +1,10 @@
-//! Stops: while an event is under way over a file, a disk fails from a call on, at each call in turn. Opened anew and
-//! adopted, the file has the rows before the event or those after it, and those after it where it was acknowledged.
+//! Stops: while events are under way over a file, a disk fails from a call on, at each call in turn. Opened anew and
+//! adopted, the file has the rows after the events that were acknowledged, or after the next one, too.
 
 use crate::disks::{
     Disks, Held, Stop, all_written, closed, disks, have_stopped, left_by_a_crash, opened,
 };
-use crate::rows::{OF_THE_FIRST_SCHEMA, rows};
+use crate::rows::{FIRST_SCHEMA, SECOND_SCHEMA, rows};
 use crate::validation::VALIDATION;
 use acvp_desk::{Desk, KeyRing, Keys, Seeds};
 use acvp_http::{Flagged, Routes, run};
@@ -16,18 +16,36 @@ use std::process::Abort;
 
 /// What happens to a file.
 #[derive(Clone, Copy)]
-enum Event<'a> {
+enum Work<'a> {
     /// The tables are made.
     Creates,
 
-    /// A script with one event is run.
-    Scripts(&'a [u8]),
+    /// Scripts with an event each are run over one connection, up to the first whose event isn't acknowledged.
+    Scripts(&'a [&'a [u8]]),
 
     /// Statements are run.
     Runs(&'a [&'a str]),
 
     /// The tables of an earlier schema are moved.
     Migrates,
+}
+
+impl<'a> Work<'a> {
+    /// How many events it has.
+    fn events(self) -> usize {
+        match self {
+            Work::Scripts(scripts) => scripts.len(),
+            _ => 1,
+        }
+    }
+
+    /// The same up to an event of its scripts.
+    fn up_to(self, events: usize) -> Work<'a> {
+        match self {
+            Work::Scripts(scripts) => Work::Scripts(scripts.get(..events).unwrap_or(scripts)),
+            other => other,
+        }
+    }
 }
 
 /// One token key and one seed, of zeros.
@@ -68,14 +86,32 @@ fn scripted<T: Tables + Drop>(
     (desk.into_tables(), done)
 }
 
-/// Runs statements. Whether each of them succeeds.
-fn run_all<S: Alter>(connection: &mut Connection<S>, texts: &[&str]) -> bool {
-    for text in texts {
-        if connection.execute(*text, &[]).is_err() {
-            return false;
+/// The tables after scripts, and how many events were acknowledged.
+fn all_scripted<T: Tables + Drop>(
+    rt: &impl Abort,
+    alloc: Global,
+    tables: T,
+    scripts: &[&[u8]],
+) -> (T, usize) {
+    let mut tables = tables;
+    for place in 0..scripts.len() {
+        let (next, done) = scripted(rt, alloc, tables, scripts[place]);
+        tables = next;
+        if !done {
+            return (tables, place);
         }
     }
-    true
+    (tables, scripts.len())
+}
+
+/// Runs statements. 1 where each of them succeeds.
+fn run_all<S: Alter>(connection: &mut Connection<S>, texts: &[&str]) -> usize {
+    for text in texts {
+        if connection.execute(*text, &[]).is_err() {
+            return 0;
+        }
+    }
+    1
 }
 
 /// The connection of tables that were made or taken over, or that was handed back, and whether they were.
@@ -88,43 +124,51 @@ fn handed_back<S: Alter, E: Drop>(
     }
 }
 
-/// The connection to a database after an event, and whether it was acknowledged.
+/// The same with a number: 1 where they were.
+fn counted<S: Alter, E: Drop>(
+    answer: Result<SqlTables<S>, (Connection<S>, E)>,
+) -> (Connection<S>, usize) {
+    let (connection, done) = handed_back(answer);
+    (connection, if done { 1 } else { 0 })
+}
+
+/// The connection to a database after some work, and how many events were acknowledged.
 fn happens<S: Alter + Drop>(
     rt: &impl Abort,
     alloc: Global,
     connection: Connection<S>,
-    event: Event<'_>,
-) -> (Connection<S>, bool) {
-    match event {
-        Event::Creates => handed_back(create(alloc, connection)),
-        Event::Migrates => handed_back(migrate(alloc, connection)),
-        Event::Runs(texts) => {
+    work: Work<'_>,
+) -> (Connection<S>, usize) {
+    match work {
+        Work::Creates => counted(create(alloc, connection)),
+        Work::Migrates => counted(migrate(alloc, connection)),
+        Work::Runs(texts) => {
             let mut connection = connection;
             let done = run_all(&mut connection, texts);
             (connection, done)
         }
-        Event::Scripts(script) => match adopt(alloc, connection) {
+        Work::Scripts(scripts) => match adopt(alloc, connection) {
             Ok(tables) => {
-                let (tables, done) = scripted(rt, alloc, tables, script);
+                let (tables, done) = all_scripted(rt, alloc, tables, scripts);
                 (tables.into_connection(), done)
             }
-            Err((connection, _)) => (connection, false),
+            Err((connection, _)) => (connection, 0),
         },
     }
 }
 
-/// The disks after an event and the close of the file, and whether it was acknowledged.
-fn tried(rt: &impl Abort, alloc: Global, files: Disks, event: Event<'_>) -> (Disks, bool) {
+/// The disks after some work and the close of the file, and how many events were acknowledged.
+fn tried(rt: &impl Abort, alloc: Global, files: Disks, work: Work<'_>) -> (Disks, usize) {
     match opened(alloc, files) {
         Ok(connection) => {
-            let (connection, done) = happens(rt, alloc, connection, event);
+            let (connection, done) = happens(rt, alloc, connection, work);
             (closed(connection), done)
         }
-        Err(files) => (files, false),
+        Err(files) => (files, 0),
     }
 }
 
-/// Whether a database is a store, and its rows.
+/// Whether a database is a store, and its schema and rows.
 #[derive(Drop)]
 struct Found {
     adopted: bool,
@@ -143,7 +187,7 @@ fn shown<S: Alter + Drop>(rt: &impl Abort, alloc: Global, connection: Connection
     let (mut connection, adopted) = handed_back(adopt(alloc, connection));
     Found {
         adopted,
-        rows: rows(rt, alloc, &mut connection),
+        rows: rows(rt, alloc, &mut connection, adopted),
     }
 }
 
@@ -153,65 +197,107 @@ fn looked_at(rt: &impl Abort, alloc: Global, held: &Held) -> Found {
     shown(rt, alloc, connection.ok().expect(rt, "a database"))
 }
 
-/// What the files hold after an event that meets no stop.
-fn after(rt: &impl Abort, alloc: Global, held: &Held, event: Event<'_>) -> Held {
-    let (files, done) = tried(rt, alloc, disks(rt, alloc, held, Stop::Never), event);
-    assert!(rt; done);
+/// What the files hold after work that meets no stop.
+fn after(rt: &impl Abort, alloc: Global, held: &Held, work: Work<'_>) -> Held {
+    let (files, done) = tried(rt, alloc, disks(rt, alloc, held, Stop::Never), work);
+    assert_eq!(rt; done, work.events());
     all_written(rt, alloc, &files)
 }
 
-/// An event, what the files hold before it, and what is found before and after it.
+/// Some work, what the files hold before it, and what is found before it and after each of its events.
 #[derive(Drop)]
 struct Watched<'a> {
-    event: Event<'a>,
+    work: Work<'a>,
     held: Held,
-    before: Found,
-    after: Found,
+    states: Vec<Found>,
 }
 
-/// Whether an event meets this stop. Asserts that what the stop may leave is right.
-fn stops(rt: &impl Abort, alloc: Global, watched: &Watched<'_>, stop: Stop) -> bool {
-    let files = disks(rt, alloc, &watched.held, stop);
-    let (mut files, done) = tried(rt, alloc, files, watched.event);
-    let stopped = have_stopped(&mut files);
-    assert!(rt; stopped || done);
-    for held in &left_by_a_crash(rt, alloc, files) {
-        let found = looked_at(rt, alloc, held);
-        let is_before = !done && found.is(&watched.before);
-        assert!(rt; is_before || found.is(&watched.after));
+/// Whether what is found is what it is after so many events.
+fn is_after(watched: &Watched<'_>, found: &Found, events: usize) -> bool {
+    match watched.states.get(events) {
+        Some(state) => found.is(state),
+        None => false,
     }
-    stopped
 }
 
-/// More calls than any event makes of a disk.
-const MANY: u64 = 2000;
+/// Asserts what a stop leaves: what was there after the events that were acknowledged, or after the next one.
+fn is_right(rt: &impl Abort, alloc: Global, watched: &Watched<'_>, held: &Held, done: usize) {
+    let found = looked_at(rt, alloc, held);
+    let is_before = is_after(watched, &found, done);
+    assert!(rt; is_before || is_after(watched, &found, done.saturating_add(1)));
+    // The same command goes on with a migration that was stopped.
+    if is_before && matches!(watched.work, Work::Migrates) {
+        let again = after(rt, alloc, held, watched.work);
+        assert!(rt; is_after(watched, &looked_at(rt, alloc, &again), 1));
+    }
+}
 
-/// Stops an event at each call of one disk in turn, until it meets the stop no more.
+/// What a stop was met by: how many events were acknowledged, or nothing where it wasn't met.
+fn stops(rt: &impl Abort, alloc: Global, watched: &Watched<'_>, stop: Stop) -> Option<usize> {
+    let files = disks(rt, alloc, &watched.held, stop);
+    let (mut files, done) = tried(rt, alloc, files, watched.work);
+    let stopped = have_stopped(&mut files);
+    assert!(rt; stopped || done == watched.work.events());
+    for held in &left_by_a_crash(rt, alloc, files) {
+        is_right(rt, alloc, watched, held, done);
+    }
+    if stopped { Some(done) } else { None }
+}
+
+/// More calls than any work makes of a disk.
+const MANY: u64 = 4000;
+
+/// Stops work at each call of one disk in turn, until it meets the stop no more.
 fn stops_at_each(rt: &impl Abort, alloc: Global, watched: &Watched<'_>, of_the_log: bool) {
+    let mut before_the_end = 0u64;
+    let mut behind_it = 0u64;
     for calls in 0..MANY {
         let stop = if of_the_log {
             Stop::Log(calls)
         } else {
             Stop::Database(calls)
         };
-        if !stops(rt, alloc, watched, stop) {
-            assert!(rt; 0 < calls);
-            return;
+        match stops(rt, alloc, watched, stop) {
+            Some(done) if done < watched.work.events() => {
+                before_the_end = before_the_end.saturating_add(1);
+            }
+            Some(_) => behind_it = behind_it.saturating_add(1),
+            None => {
+                // One of each tells nothing: the first stop, and that behind the last call.
+                assert!(rt; 1 < before_the_end && 1 < behind_it);
+                return;
+            }
         }
     }
-    assert!(rt; false, "an event without an end");
+    assert!(rt; false, "work without an end");
 }
 
-/// Stops an event at each call of both disks. What the files hold when it comes to its end.
-fn survives(rt: &impl Abort, alloc: Global, held: Held, event: Event<'_>) -> Held {
-    let last = after(rt, alloc, &held, event);
+/// What is found before some work and after each of its events, each of which changes it.
+fn states(rt: &impl Abort, alloc: Global, held: &Held, work: Work<'_>) -> Vec<Found> {
+    let mut all: Vec<Found> = Vec::new(alloc);
+    all.push(looked_at(rt, alloc, held))
+        .ok()
+        .expect(rt, "memory");
+    for place in 0..work.events() {
+        let next = after(rt, alloc, held, work.up_to(place.saturating_add(1)));
+        let found = looked_at(rt, alloc, &next);
+        assert!(rt; found.adopted);
+        if let Some(last) = all.last() {
+            assert!(rt; last.rows != found.rows);
+        }
+        all.push(found).ok().expect(rt, "memory");
+    }
+    all
+}
+
+/// Stops work at each call of both disks. What the files hold when it comes to its end.
+fn survives(rt: &impl Abort, alloc: Global, held: Held, work: Work<'_>) -> Held {
+    let last = after(rt, alloc, &held, work);
     let watched = Watched {
-        event,
-        before: looked_at(rt, alloc, &held),
-        after: looked_at(rt, alloc, &last),
+        work,
+        states: states(rt, alloc, &held, work),
         held,
     };
-    assert!(rt; watched.after.adopted && watched.before.rows != watched.after.rows);
     stops_at_each(rt, alloc, &watched, true);
     stops_at_each(rt, alloc, &watched, false);
     last
@@ -220,16 +306,25 @@ fn survives(rt: &impl Abort, alloc: Global, held: Held, event: Event<'_>) -> Hel
 #[test]
 fn a_stop_leaves_the_rows_before_an_event_of_a_validation_or_after_it(rt: HostRuntime) {
     let alloc = rt.alloc();
-    let mut held = survives(&rt, alloc, Held::nothing(alloc), Event::Creates);
+    let mut held = survives(&rt, alloc, Held::nothing(alloc), Work::Creates);
     for script in VALIDATION {
-        held = survives(&rt, alloc, held, Event::Scripts(*script));
+        held = survives(&rt, alloc, held, Work::Scripts(&[*script]));
     }
+}
+
+#[test]
+fn a_stop_leaves_the_rows_after_what_was_acknowledged_over_one_connection(rt: HostRuntime) {
+    let alloc = rt.alloc();
+    let held = after(&rt, alloc, &Held::nothing(alloc), Work::Creates);
+    survives(&rt, alloc, held, Work::Scripts(VALIDATION));
 }
 
 #[test]
 fn a_stop_leaves_the_tables_before_a_migration_or_after_it(rt: HostRuntime) {
     let alloc = rt.alloc();
-    let old = Event::Runs(OF_THE_FIRST_SCHEMA);
-    let held = after(&rt, alloc, &Held::nothing(alloc), old);
-    survives(&rt, alloc, held, Event::Migrates);
+    for schema in [FIRST_SCHEMA, SECOND_SCHEMA] {
+        let nothing = Held::nothing(alloc);
+        let held = after(&rt, alloc, &nothing, Work::Runs(schema));
+        survives(&rt, alloc, held, Work::Migrates);
+    }
 }
