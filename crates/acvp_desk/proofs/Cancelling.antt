@@ -1,4 +1,5 @@
--- A vector set that is cancelled: its number is of its session, and what is told of the session's counters is so after it.
+-- A vector set that is cancelled: its number is of its session, and what is told of the session's counters is so after
+-- it.
 use Rattle.std.proofs.Common.{◌≡◌, ℕ, suc, ◌/◌, List, [], ◌∷◌, map, length, filter, Bool, true, false, ◌&&◌, ◌||◌, ◌==◌, Option, None, Some, refl, sym, ap, arith}
 use Rattle.std.specs.Prelude.{IfSome, not, is_some, option_map, option_and_then, if◌then◌else◌}
 use Rattle.std.specs.List.{All}

@@ -9,8 +9,8 @@ use Rattle.acvp_tables.specs.Graded.{GradedValue}
 use Rattle.acvp_tables.specs.State.{IsSound}
 use Rattle.acvp_tables.specs.declared.rows.SetRow.{SetRow}
 
--- The verdicts that are kept are those on the kept answers by the standard answers to the prompts under the seed, and the
--- disposition is theirs.
+-- The verdicts that are kept are those on the kept answers by the standard answers to the prompts under the seed, and
+-- the disposition is theirs.
 pub record IsRightly (seed : List ℕ) (row : SetRow) (graded : GradedValue) : Type 0 where
   pub verdicts : graded.verdicts ≡ verdicts_of (standard_of (prompts_of seed row.number row.capability)) graded.answers
   pub disposition : graded.disposition ≡ disposition_of graded.verdicts

@@ -130,9 +130,9 @@ module _ {T : Type 0} (faults : StoreFault → Type 0) (stands : T → Content �
   abbrev pub Stays : T → T → Type 0
   Stays old new = is_live new → (c : Content) → stands old c → stands new c
 
-  -- For every content that the tables stand for: the order is answered, and the content after its effect stands; or it is
-  -- unavailable, and all stands as it did. A crash finds the effect of what was answered; and of what was unavailable, what
-  -- there was or that with the effect. Only a fault of the tables makes it unavailable.
+  -- For every content that the tables stand for: the order is answered, and the content after its effect stands; or it
+  -- is unavailable, and all stands as it did. A crash finds the effect of what was answered; and of what was
+  -- unavailable, what there was or that with the effect. Only a fault of the tables makes it unavailable.
   pub record Orders (reply : OrderReply) (old new : T) (it : Order) : Type 0 where
     pub was_live : is_live new → is_live old
     pub was_clean : is_clean new → is_clean old
@@ -140,7 +140,8 @@ module _ {T : Type 0} (faults : StoreFault → Type 0) (stands : T → Content �
     pub same : ByReply reply ⊤ (Stays old new) (Stays old new)
     pub settled : ByReply reply (Settles old new it) (Settles old new it)
         (is_clean new → is_live old → (c : Content) → IsSound c → stands old c → leaves new c (content_order_effect it c))
-    -- unless it is unavailable, the tables were open and stay so, and where it is refused a crash finds what it found before
+    -- unless it is unavailable, the tables were open and stay so, and where it is refused a crash finds what it found
+    -- before
     pub live : ByReply reply (is_clean new → is_live old × is_live new) (is_clean new → is_live old × is_live new) ⊤
     pub kept : ByReply reply ⊤ (is_clean new → (c d : Content) → leaves old c d → leaves new c d) ⊤
     -- of tables that were shut already a crash finds what it found, whatever is answered

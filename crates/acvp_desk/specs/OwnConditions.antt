@@ -1,4 +1,5 @@
--- The conditions of an action that the policy doesn't know: those on its query or its body, and on the room that is left.
+-- The conditions of an action that the policy doesn't know: those on its query or its body, and on the room that is
+-- left.
 use Rattle.std.specs.Prelude.{List, [], ◌∷◌, ◌++◌, ℕ, Option, Some, None, is_some}
 use Rattle.acvp_caps.specs.Registered.{registration_conditions}
 use Rattle.acvp_gen.specs.Prompt.{PromptsValue}

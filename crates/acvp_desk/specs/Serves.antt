@@ -47,19 +47,21 @@ module _ {T : Type 0} (stands : T → Content → Type 0) (is_live is_clean : T 
     pub left : is_clean new → is_live old → (c d : Content) → stands old c → leaves new c d
     pub kept : is_clean new → (c d : Content) → leaves old c d → leaves new c d
 
-  -- What is seen is what is selected of each content that the tables stood for, whatever the seeds that it is kept under.
+  -- What is seen is what is selected of each content that the tables stood for, whatever the seeds that it is kept
+  -- under.
   abbrev pub Sees : {X E : Type 0} → Result X E → T → T → (List (List ℕ) → Content → X) → Type 0
   Sees result old new selected = is_live new → IfOk result (λ found. (seeds : List (List ℕ)) (c : Content) → IsKept seeds c → stands old c → found ≡ selected seeds c)
 
-  -- What is seen while the disk tells no lie, whether the tables are open or shut: of tables that are shut nothing is read.
+  -- What is seen while the disk tells no lie, whether the tables are open or shut: of tables that are shut nothing is
+  -- read.
   abbrev pub Knows : {X E : Type 0} → Result X E → T → T → (List (List ℕ) → Content → X) → Type 0
   Knows result old new selected = is_clean new → IfOk result (λ found. (seeds : List (List ℕ)) (c : Content) → IsKept seeds c → Holds stands is_live old c → found ≡ selected seeds c)
 
-  -- While the disk tells no lie, and for every content that the tables stand for if they are open: the reply is given, and the
-  -- content after the request's effect stands and holds what holds at all times; or the request is refused, and all stands as
-  -- it did. So of tables that are shut either nothing is told that the records decide, or it is unavailable. A crash finds the
-  -- effect of what was given; and of what was refused, what there was or that with the effect. Past the last moment that is
-  -- served nothing else is looked at.
+  -- While the disk tells no lie, and for every content that the tables stand for if they are open: the reply is given,
+  -- and the content after the request's effect stands and holds what holds at all times; or the request is refused, and
+  -- all stands as it did. So of tables that are shut either nothing is told that the records decide, or it is
+  -- unavailable. A crash finds the effect of what was given; and of what was refused, what there was or that with the
+  -- effect. Past the last moment that is served nothing else is looked at.
   pub record Serves (result : Result Served Rule) (old new : T) (keys : Keys) (moment : ℕ) (r : RequestValue) : Type 0 where
     pub was_live : is_live new → is_live old
     pub was_clean : is_clean new → is_clean old
@@ -74,7 +76,8 @@ module _ {T : Type 0} (stands : T → Content → Type 0) (is_live is_clean : T 
     pub same : OnErr result (is_live new → (c : Content) → stands old c → stands new c)
     pub settled : OnOk result (is_clean new → is_live old → (c d : Content) → IsKept keys.seed c → stands old c → leaves new (content_effect keys moment r c) d)
     pub unsettled : OnErr result (is_clean new → is_live old → (c : Content) → IsKept keys.seed c → stands old c → leaves new c (content_effect keys moment r c))
-    -- unless it is unavailable, a live store stays live, and where no change was made a crash finds what it found before
+    -- unless it is unavailable, a live store stays live, and where no change was made a crash finds what it found
+    -- before
     pub live : IfLasting result (is_clean new → is_live old → is_live new)
     pub kept : IfUnchanged result (is_clean new → (c d : Content) → leaves old c d → leaves new c d)
     -- of tables that were shut already a crash finds what it found, whatever is answered

@@ -120,7 +120,8 @@ fn caller_ask(
     Ok(CallerAsk { token, wish })
 }
 
-/// What a request asks, or the rule of the first condition on its body that is looked at before a row is and doesn't hold.
+/// What a request asks, or the rule of the first condition on its body that is looked at before a row is and doesn't
+/// hold.
 fn ask_in(
     alloc: Global,
     ring: &KeyRing,

@@ -160,7 +160,8 @@ fn answers_said(alloc: Global, object: &Value, prompts: &Prompts) -> Result<Answ
     }
 }
 
-/// The answers that a body gives to the tests of these prompts, or the rule of the first condition on it that doesn't hold.
+/// The answers that a body gives to the tests of these prompts, or the rule of the first condition on it that doesn't
+/// hold.
 pub(crate) fn answers_body(alloc: Global, body: &[u8], prompts: &Prompts) -> Result<Answers, Rule>
     ensures ok { IfOk result (λ answers. (first_broken (answers_conditions prompts.now body.now) ≡ None) × (answers_at prompts.now body.now ≡ Some answers)) }
     ensures err { IfErr result (λ rule. (rule ≡ Rule.Unavailable) ⊎ (first_broken (answers_conditions prompts.now body.now) ≡ Some rule)) }
@@ -246,7 +247,8 @@ fn certify_said(object: &Value) -> Result<CertifyBody, Rule>
     }
 }
 
-/// The module and the environment that a body asks to certify, or the rule of the first condition on it that doesn't hold.
+/// The module and the environment that a body asks to certify, or the rule of the first condition on it that doesn't
+/// hold.
 #[tactic(auto, unfolding(crate::specs::Asked::certified_in))]
 pub(crate) fn certify_read(
     alloc: Global,

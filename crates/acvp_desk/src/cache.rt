@@ -102,8 +102,8 @@ impl Cache {
         self.entries.pop(&number)
     }
 
-    /// Puts the entry of a vector set in, as the most recently used. Of 64 others the least recently used is pushed out.
-    /// Where memory is refused the entry isn't kept.
+    /// Puts the entry of a vector set in, as the most recently used. Of 64 others the least recently used is pushed
+    /// out. Where memory is refused the entry isn't kept.
     pub(crate) fn keep(&mut self, number: u64, entry: Entry)
         requires { IsTrueTo self.old.seeds number entry }
         ensures { self.new.seeds ≡ self.old.seeds }

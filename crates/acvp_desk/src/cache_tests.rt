@@ -19,8 +19,8 @@ fn empty(alloc: Global) -> Result<Cache, Fail> {
     Ok(Cache::new(alloc, seeds)?)
 }
 
-/// Takes the entry of a vector set, makes its standard answers and puts it back. Whether the answers were there, as they
-/// are in an entry that was put back before.
+/// Takes the entry of a vector set, makes its standard answers and puts it back. Whether the answers were there, as
+/// they are in an entry that was put back before.
 fn was_there(
     rt: &impl Abort,
     alloc: Global,

@@ -67,8 +67,8 @@ pub enum NewFault {
 }
 
 impl<T: Tables> Desk<T> {
-    /// A desk over these records, whose vector sets were all made under seeds that are there. On a fault the records are
-    /// handed back.
+    /// A desk over these records, whose vector sets were all made under seeds that are there. On a fault the records
+    /// are handed back.
     pub fn new(alloc: Global, keys: Keys, tables: T) -> Result<Desk<T>, (T, NewFault)>
         ensures keys { IfOk result (λ desk. desk.keys ≡ keys) }
         ensures empty { IfOk result (λ desk. desk.cached ≡ 0) }

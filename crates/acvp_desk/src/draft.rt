@@ -226,7 +226,8 @@ fn draft_wish(
     )
 }
 
-/// What is given where the policy lets through, or the rule of the first condition of the action's own that doesn't hold.
+/// What is given where the policy lets through, or the rule of the first condition of the action's own that doesn't
+/// hold.
 pub(crate) fn draft_for(
     alloc: Global,
     ring: &KeyRing,

@@ -374,8 +374,8 @@ fn set_verdicts<T: Tables>(tables: &mut T, number: u64) -> Result<Option<SetVerd
     }
 }
 
-/// What answers to the vector set of a number are graded by and counted with, where it is of the session of a number and
-/// isn't cancelled. A set whose session isn't there or doesn't count it stands for nothing.
+/// What answers to the vector set of a number are graded by and counted with, where it is of the session of a number
+/// and isn't cancelled. A set whose session isn't there or doesn't count it stands for nothing.
 #[tactic(auto, unfolding(acvp_tables::specs::State::state_of))]
 fn submission<T: Tables>(
     tables: &mut T,
@@ -543,8 +543,8 @@ fn look_at<T: Tables>(
     Ok(Place { subject, material })
 }
 
-/// What the tables hold of what is asked; or the rule on the caller that is broken, before anything is looked at that the
-/// path names.
+/// What the tables hold of what is asked; or the rule on the caller that is broken, before anything is looked at that
+/// the path names.
 #[tactic(auto, unfolding(acvp_tables::specs::State::state_of, crate::specs::Answer::found_of))]
 pub(crate) fn find<T: Tables>(
     alloc: Global,

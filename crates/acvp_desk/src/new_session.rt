@@ -90,8 +90,8 @@ fn told_session(alloc: Global, ring: &KeyRing, session: NewSession) -> Result<Dr
     told(alloc, &object, Some(Change::NewSession(session)))
 }
 
-/// What is given to who registers a new session, or the rule of the first condition on the body and the numbers that are
-/// left that doesn't hold.
+/// What is given to who registers a new session, or the rule of the first condition on the body and the numbers that
+/// are left that doesn't hold.
 pub(crate) fn draft_new_session(
     alloc: Global,
     ring: &KeyRing,

@@ -30,7 +30,8 @@ fn found_asked(material: &Material) -> Asked
     *asked
 }
 
-/// The number of the account's next request, or the rule of the first condition beside those on the body that doesn't hold.
+/// The number of the account's next request, or the rule of the first condition beside those on the body that doesn't
+/// hold.
 pub(crate) fn next_request(account: u16, asked: Asked) -> Result<u64, Rule>
     ensures ok { IfOk result (λ number. (first_broken (asked_conditions (Some asked)) ≡ None) × (number ≡ next_request account asked)) }
     ensures err { IfErr result (λ rule. first_broken (asked_conditions (Some asked)) ≡ Some rule) }

@@ -197,8 +197,8 @@ fn draft_requests(alloc: Global, page: Option<Page>, material: &Material) -> Res
     told_requests(alloc, page, *total, &requests.rows)
 }
 
-/// What is given on the registries and requests of an account, or the rule of the first condition of the action's own that
-/// doesn't hold.
+/// What is given on the registries and requests of an account, or the rule of the first condition of the action's own
+/// that doesn't hold.
 pub(crate) fn draft_registry(
     alloc: Global,
     account: u16,

@@ -97,8 +97,8 @@ fn found_sets(material: &Material) -> &[u64]
     &sets.numbers
 }
 
-/// What a vector set comes to at a moment, by the creation of its session, which is so early that it ends before the end
-/// of all numbers.
+/// What a vector set comes to at a moment, by the creation of its session, which is so early that it ends before the
+/// end of all numbers.
 pub(crate) fn disposition_at(
     moment: u64,
     created: u64,

@@ -67,9 +67,9 @@ fn kept_answers(session: u64, number: u64, others: u64, graded: Graded) -> Optio
     })
 }
 
-/// What is given to who submits answers, or the rule of the first condition on the body that doesn't hold. The prompts are
-/// taken out of the cache, or made where they aren't there, and put in again. A row of an epoch without a seed stands for
-/// nothing, and so does one that counts too many sets.
+/// What is given to who submits answers, or the rule of the first condition on the body that doesn't hold. The prompts
+/// are taken out of the cache, or made where they aren't there, and put in again. A row of an epoch without a seed
+/// stands for nothing, and so does one that counts too many sets.
 #[tactic(auto, unfolding(acvp_json::specs::ReplyData::reply_data))]
 pub(crate) fn draft_answers(
     alloc: Global,

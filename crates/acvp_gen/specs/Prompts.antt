@@ -67,8 +67,8 @@ abbrev pub IsSized : Algorithm → GroupForm → Type 0
 IsSized algorithm form = IfSome (sizes_of form) (λ s. s.mac_bits ≤ digest_bits algorithm)
 
 -- What holds of each group of an algorithm: it has sizes exactly where the algorithm is HMAC; the keys of a group with
--- sizes have the bits that it names; a Monte Carlo group's messages are as long as a digest; and a test's bits are those
--- of the whole bytes of its message.
+-- sizes have the bits that it names; a Monte Carlo group's messages are as long as a digest; and a test's bits are
+-- those of the whole bytes of its message.
 pub record IsGroupOf (algorithm : Algorithm) (group : GroupValue) : Type 0 where
   pub sizes : is_some (sizes_of group.form) ≡ is_hmac_of algorithm
   pub keys : IfSome (sizes_of group.form) (λ s. All (λ t. 8 * length t.key ≡ s.key_bits) group.tests)

@@ -43,7 +43,8 @@ asked_there head size rest parsed true (named, names, is) =
     (named, names, is ∙ ap (λ body. asked_path head body named) (take-take size size rest (omega arith)))
 asked_there head size rest parsed false is = is
 
--- the size that the conditions tell needs no more of the rest, since they let no body pass that is longer than the limit
+-- the size that the conditions tell needs no more of the rest, since they let no body pass that is longer than the
+-- limit
 asked_sized : (head : RequestHead) (conditions : List (Condition Rule)) (size limit : ℕ) (rest : List ℕ) (parsed : ParsedRequest)
     → (first_broken conditions ≡ None → size ≤ limit)
     → AskedBy head (take (needed_size (sized conditions size limit)) rest)

@@ -80,13 +80,7 @@ no_body_byte (Some xs) (Some ys) text c n consumed size other = λ bytes rest si
     let tails : c ∷ ys ≡ 10 ∷ rest = (same_fronts text (c ∷ ys) bytes (10 ∷ rest) (omega arith) (sym grouped ∙ is)).1 in
     other (cc)
 
--- as many bytes as there should be, or fewer, are no body with its line feed
-pub no_body_short : (part : List ℕ) (n : ℕ) → length part ≤ n → HasNoBody n part
-no_body_short part n few = λ bytes rest size is.
-    let whole : length part ≡ length (bytes ++ 10 ∷ rest) = ap length is in
-    omega (arith, length-append bytes (10 ∷ rest))
-
--- nor are they with another byte behind them
+-- as many bytes as there should be are no body with its line feed where another byte stands behind them
 pub no_body_other : (text : List ℕ) (c n : ℕ) → length text ≡ n → c ≢ 10 → HasNoBody n (text ++ c ∷ [])
 no_body_other text c n size other = λ bytes rest size' is.
     let tails : c ∷ [] ≡ 10 ∷ rest = (same_fronts text (c ∷ []) bytes (10 ∷ rest) (omega arith) is).1 in

@@ -26,9 +26,9 @@ IsUnhandled moment input left written out old new =
     (moment < end_of_moments) × (new ≡ old) × Gets written out [] × TakesWithin input left
 
 module _ {T : Type 0} (stands : T → Content → Type 0) (is_live is_clean : T → Type 0) where
-  -- What was taken is what the request of the known input needs, and nothing behind it. The reply, and what becomes of the
-  -- records, are those of the whole input as a request, or it is unavailable. The reply has its form, whatever the tables
-  -- stand for.
+  -- What was taken is what the request of the known input needs, and nothing behind it. The reply, and what becomes of
+  -- the records, are those of the whole input as a request, or it is unavailable. The reply has its form, whatever the
+  -- tables stand for.
   abbrev pub AnswersNeeded : Keys → ℕ → InputStream → InputStream → List ℕ → T → T → Type 0
   AnswersNeeded keys moment input left reply old new =
       (front : List ℕ) × Gives input left front × RequestTaken stands is_live is_clean keys moment front reply old new

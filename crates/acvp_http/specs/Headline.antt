@@ -25,8 +25,8 @@ is_done Unknown = false
 is_done NotInitial = false
 is_done Unavailable = false
 
--- The event is denied over this state: the head, the framing, the route or the clock is at fault, or the reply names the first
--- rule of the policy that is broken; or the order is refused.
+-- The event is denied over this state: the head, the framing, the route or the clock is at fault, or the reply names
+-- the first rule of the policy that is broken; or the order is refused.
 abbrev pub IsDenied : Keys → Event → State → Answer → Type 0
 IsDenied keys (request moment bytes) state (replied reply) =
     RefusesAtOnce moment bytes reply
@@ -36,8 +36,8 @@ IsDenied keys (request moment bytes) state (ordered reply) = ⊥
 IsDenied keys (order moment o) state (replied reply) = ⊥
 IsDenied keys (order moment o) state (ordered reply) = (reply ≡ order_reply o state) × (is_done reply ≡ false)
 
--- The event is accepted over this state: each condition holds, the reply shows its object, and the other state is what its
--- effect leaves.
+-- The event is accepted over this state: each condition holds, the reply shows its object, and the other state is what
+-- its effect leaves.
 abbrev pub IsAccepted : Keys → Event → State → State → Answer → Type 0
 IsAccepted keys (request moment bytes) state next (replied reply) =
     (r : RequestValue) × (shown : Data) × (date : List ℕ) × AsksTheDesk moment bytes r
@@ -67,7 +67,8 @@ IsAnswered keys turn state next answer = MatchBool turn.unavailable
 abbrev pub IsNotAccepted : Keys → Turn → State → Type 0
 IsNotAccepted keys turn state = (turn.unavailable ≡ true) ⊎ ((answer : Answer) × IsDenied keys turn.event state answer)
 
--- what the accepted events among the turns leave of a state: the effect of each, one after another, and nothing of the others
+-- what the accepted events among the turns leave of a state: the effect of each, one after another, and nothing of the
+-- others
 abbrev pub LeftBy : Keys → List Turn → State → State → Type 0
 LeftBy keys [] state now = now ≡ state
 LeftBy keys (turn ∷ turns) state now =

@@ -22,8 +22,8 @@ NeedsBody block size =
     (((size ≡ 0) × ((head : RequestHead) → ReadsRequest block head [] → ⊥))
     ⊎ ((head : RequestHead) × ReadsRequest block head [] × (size ≡ told_by head)))
 
--- The front of an input that its request needs: as much as a head may be where there is no empty line, else the block of the
--- head with its body, as far as these are there.
+-- The front of an input that its request needs: as much as a head may be where there is no empty line, else the block
+-- of the head with its body, as far as these are there.
 abbrev pub IsNeeded : List ℕ → List ℕ → Type 0
 IsNeeded input front =
     (HasNoEmptyLine (window input) × (front ≡ window input))

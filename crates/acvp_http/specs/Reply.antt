@@ -22,8 +22,8 @@ abbrev pub date_line : Option (List ℕ) → List ℕ
 date_line None = []
 date_line (Some date) = line (codes "Date: " ++ date)
 
--- the field that a refusal with status 401 has beside those of every reply: how to authenticate (RFC 9110, section 11.6.1;
--- RFC 6750)
+-- the field that a refusal with status 401 has beside those of every reply: how to authenticate (RFC 9110, section
+-- 11.6.1; RFC 6750)
 abbrev pub rule_line : Rule → List ℕ
 rule_line TokenMissing = line (codes "WWW-Authenticate: Bearer")
 rule_line TokenMalformed = line (codes "WWW-Authenticate: Bearer")

@@ -63,8 +63,8 @@ WritesAnswers old new answers (Err Syntax) = Gets old new (output_of answers)
 WritesAnswers old new answers (Err Limit) = Gets old new (output_of answers)
 WritesAnswers old new answers (Err Memory) = Gets old new (output_of answers)
 
--- The input begins with the script of some turns, which the tables went through and whose answers are written; `left` is what
--- was not taken of it.
+-- The input begins with the script of some turns, which the tables went through and whose answers are written; `left`
+-- is what was not taken of it.
 module _ {T : Type 0} (stands : T → Content → Type 0) (is_live is_clean : T → Type 0) where
   abbrev pub RunsScript : Keys → T → T → InputStream → InputStream → OutputStream → OutputStream → Result ℕ ScriptFault → Type 0
   RunsScript keys tables last input left old new result =

@@ -98,8 +98,8 @@ module _ {T : Type 0} (stands : T → Content → Type 0) (is_live : T → Type 
   abbrev pub Keeps : T → T → Type 0
   Keeps old new = is_live new → (c : Content) → stands old c → stands new c
 
-  -- What is shown of a request of the desk, whatever the tables stand for: a reply with a body; or a denial by some rule, after
-  -- which they stand for what they stood for, and of which something more may be said.
+  -- What is shown of a request of the desk, whatever the tables stand for: a reply with a body; or a denial by some
+  -- rule, after which they stand for what they stood for, and of which something more may be said.
   abbrev pub IsShown : (Rule → Type 0) → ℕ → List ℕ → T → T → Type 0
   IsShown Denied moment reply old new =
       (date : List ℕ) × IsDateOf moment date
@@ -119,9 +119,9 @@ module _ {T : Type 0} (stands : T → Content → Type 0) (is_live : T → Type 
   ShowsEvent (order moment o) (ordered reply) old new = ByReply reply ⊤ (Keeps old new) (Keeps old new)
 
 module _ {T : Type 0} (stands : T → Content → Type 0) (is_live is_clean : T → Type 0) where
-  -- While the disk tells no lie, the tables went by something: for every content that they stood for before, if they were
-  -- open, and that holds what holds at all times, they stand for the content after it, if they are open, and it holds it too.
-  -- So a fault that shuts them ends nothing: what is answered behind it is told over the same content.
+  -- While the disk tells no lie, the tables went by something: for every content that they stood for before, if they
+  -- were open, and that holds what holds at all times, they stand for the content after it, if they are open, and it
+  -- holds it too. So a fault that shuts them ends nothing: what is answered behind it is told over the same content.
   abbrev pub GoesBy : Keys → (Content → Content → Type 0) → T → T → Type 0
   GoesBy keys Step old new = is_clean new → (c : Content) → IsKept keys.seed c → Holds stands is_live old c
       → (next : Content) × Step c next × Holds stands is_live new next × IsKept keys.seed next
@@ -134,8 +134,8 @@ module _ {T : Type 0} (stands : T → Content → Type 0) (is_live is_clean : T 
   abbrev pub GoesByTurns : Keys → List Turn → List Answer → T → T → Type 0
   GoesByTurns keys turns answers old new = GoesBy keys (λ c next. Runs keys turns c next answers) old new
 
-  -- and turn by turn, so that what a later turn does to them says nothing against an earlier one; each answer has its form,
-  -- whatever they stand for
+  -- and turn by turn, so that what a later turn does to them says nothing against an earlier one; each answer has its
+  -- form, whatever they stand for
   abbrev pub GoesThrough : Keys → List Turn → List Answer → T → T → Type 0
   GoesThrough keys [] [] old new = new ≡ old
   GoesThrough keys [] (answer ∷ answers) old new = ⊥
@@ -156,8 +156,8 @@ module _ {T : Type 0} (stands : T → Content → Type 0) (is_live is_clean : T 
       IsShown stands is_live (λ rule. (rule ≡ UnavailableRule) ⊎ (is_clean new → (c d : Content) → leaves old c d → leaves new c d))
       moment reply old new
 
-  -- What a crash finds after the bytes of a request, while the disk tells no lie, of tables that were live: the records after it
-  -- alone where it was answered; where it was unavailable, those before it, or those with its effect.
+  -- What a crash finds after the bytes of a request, while the disk tells no lie, of tables that were live: the records
+  -- after it alone where it was answered; where it was unavailable, those before it, or those with its effect.
   abbrev pub LeavesRequest : Keys → ℕ → List ℕ → List ℕ → T → T → Type 0
   LeavesRequest keys moment bytes reply old new = is_clean new → is_live old → (c : Content) → IsKept keys.seed c → stands old c
       → ((next : Content) × ServesRequest keys moment bytes c next reply × ((d : Content) → leaves new next d))

@@ -273,8 +273,8 @@ impl Routes {
         read(pattern, text)
     }
 
-    /// The route of a method on a path: `NoRoute` where there is no such path, and `NoMethod` where the path has no such
-    /// method.
+    /// The route of a method on a path: `NoRoute` where there is no such path, and `NoMethod` where the path has no
+    /// such method.
     pub fn find(&self, method: &[u8], path: &[u8]) -> Result<Route, Rule>
         ensures { Finds method.now path.now result }
     {

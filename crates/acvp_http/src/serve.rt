@@ -27,8 +27,8 @@ fn date_of(moment: u64) -> [u8; 29]
     }
 }
 
-/// Answers the request of these bytes at a moment, in seconds since 1970. Where the answer is 45, memory or the store was
-/// refused, and the same bytes may be sent again.
+/// Answers the request of these bytes at a moment, in seconds since 1970. Where the answer is 45, memory or the store
+/// was refused, and the same bytes may be sent again.
 pub fn handle_bytes<T: Tables>(
     routes: &Routes,
     desk: &mut Desk<T>,

@@ -1,5 +1,5 @@
-//! Requests at moments and what each must be answered, over any tables, by the desk itself and in bytes. Tokens are those
-//! that Python's hmac signs, under a key of zeros where nothing else is said; digests are those of its hashlib.
+//! Requests at moments and what each must be answered, over any tables, by the desk itself and in bytes. Tokens are
+//! those that Python's hmac signs, under a key of zeros where nothing else is said; digests are those of its hashlib.
 
 pub(crate) mod answers;
 pub(crate) mod asked;

@@ -1,12 +1,12 @@
 //! Each case over lists and over a database in memory, by the desk itself and in bytes.
 
-use crate::cases::server::{DOORS, Door, Over, follows, new_server, server_after};
+use crate::cases::server::{DOORS, Door, Over, server_after};
 use crate::cases::{
     Step, WITH_SAMPLE, WITH_SESSION, answers, caller, cancel, certification, every_action, login,
     monte_carlo, new_session, page, registry, reviewer, seed, session, set,
 };
 use acvp_store::{SqlTables, create};
-use acvp_tables::{ListTables, Tables};
+use acvp_tables::ListTables;
 use sqlite::{Connection, MemStore};
 use std::alloc::Global;
 use std::process::Abort;
@@ -34,25 +34,9 @@ fn takes_each(rt: &impl Abort, alloc: Global, parts: &[&[Step<'_>]]) {
     }
 }
 
-/// Takes these steps, in two parts, with a new server over some tables.
-fn takes<T: Tables + Drop>(
-    rt: &impl Abort,
-    alloc: Global,
-    over: Over<T>,
-    first: &[Step<'_>],
-    second: &[Step<'_>],
-) {
-    let mut server = new_server(rt, alloc, over);
-    follows(rt, &mut server, first);
-    follows(rt, &mut server, second);
-}
-
-/// The same with each form of the tables by each door.
+/// The same in two parts.
 fn takes_both(rt: &impl Abort, alloc: Global, first: &[Step<'_>], second: &[Step<'_>]) {
-    for door in DOORS {
-        takes(rt, alloc, lists(alloc, door), first, second);
-        takes(rt, alloc, database(rt, alloc, door), first, second);
-    }
+    takes_each(rt, alloc, &[first, second]);
 }
 
 /// Takes these steps on the first session of account 7.
@@ -72,10 +56,10 @@ fn on_a_registry(rt: &impl Abort, alloc: Global, steps: &[Step<'_>]) {
 
 #[test]
 fn a_code_logs_in_once(rt: HostRuntime) {
-    login::a_code_logs_in_once(&rt, rt.alloc(), lists(rt.alloc(), Door::Desk));
-    login::a_code_logs_in_once(&rt, rt.alloc(), database(&rt, rt.alloc(), Door::Desk));
-    login::a_code_logs_in_once(&rt, rt.alloc(), lists(rt.alloc(), Door::Bytes));
-    login::a_code_logs_in_once(&rt, rt.alloc(), database(&rt, rt.alloc(), Door::Bytes));
+    for door in DOORS {
+        login::a_code_logs_in_once(&rt, rt.alloc(), lists(rt.alloc(), door));
+        login::a_code_logs_in_once(&rt, rt.alloc(), database(&rt, rt.alloc(), door));
+    }
 }
 
 #[test]
@@ -90,10 +74,10 @@ fn a_code_lasts_to_the_end_of_the_next_step(rt: HostRuntime) {
 
 #[test]
 fn keys_change_between_runs(rt: HostRuntime) {
-    login::keys_change_between_runs(&rt, rt.alloc(), lists(rt.alloc(), Door::Desk));
-    login::keys_change_between_runs(&rt, rt.alloc(), database(&rt, rt.alloc(), Door::Desk));
-    login::keys_change_between_runs(&rt, rt.alloc(), lists(rt.alloc(), Door::Bytes));
-    login::keys_change_between_runs(&rt, rt.alloc(), database(&rt, rt.alloc(), Door::Bytes));
+    for door in DOORS {
+        login::keys_change_between_runs(&rt, rt.alloc(), lists(rt.alloc(), door));
+        login::keys_change_between_runs(&rt, rt.alloc(), database(&rt, rt.alloc(), door));
+    }
 }
 
 #[test]
@@ -118,10 +102,10 @@ fn an_expired_token_is_renewed_with_its_session(rt: HostRuntime) {
 
 #[test]
 fn orders_are_answered(rt: HostRuntime) {
-    login::orders_are_answered(&rt, rt.alloc(), lists(rt.alloc(), Door::Desk));
-    login::orders_are_answered(&rt, rt.alloc(), database(&rt, rt.alloc(), Door::Desk));
-    login::orders_are_answered(&rt, rt.alloc(), lists(rt.alloc(), Door::Bytes));
-    login::orders_are_answered(&rt, rt.alloc(), database(&rt, rt.alloc(), Door::Bytes));
+    for door in DOORS {
+        login::orders_are_answered(&rt, rt.alloc(), lists(rt.alloc(), door));
+        login::orders_are_answered(&rt, rt.alloc(), database(&rt, rt.alloc(), door));
+    }
 }
 
 #[test]
@@ -156,10 +140,10 @@ fn tokens_are_asked_for_before_what_a_path_names(rt: HostRuntime) {
 
 #[test]
 fn a_disabled_account_is_refused(rt: HostRuntime) {
-    caller::a_disabled_account_is_refused(&rt, rt.alloc(), lists(rt.alloc(), Door::Desk));
-    caller::a_disabled_account_is_refused(&rt, rt.alloc(), database(&rt, rt.alloc(), Door::Desk));
-    caller::a_disabled_account_is_refused(&rt, rt.alloc(), lists(rt.alloc(), Door::Bytes));
-    caller::a_disabled_account_is_refused(&rt, rt.alloc(), database(&rt, rt.alloc(), Door::Bytes));
+    for door in DOORS {
+        caller::a_disabled_account_is_refused(&rt, rt.alloc(), lists(rt.alloc(), door));
+        caller::a_disabled_account_is_refused(&rt, rt.alloc(), database(&rt, rt.alloc(), door));
+    }
 }
 
 #[test]
@@ -266,10 +250,10 @@ fn a_set_ends_with_its_results_still_shown(rt: HostRuntime) {
 
 #[test]
 fn the_cache_holds_sixty_four_sets(rt: HostRuntime) {
-    set::the_cache_holds_sixty_four_sets(&rt, rt.alloc(), lists(rt.alloc(), Door::Desk));
-    set::the_cache_holds_sixty_four_sets(&rt, rt.alloc(), database(&rt, rt.alloc(), Door::Desk));
-    set::the_cache_holds_sixty_four_sets(&rt, rt.alloc(), lists(rt.alloc(), Door::Bytes));
-    set::the_cache_holds_sixty_four_sets(&rt, rt.alloc(), database(&rt, rt.alloc(), Door::Bytes));
+    for door in DOORS {
+        set::the_cache_holds_sixty_four_sets(&rt, rt.alloc(), lists(rt.alloc(), door));
+        set::the_cache_holds_sixty_four_sets(&rt, rt.alloc(), database(&rt, rt.alloc(), door));
+    }
 }
 
 #[test]
@@ -314,26 +298,18 @@ fn answers_that_are_refused_are_not_kept(rt: HostRuntime) {
 
 #[test]
 fn a_cancelled_set_is_neither_listed_nor_read(rt: HostRuntime) {
-    cancel::a_cancelled_set_is_neither_listed_nor_read(
-        &rt,
-        rt.alloc(),
-        lists(rt.alloc(), Door::Desk),
-    );
-    cancel::a_cancelled_set_is_neither_listed_nor_read(
-        &rt,
-        rt.alloc(),
-        database(&rt, rt.alloc(), Door::Desk),
-    );
-    cancel::a_cancelled_set_is_neither_listed_nor_read(
-        &rt,
-        rt.alloc(),
-        lists(rt.alloc(), Door::Bytes),
-    );
-    cancel::a_cancelled_set_is_neither_listed_nor_read(
-        &rt,
-        rt.alloc(),
-        database(&rt, rt.alloc(), Door::Bytes),
-    );
+    for door in DOORS {
+        cancel::a_cancelled_set_is_neither_listed_nor_read(
+            &rt,
+            rt.alloc(),
+            lists(rt.alloc(), door),
+        );
+        cancel::a_cancelled_set_is_neither_listed_nor_read(
+            &rt,
+            rt.alloc(),
+            database(&rt, rt.alloc(), door),
+        );
+    }
 }
 
 #[test]
@@ -359,58 +335,42 @@ fn wide_sets_are_made_by_their_standards(rt: HostRuntime) {
 
 #[test]
 fn a_monte_carlo_test_needs_its_hundred_entries(rt: HostRuntime) {
-    monte_carlo::a_monte_carlo_test_needs_its_hundred_entries(
-        &rt,
-        rt.alloc(),
-        lists(rt.alloc(), Door::Desk),
-    );
-    monte_carlo::a_monte_carlo_test_needs_its_hundred_entries(
-        &rt,
-        rt.alloc(),
-        database(&rt, rt.alloc(), Door::Desk),
-    );
-    monte_carlo::a_monte_carlo_test_needs_its_hundred_entries(
-        &rt,
-        rt.alloc(),
-        lists(rt.alloc(), Door::Bytes),
-    );
-    monte_carlo::a_monte_carlo_test_needs_its_hundred_entries(
-        &rt,
-        rt.alloc(),
-        database(&rt, rt.alloc(), Door::Bytes),
-    );
+    for door in DOORS {
+        monte_carlo::a_monte_carlo_test_needs_its_hundred_entries(
+            &rt,
+            rt.alloc(),
+            lists(rt.alloc(), door),
+        );
+        monte_carlo::a_monte_carlo_test_needs_its_hundred_entries(
+            &rt,
+            rt.alloc(),
+            database(&rt, rt.alloc(), door),
+        );
+    }
 }
 
 #[test]
 fn expected_results_of_hmac_pass(rt: HostRuntime) {
-    monte_carlo::expected_results_of_hmac_pass(&rt, rt.alloc(), lists(rt.alloc(), Door::Desk));
-    monte_carlo::expected_results_of_hmac_pass(
-        &rt,
-        rt.alloc(),
-        database(&rt, rt.alloc(), Door::Desk),
-    );
-    monte_carlo::expected_results_of_hmac_pass(&rt, rt.alloc(), lists(rt.alloc(), Door::Bytes));
-    monte_carlo::expected_results_of_hmac_pass(
-        &rt,
-        rt.alloc(),
-        database(&rt, rt.alloc(), Door::Bytes),
-    );
+    for door in DOORS {
+        monte_carlo::expected_results_of_hmac_pass(&rt, rt.alloc(), lists(rt.alloc(), door));
+        monte_carlo::expected_results_of_hmac_pass(
+            &rt,
+            rt.alloc(),
+            database(&rt, rt.alloc(), door),
+        );
+    }
 }
 
 #[test]
 fn sets_keep_the_seed_they_were_made_under(rt: HostRuntime) {
-    seed::sets_keep_the_seed_they_were_made_under(&rt, rt.alloc(), lists(rt.alloc(), Door::Desk));
-    seed::sets_keep_the_seed_they_were_made_under(
-        &rt,
-        rt.alloc(),
-        database(&rt, rt.alloc(), Door::Desk),
-    );
-    seed::sets_keep_the_seed_they_were_made_under(&rt, rt.alloc(), lists(rt.alloc(), Door::Bytes));
-    seed::sets_keep_the_seed_they_were_made_under(
-        &rt,
-        rt.alloc(),
-        database(&rt, rt.alloc(), Door::Bytes),
-    );
+    for door in DOORS {
+        seed::sets_keep_the_seed_they_were_made_under(&rt, rt.alloc(), lists(rt.alloc(), door));
+        seed::sets_keep_the_seed_they_were_made_under(
+            &rt,
+            rt.alloc(),
+            database(&rt, rt.alloc(), door),
+        );
+    }
 }
 
 #[test]

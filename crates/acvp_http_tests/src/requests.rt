@@ -247,9 +247,10 @@ fn a_body_ends_with_its_length_whatever_the_query(rt: HostRuntime) {
     }
 }
 
-/// The head of a read of the account, and what ends it, around the lines that name the token.
+/// The head of a read of the account, up to the lines that name the token.
 const READ: &[u8] = b"GET /acvp/v1/account HTTP/1.1\r\nHost: h\r\n";
 
+/// The end of a line, and of the head.
 const END: &[u8] = b"\r\n";
 
 /// What stands before a good token in a line of a head, what stands behind it, and the rule that such a read breaks.

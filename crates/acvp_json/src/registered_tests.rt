@@ -1,5 +1,5 @@
-//! The replies on what is registered, on requests, and the pages of lists. Their texts are those of Python's `json`, with
-//! sorted members, and the links of pages are reckoned in Python.
+//! The replies on what is registered, on requests, and the pages of lists. Their texts are those of Python's `json`,
+//! with sorted members, and the links of pages are reckoned in Python.
 
 use crate::reply_tests::{assert_shown, text_of};
 use crate::{Page, Registered, ReplyObject};

@@ -1,6 +1,6 @@
 //! Vector sets, results and expected answers as they are written. Messages and keys are OpenSSL's `chacha20` of the
-//! seed, read by the rules of the choice of tests, and digests and HMACs are those of Python's `hashlib` and `hmac`; the
-//! texts of results are those of Python's `json`, with sorted members.
+//! seed, read by the rules of the choice of tests, and digests and HMACs are those of Python's `hashlib` and `hmac`;
+//! the texts of results are those of Python's `json`, with sorted members.
 
 use crate::{ReplyObject, write_reply};
 use acvp_answers::{Answers, Disposition, Verdict, standard};

@@ -8,8 +8,8 @@ use crate::floats::has_float;
 use serde_json::Value;
 use std::alloc::Global;
 
-/// The JSON value that the bytes are. The faults are Field, where the bytes aren't JSON or hold a number that is kept as
-/// a float, and Memory.
+/// The JSON value that the bytes are. The faults are Field, where the bytes aren't JSON or hold a number that is kept
+/// as a float, and Memory.
 pub fn body_value(alloc: Global, body: &[u8]) -> Result<Value, RegFault>
     ensures { MatchResult result (λ value. body_json body.now ≡ Some (view value))
         (λ fault. (fault ≡ RegFault.Memory) ⊎ ((fault ≡ RegFault.Field) × (body_json body.now ≡ None))) }

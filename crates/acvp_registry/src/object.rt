@@ -196,8 +196,8 @@ fn put_url(alloc: Global, value: Value, url: String) -> Result<Value, AllocError
     }
 }
 
-/// The object with `url` set to the URL of its kind and this number, in the place of a `url` that was there. The fault is
-/// Memory.
+/// The object with `url` set to the URL of its kind and this number, in the place of a `url` that was there. The fault
+/// is Memory.
 pub fn with_url(alloc: Global, object: &Object, number: u64) -> Result<Value, RegFault>
     ensures value { IfOk result (λ value. view value ≡ with_url_data object.now number) }
     ensures plain { IfOk result (λ value. has_float (view value) ≡ false) }

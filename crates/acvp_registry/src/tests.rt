@@ -1,4 +1,5 @@
-//! URLs and objects, by the forms that the protocol gives them; the texts of objects are as Python's `json` writes them.
+//! URLs and objects, by the forms that the protocol gives them; the texts of objects are as Python's `json` writes
+//! them.
 
 use crate::{
     Kind, RegFault, body_value, digits_number, object_url, plain_number, read_object, url_number,

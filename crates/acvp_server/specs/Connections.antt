@@ -7,8 +7,8 @@ use Rattle.acvp_server.specs.declared.fault.Fault.{Fault}
 use Rattle.acvp_server.specs.declared.fault.Fault.TheVariants.{Accept}
 
 module _ {T : Type 0} (stands : T → Content → Type 0) (is_live is_clean : T → Type 0) where
-  -- A connection was served at a moment: the request that came is answered, or it is unavailable; or nothing changed, since
-  -- none came whole, or there was no memory for it.
+  -- A connection was served at a moment: the request that came is answered, or it is unavailable; or nothing changed,
+  -- since none came whole, or there was no memory for it.
   abbrev pub ServesConnection : Keys → ℕ → T → T → Type 0
   ServesConnection keys moment old new =
       ((request : List ℕ) × (reply : List ℕ) × RequestTaken stands is_live is_clean keys moment request reply old new)

@@ -13,6 +13,7 @@ most_port = 65535
 abbrev pub most_count : ℕ
 most_count = 1000000
 
--- the text is the decimal of this number, without a sign and without leading zeros, and the number is from 1 to the most
+-- the text is the decimal of this number, without a sign and without leading zeros, and the number is from 1 to the
+-- most
 abbrev pub IsNumber : ℕ → List ℕ → ℕ → Type 0
 IsNumber most text n = (1 ≤ n) × (n ≤ most) × (text ≡ decimal n)

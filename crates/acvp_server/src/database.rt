@@ -1,4 +1,5 @@
-//! The records in a file, whose tables are made, or taken over where they are there, or moved to today's schema; or in memory.
+//! The records in a file, whose tables are made, or taken over where they are there, or moved to today's schema; or in
+//! memory.
 use crate::fault::Fault;
 use acvp_store::{SqlTables, adopt, create, migrate};
 use sqlite::{Connection, FileFrom, FileStore, MemStore, Start};

@@ -23,7 +23,8 @@ pub(crate) enum Fault {
     /// The request was decided before.
     #[error("notInitial")]
     NotInitial,
-    /// The database isn't there or can't be opened; the store refuses a statement, or has a row that stands for nothing.
+    /// The database isn't there or can't be opened; the store refuses a statement, or has a row that stands for
+    /// nothing.
     #[error("unavailable")]
     Unavailable,
     /// The tables of the database aren't those of this version.

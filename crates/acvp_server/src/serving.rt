@@ -55,8 +55,8 @@ fn drop_rest(stream: &TcpStream) {
 }
 
 /// Ends a connection so that its reply isn't lost: were it closed while bytes of it are unread, the system would reset
-/// it, and what the client hasn't read yet would be gone. So this side is ended first, and what still comes is taken, up
-/// to a bound, until the client ends its own.
+/// it, and what the client hasn't read yet would be gone. So this side is ended first, and what still comes is taken,
+/// up to a bound, until the client ends its own.
 fn end(stream: &TcpStream) {
     let patience = Duration::from_secs(PATIENCE);
     if stream.shutdown(Shutdown::Write).is_ok() && stream.set_read_timeout(Some(patience)).is_ok() {

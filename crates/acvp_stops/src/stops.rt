@@ -4,11 +4,12 @@
 use crate::disks::{
     Disks, Held, Stop, all_written, closed, disks, have_stopped, left_by_a_crash, opened,
 };
-use crate::rows::{FIRST_SCHEMA, SECOND_SCHEMA, rows};
+use crate::rows::rows;
 use crate::validation::VALIDATION;
 use acvp_desk::{Desk, KeyRing, Keys, Seeds};
 use acvp_http::{Flagged, Routes, run};
 use acvp_store::{SqlTables, adopt, create, migrate};
+use acvp_store_tests::earlier_schemas::{FIRST_SCHEMA, SECOND_SCHEMA};
 use acvp_tables::Tables;
 use sqlite::{Alter, Connection};
 use std::alloc::Global;

@@ -1,5 +1,5 @@
-//! The events of a validation, each as the script that it is: the tokens are those that Python's hmac signs under a key of
-//! zeros, and the answers those of its hashlib.
+//! The events of a validation, each as the script that it is: the tokens are those that Python's hmac signs under a key
+//! of zeros, and the answers those of its hashlib.
 
 /// From the account to the certification of its implementation, and on to a second test session.
 pub(crate) const VALIDATION: &[&[u8]] = &[

@@ -57,9 +57,6 @@ cast_option (Some n) = cast_whole n
 
 -- ---- a column of texts
 
-pub cast_text : (t : List ℕ) → cast kind.Text (Text t) ≡ Text t
-cast_text t = refl
-
 pub cast_text_option : (o : Option (List ℕ)) → cast kind.Text (or_null Text o) ≡ or_null Text o
 cast_text_option None = refl
 cast_text_option (Some t) = refl

@@ -31,8 +31,8 @@ pub record Stays (old new : State) : Type 0 where
   pub now : IsTrue new.is_open → new.now ≡ old.now
   pub settled : IsTrue new.is_open → IsSettled new
 
--- handed back as it was: it was open, and there are the same rows, nothing more is committed, a transaction is under way exactly
--- where one was, and the limit on steps is the same
+-- handed back as it was: it was open, and there are the same rows, nothing more is committed, a transaction is under
+-- way exactly where one was, and the limit on steps is the same
 pub record IsHandedBack (old new : State) : Type 0 where
   pub was_open : IsTrue old.is_open
   pub now : new.now ≡ old.now

@@ -25,8 +25,8 @@ pub record Begins (old new : Database) : Type 0 where
 abbrev pub BecomesMigrated : Database → Database → Type 0
 BecomesMigrated old new = new.schema ≡ schema_of Migrated
 
--- The trees of a database of a version with the content: they list the tables of the version, and obey their schema, and
--- the rows stand for the content.
+-- The trees of a database of a version with the content: they list the tables of the version, and obey their schema,
+-- and the rows stand for the content.
 pub record IsStoreAt (version : SchemaVersion) (db : Trees) (c : Content) : Type 0 where
   pub sound : IsSound (schema_at version) db
   pub stands : StandsAt version db c
@@ -44,7 +44,8 @@ module _ {S : Type 0} (g : Ghosts S) where
   abbrev pub stands : Held S → Content → Type 0
   stands t c = (layout : Layout) × ((state g t).now.schema ≡ schema_of layout) × Stands layout (state g t).now.trees c
 
-  -- the connection is open and nothing in it waits to be committed; its tables are the store's, which the trees list and obey
+  -- the connection is open and nothing in it waits to be committed; its tables are the store's, which the trees list
+  -- and obey
   pub record IsLive (t : Held S) : Type 0 where
     pub is_open : IsTrue (state g t).is_open
     pub store : IsStore (state g t)

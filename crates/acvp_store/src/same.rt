@@ -219,8 +219,8 @@ pub(crate) fn same_schema(alloc: Global, a: &Schema, b: &Schema) -> Result<bool,
     Ok(tables && a.indexes.same(&b.indexes) && a.views.same(&b.views))
 }
 
-/// Whether a schema has the first tables and the first indexes of one whose tables have no terms, so many of them, and its
-/// views.
+/// Whether a schema has the first tables and the first indexes of one whose tables have no terms, so many of them, and
+/// its views.
 pub(crate) fn same_front(
     alloc: Global,
     a: &Schema,

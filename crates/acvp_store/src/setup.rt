@@ -10,8 +10,8 @@ use crate::work::Work;
 use acvp_tables::StoreFault;
 use sqlite::{Alter, Transaction};
 
-/// The tables, in the order in which they are made; and those that come after the sessions where the table of sets of an
-/// earlier schema is among them.
+/// The tables, in the order in which they are made; and those that come after the sessions where the table of sets of
+/// an earlier schema is among them.
 #[derive(Clone, Copy)]
 pub(crate) enum StoreTable {
     Meta,

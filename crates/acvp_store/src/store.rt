@@ -12,7 +12,7 @@ ghost use Rattle.acvp_tables.specs.State.{IsSound};
 ghost use Rattle.acvp_tables.specs.declared.change.Change.TheVariants as change;
 ghost use Rattle.acvp_tables.specs.declared.change.OrderChange.TheVariants as order;
 ghost use Rattle.acvp_store.specs.Connection.{IsSettled, IsReady, IsHandedBack, ServesStore, IsWritten, LeavesNoMore, LeavesSo, Under};
-ghost use Rattle.acvp_store.specs.Migrated.{IsKnown, IsMigrated, IsAfterMigration, IsOf, Turns};
+ghost use Rattle.acvp_store.specs.Migrated.{IsKnown, IsMigrated, IsAfterMigration, IsOf};
 ghost use Rattle.acvp_store.specs.Schema.{Created, Migrated, no_schema, schema_of, SchemaVersion, schema_at};
 ghost use Rattle.acvp_store.specs.Private.Migration.{version_of, IsEarlierOf};
 ghost use Rattle.acvp_store.specs.Store.{may_fail, Begins, BecomesMigrated, IsStoreAt, IsStoreOf, IsOldOrMigrated, stands, IsLive, is_clean, leaves};
@@ -147,8 +147,8 @@ fn created_in_memory(alloc: Global) -> Result<Connection<MemStore>, StoreFault>
     }
 }
 
-/// Makes the tables as they lie where those of the first schema were there before them, in one transaction. `meta` names no
-/// version.
+/// Makes the tables as they lie where those of the first schema were there before them, in one transaction. `meta`
+/// names no version.
 fn make_migrated_tables<S: Alter>(connection: &mut Connection<S>) -> Result<(), StoreFault>
     requires { IsReady (state S.Store connection.old) }
     ensures { IsWritten result (state S.Store connection.old) (state S.Store connection.new) (Under no_schema BecomesMigrated) }
@@ -183,7 +183,7 @@ fn make_migrated_tables<S: Alter>(connection: &mut Connection<S>) -> Result<(), 
 
 /// The connection to a database in memory with the tables as they lie where those of the first schema were there before
 /// them.
-pub(crate) fn migrated_in_memory(alloc: Global) -> Result<Connection<MemStore>, StoreFault>
+fn migrated_in_memory(alloc: Global) -> Result<Connection<MemStore>, StoreFault>
     ensures { IfOk result (λ connection. (state over_memory connection).now.schema ≡ schema_of Migrated) }
 {
     let mut connection = Connection::open_in_memory(alloc)?;
@@ -239,8 +239,8 @@ fn adopt_named<S: Alter>(
     }
 }
 
-/// Takes over a database whose tables are the store's, where those of the first schema were there before them: its table
-/// of sets has to be empty.
+/// Takes over a database whose tables are the store's, where those of the first schema were there before them: its
+/// table of sets has to be empty.
 fn adopt_migrated<S: Alter>(
     alloc: Global,
     mut connection: Connection<S>,
@@ -261,10 +261,10 @@ fn adopt_migrated<S: Alter>(
     }
 }
 
-/// Takes over a database whose tables are the store's, with the rows that are there. Beside them an empty table `vset` of an
-/// earlier schema may stand, as a migration leaves it. A fault hands the connection back, and the database is as it was:
-/// Schema where the tables aren't exactly these, where `vset` has a row, or where `meta` lacks the row that names their
-/// version. The memory is for the texts of the rows.
+/// Takes over a database whose tables are the store's, with the rows that are there. Beside them an empty table `vset`
+/// of an earlier schema may stand, as a migration leaves it. A fault hands the connection back, and the database is as
+/// it was: Schema where the tables aren't exactly these, where `vset` has a row, or where `meta` lacks the row that
+/// names their version. The memory is for the texts of the rows.
 pub fn adopt<S: Alter>(
     alloc: Global,
     connection: Connection<S>,
@@ -344,9 +344,9 @@ fn migrate_from<S: Alter>(
 }
 
 /// Takes over a database with the tables of schema 1, 2 or 3. Those of the first two are moved to schema 3, in one
-/// transaction: the vector sets of schema 1 get epoch 0, and no session has a reviewer; over schema 3 it is `adopt`. A fault
-/// hands the connection back, and the database is as it was: Schema where the tables aren't exactly those of one of the
-/// three, or `meta` lacks the row that names their version. The memory is for the texts of the rows.
+/// transaction: the vector sets of schema 1 get epoch 0, and no session has a reviewer; over schema 3 it is `adopt`. A
+/// fault hands the connection back, and the database is as it was: Schema where the tables aren't exactly those of one
+/// of the three, or `meta` lacks the row that names their version. The memory is for the texts of the rows.
 pub fn migrate<S: Alter>(
     alloc: Global,
     connection: Connection<S>,

@@ -176,7 +176,7 @@ pub(crate) fn use_step<T: Tables>(tables: &mut T, account: u16, step: u64) -> Ou
 }
 
 /// What the two capabilities are read as.
-pub(crate) fn registration(alloc: Global) -> Option<Registration> {
+fn registration(alloc: Global) -> Option<Registration> {
     let Ok(value) = body_value(alloc, REGISTRATION.as_bytes()) else {
         return None;
     };

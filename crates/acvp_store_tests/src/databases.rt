@@ -1,11 +1,12 @@
 //! The tables over a database in memory: what is taken over, what is refused, and rows that stand for nothing. What is
-//! stored is read back by statements that the crate itself doesn't have.
+//! stored is read back by statements that `acvp_store` doesn't have.
 
 use crate::cases::{
     MADE, REFUSED, SECRET, account, add_account, add_session, algorithm, approve, are,
     ask_for_vendor, has_text, keep_answer, register_vendor, set, sets_of, status, use_step,
     verdict,
 };
+use crate::earlier_schemas::THIRD_SCHEMA_BESIDE_THE_FIRST;
 use acvp_answers::Verdict;
 use acvp_registry::Kind;
 use acvp_store::{AdoptFault, SqlTables, adopt, create};
@@ -14,20 +15,6 @@ use sqlite::{Connection, Error, MemStore, params};
 use std::alloc::Global;
 use std::process::Abort;
 use std::test::Fail;
-
-/// The statements that make the tables of schema 3 where those of the first schema were there before, whose table of sets
-/// is among them.
-const BESIDE_AN_OLD_TABLE: &[&str] = &[
-    "CREATE TABLE meta (name TEXT PRIMARY KEY NOT NULL, value INTEGER NOT NULL) STRICT",
-    "CREATE TABLE account (account INTEGER PRIMARY KEY, secret BLOB NOT NULL, enabled INTEGER NOT NULL, last_step INTEGER) STRICT",
-    "CREATE TABLE session (session INTEGER PRIMARY KEY, account INTEGER NOT NULL REFERENCES account, sample INTEGER NOT NULL, created INTEGER NOT NULL, cancelled INTEGER NOT NULL, certify INTEGER REFERENCES request, live INTEGER NOT NULL, passed INTEGER NOT NULL) STRICT",
-    "CREATE TABLE vset (vs INTEGER PRIMARY KEY, session INTEGER NOT NULL REFERENCES session, capability TEXT NOT NULL, cancelled INTEGER NOT NULL, answers TEXT, verdicts TEXT, disposition INTEGER) STRICT",
-    "CREATE TABLE object (kind INTEGER NOT NULL, number INTEGER NOT NULL, account INTEGER NOT NULL REFERENCES account, body TEXT NOT NULL, PRIMARY KEY (kind, number)) STRICT",
-    "CREATE TABLE request (request INTEGER PRIMARY KEY, account INTEGER NOT NULL REFERENCES account, kind INTEGER NOT NULL, body TEXT NOT NULL, status INTEGER NOT NULL, approved INTEGER) STRICT",
-    "CREATE TABLE vset2 (vs INTEGER PRIMARY KEY, session INTEGER NOT NULL REFERENCES session, capability TEXT NOT NULL, cancelled INTEGER NOT NULL, answers TEXT, verdicts TEXT, disposition INTEGER, epoch INTEGER NOT NULL) STRICT",
-    "CREATE TABLE reviewer (session INTEGER NOT NULL REFERENCES session, account INTEGER NOT NULL, PRIMARY KEY (session, account)) STRICT",
-    "INSERT INTO meta (name, value) VALUES ('schema', 3)",
-];
 
 /// Runs a statement.
 fn run(connection: &mut Connection<MemStore>, text: &str) -> Result<usize, Error> {
@@ -73,7 +60,7 @@ fn taken_over(
 /// A store in memory, in which the table of sets of the first schema is among the tables.
 pub(crate) fn store_beside_an_old_table(rt: &HostRuntime) -> Result<SqlTables<MemStore>, Fail> {
     let mut connection = Connection::open_in_memory(rt.alloc())?;
-    for text in BESIDE_AN_OLD_TABLE {
+    for text in THIRD_SCHEMA_BESIDE_THE_FIRST {
         run(&mut connection, text)?;
     }
     taken_over(rt.alloc(), connection)
@@ -186,7 +173,7 @@ fn an_old_table_of_sets_has_to_be_empty(rt: HostRuntime) -> Result<(), Fail> {
     Ok(())
 }
 
-/// What is left where an account, a session and the session of another account were refused.
+/// What is left where an account, a session, the session of another account and a step were refused.
 const ONE_SESSION: &[(&str, i64)] = &[
     ("SELECT count(*) FROM account WHERE last_step IS NULL", 1),
     ("SELECT count(*) FROM session", 1),

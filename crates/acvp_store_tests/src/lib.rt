@@ -1,10 +1,12 @@
-//! Tests of the tables through the public face of `acvp_store` and the trait `Tables`: there is nothing here but tests.
+//! Tests of the tables through the public face of `acvp_store` and the trait `Tables`, and databases of earlier schemas
+//! for them and for tests elsewhere: there is nothing else here.
 #![tactic(auto)]
 
 #[cfg(test)]
 mod cases;
 #[cfg(test)]
 mod databases;
+pub mod earlier_schemas;
 #[cfg(test)]
 mod migrations;
 #[cfg(test)]

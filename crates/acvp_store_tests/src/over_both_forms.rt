@@ -1,5 +1,5 @@
-//! Each case over lists, and over a database in memory, whose tables lie in each of the two ways. What the cases leave is
-//! told by statements that the crate itself doesn't have.
+//! Each case over lists, and over a database in memory, whose tables lie in each of the two ways. What the cases leave
+//! is told by statements that `acvp_store` doesn't have.
 
 use crate::cases;
 use crate::databases::{gives, new_store, store_beside_an_old_table};

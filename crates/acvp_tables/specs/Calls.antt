@@ -7,8 +7,9 @@ module _ {T C : Type 0} (is_sound : C → Type 0) (stands : T → C → Type 0) 
   Finds shown result old new selected = is_live new → IfOk result (λ found. (c : C) → is_sound c → stands old c → shown found ≡ selected c)
 
 module _ {T C E : Type 0} (faults : E → Type 0) (stands : T → C → Type 0) (is_live is_clean : T → Type 0) (leaves : T → C → C → Type 0) where
-  -- A read. It succeeds of a live store alone, which stays live. A store that is live stands for the same as before. After a
-  -- crash an open finds that alone: `leaves new c d` holds for every d. Live or not, it leaves to a crash what was left before.
+  -- A read. It succeeds of a live store alone, which stays live. A store that is live stands for the same as before.
+  -- After a crash an open finds that alone: `leaves new c d` holds for every d. Live or not, it leaves to a crash what
+  -- was left before.
   pub record Reads {X : Type 0} (result : Result X E) (old new : T) : Type 0 where
     pub fault : IfErr result faults
     pub was_live : is_live new → is_live old
@@ -19,8 +20,9 @@ module _ {T C E : Type 0} (faults : E → Type 0) (stands : T → C → Type 0) 
     pub kept : is_clean new → (c d : C) → leaves old c d → leaves new c d
 
 module _ {T C E : Type 0} (is_sound : C → Type 0) (faults : E → Type 0) (stands : T → C → Type 0) (is_live is_clean : T → Type 0) (leaves : T → C → C → Type 0) where
-  -- A change. It is made of a sound content where it succeeds, and a live store stays live; else the content stays. After a
-  -- crash an open finds the changed content alone where it succeeded; else what was there, or that with the change.
+  -- A change. It is made of a sound content where it succeeds, and a live store stays live; else the content stays.
+  -- After a crash an open finds the changed content alone where it succeeded; else what was there, or that with the
+  -- change.
   pub record Changes {X : Type 0} (result : Result X E) (old new : T) (change : C → C) : Type 0 where
     pub fault : IfErr result faults
     pub was_live : is_live new → is_live old

@@ -23,8 +23,8 @@ has_room session account mine =
     is_reviewer session account mine.reviewers || nat_lt (length (filter (λ row. row.session == session) mine.reviewers)) 16
 
 -- an accepted action's change is next in its account's rows: the account of a new session or request is there, a new
--- session has 1 to 20 sets and was created at a moment that is served, a new request's body is one that is kept and what
--- it names is there, and a new reviewer's session is there and has room
+-- session has 1 to 20 sets and was created at a moment that is served, a new request's body is one that is kept and
+-- what it names is there, and a new reviewer's session is there and has room
 abbrev pub IsNextFor : State → Change → Type 0
 IsNextFor mine (change.NewSession s) =
     (is_account_there s.account mine ≡ true) × IsNextNumber s.account (length mine.sessions) s.number × (nat_lt s.created 4102444800 ≡ true)
@@ -45,7 +45,8 @@ pub record IsWaiting (n : ℕ) (mine : State) : Type 0 where
   pub there : request_at n mine.requests ≡ Some row
   pub initial : row.status ≡ status.Initial
 
--- the number under which a request is approved is its account's next for an object of the kind, or the certified session's
+-- the number under which a request is approved is its account's next for an object of the kind, or the certified
+-- session's
 abbrev pub IsNextApproved : ℕ → State → RequestBody → ℕ → Type 0
 IsNextApproved account mine (body.Registration object) number = number ≡ first_of_account account + length (objects_in object.kind mine.objects)
 IsNextApproved account mine (body.Certification c) number = number ≡ c.session

@@ -1,5 +1,5 @@
--- The records without what is derived of them: no verdict, no disposition, no counter. What each account owns of them, and
--- what it may see. And when they are well numbered.
+-- The records without what is derived of them: no verdict, no disposition, no counter. What each account owns of them,
+-- and what it may see. And when they are well numbered.
 use Rattle.std.specs.Prelude.{◌≡◌, ℕ, ◌+◌, ◌*◌, ◌/◌, ◌≤◌, List, length, map, filter, find, Bool, true, false, ◌==◌, ◌&&◌, ◌||◌, not, nat_le, nat_lt, Option, Some, None, option_map, is_some}
 use Rattle.std.specs.List.{list_all, list_any, range_with_len}
 use Rattle.acvp_answers.specs.Answer.{Answer}
@@ -225,7 +225,8 @@ pub record IsWellNumberedFor (u : ℕ) (mine : State) : Type 0 where
   pub requests : IsNumbered (λ row. row.number) (first_of_account u) mine.requests
   pub few_requests : length mine.requests ≤ 999999
   pub objects : (kind : Kind) → IsNumbered (λ row. row.number) (first_of_account u) (objects_in kind mine.objects)
-  -- no more objects of a kind than approved requests for them; each object is that of one, and each one's object is there
+  -- no more objects of a kind than approved requests for them; each object is that of one, and each one's object is
+  -- there
   pub asked_for : (kind : Kind) → length (objects_in kind mine.objects) ≤ length (filter (has_registered kind) mine.requests)
   pub registered : list_all (λ object. list_any (has_registered_as object) mine.requests) mine.objects ≡ true
   pub given : list_all (has_all_given mine.objects) mine.requests ≡ true

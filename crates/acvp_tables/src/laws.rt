@@ -51,8 +51,8 @@ pub fn grants_name_the_account()
     ensures { (g : Granted) (it : Change) → Covers g it → account_of_change it ≡ g.account }
 {}
 
-/// In well numbered records a look-up by number tells what is found among the rows that an account owns, and among those
-/// that it may see.
+/// In well numbered records a look-up by number tells what is found among the rows that an account owns, and among
+/// those that it may see.
 pub fn numbers_tell()
     ensures account { (u n : ℕ) (state : State) → account_at n (own u state).accounts ≡ (if n == u then account_at n state.accounts else None) }
     ensures session { (u n : ℕ) (state : State) → IsWellNumbered state → session_record_at n (own u state).sessions ≡ (if owner_of n == u then session_record_at n state.sessions else None) }
@@ -107,21 +107,21 @@ pub fn records_begin_well()
     ensures counted { IsCounted no_rows }
 {}
 
-/// A change keeps the records well numbered, where it is next: its new numbers are its account's next, and what it names is
-/// there.
+/// A change keeps the records well numbered, where it is next: its new numbers are its account's next, and what it
+/// names is there.
 pub fn numbers_are_kept()
     ensures change { (it : Change) (state : State) → IsWellNumbered state → IsNext state it → IsWellNumbered (after_state it state) }
     ensures order { (it : OrderChange) (state : State) → IsWellNumbered state → IsNextOrder state it → IsWellNumbered (after_order_state it state) }
 {}
 
-/// An approval gives a number of its request's account: that of an object, of which there are 999999 of a kind at most, or
-/// of the certified session.
+/// An approval gives a number of its request's account: that of an object, of which there are 999999 of a kind at most,
+/// or of the certified session.
 pub fn approvals_name_the_account()
     ensures { (a : Approval) (state : State) → IsWellNumbered state → IsNextOrder state (order.Approve a) → owner_of a.approved ≡ owner_of a.request }
 {}
 
-/// In well numbered records the rows of an account, or of a session, that are listed have rising numbers from its first on,
-/// without gaps; the sets that aren't cancelled are among them.
+/// In well numbered records the rows of an account, or of a session, that are listed have rising numbers from its first
+/// on, without gaps; the sets that aren't cancelled are among them.
 pub fn lists_ascend()
     ensures sessions { (u : ℕ) (state : State) → IsWellNumbered state → IsNumbered (λ row. row.number) (first_of_account u) (session_records_of u state.sessions) }
     ensures objects { (u : ℕ) (kind : Kind) (state : State) → IsWellNumbered state → IsNumbered (λ row. row.number) (first_of_account u) (objects_of kind u state.objects) }
@@ -130,15 +130,15 @@ pub fn lists_ascend()
     ensures live_sets { (s : ℕ) (state : State) → live_records s state.sets ≡ filter (λ row. not row.cancelled) (sets_in s state.sets) }
 {}
 
-/// What a caller counts is what the next numbers come from: the objects of a kind among an account's rows are those of the
-/// kind and the account, and a session's reviewers are as many as its rows of them.
+/// What a caller counts is what the next numbers come from: the objects of a kind among an account's rows are those of
+/// the kind and the account, and a session's reviewers are as many as its rows of them.
 pub fn numbers_count()
     ensures objects { (u : ℕ) (kind : Kind) (state : State) → objects_in kind (own u state).objects ≡ objects_of kind u state.objects }
     ensures reviewers { (s : ℕ) (state : State) → IsWellNumbered state → length (reviewers_of s state.reviewers) ≡ length (filter (λ row. row.session == s) state.reviewers) }
 {}
 
-/// Where all counters are right, and a session and an uncancelled set of it are there, those of the session can be lessened
-/// by what the set gives them.
+/// Where all counters are right, and a session and an uncancelled set of it are there, those of the session can be
+/// lessened by what the set gives them.
 pub fn counters_allow()
     ensures live { (session set : ℕ) (c : Content) → IsSound c → IsCounted c → (there : AreThere session set c) → 1 ≤ there.row.live }
     ensures passed { (session set : ℕ) (c : Content) → IsSound c → IsCounted c → (there : AreThere session set c) → has_passed there.set_row.graded ≡ true → 1 ≤ there.row.passed }

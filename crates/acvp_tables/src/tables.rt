@@ -54,8 +54,8 @@ pub trait Tables {
     /// The disk has told no lie so far.
     ghost is_clean: { Self → Type 0 };
 
-    /// What an open finds after a crash at this moment stands for one of the two contents, where the disk has told no lie.
-    /// Only the store itself says so.
+    /// What an open finds after a crash at this moment stands for one of the two contents, where the disk has told no
+    /// lie. Only the store itself says so.
     ghost leaves: { Self → Content → Content → Type 0 };
 
     /// The account of a number.

@@ -9,7 +9,8 @@ ghost use Rattle.acvp_tables.specs.declared.change.OrderChange.TheVariants as or
 use crate::{AccountRow, ListTables, NewAccount, OrderChange, StoreFault, Tables};
 use std::test::Fail;
 
-/// Adds an account that isn't there, and reads it: three calls over any tables, after which the records are sound still.
+/// Adds an account that isn't there, and reads it: three calls over any tables, after which the records are sound
+/// still.
 fn add_and_read<T: Tables>(
     tables: &mut T,
     account: NewAccount,
