@@ -7,8 +7,8 @@ COMMAND is as in `acvp_server script --keys keys.txt`, under keys of zero bytes.
 accounts that are there, a run of the script that makes them is timed, and one that goes on with so many logins, reads
 of a vector set, or submissions; the difference is theirs. Tokens and codes are Python's own, so that a script stands
 before the program begins. The least of the runs counts. With --instructions the processor's instructions are counted in
-the place of seconds, by callgrind of valgrind, so that a busy machine doesn't matter; of fewer requests, and once. It is
-no part of the gate."""
+the place of seconds, by callgrind of valgrind, so that a busy machine doesn't matter; of fewer requests, and once. It
+is no part of the gate."""
 import re
 import subprocess
 import sys

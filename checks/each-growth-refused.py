@@ -104,8 +104,8 @@ def login(what, moment, step, access=None, renews=True, session=None, number=7):
     return request(what, moment, posting(compact([{"acvVersion": "1.0"}, members])), answer)
 
 
-# The one vector set of the first session of account 7: SHA2-256 over messages of one byte. The greatest length and 16 drawn
-# ones are the same; the words of the draws come first.
+# The one vector set of the first session of account 7: SHA2-256 over messages of one byte. The greatest length and 16
+# drawn ones are the same; the words of the draws come first.
 SESSION, SET = 7000001, 700000101
 WORDS = Words(SEED, SET)
 WORDS.take(16 * 4)

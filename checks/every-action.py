@@ -1,8 +1,9 @@
 #!/usr/bin/env python3
-"""Goes through the protocol for ten accounts in turn over one run of a script: each of the 31 actions is accepted, and each
-rule of refusal is met but three: that an account is full, that the moment isn't served, and that memory is refused. With
-ample memory no reply has status 503 and no order is unavailable. Tokens that are no good are signed by Python's hmac. Each
-account after the first also asks for what the one before it has, and is told no more than of what isn't there."""
+"""Goes through the protocol for ten accounts in turn over one run of a script: each of the 31 actions is accepted, and
+each rule of refusal is met but three: that an account is full, that the moment isn't served, and that memory is
+refused. With ample memory no reply has status 503 and no order is unavailable. Tokens that are no good are signed by
+Python's hmac. Each account after the first also asks for what the one before it has, and is told no more than of what
+isn't there."""
 import hashlib
 import json
 import sys
@@ -164,7 +165,8 @@ class Laboratory:
         return session, bound
 
     def others(self, session):
-        """What another account has is told as what isn't there: by a token that names its session, and by its sets' numbers."""
+        """What another account has is told as what isn't there: by a token that names its session, and by the numbers
+        of its sets."""
         there = self.before.session if self.before else 1
         for foreign in (there, 9999999999):
             for path in (f"/testSessions/{foreign}", session):

@@ -1,6 +1,6 @@
 #!/usr/bin/env python3
-"""Moves files of schemas 1 and 2, which SQLite has made, to schema 3 by the built program, and compares the rows with those
-that were there; also after the program was killed on the way, and over what is no such file.
+"""Moves files of schemas 1 and 2, which SQLite has made, to schema 3 by the built program, and compares the rows with
+those that were there; also after the program was killed on the way, and over what is no such file.
 
     files-of-earlier-schemas.py PROGRAM"""
 import os

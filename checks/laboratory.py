@@ -1,5 +1,5 @@
-"""A laboratory whose records are in a file, as the checks of the program see it: its operator's commands, what is served,
-and a client of it, in standard Python."""
+"""A laboratory whose records are in a file, as the checks of the program see it: its operator's commands, what is
+served, and a client of it, in standard Python."""
 import base64
 import hashlib
 import hmac

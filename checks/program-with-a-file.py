@@ -1,5 +1,6 @@
 #!/usr/bin/env python3
-"""Runs the built program over files and sockets as an operator and clients do, and compares what it does with what it must.
+"""Runs the built program over files and sockets as an operator and clients do, and compares what it does with what it
+must.
 
     program-with-a-file.py PROGRAM [KILLS]
 
@@ -189,7 +190,8 @@ def faults_in_their_order(lab):
 
 
 def no_connection_can_be_taken(lab):
-    """With as many open files as serving needs before its first connection, none can be taken; the system says so at once."""
+    """With as many open files as serving needs before its first connection, none can be taken; the system says so at
+    once."""
     for most in range(4, 32):
         port = free_port()
         process = subprocess.Popen([lab.program, "serve", "--db", lab.db, "--keys", lab.keys, "--port", str(port),
@@ -207,7 +209,8 @@ def no_connection_can_be_taken(lab):
 
 
 def certified(lab):
-    """A session passes and is certified by orders while nobody serves; each restart finds everything. A code is used once."""
+    """A session passes and is certified by orders while nobody serves; each restart finds everything. A code is used
+    once."""
     lab.serve()
     within_a_step(5)
     code = lab.code(7)
@@ -257,7 +260,8 @@ def certified(lab):
 
 
 def keys_that_change(lab):
-    """A key behind the old one signs, and the old one's tokens are good until it is retired; a seed is never taken away."""
+    """A key behind the old one signs, and the old one's tokens are good until it is retired; a seed is never taken
+    away."""
     def keys(name, *lines):
         return lab.write(lab.path(name), "".join(line + "\n" for line in lines))
 
