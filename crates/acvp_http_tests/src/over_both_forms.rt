@@ -1,12 +1,12 @@
 //! Each case over lists and over a database in memory, by the desk itself and in bytes.
 
-use crate::cases::server::{DOORS, Door, Over, server_after};
+use crate::cases::server::{DOORS, Door, Over, follows, new_server, server_after};
 use crate::cases::{
     Step, WITH_SAMPLE, WITH_SESSION, answers, caller, cancel, certification, every_action, login,
     monte_carlo, new_session, page, registry, reviewer, seed, session, set,
 };
 use acvp_store::{SqlTables, create};
-use acvp_tables::ListTables;
+use acvp_tables::{ListTables, Tables};
 use sqlite::{Connection, MemStore};
 use std::alloc::Global;
 use std::process::Abort;
@@ -34,9 +34,25 @@ fn takes_each(rt: &impl Abort, alloc: Global, parts: &[&[Step<'_>]]) {
     }
 }
 
-/// The same in two parts.
+/// Takes these steps, in two parts, with a new server over some tables.
+fn takes<T: Tables + Drop>(
+    rt: &impl Abort,
+    alloc: Global,
+    over: Over<T>,
+    first: &[Step<'_>],
+    second: &[Step<'_>],
+) {
+    let mut server = new_server(rt, alloc, over);
+    follows(rt, &mut server, first);
+    follows(rt, &mut server, second);
+}
+
+/// The same with each form of the tables by each door.
 fn takes_both(rt: &impl Abort, alloc: Global, first: &[Step<'_>], second: &[Step<'_>]) {
-    takes_each(rt, alloc, &[first, second]);
+    for door in DOORS {
+        takes(rt, alloc, lists(alloc, door), first, second);
+        takes(rt, alloc, database(rt, alloc, door), first, second);
+    }
 }
 
 /// Takes these steps on the first session of account 7.
