@@ -36,13 +36,13 @@ fn add_account(rt: &HostRuntime, db: &str, account: u16, secret: &str) -> Result
 
 /// Makes the tables in a file.
 fn init(rt: &HostRuntime, db: &str) -> Result<Line, Fault> {
-    database::close(database::make_tables(rt, db, Wary)?);
+    database::make_tables_in(rt, db, Wary)?;
     Ok(Line::Ready)
 }
 
 /// Moves the tables in a file to today's schema.
 fn migrate(rt: &HostRuntime, db: &str) -> Result<Line, Fault> {
-    database::close(database::move_tables(rt, db, Wary)?);
+    database::move_tables_in(rt, db, Wary)?;
     Ok(Line::Migrated)
 }
 

@@ -4,12 +4,13 @@ ghost use Rattle.acvp_desk.specs.Orders.{IsOrder};
 ghost use Rattle.acvp_server.specs.Lines.{outcome_of};
 ghost use Rattle.acvp_server.specs.Ordered.{IsCarriedOut};
 
-use crate::database::{close, take_over};
+use crate::database::{close, connect_existing, take_over};
 use crate::fault::Fault;
 use crate::lines::Line;
 use acvp_desk::{Order, OrderReply, order_on};
 use acvp_tables::Tables;
-use sqlite::Start;
+use sqlite::{Alter, Connection, Start};
+use std::alloc::Global;
 
 /// The line of an order that was answered so, or its fault. An approval that doesn't say what it gave, as no order is
 /// answered, is unavailable.
@@ -43,6 +44,19 @@ pub(crate) fn carry_out<T: Tables>(tables: &mut T, order: &Order) -> Result<Line
     outcome_of(order, reply)
 }
 
+/// Carries an order out on the records in a store, and gives the connection back with its line.
+fn carry_out_over<S: Alter + Drop>(
+    alloc: Global,
+    connection: Connection<S>,
+    order: &Order,
+) -> Result<(Connection<S>, Line), Fault>
+    requires { IsOrder order.now }
+{
+    let mut tables = take_over(alloc, connection)?;
+    let line = carry_out(&mut tables, order)?;
+    Ok((tables.into_connection(), line))
+}
+
 /// Carries an order out on the records in a file, and gives its line.
 pub(crate) fn order_in<S: Start>(
     rt: &HostRuntime,
@@ -52,8 +66,8 @@ pub(crate) fn order_in<S: Start>(
 ) -> Result<Line, Fault>
     requires { IsOrder order.now }
 {
-    let mut tables = take_over(rt, path, start)?;
-    let line = carry_out(&mut tables, order)?;
-    close(tables);
+    let connection = connect_existing(rt, path, start)?;
+    let (connection, line) = carry_out_over(rt.alloc(), connection, order)?;
+    close(connection);
     Ok(line)
 }

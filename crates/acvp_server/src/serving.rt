@@ -4,7 +4,7 @@ ghost use Rattle.std.specs.Time.{system_time_nanos};
 ghost use Rattle.acvp_desk.specs.Answer.{end_of_moments};
 ghost use Rattle.acvp_server.specs.Connections.{EndsServing, ServesConnection, ServesConnections};
 
-use crate::database::{FileTables, close, take_over};
+use crate::database::{close, connect_existing, take_over};
 use crate::fault::Fault;
 use crate::keys::keys_in;
 use crate::lines::Line;
@@ -12,7 +12,7 @@ use crate::printing::print_line;
 use acvp_desk::{Desk, END_OF_MOMENTS, Keys};
 use acvp_http::{Flagged, Routes, Sink, Source, serve_one};
 use acvp_tables::Tables;
-use sqlite::Start;
+use sqlite::{Alter, Connection, Start};
 use std::alloc::Global;
 use std::io::{self, BufReader, Read};
 use std::net::{Ipv4Addr, Shutdown, TcpListener, TcpStream};
@@ -181,16 +181,30 @@ fn listen_and_serve<T: Tables>(
     serve_connections(rt.alloc(), &routes, desk, &listener, count, rt)
 }
 
-/// The desk over the records in a file.
-fn desk_over<S: Start>(
-    rt: &HostRuntime,
+/// The desk over these records.
+pub(crate) fn desk_over<T: Tables + Drop>(
+    alloc: Global,
     keys: Keys,
-    tables: FileTables<S>,
-) -> Result<Desk<FileTables<S>>, Fault> {
-    match Desk::new(rt.alloc(), keys, tables) {
+    tables: T,
+) -> Result<Desk<T>, Fault> {
+    match Desk::new(alloc, keys, tables) {
         Ok(desk) => Ok(desk),
         Err((_, fault)) => Err(Fault::from(fault)),
     }
+}
+
+/// Serves so many connections over the records in a store, and gives the connection to it back with how that ended.
+fn serve_over<S: Alter + Drop>(
+    rt: &HostRuntime,
+    keys: Keys,
+    connection: Connection<S>,
+    port: u16,
+    count: u64,
+) -> Result<(Connection<S>, Result<(), Fault>), Fault> {
+    let tables = take_over(rt.alloc(), connection)?;
+    let mut desk = desk_over(rt.alloc(), keys, tables)?;
+    let outcome = listen_and_serve(rt, &mut desk, port, count);
+    Ok((desk.into_tables().into_connection(), outcome))
 }
 
 /// Serves so many connections over the records in a file, under the keys in another.
@@ -203,10 +217,9 @@ pub(crate) fn serve<S: Start>(
     count: u64,
 ) -> Result<Line, Fault> {
     let keys = keys_in(rt, keys)?;
-    let tables = take_over(rt, path, start)?;
-    let mut desk = desk_over(rt, keys, tables)?;
-    let outcome = listen_and_serve(rt, &mut desk, port, count);
-    close(desk.into_tables());
+    let connection = connect_existing(rt, path, start)?;
+    let (connection, outcome) = serve_over(rt, keys, connection, port, count)?;
+    close(connection);
     outcome?;
     Ok(Line::Served(count))
 }
