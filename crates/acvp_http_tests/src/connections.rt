@@ -1,12 +1,13 @@
 //! Requests out of readers, some of which fail, and their replies into writers.
 
 use crate::cases::asked::push;
-use crate::cases::server::paths;
+use crate::cases::server::{Door, paths};
+use crate::over_both_forms::{database, lists};
 use crate::requests::{ACCEPTED, LOGIN, desk_of_seven, refusal};
 use crate::streams::{FailsOnce, Interrupted, Narrow};
 use acvp_desk::Desk;
 use acvp_http::{Flagged, ServeFault, serve_one};
-use acvp_tables::ListTables;
+use acvp_tables::Tables;
 use std::alloc::Global;
 use std::io::{ErrorKind, Read, Write};
 use std::process::Abort;
@@ -22,10 +23,10 @@ struct Outcome<R, W> {
     writer: W,
 }
 
-fn serve_over<R: Read + Drop, W: Write + Drop>(
+fn serve_over<T: Tables, R: Read + Drop, W: Write + Drop>(
     rt: &impl Abort,
     alloc: Global,
-    desk: &mut Desk<ListTables>,
+    desk: &mut Desk<T>,
     moment: u64,
     reader: R,
     writer: W,
@@ -42,10 +43,10 @@ fn serve_over<R: Read + Drop, W: Write + Drop>(
 }
 
 /// What an input that is whole is answered at a moment.
-fn reply_to(
+fn reply_to<T: Tables>(
     rt: &impl Abort,
     alloc: Global,
-    desk: &mut Desk<ListTables>,
+    desk: &mut Desk<T>,
     moment: u64,
     input: &[u8],
 ) -> Vec<u8> {
@@ -55,13 +56,13 @@ fn reply_to(
 }
 
 /// Asserts that this front of a login is told that it is cut off.
-fn is_truncated(rt: &impl Abort, alloc: Global, desk: &mut Desk<ListTables>, front: &[u8]) {
+fn is_truncated<T: Tables>(rt: &impl Abort, alloc: Global, desk: &mut Desk<T>, front: &[u8]) {
     let reply = reply_to(rt, alloc, desk, 59, front);
     assert!(rt; reply.ends_with(b"{\"error\":\"truncated\"}]"));
 }
 
 /// Asserts that a login whose reader fails at this place isn't answered.
-fn is_not_answered(rt: &impl Abort, alloc: Global, desk: &mut Desk<ListTables>, place: usize) {
+fn is_not_answered<T: Tables>(rt: &impl Abort, alloc: Global, desk: &mut Desk<T>, place: usize) {
     let reader = FailsOnce {
         bytes: LOGIN,
         place,
@@ -72,23 +73,29 @@ fn is_not_answered(rt: &impl Abort, alloc: Global, desk: &mut Desk<ListTables>, 
     assert!(rt; failed.writer.is_empty());
 }
 
-#[test]
-fn an_input_that_ends_or_fails_early_leaves_the_code(rt: HostRuntime) {
-    let alloc = rt.alloc();
-    let mut desk = desk_of_seven(&rt, alloc);
+/// A login is answered after every front of it was cut off, and after every read of it failed.
+fn leaves_the_code<T: Tables + Drop>(rt: &impl Abort, alloc: Global, tables: T) {
+    let mut desk = desk_of_seven(rt, alloc, tables);
     for end in 0..LOGIN.len() {
-        is_truncated(&rt, alloc, &mut desk, &LOGIN[..end]);
-        is_not_answered(&rt, alloc, &mut desk, end);
+        is_truncated(rt, alloc, &mut desk, &LOGIN[..end]);
+        is_not_answered(rt, alloc, &mut desk, end);
     }
-    let whole = reply_to(&rt, alloc, &mut desk, 59, LOGIN);
+    let whole = reply_to(rt, alloc, &mut desk, 59, LOGIN);
     assert_eq!(rt; whole.as_slice(), ACCEPTED);
 }
 
+#[test]
+fn an_input_that_ends_or_fails_early_leaves_the_code(rt: HostRuntime) {
+    let alloc = rt.alloc();
+    leaves_the_code(&rt, alloc, lists(alloc, Door::Bytes).tables);
+    leaves_the_code(&rt, alloc, database(&rt, alloc, Door::Bytes).tables);
+}
+
 /// Asserts that a writer with this room takes no more of the reply.
-fn writes_as_far(
+fn writes_as_far<T: Tables>(
     rt: &impl Abort,
     alloc: Global,
-    desk: &mut Desk<ListTables>,
+    desk: &mut Desk<T>,
     moment: u64,
     request: &[u8],
     front: &[u8],
@@ -102,30 +109,42 @@ fn writes_as_far(
     assert_eq!(rt; cut.writer.held.as_slice(), front);
 }
 
+/// A reply goes out up to the end of each writer.
+fn writes_each_front<T: Tables + Drop>(rt: &impl Abort, alloc: Global, tables: T) {
+    let mut desk = desk_of_seven(rt, alloc, tables);
+    let reply = refusal(rt, alloc, b"404 Not Found", b"", b"noRoute");
+    for room in 0..reply.len() {
+        writes_as_far(rt, alloc, &mut desk, 90, LOST, &reply[..room]);
+    }
+}
+
 #[test]
 fn a_reply_is_written_as_far_as_the_writer_goes(rt: HostRuntime) {
     let alloc = rt.alloc();
-    let mut desk = desk_of_seven(&rt, alloc);
-    let reply = refusal(&rt, alloc, b"404 Not Found", b"", b"noRoute");
-    for room in 0..reply.len() {
-        writes_as_far(&rt, alloc, &mut desk, 90, LOST, &reply[..room]);
-    }
+    writes_each_front(&rt, alloc, lists(alloc, Door::Bytes).tables);
+    writes_each_front(&rt, alloc, database(&rt, alloc, Door::Bytes).tables);
+}
+
+/// A login whose reply is cut off has used its code.
+fn uses_its_code<T: Tables + Drop>(rt: &impl Abort, alloc: Global, tables: T) {
+    let mut desk = desk_of_seven(rt, alloc, tables);
+    writes_as_far(rt, alloc, &mut desk, 59, LOGIN, b"HTTP/1.1 2");
+    let again = reply_to(rt, alloc, &mut desk, 60, LOGIN);
+    assert!(rt; again.ends_with(b"{\"error\":\"loginRefused\"}]"));
 }
 
 #[test]
 fn a_login_whose_reply_is_cut_has_used_its_code(rt: HostRuntime) {
     let alloc = rt.alloc();
-    let mut desk = desk_of_seven(&rt, alloc);
-    writes_as_far(&rt, alloc, &mut desk, 59, LOGIN, b"HTTP/1.1 2");
-    let again = reply_to(&rt, alloc, &mut desk, 60, LOGIN);
-    assert!(rt; again.ends_with(b"{\"error\":\"loginRefused\"}]"));
+    uses_its_code(&rt, alloc, lists(alloc, Door::Bytes).tables);
+    uses_its_code(&rt, alloc, database(&rt, alloc, Door::Bytes).tables);
 }
 
 /// Asserts that what stands behind a request at a moment stays unread.
-fn leaves_the_rest(
+fn leaves_the_rest<T: Tables>(
     rt: &impl Abort,
     alloc: Global,
-    desk: &mut Desk<ListTables>,
+    desk: &mut Desk<T>,
     needed: &[u8],
     moment: u64,
 ) {
@@ -148,22 +167,56 @@ const NEEDED: &[(&[u8], u64)] = &[
     (b"", 4102444800),
 ];
 
+/// Nothing is read behind what each of these requests needs.
+fn leaves_what_it_does_not_need<T: Tables + Drop>(rt: &impl Abort, alloc: Global, tables: T) {
+    let mut desk = desk_of_seven(rt, alloc, tables);
+    for (needed, moment) in NEEDED {
+        leaves_the_rest(rt, alloc, &mut desk, *needed, *moment);
+    }
+    let long = [b'a'; 16384];
+    leaves_the_rest(rt, alloc, &mut desk, &long, 90);
+}
+
 #[test]
 fn what_a_request_does_not_need_stays_unread(rt: HostRuntime) {
     let alloc = rt.alloc();
-    let mut desk = desk_of_seven(&rt, alloc);
-    for (needed, moment) in NEEDED {
-        leaves_the_rest(&rt, alloc, &mut desk, *needed, *moment);
-    }
-    let long = [b'a'; 16384];
-    leaves_the_rest(&rt, alloc, &mut desk, &long, 90);
+    leaves_what_it_does_not_need(&rt, alloc, lists(alloc, Door::Bytes).tables);
+    leaves_what_it_does_not_need(&rt, alloc, database(&rt, alloc, Door::Bytes).tables);
+}
+
+/// A reader that is always interrupted is read no more at some time.
+fn gives_up<T: Tables + Drop>(rt: &impl Abort, alloc: Global, tables: T) {
+    let mut desk = desk_of_seven(rt, alloc, tables);
+    let stopped = serve_over(rt, alloc, &mut desk, 59, Interrupted, Vec::new(alloc));
+    assert_eq!(rt; stopped.answer, Err(ServeFault::Turns));
+    assert!(rt; stopped.writer.is_empty());
 }
 
 #[test]
 fn a_reader_that_is_always_interrupted_is_given_up(rt: HostRuntime) {
     let alloc = rt.alloc();
-    let mut desk = desk_of_seven(&rt, alloc);
-    let stopped = serve_over(&rt, alloc, &mut desk, 59, Interrupted, Vec::new(alloc));
-    assert_eq!(rt; stopped.answer, Err(ServeFault::Turns));
-    assert!(rt; stopped.writer.is_empty());
+    gives_up(&rt, alloc, lists(alloc, Door::Bytes).tables);
+    gives_up(&rt, alloc, database(&rt, alloc, Door::Bytes).tables);
+}
+
+/// Asserts that a login whose reader is interrupted at this place is accepted.
+fn goes_on<T: Tables + Drop>(rt: &impl Abort, alloc: Global, tables: T, place: usize) {
+    let mut desk = desk_of_seven(rt, alloc, tables);
+    let reader = FailsOnce {
+        bytes: LOGIN,
+        place,
+        fault: Some(ErrorKind::Interrupted),
+    };
+    let served = serve_over(rt, alloc, &mut desk, 59, reader, Vec::new(alloc));
+    assert_eq!(rt; served.answer, Ok(()));
+    assert_eq!(rt; served.writer.as_slice(), ACCEPTED);
+}
+
+#[test]
+fn an_interrupted_read_is_tried_again(rt: HostRuntime) {
+    let alloc = rt.alloc();
+    for place in 0..LOGIN.len() {
+        goes_on(&rt, alloc, lists(alloc, Door::Bytes).tables, place);
+    }
+    goes_on(&rt, alloc, database(&rt, alloc, Door::Bytes).tables, 100);
 }

@@ -7,12 +7,12 @@ use crate::cases::{
 };
 use acvp_store::{SqlTables, create};
 use acvp_tables::{ListTables, Tables};
-use sqlite::{Connection, MemStore};
+use sqlite::{Connection, Error, MemStore, params};
 use std::alloc::Global;
 use std::process::Abort;
 
 /// Empty lists.
-fn lists(alloc: Global, door: Door) -> Over<ListTables> {
+pub(crate) fn lists(alloc: Global, door: Door) -> Over<ListTables> {
     Over {
         tables: ListTables::new(alloc),
         door,
@@ -20,10 +20,21 @@ fn lists(alloc: Global, door: Door) -> Over<ListTables> {
 }
 
 /// A new database in memory.
-fn database(rt: &impl Abort, alloc: Global, door: Door) -> Over<SqlTables<MemStore>> {
+pub(crate) fn database(rt: &impl Abort, alloc: Global, door: Door) -> Over<SqlTables<MemStore>> {
     let connection = Connection::open_in_memory(alloc).expect(rt, "a connection");
     let tables = create(alloc, connection).ok().expect(rt, "the tables");
     Over { tables, door }
+}
+
+/// Asserts the numbers that statements give.
+fn gives(rt: &impl Abort, connection: &mut Connection<MemStore>, wanted: &[(&str, i64)]) {
+    for (text, number) in wanted {
+        let given: Result<i64, Error> = match connection.query_row(text, params![]) {
+            Ok(row) => row.get(0),
+            Err(error) => Err(error),
+        };
+        assert_eq!(rt; given.ok(), Some(*number), "{text}");
+    }
 }
 
 /// Takes these steps, in parts, with a new server over each form of the tables by each door.
@@ -173,12 +184,28 @@ fn each_account_numbers_its_own_sessions(rt: HostRuntime) {
 }
 
 #[test]
+fn accounts_number_their_sessions_in_either_order(rt: HostRuntime) {
+    takes_both(
+        &rt,
+        rt.alloc(),
+        new_session::SEVEN_AND_THEN_NINE,
+        session::A_NEW_SESSION_IS_READ_BY_ITS_TOKEN,
+    );
+    takes_both(
+        &rt,
+        rt.alloc(),
+        new_session::NINE_AND_THEN_SEVEN,
+        session::THE_SESSION_OF_ANOTHER_ACCOUNT_IS_NOT_SEEN,
+    );
+}
+
+#[test]
 fn what_no_registration_is_has_its_rule(rt: HostRuntime) {
     takes_both(
         &rt,
         rt.alloc(),
-        &[],
         new_session::WHAT_NO_REGISTRATION_IS_HAS_ITS_RULE,
+        new_session::LENGTHS_ARE_WHAT_THEIR_ITEMS_HAVE,
     );
 }
 
@@ -280,6 +307,7 @@ fn answers_are_graded_and_kept_whole(rt: HostRuntime) {
         &[
             WITH_SESSION,
             answers::ANSWERS_ARE_GRADED,
+            answers::NOR_IN_THE_PLACE_OF_OTHERS,
             answers::WRONG_AND_MISSING_ONES_ARE_GRADED,
             answers::EACH_TAKES_THE_PLACE_OF_ALL_BEFORE,
         ],
@@ -345,8 +373,32 @@ fn wide_sets_are_made_by_their_standards(rt: HostRuntime) {
         &[
             monte_carlo::WITH_WIDE_SETS,
             monte_carlo::WIDE_SETS_ARE_MADE_BY_THEIR_STANDARDS,
+            monte_carlo::THE_DIGEST_OF_THE_EMPTY_MESSAGE_PASSES,
         ],
     );
+}
+
+/// What is stored of the first set and its session.
+const LAST_MISSING: &[(&str, i64)] = &[
+    (
+        "SELECT count(*) FROM vset2 WHERE vs = 700000101 AND verdicts = 'ppppppppppppppppppppppppm' AND disposition = 1",
+        1,
+    ),
+    (
+        "SELECT count(*) FROM session WHERE session = 7000001 AND live = 2 AND passed = 0",
+        1,
+    ),
+];
+
+#[test]
+fn verdicts_are_stored_by_their_letters(rt: HostRuntime) {
+    let alloc = rt.alloc();
+    for door in DOORS {
+        monte_carlo::with_the_last_missing(&rt, alloc, lists(alloc, door));
+        let over = database(&rt, alloc, door);
+        let tables = monte_carlo::with_the_last_missing(&rt, alloc, over);
+        gives(&rt, &mut tables.into_connection(), LAST_MISSING);
+    }
 }
 
 #[test]
@@ -437,6 +489,20 @@ fn a_certification_freezes_its_session(rt: HostRuntime) {
             certification::FROZEN,
             certification::A_REJECTION_THAWS_IT_AND_AN_APPROVAL_FREEZES_IT,
             certification::FROZEN,
+        ],
+    );
+}
+
+#[test]
+fn a_certification_is_asked_for_again(rt: HostRuntime) {
+    takes_each(
+        &rt,
+        rt.alloc(),
+        &[
+            WITH_SESSION,
+            registry::THREE_REGISTERED,
+            certification::BOTH_PASS,
+            certification::A_CERTIFICATION_IS_ASKED_FOR_AGAIN,
         ],
     );
 }

@@ -1,23 +1,25 @@
 //! Scripts over readers and writers in memory, some of which fail.
 
-use crate::cases::asked::push;
-use crate::cases::server::{desk_over, keys_of, paths};
+use crate::cases::asked::{joined, push};
+use crate::cases::server::{Door, desk_over, keys, keys_of, paths};
+use crate::over_both_forms::{database, lists};
+use crate::requests::ACCEPTED;
 use crate::streams::{FailsOnce, Narrow};
 use acvp_desk::Desk;
 use acvp_http::{Flagged, ScriptFault, run};
-use acvp_tables::{AccountRow, ListTables, Tables};
+use acvp_tables::{AccountRow, Tables};
 use std::alloc::Global;
 use std::io::{ErrorKind, Read, Write};
 use std::process::Abort;
 
-/// A desk without records.
-fn empty_desk(rt: &impl Abort, alloc: Global) -> Desk<ListTables> {
+/// A desk over empty tables.
+fn empty_desk<T: Tables + Drop>(rt: &impl Abort, alloc: Global, tables: T) -> Desk<T> {
     let keys = keys_of(rt, &[Some([1; 32])], &[[2; 32]]);
-    desk_over(rt, alloc, keys, ListTables::new(alloc))
+    desk_over(rt, alloc, keys, tables)
 }
 
 /// The account of a number.
-fn account_of(rt: &impl Abort, desk: Desk<ListTables>, number: u16) -> AccountRow {
+fn account_of<T: Tables + Drop>(rt: &impl Abort, desk: Desk<T>, number: u16) -> AccountRow {
     let mut tables = desk.into_tables();
     tables
         .account(number)
@@ -44,10 +46,10 @@ struct Outcome<W> {
     writer: W,
 }
 
-fn run_over<R: Read + Drop, W: Write + Drop>(
+fn run_over<T: Tables, R: Read + Drop, W: Write + Drop>(
     rt: &impl Abort,
     alloc: Global,
-    desk: &mut Desk<ListTables>,
+    desk: &mut Desk<T>,
     reader: R,
     writer: W,
 ) -> Outcome<W> {
@@ -64,10 +66,10 @@ fn run_over<R: Read + Drop, W: Write + Drop>(
 }
 
 /// Asserts what a script that is read to its end, and its output written, is answered.
-fn answers(
+fn answers<T: Tables>(
     rt: &impl Abort,
     alloc: Global,
-    desk: &mut Desk<ListTables>,
+    desk: &mut Desk<T>,
     script: &[u8],
     answer: Result<u64, ScriptFault>,
     output: &[u8],
@@ -78,32 +80,53 @@ fn answers(
     assert!(rt; !outcome.has_read_fault && !outcome.has_write_fault);
 }
 
-#[test]
-fn orders_are_answered(rt: HostRuntime) {
-    let mut desk = empty_desk(&rt, rt.alloc());
-    answers(&rt, rt.alloc(), &mut desk, ORDERS, Ok(4), ANSWERS);
-    answers(&rt, rt.alloc(), &mut desk, b"", Ok(0), b"");
-    let account = account_of(&rt, desk, 7);
+/// Orders are answered, and what they change is kept.
+fn answers_orders<T: Tables + Drop>(rt: &impl Abort, alloc: Global, tables: T) {
+    let mut desk = empty_desk(rt, alloc, tables);
+    answers(rt, alloc, &mut desk, ORDERS, Ok(4), ANSWERS);
+    answers(rt, alloc, &mut desk, b"", Ok(0), b"");
+    let account = account_of(rt, desk, 7);
     assert_eq!(rt; account.secret[31], 31);
     assert!(rt; !account.enabled);
 }
 
 #[test]
-fn hex_digits_of_either_case_are_read(rt: HostRuntime) {
+fn orders_are_answered(rt: HostRuntime) {
+    let alloc = rt.alloc();
+    answers_orders(&rt, alloc, lists(alloc, Door::Bytes).tables);
+    answers_orders(&rt, alloc, database(&rt, alloc, Door::Bytes).tables);
+}
+
+/// Secrets are read in either case.
+fn reads_either_case<T: Tables + Drop>(rt: &impl Abort, alloc: Global, tables: T) {
     let script: &[u8] = b"account-add 9999999999999999999 9999 \
         ABCDEFabcdef0102030405060708090A0B0C0D0E0F101112131415161718191A\n";
-    let mut desk = empty_desk(&rt, rt.alloc());
-    answers(&rt, rt.alloc(), &mut desk, script, Ok(1), b"order done\n");
-    let account = account_of(&rt, desk, 9999);
+    let mut desk = empty_desk(rt, alloc, tables);
+    answers(rt, alloc, &mut desk, script, Ok(1), b"order done\n");
+    let account = account_of(rt, desk, 9999);
     assert!(rt; account.secret.starts_with(&[0xab, 0xcd, 0xef, 0xab]));
 }
 
 #[test]
-fn requests_are_decided_by_lines(rt: HostRuntime) {
+fn hex_digits_of_either_case_are_read(rt: HostRuntime) {
+    let alloc = rt.alloc();
+    reads_either_case(&rt, alloc, lists(alloc, Door::Bytes).tables);
+    reads_either_case(&rt, alloc, database(&rt, alloc, Door::Bytes).tables);
+}
+
+/// Requests are approved and rejected by lines.
+fn decides_requests<T: Tables + Drop>(rt: &impl Abort, alloc: Global, tables: T) {
     let script: &[u8] = b"request-approve 4 7000001\nrequest-reject 0 9999999999999999999\n";
-    let mut desk = empty_desk(&rt, rt.alloc());
+    let mut desk = empty_desk(rt, alloc, tables);
     let wanted: &[u8] = b"order unknown\norder unknown\n";
-    answers(&rt, rt.alloc(), &mut desk, script, Ok(2), wanted);
+    answers(rt, alloc, &mut desk, script, Ok(2), wanted);
+}
+
+#[test]
+fn requests_are_decided_by_lines(rt: HostRuntime) {
+    let alloc = rt.alloc();
+    decides_requests(&rt, alloc, lists(alloc, Door::Bytes).tables);
+    decides_requests(&rt, alloc, database(&rt, alloc, Door::Bytes).tables);
 }
 
 const OTHER_LINES: &[&str] = &[
@@ -133,11 +156,11 @@ const OTHER_LINES: &[&str] = &[
 ];
 
 /// Asserts that a line behind the orders is refused.
-fn refuses_line(rt: &impl Abort, alloc: Global, line: &str) {
+fn refuses_line<T: Tables + Drop>(rt: &impl Abort, alloc: Global, tables: T, line: &str) {
     let mut script = Vec::new(alloc);
     push(rt, &mut script, ORDERS);
     push(rt, &mut script, line.as_bytes());
-    let mut desk = empty_desk(rt, alloc);
+    let mut desk = empty_desk(rt, alloc, tables);
     let outcome = run_over(rt, alloc, &mut desk, script.as_slice(), Vec::new(alloc));
     assert_eq!(rt; outcome.answer, Err(ScriptFault::Syntax), "at {line:?}");
     assert_eq!(rt; outcome.writer.as_slice(), ANSWERS, "at {line:?}");
@@ -145,8 +168,11 @@ fn refuses_line(rt: &impl Abort, alloc: Global, line: &str) {
 
 #[test]
 fn other_lines_are_refused(rt: HostRuntime) {
+    let alloc = rt.alloc();
     for line in OTHER_LINES {
-        refuses_line(&rt, rt.alloc(), *line);
+        refuses_line(&rt, alloc, lists(alloc, Door::Bytes).tables, *line);
+        let over_a_database = database(&rt, alloc, Door::Bytes).tables;
+        refuses_line(&rt, alloc, over_a_database, *line);
     }
 }
 
@@ -170,13 +196,13 @@ fn ends_in(text: &[u8]) -> usize {
 }
 
 /// Asserts that a read that fails behind this front of the orders ends the run there.
-fn ends_behind(rt: &impl Abort, alloc: Global, front: &[u8]) {
+fn ends_behind<T: Tables + Drop>(rt: &impl Abort, alloc: Global, tables: T, front: &[u8]) {
     let reader = FailsOnce {
         bytes: ORDERS,
         place: front.len(),
         fault: Some(ErrorKind::ConnectionReset),
     };
-    let mut desk = empty_desk(rt, alloc);
+    let mut desk = empty_desk(rt, alloc, tables);
     let outcome = run_over(rt, alloc, &mut desk, reader, Vec::new(alloc));
     assert_eq!(rt; outcome.answer, Err(ScriptFault::Read));
     assert!(rt; outcome.has_read_fault && !outcome.has_write_fault);
@@ -186,36 +212,49 @@ fn ends_behind(rt: &impl Abort, alloc: Global, front: &[u8]) {
 
 #[test]
 fn a_failed_read_ends_the_run(rt: HostRuntime) {
+    let alloc = rt.alloc();
     for place in 0..=ORDERS.len() {
-        ends_behind(&rt, rt.alloc(), &ORDERS[..place]);
+        let front = &ORDERS[..place];
+        ends_behind(&rt, alloc, lists(alloc, Door::Bytes).tables, front);
+        let over_a_database = database(&rt, alloc, Door::Bytes).tables;
+        ends_behind(&rt, alloc, over_a_database, front);
     }
 }
 
-#[test]
-fn an_interrupted_read_is_tried_again(rt: HostRuntime) {
+/// Asserts that a read of the orders that is interrupted at this place is tried again.
+fn goes_on<T: Tables + Drop>(rt: &impl Abort, alloc: Global, tables: T, place: usize) {
     let reader = FailsOnce {
         bytes: ORDERS,
-        place: 170,
+        place,
         fault: Some(ErrorKind::Interrupted),
     };
     let writer = Narrow {
-        held: Vec::new(rt.alloc()),
+        held: Vec::new(alloc),
         room: usize::MAX,
     };
-    let mut desk = empty_desk(&rt, rt.alloc());
-    let outcome = run_over(&rt, rt.alloc(), &mut desk, reader, writer);
+    let mut desk = empty_desk(rt, alloc, tables);
+    let outcome = run_over(rt, alloc, &mut desk, reader, writer);
     assert_eq!(rt; outcome.answer, Ok(4));
     assert!(rt; !outcome.has_read_fault);
     assert_eq!(rt; outcome.writer.held.as_slice(), ANSWERS);
 }
 
+#[test]
+fn an_interrupted_read_is_tried_again(rt: HostRuntime) {
+    let alloc = rt.alloc();
+    for place in 0..=ORDERS.len() {
+        goes_on(&rt, alloc, lists(alloc, Door::Bytes).tables, place);
+    }
+    goes_on(&rt, alloc, database(&rt, alloc, Door::Bytes).tables, 170);
+}
+
 /// Asserts that a writer with room for this front of the answers ends the run.
-fn ends_with_room(rt: &impl Abort, alloc: Global, front: &[u8]) {
+fn ends_with_room<T: Tables + Drop>(rt: &impl Abort, alloc: Global, tables: T, front: &[u8]) {
     let writer = Narrow {
         held: Vec::new(alloc),
         room: front.len(),
     };
-    let mut desk = empty_desk(rt, alloc);
+    let mut desk = empty_desk(rt, alloc, tables);
     let outcome = run_over(rt, alloc, &mut desk, ORDERS, writer);
     assert_eq!(rt; outcome.answer, Err(ScriptFault::Write));
     assert!(rt; outcome.has_write_fault && !outcome.has_read_fault);
@@ -226,15 +265,25 @@ fn ends_with_room(rt: &impl Abort, alloc: Global, front: &[u8]) {
 
 #[test]
 fn a_failed_write_ends_the_run(rt: HostRuntime) {
+    let alloc = rt.alloc();
     for room in 0..ANSWERS.len() {
-        ends_with_room(&rt, rt.alloc(), &ANSWERS[..room]);
+        let front = &ANSWERS[..room];
+        ends_with_room(&rt, alloc, lists(alloc, Door::Bytes).tables, front);
+        let over_a_database = database(&rt, alloc, Door::Bytes).tables;
+        ends_with_room(&rt, alloc, over_a_database, front);
     }
 }
 
-/// A login whose code is that of RFC 6238 for second 59 and SHA-256, two steps old at second 90.
+/// A login at second 90, and at 59, with the code that RFC 6238 gives for second 59 and SHA-256.
 const LATE_LOGIN: &[u8] =
     b"account-add 0 7 3132333435363738393031323334353637383930313233343536373839303132\n\
         request 90 126\n\
+        POST /acvp/v1/login HTTP/1.1\r\nHost: localhost\r\nContent-Length: 57\r\n\r\n\
+        [{\"acvVersion\":\"1.0\"},{\"password\":\"46119246\",\"user\":\"7\"}]\n";
+
+const LOGIN_IN_TIME: &[u8] =
+    b"account-add 0 7 3132333435363738393031323334353637383930313233343536373839303132\n\
+        request 59 126\n\
         POST /acvp/v1/login HTTP/1.1\r\nHost: localhost\r\nContent-Length: 57\r\n\r\n\
         [{\"acvVersion\":\"1.0\"},{\"password\":\"46119246\",\"user\":\"7\"}]\n";
 
@@ -244,8 +293,22 @@ const REFUSED: &[u8] = b"order done\n\
         Content-Type: application/json\r\nContent-Length: 47\r\nConnection: close\r\n\r\n\
         [{\"acvVersion\":\"1.0\"},{\"error\":\"loginRefused\"}]\n";
 
+/// Logins are answered by the code's time, under a key of zeros.
+fn answers_logins<T: Tables + Drop>(rt: &impl Abort, alloc: Global, first: T, second: T) {
+    let mut desk = desk_over(rt, alloc, keys(rt), first);
+    answers(rt, alloc, &mut desk, LATE_LOGIN, Ok(2), REFUSED);
+    let mut desk = desk_over(rt, alloc, keys(rt), second);
+    let parts: [&[u8]; 3] = [b"order done\nreply 292\n", ACCEPTED, b"\n"];
+    let wanted = joined(rt, alloc, &parts);
+    answers(rt, alloc, &mut desk, LOGIN_IN_TIME, Ok(2), &wanted);
+}
+
 #[test]
 fn a_request_is_answered(rt: HostRuntime) {
-    let mut desk = empty_desk(&rt, rt.alloc());
-    answers(&rt, rt.alloc(), &mut desk, LATE_LOGIN, Ok(2), REFUSED);
+    let alloc = rt.alloc();
+    let first = lists(alloc, Door::Bytes).tables;
+    answers_logins(&rt, alloc, first, lists(alloc, Door::Bytes).tables);
+    let first = database(&rt, alloc, Door::Bytes).tables;
+    let second = database(&rt, alloc, Door::Bytes).tables;
+    answers_logins(&rt, alloc, first, second);
 }

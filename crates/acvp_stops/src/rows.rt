@@ -55,6 +55,19 @@ fn put<S: Alter>(
     }
 }
 
+/// Puts all rows behind bytes, a line each.
+fn put_tables<S: Alter>(
+    rt: &impl Abort,
+    all: &mut Vec<u8>,
+    connection: &mut Connection<S>,
+    is_store: bool,
+) {
+    put(rt, all, connection, OF_EVERY_SCHEMA, is_store);
+    put(rt, all, connection, OF_THE_FIRST, false);
+    put(rt, all, connection, FROM_THE_SECOND, is_store);
+    put(rt, all, connection, FROM_THE_THIRD, is_store);
+}
+
 /// The schema and all rows, a line each. A store has its tables.
 pub(crate) fn rows<S: Alter>(
     rt: &impl Abort,
@@ -64,9 +77,17 @@ pub(crate) fn rows<S: Alter>(
 ) -> Vec<u8> {
     let mut all = Vec::new(alloc);
     put(rt, &mut all, connection, SCHEMA, true);
-    put(rt, &mut all, connection, OF_EVERY_SCHEMA, is_store);
-    put(rt, &mut all, connection, OF_THE_FIRST, false);
-    put(rt, &mut all, connection, FROM_THE_SECOND, is_store);
-    put(rt, &mut all, connection, FROM_THE_THIRD, is_store);
+    put_tables(rt, &mut all, connection, is_store);
+    all
+}
+
+/// All rows, a line each, without the schema.
+pub(crate) fn rows_alone<S: Alter>(
+    rt: &impl Abort,
+    alloc: Global,
+    connection: &mut Connection<S>,
+) -> Vec<u8> {
+    let mut all = Vec::new(alloc);
+    put_tables(rt, &mut all, connection, true);
     all
 }

@@ -4,14 +4,15 @@
 use crate::disks::{
     Disks, Held, Stop, all_written, closed, disks, have_stopped, left_by_a_crash, opened,
 };
-use crate::rows::rows;
-use crate::validation::VALIDATION;
+use crate::rows::{rows, rows_alone};
+use crate::validation::{AFTERWARDS, AGAIN, ON_THE_SECOND_SESSION, REFUSED, VALIDATION};
 use acvp_desk::{Desk, KeyRing, Keys, Seeds};
 use acvp_http::{Flagged, Routes, run};
 use acvp_store::{SqlTables, adopt, create, migrate};
 use acvp_store_tests::earlier_schemas::{FIRST_SCHEMA, SECOND_SCHEMA};
 use acvp_tables::Tables;
-use sqlite::{Alter, Connection};
+use sqlite::{Alter, Connection, FileStore};
+use sqlite_disk::{Fuse, Memory};
 use std::alloc::Global;
 use std::process::Abort;
 
@@ -67,6 +68,25 @@ fn acknowledges(output: &[u8]) -> bool {
     output.starts_with(b"order done")
 }
 
+/// The tables after a script with one event, and its output.
+fn run_script<T: Tables + Drop>(
+    rt: &impl Abort,
+    alloc: Global,
+    tables: T,
+    script: &[u8],
+) -> (T, Vec<u8>) {
+    let mut desk = match Desk::new(alloc, keys(rt), tables) {
+        Ok(desk) => desk,
+        Err((tables, _)) => return (tables, Vec::new(alloc)),
+    };
+    let routes = Routes::new(alloc).ok().expect(rt, "paths");
+    let mut reader = Flagged::new(script);
+    let mut writer = Flagged::new(Vec::new(alloc));
+    let answer = run(alloc, &routes, &mut desk, &mut reader, &mut writer);
+    assert!(rt; answer == Ok(1));
+    (desk.into_tables(), writer.into_inner())
+}
+
 /// The tables after a script with one event, and whether it is acknowledged.
 fn scripted<T: Tables + Drop>(
     rt: &impl Abort,
@@ -74,17 +94,9 @@ fn scripted<T: Tables + Drop>(
     tables: T,
     script: &[u8],
 ) -> (T, bool) {
-    let mut desk = match Desk::new(alloc, keys(rt), tables) {
-        Ok(desk) => desk,
-        Err((tables, _)) => return (tables, false),
-    };
-    let routes = Routes::new(alloc).ok().expect(rt, "paths");
-    let mut reader = Flagged::new(script);
-    let mut writer = Flagged::new(Vec::new(alloc));
-    let answer = run(alloc, &routes, &mut desk, &mut reader, &mut writer);
-    assert!(rt; answer == Ok(1));
-    let done = acknowledges(&writer.into_inner());
-    (desk.into_tables(), done)
+    let (tables, output) = run_script(rt, alloc, tables, script);
+    let done = acknowledges(&output);
+    (tables, done)
 }
 
 /// The tables after scripts, and how many events were acknowledged.
@@ -328,4 +340,55 @@ fn a_stop_leaves_the_tables_before_a_migration_or_after_it(rt: HostRuntime) {
         let held = after(&rt, alloc, &nothing, Work::Runs(schema));
         survives(&rt, alloc, held, Work::Migrates);
     }
+}
+
+/// The store that the files are adopted as when they are opened anew.
+fn adopted_anew(rt: &impl Abort, alloc: Global, held: &Held) -> SqlTables<FileStore<Fuse<Memory>>> {
+    let connection = opened(alloc, disks(rt, alloc, held, Stop::Never));
+    let connection = connection.ok().expect(rt, "a database");
+    adopt(alloc, connection).ok().expect(rt, "a store")
+}
+
+/// Asserts what a script with one event puts out.
+fn puts_out<T: Tables + Drop>(
+    rt: &impl Abort,
+    alloc: Global,
+    tables: T,
+    script: &[u8],
+    wanted: &[u8],
+) {
+    let (_, output) = run_script(rt, alloc, tables, script);
+    assert_eq!(rt; output.as_slice(), wanted);
+}
+
+#[test]
+fn a_code_is_used_when_the_file_is_opened_anew(rt: HostRuntime) {
+    let alloc = rt.alloc();
+    let held = after(&rt, alloc, &Held::nothing(alloc), Work::Creates);
+    let logged_in = Work::Scripts(VALIDATION).up_to(2);
+    let held = after(&rt, alloc, &held, logged_in);
+    puts_out(&rt, alloc, adopted_anew(&rt, alloc, &held), AGAIN, REFUSED);
+}
+
+/// These lines.
+fn lines(rt: &impl Abort, alloc: Global, lines: &[&str]) -> Vec<u8> {
+    let mut all = Vec::new(alloc);
+    for line in lines {
+        all.extend_from_slice(line.as_bytes())
+            .ok()
+            .expect(rt, "memory");
+        all.push(b'\n').ok().expect(rt, "memory");
+    }
+    all
+}
+
+#[test]
+fn every_row_is_there_when_the_file_is_opened_anew(rt: HostRuntime) {
+    let alloc = rt.alloc();
+    let held = after(&rt, alloc, &Held::nothing(alloc), Work::Creates);
+    let held = after(&rt, alloc, &held, Work::Scripts(VALIDATION));
+    let held = after(&rt, alloc, &held, Work::Scripts(ON_THE_SECOND_SESSION));
+    let mut connection = adopted_anew(&rt, alloc, &held).into_connection();
+    let found = rows_alone(&rt, alloc, &mut connection);
+    assert_eq!(rt; found.as_slice(), lines(&rt, alloc, AFTERWARDS).as_slice());
 }

@@ -385,7 +385,7 @@ fn certify<T: Tables>(tables: &mut T) -> Outcome {
 }
 
 /// Puts a reviewer of the first session of account 7 in.
-fn add_reviewer<T: Tables>(tables: &mut T, account: u16) -> Outcome {
+pub(crate) fn add_reviewer<T: Tables>(tables: &mut T, account: u16) -> Outcome {
     let reviewer = ReviewerRow {
         session: 7000001,
         account,
@@ -428,7 +428,7 @@ pub(crate) fn account<T: Tables>(
 }
 
 /// A session's account, whether it is a sample, when it was created, and whether it is cancelled.
-fn session<T: Tables>(
+pub(crate) fn session<T: Tables>(
     tables: &mut T,
     number: u64,
 ) -> Result<Option<(u16, bool, u64, bool)>, StoreFault> {
@@ -509,7 +509,7 @@ pub(crate) fn sets_of<T: Tables>(
 }
 
 /// The reviewers of a session.
-fn reviewers_of<T: Tables>(
+pub(crate) fn reviewers_of<T: Tables>(
     alloc: Global,
     tables: &mut T,
     session: u64,
@@ -522,7 +522,7 @@ fn reviewers_of<T: Tables>(
 }
 
 /// The numbers of an account's sessions on a page.
-fn sessions<T: Tables>(
+pub(crate) fn sessions<T: Tables>(
     alloc: Global,
     tables: &mut T,
     account: u16,
@@ -537,7 +537,7 @@ fn sessions<T: Tables>(
 }
 
 /// The numbers of account 7's vendors on a page.
-fn vendors<T: Tables>(
+pub(crate) fn vendors<T: Tables>(
     alloc: Global,
     tables: &mut T,
     offset: u64,
@@ -551,7 +551,7 @@ fn vendors<T: Tables>(
 }
 
 /// The numbers of account 7's requests on a page.
-fn requests<T: Tables>(
+pub(crate) fn requests<T: Tables>(
     alloc: Global,
     tables: &mut T,
     offset: u64,
@@ -658,7 +658,7 @@ fn counts<T: Tables>(tables: &mut T, account: u16) -> Result<[u64; 5], StoreFaul
 }
 
 /// The greatest epoch of all sets.
-fn greatest_epoch<T: Tables>(tables: &mut T) -> Result<Option<u64>, StoreFault> {
+pub(crate) fn greatest_epoch<T: Tables>(tables: &mut T) -> Result<Option<u64>, StoreFault> {
     tables.greatest_epoch()
 }
 

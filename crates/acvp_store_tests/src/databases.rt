@@ -2,9 +2,9 @@
 //! stored is read back by statements that `acvp_store` doesn't have.
 
 use crate::cases::{
-    MADE, REFUSED, SECRET, account, add_account, add_session, algorithm, approve, are,
-    ask_for_vendor, has_text, keep_answer, register_vendor, set, sets_of, status, use_step,
-    verdict,
+    MADE, REFUSED, SECRET, account, add_account, add_reviewer, add_session, algorithm, approve,
+    are, ask_for_vendor, greatest_epoch, has_text, keep_answer, register_vendor, requests,
+    reviewers_of, session, sessions, set, sets_of, status, use_step, vendors, verdict,
 };
 use crate::earlier_schemas::THIRD_SCHEMA_BESIDE_THE_FIRST;
 use acvp_answers::Verdict;
@@ -215,26 +215,40 @@ fn an_approval_of_a_number_that_is_taken_changes_nothing(rt: HostRuntime) -> Res
     Ok(())
 }
 
-/// A read of one row.
+/// A read of one row, or of the rows of account 7 or of a session.
 #[derive(Clone, Copy)]
 enum Read {
     Account(u16),
+    Session(u64),
+    Sessions,
     Set(u64),
+    SetsOf(u64),
+    Epoch,
+    Reviewers,
     Capability(u64),
     Verdicts(u64),
     Vendor(u64),
+    Vendors,
     Request(u64),
+    Requests,
 }
 
 /// Whether a read finds what it is for.
-fn finds<T: Tables>(tables: &mut T, read: Read) -> Result<bool, StoreFault> {
+fn finds<T: Tables>(alloc: Global, tables: &mut T, read: Read) -> Result<bool, StoreFault> {
     match read {
         Read::Account(number) => Ok(account(tables, number)?.is_some()),
+        Read::Session(number) => Ok(session(tables, number)?.is_some()),
+        Read::Sessions => Ok(!sessions(alloc, tables, 7, 0, 20)?.is_empty()),
         Read::Set(number) => Ok(set(tables, number)?.is_some()),
+        Read::SetsOf(number) => Ok(!sets_of(alloc, tables, number)?.is_empty()),
+        Read::Epoch => Ok(greatest_epoch(tables)?.is_some()),
+        Read::Reviewers => Ok(!reviewers_of(alloc, tables, 7000001)?.is_empty()),
         Read::Capability(number) => Ok(algorithm(tables, number)?.is_some()),
         Read::Verdicts(number) => Ok(verdict(tables, number)?.is_some()),
         Read::Vendor(number) => Ok(has_text(tables, Kind::Vendor, number, "")?.is_some()),
+        Read::Vendors => Ok(!vendors(alloc, tables, 0, 20)?.is_empty()),
         Read::Request(number) => Ok(status(tables, number)?.is_some()),
+        Read::Requests => Ok(!requests(alloc, tables, 0, 20)?.is_empty()),
     }
 }
 
@@ -275,12 +289,54 @@ const STAND_FOR_NOTHING: &[(&str, Read, Read)] = &[
         Read::Vendor(7000001),
         Read::Vendor(7000002),
     ),
+    (
+        "UPDATE session SET created = -1 WHERE session = 7000001",
+        Read::Session(7000001),
+        Read::Session(7000002),
+    ),
 ];
 
-/// Two rows of each kind but sessions.
+/// The same for reads of several rows.
+const AMONG_OTHERS: &[(&str, Read, Read)] = &[
+    (
+        "UPDATE session SET sample = 2 WHERE session = 7000001",
+        Read::Sessions,
+        Read::Session(7000002),
+    ),
+    (
+        "UPDATE vset2 SET epoch = -1 WHERE vs = 700000102",
+        Read::SetsOf(7000001),
+        Read::SetsOf(7000002),
+    ),
+    (
+        "UPDATE vset2 SET epoch = -1",
+        Read::Epoch,
+        Read::Session(7000001),
+    ),
+    (
+        "UPDATE reviewer SET account = 70000 WHERE session = 7000001 AND account = 9",
+        Read::Reviewers,
+        Read::Session(7000001),
+    ),
+    (
+        "UPDATE object SET body = '[' WHERE kind = 1 AND number = 7000002",
+        Read::Vendors,
+        Read::Vendor(7000001),
+    ),
+    (
+        "UPDATE request SET status = 7 WHERE request = 7000002",
+        Read::Requests,
+        Read::Request(7000001),
+    ),
+];
+
+/// Two rows of each kind.
 fn fills(rt: &impl Abort, alloc: Global, tables: &mut SqlTables<MemStore>) {
     begins(rt, alloc, tables);
     assert_eq!(rt; add_account(tables, 9), Ok(()));
+    assert_eq!(rt; add_session(alloc, tables, 7, 7000002), MADE);
+    assert_eq!(rt; add_reviewer(tables, 8), MADE);
+    assert_eq!(rt; add_reviewer(tables, 9), MADE);
     assert_eq!(rt;
         keep_answer(alloc, tables, 700000101, Verdict::Passed, 1),
         MADE
@@ -303,17 +359,17 @@ fn meets(
     other: Read,
 ) -> Result<(), Fail> {
     fills(rt, alloc, &mut tables);
-    assert_eq!(rt; finds(&mut tables, read), Ok(true), "before {text}");
+    assert_eq!(rt; finds(alloc, &mut tables, read), Ok(true), "before {text}");
     let mut connection = tables.into_connection();
     run(&mut connection, text)?;
     let mut tables = taken_over(alloc, connection)?;
     assert_eq!(rt;
-        finds(&mut tables, read),
+        finds(alloc, &mut tables, read),
         Err(StoreFault::Refused),
         "after {text}"
     );
     assert_eq!(rt;
-        finds(&mut tables, other),
+        finds(alloc, &mut tables, other),
         Ok(true),
         "another row after {text}"
     );
@@ -322,16 +378,13 @@ fn meets(
 
 #[test]
 fn a_row_that_stands_for_nothing_is_refused_alone(rt: HostRuntime) -> Result<(), Fail> {
-    for (text, read, other) in STAND_FOR_NOTHING {
-        meets(&rt, rt.alloc(), new_store(&rt)?, text, *read, *other)?;
-        meets(
-            &rt,
-            rt.alloc(),
-            store_beside_an_old_table(&rt)?,
-            text,
-            *read,
-            *other,
-        )?;
+    for rows in [STAND_FOR_NOTHING, AMONG_OTHERS] {
+        for (text, read, other) in rows {
+            let created = new_store(&rt)?;
+            meets(&rt, rt.alloc(), created, text, *read, *other)?;
+            let beside = store_beside_an_old_table(&rt)?;
+            meets(&rt, rt.alloc(), beside, text, *read, *other)?;
+        }
     }
     Ok(())
 }

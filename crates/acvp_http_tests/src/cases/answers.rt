@@ -2,7 +2,7 @@
 
 use crate::cases::Answer::{Denied, Made, Shown};
 use crate::cases::Ask::{AddsReviewer, OnSet, WithAnswers, WithToken};
-use crate::cases::Step::{At, Caches};
+use crate::cases::Step::{At, Caches, Refuses};
 use crate::cases::set::UNRECEIVED;
 use crate::cases::{Ask, NINE, NINE_REVIEWS, OF_NINE, OF_THE_SESSION, OF_THE_SESSION_LATE, Step};
 use acvp_policy::{Action, Rule};
@@ -13,8 +13,8 @@ pub(crate) const RECEIVED: &[u8] =
 pub(crate) const SECOND_RECEIVED: &[u8] =
     br#"[{"acvVersion":"1.0"},{"status":"received","url":"/acvp/v1/testSessions/7000001/vectorSets/700000102/results"}]"#;
 
-/// Right answers to the first set, one of them in upper case; with a wrong one, without the third, and the third
-/// alone.
+/// Right answers to the first set, one of them in upper case; with a wrong one, without the third, with both, and the
+/// third alone.
 pub(crate) const ALL_RIGHT: &[u8] =
     br#"[{"acvVersion":"1.0"},{"testGroups":[{"tests":[{"md":"F67AB10AD4E4C53121B6A5FE4DA9C10DDEE905B978D3788D2723D7BFACBE28A9","tcId":1},{"md":"454349e422f05297191ead13e21d3db520e5abef52055e4964b82fb213f593a1","tcId":2},{"md":"7941cb07924fdc7b710e11d98d82850e89566e1c3cb980517ffe4b430f86dfd5","tcId":3},{"md":"0bfe935e70c321c7ca3afc75ce0d0ca2f98b5422e008bb31c00c6d7f1f1c0ad6","tcId":4},{"md":"1f184f101c67d585ba00d24cfde36863f747fbab9e84af7760ec771e9b36ca51","tcId":5},{"md":"a9f51566bd6705f7ea6ad54bb9deb449f795582d6529a0e22207b8981233ec58","tcId":6},{"md":"782e02029374527bd2a5fe7b9545df6c2911078e337a62573970b178d93db481","tcId":7},{"md":"a9253dc8529dd214e5f22397888e78d3390daa47593e26f68c18f97fd7a3876b","tcId":8},{"md":"19152ddfba193b5b09fcb80d1bba5248f36027c06e81670db5a7146fb654d4ec","tcId":9},{"md":"8a331fdde7032f33a71e1b2e257d80166e348e00fcb17914f48bdb57a1c63007","tcId":10},{"md":"88aa3e3b1f22c616b1817981215e7d1e75fa32b22233ebb8477f64600a5ace1f","tcId":11},{"md":"2b4c342f5433ebe591a1da77e013d1b72475562d48578dca8b84bac6651c3cb9","tcId":12},{"md":"6e340b9cffb37a989ca544e6bb780a2c78901d3fb33738768511a30617afa01d","tcId":13},{"md":"32ebb1abcc1c601ceb9c4e3c4faba0caa5b85bb98c4f1e6612c40faa528a91c9","tcId":14},{"md":"bb7208bc9b5d7c04f1236a82a0093a5e33f40423d5ba8d4266f7092c3ba43b62","tcId":15},{"md":"3cbdaf66b3dd2b174788a2f17f938b52dda93a2a97440cead19332cbfacba7c8","tcId":16},{"md":"4e07408562bedb8b60ce05c1decfe3ad16b72230967de01f640b7e4729b49fce","tcId":17}],"tgId":1}],"vsId":700000101}]"#;
 
@@ -23,6 +23,9 @@ pub(crate) const ONE_WRONG: &[u8] =
 
 const ONE_MISSING: &[u8] =
     br#"[{"acvVersion":"1.0"},{"testGroups":[{"tests":[{"md":"f67ab10ad4e4c53121b6a5fe4da9c10ddee905b978d3788d2723d7bfacbe28a9","tcId":1},{"md":"454349e422f05297191ead13e21d3db520e5abef52055e4964b82fb213f593a1","tcId":2},{"md":"0bfe935e70c321c7ca3afc75ce0d0ca2f98b5422e008bb31c00c6d7f1f1c0ad6","tcId":4},{"md":"1f184f101c67d585ba00d24cfde36863f747fbab9e84af7760ec771e9b36ca51","tcId":5},{"md":"a9f51566bd6705f7ea6ad54bb9deb449f795582d6529a0e22207b8981233ec58","tcId":6},{"md":"782e02029374527bd2a5fe7b9545df6c2911078e337a62573970b178d93db481","tcId":7},{"md":"a9253dc8529dd214e5f22397888e78d3390daa47593e26f68c18f97fd7a3876b","tcId":8},{"md":"19152ddfba193b5b09fcb80d1bba5248f36027c06e81670db5a7146fb654d4ec","tcId":9},{"md":"8a331fdde7032f33a71e1b2e257d80166e348e00fcb17914f48bdb57a1c63007","tcId":10},{"md":"88aa3e3b1f22c616b1817981215e7d1e75fa32b22233ebb8477f64600a5ace1f","tcId":11},{"md":"2b4c342f5433ebe591a1da77e013d1b72475562d48578dca8b84bac6651c3cb9","tcId":12},{"md":"6e340b9cffb37a989ca544e6bb780a2c78901d3fb33738768511a30617afa01d","tcId":13},{"md":"32ebb1abcc1c601ceb9c4e3c4faba0caa5b85bb98c4f1e6612c40faa528a91c9","tcId":14},{"md":"bb7208bc9b5d7c04f1236a82a0093a5e33f40423d5ba8d4266f7092c3ba43b62","tcId":15},{"md":"3cbdaf66b3dd2b174788a2f17f938b52dda93a2a97440cead19332cbfacba7c8","tcId":16},{"md":"4e07408562bedb8b60ce05c1decfe3ad16b72230967de01f640b7e4729b49fce","tcId":17}],"tgId":1}],"vsId":700000101}]"#;
+
+const ONE_MISSING_AND_ONE_WRONG: &[u8] =
+    br#"[{"acvVersion":"1.0"},{"testGroups":[{"tests":[{"md":"f67ab10ad4e4c53121b6a5fe4da9c10ddee905b978d3788d2723d7bfacbe28a9","tcId":1},{"md":"454349e422f05297191ead13e21d3db520e5abef52055e4964b82fb213f593a1","tcId":2},{"md":"0bfe935e70c321c7ca3afc75ce0d0ca2f98b5422e008bb31c00c6d7f1f1c0ad6","tcId":4},{"md":"454349e422f05297191ead13e21d3db520e5abef52055e4964b82fb213f593a1","tcId":5},{"md":"a9f51566bd6705f7ea6ad54bb9deb449f795582d6529a0e22207b8981233ec58","tcId":6},{"md":"782e02029374527bd2a5fe7b9545df6c2911078e337a62573970b178d93db481","tcId":7},{"md":"a9253dc8529dd214e5f22397888e78d3390daa47593e26f68c18f97fd7a3876b","tcId":8},{"md":"19152ddfba193b5b09fcb80d1bba5248f36027c06e81670db5a7146fb654d4ec","tcId":9},{"md":"8a331fdde7032f33a71e1b2e257d80166e348e00fcb17914f48bdb57a1c63007","tcId":10},{"md":"88aa3e3b1f22c616b1817981215e7d1e75fa32b22233ebb8477f64600a5ace1f","tcId":11},{"md":"2b4c342f5433ebe591a1da77e013d1b72475562d48578dca8b84bac6651c3cb9","tcId":12},{"md":"6e340b9cffb37a989ca544e6bb780a2c78901d3fb33738768511a30617afa01d","tcId":13},{"md":"32ebb1abcc1c601ceb9c4e3c4faba0caa5b85bb98c4f1e6612c40faa528a91c9","tcId":14},{"md":"bb7208bc9b5d7c04f1236a82a0093a5e33f40423d5ba8d4266f7092c3ba43b62","tcId":15},{"md":"3cbdaf66b3dd2b174788a2f17f938b52dda93a2a97440cead19332cbfacba7c8","tcId":16},{"md":"4e07408562bedb8b60ce05c1decfe3ad16b72230967de01f640b7e4729b49fce","tcId":17}],"tgId":1}],"vsId":700000101}]"#;
 
 const THE_THIRD: &[u8] =
     br#"[{"acvVersion":"1.0"},{"testGroups":[{"tests":[{"md":"7941cb07924fdc7b710e11d98d82850e89566e1c3cb980517ffe4b430f86dfd5","tcId":3}],"tgId":1}],"vsId":700000101}]"#;
@@ -58,6 +61,9 @@ const FAILED: &[u8] =
 const MISSING: &[u8] =
     br#"[{"acvVersion":"1.0"},{"disposition":"missing","tests":[{"result":"passed","tcId":1},{"result":"passed","tcId":2},{"result":"missing","tcId":3},{"result":"passed","tcId":4},{"result":"passed","tcId":5},{"result":"passed","tcId":6},{"result":"passed","tcId":7},{"result":"passed","tcId":8},{"result":"passed","tcId":9},{"result":"passed","tcId":10},{"result":"passed","tcId":11},{"result":"passed","tcId":12},{"result":"passed","tcId":13},{"result":"passed","tcId":14},{"result":"passed","tcId":15},{"result":"passed","tcId":16},{"result":"passed","tcId":17}],"vsId":700000101}]"#;
 
+const FAILED_WITH_ONE_MISSING: &[u8] =
+    br#"[{"acvVersion":"1.0"},{"disposition":"fail","tests":[{"result":"passed","tcId":1},{"result":"passed","tcId":2},{"result":"missing","tcId":3},{"result":"passed","tcId":4},{"result":"fail","tcId":5},{"result":"passed","tcId":6},{"result":"passed","tcId":7},{"result":"passed","tcId":8},{"result":"passed","tcId":9},{"result":"passed","tcId":10},{"result":"passed","tcId":11},{"result":"passed","tcId":12},{"result":"passed","tcId":13},{"result":"passed","tcId":14},{"result":"passed","tcId":15},{"result":"passed","tcId":16},{"result":"passed","tcId":17}],"vsId":700000101}]"#;
+
 const MISSING_BUT_THE_THIRD: &[u8] =
     br#"[{"acvVersion":"1.0"},{"disposition":"missing","tests":[{"result":"missing","tcId":1},{"result":"missing","tcId":2},{"result":"passed","tcId":3},{"result":"missing","tcId":4},{"result":"missing","tcId":5},{"result":"missing","tcId":6},{"result":"missing","tcId":7},{"result":"missing","tcId":8},{"result":"missing","tcId":9},{"result":"missing","tcId":10},{"result":"missing","tcId":11},{"result":"missing","tcId":12},{"result":"missing","tcId":13},{"result":"missing","tcId":14},{"result":"missing","tcId":15},{"result":"missing","tcId":16},{"result":"missing","tcId":17}],"vsId":700000101}]"#;
 
@@ -90,6 +96,17 @@ pub(crate) const WRONG_AND_MISSING_ONES_ARE_GRADED: &[Step] = &[
         Made(RECEIVED),
     ),
     At(64, RESULTS, Shown(MISSING)),
+    At(
+        63,
+        WithAnswers(
+            Action::Resubmit,
+            700000101,
+            OF_THE_SESSION,
+            ONE_MISSING_AND_ONE_WRONG,
+        ),
+        Made(RECEIVED),
+    ),
+    At(64, RESULTS, Shown(FAILED_WITH_ONE_MISSING)),
 ];
 
 pub(crate) const EACH_TAKES_THE_PLACE_OF_ALL_BEFORE: &[Step] = &[
@@ -173,43 +190,26 @@ pub(crate) const AND_NOT_WITH_ONE_OF_THEM: &[Step] = &[
     At(63, RESULTS_OF_BOTH, Shown(THE_FIRST_ALONE)),
 ];
 
-/// The rule of each body that is refused; then who may not submit and when, and that none of them is kept.
-pub(crate) const ANSWERS_THAT_ARE_REFUSED: &[Step] = &[
-    At(
-        61,
-        WithAnswers(Action::Submit, 700000101, OF_THE_SESSION, b"answers"),
-        Denied(Rule::BodyNotJson),
+/// The rule of each body that is no answers to the first set.
+const NO_ANSWERS: &[(&[u8], Rule)] = &[
+    (b"answers", Rule::BodyNotJson),
+    (b"{}", Rule::BodyEnvelope),
+    (
+        br#"[{"acvVersion":"1.0"},{"vsId":700000101}]"#,
+        Rule::BodyField,
     ),
-    At(
-        61,
-        WithAnswers(Action::Submit, 700000101, OF_THE_SESSION, b"{}"),
-        Denied(Rule::BodyEnvelope),
-    ),
-    At(
-        61,
-        WithAnswers(
-            Action::Submit,
-            700000101,
-            OF_THE_SESSION,
-            br#"[{"acvVersion":"1.0"},{"vsId":700000101}]"#,
-        ),
-        Denied(Rule::BodyField),
-    ),
-    At(
-        61,
-        WithAnswers(Action::Submit, 700000101, OF_THE_SESSION, SECOND_RIGHT),
-        Denied(Rule::SetMismatch),
-    ),
-    At(
-        61,
-        WithAnswers(Action::Submit, 700000101, OF_THE_SESSION, TWICE),
-        Denied(Rule::DuplicateTest),
-    ),
-    At(
-        61,
-        WithAnswers(Action::Submit, 700000101, OF_THE_SESSION, UNKNOWN),
-        Denied(Rule::UnknownTest),
-    ),
+    (SECOND_RIGHT, Rule::SetMismatch),
+    (TWICE, Rule::DuplicateTest),
+    (UNKNOWN, Rule::UnknownTest),
+];
+
+/// They are refused where there are none, and in the place of others; then who may not submit and when, and that none
+/// of them is kept.
+pub(crate) const ANSWERS_THAT_ARE_REFUSED: &[Step] = &[Refuses(61, Action::Submit, NO_ANSWERS)];
+
+pub(crate) const NOR_IN_THE_PLACE_OF_OTHERS: &[Step] = &[
+    Refuses(61, Action::Resubmit, NO_ANSWERS),
+    At(62, RESULTS, Shown(PASSED)),
 ];
 
 pub(crate) const ARE_NOT_KEPT: &[Step] = &[

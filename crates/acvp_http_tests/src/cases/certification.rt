@@ -4,6 +4,7 @@ use crate::cases::Answer::{Denied, Made, Shown};
 use crate::cases::Ask::{OnSet, WithAnswers, WithBody, WithToken};
 use crate::cases::Step::{Approves, At, Rejects};
 use crate::cases::answers::{ALL_RIGHT, ONE_WRONG, RECEIVED, SECOND_RECEIVED, SECOND_RIGHT};
+use crate::cases::registry::FOURTH_WAITS;
 use crate::cases::{Ask, OF_SEVEN, OF_THE_SESSION, Step};
 use acvp_desk::{Kind, OrderReply};
 use acvp_policy::{Action, Rule};
@@ -18,6 +19,9 @@ pub(crate) const FIFTH_WAITS: &[u8] =
 
 const FIFTH_REJECTED: &[u8] =
     br#"[{"acvVersion":"1.0"},{"status":"rejected","url":"/acvp/v1/requests/7000005"}]"#;
+
+const FIFTH_APPROVED: &[u8] =
+    br#"[{"acvVersion":"1.0"},{"approvedUrl":"/acvp/v1/testSessions/7000001","status":"approved","url":"/acvp/v1/requests/7000005"}]"#;
 
 const SIXTH_WAITS: &[u8] =
     br#"[{"acvVersion":"1.0"},{"status":"initial","url":"/acvp/v1/requests/7000006"}]"#;
@@ -101,6 +105,21 @@ pub(crate) const A_REJECTION_THAWS_IT_AND_AN_APPROVAL_FREEZES_IT: &[Step] = &[
     Approves(7000006, OrderReply::NotInitial),
     At(102, READ_SIXTH, Shown(SIXTH_APPROVED)),
     At(102, READ, Shown(APPROVED)),
+];
+
+/// A certification is the fourth request where there are three, and the fifth once that is rejected.
+pub(crate) const A_CERTIFICATION_IS_ASKED_FOR_AGAIN: &[Step] = &[
+    At(102, CERTIFY, Made(FOURTH_WAITS)),
+    At(102, RESUBMIT, Denied(Rule::SessionFrozen)),
+    Rejects(7000004, OrderReply::Done(None)),
+    At(102, RESUBMIT, Made(RECEIVED)),
+    At(102, CERTIFY, Made(FIFTH_WAITS)),
+    Approves(
+        7000005,
+        OrderReply::Done(Some((Kind::Certification, 7000001))),
+    ),
+    At(102, READ_FIFTH, Shown(FIFTH_APPROVED)),
+    At(102, CANCEL, Denied(Rule::SessionFrozen)),
 ];
 
 /// Only a session whose vector sets have passed, those aside that are cancelled, is certified.

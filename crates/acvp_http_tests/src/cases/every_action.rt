@@ -431,6 +431,23 @@ pub(crate) const ON_THE_FIRST_SESSION: &[Step] = &[
         TokenField::Bearer(OF_THE_SESSION),
         Denied(Rule::SessionFrozen),
     ),
+    Each(
+        103,
+        &[
+            Action::ListAlgorithms,
+            Action::ListVendors,
+            Action::ReadVendor,
+            Action::ListModules,
+            Action::ReadModule,
+            Action::ListEnvironments,
+            Action::ReadEnvironment,
+            Action::ListRequests,
+        ],
+        7000001,
+        0,
+        TokenField::Bearer(OF_THE_SESSION),
+        Accepted(false),
+    ),
 ];
 
 /// The token of the second session.

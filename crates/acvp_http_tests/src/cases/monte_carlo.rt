@@ -2,14 +2,15 @@
 //! answers, and what is answered to who sends these back. Digests are of bodies that a program in Python makes with
 //! ChaCha20 of its `cryptography`, hashlib and hmac.
 
-use crate::cases::Answer::{Digested, Made};
+use crate::cases::Answer::{Denied, Digested, Made, Shown};
 use crate::cases::Ask::{OnSet, Registers, WithAnswers};
 use crate::cases::Step::At;
 use crate::cases::answers::{RECEIVED, SECOND_RECEIVED};
 use crate::cases::asked::joined;
 use crate::cases::server::{Over, Server, asks, reply_of, server_after};
 use crate::cases::{Ask, FIRST, OF_SEVEN, OF_THE_SESSION, Step};
-use acvp_policy::Action;
+use acvp_answers::{Disposition, verdicts_to_text};
+use acvp_policy::{Action, Rule};
 use acvp_tables::Tables;
 use std::alloc::Global;
 use std::process::Abort;
@@ -165,4 +166,65 @@ pub(crate) fn expected_results_of_hmac_pass<T: Tables + Drop>(
     let mut server = wide_server(rt, alloc, over);
     let right = reply_of(rt, &mut server, 61, SHOW_EXPECTED_OF_HMAC);
     all_of_hmac_pass(rt, &mut server, &right);
+}
+
+/// Answers to the first set: to a test that it doesn't have, and the digest of the empty message to the first alone;
+/// and its results with the latter.
+const OF_A_TEST_99: &[u8] =
+    br#"[{"acvVersion":"1.0"},{"testGroups":[{"tests":[{"md":"E3B0C44298FC1C149AFBF4C8996FB92427AE41E4649B934CA495991B7852B855","tcId":99}],"tgId":1}],"vsId":700000101}]"#;
+
+const OF_THE_EMPTY_MESSAGE: &[u8] =
+    br#"[{"acvVersion":"1.0"},{"testGroups":[{"tests":[{"md":"E3B0C44298FC1C149AFBF4C8996FB92427AE41E4649B934CA495991B7852B855","tcId":1}],"tgId":1}],"vsId":700000101}]"#;
+
+const THE_FIRST_PASSED: &[u8] =
+    br#"[{"acvVersion":"1.0"},{"disposition":"missing","tests":[{"result":"passed","tcId":1},{"result":"missing","tcId":2},{"result":"missing","tcId":3},{"result":"missing","tcId":4},{"result":"missing","tcId":5},{"result":"missing","tcId":6},{"result":"missing","tcId":7},{"result":"missing","tcId":8},{"result":"missing","tcId":9},{"result":"missing","tcId":10},{"result":"missing","tcId":11},{"result":"missing","tcId":12},{"result":"missing","tcId":13},{"result":"missing","tcId":14},{"result":"missing","tcId":15},{"result":"missing","tcId":16},{"result":"missing","tcId":17},{"result":"missing","tcId":18},{"result":"missing","tcId":19},{"result":"missing","tcId":20},{"result":"missing","tcId":21},{"result":"missing","tcId":22},{"result":"missing","tcId":23},{"result":"missing","tcId":24},{"result":"missing","tcId":25}],"vsId":700000101}]"#;
+
+/// The first message of the first set is empty, and its digest in capitals passes.
+pub(crate) const THE_DIGEST_OF_THE_EMPTY_MESSAGE_PASSES: &[Step] = &[
+    At(
+        61,
+        WithAnswers(Action::Submit, 700000101, OF_THE_SESSION, OF_A_TEST_99),
+        Denied(Rule::UnknownTest),
+    ),
+    At(
+        61,
+        WithAnswers(
+            Action::Submit,
+            700000101,
+            OF_THE_SESSION,
+            OF_THE_EMPTY_MESSAGE,
+        ),
+        Made(RECEIVED),
+    ),
+    At(62, RESULTS, Shown(THE_FIRST_PASSED)),
+];
+
+/// Asserts that the first set is stored with a right answer to each of its tests but the last.
+fn is_stored_without_the_last<T: Tables>(rt: &impl Abort, alloc: Global, tables: &mut T) {
+    let set = tables.set(700000101).ok().expect(rt, "a look-up");
+    let set = set.expect(rt, "a set");
+    assert_eq!(rt; set.disposition, Some(Disposition::Missing));
+    let verdicts = tables.verdicts(700000101).ok().expect(rt, "a look-up");
+    let verdicts = verdicts.expect(rt, "verdicts");
+    let text = verdicts_to_text(alloc, &verdicts).ok().expect(rt, "memory");
+    assert_eq!(rt; text.as_str(), "ppppppppppppppppppppppppm");
+}
+
+/// The tables once the first set is answered but for its last test.
+pub(crate) fn with_the_last_missing<T: Tables + Drop>(
+    rt: &impl Abort,
+    alloc: Global,
+    over: Over<T>,
+) -> T {
+    let mut server = wide_server(rt, alloc, over);
+    let right = reply_of(rt, &mut server, 61, SHOW_EXPECTED);
+    let (front, _) = parted(rt, &right, END);
+    let (front, _) = parted(rt, front, ENTRIES);
+    let (first_group, _) = parted(rt, front, GROUP);
+    all_pass(rt, &mut server, &right);
+    let after: &[u8] = br#"],"vsId":700000101}]"#;
+    again(rt, alloc, &mut server, &[first_group, after], LAST_MISSING);
+    let mut tables = server.into_over().tables;
+    is_stored_without_the_last(rt, alloc, &mut tables);
+    tables
 }

@@ -27,7 +27,7 @@ const SECOND_WAITS: &[u8] =
 const THIRD_WAITS: &[u8] =
     br#"[{"acvVersion":"1.0"},{"status":"initial","url":"/acvp/v1/requests/7000003"}]"#;
 
-const FOURTH_WAITS: &[u8] =
+pub(crate) const FOURTH_WAITS: &[u8] =
     br#"[{"acvVersion":"1.0"},{"status":"initial","url":"/acvp/v1/requests/7000004"}]"#;
 
 /// The first request when it is approved, and what it registered.
@@ -158,6 +158,20 @@ pub(crate) const ALL_REGISTERED: &[Step] = &[
         Made(FOURTH_WAITS),
     ),
     Approves(7000004, ENVIRONMENT_APPROVED),
+];
+
+/// A vendor, a module and an environment of account 7 are registered, by its first three requests.
+pub(crate) const THREE_REGISTERED: &[Step] = &[
+    At(100, ASK, Made(FIRST_WAITS)),
+    Approves(7000001, VENDOR_APPROVED),
+    At(100, ASK_FOR_A_MODULE, Made(SECOND_WAITS)),
+    Approves(7000002, MODULE_APPROVED),
+    At(
+        100,
+        WithBody(Action::NewEnvironment, 0, OF_SEVEN, ENVIRONMENT),
+        Made(THIRD_WAITS),
+    ),
+    Approves(7000003, ENVIRONMENT_APPROVED),
 ];
 
 /// What is shown of the account.
@@ -304,6 +318,21 @@ pub(crate) const EACH_LIST_HAS_ITS_PAGES: &[Step] = &[
     ),
     At(
         100,
+        WithQuery(Action::ListVendors, OF_SEVEN, b"limit=101"),
+        Denied(Rule::BadPage),
+    ),
+    At(
+        100,
+        WithQuery(Action::ListVendors, OF_SEVEN, b"offset=01"),
+        Denied(Rule::BadPage),
+    ),
+    At(
+        100,
+        WithQuery(Action::ListVendors, OF_SEVEN, b"name=x"),
+        Denied(Rule::BadPage),
+    ),
+    At(
+        100,
         WithQuery(Action::ListModules, OF_SEVEN, b"limit=0"),
         Denied(Rule::BadPage),
     ),
@@ -363,8 +392,28 @@ pub(crate) const WHAT_NO_OBJECT_IS_HAS_ITS_RULE: &[Step] = &[
     ),
     At(
         100,
+        WithBody(Action::NewModule, 0, OF_SEVEN, b"["),
+        Denied(Rule::BodyNotJson),
+    ),
+    At(
+        100,
+        WithBody(Action::NewModule, 0, OF_SEVEN, b"{}"),
+        Denied(Rule::BodyEnvelope),
+    ),
+    At(
+        100,
         WithBody(Action::NewModule, 0, OF_SEVEN, ACME),
         Denied(Rule::BodyField),
+    ),
+    At(
+        100,
+        WithBody(Action::NewEnvironment, 0, OF_SEVEN, b"["),
+        Denied(Rule::BodyNotJson),
+    ),
+    At(
+        100,
+        WithBody(Action::NewEnvironment, 0, OF_SEVEN, b"{}"),
+        Denied(Rule::BodyEnvelope),
     ),
     At(
         100,

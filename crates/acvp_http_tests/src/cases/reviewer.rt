@@ -152,4 +152,6 @@ pub(crate) const SIXTEEN_ACCOUNTS_REVIEW_A_SESSION: &[Step] = &[
         AddsReviewer(br#"[{"acvVersion":"1.0"},{"account":0}]"#),
         Denied(Rule::BodyField),
     ),
+    At(61, AddsReviewer(b"["), Denied(Rule::BodyNotJson)),
+    At(61, AddsReviewer(b"{}"), Denied(Rule::BodyEnvelope)),
 ];

@@ -1,8 +1,10 @@
 //! What is answered on a test session.
 
 use crate::cases::Answer::{Denied, Made, Shown};
-use crate::cases::Ask::{AddsReviewer, WithToken};
+use crate::cases::Ask::{AddsReviewer, Bare, WithQuery, WithToken};
 use crate::cases::Step::{At, Each};
+use crate::cases::caller::{OF_ANOTHERS_SESSION, SECOND};
+use crate::cases::set::{OF_THE_FIRST, PROMPTS};
 use crate::cases::{
     Ask, NINE, NINE_REVIEWS, OF_NINE, OF_SEVEN, OF_THE_SESSION, OF_THE_SESSION_LATE, Step,
 };
@@ -118,4 +120,90 @@ pub(crate) const A_REVIEWER_READS_RESULTS_AND_NOTHING_ELSE: &[Step] = &[
         Denied(Rule::SessionTokenNeeded),
     ),
     At(61, LIST_REVIEWERS, Shown(NINE_REVIEWS)),
+];
+
+/// What is shown of that session at 61 where it has one vector set.
+const OPEN_WITH_ONE: &[u8] =
+    br#"[{"acvVersion":"1.0"},{"createdOn":"1970-01-01T00:01:00Z","expiresOn":"1970-01-31T00:01:00Z","isSample":false,"passed":false,"status":"open","url":"/acvp/v1/testSessions/7000001","vectorSetUrls":["/acvp/v1/testSessions/7000001/vectorSets/700000101"]}]"#;
+
+const ONE_UNRECEIVED: &[u8] =
+    br#"[{"acvVersion":"1.0"},{"passed":false,"results":[{"status":"unreceived","vectorSetUrl":"/acvp/v1/testSessions/7000001/vectorSets/700000101"}]}]"#;
+
+const ONE_SET: &[u8] =
+    br#"[{"acvVersion":"1.0"},{"vectorSetUrls":["/acvp/v1/testSessions/7000001/vectorSets/700000101"]}]"#;
+
+const ONE_IN_ALL: &[u8] =
+    br#"[{"acvVersion":"1.0"},{"data":[{"createdOn":"1970-01-01T00:01:00Z","expiresOn":"1970-01-31T00:01:00Z","isSample":false,"status":"open","url":"/acvp/v1/testSessions/7000001"}],"incomplete":false,"links":{"first":"/acvp/v1/testSessions?offset=0&limit=20","last":"/acvp/v1/testSessions?offset=0&limit=20","next":null,"prev":null},"totalCount":1}]"#;
+
+/// Where account 9 has a session of its own, account 7 is told of it what it is told where there is none.
+pub(crate) const THE_SESSION_OF_ANOTHER_ACCOUNT_IS_NOT_SEEN: &[Step] = &[
+    At(
+        61,
+        WithToken(Action::ReadSession, 9000001, OF_ANOTHERS_SESSION),
+        Denied(Rule::OtherSession),
+    ),
+    At(
+        61,
+        WithToken(Action::ReadSession, 7000001, OF_ANOTHERS_SESSION),
+        Denied(Rule::OtherSession),
+    ),
+    At(
+        61,
+        Bare(
+            Action::ReadSet,
+            7000001,
+            900000101,
+            TokenField::Bearer(OF_THE_SESSION),
+        ),
+        Denied(Rule::NoResource),
+    ),
+];
+
+/// What the token that a new session is answered with reads, up to its end.
+pub(crate) const A_NEW_SESSION_IS_READ_BY_ITS_TOKEN: &[Step] = &[
+    At(
+        61,
+        WithToken(Action::ReadAlgorithm, 2, OF_THE_FIRST),
+        Shown(SECOND),
+    ),
+    At(
+        61,
+        WithToken(Action::ReadSession, 7000001, OF_THE_FIRST),
+        Shown(OPEN_WITH_ONE),
+    ),
+    At(
+        61,
+        WithToken(Action::SessionResults, 7000001, OF_THE_FIRST),
+        Shown(ONE_UNRECEIVED),
+    ),
+    At(
+        61,
+        Bare(
+            Action::ReadSet,
+            7000001,
+            700000101,
+            TokenField::Bearer(OF_THE_FIRST),
+        ),
+        Shown(PROMPTS),
+    ),
+    At(
+        61,
+        WithQuery(Action::ListSessions, OF_THE_FIRST, b""),
+        Shown(ONE_IN_ALL),
+    ),
+    At(
+        61,
+        WithToken(Action::CancelSession, 7000001, OF_THE_FIRST),
+        Made(CANCELLED),
+    ),
+    At(
+        61,
+        WithToken(Action::SessionResults, 7000001, OF_THE_FIRST),
+        Denied(Rule::SessionCancelled),
+    ),
+    At(
+        61,
+        WithToken(Action::ListSets, 7000001, OF_THE_FIRST),
+        Shown(ONE_SET),
+    ),
 ];
