@@ -18,7 +18,8 @@ from laboratory import compact, signed
 from validation import one_time_code
 
 PROGRAM, SHIM = sys.argv[1:3]
-TOKEN_KEY, SEED = bytes(range(32)), bytes(32)
+TOKEN_KEY, SEED = bytes(32), bytes(32)
+ANOTHER_KEY = bytes(range(32))
 SECRET = b"12345678901234567890123456789012"
 DAYS = ["Mon", "Tue", "Wed", "Thu", "Fri", "Sat", "Sun"]
 MONTHS = ["Jan", "Feb", "Mar", "Apr", "May", "Jun", "Jul", "Aug", "Sep", "Oct", "Nov", "Dec"]
@@ -202,7 +203,7 @@ EVENTS = [
     login("renewal", 90, 3, token(59)),
     login("renewal", 100000, 3333, token(59, 7000001), session=7000001),
     login("refused renewal", 100020, 3334, token(59, 8000001), renews=False),
-    login("refused renewal", 100021, 3334, token(59, key=SEED), renews=False),
+    login("refused renewal", 100021, 3334, token(59, key=ANOTHER_KEY), renews=False),
     login("refused renewal", 100022, 3334, token(59, account="8"), renews=False),
     login("renewal", 100023, 3334, token(100000, 7000001), session=7000001),
     login("login", 100024, 3334), login("login", 100050, 3335),
@@ -286,8 +287,17 @@ def told(events, answers, status, output, errors):
     return f"status {status}, {errors!r}, and more output: {output[:200]!r}"
 
 
+# The first event that is refused memory is answered by these bytes, and then as if nothing had been.
+UNAVAILABLE = (b"reply 153\nHTTP/1.1 503 Service Unavailable\r\nContent-Type: application/json\r\nContent-Length: 46\r\n"
+               b'Connection: close\r\n\r\n[{"acvVersion":"1.0"},{"error":"unavailable"}]\n')
+
+
 def main():
     met, again = set(), 0
+    if any(event.unavailable not in (UNAVAILABLE, b"order unavailable\n") for event in EVENTS):
+        sys.exit("the reply that says unavailable isn't that of 153 bytes")
+    if not next(e for e in EVENTS if e.what == "login").answer({7: {"enabled": True, "last": -1}}).startswith(b"reply 292\n"):
+        sys.exit("the reply to the first login isn't that of 292 bytes")
     with tempfile.TemporaryDirectory() as folder:
         judge(EVENTS, 0, folder)
         for at in range(1, 100000):

@@ -61,6 +61,32 @@ def is_signed(token, key):
     return part_of(token, 2) == hmac.new(key, text.encode(), hashlib.sha256).digest()
 
 
+def signed_by_hmac(claims, key):
+    def encoded(part):
+        return base64.urlsafe_b64encode(part).rstrip(b"=").decode()
+    text = encoded(b'{"alg":"HS256","typ":"JWT"}') + "." + encoded(json.dumps(claims, separators=(",", ":")).encode())
+    return text + "." + encoded(hmac.new(key, text.encode(), hashlib.sha256).digest())
+
+
+def whole_outputs(folder):
+    """The first login and a late one under a key of zeros, byte for byte."""
+    zeros = os.path.join(folder, "zeros")
+    with open(zeros, "w") as file:
+        file.write(("0" * 64 + "\n") * 2)
+    token = signed_by_hmac({"exp": 1859, "iat": 59, "sub": "7"}, bytes(32))
+    between = b"\r\nContent-Type: application/json\r\nContent-Length: %d\r\nConnection: close\r\n\r\n%s"
+    for moment, length, first, body in [
+            (59, 292, b"HTTP/1.1 200 OK\r\nDate: Thu, 01 Jan 1970 00:00:59 GMT",
+             b'[{"acvVersion":"1.0"},{"accessToken":"%s"}]' % token.encode()),
+            (90, 181, b"HTTP/1.1 403 Forbidden\r\nDate: Thu, 01 Jan 1970 00:01:30 GMT",
+             b'[{"acvVersion":"1.0"},{"error":"loginRefused"}]')]:
+        reply = first + between % (len(body), body)
+        expect(f"the length of the reply at {moment}", len(reply), length)
+        ran = run(["script", "--keys", zeros], add() + login(moment, "46119246"))
+        expect(f"the whole output of a login at {moment}", (ran.returncode, ran.stdout, ran.stderr),
+               (0, b"order done\nreply %d\n%s\n" % (length, reply), b""))
+
+
 def scripts(keys):
     script = ["script", "--keys", keys]
     accepted = run(script, add() + login(59, "46119246"))
@@ -103,8 +129,9 @@ def command_lines(keys, folder):
     for args in [[], ["scripts"], ["script"], ["script", "--keys"], ["script", "--keys", keys, "more"]]:
         stopped = run(args)
         expect(f"the line {args}", (stopped.returncode, stopped.stdout, bool(stopped.stderr)), (2, b"", True))
-    helped = run(["script", "--help"])
-    expect("help", (helped.returncode, bool(helped.stdout), helped.stderr), (0, True, b""))
+    for args in [["script", "--help"], ["--help"]]:
+        helped = run(args)
+        expect(f"the line {args}", (helped.returncode, b"Example: acvp_server " in helped.stdout, helped.stderr), (0, True, b""))
 
 
 def keys_files(keys, folder):
@@ -197,6 +224,7 @@ def main():
         keys = os.path.join(folder, "keys")
         with open(keys, "w") as file:
             file.write(KEY.hex() + "\n" + "0" * 64 + "\n")
+        whole_outputs(folder)
         scripts(keys)
         limits(keys)
         command_lines(keys, folder)

@@ -24,7 +24,7 @@ import threading
 import time
 
 import laboratory
-from laboratory import BrokenOff, Laboratory, expect, free_port, read_all, request, shown, within_a_step
+from laboratory import BrokenOff, Laboratory, expect, free_port, read_all, request, shown, signed, within_a_step
 from validation import answers
 
 CHECKS = os.path.dirname(os.path.abspath(__file__))
@@ -41,6 +41,21 @@ def sum_of(path):
 
 def short(url):
     return url[len("/acvp/v1"):]
+
+
+def stored(lab, question, with_log=False):
+    """The rows that a question finds in a copy of the file, by itself or with its log."""
+    copy = lab.path("stored.db")
+    for end in ("", "-wal") if with_log else ("",):
+        if os.path.exists(lab.db + end):
+            shutil.copy(lab.db + end, copy + end)
+    connection = sqlite3.connect(copy)
+    rows = connection.execute(question).fetchall()
+    connection.close()
+    for end in ("", "-wal", "-shm"):
+        if os.path.exists(copy + end):
+            os.remove(copy + end)
+    return rows
 
 
 # ---- the command line
@@ -149,8 +164,15 @@ def orders(lab):
     secret = lab.path("secret-7")
     lab.fails("taken", "account-add", *db, "--account", "7", "--secret", secret)
     lab.does("account 1 added", "account-add", *db, "--account", "1", "--secret", secret)
+    lab.does("account 9998 added", "account-add", *db, "--account", "9998", "--secret", secret)
     lab.does("account 9999 added", "account-add", *db, "--account", "9999", "--secret", secret)
-    lab.does("account 9999 disabled", "account-disable", *db, "--account", "9999")
+    accounts = "SELECT account, hex(secret), enabled, last_step FROM account ORDER BY account"
+    kept = lab.secret(7).hex().upper()
+    expect("the accounts in the file alone", stored(lab, accounts), [(number, kept, 1, None) for number in (1, 7, 9998, 9999)])
+    lab.does("account 9998 disabled", "account-disable", *db, "--account", "9998")
+    lab.does("account 9998 disabled", "account-disable", *db, "--account", "9998")
+    expect("the accounts when one is disabled", stored(lab, accounts),
+           [(number, kept, int(number != 9998), None) for number in (1, 7, 9998, 9999)])
     lab.does("account 9999 disabled", "account-disable", *db, "--account", "9999")
     lab.fails("taken", "account-add", *db, "--account", "9999", "--secret", secret)
     lab.fails("unknown", "account-disable", *db, "--account", "8")
@@ -231,7 +253,9 @@ def certified(lab):
     expect("the second request", short(environment["url"]), "/requests/7000002")
     lab.kill()
     number = ["--db", lab.db, "--request"]
+    requests = "SELECT request, kind, status, approved FROM request ORDER BY request"
     lab.does("request 7000001 approved /acvp/v1/vendors/7000001", "request-approve", *number, "7000001")
+    expect("the requests in the file alone", stored(lab, requests), [(7000001, 1, 1, 7000001), (7000002, 3, 0, None)])
     lab.does("request 7000002 approved /acvp/v1/oes/7000001", "request-approve", *number, "7000002")
     for command in ("request-approve", "request-reject"):
         lab.fails("notInitial", command, *number, "7000001")
@@ -259,6 +283,73 @@ def certified(lab):
     lab.kill()
 
 
+def rows_of_each_kind(lab):
+    """A reviewer, a cancelled set and a cancelled session are there when serving begins anew, and in the file alone when
+    it has ended."""
+    lab.add(20)
+    lab.serve()
+    token = lab.token(20)
+    three = [lab.must("POST", "/testSessions", token, REGISTRATION) for _ in range(3)]
+    (reviewed, bound), (open_still, of_set), (cancelled, of_session) = [(short(s["url"]), s["accessToken"]) for s in three]
+    set_path = short(three[1]["vectorSetUrls"][0])
+    expect("a reviewer", lab.must("POST", reviewed + "/reviewers", bound, {"account": 9}), {"reviewers": [9]})
+    lab.must("DELETE", set_path, of_set)
+    lab.must("DELETE", cancelled, of_session)
+    lab.kill()
+    lab.serve(5)
+    expect("the reviewers after a restart", lab.must("GET", reviewed + "/reviewers", bound), {"reviewers": [9]})
+    expect("the sets without the cancelled one", lab.must("GET", open_still + "/vectorSets", of_set), {"vectorSetUrls": []})
+    expect("the cancelled set", lab.call("GET", set_path, of_set), (409, {"error": "setCancelled"}))
+    expect("the cancelled session", lab.must("GET", cancelled, of_session)["status"], "cancelled")
+    expect("the session whose set is cancelled", lab.must("GET", open_still, of_set)["status"], "open")
+    lab.served(5)
+    lab.serve(3)
+    for _ in range(3):
+        lab.must("POST", "/vendors", token, {"name": "V"})
+    lab.served(3)
+    lab.does("request 20000002 rejected", "request-reject", "--db", lab.db, "--request", "20000002")
+    expect("the requests in the file alone",
+           stored(lab, "SELECT request, status, approved FROM request WHERE account = 20 ORDER BY request"),
+           [(20000001, 0, None), (20000002, 2, None), (20000003, 0, None)])
+    expect("the reviewers in the file alone", stored(lab, "SELECT session, account FROM reviewer"), [(20000001, 9)])
+    expect("the sessions in the file alone",
+           stored(lab, "SELECT session, cancelled, live, passed FROM session WHERE account = 20 ORDER BY session"),
+           [(20000001, 0, 1, 0), (20000002, 0, 0, 0), (20000003, 1, 1, 0)])
+    expect("the sets in the file alone",
+           stored(lab, "SELECT vs, cancelled FROM vset2 WHERE vs BETWEEN 2000000100 AND 2000000399 ORDER BY vs"),
+           [(2000000101, 0), (2000000201, 1), (2000000301, 0)])
+
+
+def rows_that_stand_for_nothing(lab):
+    """What meets such a row is unavailable, at an order, at a request and before serving."""
+    lab.serve()
+    token = lab.token(20)
+    lab.kill()
+    lab.does("account 21 added", "account-add", "--db", lab.db, "--account", "21", "--secret", lab.path("secret-20"))
+    whole = lab.db
+
+    def spoilt(name, statement):
+        lab.db = lab.path(name)
+        shutil.copy(whole, lab.db)
+        connection = sqlite3.connect(lab.db)
+        connection.execute(statement)
+        connection.commit()
+        connection.close()
+        return ["--db", lab.db]
+
+    db = spoilt("no-account.db", "UPDATE account SET enabled = 2 WHERE account = 20")
+    lab.fails("unavailable", "account-disable", *db, "--account", "20")
+    lab.does("account 21 disabled", "account-disable", *db, "--account", "21")
+    lab.serve()
+    expect("a caller whose row stands for nothing", lab.call("GET", "/account", token), (503, {"error": "unavailable"}))
+    expect("a caller without a row", lab.call("GET", "/account", signed({"exp": 2 ** 40, "iat": 0, "sub": "22"})),
+           (403, {"error": "accountRefused"}))
+    lab.kill()
+    db = spoilt("no-epoch.db", "UPDATE vset2 SET epoch = -1")
+    lab.fails("unavailable", "serve", *db, "--keys", lab.keys, "--port", str(free_port()), "--count", "1")
+    lab.db = whole
+
+
 def keys_that_change(lab):
     """A key behind the old one signs, and the old one's tokens are good until it is retired; a seed is never taken
     away."""
@@ -279,8 +370,11 @@ def keys_that_change(lab):
     expect("a token of the retired key", lab.call("GET", "/account", token), (401, {"error": "tokenMalformed"}))
     lab.must("GET", short(session["url"]), session["accessToken"])
     lab.kill()
-    lab.fails("keys", "serve", "--db", lab.db, "--keys", keys("seed-gone", first, second, seed), "--port", str(free_port()),
-              "--count", "1", what="without the seed of a vector set")
+    with socket.socket() as taken:
+        taken.bind(("127.0.0.1", 0))
+        taken.listen()
+        lab.fails("keys", "serve", "--db", lab.db, "--keys", keys("seed-gone", first, second, seed), "--port",
+                  str(taken.getsockname()[1]), "--count", "1", what="without the seed of a vector set, and without a port")
     lab.keys = lab.path("two-keys")
 
 
@@ -293,9 +387,21 @@ def reset(connection):
     connection.close()
 
 
+def sends_without_end(connection, text):
+    """Sends a request, and then bytes until the server drops the connection, 1 GB at most."""
+    with connection:
+        try:
+            connection.sendall(text)
+            for _ in range(1000):
+                connection.sendall(b" " * 1000000)
+        except OSError:
+            return
+    raise SystemExit("1 GB was taken behind a request")
+
+
 def clients_that_break_off(lab):
     whole = request("GET", "/account")
-    lab.serve(9)
+    lab.serve(12)
     lab.connect().close()
     reset(lab.connect())
     with lab.connect() as connection:
@@ -319,23 +425,48 @@ def clients_that_break_off(lab):
     waiting = lab.connect()
     waiting.sendall(whole)
     expect("a client that stays", shown(read_all(waiting)), (401, {"error": "tokenMissing"}))
+    began = time.time()
     expect("the next client", lab.call("GET", "/account"), (401, {"error": "tokenMissing"}))
+    expect("the next client within ten seconds", time.time() - began < 10, True)
     waiting.close()
-    lab.served(9)
+    # a client that sends on and on behind its body is dropped, and one that stops half way is waited for
+    endless = lab.connect()
+    sender = threading.Thread(target=sends_without_end, args=(endless, whole))
+    sender.start()
+    began = time.time()
+    expect("the client behind an endless one", lab.call("GET", "/account"), (401, {"error": "tokenMissing"}))
+    expect("that client within twenty seconds", time.time() - began < 20, True)
+    sender.join()
+    with lab.connect() as connection:
+        connection.sendall(whole[:30])
+        time.sleep(6)
+        connection.sendall(whole[30:])
+        expect("a client that stops half way", shown(read_all(connection)), (401, {"error": "tokenMissing"}))
+    lab.served(12)
+
+
+def moment_of(reply):
+    """The moment that the Date of a reply says."""
+    date = re.search(rb"\r\nDate: ([^\r]*)\r\n", reply).group(1).decode()
+    return calendar.timegm(email.utils.parsedate(date))
 
 
 def at_its_address_and_moment(lab):
-    """Only the machine's own address is listened on, and the moment of a connection is that at which it is taken."""
-    lab.serve(1)
+    """Only the machine's own address is listened on, and the moment of each connection is that at which it is taken."""
+    lab.serve(3)
     with socket.socket() as other:
         expect("another address", other.connect_ex(("127.0.0.2", lab.port)), errno.ECONNREFUSED)
-    time.sleep(2.5)
-    before = int(time.time())
-    reply = lab.ask(request("GET", "/algorithms"))
-    date = re.search(rb"\r\nDate: ([^\r]*)\r\n", reply).group(1).decode()
-    moment = calendar.timegm(email.utils.parsedate(date))
-    expect(f"{date} between the moments before and after", before <= moment <= time.time(), True)
-    lab.served(1)
+    for _ in range(2):
+        time.sleep(2.5)
+        before = int(time.time())
+        moment = moment_of(lab.ask(request("GET", "/algorithms")))
+        expect("the moment of a connection", before <= moment <= time.time(), True)
+    with lab.connect() as connection:
+        taken = time.time()
+        time.sleep(2.5)
+        connection.sendall(request("GET", "/algorithms"))
+        expect("the moment of one that sends later", int(taken) <= moment_of(read_all(connection)) <= taken + 1.5, True)
+    lab.served(3)
 
 
 def large_bodies(lab):
@@ -398,7 +529,14 @@ def by_curl(lab):
     lab.add(31)
     lab.serve()
     within_a_step(5)
-    replaced = {"server": f"server=http://127.0.0.1:{lab.port}/acvp/v1", "account": "account=31", "code": f"code={lab.code(31)}"}
+    code = lab.code(31)
+    if shutil.which("oathtool"):
+        other = subprocess.run(["oathtool", "--totp=sha256", "-d", "8", lab.secret(31).hex()], capture_output=True, check=True,
+                               text=True).stdout.strip()
+        expect("oathtool's code", other, code)
+    else:
+        print("skipped: a code of oathtool for curl (apt-get install oathtool)")
+    replaced = {"server": f"server=http://127.0.0.1:{lab.port}/acvp/v1", "account": "account=31", "code": f"code={code}"}
     lines = [replaced.get(line.split("=")[0], line) for line in lines]
     expect("what the protocol's text has in its commands", all(line in lines for line in replaced.values()), True)
     output = shell(lab, lines, lab.folder)
@@ -407,18 +545,38 @@ def by_curl(lab):
         expect(f"{part} in what curl shows", part in output, True)
 
 
+def six_commands(lab, folder):
+    """The commands of the README as they stand, from the top of what looks like a checkout, up to a login."""
+    out = os.path.join(folder, "crates", "acvp_server", "out")
+    os.makedirs(out)
+    os.symlink(lab.program, os.path.join(out, "acvp_server"))
+    lines = commands_in("README.md", "A laboratory in six commands")
+    expect("the number of the commands", len(lines), 6)
+    lab.port = 8080
+    with socket.socket() as there:
+        there.setsockopt(socket.SOL_SOCKET, socket.SO_REUSEADDR, 1)
+        if there.connect_ex(("127.0.0.1", lab.port)) == 0:
+            lab.port = free_port()
+            lines[-1] = lines[-1].replace("8080", str(lab.port))
+            print("the port 8080 is in use: another one stands in for it")
+    lines[-1] = "exec " + lines[-1]
+    path = {"PATH": "/usr/local/bin:/usr/bin:/bin"}
+    lab.process = subprocess.Popen(["bash", "-eu", "-o", "pipefail", "-c", "\n".join(lines)], cwd=folder, env=path,
+                                   stdin=subprocess.DEVNULL, stdout=subprocess.PIPE, stderr=subprocess.PIPE)
+    for line in ("ready", "account 7 added", f"listening 127.0.0.1:{lab.port}"):
+        expect("what the README's commands print", lab.process.stdout.readline(), line.encode() + b"\n")
+    lab.token(7)
+    lab.kill()
+    expect("who may read the keys", os.stat(os.path.join(folder, "keys.txt")).st_mode & 0o777, 0o600)
+
+
 def documents(lab):
     """The commands of the README and of the operator's text, copied, in a folder of their own."""
     folder = lab.path("documents")
     os.mkdir(folder)
     other = Laboratory(lab.program, folder)
     other.secret = lambda account: bytes.fromhex(open(os.path.join(folder, "secret.txt")).read().strip())
-    first, *setup, serving = commands_in("README.md", "A laboratory in six commands")
-    expect("the last of the six commands", serving, "acvp_server serve --db laboratory.db --keys keys.txt --port 8080 --count 1000")
-    expect("what the README's commands print", shell(other, setup, folder), "ready\naccount 7 added\n")
-    other.serve()
-    other.token(7)
-    other.kill()
+    six_commands(other, folder)
     shutil.rmtree(folder)
     os.mkdir(folder)
     lines = [line for line in commands_in("docs/OPERATING.md") if not re.match("PATH=|mkdir|cd |while|acvp_server serve", line)]
@@ -495,7 +653,8 @@ class Writer(threading.Thread):
     def __init__(self, lab, token):
         super().__init__()
         self.lab, self.token, self.wrong = lab, token, None
-        self.requests, self.sessions, self.asked = [], [], {"requests": 0, "sessions": 0}
+        self.requests, self.sessions, self.cancelled = [], [], []
+        self.asked = {"requests": 0, "sessions": 0}
 
     def run(self):
         try:
@@ -505,6 +664,8 @@ class Writer(threading.Thread):
                 self.asked["sessions"] += 1
                 made = self.lab.must("POST", "/testSessions", self.token, REGISTRATION)
                 self.sessions.append((made["url"], made["accessToken"]))
+                self.lab.must("DELETE", short(made["vectorSetUrls"][0]), made["accessToken"])
+                self.cancelled.append(made["url"])
         except (OSError, BrokenOff):
             pass
         except SystemExit as wrong:
@@ -539,6 +700,7 @@ def kills(lab, count):
     expect("a login before the stops", status, 200)
     token = thing["accessToken"]
     now = lab.must("GET", "/account", token)
+    acknowledged = {"requests": [], "sessions": [], "cancelled": []}
     try:
         for _ in range(count):
             writer = Writer(lab, token)
@@ -551,12 +713,22 @@ def kills(lab, count):
             reader.looks()
             lab.serve()
             now = everything_is_there(lab, token, now, writer)
+            acknowledged["requests"] += writer.requests
+            acknowledged["sessions"] += [url for url, _ in writer.sessions]
+            acknowledged["cancelled"] += writer.cancelled
     except (SystemExit, Exception):
         print(f"the moments were those of seed {seed}")
         raise
     finally:
         lab.kill()
     reader.looks()
+    for kind, question in [("requests", "SELECT request FROM request WHERE status = 0"),
+                           ("sessions", "SELECT session FROM session"),
+                           ("cancelled", "SELECT session FROM vset2 WHERE cancelled = 1")]:
+        there = {number for number, in stored(lab, question, with_log=True)}
+        missing = [url for url in acknowledged[kind] if int(url.split("/")[-1]) not in there]
+        expect(f"acknowledged {kind} that the file lacks", missing, [])
+        expect(f"{len(acknowledged[kind])} {kind} are as many as half the stops", len(acknowledged[kind]) * 2 >= count, True)
     return now["requests"] + now["sessions"]
 
 
@@ -569,8 +741,8 @@ def made(program, folder):
 
 
 PARTS = [refused_lines, files_that_are_none, made_once, orders, faults_in_their_order, no_connection_can_be_taken, certified,
-         keys_that_change, clients_that_break_off, at_its_address_and_moment, large_bodies, backlog, by_curl, documents,
-         whole_validation]
+         rows_of_each_kind, rows_that_stand_for_nothing, keys_that_change, clients_that_break_off, at_its_address_and_moment,
+         large_bodies, backlog, by_curl, documents, whole_validation]
 
 
 def main():
