@@ -322,9 +322,6 @@ def rows_of_each_kind(lab):
 
 def rows_that_stand_for_nothing(lab):
     """What meets such a row is unavailable, at an order, at a request and before serving."""
-    lab.serve()
-    token = lab.token(20)
-    lab.kill()
     lab.does("account 21 added", "account-add", "--db", lab.db, "--account", "21", "--secret", lab.path("secret-20"))
     whole = lab.db
 
@@ -341,9 +338,10 @@ def rows_that_stand_for_nothing(lab):
     lab.fails("unavailable", "account-disable", *db, "--account", "20")
     lab.does("account 21 disabled", "account-disable", *db, "--account", "21")
     lab.serve()
-    expect("a caller whose row stands for nothing", lab.call("GET", "/account", token), (503, {"error": "unavailable"}))
-    expect("a caller without a row", lab.call("GET", "/account", signed({"exp": 2 ** 40, "iat": 0, "sub": "22"})),
-           (403, {"error": "accountRefused"}))
+    for account, what, wanted in [("20", "a caller whose row stands for nothing", (503, {"error": "unavailable"})),
+                                  ("22", "a caller without a row", (403, {"error": "accountRefused"}))]:
+        token = signed({"exp": 4102444800, "iat": 0, "sub": account})
+        expect(what, lab.call("GET", "/account", token), wanted)
     lab.kill()
     db = spoilt("no-epoch.db", "UPDATE vset2 SET epoch = -1")
     lab.fails("unavailable", "serve", *db, "--keys", lab.keys, "--port", str(free_port()), "--count", "1")
@@ -550,6 +548,7 @@ def six_commands(lab, folder):
     out = os.path.join(folder, "crates", "acvp_server", "out")
     os.makedirs(out)
     os.symlink(lab.program, os.path.join(out, "acvp_server"))
+    os.remove(lab.keys)
     lines = commands_in("README.md", "A laboratory in six commands")
     expect("the number of the commands", len(lines), 6)
     lab.port = 8080
