@@ -171,9 +171,6 @@ pub(crate) enum Step<'a> {
     /// The same of each of these actions, on two numbers.
     Each(u64, &'a [Action], u64, u64, TokenField<'a>, Answer<'a>),
 
-    /// An action on the first vector set of account 7 with each of these answers, and the rule that each breaks.
-    Refuses(u64, Action, &'a [(&'a [u8], Rule)]),
-
     /// The approval of a request, and what it must be answered.
     Approves(u64, OrderReply),
 

@@ -2,7 +2,7 @@
 
 use crate::cases::Answer::{Denied, Made, Shown};
 use crate::cases::Ask::{AddsReviewer, OnSet, WithAnswers, WithToken};
-use crate::cases::Step::{At, Caches, Refuses};
+use crate::cases::Step::{At, Caches};
 use crate::cases::set::UNRECEIVED;
 use crate::cases::{Ask, NINE, NINE_REVIEWS, OF_NINE, OF_THE_SESSION, OF_THE_SESSION_LATE, Step};
 use acvp_policy::{Action, Rule};
@@ -190,26 +190,43 @@ pub(crate) const AND_NOT_WITH_ONE_OF_THEM: &[Step] = &[
     At(63, RESULTS_OF_BOTH, Shown(THE_FIRST_ALONE)),
 ];
 
-/// The rule of each body that is no answers to the first set.
-const NO_ANSWERS: &[(&[u8], Rule)] = &[
-    (b"answers", Rule::BodyNotJson),
-    (b"{}", Rule::BodyEnvelope),
-    (
-        br#"[{"acvVersion":"1.0"},{"vsId":700000101}]"#,
-        Rule::BodyField,
+/// The rule of each body that is refused; then who may not submit and when, and that none of them is kept.
+pub(crate) const ANSWERS_THAT_ARE_REFUSED: &[Step] = &[
+    At(
+        61,
+        WithAnswers(Action::Submit, 700000101, OF_THE_SESSION, b"answers"),
+        Denied(Rule::BodyNotJson),
     ),
-    (SECOND_RIGHT, Rule::SetMismatch),
-    (TWICE, Rule::DuplicateTest),
-    (UNKNOWN, Rule::UnknownTest),
-];
-
-/// They are refused where there are none, and in the place of others; then who may not submit and when, and that none
-/// of them is kept.
-pub(crate) const ANSWERS_THAT_ARE_REFUSED: &[Step] = &[Refuses(61, Action::Submit, NO_ANSWERS)];
-
-pub(crate) const NOR_IN_THE_PLACE_OF_OTHERS: &[Step] = &[
-    Refuses(61, Action::Resubmit, NO_ANSWERS),
-    At(62, RESULTS, Shown(PASSED)),
+    At(
+        61,
+        WithAnswers(Action::Submit, 700000101, OF_THE_SESSION, b"{}"),
+        Denied(Rule::BodyEnvelope),
+    ),
+    At(
+        61,
+        WithAnswers(
+            Action::Submit,
+            700000101,
+            OF_THE_SESSION,
+            br#"[{"acvVersion":"1.0"},{"vsId":700000101}]"#,
+        ),
+        Denied(Rule::BodyField),
+    ),
+    At(
+        61,
+        WithAnswers(Action::Submit, 700000101, OF_THE_SESSION, SECOND_RIGHT),
+        Denied(Rule::SetMismatch),
+    ),
+    At(
+        61,
+        WithAnswers(Action::Submit, 700000101, OF_THE_SESSION, TWICE),
+        Denied(Rule::DuplicateTest),
+    ),
+    At(
+        61,
+        WithAnswers(Action::Submit, 700000101, OF_THE_SESSION, UNKNOWN),
+        Denied(Rule::UnknownTest),
+    ),
 ];
 
 pub(crate) const ARE_NOT_KEPT: &[Step] = &[
@@ -235,4 +252,44 @@ pub(crate) const ARE_NOT_KEPT: &[Step] = &[
         WithAnswers(Action::Submit, 700000101, OF_THE_SESSION_LATE, ALL_RIGHT),
         Made(RECEIVED),
     ),
+];
+
+/// The rule of each body that is refused in the place of answers that were kept.
+pub(crate) const NOR_IN_THE_PLACE_OF_OTHERS: &[Step] = &[
+    At(
+        61,
+        WithAnswers(Action::Resubmit, 700000101, OF_THE_SESSION, b"answers"),
+        Denied(Rule::BodyNotJson),
+    ),
+    At(
+        61,
+        WithAnswers(Action::Resubmit, 700000101, OF_THE_SESSION, b"{}"),
+        Denied(Rule::BodyEnvelope),
+    ),
+    At(
+        61,
+        WithAnswers(
+            Action::Resubmit,
+            700000101,
+            OF_THE_SESSION,
+            br#"[{"acvVersion":"1.0"},{"vsId":700000101}]"#,
+        ),
+        Denied(Rule::BodyField),
+    ),
+    At(
+        61,
+        WithAnswers(Action::Resubmit, 700000101, OF_THE_SESSION, SECOND_RIGHT),
+        Denied(Rule::SetMismatch),
+    ),
+    At(
+        61,
+        WithAnswers(Action::Resubmit, 700000101, OF_THE_SESSION, TWICE),
+        Denied(Rule::DuplicateTest),
+    ),
+    At(
+        61,
+        WithAnswers(Action::Resubmit, 700000101, OF_THE_SESSION, UNKNOWN),
+        Denied(Rule::UnknownTest),
+    ),
+    At(62, RESULTS, Shown(PASSED)),
 ];

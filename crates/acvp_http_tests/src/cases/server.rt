@@ -3,7 +3,7 @@
 ghost use Rattle.acvp_desk.specs.Orders.{IsOrder};
 
 use crate::cases::asked::{body_in, framed, refused, request_bytes};
-use crate::cases::{Answer, Ask, OF_THE_SESSION, SECRET, Step};
+use crate::cases::{Answer, Ask, SECRET, Step};
 use acvp_desk::{
     Desk, DeskReply, KeyRing, Keys, Order, OrderReply, Outcome, Seeds, TypedRequest, order_on,
 };
@@ -254,12 +254,6 @@ fn takes<T: Tables>(rt: &impl Abort, server: &mut Server<T>, step: &Step<'_>) {
         Step::Each(moment, actions, first, second, token, answer) => {
             let asked = Ask::Bare(Action::Login, first, second, token);
             meets_each(rt, server, moment, actions, &asked.request(), answer);
-        }
-        Step::Refuses(moment, action, bodies) => {
-            for (body, rule) in bodies {
-                let asked = Ask::WithAnswers(action, 700000101, OF_THE_SESSION, *body);
-                asks(rt, server, moment, asked, Answer::Denied(*rule));
-            }
         }
         Step::Approves(request, wanted) => {
             is_ordered(rt, server, &Order::ApproveRequest { request }, wanted);
