@@ -342,23 +342,35 @@ fn a_stop_leaves_the_tables_before_a_migration_or_after_it(rt: HostRuntime) {
     }
 }
 
-/// The store that the files are adopted as when they are opened anew.
-fn adopted_anew(rt: &impl Abort, alloc: Global, held: &Held) -> SqlTables<FileStore<Fuse<Memory>>> {
+/// The database of these files, which are opened anew.
+fn opened_anew(rt: &impl Abort, alloc: Global, held: &Held) -> Connection<FileStore<Fuse<Memory>>> {
     let connection = opened(alloc, disks(rt, alloc, held, Stop::Never));
-    let connection = connection.ok().expect(rt, "a database");
-    adopt(alloc, connection).ok().expect(rt, "a store")
+    connection.ok().expect(rt, "a database")
 }
 
-/// Asserts what a script with one event puts out.
-fn puts_out<T: Tables + Drop>(
+/// Asserts what a script with one event puts out over the store of a database.
+fn puts_out<S: Alter + Drop>(
     rt: &impl Abort,
     alloc: Global,
-    tables: T,
+    connection: Connection<S>,
     script: &[u8],
     wanted: &[u8],
 ) {
+    let tables = adopt(alloc, connection).ok().expect(rt, "a store");
     let (_, output) = run_script(rt, alloc, tables, script);
     assert_eq!(rt; output.as_slice(), wanted);
+}
+
+/// Asserts which rows the store of a database has.
+fn has_rows<S: Alter + Drop>(
+    rt: &impl Abort,
+    alloc: Global,
+    connection: Connection<S>,
+    wanted: &[u8],
+) {
+    let tables = adopt(alloc, connection).ok().expect(rt, "a store");
+    let found = rows_alone(rt, alloc, &mut tables.into_connection());
+    assert_eq!(rt; found.as_slice(), wanted);
 }
 
 #[test]
@@ -367,7 +379,7 @@ fn a_code_is_used_when_the_file_is_opened_anew(rt: HostRuntime) {
     let held = after(&rt, alloc, &Held::nothing(alloc), Work::Creates);
     let logged_in = Work::Scripts(VALIDATION).up_to(2);
     let held = after(&rt, alloc, &held, logged_in);
-    puts_out(&rt, alloc, adopted_anew(&rt, alloc, &held), AGAIN, REFUSED);
+    puts_out(&rt, alloc, opened_anew(&rt, alloc, &held), AGAIN, REFUSED);
 }
 
 /// These lines.
@@ -388,7 +400,6 @@ fn every_row_is_there_when_the_file_is_opened_anew(rt: HostRuntime) {
     let held = after(&rt, alloc, &Held::nothing(alloc), Work::Creates);
     let held = after(&rt, alloc, &held, Work::Scripts(VALIDATION));
     let held = after(&rt, alloc, &held, Work::Scripts(ON_THE_SECOND_SESSION));
-    let mut connection = adopted_anew(&rt, alloc, &held).into_connection();
-    let found = rows_alone(&rt, alloc, &mut connection);
-    assert_eq!(rt; found.as_slice(), lines(&rt, alloc, AFTERWARDS).as_slice());
+    let wanted = lines(&rt, alloc, AFTERWARDS);
+    has_rows(&rt, alloc, opened_anew(&rt, alloc, &held), &wanted);
 }
