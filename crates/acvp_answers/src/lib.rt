@@ -6,8 +6,6 @@ mod answers;
 mod grading;
 mod iter;
 mod monte_carlo;
-#[cfg(test)]
-mod tests;
 mod texts;
 mod verdict;
 mod verdict_text;
@@ -17,6 +15,7 @@ pub use answers::Answers;
 pub use grading::{disposition, grade};
 pub use iter::Iter;
 pub use monte_carlo::turn_is_the_standards;
+pub use texts::{checkpoint_texts, digest_texts, mac_texts, monte_carlo_texts};
 pub use verdict::{Disposition, Verdict};
 pub use verdict_text::{
     TextFault, verdict_texts_read_one_way, verdicts_from_text, verdicts_to_text,

@@ -23,7 +23,7 @@ fn one_text(alloc: Global, bytes: &[u8]) -> Result<Vec<String>, AllocError>
 }
 
 /// The digest of a message (FIPS 180-4): the answer to a functional test of a hash function.
-pub(crate) fn digest_texts(
+pub fn digest_texts(
     alloc: Global,
     name: HashName,
     message: &[u8],
@@ -34,7 +34,7 @@ pub(crate) fn digest_texts(
 }
 
 /// The leftmost `bytes` bytes of the HMAC of a message (FIPS 198-1): the answer to a test of HMAC.
-pub(crate) fn mac_texts(
+pub fn mac_texts(
     alloc: Global,
     name: HashName,
     key: &[u8],
@@ -58,7 +58,7 @@ fn checkpoint_after(name: HashName, seed: &[u8], before: Option<Digest>) -> Dige
 }
 
 /// The first checkpoints of a Monte Carlo test, one for each turn. It takes memory for their texts alone.
-pub(crate) fn checkpoint_texts(
+pub fn checkpoint_texts(
     alloc: Global,
     name: HashName,
     seed: &[u8],
@@ -78,7 +78,7 @@ pub(crate) fn checkpoint_texts(
 }
 
 /// The hundred checkpoints that answer a Monte Carlo test.
-pub(crate) fn monte_carlo_texts(
+pub fn monte_carlo_texts(
     alloc: Global,
     name: HashName,
     seed: &[u8],
@@ -87,6 +87,3 @@ pub(crate) fn monte_carlo_texts(
 {
     checkpoint_texts(alloc, name, seed, TURNS)
 }
-
-#[cfg(test)]
-mod tests;

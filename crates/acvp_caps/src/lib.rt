@@ -17,8 +17,6 @@ mod domain;
 mod item;
 pub mod json;
 mod registration;
-#[cfg(test)]
-mod tests;
 mod walk;
 
 /// Why a registration, or one capability, is not read.

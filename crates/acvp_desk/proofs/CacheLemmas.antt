@@ -1,5 +1,5 @@
 -- What holds of each entry of the cache still does after its calls.
-use Rattle.std.proofs.Common.{◌≡◌, ℕ, List, Option, Some, None, IfSome, Result, Ok, Err, OnOk, OnErr, nat_eq, sym, subst, inl, inr, eqb-true}
+use Rattle.std.proofs.Common.{◌≡◌, ◌⊎◌, ◌∙◌, ap, ℕ, List, Option, Some, None, IfSome, Result, Ok, Err, OnOk, OnErr, nat_eq, sym, subst, inl, inr, eqb-true}
 use Rattle.std.specs.Map.{lookup, remove_entry}
 use Rattle.lru.specs.LruCache.{LruCache, lru_cache, put_entries}
 use Rattle.lru.proofs.CallerLemmas.{Contains-lookup, Contains-remove_entry, Contains-put_entries}
@@ -39,3 +39,10 @@ module _ (seeds : List (List ℕ)) where
       → (old.cap ≡ 64) × AreTrueTo seeds old.entries → IsTrueTo seeds k v → (new.cap ≡ 64) × AreTrueTo seeds new.entries
   true_after_put (Ok x) old new k v ok err h t = rw ok (h.0, true_put old k v h.1 t)
   true_after_put (Err e) old new k v ok err h t = rw err h
+
+-- after `put`, the pair is at the front, or all is as it was
+pub put_or_kept : {X E : Type 0} (r : Result X E) (old new : LruCache ℕ Entry) (k : ℕ) (v : Entry)
+    → OnOk r (new ≡ lru_cache (put_entries nat_eq old k v) old.cap) → OnErr r (new ≡ old) → old.cap ≡ 64
+    → (new.entries ≡ put_entries nat_eq (lru_cache old.entries 64) k v) ⊎ (new.entries ≡ old.entries)
+put_or_kept (Ok x) old new k v ok err cap = inl (ap (λ c. c.entries) ok ∙ ap (λ n. put_entries nat_eq (lru_cache old.entries n) k v) cap)
+put_or_kept (Err e) old new k v ok err cap = inr (ap (λ c. c.entries) err)

@@ -41,7 +41,7 @@ use Rattle.acvp_desk.specs.Registries.{kind_of, object_reply, objects_reply, req
 use Rattle.acvp_desk.specs.Place.{reviewers_in_material}
 use Rattle.acvp_desk.specs.Request.{RequestValue}
 use Rattle.acvp_desk.specs.Reviewers.{reviewer_at, with_account, without_account}
-use Rattle.acvp_desk.specs.Submissions.{answers_at, graded_on, kept_answers}
+use Rattle.acvp_desk.specs.Submissions.{graded_at, kept_answers}
 use Rattle.acvp_desk.specs.declared.found.Found.{Found}
 use Rattle.acvp_desk.specs.declared.found.ListedSession.{ListedSession}
 use Rattle.acvp_desk.specs.declared.found.SetOutcome.{SetOutcome}
@@ -235,7 +235,7 @@ session_change n r _ = None
 -- the answers that a body gives are kept, graded by these prompts
 abbrev pub answers_change : ℕ → ℕ → List ℕ → ℕ → PromptsValue → Option Change
 answers_change session n body others prompts =
-    option_map (λ graded. change.KeepAnswers (kept_answers session n others graded)) (option_map (graded_on prompts) (answers_at prompts body))
+    option_map (λ graded. change.KeepAnswers (kept_answers session n others graded)) (graded_at body prompts)
 
 abbrev pub submission_change : List (List ℕ) → ℕ → ℕ → List ℕ → Submission → Option Change
 submission_change seeds session n body s = option_and_then (answers_change session n body s.others) (prompts_from seeds n s.source)

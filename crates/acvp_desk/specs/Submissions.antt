@@ -1,5 +1,5 @@
 -- Answers that are submitted to a vector set: what is asked of a body of them, what they come to, and what is kept.
-use Rattle.std.specs.Prelude.{ℕ, ◌+◌, List, Option, option_and_then}
+use Rattle.std.specs.Prelude.{ℕ, ◌+◌, List, Option, option_and_then, option_map}
 use Rattle.acvp_answers.specs.Answer.{Answer}
 use Rattle.acvp_answers.specs.Standards.{standard_of}
 use Rattle.acvp_answers.specs.Verdicts.{verdicts_of, disposition_of}
@@ -29,6 +29,10 @@ with_verdicts answers verdicts = record { answers = answers; verdicts = verdicts
 -- graded by the standard answers to the prompts
 abbrev pub graded_on : PromptsValue → List Answer → GradedValue
 graded_on prompts answers = with_verdicts answers (verdicts_of (standard_of prompts) answers)
+
+-- the answers that a body gives to these prompts, graded
+abbrev pub graded_at : List ℕ → PromptsValue → Option GradedValue
+graded_at body prompts = option_map (graded_on prompts) (answers_at prompts body)
 
 -- what is kept of a vector set's answers, where so many other sets of its session have passed
 abbrev pub kept_answers : ℕ → ℕ → ℕ → GradedValue → KeptAnswers

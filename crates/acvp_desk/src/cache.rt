@@ -1,6 +1,8 @@
 //! The cache of what was computed last of vector sets.
 
-ghost use Rattle.std.specs.Prelude.{◌≡◌, ◌<◌, ◌≤◌, length, IfOk, IfSome};
+ghost use Rattle.std.specs.Prelude.{◌≡◌, ◌<◌, ◌≤◌, ◌⊎◌, [], length, nat_eq, IfOk, IfSome};
+ghost use Rattle.std.specs.Map.{lookup, remove_entry};
+ghost use Rattle.lru.specs.LruCache.{lru_cache, put_entries};
 ghost use Rattle.acvp_desk.specs.Cached.{seed_at, IsTrueTo};
 
 use crate::entry::Entry;
@@ -24,13 +26,13 @@ pub(crate) struct Cache {
 }
 
 impl Model for Cache {
-    ghost use Rattle.std.specs.Prelude.{◌≡◌, length};
+    ghost use Rattle.std.specs.Prelude.{◌≡◌};
     ghost use Rattle.acvp_desk.specs.CacheValue.{CacheValue};
     ghost use Rattle.acvp_desk.specs.Cached.{AreTrueTo};
 
     ghost Value = { CacheValue };
 
-    ghost view = { λ c. record { seeds = c.seeds; len = length c.entries.entries } };
+    ghost view = { λ c. record { seeds = c.seeds; entries = c.entries.entries } };
 
     ghost invariant = { λ c. (c.entries.cap ≡ 64) × AreTrueTo c.seeds c.entries.entries };
 }
@@ -46,7 +48,7 @@ fn seed_of(seeds: &Seeds, epoch: u64) -> &[u8; 32]
 impl Cache {
     /// An empty cache under these seeds.
     pub(crate) fn new(alloc: Global, seeds: Seeds) -> Result<Cache, AllocError>
-        ensures { IfOk result (λ c. c ≡ record { seeds = seeds; len = 0 }) }
+        ensures { IfOk result (λ c. c ≡ record { seeds = seeds; entries = [] }) }
     {
         let capacity = NonZeroUsize::new(CAPACITY).unwrap();
         let entries = LruCache::new(alloc, capacity)?;
@@ -62,7 +64,7 @@ impl Cache {
 
     /// The number of entries. It takes no memory.
     pub(crate) fn cached(&self) -> usize
-        ensures value { result ≡ self.now.len }
+        ensures value { result ≡ length self.now.entries }
         ensures most { result ≤ 64 }
     {
         self.entries.len()
@@ -81,6 +83,7 @@ impl Cache {
         ensures capability { IfOk result (λ e. e.capability ≡ capability) }
         ensures epoch { IfOk result (λ e. e.epoch ≡ epoch) }
         ensures seeds { self.new.seeds ≡ self.old.seeds }
+        ensures entries { self.new.entries ≡ remove_entry (nat_eq number) self.old.entries }
     {
         match self.take_kept(number) {
             Some(entry) if entry.is_of(&capability, epoch) => Ok(entry),
@@ -96,8 +99,10 @@ impl Cache {
 
     /// Takes the entry of a vector set out of the cache, whatever capability and epoch it is of.
     fn take_kept(&mut self, number: u64) -> Option<Entry>
+        ensures value { result ≡ lookup (nat_eq number) self.old.entries }
         ensures is_true { IfSome result (IsTrueTo self.old.seeds number) }
         ensures seeds { self.new.seeds ≡ self.old.seeds }
+        ensures entries { self.new.entries ≡ remove_entry (nat_eq number) self.old.entries }
     {
         self.entries.pop(&number)
     }
@@ -106,7 +111,9 @@ impl Cache {
     /// out. Where memory is refused the entry isn't kept.
     pub(crate) fn keep(&mut self, number: u64, entry: Entry)
         requires { IsTrueTo self.old.seeds number entry }
-        ensures { self.new.seeds ≡ self.old.seeds }
+        ensures seeds { self.new.seeds ≡ self.old.seeds }
+        ensures entries { (self.new.entries ≡ put_entries nat_eq (lru_cache self.old.entries 64) number entry)
+            ⊎ (self.new.entries ≡ self.old.entries) }
     {
         let _ = self.entries.put(number, entry);
     }

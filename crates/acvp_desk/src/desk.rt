@@ -46,11 +46,12 @@ pub struct Desk<T: Tables> {
 }
 
 impl<T: Tables> Model for Desk<T> {
+    ghost use Rattle.std.specs.Prelude.{length};
     ghost use Rattle.acvp_desk.specs.Desk.{DeskValue, keys_of};
 
     ghost Value = { DeskValue T };
 
-    ghost view = { λ d. record { keys = keys_of d.ring d.cache.seeds; tables = d.tables; cached = d.cache.len } };
+    ghost view = { λ d. record { keys = keys_of d.ring d.cache.seeds; tables = d.tables; cached = length d.cache.entries } };
 }
 
 /// Why there is no desk.

@@ -16,8 +16,6 @@ mod account;
 mod ask;
 mod body;
 mod cache;
-#[cfg(test)]
-mod cache_tests;
 mod cancel;
 mod desk;
 mod draft;
@@ -28,8 +26,6 @@ mod keys;
 mod laws;
 mod listing;
 mod new_session;
-#[cfg(test)]
-mod number_tests;
 mod numbers;
 mod order;
 mod own_rows;

@@ -1,6 +1,6 @@
 //! What is given to who submits answers to a vector set.
 
-ghost use Rattle.std.specs.Prelude.{◌≡◌, ◌⊎◌, codes, Some, None, option_map, IfOk, IfErr, IfSome};
+ghost use Rattle.std.specs.Prelude.{◌≡◌, ◌⊎◌, codes, Some, None, option_and_then, IfOk, IfErr, IfSome};
 ghost use Rattle.acvp_json.specs.Session.{outcome_data};
 ghost use Rattle.acvp_json.specs.Urls.{results_url};
 ghost use Rattle.acvp_mac.specs.Conditions.{first_broken};
@@ -10,7 +10,7 @@ ghost use Rattle.acvp_desk.specs.Answer.{IsReply};
 ghost use Rattle.acvp_desk.specs.Cached.{HasItsStandard, StaysTrue};
 ghost use Rattle.acvp_desk.specs.OwnConditions.{prompted_conditions};
 ghost use Rattle.acvp_desk.specs.Replies.{prompts_from, submission_change};
-ghost use Rattle.acvp_desk.specs.Submissions.{answers_at, answers_conditions, graded_on, kept_answers};
+ghost use Rattle.acvp_desk.specs.Submissions.{answers_conditions, graded_at, kept_answers};
 
 use crate::body::answers_body;
 use crate::cache::Cache;
@@ -37,7 +37,7 @@ pub(crate) fn one_if_passed(disposition: Option<Disposition>) -> u64
 fn graded(alloc: Global, body: &[u8], entry: &mut Entry) -> Result<Graded, Rule>
     requires { HasItsStandard entry.old }
     ensures held { IfOk result (λ _. first_broken (answers_conditions entry.old.prompts body.now) ≡ None) }
-    ensures graded { IfOk result (λ graded. option_map (graded_on entry.old.prompts) (answers_at entry.old.prompts body.now) ≡ Some graded) }
+    ensures graded { IfOk result (λ graded. graded_at body.now entry.old.prompts ≡ Some graded) }
     ensures denied { IfErr result (λ rule. (rule ≡ Rule.Unavailable) ⊎ (first_broken (answers_conditions entry.old.prompts body.now) ≡ Some rule)) }
     ensures stays { StaysTrue entry.old entry.new }
 {
@@ -67,9 +67,34 @@ fn kept_answers(session: u64, number: u64, others: u64, graded: Graded) -> Optio
     })
 }
 
-/// What is given to who submits answers, or the rule of the first condition on the body that doesn't hold. The prompts
-/// are taken out of the cache, or made where they aren't there, and put in again. A row of an epoch without a seed
-/// stands for nothing, and so does one that counts too many sets.
+/// The answers that a body gives to the vector set of a number, graded. The prompts are taken out of the cache, or made
+/// where they aren't there, and put in again. A row of an epoch without a seed stands for nothing.
+fn graded_by(
+    alloc: Global,
+    cache: &mut Cache,
+    number: u64,
+    body: &[u8],
+    source: SetSource,
+) -> Result<Graded, Rule>
+    ensures held { IfOk result (λ _. first_broken (prompted_conditions body.now (prompts_from cache.old.seeds number source)) ≡ None) }
+    ensures graded { IfOk result (λ graded. option_and_then (graded_at body.now) (prompts_from cache.old.seeds number source) ≡ Some graded) }
+    ensures seeds { cache.new.seeds ≡ cache.old.seeds }
+    ensures denied { IfErr result (λ rule. (rule ≡ Rule.Unavailable) ⊎ (first_broken (prompted_conditions body.now (prompts_from cache.old.seeds number source)) ≡ Some rule)) }
+{
+    let SetSource { capability, epoch } = source;
+    if epoch > cache.seeds().newest() {
+        return Err(Rule::Unavailable);
+    }
+    let Ok(mut entry) = cache.take(alloc, number, capability, epoch) else {
+        return Err(Rule::Unavailable);
+    };
+    let graded = graded(alloc, body, &mut entry);
+    cache.keep(number, entry);
+    graded
+}
+
+/// What is given to who submits answers, or the rule of the first condition on the body that doesn't hold. A row that
+/// counts too many sets stands for nothing.
 #[tactic(auto, unfolding(acvp_json::specs::ReplyData::reply_data))]
 pub(crate) fn draft_answers(
     alloc: Global,
@@ -86,16 +111,7 @@ pub(crate) fn draft_answers(
     ensures denied { IfErr result (λ rule. (rule ≡ Rule.Unavailable) ⊎ (first_broken (prompted_conditions body.now (prompts_from cache.old.seeds number submission.source)) ≡ Some rule)) }
 {
     let Submission { source, others } = submission;
-    let SetSource { capability, epoch } = source;
-    if epoch > cache.seeds().newest() {
-        return Err(Rule::Unavailable);
-    }
-    let Ok(mut entry) = cache.take(alloc, number, capability, epoch) else {
-        return Err(Rule::Unavailable);
-    };
-    let graded = graded(alloc, body, &mut entry);
-    cache.keep(number, entry);
-    let graded = match graded {
+    let graded = match graded_by(alloc, cache, number, body, source) {
         Ok(graded) => graded,
         Err(rule) => return Err(rule),
     };

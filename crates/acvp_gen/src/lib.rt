@@ -11,8 +11,6 @@ mod prompt;
 mod seeds;
 mod shape;
 mod test_case;
-#[cfg(test)]
-mod tests;
 mod words;
 
 pub use acvp_caps::{Algorithm, CapFault, Capability};

@@ -2,12 +2,8 @@
 #![tactic(auto)]
 
 mod account;
-#[cfg(test)]
-mod account_tests;
 mod algorithms;
 mod answers_body;
-#[cfg(test)]
-mod answers_tests;
 mod array;
 mod certify_body;
 mod envelope;
@@ -19,17 +15,11 @@ mod members;
 mod object;
 mod page;
 mod registered;
-#[cfg(test)]
-mod registered_tests;
 mod reply_object;
-#[cfg(test)]
-mod reply_tests;
 mod reviewer_body;
 mod session;
 mod set_results;
 mod submission;
-#[cfg(test)]
-mod tests;
 mod text;
 mod time;
 mod urls;

@@ -14,8 +14,6 @@ mod digest_bytes;
 mod hash_functions;
 mod keyed_hash;
 mod one_time_codes;
-#[cfg(test)]
-mod tests;
 
 /// The hash functions of FIPS 180-4 but SHA-1.
 #[derive(Clone, Copy, PartialEq, Eq, Debug)]

@@ -22,5 +22,3 @@ mod resource;
 mod rule;
 mod session;
 mod set;
-#[cfg(test)]
-mod tests;

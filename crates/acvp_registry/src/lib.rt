@@ -9,8 +9,6 @@ mod kind;
 mod number;
 mod object;
 mod request;
-#[cfg(test)]
-mod tests;
 mod url;
 
 pub use fault::RegFault;

@@ -9,8 +9,6 @@ mod list;
 mod rows;
 mod summary;
 mod tables;
-#[cfg(test)]
-mod tests;
 
 pub use change::{
     Approval, CancelledSet, Change, KeptAnswers, NewAccount, NewCertification, NewRequest,

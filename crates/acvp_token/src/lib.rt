@@ -13,12 +13,8 @@ mod claims_json;
 mod issuing;
 mod key_ring;
 mod opening;
-#[cfg(test)]
-mod ring_tests;
 mod session_number;
 mod splitting;
-#[cfg(test)]
-mod tests;
 mod verifying;
 
 use std::alloc::AllocError;

@@ -1,0 +1,49 @@
+//! Script mode: a script on standard input, over records in memory.
+use crate::database::tables_in_memory;
+use crate::fault::Fault;
+use crate::keys::keys_in;
+use crate::serving::desk_over;
+use acvp_desk::Desk;
+use acvp_http::{Flagged, Routes, run};
+use acvp_tables::Tables;
+use std::alloc::{AllocGlobal, Global};
+use std::io::{self, BufReader, Read, Write};
+use std::rt::Files;
+
+/// Runs the script that a reader holds at a desk, and writes its output to a writer.
+fn run_over<T: Tables, R: Read + Drop, W: Write + Drop>(
+    alloc: Global,
+    routes: &Routes,
+    desk: &mut Desk<T>,
+    input: R,
+    output: W,
+) -> Result<(), Fault> {
+    let mut reader = Flagged::new(input);
+    let mut writer = Flagged::new(output);
+    run(alloc, routes, desk, &mut reader, &mut writer)?;
+    Ok(())
+}
+
+/// Runs the script on standard input at a desk, and writes its output to standard output.
+fn run_input<T: Tables, R: Input + Print + AllocGlobal>(
+    rt: &R,
+    desk: &mut Desk<T>,
+) -> Result<(), Fault> {
+    let routes = Routes::new(rt.alloc())?;
+    match BufReader::new(rt.alloc(), rt.reader()) {
+        Ok(input) => run_over(rt.alloc(), &routes, desk, input, io::writer(rt)),
+        Err(_) => Err(Fault::Memory),
+    }
+}
+
+/// Runs the script on standard input, over records in memory and under the keys in a file, and writes its output to
+/// standard output.
+pub(crate) fn script<R: Files + Input + Print + AllocGlobal>(
+    rt: &R,
+    keys: &str,
+) -> Result<(), Fault> {
+    let keys = keys_in(rt, keys)?;
+    let tables = tables_in_memory(rt.alloc())?;
+    let mut desk = desk_over(rt.alloc(), keys, tables)?;
+    run_input(rt, &mut desk)
+}
