@@ -321,15 +321,17 @@ def rows_of_each_kind(lab):
 
 
 def rows_that_stand_for_nothing(lab):
-    """What meets such a row is unavailable, at an order, at a request and before serving."""
+    """What meets such a row is unavailable, at an order, at a request and before serving; a request of another account
+    doesn't meet it."""
     lab.does("account 21 added", "account-add", "--db", lab.db, "--account", "21", "--secret", lab.path("secret-20"))
     whole = lab.db
 
-    def spoilt(name, statement):
+    def spoilt(name, *statements):
         lab.db = lab.path(name)
         shutil.copy(whole, lab.db)
         connection = sqlite3.connect(lab.db)
-        connection.execute(statement)
+        for statement in statements:
+            connection.execute(statement)
         connection.commit()
         connection.close()
         return ["--db", lab.db]
@@ -342,6 +344,27 @@ def rows_that_stand_for_nothing(lab):
                                   ("22", "a caller without a row", (403, {"error": "accountRefused"}))]:
         token = signed({"exp": 4102444800, "iat": 0, "sub": account})
         expect(what, lab.call("GET", "/account", token), wanted)
+    lab.kill()
+    spoilt("no-texts.db", "UPDATE vset2 SET capability = 'none'", "UPDATE request SET status = 9",
+           "UPDATE object SET body = 'none'")
+    lab.serve()
+    token, own = (signed({"exp": 4102444800, "iat": 0, "sub": account}) for account in ("21", "20"))
+    session = lab.must("POST", "/testSessions", token, REGISTRATION)
+    bound, of_another = session["accessToken"], short(session["url"]) + "/vectorSets/2000000101"
+    given = {"vsId": 2000000101, "testGroups": []}
+    for method, path, by, thing in [("GET", of_another, bound, None), ("GET", of_another + "/results", bound, None),
+                                    ("GET", of_another + "/expected", bound, None), ("DELETE", of_another, bound, None),
+                                    ("POST", of_another + "/results", bound, given),
+                                    ("PUT", of_another + "/results", bound, given), ("GET", "/vendors/7000001", token, None),
+                                    ("GET", "/modules/7000001", token, None), ("GET", "/oes/7000001", token, None),
+                                    ("GET", "/requests/20000001", token, None)]:
+        expect(f"another account's row that stands for nothing: {method} {path}", lab.call(method, path, by, thing),
+               (404, {"error": "noResource"}))
+    expect("a module of another account's vendor that stands for nothing",
+           lab.call("POST", "/modules", token, {"name": "M", "vendorUrl": "/acvp/v1/vendors/7000001"}),
+           (400, {"error": "noReference"}))
+    expect("the request whose row stands for nothing", lab.call("GET", "/requests/20000001", own),
+           (503, {"error": "unavailable"}))
     lab.kill()
     db = spoilt("no-epoch.db", "UPDATE vset2 SET epoch = -1")
     lab.fails("unavailable", "serve", *db, "--keys", lab.keys, "--port", str(free_port()), "--count", "1")

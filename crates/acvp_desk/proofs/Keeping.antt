@@ -56,7 +56,7 @@ use Rattle.acvp_desk.specs.OwnConditions.{registry_conditions, session_condition
 use Rattle.acvp_desk.specs.Place.{registry_material, session_facts, set_outcomes, session_material, subject_of, material_of, reviewers_in_material}
 use Rattle.acvp_desk.specs.Replies.{cancelled_set, registry_change, session_change, wish_change, set_change}
 use Rattle.acvp_desk.specs.Reviewers.{reviewer_at, has_room}
-use Rattle.acvp_desk.specs.Sets.{results_material, set_facts, set_material, set_source, verdicts_on_set}
+use Rattle.acvp_desk.specs.Sets.{results_material, set_facts, set_material, set_source, verdicts_in_session}
 use Rattle.acvp_desk.specs.Wish.{action_of_wish, action_on_session, action_on_set}
 use Rattle.acvp_desk.specs.declared.found.Material.{Material}
 use Rattle.acvp_desk.specs.declared.wish.SetWish.{SetWish}
@@ -225,9 +225,9 @@ module _ (follows : (c : Content) (it : Change) → state_of (after it c) ≡ af
   set_kept seeds session n body f m on_set.Read c names shows allowed kept = rw shows kept
   set_kept seeds session n body f m on_set.Expected c names shows allowed kept = rw shows kept
   set_kept seeds session n body f m on_set.Results c names shows allowed kept =
-      rw shows (go (option_and_then (verdicts_on_set seeds) (set_record_at n (state_of c).sets)))
+      rw shows (go (verdicts_in_session seeds session n (state_of c).sets))
     where
-      go : (verdicts : Option (List Verdict)) → IsKept seeds (content_after (set_change seeds session n body (results_material verdicts (set_source n (state_of c).sets))) c)
+      go : (verdicts : Option (List Verdict)) → IsKept seeds (content_after (set_change seeds session n body (results_material verdicts (set_source session n (state_of c).sets))) c)
       go None = kept
       go (Some verdicts) = kept
   set_kept seeds session n body f m on_set.Submit c names shows allowed kept =

@@ -15,9 +15,12 @@ pub mod Finding
 pub mod Looking
 pub mod Allowing
 pub mod CacheLemmas
+pub mod Elsewhere
 pub mod SetLemmas
 pub mod Cancelling
 pub mod Submitting
 pub mod Paging
 pub mod Walking
 pub mod Telling
+pub mod OrderedApart
+pub mod Nobody

@@ -40,7 +40,7 @@ admitted_enabled scope.AccountChange f e = inr (caller_enabled f (without_sessio
 admitted_enabled scope.SessionResource f e = inr (caller_enabled f (session_conditions f) e)
 admitted_enabled scope.ReviewableResource f e = inr (caller_enabled f (if is_reviewer f then [] else session_conditions f) e)
 
-no_login : (it : Wish) → scope_of (action_of_wish it) ≡ scope.Login → ⊥
+pub no_login : (it : Wish) → scope_of (action_of_wish it) ≡ scope.Login → ⊥
 no_login (Account on_account.Read) e = cc
 no_login (Account on_account.ListAlgorithms) e = cc
 no_login (Algorithm n) e = cc

@@ -19,7 +19,8 @@ use Rattle.acvp_policy.specs.declared.facts.SessionFacts.{SessionFacts}
 use Rattle.acvp_tables.specs.State.{State, SetRecord, state_of, set_record, set_record_at, IsWellNumbered}
 use Rattle.acvp_tables.specs.declared.rows.SetRow.{SetRow}
 use Rattle.acvp_desk.specs.Kept.{IsGradedSet, IsRightly, IsKept}
-use Rattle.acvp_desk.specs.Sets.{facts_of_set, if_in_session, set_facts, set_in_session, verdicts_under, verdicts_on_set}
+use Rattle.acvp_desk.specs.Sets.{facts_of_set, set_facts, set_in_session, verdicts_under, verdicts_on_set}
+use Rattle.acvp_desk.proofs.Elsewhere.{no_set_in}
 
 module _ (follows : (n : ℕ) (c : Content) → set_record_at n (state_of c).sets ≡ option_map set_record (set_at n c.sets)) where
   -- ---- the verdicts that are kept are those that are worked out anew
@@ -59,13 +60,9 @@ pub no_set_elsewhere : (names : (n : ℕ) (state : State) (row : SetRecord) → 
 unfolding set_facts
 no_set_elsewhere names facts session n state well apart = none facts
   where
-    at : (row : Option SetRecord) → set_record_at n state.sets ≡ row → option_and_then (if_in_session session) row ≡ None
-    at None e = refl
-    at (Some row) e = let is : row.session ≡ n / 100 = names n state row well e in rw (is, apart) refl
-
     none : (facts : Option SessionFacts) → None ≡ option_and_then (λ of. option_map (facts_of_set of) (set_in_session session n state.sets)) facts
     none None = refl
-    none (Some of) = rw (at (set_record_at n state.sets) refl) refl
+    none (Some of) = rw (no_set_in names session n state well apart) refl
 
 -- ---- where there are no answers
 

@@ -16,6 +16,7 @@ pub mod Kept
 pub mod Serves
 pub mod Desk
 pub mod Orders
+pub mod Isolation
 pub mod Private
 pub mod Errors
 pub mod Cached

@@ -46,8 +46,9 @@ set_reviewed _ session u state = false
 abbrev pub source_of : SetRecord → SetSource
 source_of row = record { capability = row.capability; epoch = row.epoch }
 
-abbrev pub set_source : ℕ → List SetRecord → Option SetSource
-set_source n sets = option_map source_of (set_record_at n sets)
+-- of the set of a number in a session
+abbrev pub set_source : ℕ → ℕ → List SetRecord → Option SetSource
+set_source session n sets = option_map source_of (set_in_session session n sets)
 
 -- the verdicts on answers to it, worked out anew under the seed
 abbrev pub answers_verdicts : List ℕ → SetRecord → List Answer → List Verdict
@@ -61,6 +62,10 @@ verdicts_under row (Some seed) (Some answers) = Some (answers_verdicts seed row 
 -- the verdicts under the seed of its epoch, where it has answers
 unfoldable pub verdicts_on_set : List (List ℕ) → SetRecord → Option (List Verdict)
 verdicts_on_set seeds row = verdicts_under row (slice_get seeds row.epoch) row.answers
+
+-- of the set of a number in a session
+abbrev pub verdicts_in_session : List (List ℕ) → ℕ → ℕ → List SetRecord → Option (List Verdict)
+verdicts_in_session seeds session n sets = option_and_then (verdicts_on_set seeds) (set_in_session session n sets)
 
 -- the verdicts; or, where there are no answers, what the prompts are made from
 abbrev pub results_material : Option (List Verdict) → Option SetSource → Material
@@ -105,11 +110,19 @@ submission_for seeds session n sets = option_map (submission_to seeds session n 
 -- ---- what is read of it
 
 abbrev pub set_material : List (List ℕ) → ℕ → ℕ → List SetRecord → SetWish → Material
-set_material seeds session n sets on_set.Read = material.Source (set_source n sets)
-set_material seeds session n sets on_set.Expected = material.Source (set_source n sets)
-set_material seeds session n sets on_set.Results = results_material (option_and_then (verdicts_on_set seeds) (set_record_at n sets)) (set_source n sets)
+set_material seeds session n sets on_set.Read = material.Source (set_source session n sets)
+set_material seeds session n sets on_set.Expected = material.Source (set_source session n sets)
+set_material seeds session n sets on_set.Results = results_material (verdicts_in_session seeds session n sets) (set_source session n sets)
 set_material seeds session n sets on_set.Submit = material.Submission (submission_for seeds session n sets)
 set_material seeds session n sets on_set.Resubmit = material.Submission (submission_for seeds session n sets)
+
+-- and of one that isn't there
+abbrev pub no_set_material : SetWish → Material
+no_set_material on_set.Read = material.Source None
+no_set_material on_set.Expected = material.Source None
+no_set_material on_set.Results = material.Source None
+no_set_material on_set.Submit = material.Submission None
+no_set_material on_set.Resubmit = material.Submission None
 
 -- ---- which material a wish has
 

@@ -5,11 +5,14 @@ ghost use Rattle.acvp_tables.specs.Content.{Content, greatest_epoch_of};
 ghost use Rattle.acvp_tables.specs.State.{IsSound};
 ghost use Rattle.acvp_desk.specs.Request.{request_value};
 ghost use Rattle.acvp_desk.specs.Desk.{HasSeeds, tables_of};
+ghost use Rattle.acvp_desk.specs.Isolation.{IsOrderedApart};
 ghost use Rattle.acvp_desk.specs.Orders.{IsOrder, Orders};
 ghost use Rattle.acvp_desk.specs.Serves.{Looks, Serves, result_of, IfDenied};
 
 use crate::cache::Cache;
+use crate::isolation::orders_are_apart;
 use crate::keys::Keys;
+use crate::laws::effects_follow;
 use crate::order::{Order, OrderReply, order_on};
 use crate::request::TypedRequest;
 use crate::serve::{Served, serve};
@@ -99,13 +102,17 @@ impl<T: Tables> Desk<T> {
         }
     }
 
-    /// Carries an operator's order out. The moment isn't used.
+    /// Carries an operator's order out. What it leaves of an account's rows depends on the order and on these rows
+    /// alone. The moment isn't used.
     pub fn order(&mut self, moment: u64, order: &Order) -> OrderReply
         requires { IsOrder order.now }
         ensures keys { self.new.keys ≡ self.old.keys }
         ensures answered { Orders T.faults T.stands T.is_live T.is_clean T.leaves result self.old.tables self.new.tables order.now }
+        ensures apart { IsOrderedApart T.stands T.is_live result self.old.tables self.new.tables order.now }
     {
         let _ = moment;
+        effects_follow();
+        orders_are_apart();
         order_on(&mut self.tables, order)
     }
 

@@ -1,6 +1,6 @@
 //! The tables are looked at.
 
-ghost use Rattle.std.specs.Prelude.{◌≡◌, ◌⊎◌, ◌/◌, ℕ, List, map, ◌&&◌, ◌||◌, ◌==◌, not, nat_le, true, Some, is_some, IfOk, IfErr, IfSome, option_and_then};
+ghost use Rattle.std.specs.Prelude.{◌≡◌, ◌⊎◌, ◌/◌, ℕ, List, map, ◌&&◌, ◌||◌, ◌==◌, not, nat_le, true, Some, is_some, IfOk, IfErr, IfSome, option_and_then, option_map};
 ghost use Rattle.acvp_mac.specs.Conditions.{first_broken};
 ghost use Rattle.acvp_policy.specs.Conditions.{claims_of};
 ghost use Rattle.acvp_policy.specs.Decision.{account_of_claims};
@@ -11,7 +11,7 @@ ghost use Rattle.acvp_desk.specs.Answer.{found_of, policy_conditions, reviewer_f
 ghost use Rattle.acvp_desk.specs.Kept.{IsKept};
 ghost use Rattle.acvp_desk.specs.Private.Changeable.{IfChangeable};
 ghost use Rattle.acvp_desk.specs.Place.{certification_of, certification_status, listed_session, sessions_material, is_for_page, session_facts, reviewed_facts, is_within, subject_of, material_of, account_material, session_material, is_for, is_for_account, is_for_session, place_of, set_numbers, set_outcomes, unfound};
-ghost use Rattle.acvp_desk.specs.Sets.{set_facts, set_material, set_source, submission_for, verdicts_on_set, is_for_set};
+ghost use Rattle.acvp_desk.specs.Sets.{no_set_material, set_facts, set_material, source_of, submission_for, verdicts_on_set, is_for_set};
 ghost use Rattle.acvp_desk.specs.Serves.{Holds, Knows, Looks, Sees};
 
 use crate::ask::Ask;
@@ -345,7 +345,7 @@ fn session_material<T: Tables>(
 /// What the prompts of a vector set are made from.
 #[tactic(auto, unfolding(acvp_tables::specs::State::state_of))]
 fn set_source<T: Tables>(tables: &mut T, number: u64) -> Result<Option<SetSource>, StoreFault>
-    ensures found { Sees T.stands T.is_live T.is_clean T.leaves result tables.old tables.new (λ seeds c. set_source number (state_of c).sets) }
+    ensures found { Sees T.stands T.is_live T.is_clean T.leaves result tables.old tables.new (λ seeds c. option_map source_of (set_record_at number (state_of c).sets)) }
     ensures looks { Looks T.stands T.is_live T.is_clean T.leaves result tables.old tables.new }
 {
     selections_follow();
@@ -409,7 +409,19 @@ fn submission<T: Tables>(
     Ok(Some(Submission { source, others }))
 }
 
-/// What is read for the reply to who asks something of a vector set.
+/// What is read for the reply where the vector set isn't there.
+fn no_set_material(wish: SetWish) -> Material
+    ensures material { result ≡ no_set_material wish }
+    ensures fits { is_for_set wish result ≡ true }
+{
+    match wish {
+        SetWish::Read | SetWish::Expected | SetWish::Results => Material::Source(None),
+        SetWish::Submit | SetWish::Resubmit => Material::Submission(None),
+    }
+}
+
+/// What is read for the reply to who asks something of a vector set. Of a number of another session nothing is read,
+/// since its row may be another account's.
 #[tactic(auto, unfolding(acvp_tables::specs::State::state_of))]
 fn set_material<T: Tables>(
     tables: &mut T,
@@ -421,6 +433,10 @@ fn set_material<T: Tables>(
     ensures fits { IfOk result (λ material. is_for_set wish material ≡ true) }
     ensures looks { Looks T.stands T.is_live T.is_clean T.leaves result tables.old tables.new }
 {
+    numbers_name();
+    if number / SETS_OF_A_SESSION != session {
+        return Ok(no_set_material(wish));
+    }
     match wish {
         SetWish::Read => Ok(Material::Source(set_source(tables, number)?)),
         SetWish::Expected => Ok(Material::Source(set_source(tables, number)?)),

@@ -14,11 +14,12 @@ ghost use Rattle.acvp_desk.specs.Serves.{Looks, Sees};
 
 use crate::body::{certify_read, object_read};
 use crate::found::{Asked, Material, ObjectRows, RequestRows};
+use crate::numbers::is_of_account;
 use crate::wish::{Registry, RegistryWish};
 use acvp_json::{CertifyBody, Page};
 use acvp_policy::{RowSubject, Subject};
 use acvp_registry::{Kind, Object};
-use acvp_tables::{Counts, ObjectRow, RequestSummary, StoreFault, Tables};
+use acvp_tables::{Counts, ObjectRow, RequestSummary, StoreFault, Tables, numbers_name};
 use std::alloc::Global;
 
 // ---- what a path names
@@ -50,6 +51,7 @@ pub(crate) fn registry_subject(found: bool, wish: RegistryWish) -> Subject
 // ---- an account's rows by their numbers
 
 /// Whether an account has the object of a kind and number.
+#[tactic(auto, unfolding(acvp_tables::specs::State::state_of))]
 fn has_object<T: Tables>(
     tables: &mut T,
     kind: Kind,
@@ -59,6 +61,10 @@ fn has_object<T: Tables>(
     ensures found { Sees T.stands T.is_live T.is_clean T.leaves result tables.old tables.new (λ seeds c. is_some (own_object kind account number c.objects)) }
     ensures looks { Looks T.stands T.is_live T.is_clean T.leaves result tables.old tables.new }
 {
+    numbers_name();
+    if !is_of_account(number, account) {
+        return Ok(false);
+    }
     match tables.owner(kind, number)? {
         Some(owner) => Ok(owner == account),
         None => Ok(false),
@@ -66,6 +72,7 @@ fn has_object<T: Tables>(
 }
 
 /// The object of a kind and number, where it is an account's.
+#[tactic(auto, unfolding(acvp_tables::specs::State::state_of))]
 fn own_object<T: Tables>(
     tables: &mut T,
     kind: Kind,
@@ -75,6 +82,10 @@ fn own_object<T: Tables>(
     ensures found { Sees T.stands T.is_live T.is_clean T.leaves result tables.old tables.new (λ seeds c. own_object kind account number c.objects) }
     ensures looks { Looks T.stands T.is_live T.is_clean T.leaves result tables.old tables.new }
 {
+    numbers_name();
+    if !is_of_account(number, account) {
+        return Ok(None);
+    }
     match tables.object(kind, number)? {
         Some(row) if row.account == account => Ok(Some(row)),
         _ => Ok(None),
@@ -82,6 +93,7 @@ fn own_object<T: Tables>(
 }
 
 /// The request of a number, where it is an account's.
+#[tactic(auto, unfolding(acvp_tables::specs::State::state_of))]
 fn own_request<T: Tables>(
     tables: &mut T,
     account: u16,
@@ -90,6 +102,10 @@ fn own_request<T: Tables>(
     ensures found { Sees T.stands T.is_live T.is_clean T.leaves result tables.old tables.new (λ seeds c. option_map request_summary (own_request account number c.requests)) }
     ensures looks { Looks T.stands T.is_live T.is_clean T.leaves result tables.old tables.new }
 {
+    numbers_name();
+    if !is_of_account(number, account) {
+        return Ok(None);
+    }
     match tables.request(number)? {
         Some(row) if row.account == account => Ok(Some(row)),
         _ => Ok(None),

@@ -3,7 +3,7 @@ use Rattle.std.proofs.Common.{◌≡◌, ℕ, Bool, true, false, ◌&&◌, List,
 use Rattle.std.proofs.Common.{Ok, IfSome, ◌⊎◌, inl, inr, refl, arith, if◌then◌else◌}
 use Rattle.std.specs.List.{list_all}
 use Rattle.std.proofs.lemmas.Bool.Decides.{nat_tests}
-use Rattle.acvp_token.specs.Conditions.{Condition, judged}
+use Rattle.acvp_token.specs.Conditions.{Condition, first_broken, judged}
 use Rattle.acvp_token.specs.SessionNumber.{account_of_session}
 use Rattle.acvp_token.specs.declared.Claims.{Claims}
 use Rattle.acvp_policy.specs.declared.rule.Rule.{Rule}
@@ -35,6 +35,12 @@ pub all_hold : {X : Type 0} (conditions : List (Condition Rule)) (x y : X) → j
 all_hold [] x y h = (refl, cc)
 all_hold ((true, rule) ∷ conditions) x y h = all_hold conditions x y h
 all_hold ((false, rule) ∷ conditions) x y h = cc
+
+-- where none is broken, all hold
+pub none_broken : (conditions : List (Condition Rule)) → first_broken conditions ≡ None → list_all holds conditions ≡ true
+none_broken [] none = refl
+none_broken ((true, rule) ∷ conditions) none = none_broken conditions none
+none_broken ((false, rule) ∷ conditions) none = absurd (cc)
 
 -- of two lists, the second holds where both do
 pub back_holds : (front back : List (Condition Rule)) → list_all holds (front ++ back) ≡ true →

@@ -40,7 +40,7 @@ pub enum Action {
 }
 
 /// What an action asks of the caller.
-#[derive(Clone, Copy, Debug, PartialEq, Eq)]
+#[derive(Clone, Copy, PartialEq, Eq)]
 pub enum Scope {
     /// An account, its one-time code, and at most a token to renew.
     Login,

@@ -4,7 +4,7 @@ use acvp_token::Claims;
 
 /// What is known when a request is decided: what was found, and nothing that is still to be looked up.
 /// A login is decided on its findings alone, and leaves `token`, `standing` and `reviewer` unread.
-#[derive(Clone, Copy, Debug, PartialEq, Eq)]
+#[derive(Clone, Copy)]
 pub struct Facts {
     /// The moment of the request, in seconds since 1970.
     pub moment: u64,
@@ -23,7 +23,7 @@ pub struct Facts {
 }
 
 /// What reading a bearer token came to: the first of its tests that failed, or its claims.
-#[derive(Clone, Copy, Debug, PartialEq, Eq)]
+#[derive(Clone, Copy)]
 pub enum Token {
     /// There is none.
     Missing,
@@ -45,7 +45,7 @@ pub enum Token {
 }
 
 /// How an account stands.
-#[derive(Clone, Copy, Debug, PartialEq, Eq)]
+#[derive(Clone, Copy, PartialEq, Eq)]
 pub enum Standing {
     Absent,
     Disabled,
@@ -54,7 +54,7 @@ pub enum Standing {
 
 /// What a request's path names, with what was found there: one variant for each kind of resource, so
 /// that only the facts of that kind can be given.
-#[derive(Clone, Copy, Debug, PartialEq, Eq)]
+#[derive(Clone, Copy)]
 pub enum Subject {
     /// The account that logs in.
     Login(LoginFacts),
@@ -82,7 +82,7 @@ pub enum Subject {
 }
 
 /// What a login's body came to.
-#[derive(Clone, Copy, Debug, PartialEq, Eq)]
+#[derive(Clone, Copy)]
 pub struct LoginFacts {
     /// The account whose plain decimal `user` is, where it has a row.
     pub user: Option<UserFacts>,
@@ -92,7 +92,7 @@ pub struct LoginFacts {
 }
 
 /// An account that logs in.
-#[derive(Clone, Copy, Debug, PartialEq, Eq)]
+#[derive(Clone, Copy)]
 pub struct UserFacts {
     pub account: u16,
     pub enabled: bool,
@@ -102,7 +102,7 @@ pub struct UserFacts {
 }
 
 /// The token that a login hands in for renewal.
-#[derive(Clone, Copy, Debug, PartialEq, Eq)]
+#[derive(Clone, Copy)]
 pub enum Renewal {
     /// There is none.
     Unasked,
@@ -115,14 +115,14 @@ pub enum Renewal {
 }
 
 /// The session that a path names.
-#[derive(Clone, Copy, Debug, PartialEq, Eq)]
+#[derive(Clone, Copy)]
 pub struct SessionSubject {
     pub session: u64,
     pub found: Option<SessionFacts>,
 }
 
 /// The vector set that a path names.
-#[derive(Clone, Copy, Debug, PartialEq, Eq)]
+#[derive(Clone, Copy)]
 pub struct SetSubject {
     pub session: u64,
     pub set: u64,
@@ -132,7 +132,7 @@ pub struct SetSubject {
 }
 
 /// The reviewer of a session that a path names.
-#[derive(Clone, Copy, Debug, PartialEq, Eq)]
+#[derive(Clone, Copy)]
 pub struct ReviewerSubject {
     pub session: u64,
 
@@ -144,7 +144,7 @@ pub struct ReviewerSubject {
 }
 
 /// The row that a path names by its number.
-#[derive(Clone, Copy, Debug, PartialEq, Eq)]
+#[derive(Clone, Copy)]
 pub struct RowSubject {
     pub number: u64,
 
@@ -153,7 +153,7 @@ pub struct RowSubject {
 }
 
 /// How a session stands.
-#[derive(Clone, Copy, Debug, PartialEq, Eq)]
+#[derive(Clone, Copy)]
 pub struct SessionFacts {
     pub cancelled: bool,
 
@@ -170,7 +170,7 @@ pub struct SessionFacts {
 }
 
 /// The status of a certification request.
-#[derive(Clone, Copy, Debug, PartialEq, Eq)]
+#[derive(Clone, Copy)]
 pub enum CertificationStatus {
     Initial,
     Approved,
@@ -178,7 +178,7 @@ pub enum CertificationStatus {
 }
 
 /// How a vector set stands, and its session.
-#[derive(Clone, Copy, Debug, PartialEq, Eq)]
+#[derive(Clone, Copy)]
 pub struct SetFacts {
     pub session: SessionFacts,
     pub cancelled: bool,

@@ -52,7 +52,7 @@ pub fn resource_allows(action: Action, facts: &Facts) -> Result<(), Rule>
         Action::ReadRequest => resource_found(
             matches!(facts.subject, Subject::Request(row) if row.found),
         ),
-        _ => resource_found(facts.subject == Subject::Account),
+        _ => resource_found(matches!(facts.subject, Subject::Account)),
     }
 }
 

@@ -8,7 +8,7 @@ pub use facts::{
     SessionSubject, SetFacts, SetSubject, Standing, Subject, Token, UserFacts,
 };
 pub use grant::{Grant, admit, allows, decide, granted_resources, release};
-pub use isolation::caller_rules_agree;
+pub use isolation::{caller_rules_agree, callers_own_the_session};
 pub use resource::Resource;
 pub use rule::Rule;
 

@@ -6,7 +6,7 @@ ghost use Rattle.acvp_policy.specs.Resource.{resource_of};
 use crate::facts::Subject;
 
 /// What a grant is for, by the numbers of the path.
-#[derive(Clone, Copy, Debug, PartialEq, Eq)]
+#[derive(Clone, Copy, PartialEq, Eq)]
 pub enum Resource {
     /// The account of the grant: its own row, its lists, and what is added to them.
     Account,

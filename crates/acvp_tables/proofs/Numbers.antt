@@ -105,7 +105,7 @@ few_objects u mine kind well = omega (arith, well.asked_for kind, well.few_reque
 pub sessions_keyed : (u : ℕ) (mine : State) → IsWellNumberedFor u mine → list_all (λ row. owner_of row.number == u) mine.sessions ≡ true
 sessions_keyed u mine well = numbered_of_account {R = SessionRecord} (λ row. row.number) u (first_of_account u) mine.sessions (omega arith) (omega (arith, well.few_sessions)) well.sessions
 
-requests_keyed : (u : ℕ) (mine : State) → IsWellNumberedFor u mine → list_all (λ row. owner_of row.number == u) mine.requests ≡ true
+pub requests_keyed : (u : ℕ) (mine : State) → IsWellNumberedFor u mine → list_all (λ row. owner_of row.number == u) mine.requests ≡ true
 requests_keyed u mine well = numbered_of_account {R = RequestRow} (λ row. row.number) u (first_of_account u) mine.requests (omega arith) (omega (arith, well.few_requests)) well.requests
 
 objects_keyed : (u : ℕ) (mine : State) → IsWellNumberedFor u mine → list_all (λ row. owner_of row.number == u) mine.objects ≡ true

@@ -1,5 +1,5 @@
 //! What holds of the records and of their changes, whoever keeps them.
-ghost use Rattle.std.specs.Prelude.{◌≡◌, ◌≢◌, ℕ, ◌+◌, ◌/◌, ◌≤◌, List, [], map, length, filter, All, Some, None, IfSome, option_map, true, not, ◌==◌, ◌&&◌, if◌then◌else◌};
+ghost use Rattle.std.specs.Prelude.{◌≡◌, ◌≢◌, ◌⊎◌, ℕ, ◌+◌, ◌/◌, ◌≤◌, List, [], map, length, filter, All, Some, None, IfSome, option_map, true, not, ◌==◌, ◌&&◌, if◌then◌else◌};
 ghost use Rattle.acvp_policy.specs.Granted.{Granted};
 ghost use Rattle.acvp_registry.specs.declared.kind.Kind.{Kind};
 ghost use Rattle.acvp_tables.specs.Content.{Content, no_rows, account_at, session_at, set_at, object_at, request_at, live_sets, is_reviewer, reviewers_of, sessions_of, objects_of, requests_of, page, counts_of, greatest_epoch_of};
@@ -38,12 +38,15 @@ pub fn selections_follow()
     ensures counts { (u : ℕ) (c : Content) → record_counts u (state_of c) ≡ counts_of u c }
 {}
 
-/// A row that is found by its number is of the account, or of the session, that its number names.
+/// A row that is found by its number is of the account, or of the session, that its number names; and the request for a
+/// session's certification is of the session's account.
 pub fn numbers_name()
     ensures session { (n : ℕ) (state : State) (row : SessionRecord) → IsWellNumbered state → session_record_at n state.sessions ≡ Some row → row.account ≡ owner_of n }
     ensures request { (n : ℕ) (state : State) (row : RequestRow) → IsWellNumbered state → request_at n state.requests ≡ Some row → row.account ≡ owner_of n }
     ensures object { (n : ℕ) (kind : Kind) (state : State) (row : ObjectRow) → IsWellNumbered state → object_at kind n state.objects ≡ Some row → row.account ≡ owner_of n }
     ensures set { (n : ℕ) (state : State) (row : SetRecord) → IsWellNumbered state → set_record_at n state.sets ≡ Some row → row.session ≡ n / 100 }
+    ensures certification { (n m : ℕ) (state : State) (row : SessionRecord) → IsWellNumbered state → session_record_at n state.sessions ≡ Some row → row.certify ≡ Some m → owner_of m ≡ owner_of n }
+    ensures certifications { (u : ℕ) (state : State) → IsWellNumbered state → All (λ row. IfSome row.certify (λ m. owner_of m ≡ u)) (session_records_of u state.sessions) }
 {}
 
 /// The change that a grant is leave for is of the grant's account.
@@ -81,6 +84,13 @@ pub fn changes_are_of_one_account()
     ensures others { (v : ℕ) (it : Change) (state : State) → account_of_change it ≢ v → IsWellNumbered state → Fits it → own v (after_state it state) ≡ own v state }
     ensures order { (it : OrderChange) (state : State) → IsWellNumbered state → own (account_of_order it) (after_order_state it state) ≡ after_order_state it (own (account_of_order it) state) }
     ensures ordered_others { (v : ℕ) (it : OrderChange) (state : State) → account_of_order it ≢ v → IsWellNumbered state → own v (after_order_state it state) ≡ own v state }
+{}
+
+/// Who reviews a session after a change did so before, or is added by it; an order adds no reviewer, and removes none.
+pub fn reviewers_are_added()
+    ensures change { (s a : ℕ) (it : Change) (state : State) → is_reviewer s a (after_state it state).reviewers ≡ true
+        → (is_reviewer s a state.reviewers ≡ true) ⊎ (it ≡ change.AddReviewer (record { session = s; account = a })) }
+    ensures order { (it : OrderChange) (state : State) → (after_order_state it state).reviewers ≡ state.reviewers }
 {}
 
 /// A change keeps each session's counters right, where those that come with it are next; an order always does.

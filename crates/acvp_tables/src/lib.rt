@@ -19,7 +19,7 @@ pub use laws::{
     approvals_name_the_account, changes_are_of_one_account, counters_allow, counts_are_kept,
     counts_differ_by_one, epochs_are_bounded, grants_name_the_account, lists_ascend,
     numbers_are_kept, numbers_count, numbers_name, numbers_tell, records_begin_well,
-    selections_follow, sets_are_there_once, state_follows,
+    reviewers_are_added, selections_follow, sets_are_there_once, state_follows,
 };
 pub use list::ListTables;
 pub use rows::{

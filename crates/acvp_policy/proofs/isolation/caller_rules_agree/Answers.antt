@@ -2,7 +2,7 @@
 use Rattle.std.proofs.Common.{sym}
 use Rattle.acvp_policy.specs.declared.facts.Facts.{Facts}
 use Rattle.acvp_policy.specs.Callers.{AgreeOnCaller}
-use Rattle.acvp_policy.proofs.CallerRules.{caller_rule-kept}
+use Rattle.acvp_policy.proofs.CallerRules.{caller_rule-kept, claims_conditions-agree}
 use Rattle.acvp_policy.proofs.isolation.caller_rules_agree.Goals as goal
 
 turned : (one other : Facts) → AgreeOnCaller one other → AgreeOnCaller other one
@@ -14,7 +14,10 @@ turned one other same = record {
 }
 
 pub returns : goal.returns
-returns c = λ action one other rule same on_caller. (
-  caller_rule-kept action one other rule same on_caller,
-  caller_rule-kept action other one rule (turned one other same) on_caller,
-)
+returns c = record {
+  rules = λ action one other rule same on_caller. (
+    caller_rule-kept action one other rule same on_caller,
+    caller_rule-kept action other one rule (turned one other same) on_caller,
+  );
+  conditions = λ scope one other same. claims_conditions-agree scope one other same;
+}

@@ -1,0 +1,8 @@
+use Rattle.acvp_desk.proofs.Nobody.{answered_alike, nothing_changed}
+use Rattle.acvp_desk.proofs.isolation.nobody_is_answered_alike.Goals as goal
+
+pub returns : goal.returns
+returns g = record {
+  answer = λ keys moment r one other nobody. answered_alike keys moment r one other nobody;
+  effect = λ keys moment r state nobody. nothing_changed keys moment r state nobody;
+}
