@@ -9,9 +9,6 @@ use Rattle.acvp_store.specs.declared.fault.AdoptFault.{AdoptFault}
 use Rattle.acvp_store.specs.declared.fault.AdoptFault.TheVariants as adopted
 use Rattle.acvp_tables.specs.declared.tables.StoreFault.{StoreFault}
 use Rattle.acvp_tables.specs.declared.tables.StoreFault.TheVariants as store
-use Rattle.sqlite.specs.declared.error.Error.{Error}
-use Rattle.sqlite.specs.declared.error.Error.TheVariants.{SqliteFailure}
-use Rattle.sqlite.specs.declared.error.ErrorCode.TheVariants.{OutOfMemory}
 use Rattle.acvp_commands.specs.declared.fault.Fault.{Fault}
 use Rattle.acvp_commands.specs.declared.fault.Fault.TheVariants.{Keys, Read, Write, Syntax, Limit, Memory, Unavailable, Schema}
 
@@ -39,11 +36,6 @@ abbrev pub fault_of_adopt : AdoptFault → Fault
 fault_of_adopt adopted.Schema = Schema
 fault_of_adopt adopted.Refused = Unavailable
 fault_of_adopt adopted.Memory = Memory
-
--- a database that can't be opened, for whatever else, is unavailable
-abbrev pub fault_of_open : Error → Fault
-fault_of_open (SqliteFailure OutOfMemory) = Memory
-fault_of_open _ = Unavailable
 
 -- what the system refuses is the fault that was to be told of it, but for want of memory
 abbrev pub fault_of_kind : Fault → ErrorKind → Fault

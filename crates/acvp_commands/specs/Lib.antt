@@ -1,4 +1,3 @@
-pub mod Commands
 pub mod Connections
 pub mod Faults
 pub mod KeysFile

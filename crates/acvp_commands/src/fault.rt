@@ -1,19 +1,18 @@
 //! Why a command failed.
 ghost use Rattle.std.specs.Prelude.{◌≡◌};
 ghost use Rattle.std.specs.IoError.{error_kind};
-ghost use Rattle.acvp_commands.specs.Faults.{fault_of_kind, fault_of_open};
+ghost use Rattle.acvp_commands.specs.Faults.{fault_of_kind};
 
 use acvp_desk::NewFault;
 use acvp_http::ScriptFault;
 use acvp_store::AdoptFault;
 use acvp_tables::StoreFault;
-use sqlite::{Error, ErrorCode};
 use std::alloc::AllocError;
 use std::io;
 
 /// Why a command failed: the word that is printed after `fault: `.
 #[derive(Clone, Copy, Debug, PartialEq, Eq, thiserror::Error)]
-pub(crate) enum Fault {
+pub enum Fault {
     /// The account's number is there already.
     #[error("taken")]
     Taken,
@@ -54,6 +53,7 @@ pub(crate) enum Fault {
     /// The script is longer than one run goes.
     #[error("limit")]
     Limit,
+    /// Memory ran out.
     #[error("memory")]
     Memory,
 }
@@ -131,18 +131,8 @@ impl From<AdoptFault> for Fault {
 }
 
 impl Fault {
-    /// The fault of a database that can't be opened.
-    pub(crate) fn of_database(error: Error) -> Fault
-        ensures { result ≡ fault_of_open error }
-    {
-        match error {
-            Error::SqliteFailure(ErrorCode::OutOfMemory) => Fault::Memory,
-            _ => Fault::Unavailable,
-        }
-    }
-
     /// This fault of the system's, or want of memory where the system says so.
-    pub(crate) fn of_system(self, error: &io::Error) -> Fault
+    pub fn of_system(self, error: &io::Error) -> Fault
         ensures { result ≡ fault_of_kind self (error_kind error.now) }
     {
         match error.kind() {

@@ -1,17 +1,14 @@
-//! The keys file, in either of its forms: two lines of 64 hex digits, the token key and then the generator's seed; or
-//! the entries of a ring of token keys and then the seeds, each a line that begins with its word.
+//! The text of a keys file, in either of its forms: two lines of 64 hex digits, the token key and then the generator's
+//! seed; or the entries of a ring of token keys and then the seeds, each a line that begins with its word.
 ghost use Rattle.std.specs.Prelude.{◌≡◌, ◌≢◌, ◌<◌, ◌≤◌, ◌++◌, ◌∷◌, [], MatchOption, ℕ, List, Some, length, take};
 ghost use Rattle.acvp_token.specs.Keys.{Ring};
 ghost use Rattle.acvp_commands.specs.KeysFile.{IsKeysText, IsLine, IsLongText, IsSeedLine, IsShortText, IsTokenLine};
 ghost use Rattle.acvp_commands.specs.Private.Taking.{HasNoLine, StartsWith, StartsWithLines};
 
-use crate::fault::Fault;
 use acvp_desk::Keys;
 use acvp_gen::Seeds;
 use acvp_token::KeyRing;
 use hex::FromHex;
-use std::fs;
-use std::rt::Files;
 
 /// The length of a line of 64 hex digits, with its line feed.
 const LINE: usize = 65;
@@ -20,7 +17,7 @@ const LINE: usize = 65;
 const MOST_LINES: usize = 16;
 
 /// The 32 bytes that a line of 64 hex digits and a line feed gives: a line of the keys file, or a secret file whole.
-fn bytes_of(line: &[u8]) -> Option<[u8; 32]>
+pub fn bytes_of(line: &[u8]) -> Option<[u8; 32]>
     ensures { MatchOption result ((bytes : List ℕ) → IsLine line.now bytes → ⊥) (IsLine line.now) }
 {
     let [digits @ .., b'\n'] = line else {
@@ -148,28 +145,12 @@ fn read_long(text: &[u8]) -> Option<Keys>
 }
 
 /// The keys that the text of a keys file gives.
-pub(crate) fn read_keys(text: &[u8]) -> Option<Keys>
+pub fn read_keys(text: &[u8]) -> Option<Keys>
     ensures { MatchOption result ((ring : Ring) (seeds : List (List ℕ)) → IsKeysText text.now ring seeds → ⊥)
         (λ keys. IsKeysText text.now keys.token keys.seed) }
 {
     match read_short(text) {
         Some(keys) => Some(keys),
         None => read_long(text),
-    }
-}
-
-/// The keys in a file.
-pub(crate) fn keys_in<R: Files + AllocGlobal>(rt: &R, path: &str) -> Result<Keys, Fault> {
-    match fs::read(rt, path) {
-        Ok(text) => read_keys(&text).ok_or(Fault::Keys),
-        Err(error) => Err(Fault::Keys.of_system(&error)),
-    }
-}
-
-/// The secret of an account, in a file.
-pub(crate) fn secret_in<R: Files + AllocGlobal>(rt: &R, path: &str) -> Result<[u8; 32], Fault> {
-    match fs::read(rt, path) {
-        Ok(text) => bytes_of(&text).ok_or(Fault::Secret),
-        Err(error) => Err(Fault::Secret.of_system(&error)),
     }
 }

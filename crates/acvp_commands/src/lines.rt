@@ -7,7 +7,7 @@ use std::alloc::{AllocError, Global};
 
 /// A line of standard output.
 #[derive(Clone, Copy)]
-pub(crate) enum Line {
+pub enum Line {
     /// The tables are there.
     Ready,
 
@@ -67,7 +67,7 @@ fn approved_line(alloc: Global, request: u64, url: &str) -> Result<String, Alloc
 
 impl Line {
     /// The line, without its line feed.
-    pub(crate) fn text(self, alloc: Global) -> Result<String, AllocError>
+    pub fn text(self, alloc: Global) -> Result<String, AllocError>
         ensures { IfOk result (λ text. string_bytes text ≡ line_text self) }
     {
         match self {

@@ -5,16 +5,16 @@ ghost use Rattle.acvp_commands.specs.Numbers.{IsNumber, most_account, most_reque
 use acvp_registry::plain_number;
 
 /// The greatest number of an account.
-pub(crate) const MOST_ACCOUNT: u16 = 9999;
+const MOST_ACCOUNT: u16 = 9999;
 
 /// The greatest number of a request.
-pub(crate) const MOST_REQUEST: u64 = 9999999999;
+const MOST_REQUEST: u64 = 9999999999;
 
 /// The greatest port.
-pub(crate) const MOST_PORT: u16 = 65535;
+const MOST_PORT: u16 = 65535;
 
 /// The most connections of one run.
-pub(crate) const MOST_COUNT: u64 = 1000000;
+const MOST_COUNT: u64 = 1000000;
 
 /// The number from 1 to the most that a text is the plain decimal of.
 fn number_within(text: &str, most: u64) -> Option<u64>
@@ -38,28 +38,28 @@ fn short_within(text: &str, most: u16) -> Option<u16>
 }
 
 /// The number of an account.
-pub(crate) fn account_number(text: &str) -> Option<u16>
+pub fn account_number(text: &str) -> Option<u16>
     ensures { MatchOption result ((n : ℕ) → IsNumber most_account text.now n → ⊥) (λ n. IsNumber most_account text.now n) }
 {
     short_within(text, MOST_ACCOUNT)
 }
 
 /// The number of a request.
-pub(crate) fn request_number(text: &str) -> Option<u64>
+pub fn request_number(text: &str) -> Option<u64>
     ensures { MatchOption result ((n : ℕ) → IsNumber most_request text.now n → ⊥) (λ n. IsNumber most_request text.now n) }
 {
     number_within(text, MOST_REQUEST)
 }
 
 /// A port of this machine.
-pub(crate) fn port_number(text: &str) -> Option<u16>
+pub fn port_number(text: &str) -> Option<u16>
     ensures { MatchOption result ((n : ℕ) → IsNumber most_port text.now n → ⊥) (λ n. IsNumber most_port text.now n) }
 {
     short_within(text, MOST_PORT)
 }
 
 /// A number of connections.
-pub(crate) fn connection_count(text: &str) -> Option<u64>
+pub fn connection_count(text: &str) -> Option<u64>
     ensures { MatchOption result ((n : ℕ) → IsNumber most_count text.now n → ⊥) (λ n. IsNumber most_count text.now n) }
 {
     number_within(text, MOST_COUNT)

@@ -1,4 +1,4 @@
-//! The operator's orders, on the records in a file.
+//! The operator's orders, on the records.
 ghost use Rattle.std.specs.Prelude.{◌≡◌};
 ghost use Rattle.acvp_desk.specs.Orders.{IsOrder};
 ghost use Rattle.acvp_commands.specs.Lines.{outcome_of};
@@ -33,7 +33,7 @@ fn outcome_of(order: &Order, reply: OrderReply) -> Result<Line, Fault>
 }
 
 /// Carries an order out on the records, and gives its line.
-pub(crate) fn carry_out<T: Tables>(tables: &mut T, order: &Order) -> Result<Line, Fault>
+pub fn carry_out<T: Tables>(tables: &mut T, order: &Order) -> Result<Line, Fault>
     requires { IsOrder order.now }
     ensures { IsCarriedOut T.faults T.stands T.is_live T.is_clean T.leaves result tables.old tables.new order.now }
 {

@@ -1,18 +1,16 @@
-//! Serving: connections of this machine, one after another, over the records in a file.
+//! Serving: connections of this machine, one after another, over the records.
 ghost use Rattle.std.specs.Prelude.{◌≡◌, ◌/◌, false, MatchResult};
 ghost use Rattle.std.specs.Time.{system_time_nanos};
 ghost use Rattle.acvp_desk.specs.Answer.{end_of_moments};
 ghost use Rattle.acvp_commands.specs.Connections.{EndsServing, ServesConnection, ServesConnections};
 
 use crate::fault::Fault;
-use crate::lines::Line;
-use crate::printing::print_line;
-use acvp_desk::{Desk, END_OF_MOMENTS, Keys};
+use acvp_desk::{Desk, END_OF_MOMENTS};
 use acvp_http::{Flagged, Routes, Sink, Source, serve_one};
 use acvp_tables::Tables;
 use std::alloc::Global;
 use std::io::{self, BufReader, Read};
-use std::net::{Ipv4Addr, Shutdown, TcpListener, TcpStream};
+use std::net::{Shutdown, TcpListener, TcpStream};
 use std::time::{Clock, Duration, SystemTime, UNIX_EPOCH};
 
 /// The most bytes that are taken of a connection behind its reply.
@@ -139,7 +137,7 @@ fn serve_connection<T: Tables>(
 
 /// Serves so many connections, one after another, each at the moment that the clock then gives. It stops where no
 /// connection can be taken.
-pub(crate) fn serve_connections<T: Tables, C: Clock>(
+pub fn serve_connections<T: Tables, C: Clock>(
     alloc: Global,
     routes: &Routes,
     desk: &mut Desk<T>,
@@ -160,49 +158,4 @@ pub(crate) fn serve_connections<T: Tables, C: Clock>(
         serve_connection(alloc, routes, desk, &stream, moment);
     }
     Ok(())
-}
-
-/// A listener on a port of this machine.
-fn listener_on(rt: &HostRuntime, port: u16) -> Result<TcpListener, Fault> {
-    match TcpListener::bind(rt, (Ipv4Addr::LOCALHOST, port)) {
-        Ok(listener) => Ok(listener),
-        Err(error) => Err(Fault::Bind.of_system(&error)),
-    }
-}
-
-/// Listens on a port, says so, and serves so many connections.
-fn listen_and_serve<T: Tables>(
-    rt: &HostRuntime,
-    routes: &Routes,
-    desk: &mut Desk<T>,
-    port: u16,
-    count: u64,
-) -> Result<Line, Fault> {
-    let listener = listener_on(rt, port)?;
-    print_line(rt, Line::Listening(port))?;
-    serve_connections(rt.alloc(), routes, desk, &listener, count, rt)?;
-    Ok(Line::Served(count))
-}
-
-/// Serves so many connections at a desk.
-pub(crate) fn serve<T: Tables>(
-    rt: &HostRuntime,
-    desk: &mut Desk<T>,
-    port: u16,
-    count: u64,
-) -> Result<Line, Fault> {
-    let routes = Routes::new(rt.alloc())?;
-    listen_and_serve(rt, &routes, desk, port, count)
-}
-
-/// The desk over these records.
-pub(crate) fn desk_over<T: Tables + Drop>(
-    alloc: Global,
-    keys: Keys,
-    tables: T,
-) -> Result<Desk<T>, Fault> {
-    match Desk::new(alloc, keys, tables) {
-        Ok(desk) => Ok(desk),
-        Err((_, fault)) => Err(Fault::from(fault)),
-    }
 }

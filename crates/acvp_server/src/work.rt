@@ -1,15 +1,13 @@
 //! What a command does with the records in a file. The file's type stands here alone; what is done over any store, and
 //! on any tables, is apart.
 ghost use Rattle.acvp_desk.specs.Orders.{IsOrder};
-ghost use Rattle.acvp_commands.specs.Commands.{IsTask, IsWork};
+ghost use Rattle.acvp_server.specs.Commands.{IsTask, IsWork};
 
 use crate::database::{
     close, connect, connect_existing, make_tables_over, move_tables_over, take_over,
 };
-use crate::fault::Fault;
-use crate::lines::Line;
-use crate::orders::carry_out;
-use crate::serving::{desk_over, serve};
+use crate::listening::{desk_over, serve};
+use acvp_commands::{Fault, Line, carry_out};
 use acvp_desk::{Keys, Order};
 use acvp_tables::Tables;
 use sqlite::{Alter, Connection, Start};

@@ -1,6 +1,5 @@
 //! Printing.
-use crate::fault::Fault;
-use crate::lines::Line;
+use acvp_commands::{Fault, Line};
 use std::alloc::AllocGlobal;
 
 /// Prints a line, at once.

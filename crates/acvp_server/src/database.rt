@@ -1,14 +1,27 @@
 //! The records in a file, whose tables are made, or taken over where they are there, or moved to today's schema; or in
 //! memory. What is done over any store is apart from what opens and closes the file.
-use crate::fault::Fault;
+ghost use Rattle.std.specs.Prelude.{◌≡◌};
+ghost use Rattle.acvp_server.specs.Faults.{fault_of_open};
+
+use acvp_commands::Fault;
 use acvp_store::{SqlTables, adopt, create, migrate};
-use sqlite::{Alter, Connection, FileFrom, FileStore, MemStore, Start};
+use sqlite::{Alter, Connection, Error, ErrorCode, FileFrom, FileStore, MemStore, Start};
 use sqlite_disk::Disk;
 use std::alloc::Global;
 use std::fs;
 
 /// A connection to the database in a file.
 pub(crate) type FileConnection<S> = Connection<FileStore<FileFrom<S>>>;
+
+/// The fault of a database that can't be opened.
+fn fault_of_database(error: Error) -> Fault
+    ensures { result ≡ fault_of_open error }
+{
+    match error {
+        Error::SqliteFailure(ErrorCode::OutOfMemory) => Fault::Memory,
+        _ => Fault::Unavailable,
+    }
+}
 
 /// A connection to the database in a file, which is made where there is none.
 pub(crate) fn connect<S: Start>(
@@ -18,7 +31,7 @@ pub(crate) fn connect<S: Start>(
 ) -> Result<FileConnection<S>, Fault> {
     match Connection::open_from(rt, path, false, start) {
         Ok(connection) => Ok(connection),
-        Err((error, _)) => Err(Fault::of_database(error)),
+        Err((error, _)) => Err(fault_of_database(error)),
     }
 }
 

@@ -2,12 +2,12 @@
 use Rattle.std.specs.Prelude.{◌≡◌, true, ⊤}
 use Rattle.acvp_tables.specs.State.{is_account_number}
 use Rattle.acvp_desk.specs.Orders.{IsOrder}
-use Rattle.acvp_commands.specs.declared.command.Asked.{Asked}
-use Rattle.acvp_commands.specs.declared.command.Asked.TheVariants.{AddAccount, DisableAccount}
-use Rattle.acvp_commands.specs.declared.work.Task.{Task}
-use Rattle.acvp_commands.specs.declared.work.Task.TheVariants.{Order, Serve}
-use Rattle.acvp_commands.specs.declared.work.Work.{Work}
-use Rattle.acvp_commands.specs.declared.work.Work.TheVariants.{Make, Move, Take}
+use Rattle.acvp_server.specs.declared.command.Asked.{Asked}
+use Rattle.acvp_server.specs.declared.command.Asked.TheVariants.{AddAccount, DisableAccount}
+use Rattle.acvp_server.specs.declared.work.Task.{Task}
+use Rattle.acvp_server.specs.declared.work.Task.TheVariants.{Order, Serve}
+use Rattle.acvp_server.specs.declared.work.Work.{Work}
+use Rattle.acvp_server.specs.declared.work.Work.TheVariants.{Make, Move, Take}
 
 -- the account that is named has a number from 1 to 9999
 abbrev pub NamesAccount : Asked → Type 0

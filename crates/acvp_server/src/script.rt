@@ -1,8 +1,8 @@
 //! Script mode: a script on standard input, over records in memory.
 use crate::database::tables_in_memory;
-use crate::fault::Fault;
-use crate::keys::keys_in;
-use crate::serving::desk_over;
+use crate::files::keys_in;
+use crate::listening::desk_over;
+use acvp_commands::Fault;
 use acvp_desk::Desk;
 use acvp_http::{Flagged, Routes, run};
 use acvp_tables::Tables;

@@ -1,0 +1,294 @@
+//! The command line.
+ghost use Rattle.std.specs.Prelude.{◌≡◌, true, IfOk, IfSome};
+ghost use Rattle.acvp_tables.specs.State.{is_account_number};
+ghost use Rattle.acvp_server.specs.Commands.{NamesAccount};
+
+use acvp_commands::{account_number, connection_count, port_number, request_number};
+use clap::{Arg, ArgAction, ArgMatches, Command};
+use std::alloc::{AllocError, Global};
+
+/// What the command line asks for. Files are named by their paths.
+#[derive(Clone, Copy)]
+pub(crate) enum Asked<'a> {
+    Init {
+        db: &'a str,
+    },
+    Migrate {
+        db: &'a str,
+    },
+    AddAccount {
+        db: &'a str,
+        account: u16,
+        secret: &'a str,
+    },
+    DisableAccount {
+        db: &'a str,
+        account: u16,
+    },
+    ApproveRequest {
+        db: &'a str,
+        request: u64,
+    },
+    RejectRequest {
+        db: &'a str,
+        request: u64,
+    },
+    Serve {
+        db: &'a str,
+        keys: &'a str,
+        port: u16,
+        count: u64,
+    },
+    Script {
+        keys: &'a str,
+    },
+}
+
+/// A value that is no number of its option.
+#[derive(Clone, Copy)]
+pub(crate) enum BadNumber {
+    Account,
+    Request,
+    Port,
+    Count,
+}
+
+impl BadNumber {
+    /// What the refusal says.
+    pub(crate) fn message(self) -> &'static str {
+        match self {
+            BadNumber::Account => "--account wants a whole number from 1 to 9999, as 7",
+            BadNumber::Request => "--request wants a whole number from 1 to 9999999999, as 7000001",
+            BadNumber::Port => "--port wants a whole number from 1 to 65535, as 8080",
+            BadNumber::Count => "--count wants a whole number from 1 to 1000000, as 1000",
+        }
+    }
+}
+
+/// The value of an option that the command wants.
+fn value<'a>(matches: &ArgMatches<'a>, option: &str) -> &'a str {
+    matches.get_str(option).unwrap_or("")
+}
+
+fn account(matches: &ArgMatches<'_>) -> Result<u16, BadNumber>
+    ensures { IfOk result (λ account. is_account_number account ≡ true) }
+{
+    account_number(value(matches, "account")).ok_or(BadNumber::Account)
+}
+
+fn request(matches: &ArgMatches<'_>) -> Result<u64, BadNumber> {
+    request_number(value(matches, "request")).ok_or(BadNumber::Request)
+}
+
+/// What `serve` with these options asks for.
+fn serve_wish<'a>(db: &'a str, matches: &ArgMatches<'a>) -> Result<Asked<'a>, BadNumber>
+    ensures { IfOk result NamesAccount }
+{
+    let port = port_number(value(matches, "port")).ok_or(BadNumber::Port)?;
+    let count = connection_count(value(matches, "count")).ok_or(BadNumber::Count)?;
+    Ok(Asked::Serve {
+        db,
+        keys: value(matches, "keys"),
+        port,
+        count,
+    })
+}
+
+/// What a subcommand with these options asks for; nothing where there is no such subcommand.
+fn wish_by_name<'a>(name: &str, matches: &ArgMatches<'a>) -> Result<Option<Asked<'a>>, BadNumber>
+    ensures { IfOk result (λ asked. IfSome asked NamesAccount) }
+{
+    let db = value(matches, "db");
+    let asked = match name {
+        "init" => Asked::Init { db },
+        "migrate" => Asked::Migrate { db },
+        "account-add" => Asked::AddAccount {
+            db,
+            account: account(matches)?,
+            secret: value(matches, "secret"),
+        },
+        "account-disable" => Asked::DisableAccount {
+            db,
+            account: account(matches)?,
+        },
+        "request-approve" => Asked::ApproveRequest {
+            db,
+            request: request(matches)?,
+        },
+        "request-reject" => Asked::RejectRequest {
+            db,
+            request: request(matches)?,
+        },
+        "serve" => serve_wish(db, matches)?,
+        "script" => Asked::Script {
+            keys: value(matches, "keys"),
+        },
+        _ => return Ok(None),
+    };
+    Ok(Some(asked))
+}
+
+/// What the command line asks for.
+pub(crate) fn wish_of<'a>(matches: &ArgMatches<'a>) -> Result<Option<Asked<'a>>, BadNumber>
+    ensures { IfOk result (λ asked. IfSome asked NamesAccount) }
+{
+    match matches.subcommand() {
+        Some((name, matches)) => wish_by_name(name, matches),
+        None => Ok(None),
+    }
+}
+
+/// An option that a subcommand wants.
+struct Wanted {
+    /// Its name.
+    name: &'static str,
+
+    /// The name of its value.
+    value: &'static str,
+
+    /// What its value is.
+    help: &'static str,
+}
+
+/// A subcommand.
+struct Subcommand {
+    /// Its name.
+    name: &'static str,
+
+    /// What it does.
+    about: &'static str,
+
+    /// An example of it.
+    example: &'static str,
+
+    /// The options that it wants.
+    options: &'static [Wanted],
+}
+
+const DB_OPTION: Wanted = Wanted {
+    name: "db",
+    value: "FILE",
+    help: "The file of the records, as laboratory.db",
+};
+
+const KEYS_OPTION: Wanted = Wanted {
+    name: "keys",
+    value: "FILE",
+    help: "The file of the token keys and the generator's seeds, as keys.txt: lines of 64 hex digits",
+};
+
+const ACCOUNT_OPTION: Wanted = Wanted {
+    name: "account",
+    value: "N",
+    help: "The account's number, 1 to 9999, as 7",
+};
+
+const REQUEST_OPTION: Wanted = Wanted {
+    name: "request",
+    value: "N",
+    help: "The request's number, 1 to 9999999999, as 7000001",
+};
+
+const SECRET_OPTION: Wanted = Wanted {
+    name: "secret",
+    value: "FILE",
+    help: "The file of the account's secret, as secret.txt: one line of 64 hex digits",
+};
+
+const PORT_OPTION: Wanted = Wanted {
+    name: "port",
+    value: "P",
+    help: "The port of 127.0.0.1, 1 to 65535, as 8080",
+};
+
+const COUNT_OPTION: Wanted = Wanted {
+    name: "count",
+    value: "C",
+    help: "After how many connections it ends, 1 to 1000000, as 1000",
+};
+
+/// The program's subcommands.
+static SUBCOMMANDS: [Subcommand; 8] = [
+    Subcommand {
+        name: "init",
+        about: "Makes the tables in a file, which is made where it isn't there",
+        example: "Example: acvp_server init --db laboratory.db",
+        options: &[DB_OPTION],
+    },
+    Subcommand {
+        name: "migrate",
+        about: "Moves the tables in a file of an earlier version to today's schema, with all records",
+        example: "Example: acvp_server migrate --db laboratory.db",
+        options: &[DB_OPTION],
+    },
+    Subcommand {
+        name: "account-add",
+        about: "Adds an account, whose one-time codes come from its secret",
+        example: "Example: acvp_server account-add --db laboratory.db --account 7 --secret secret.txt",
+        options: &[DB_OPTION, ACCOUNT_OPTION, SECRET_OPTION],
+    },
+    Subcommand {
+        name: "account-disable",
+        about: "Disables an account for good: its logins and its tokens are refused",
+        example: "Example: acvp_server account-disable --db laboratory.db --account 7",
+        options: &[DB_OPTION, ACCOUNT_OPTION],
+    },
+    Subcommand {
+        name: "request-approve",
+        about: "Approves a request, and prints the URL of what it asked for",
+        example: "Example: acvp_server request-approve --db laboratory.db --request 7000001",
+        options: &[DB_OPTION, REQUEST_OPTION],
+    },
+    Subcommand {
+        name: "request-reject",
+        about: "Rejects a request",
+        example: "Example: acvp_server request-reject --db laboratory.db --request 7000001",
+        options: &[DB_OPTION, REQUEST_OPTION],
+    },
+    Subcommand {
+        name: "serve",
+        about: "Serves connections of this machine over the records, one after another",
+        example: "Example: acvp_server serve --db laboratory.db --keys keys.txt --port 8080 --count 1000",
+        options: &[DB_OPTION, KEYS_OPTION, PORT_OPTION, COUNT_OPTION],
+    },
+    Subcommand {
+        name: "script",
+        about: "Runs a script from standard input over records in memory",
+        example: "Example: acvp_server script --keys keys.txt < events",
+        options: &[KEYS_OPTION],
+    },
+];
+
+/// An option of the command line.
+fn option<'a>(alloc: Global, wanted: &Wanted) -> Arg<'a> {
+    Arg::new(alloc, wanted.name)
+        .long(wanted.name)
+        .value_name(wanted.value)
+        .help(wanted.help)
+        .required(true)
+        .action(ArgAction::Set)
+}
+
+/// A subcommand of the command line, with its options.
+fn with_options<'a>(alloc: Global, which: &Subcommand) -> Result<Command<'a>, AllocError> {
+    let mut command = Command::new(alloc, which.name)
+        .about(which.about)
+        .after_help(which.example);
+    for wanted in which.options {
+        command = command.arg(option(alloc, wanted))?;
+    }
+    Ok(command)
+}
+
+/// The program's command line, with its subcommands.
+pub(crate) fn command<'a>(alloc: Global) -> Result<Command<'a>, AllocError> {
+    let mut command = Command::new(alloc, "acvp_server")
+        .about("A validation server for SHA-2 and HMAC")
+        .after_help("Example: acvp_server init --db laboratory.db")
+        .subcommand_required(true);
+    for which in &SUBCOMMANDS {
+        let added = with_options(alloc, which)?;
+        command = command.subcommand(added)?;
+    }
+    Ok(command)
+}
