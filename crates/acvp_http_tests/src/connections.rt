@@ -2,7 +2,7 @@
 
 use crate::cases::asked::push;
 use crate::cases::server::{Door, paths};
-use crate::over_both_forms::{database, lists};
+use crate::over_both_forms::{Deed, over_a_database, over_both, over_lists};
 use crate::requests::{ACCEPTED, LOGIN, desk_of_seven, refusal};
 use crate::streams::{FailsOnce, Interrupted, Narrow};
 use acvp_desk::Desk;
@@ -11,6 +11,47 @@ use acvp_tables::Tables;
 use std::alloc::Global;
 use std::io::{ErrorKind, Read, Write};
 use std::process::Abort;
+
+/// What is served by a desk over new tables.
+#[derive(Clone, Copy)]
+pub(crate) enum Connected {
+    /// Logins that end or fail early, and then a whole one.
+    EndsEarly,
+
+    /// Replies into writers that go to each of their bytes.
+    WritesEachFront,
+
+    /// A login whose reply is cut off, and the same again.
+    UsesItsCode,
+
+    /// Requests with more behind them.
+    LeavesTheRest,
+
+    /// A reader that is always interrupted.
+    GivesUp,
+
+    /// A reader that is interrupted at this place.
+    GoesOn(usize),
+}
+
+/// Serves this, and hands the tables back.
+pub(crate) fn connects<T: Tables + Drop>(
+    rt: &impl Abort,
+    alloc: Global,
+    tables: T,
+    connected: Connected,
+) -> T {
+    let mut desk = desk_of_seven(rt, alloc, tables);
+    match connected {
+        Connected::EndsEarly => leaves_the_code(rt, alloc, &mut desk),
+        Connected::WritesEachFront => writes_each_front(rt, alloc, &mut desk),
+        Connected::UsesItsCode => uses_its_code(rt, alloc, &mut desk),
+        Connected::LeavesTheRest => leaves_what_it_does_not_need(rt, alloc, &mut desk),
+        Connected::GivesUp => gives_up(rt, alloc, &mut desk),
+        Connected::GoesOn(place) => goes_on(rt, alloc, &mut desk, place),
+    }
+    desk.into_tables()
+}
 
 /// A request of no path, and its reply.
 const LOST: &[u8] = b"GET /acvp/v2 HTTP/1.0\r\n\r\n";
@@ -74,21 +115,18 @@ fn is_not_answered<T: Tables>(rt: &impl Abort, alloc: Global, desk: &mut Desk<T>
 }
 
 /// A login is answered after every front of it was cut off, and after every read of it failed.
-fn leaves_the_code<T: Tables + Drop>(rt: &impl Abort, alloc: Global, tables: T) {
-    let mut desk = desk_of_seven(rt, alloc, tables);
+fn leaves_the_code<T: Tables>(rt: &impl Abort, alloc: Global, desk: &mut Desk<T>) {
     for end in 0..LOGIN.len() {
-        is_truncated(rt, alloc, &mut desk, &LOGIN[..end]);
-        is_not_answered(rt, alloc, &mut desk, end);
+        is_truncated(rt, alloc, desk, &LOGIN[..end]);
+        is_not_answered(rt, alloc, desk, end);
     }
-    let whole = reply_to(rt, alloc, &mut desk, 59, LOGIN);
+    let whole = reply_to(rt, alloc, desk, 59, LOGIN);
     assert_eq!(rt; whole.as_slice(), ACCEPTED);
 }
 
 #[test]
 fn an_input_that_ends_or_fails_early_leaves_the_code(rt: HostRuntime) {
-    let alloc = rt.alloc();
-    leaves_the_code(&rt, alloc, lists(alloc, Door::Bytes).tables);
-    leaves_the_code(&rt, alloc, database(&rt, alloc, Door::Bytes).tables);
+    over_both(&rt, rt.alloc(), Deed::Connected(Connected::EndsEarly));
 }
 
 /// Asserts that a writer with this room takes no more of the reply.
@@ -110,34 +148,28 @@ fn writes_as_far<T: Tables>(
 }
 
 /// A reply goes out up to the end of each writer.
-fn writes_each_front<T: Tables + Drop>(rt: &impl Abort, alloc: Global, tables: T) {
-    let mut desk = desk_of_seven(rt, alloc, tables);
+fn writes_each_front<T: Tables>(rt: &impl Abort, alloc: Global, desk: &mut Desk<T>) {
     let reply = refusal(rt, alloc, b"404 Not Found", b"", b"noRoute");
     for room in 0..reply.len() {
-        writes_as_far(rt, alloc, &mut desk, 90, LOST, &reply[..room]);
+        writes_as_far(rt, alloc, desk, 90, LOST, &reply[..room]);
     }
 }
 
 #[test]
 fn a_reply_is_written_as_far_as_the_writer_goes(rt: HostRuntime) {
-    let alloc = rt.alloc();
-    writes_each_front(&rt, alloc, lists(alloc, Door::Bytes).tables);
-    writes_each_front(&rt, alloc, database(&rt, alloc, Door::Bytes).tables);
+    over_both(&rt, rt.alloc(), Deed::Connected(Connected::WritesEachFront));
 }
 
 /// A login whose reply is cut off has used its code.
-fn uses_its_code<T: Tables + Drop>(rt: &impl Abort, alloc: Global, tables: T) {
-    let mut desk = desk_of_seven(rt, alloc, tables);
-    writes_as_far(rt, alloc, &mut desk, 59, LOGIN, b"HTTP/1.1 2");
-    let again = reply_to(rt, alloc, &mut desk, 60, LOGIN);
+fn uses_its_code<T: Tables>(rt: &impl Abort, alloc: Global, desk: &mut Desk<T>) {
+    writes_as_far(rt, alloc, desk, 59, LOGIN, b"HTTP/1.1 2");
+    let again = reply_to(rt, alloc, desk, 60, LOGIN);
     assert!(rt; again.ends_with(b"{\"error\":\"loginRefused\"}]"));
 }
 
 #[test]
 fn a_login_whose_reply_is_cut_has_used_its_code(rt: HostRuntime) {
-    let alloc = rt.alloc();
-    uses_its_code(&rt, alloc, lists(alloc, Door::Bytes).tables);
-    uses_its_code(&rt, alloc, database(&rt, alloc, Door::Bytes).tables);
+    over_both(&rt, rt.alloc(), Deed::Connected(Connected::UsesItsCode));
 }
 
 /// Asserts that what stands behind a request at a moment stays unread.
@@ -168,55 +200,49 @@ const NEEDED: &[(&[u8], u64)] = &[
 ];
 
 /// Nothing is read behind what each of these requests needs.
-fn leaves_what_it_does_not_need<T: Tables + Drop>(rt: &impl Abort, alloc: Global, tables: T) {
-    let mut desk = desk_of_seven(rt, alloc, tables);
+fn leaves_what_it_does_not_need<T: Tables>(rt: &impl Abort, alloc: Global, desk: &mut Desk<T>) {
     for (needed, moment) in NEEDED {
-        leaves_the_rest(rt, alloc, &mut desk, *needed, *moment);
+        leaves_the_rest(rt, alloc, desk, *needed, *moment);
     }
     let long = [b'a'; 16384];
-    leaves_the_rest(rt, alloc, &mut desk, &long, 90);
+    leaves_the_rest(rt, alloc, desk, &long, 90);
 }
 
 #[test]
 fn what_a_request_does_not_need_stays_unread(rt: HostRuntime) {
-    let alloc = rt.alloc();
-    leaves_what_it_does_not_need(&rt, alloc, lists(alloc, Door::Bytes).tables);
-    leaves_what_it_does_not_need(&rt, alloc, database(&rt, alloc, Door::Bytes).tables);
+    over_both(&rt, rt.alloc(), Deed::Connected(Connected::LeavesTheRest));
 }
 
 /// A reader that is always interrupted is read no more at some time.
-fn gives_up<T: Tables + Drop>(rt: &impl Abort, alloc: Global, tables: T) {
-    let mut desk = desk_of_seven(rt, alloc, tables);
-    let stopped = serve_over(rt, alloc, &mut desk, 59, Interrupted, Vec::new(alloc));
+fn gives_up<T: Tables>(rt: &impl Abort, alloc: Global, desk: &mut Desk<T>) {
+    let stopped = serve_over(rt, alloc, desk, 59, Interrupted, Vec::new(alloc));
     assert_eq!(rt; stopped.answer, Err(ServeFault::Turns));
     assert!(rt; stopped.writer.is_empty());
 }
 
 #[test]
 fn a_reader_that_is_always_interrupted_is_given_up(rt: HostRuntime) {
-    let alloc = rt.alloc();
-    gives_up(&rt, alloc, lists(alloc, Door::Bytes).tables);
-    gives_up(&rt, alloc, database(&rt, alloc, Door::Bytes).tables);
+    over_both(&rt, rt.alloc(), Deed::Connected(Connected::GivesUp));
 }
 
 /// Asserts that a login whose reader is interrupted at this place is accepted.
-fn goes_on<T: Tables + Drop>(rt: &impl Abort, alloc: Global, tables: T, place: usize) {
-    let mut desk = desk_of_seven(rt, alloc, tables);
+fn goes_on<T: Tables>(rt: &impl Abort, alloc: Global, desk: &mut Desk<T>, place: usize) {
     let reader = FailsOnce {
         bytes: LOGIN,
         place,
         fault: Some(ErrorKind::Interrupted),
     };
-    let served = serve_over(rt, alloc, &mut desk, 59, reader, Vec::new(alloc));
+    let served = serve_over(rt, alloc, desk, 59, reader, Vec::new(alloc));
     assert_eq!(rt; served.answer, Ok(()));
     assert_eq!(rt; served.writer.as_slice(), ACCEPTED);
 }
 
 #[test]
 fn an_interrupted_read_is_tried_again(rt: HostRuntime) {
-    let alloc = rt.alloc();
     for place in 0..LOGIN.len() {
-        goes_on(&rt, alloc, lists(alloc, Door::Bytes).tables, place);
+        let deed = Deed::Connected(Connected::GoesOn(place));
+        over_lists(&rt, rt.alloc(), Door::Bytes, deed);
     }
-    goes_on(&rt, alloc, database(&rt, alloc, Door::Bytes).tables, 100);
+    let deed = Deed::Connected(Connected::GoesOn(100));
+    over_a_database(&rt, rt.alloc(), Door::Bytes, deed);
 }

@@ -1,4 +1,5 @@
-//! Tests from bytes to bytes, through the public faces of `acvp_http` and `acvp_desk`: there is nothing here but tests.
+//! Tests from bytes to bytes, through the public faces of `acvp_http`, `acvp_desk` and `acvp_store`: there is nothing
+//! here but tests.
 #![tactic(auto)]
 
 #[cfg(test)]
@@ -6,10 +7,18 @@ mod cases;
 #[cfg(test)]
 mod connections;
 #[cfg(test)]
+mod disks;
+#[cfg(test)]
 mod over_both_forms;
 #[cfg(test)]
 mod requests;
 #[cfg(test)]
+mod rows;
+#[cfg(test)]
 mod scripts;
 #[cfg(test)]
+mod stops;
+#[cfg(test)]
 mod streams;
+#[cfg(test)]
+mod validation;

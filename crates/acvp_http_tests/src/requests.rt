@@ -1,9 +1,8 @@
 //! Whole requests, and what they are answered.
-use crate::cases::OF_SEVEN;
 use crate::cases::asked::{error_body, framed, joined, push, refused, replied};
-use crate::cases::login::NO_ROWS;
-use crate::cases::server::{Door, adds_seven, answer_in_bytes, desk_over, keys, paths};
-use crate::over_both_forms::{database, lists};
+use crate::cases::server::{adds_seven, answer_in_bytes, desk_over, keys, paths};
+use crate::cases::steps::named;
+use crate::over_both_forms::{Deed, over_both};
 use acvp_desk::{Desk, Numbers};
 use acvp_http::{Route, Routes};
 use acvp_policy::{Action, Rule};
@@ -29,26 +28,24 @@ pub(crate) fn desk_of_seven<T: Tables + Drop>(
     desk_over(rt, alloc, keys(rt), tables)
 }
 
-/// Asserts what a new desk over empty tables answers at a moment, with account 7.
-fn answers<T: Tables + Drop>(
+/// Asserts what a new desk over empty tables answers at a moment, with account 7, and hands the tables back.
+pub(crate) fn answers_bytes<T: Tables + Drop>(
     rt: &impl Abort,
     alloc: Global,
     tables: T,
     moment: u64,
     request: &[u8],
     wanted: &[u8],
-) {
+) -> T {
     let mut desk = desk_of_seven(rt, alloc, tables);
     let reply = answer_in_bytes(&paths(rt, alloc), &mut desk, moment, request);
     assert_eq!(rt; reply.bytes(), wanted);
+    desk.into_tables()
 }
 
 /// The same over lists and over a database.
 fn both_answer(rt: &impl Abort, alloc: Global, moment: u64, request: &[u8], wanted: &[u8]) {
-    let over_lists = lists(alloc, Door::Bytes).tables;
-    answers(rt, alloc, over_lists, moment, request, wanted);
-    let over_a_database = database(rt, alloc, Door::Bytes).tables;
-    answers(rt, alloc, over_a_database, moment, request, wanted);
+    over_both(rt, alloc, Deed::Request(moment, request, wanted));
 }
 
 /// A refusal at second 90, but for its phrase with the status.
@@ -105,81 +102,41 @@ fn lengths_are_equal_as_numbers(rt: HostRuntime) {
     both_answer(&rt, rt.alloc(), 59, WITH_EQUAL_LENGTHS, ACCEPTED);
 }
 
-/// Requests with the status and the word of their refusal.
-const BROKEN: &[(&str, &str, &str)] = &[
-    ("", "400 Bad Request", "truncated"),
-    ("GET /\r\n\r\n", "400 Bad Request", "badHead"),
-    ("GET / HTTP/1.1\r\n\r\n", "400 Bad Request", "hostMissing"),
-    (
-        "GET / HTTP/1.1\r\nHost: a\r\nHost: a\r\n\r\n",
-        "400 Bad Request",
-        "hostMissing",
-    ),
-    ("GET / HTTP/1.0\r\n\r\n", "404 Not Found", "noRoute"),
-    (
-        "POST /acvp/v1/login HTTP/1.1\r\nHost: a\r\n\r\n",
-        "411 Length Required",
-        "lengthMissing",
-    ),
-    (
-        "GET / HTTP/1.1\r\nContent-Length: 5\r\nContent-Length: 6\r\nHost: a\r\n\r\n",
-        "400 Bad Request",
-        "badLength",
-    ),
-    (
-        "GET / HTTP/1.1\r\nContent-Length: 5\r\ncontent-length: 05\r\nHost: a\r\n\r\n1234",
-        "400 Bad Request",
-        "truncated",
-    ),
-    (
-        "GET / HTTP/1.1\r\nContent-Length: x\r\nHost: a\r\n\r\n",
-        "400 Bad Request",
-        "badLength",
-    ),
-    (
-        "GET / HTTP/1.1\r\nContent-Length: 2097153\r\nHost: a\r\n\r\n",
-        "413 Payload Too Large",
-        "bodyTooLarge",
-    ),
-    (
-        "POST / HTTP/1.1\r\nTransfer-Encoding: chunked\r\n\r\n",
-        "501 Not Implemented",
-        "transferCoding",
-    ),
-    (
-        "POST /acvp/v1/login HTTP/1.1\r\nHost: localhost\r\nContent-Length: 57\r\nTransfer-Encoding: chunked\r\n\r\n[{\"acvVersion\":\"1.0\"},{\"password\":\"46119246\",\"user\":\"7\"}]",
-        "501 Not Implemented",
-        "transferCoding",
-    ),
-    (
-        "POST /acvp/v1/login HTTP/1.1\r\nHost: localhost\r\nContent-Length: 2097153\r\n\r\n[{\"acvVersion\":\"1.0\"},{\"password\":\"46119246\",\"user\":\"7\"}]",
-        "413 Payload Too Large",
-        "bodyTooLarge",
-    ),
-    (
-        "GET /acvp/v1/logins HTTP/1.1\r\nHost: a\r\n\r\n",
-        "404 Not Found",
-        "noRoute",
-    ),
-    (
-        "GET /acvp/v1/testSessions/07000001 HTTP/1.1\r\nHost: a\r\n\r\n",
-        "404 Not Found",
-        "noRoute",
-    ),
-    (
-        "GET /acvp/v1/%6cogin HTTP/1.1\r\nHost: a\r\n\r\n",
-        "404 Not Found",
-        "noRoute",
-    ),
+/// Requests behind the status and the word of their refusal.
+const BROKEN: &[&str] = &[
+    "400 Bad Request|truncated|",
+    "400 Bad Request|badHead|GET /\r\n\r\n",
+    "400 Bad Request|hostMissing|GET / HTTP/1.1\r\n\r\n",
+    "400 Bad Request|hostMissing|GET / HTTP/1.1\r\nHost: a\r\nHost: a\r\n\r\n",
+    "404 Not Found|noRoute|GET / HTTP/1.0\r\n\r\n",
+    "411 Length Required|lengthMissing|POST /acvp/v1/login HTTP/1.1\r\nHost: a\r\n\r\n",
+    "400 Bad Request|badLength|GET / HTTP/1.1\r\nContent-Length: 5\r\nContent-Length: 6\r\nHost: a\r\n\r\n",
+    "400 Bad Request|truncated|GET / HTTP/1.1\r\nContent-Length: 5\r\ncontent-length: 05\r\nHost: a\r\n\r\n1234",
+    "400 Bad Request|badLength|GET / HTTP/1.1\r\nContent-Length: x\r\nHost: a\r\n\r\n",
+    "413 Payload Too Large|bodyTooLarge|GET / HTTP/1.1\r\nContent-Length: 2097153\r\nHost: a\r\n\r\n",
+    "501 Not Implemented|transferCoding|POST / HTTP/1.1\r\nTransfer-Encoding: chunked\r\n\r\n",
+    "501 Not Implemented|transferCoding|POST /acvp/v1/login HTTP/1.1\r\nHost: localhost\r\nContent-Length: 57\r\nTransfer-Encoding: chunked\r\n\r\n[{\"acvVersion\":\"1.0\"},{\"password\":\"46119246\",\"user\":\"7\"}]",
+    "413 Payload Too Large|bodyTooLarge|POST /acvp/v1/login HTTP/1.1\r\nHost: localhost\r\nContent-Length: 2097153\r\n\r\n[{\"acvVersion\":\"1.0\"},{\"password\":\"46119246\",\"user\":\"7\"}]",
+    "404 Not Found|noRoute|GET /acvp/v1/logins HTTP/1.1\r\nHost: a\r\n\r\n",
+    "404 Not Found|noRoute|GET /acvp/v1/testSessions/07000001 HTTP/1.1\r\nHost: a\r\n\r\n",
+    "404 Not Found|noRoute|GET /acvp/v1/%6cogin HTTP/1.1\r\nHost: a\r\n\r\n",
 ];
+
+/// The parts of a row: up to its first stroke, up to its second, and behind that.
+fn parted(row: &str) -> (&str, &str, &str) {
+    let (first, rest) = row.split_once('|').unwrap_or((row, ""));
+    let (second, third) = rest.split_once('|').unwrap_or((rest, ""));
+    (first, second, third)
+}
 
 #[test]
 fn heads_and_framings_get_their_rules(rt: HostRuntime) {
     let many = [b'a'; 16385];
     let status = "431 Request Header Fields Too Large";
     refuses(&rt, rt.alloc(), &many, status, "", "headTooLarge");
-    for (request, status, word) in BROKEN {
-        refuses(&rt, rt.alloc(), request.as_bytes(), *status, "", *word);
+    for row in BROKEN {
+        let (status, word, request) = parted(*row);
+        refuses(&rt, rt.alloc(), request.as_bytes(), status, "", word);
     }
 }
 
@@ -226,26 +183,14 @@ fn other_paths_are_none(rt: HostRuntime) {
 }
 
 /// Requests by another method, and the methods that their paths have.
-const BY_ANOTHER_METHOD: &[(&str, &str)] = &[
-    ("DELETE /acvp/v1/login?a=b", "Allow: POST\r\n"),
-    ("DELETE /acvp/v1/account", "Allow: GET\r\n"),
-    ("DELETE /acvp/v1/testSessions", "Allow: GET, POST\r\n"),
-    (
-        "HEAD /acvp/v1/testSessions/7000001",
-        "Allow: GET, PUT, DELETE\r\n",
-    ),
-    (
-        "get /acvp/v1/testSessions/3/vectorSets/4",
-        "Allow: GET, DELETE\r\n",
-    ),
-    (
-        "DELETE /acvp/v1/testSessions/3/vectorSets/4/results",
-        "Allow: GET, POST, PUT\r\n",
-    ),
-    (
-        "GET /acvp/v1/testSessions/3/reviewers/8",
-        "Allow: DELETE\r\n",
-    ),
+const BY_ANOTHER_METHOD: &[&str] = &[
+    "DELETE /acvp/v1/login?a=b|Allow: POST\r\n",
+    "DELETE /acvp/v1/account|Allow: GET\r\n",
+    "DELETE /acvp/v1/testSessions|Allow: GET, POST\r\n",
+    "HEAD /acvp/v1/testSessions/7000001|Allow: GET, PUT, DELETE\r\n",
+    "get /acvp/v1/testSessions/3/vectorSets/4|Allow: GET, DELETE\r\n",
+    "DELETE /acvp/v1/testSessions/3/vectorSets/4/results|Allow: GET, POST, PUT\r\n",
+    "GET /acvp/v1/testSessions/3/reviewers/8|Allow: DELETE\r\n",
 ];
 
 /// Asserts that a request is told these methods.
@@ -259,17 +204,29 @@ fn tells_methods(rt: &impl Abort, alloc: Global, request: &str, methods: &str) {
 
 #[test]
 fn another_method_is_told_the_paths_methods(rt: HostRuntime) {
-    for (request, methods) in BY_ANOTHER_METHOD {
-        tells_methods(&rt, rt.alloc(), *request, *methods);
+    for row in BY_ANOTHER_METHOD {
+        let (request, methods, _) = parted(*row);
+        tells_methods(&rt, rt.alloc(), request, methods);
     }
 }
 
-/// Asserts what a new desk answers to a request at second 100, the account's counts where no rule is named.
-fn is_answered(rt: &impl Abort, alloc: Global, parts: &[&[u8]], broken: Option<Rule>) {
+/// The account's counts.
+fn counts(rt: &impl Abort) -> &'static [u8] {
+    named(rt, "login.no_rows").as_bytes()
+}
+
+/// The token of account 7.
+fn token(rt: &impl Abort) -> &'static [u8] {
+    named(rt, "of_seven").as_bytes()
+}
+
+/// Asserts what a new desk answers to a request at second 100, the account's counts where no rule's word is given.
+fn is_answered(rt: &impl Abort, alloc: Global, parts: &[&[u8]], broken: &str) {
     let request = joined(rt, alloc, parts);
-    let wanted = match broken {
-        Some(rule) => refused(rt, alloc, 100, rule),
-        None => framed(rt, alloc, 100, NO_ROWS),
+    let wanted = if broken.is_empty() {
+        framed(rt, alloc, 100, counts(rt))
+    } else {
+        refused(rt, alloc, 100, broken)
     };
     both_answer(rt, alloc, 100, &request, &wanted);
 }
@@ -281,9 +238,9 @@ const LATE_LOGIN: &[u8] =
 #[test]
 fn a_body_ends_with_its_length_whatever_the_query(rt: HostRuntime) {
     let queries: [&[u8]; 3] = [b"", b"?", b"?limit=5&a?b"];
-    for query in queries {
-        let parts: [&[u8]; 3] = [b"POST /acvp/v1/login", query, LATE_LOGIN];
-        is_answered(&rt, rt.alloc(), &parts, Some(Rule::LoginRefused));
+    for query in &queries {
+        let parts: [&[u8]; 3] = [b"POST /acvp/v1/login", *query, LATE_LOGIN];
+        is_answered(&rt, rt.alloc(), &parts, "loginRefused");
     }
 }
 
@@ -293,43 +250,30 @@ const READ: &[u8] = b"GET /acvp/v1/account HTTP/1.1\r\nHost: h\r\n";
 /// The end of a line, and of the head.
 const END: &[u8] = b"\r\n";
 
-/// What stands before a good token in a line of a head, what stands behind it, and the rule that such a read breaks.
-const TOKENS: &[(&[u8], &[u8], Option<Rule>)] = &[
-    (b"Authorization: Bearer ", b"\r\n", None),
-    (b"authorization: \t bEARER   ", b"  \t\r\n", None),
-    (
-        b"Authorization: Bearer \t",
-        b"\r\n",
-        Some(Rule::TokenMalformed),
-    ),
-    (
-        b"Authorization: Bearer ",
-        b" b\r\n",
-        Some(Rule::TokenMalformed),
-    ),
-    (b"Authorization: Basic ", b"\r\n", Some(Rule::TokenMissing)),
-    (
-        b"Authorization: Bearers ",
-        b"\r\n",
-        Some(Rule::TokenMissing),
-    ),
-    (
-        b"Authorization: Bearer\r\nToken: ",
-        b"\r\n",
-        Some(Rule::TokenMissing),
-    ),
+/// What stands before a good token in a line of a head, what stands behind it, and the word of the rule that such a
+/// read breaks.
+const TOKENS: &[&str] = &[
+    "Authorization: Bearer |\r\n|",
+    "authorization: \t bEARER   |  \t\r\n|",
+    "Authorization: Bearer \t|\r\n|tokenMalformed",
+    "Authorization: Bearer | b\r\n|tokenMalformed",
+    "Authorization: Basic |\r\n|tokenMissing",
+    "Authorization: Bearers |\r\n|tokenMissing",
+    "Authorization: Bearer\r\nToken: |\r\n|tokenMissing",
 ];
 
 #[test]
 fn a_head_gives_its_token(rt: HostRuntime) {
-    for (before, behind, broken) in TOKENS {
-        let parts = [READ, *before, OF_SEVEN, *behind, END];
-        is_answered(&rt, rt.alloc(), &parts, *broken);
+    let of_seven = token(&rt);
+    for row in TOKENS {
+        let (before, behind, broken) = parted(*row);
+        let parts = [READ, before.as_bytes(), of_seven, behind.as_bytes(), END];
+        is_answered(&rt, rt.alloc(), &parts, broken);
     }
     let line: &[u8] = b"Authorization: Bearer ";
-    let twice = [READ, line, OF_SEVEN, END, line, OF_SEVEN, END, END];
-    is_answered(&rt, rt.alloc(), &twice, Some(Rule::TokenMalformed));
-    is_answered(&rt, rt.alloc(), &[READ, END], Some(Rule::TokenMissing));
+    let twice = [READ, line, of_seven, END, line, of_seven, END, END];
+    is_answered(&rt, rt.alloc(), &twice, "tokenMalformed");
+    is_answered(&rt, rt.alloc(), &[READ, END], "tokenMissing");
 }
 
 /// The lines between the target of a read and its token.
@@ -344,8 +288,8 @@ fn an_empty_query_is_none(rt: HostRuntime) {
     let alloc = rt.alloc();
     let wanted = framed(&rt, alloc, 100, NO_VENDORS);
     let paths: [&[u8]; 2] = [b"GET /acvp/v1/vendors", b"GET /acvp/v1/vendors?"];
-    for path in paths {
-        let parts: [&[u8]; 5] = [path, WITH_A_TOKEN, OF_SEVEN, END, END];
+    for path in &paths {
+        let parts: [&[u8]; 5] = [*path, WITH_A_TOKEN, token(&rt), END, END];
         both_answer(&rt, alloc, 100, &joined(&rt, alloc, &parts), &wanted);
     }
 }
@@ -353,9 +297,10 @@ fn an_empty_query_is_none(rt: HostRuntime) {
 #[test]
 fn replies_have_their_lengths(rt: HostRuntime) {
     let alloc = rt.alloc();
-    let wanted = framed(&rt, alloc, 1858, NO_ROWS);
+    let wanted = framed(&rt, alloc, 1858, counts(&rt));
     assert_eq!(rt; wanted.len(), 221);
-    let parts: [&[u8]; 5] = [b"GET /acvp/v1/account", WITH_A_TOKEN, OF_SEVEN, END, END];
+    let of_seven = token(&rt);
+    let parts: [&[u8]; 5] = [b"GET /acvp/v1/account", WITH_A_TOKEN, of_seven, END, END];
     both_answer(&rt, alloc, 1858, &joined(&rt, alloc, &parts), &wanted);
     let status: &[u8] = b"405 Method Not Allowed";
     let other = refusal(&rt, alloc, status, b"Allow: POST\r\n", b"noMethod");

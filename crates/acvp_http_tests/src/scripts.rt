@@ -1,31 +1,109 @@
 //! Scripts over readers and writers in memory, some of which fail.
 
 use crate::cases::asked::{joined, push};
-use crate::cases::server::{Door, desk_over, keys, keys_of, paths};
-use crate::over_both_forms::{database, lists};
+use crate::cases::server::{Door, account_of, desk_over, keys, keys_of, paths};
+use crate::over_both_forms::{Deed, over_a_database, over_both, over_lists};
 use crate::requests::ACCEPTED;
 use crate::streams::{FailsOnce, Narrow};
-use acvp_desk::Desk;
+use acvp_desk::{Desk, Keys};
 use acvp_http::{Flagged, ScriptFault, run};
-use acvp_tables::{AccountRow, Tables};
+use acvp_tables::Tables;
 use std::alloc::Global;
 use std::io::{ErrorKind, Read, Write};
 use std::process::Abort;
 
-/// A desk over empty tables.
-fn empty_desk<T: Tables + Drop>(rt: &impl Abort, alloc: Global, tables: T) -> Desk<T> {
-    let keys = keys_of(rt, &[Some([1; 32])], &[[2; 32]]);
-    desk_over(rt, alloc, keys, tables)
+/// What is run by a desk over new tables.
+#[derive(Clone, Copy)]
+pub(crate) enum Scripted<'a> {
+    /// Orders, and then an empty script.
+    Orders,
+
+    /// A secret in digits of either case.
+    EitherCase,
+
+    /// Decisions on requests.
+    Decisions,
+
+    /// A line behind orders that is none.
+    OtherLine(&'a str),
+
+    /// Orders whose reader fails behind this front of them.
+    EndsBehind(&'a [u8]),
+
+    /// Orders whose reader is interrupted at this place.
+    GoesOn(usize),
+
+    /// Orders whose writer has room for this front of the answers.
+    EndsWithRoom(&'a [u8]),
+
+    /// A login after its code's time, and in it.
+    LateLogin,
+    LoginInTime,
 }
 
-/// The account of a number.
-fn account_of<T: Tables + Drop>(rt: &impl Abort, desk: Desk<T>, number: u16) -> AccountRow {
+/// The keys that this is run under: of zeros for logins, and other ones.
+fn keys_for(rt: &impl Abort, scripted: Scripted<'_>) -> Keys {
+    match scripted {
+        Scripted::LateLogin | Scripted::LoginInTime => keys(rt),
+        _ => keys_of(rt, &[Some([1; 32])], &[[2; 32]]),
+    }
+}
+
+/// Runs this with a desk.
+fn runs_with<T: Tables>(
+    rt: &impl Abort,
+    alloc: Global,
+    desk: &mut Desk<T>,
+    scripted: Scripted<'_>,
+) {
+    match scripted {
+        Scripted::Orders => answers_orders(rt, alloc, desk),
+        Scripted::EitherCase => answers(rt, alloc, desk, EITHER_CASE, Ok(1), b"order done\n"),
+        Scripted::Decisions => {
+            let wanted: &[u8] = b"order unknown\norder unknown\n";
+            answers(rt, alloc, desk, DECISIONS, Ok(2), wanted);
+        }
+        Scripted::OtherLine(line) => refuses_line(rt, alloc, desk, line),
+        Scripted::EndsBehind(front) => ends_behind(rt, alloc, desk, front),
+        Scripted::GoesOn(place) => goes_on(rt, alloc, desk, place),
+        Scripted::EndsWithRoom(front) => ends_with_room(rt, alloc, desk, front),
+        Scripted::LateLogin => answers(rt, alloc, desk, LATE_LOGIN, Ok(2), REFUSED),
+        Scripted::LoginInTime => answers_login(rt, alloc, desk),
+    }
+}
+
+/// Asserts what this leaves in the tables.
+fn leaves<T: Tables>(rt: &impl Abort, tables: &mut T, scripted: Scripted<'_>) {
+    match scripted {
+        Scripted::Orders => {
+            let account = account_of(rt, tables, 7);
+            assert_eq!(rt; account.secret[31], 31);
+            assert!(rt; !account.enabled);
+        }
+        Scripted::EitherCase => {
+            let account = account_of(rt, tables, 9999);
+            assert!(rt; account.secret.starts_with(&[0xab, 0xcd, 0xef, 0xab]));
+        }
+        Scripted::EndsWithRoom(front) => {
+            let account = account_of(rt, tables, 7);
+            assert_eq!(rt; account.enabled, front.len() < 23);
+        }
+        _ => {}
+    }
+}
+
+/// Runs this, asserts what it leaves in the tables, and hands them back.
+pub(crate) fn runs<T: Tables + Drop>(
+    rt: &impl Abort,
+    alloc: Global,
+    tables: T,
+    scripted: Scripted<'_>,
+) -> T {
+    let mut desk = desk_over(rt, alloc, keys_for(rt, scripted), tables);
+    runs_with(rt, alloc, &mut desk, scripted);
     let mut tables = desk.into_tables();
+    leaves(rt, &mut tables, scripted);
     tables
-        .account(number)
-        .ok()
-        .expect(rt, "an answer")
-        .expect(rt, "an account")
 }
 
 /// The bytes from 0 to 31 in hex.
@@ -39,14 +117,15 @@ const ANSWERS: &[u8] = b"order done\norder taken\norder done\norder unknown\n";
 
 /// What a run answered, whether its reader and its writer had failed, and its writer.
 #[derive(Drop)]
-struct Outcome<W> {
-    answer: Result<u64, ScriptFault>,
+pub(crate) struct Outcome<W> {
+    pub answer: Result<u64, ScriptFault>,
     has_read_fault: bool,
     has_write_fault: bool,
-    writer: W,
+    pub writer: W,
 }
 
-fn run_over<T: Tables, R: Read + Drop, W: Write + Drop>(
+/// Runs a script out of a reader, with its output into a writer.
+pub(crate) fn run_over<T: Tables, R: Read + Drop, W: Write + Drop>(
     rt: &impl Abort,
     alloc: Global,
     desk: &mut Desk<T>,
@@ -80,53 +159,32 @@ fn answers<T: Tables>(
     assert!(rt; !outcome.has_read_fault && !outcome.has_write_fault);
 }
 
-/// Orders are answered, and what they change is kept.
-fn answers_orders<T: Tables + Drop>(rt: &impl Abort, alloc: Global, tables: T) {
-    let mut desk = empty_desk(rt, alloc, tables);
-    answers(rt, alloc, &mut desk, ORDERS, Ok(4), ANSWERS);
-    answers(rt, alloc, &mut desk, b"", Ok(0), b"");
-    let account = account_of(rt, desk, 7);
-    assert_eq!(rt; account.secret[31], 31);
-    assert!(rt; !account.enabled);
+/// Orders are answered, and then nothing is.
+fn answers_orders<T: Tables>(rt: &impl Abort, alloc: Global, desk: &mut Desk<T>) {
+    answers(rt, alloc, desk, ORDERS, Ok(4), ANSWERS);
+    answers(rt, alloc, desk, b"", Ok(0), b"");
 }
 
 #[test]
 fn orders_are_answered(rt: HostRuntime) {
-    let alloc = rt.alloc();
-    answers_orders(&rt, alloc, lists(alloc, Door::Bytes).tables);
-    answers_orders(&rt, alloc, database(&rt, alloc, Door::Bytes).tables);
+    over_both(&rt, rt.alloc(), Deed::Scripted(Scripted::Orders));
 }
 
-/// Secrets are read in either case.
-fn reads_either_case<T: Tables + Drop>(rt: &impl Abort, alloc: Global, tables: T) {
-    let script: &[u8] = b"account-add 9999999999999999999 9999 \
-        ABCDEFabcdef0102030405060708090A0B0C0D0E0F101112131415161718191A\n";
-    let mut desk = empty_desk(rt, alloc, tables);
-    answers(rt, alloc, &mut desk, script, Ok(1), b"order done\n");
-    let account = account_of(rt, desk, 9999);
-    assert!(rt; account.secret.starts_with(&[0xab, 0xcd, 0xef, 0xab]));
-}
+/// A secret in digits of either case.
+const EITHER_CASE: &[u8] = b"account-add 9999999999999999999 9999 \
+    ABCDEFabcdef0102030405060708090A0B0C0D0E0F101112131415161718191A\n";
 
 #[test]
 fn hex_digits_of_either_case_are_read(rt: HostRuntime) {
-    let alloc = rt.alloc();
-    reads_either_case(&rt, alloc, lists(alloc, Door::Bytes).tables);
-    reads_either_case(&rt, alloc, database(&rt, alloc, Door::Bytes).tables);
+    over_both(&rt, rt.alloc(), Deed::Scripted(Scripted::EitherCase));
 }
 
 /// Requests are approved and rejected by lines.
-fn decides_requests<T: Tables + Drop>(rt: &impl Abort, alloc: Global, tables: T) {
-    let script: &[u8] = b"request-approve 4 7000001\nrequest-reject 0 9999999999999999999\n";
-    let mut desk = empty_desk(rt, alloc, tables);
-    let wanted: &[u8] = b"order unknown\norder unknown\n";
-    answers(rt, alloc, &mut desk, script, Ok(2), wanted);
-}
+const DECISIONS: &[u8] = b"request-approve 4 7000001\nrequest-reject 0 9999999999999999999\n";
 
 #[test]
 fn requests_are_decided_by_lines(rt: HostRuntime) {
-    let alloc = rt.alloc();
-    decides_requests(&rt, alloc, lists(alloc, Door::Bytes).tables);
-    decides_requests(&rt, alloc, database(&rt, alloc, Door::Bytes).tables);
+    over_both(&rt, rt.alloc(), Deed::Scripted(Scripted::Decisions));
 }
 
 const OTHER_LINES: &[&str] = &[
@@ -156,23 +214,20 @@ const OTHER_LINES: &[&str] = &[
 ];
 
 /// Asserts that a line behind the orders is refused.
-fn refuses_line<T: Tables + Drop>(rt: &impl Abort, alloc: Global, tables: T, line: &str) {
+fn refuses_line<T: Tables>(rt: &impl Abort, alloc: Global, desk: &mut Desk<T>, line: &str) {
     let mut script = Vec::new(alloc);
     push(rt, &mut script, ORDERS);
     push(rt, &mut script, line.as_bytes());
-    let mut desk = empty_desk(rt, alloc, tables);
-    let outcome = run_over(rt, alloc, &mut desk, script.as_slice(), Vec::new(alloc));
+    let outcome = run_over(rt, alloc, desk, script.as_slice(), Vec::new(alloc));
     assert_eq!(rt; outcome.answer, Err(ScriptFault::Syntax), "at {line:?}");
     assert_eq!(rt; outcome.writer.as_slice(), ANSWERS, "at {line:?}");
 }
 
 #[test]
 fn other_lines_are_refused(rt: HostRuntime) {
-    let alloc = rt.alloc();
     for line in OTHER_LINES {
-        refuses_line(&rt, alloc, lists(alloc, Door::Bytes).tables, *line);
-        let over_a_database = database(&rt, alloc, Door::Bytes).tables;
-        refuses_line(&rt, alloc, over_a_database, *line);
+        let deed = Deed::Scripted(Scripted::OtherLine(*line));
+        over_both(&rt, rt.alloc(), deed);
     }
 }
 
@@ -196,14 +251,13 @@ fn ends_in(text: &[u8]) -> usize {
 }
 
 /// Asserts that a read that fails behind this front of the orders ends the run there.
-fn ends_behind<T: Tables + Drop>(rt: &impl Abort, alloc: Global, tables: T, front: &[u8]) {
+fn ends_behind<T: Tables>(rt: &impl Abort, alloc: Global, desk: &mut Desk<T>, front: &[u8]) {
     let reader = FailsOnce {
         bytes: ORDERS,
         place: front.len(),
         fault: Some(ErrorKind::ConnectionReset),
     };
-    let mut desk = empty_desk(rt, alloc, tables);
-    let outcome = run_over(rt, alloc, &mut desk, reader, Vec::new(alloc));
+    let outcome = run_over(rt, alloc, desk, reader, Vec::new(alloc));
     assert_eq!(rt; outcome.answer, Err(ScriptFault::Read));
     assert!(rt; outcome.has_read_fault && !outcome.has_write_fault);
     let wanted = lines_of(ANSWERS, ends_in(front));
@@ -212,17 +266,14 @@ fn ends_behind<T: Tables + Drop>(rt: &impl Abort, alloc: Global, tables: T, fron
 
 #[test]
 fn a_failed_read_ends_the_run(rt: HostRuntime) {
-    let alloc = rt.alloc();
     for place in 0..=ORDERS.len() {
-        let front = &ORDERS[..place];
-        ends_behind(&rt, alloc, lists(alloc, Door::Bytes).tables, front);
-        let over_a_database = database(&rt, alloc, Door::Bytes).tables;
-        ends_behind(&rt, alloc, over_a_database, front);
+        let deed = Deed::Scripted(Scripted::EndsBehind(&ORDERS[..place]));
+        over_both(&rt, rt.alloc(), deed);
     }
 }
 
 /// Asserts that a read of the orders that is interrupted at this place is tried again.
-fn goes_on<T: Tables + Drop>(rt: &impl Abort, alloc: Global, tables: T, place: usize) {
+fn goes_on<T: Tables>(rt: &impl Abort, alloc: Global, desk: &mut Desk<T>, place: usize) {
     let reader = FailsOnce {
         bytes: ORDERS,
         place,
@@ -232,8 +283,7 @@ fn goes_on<T: Tables + Drop>(rt: &impl Abort, alloc: Global, tables: T, place: u
         held: Vec::new(alloc),
         room: usize::MAX,
     };
-    let mut desk = empty_desk(rt, alloc, tables);
-    let outcome = run_over(rt, alloc, &mut desk, reader, writer);
+    let outcome = run_over(rt, alloc, desk, reader, writer);
     assert_eq!(rt; outcome.answer, Ok(4));
     assert!(rt; !outcome.has_read_fault);
     assert_eq!(rt; outcome.writer.held.as_slice(), ANSWERS);
@@ -241,36 +291,31 @@ fn goes_on<T: Tables + Drop>(rt: &impl Abort, alloc: Global, tables: T, place: u
 
 #[test]
 fn an_interrupted_read_is_tried_again(rt: HostRuntime) {
-    let alloc = rt.alloc();
     for place in 0..=ORDERS.len() {
-        goes_on(&rt, alloc, lists(alloc, Door::Bytes).tables, place);
+        let deed = Deed::Scripted(Scripted::GoesOn(place));
+        over_lists(&rt, rt.alloc(), Door::Bytes, deed);
     }
-    goes_on(&rt, alloc, database(&rt, alloc, Door::Bytes).tables, 170);
+    let deed = Deed::Scripted(Scripted::GoesOn(170));
+    over_a_database(&rt, rt.alloc(), Door::Bytes, deed);
 }
 
 /// Asserts that a writer with room for this front of the answers ends the run.
-fn ends_with_room<T: Tables + Drop>(rt: &impl Abort, alloc: Global, tables: T, front: &[u8]) {
+fn ends_with_room<T: Tables>(rt: &impl Abort, alloc: Global, desk: &mut Desk<T>, front: &[u8]) {
     let writer = Narrow {
         held: Vec::new(alloc),
         room: front.len(),
     };
-    let mut desk = empty_desk(rt, alloc, tables);
-    let outcome = run_over(rt, alloc, &mut desk, ORDERS, writer);
+    let outcome = run_over(rt, alloc, desk, ORDERS, writer);
     assert_eq!(rt; outcome.answer, Err(ScriptFault::Write));
     assert!(rt; outcome.has_write_fault && !outcome.has_read_fault);
     assert_eq!(rt; outcome.writer.held.as_slice(), front);
-    let account = account_of(rt, desk, 7);
-    assert_eq!(rt; account.enabled, front.len() < 23);
 }
 
 #[test]
 fn a_failed_write_ends_the_run(rt: HostRuntime) {
-    let alloc = rt.alloc();
     for room in 0..ANSWERS.len() {
-        let front = &ANSWERS[..room];
-        ends_with_room(&rt, alloc, lists(alloc, Door::Bytes).tables, front);
-        let over_a_database = database(&rt, alloc, Door::Bytes).tables;
-        ends_with_room(&rt, alloc, over_a_database, front);
+        let deed = Deed::Scripted(Scripted::EndsWithRoom(&ANSWERS[..room]));
+        over_both(&rt, rt.alloc(), deed);
     }
 }
 
@@ -293,22 +338,15 @@ const REFUSED: &[u8] = b"order done\n\
         Content-Type: application/json\r\nContent-Length: 47\r\nConnection: close\r\n\r\n\
         [{\"acvVersion\":\"1.0\"},{\"error\":\"loginRefused\"}]\n";
 
-/// Logins are answered by the code's time, under a key of zeros.
-fn answers_logins<T: Tables + Drop>(rt: &impl Abort, alloc: Global, first: T, second: T) {
-    let mut desk = desk_over(rt, alloc, keys(rt), first);
-    answers(rt, alloc, &mut desk, LATE_LOGIN, Ok(2), REFUSED);
-    let mut desk = desk_over(rt, alloc, keys(rt), second);
+/// A login is answered by the code's time, under a key of zeros.
+fn answers_login<T: Tables>(rt: &impl Abort, alloc: Global, desk: &mut Desk<T>) {
     let parts: [&[u8]; 3] = [b"order done\nreply 292\n", ACCEPTED, b"\n"];
     let wanted = joined(rt, alloc, &parts);
-    answers(rt, alloc, &mut desk, LOGIN_IN_TIME, Ok(2), &wanted);
+    answers(rt, alloc, desk, LOGIN_IN_TIME, Ok(2), &wanted);
 }
 
 #[test]
 fn a_request_is_answered(rt: HostRuntime) {
-    let alloc = rt.alloc();
-    let first = lists(alloc, Door::Bytes).tables;
-    answers_logins(&rt, alloc, first, lists(alloc, Door::Bytes).tables);
-    let first = database(&rt, alloc, Door::Bytes).tables;
-    let second = database(&rt, alloc, Door::Bytes).tables;
-    answers_logins(&rt, alloc, first, second);
+    over_both(&rt, rt.alloc(), Deed::Scripted(Scripted::LateLogin));
+    over_both(&rt, rt.alloc(), Deed::Scripted(Scripted::LoginInTime));
 }

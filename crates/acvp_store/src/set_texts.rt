@@ -16,7 +16,7 @@ use std::alloc::Global;
 use std::marker::Model;
 
 /// The one column of a row, a text or NULL.
-#[derive(Debug, Drop)]
+#[derive(Drop)]
 pub(crate) struct TextColumn {
     text: Option<String>,
 }

@@ -2,15 +2,20 @@
 
 ghost use Rattle.acvp_desk.specs.Orders.{IsOrder};
 
+use crate::cases::SECRET;
 use crate::cases::asked::{body_in, framed, refused, request_bytes};
-use crate::cases::{Answer, Ask, SECRET, Step};
+use crate::cases::steps::{
+    Answer, Asked, action_of, actions_in, asked_in, cut, number, of_action, reply_of, rule_of,
+    with_answer, with_body,
+};
 use acvp_desk::{
-    Desk, DeskReply, KeyRing, Keys, Order, OrderReply, Outcome, Seeds, TypedRequest, order_on,
+    Desk, DeskReply, KeyRing, Keys, NewFault, Order, OrderReply, Outcome, Seeds, TypedRequest,
+    order_on,
 };
 use acvp_http::{Reply, Routes, handle_bytes};
 use acvp_mac::{HashName, hash};
-use acvp_policy::{Action, Rule};
-use acvp_tables::Tables;
+use acvp_policy::Rule;
+use acvp_tables::{AccountRow, Tables};
 use std::alloc::Global;
 use std::process::Abort;
 
@@ -24,7 +29,7 @@ pub(crate) enum Door {
     Bytes,
 }
 
-pub(crate) const DOORS: [Door; 2] = [Door::Desk, Door::Bytes];
+pub(crate) const DOORS: &[Door] = &[Door::Desk, Door::Bytes];
 
 /// The tables that a server is made over, and how it is asked.
 #[derive(Drop)]
@@ -73,45 +78,51 @@ pub(crate) fn answer_in_bytes<T: Tables>(
     handle_bytes(routes, desk, moment, bytes)
 }
 
-/// The reply to a request that is asked in bytes.
-fn reply_in_bytes<T: Tables>(
-    rt: &impl Abort,
-    server: &mut Server<T>,
-    moment: u64,
-    request: &TypedRequest<'_>,
-) -> Reply {
-    let bytes = request_bytes(rt, server.alloc, request);
-    answer_in_bytes(&server.routes, &mut server.desk, moment, &bytes)
+/// What was answered, by the desk itself or in bytes.
+#[derive(Drop)]
+enum Heard {
+    Outcome(Outcome),
+    Reply(Reply),
+}
+
+/// What a server answers to what is asked.
+fn hear<T: Tables>(rt: &impl Abort, server: &mut Server<T>, asked: &Asked<'_>) -> Heard {
+    match server.door {
+        Door::Desk => {
+            let outcome = outcome_of(&mut server.desk, asked.moment, &asked.request);
+            Heard::Outcome(outcome)
+        }
+        Door::Bytes => {
+            let bytes = request_bytes(rt, server.alloc, asked);
+            let reply = answer_in_bytes(&server.routes, &mut server.desk, asked.moment, &bytes);
+            Heard::Reply(reply)
+        }
+    }
 }
 
 /// The body of a reply that has one.
-fn given(rt: &impl Abort, alloc: Global, reply: DeskReply) -> Vec<u8> {
-    let body = match reply {
-        DeskReply::Given(reply) => reply.get(256..).and_then(|body| body.to_vec(alloc).ok()),
-        DeskReply::Denied(_) => None,
-    };
-    body.expect(rt, "a body")
+fn body_heard<'a>(rt: &impl Abort, heard: &'a Heard) -> &'a [u8] {
+    match heard {
+        Heard::Outcome(outcome) => match &outcome.reply {
+            DeskReply::Given(reply) => reply.get(256..).expect(rt, "a body"),
+            DeskReply::Denied(rule) => {
+                assert_eq!(rt; rule.word(), "a reply");
+                b""
+            }
+        },
+        Heard::Reply(reply) => body_in(reply.bytes()),
+    }
 }
 
 /// The body of the reply to a request that is accepted.
-pub(crate) fn reply_of<T: Tables>(
+pub(crate) fn body_of<T: Tables>(
     rt: &impl Abort,
     server: &mut Server<T>,
-    moment: u64,
-    asked: Ask<'_>,
+    asked: &Asked<'_>,
 ) -> Vec<u8> {
-    let request = asked.request();
-    match server.door {
-        Door::Desk => {
-            let outcome = outcome_of(&mut server.desk, moment, &request);
-            given(rt, server.alloc, outcome.reply)
-        }
-        Door::Bytes => {
-            let reply = reply_in_bytes(rt, server, moment, &request);
-            let body = body_in(reply.bytes()).to_vec(server.alloc);
-            body.ok().expect(rt, "memory")
-        }
-    }
+    let heard = hear(rt, server, asked);
+    let body = body_heard(rt, &heard).to_vec(server.alloc);
+    body.ok().expect(rt, "memory")
 }
 
 /// Whether the records change.
@@ -123,10 +134,25 @@ fn changes(answer: Answer<'_>) -> bool {
     }
 }
 
-/// Asserts that the body has this SHA-256 digest.
+/// The digit of a number below 16.
+fn digit_of(number: u8) -> u8 {
+    match number {
+        0..=9 => b'0' + number,
+        10..=15 => b'a' + (number - 10),
+        _ => b'?',
+    }
+}
+
+/// Asserts that the body has this SHA-256 digest, in hex.
 fn is_of_digest(rt: &impl Abort, body: &[u8], digest: &[u8]) {
     let of_the_body = hash(HashName::Sha256, body);
-    assert_eq!(rt; of_the_body.as_slice(), digest);
+    let bytes = of_the_body.as_slice();
+    assert_eq!(rt; digest.len(), 64);
+    assert_eq!(rt; bytes.len(), 32);
+    for place in 0..32 {
+        let digits = [digit_of(bytes[place] / 16), digit_of(bytes[place] % 16)];
+        assert_eq!(rt; digits.as_slice(), &digest[2 * place..2 * place + 2]);
+    }
 }
 
 /// Asserts that a body is one that the answer allows.
@@ -135,140 +161,143 @@ fn is_body(rt: &impl Abort, body: &[u8], answer: Answer<'_>) {
         Answer::Shown(wanted) | Answer::Made(wanted) => assert_eq!(rt; body, wanted),
         Answer::Digested(digest) => is_of_digest(rt, body, digest),
         Answer::Accepted(_) => assert!(rt; !body.is_empty()),
-        Answer::Denied(rule) => assert_eq!(rt; "a reply", rule.word()),
+        Answer::Denied(word) => assert_eq!(rt; "a reply", word),
     }
 }
 
 /// Asserts that a rule is the answer.
 fn is_rule(rt: &impl Abort, rule: Rule, answer: Answer<'_>) {
     match answer {
-        Answer::Denied(wanted) => assert_eq!(rt; rule, wanted),
+        Answer::Denied(word) => assert_eq!(rt; rule, rule_of(rt, word).0),
         _ => assert_eq!(rt; rule.word(), "a reply"),
     }
 }
 
-/// Asserts what the desk answers to a request.
-fn meets_at_the_desk<T: Tables>(
-    rt: &impl Abort,
-    desk: &mut Desk<T>,
-    moment: u64,
-    request: &TypedRequest<'_>,
-    answer: Answer<'_>,
-) {
-    let Outcome { reply, changed } = outcome_of(desk, moment, request);
-    assert_eq!(rt; changed, changes(answer));
-    match reply {
+/// Asserts what the desk answers.
+fn is_outcome(rt: &impl Abort, outcome: &Outcome, answer: Answer<'_>) {
+    assert_eq!(rt; outcome.changed, changes(answer));
+    match &outcome.reply {
         DeskReply::Given(reply) => is_body(rt, reply.get(256..).expect(rt, "a body"), answer),
-        DeskReply::Denied(rule) => is_rule(rt, rule, answer),
+        DeskReply::Denied(rule) => is_rule(rt, *rule, answer),
     }
 }
 
-/// The bytes of the reply at a moment, which has this body where the answer is no refusal.
-fn wanted_bytes(
-    rt: &impl Abort,
-    alloc: Global,
-    moment: u64,
-    body: &[u8],
-    answer: Answer<'_>,
-) -> Vec<u8> {
-    match answer {
-        Answer::Denied(rule) => refused(rt, alloc, moment, rule),
-        _ => framed(rt, alloc, moment, body),
-    }
-}
-
-/// Asserts the bytes of the reply to a request in bytes.
-fn meets_in_bytes<T: Tables>(
-    rt: &impl Abort,
-    server: &mut Server<T>,
-    moment: u64,
-    request: &TypedRequest<'_>,
-    answer: Answer<'_>,
-) {
-    let reply = reply_in_bytes(rt, server, moment, request);
-    let body = body_in(reply.bytes());
-    let wanted = wanted_bytes(rt, server.alloc, moment, body, answer);
-    assert_eq!(rt; reply.bytes(), wanted.as_slice());
-    if !matches!(answer, Answer::Denied(_)) {
-        is_body(rt, body, answer);
-    }
-}
-
-/// Asserts what a request is answered.
-fn meets<T: Tables>(
-    rt: &impl Abort,
-    server: &mut Server<T>,
-    moment: u64,
-    request: &TypedRequest<'_>,
-    answer: Answer<'_>,
-) {
-    match server.door {
-        Door::Desk => meets_at_the_desk(rt, &mut server.desk, moment, request, answer),
-        Door::Bytes => meets_in_bytes(rt, server, moment, request, answer),
-    }
+/// Asserts the bytes of a reply.
+fn is_reply(rt: &impl Abort, alloc: Global, reply: &[u8], asked: &Asked<'_>) {
+    let body = body_in(reply);
+    let wanted = match asked.answer {
+        Answer::Denied(word) => refused(rt, alloc, asked.moment, word),
+        answer => {
+            is_body(rt, body, answer);
+            framed(rt, alloc, asked.moment, body)
+        }
+    };
+    assert_eq!(rt; reply, wanted.as_slice());
 }
 
 /// Asserts what is answered to what is asked.
-pub(crate) fn asks<T: Tables>(
-    rt: &impl Abort,
-    server: &mut Server<T>,
-    moment: u64,
-    asked: Ask<'_>,
-    answer: Answer<'_>,
-) {
-    meets(rt, server, moment, &asked.request(), answer);
+pub(crate) fn asks<T: Tables>(rt: &impl Abort, server: &mut Server<T>, asked: &Asked<'_>) {
+    match hear(rt, server, asked) {
+        Heard::Outcome(outcome) => is_outcome(rt, &outcome, asked.answer),
+        Heard::Reply(reply) => is_reply(rt, server.alloc, reply.bytes(), asked),
+    }
 }
 
-/// Asserts what each of these actions is answered.
-fn meets_each<T: Tables>(
+/// The same of a line with another body.
+pub(crate) fn sends<'a, T: Tables>(
     rt: &impl Abort,
     server: &mut Server<T>,
-    moment: u64,
-    actions: &[Action],
-    request: &TypedRequest<'_>,
-    answer: Answer<'_>,
+    line: &'a str,
+    body: &'a [u8],
 ) {
-    for action in actions {
-        let mut asked = *request;
-        asked.action = *action;
-        meets(rt, server, moment, &asked, answer);
+    let asked = with_body(asked_in(rt, line), body);
+    asks(rt, server, &asked);
+}
+
+/// The same of a line that is shown this body.
+pub(crate) fn shows<'a, T: Tables>(
+    rt: &impl Abort,
+    server: &mut Server<T>,
+    line: &'a str,
+    body: &'a [u8],
+) {
+    let asked = with_answer(asked_in(rt, line), Answer::Shown(body));
+    asks(rt, server, &asked);
+}
+
+/// The same of each action of a line.
+fn asks_each<T: Tables>(rt: &impl Abort, server: &mut Server<T>, line: &str) {
+    let first = asked_in(rt, line);
+    for name in actions_in(rt, line).split(',') {
+        let (action, path) = action_of(rt, name);
+        asks(rt, server, &of_action(first, action, path));
     }
 }
 
 /// Asserts what an order is answered.
-pub(crate) fn is_ordered<T: Tables>(
-    rt: &impl Abort,
-    server: &mut Server<T>,
-    order: &Order,
-    wanted: OrderReply,
-)
+fn is_ordered<T: Tables>(rt: &impl Abort, server: &mut Server<T>, order: &Order, wanted: OrderReply)
     requires { IsOrder order.now }
 {
     assert_eq!(rt; server.desk.order(0, order), wanted);
 }
 
-/// Takes a step.
-fn takes<T: Tables>(rt: &impl Abort, server: &mut Server<T>, step: &Step<'_>) {
-    match *step {
-        Step::At(moment, asked, answer) => asks(rt, server, moment, asked, answer),
-        Step::Each(moment, actions, first, second, token, answer) => {
-            let asked = Ask::Bare(Action::Login, first, second, token);
-            meets_each(rt, server, moment, actions, &asked.request(), answer);
-        }
-        Step::Approves(request, wanted) => {
-            is_ordered(rt, server, &Order::ApproveRequest { request }, wanted);
-        }
-        Step::Rejects(request, wanted) => {
-            is_ordered(rt, server, &Order::RejectRequest { request }, wanted);
-        }
-        Step::Caches(count) => assert_eq!(rt; server.desk.cached(), count),
+/// Asserts what is answered to who approves a request.
+fn approves<T: Tables>(rt: &impl Abort, server: &mut Server<T>, text: &str) {
+    let (request, reply) = cut(text);
+    let request = number(rt, request);
+    let order = Order::ApproveRequest { request };
+    is_ordered(rt, server, &order, reply_of(rt, reply));
+}
+
+/// The same of who rejects it.
+fn rejects<T: Tables>(rt: &impl Abort, server: &mut Server<T>, text: &str) {
+    let (request, reply) = cut(text);
+    let request = number(rt, request);
+    let order = Order::RejectRequest { request };
+    is_ordered(rt, server, &order, reply_of(rt, reply));
+}
+
+/// The same of who adds account 7.
+fn adds_again<T: Tables>(rt: &impl Abort, server: &mut Server<T>, text: &str) {
+    let (account, reply) = cut(text);
+    assert_eq!(rt; account, "7");
+    let order = Order::AddAccount {
+        account: 7,
+        secret: SECRET,
+    };
+    is_ordered(rt, server, &order, reply_of(rt, reply));
+}
+
+/// The same of who disables account 7 or 8.
+fn disables<T: Tables>(rt: &impl Abort, server: &mut Server<T>, text: &str) {
+    let (account, reply) = cut(text);
+    let reply = reply_of(rt, reply);
+    if account == "7" {
+        is_ordered(rt, server, &Order::DisableAccount { account: 7 }, reply);
+    } else {
+        assert_eq!(rt; account, "8");
+        is_ordered(rt, server, &Order::DisableAccount { account: 8 }, reply);
+    }
+}
+
+/// Takes the step of a line.
+fn takes<T: Tables>(rt: &impl Abort, server: &mut Server<T>, line: &str) {
+    let (kind, text) = cut(line);
+    match kind {
+        "" => {}
+        "approves" => approves(rt, server, text),
+        "rejects" => rejects(rt, server, text),
+        "adds" => adds_again(rt, server, text),
+        "disables" => disables(rt, server, text),
+        "caches" => assert_eq!(rt; server.desk.cached() as u64, number(rt, text)),
+        _ => asks_each(rt, server, line),
     }
 }
 
 /// Takes these steps, one after another.
-pub(crate) fn follows<T: Tables>(rt: &impl Abort, server: &mut Server<T>, steps: &[Step<'_>]) {
-    for step in steps {
-        takes(rt, server, step);
+pub(crate) fn follows<T: Tables>(rt: &impl Abort, server: &mut Server<T>, steps: &str) {
+    for line in steps.lines() {
+        takes(rt, server, line);
     }
 }
 
@@ -285,6 +314,15 @@ pub(crate) fn keys(rt: &impl Abort) -> Keys {
     keys_of(rt, &[Some([0; 32])], &[[0; 32]])
 }
 
+/// A desk over these tables, or they again, without what its contract says of it.
+pub(crate) fn new_desk<T: Tables>(
+    alloc: Global,
+    keys: Keys,
+    tables: T,
+) -> Result<Desk<T>, (T, NewFault)> {
+    Desk::new(alloc, keys, tables)
+}
+
 /// A desk over these tables.
 pub(crate) fn desk_over<T: Tables + Drop>(
     rt: &impl Abort,
@@ -292,7 +330,10 @@ pub(crate) fn desk_over<T: Tables + Drop>(
     keys: Keys,
     tables: T,
 ) -> Desk<T> {
-    Desk::new(alloc, keys, tables).ok().expect(rt, "a desk")
+    match new_desk(alloc, keys, tables) {
+        Ok(desk) => desk,
+        Err(_) => panic!(rt; "no desk"),
+    }
 }
 
 /// The table of paths.
@@ -322,6 +363,12 @@ fn adds<T: Tables>(rt: &impl Abort, tables: &mut T, order: &Order)
     requires { IsOrder order.now }
 {
     assert_eq!(rt; order_on(tables, order), OrderReply::Done(None));
+}
+
+/// The account of a number.
+pub(crate) fn account_of<T: Tables>(rt: &impl Abort, tables: &mut T, number: u16) -> AccountRow {
+    let account = tables.account(number).ok().expect(rt, "a look-up");
+    account.expect(rt, "an account")
 }
 
 /// Adds account 7.
@@ -359,11 +406,11 @@ pub(crate) fn server_after<T: Tables + Drop>(
     rt: &impl Abort,
     alloc: Global,
     over: Over<T>,
-    parts: &[&[Step<'_>]],
+    parts: &[&str],
 ) -> Server<T> {
     let mut server = new_server(rt, alloc, over);
     for steps in parts {
-        follows(rt, &mut server, steps);
+        follows(rt, &mut server, *steps);
     }
     server
 }

@@ -1,18 +1,18 @@
 //! Stops: while events are under way over a file, a disk fails from a call on, at each call in turn. Opened anew and
 //! adopted, the file has the rows after the events that were acknowledged, or after the next one, too.
 
+use crate::cases::server::{keys, new_desk};
 use crate::disks::{
     Disks, Held, Stop, all_written, closed, disks, have_stopped, left_by_a_crash, opened,
 };
 use crate::rows::{rows, rows_alone};
+use crate::scripts::run_over;
 use crate::validation::{AFTERWARDS, AGAIN, ON_THE_SECOND_SESSION, REFUSED, VALIDATION};
-use acvp_desk::{Desk, KeyRing, Keys, Seeds};
-use acvp_http::{Flagged, Routes, run};
+use acvp_desk::Desk;
 use acvp_store::{SqlTables, adopt, create, migrate};
 use acvp_store_tests::earlier_schemas::{FIRST_SCHEMA, SECOND_SCHEMA};
 use acvp_tables::Tables;
-use sqlite::{Alter, Connection, FileStore};
-use sqlite_disk::{Fuse, Memory};
+use sqlite::{Alter, Connection};
 use std::alloc::Global;
 use std::process::Abort;
 
@@ -30,6 +30,23 @@ enum Work<'a> {
 
     /// The tables of an earlier schema are moved.
     Migrates,
+
+    /// Nothing: the schema and all rows are read, whether it is a store or not.
+    IsRead,
+
+    /// A script with an event is run over a store, and its output is read.
+    PutsOut(&'a [u8]),
+
+    /// The rows of a store are read, without the schema.
+    HasRows,
+}
+
+/// What comes of some work: how many events were acknowledged, or whether there is a store, as 1 or 0; and what was
+/// read.
+#[derive(Drop)]
+struct Came {
+    done: usize,
+    bytes: Vec<u8>,
 }
 
 impl<'a> Work<'a> {
@@ -50,14 +67,6 @@ impl<'a> Work<'a> {
     }
 }
 
-/// One token key and one seed, of zeros.
-fn keys(rt: &impl Abort) -> Keys {
-    Keys {
-        token: KeyRing::of(&[Some([0; 32])]).expect(rt, "a ring"),
-        seed: Seeds::of(&[[0; 32]]).expect(rt, "seeds"),
-    }
-}
-
 /// Whether the output of a script with one event says that it was done or accepted.
 fn acknowledges(output: &[u8]) -> bool {
     for place in 0..output.len() {
@@ -68,6 +77,18 @@ fn acknowledges(output: &[u8]) -> bool {
     output.starts_with(b"order done")
 }
 
+/// The output of a script with one event.
+fn output_of<T: Tables>(
+    rt: &impl Abort,
+    alloc: Global,
+    desk: &mut Desk<T>,
+    script: &[u8],
+) -> Vec<u8> {
+    let outcome = run_over(rt, alloc, desk, script, Vec::new(alloc));
+    assert!(rt; outcome.answer == Ok(1));
+    outcome.writer
+}
+
 /// The tables after a script with one event, and its output.
 fn run_script<T: Tables + Drop>(
     rt: &impl Abort,
@@ -75,16 +96,13 @@ fn run_script<T: Tables + Drop>(
     tables: T,
     script: &[u8],
 ) -> (T, Vec<u8>) {
-    let mut desk = match Desk::new(alloc, keys(rt), tables) {
-        Ok(desk) => desk,
-        Err((tables, _)) => return (tables, Vec::new(alloc)),
-    };
-    let routes = Routes::new(alloc).ok().expect(rt, "paths");
-    let mut reader = Flagged::new(script);
-    let mut writer = Flagged::new(Vec::new(alloc));
-    let answer = run(alloc, &routes, &mut desk, &mut reader, &mut writer);
-    assert!(rt; answer == Ok(1));
-    (desk.into_tables(), writer.into_inner())
+    match new_desk(alloc, keys(rt), tables) {
+        Ok(mut desk) => {
+            let output = output_of(rt, alloc, &mut desk, script);
+            (desk.into_tables(), output)
+        }
+        Err((tables, _)) => (tables, Vec::new(alloc)),
+    }
 }
 
 /// The tables after a script with one event, and whether it is acknowledged.
@@ -137,83 +155,137 @@ fn handed_back<S: Alter, E: Drop>(
     }
 }
 
-/// The same with a number: 1 where they were.
-fn counted<S: Alter, E: Drop>(
-    answer: Result<SqlTables<S>, (Connection<S>, E)>,
-) -> (Connection<S>, usize) {
-    let (connection, done) = handed_back(answer);
-    (connection, if done { 1 } else { 0 })
+/// So many events, and nothing that was read.
+fn events(alloc: Global, done: usize) -> Came {
+    Came {
+        done,
+        bytes: Vec::new(alloc),
+    }
 }
 
-/// The connection to a database after some work, and how many events were acknowledged.
+/// The same with what comes of it: 1 where they were.
+fn counted<S: Alter, E: Drop>(
+    alloc: Global,
+    answer: Result<SqlTables<S>, (Connection<S>, E)>,
+) -> (Connection<S>, Came) {
+    let (connection, done) = handed_back(answer);
+    (connection, events(alloc, if done { 1 } else { 0 }))
+}
+
+/// The tables of a store after some work, and what comes of it.
+fn worked<T: Tables + Drop>(
+    rt: &impl Abort,
+    alloc: Global,
+    tables: T,
+    work: Work<'_>,
+) -> (T, Came) {
+    match work {
+        Work::Scripts(scripts) => {
+            let (tables, done) = all_scripted(rt, alloc, tables, scripts);
+            (tables, events(alloc, done))
+        }
+        Work::PutsOut(script) => {
+            let (tables, bytes) = run_script(rt, alloc, tables, script);
+            (tables, Came { done: 1, bytes })
+        }
+        _ => (tables, events(alloc, 1)),
+    }
+}
+
+/// What is read of a database, which may be a store.
+fn read_of<S: Alter>(
+    rt: &impl Abort,
+    alloc: Global,
+    connection: &mut Connection<S>,
+    work: Work<'_>,
+    came: Came,
+) -> Came {
+    match work {
+        Work::IsRead => Came {
+            done: came.done,
+            bytes: rows(rt, alloc, connection, came.done == 1),
+        },
+        Work::HasRows => Came {
+            done: came.done,
+            bytes: rows_alone(rt, alloc, connection),
+        },
+        _ => came,
+    }
+}
+
+/// The connection to a database after work over the store that it may be, and what comes of it.
+fn over_the_store<S: Alter + Drop>(
+    rt: &impl Abort,
+    alloc: Global,
+    connection: Connection<S>,
+    work: Work<'_>,
+) -> (Connection<S>, Came) {
+    let (mut connection, came) = match adopt(alloc, connection) {
+        Ok(tables) => {
+            let (tables, came) = worked(rt, alloc, tables, work);
+            (tables.into_connection(), came)
+        }
+        Err((connection, _)) => (connection, events(alloc, 0)),
+    };
+    let came = read_of(rt, alloc, &mut connection, work, came);
+    (connection, came)
+}
+
+/// The connection to a database after some work, and what comes of it.
 fn happens<S: Alter + Drop>(
     rt: &impl Abort,
     alloc: Global,
     connection: Connection<S>,
     work: Work<'_>,
-) -> (Connection<S>, usize) {
+) -> (Connection<S>, Came) {
     match work {
-        Work::Creates => counted(create(alloc, connection)),
-        Work::Migrates => counted(migrate(alloc, connection)),
+        Work::Creates => counted(alloc, create(alloc, connection)),
+        Work::Migrates => counted(alloc, migrate(alloc, connection)),
         Work::Runs(texts) => {
             let mut connection = connection;
             let done = run_all(&mut connection, texts);
-            (connection, done)
+            (connection, events(alloc, done))
         }
-        Work::Scripts(scripts) => match adopt(alloc, connection) {
-            Ok(tables) => {
-                let (tables, done) = all_scripted(rt, alloc, tables, scripts);
-                (tables.into_connection(), done)
-            }
-            Err((connection, _)) => (connection, 0),
-        },
+        _ => over_the_store(rt, alloc, connection, work),
     }
 }
 
-/// The disks after some work and the close of the file, and how many events were acknowledged.
-fn tried(rt: &impl Abort, alloc: Global, files: Disks, work: Work<'_>) -> (Disks, usize) {
+/// The disks after some work and the close of the file, and what comes of it.
+fn tried(rt: &impl Abort, alloc: Global, files: Disks, work: Work<'_>) -> (Disks, Came) {
     match opened(alloc, files) {
         Ok(connection) => {
-            let (connection, done) = happens(rt, alloc, connection, work);
-            (closed(connection), done)
+            let (connection, came) = happens(rt, alloc, connection, work);
+            (closed(connection), came)
         }
-        Err(files) => (files, 0),
+        Err(files) => (files, events(alloc, 0)),
     }
 }
 
-/// Whether a database is a store, and its schema and rows.
-#[derive(Drop)]
-struct Found {
-    adopted: bool,
-    rows: Vec<u8>,
-}
-
-impl Found {
-    /// Whether another database is the same.
-    fn is(&self, other: &Found) -> bool {
-        self.adopted == other.adopted && self.rows == other.rows
+/// What comes of some work over a database, whose files are opened anew.
+fn opened_anew(rt: &impl Abort, alloc: Global, held: &Held, work: Work<'_>) -> Came {
+    match opened(alloc, disks(rt, alloc, held, Stop::Never)) {
+        Ok(connection) => happens(rt, alloc, connection, work).1,
+        Err(_) => events(alloc, 0),
     }
 }
 
-/// What a connection shows.
-fn shown<S: Alter + Drop>(rt: &impl Abort, alloc: Global, connection: Connection<S>) -> Found {
-    let (mut connection, adopted) = handed_back(adopt(alloc, connection));
-    Found {
-        adopted,
-        rows: rows(rt, alloc, &mut connection, adopted),
-    }
+/// Whether two databases are both stores or neither, and have the same schema and rows.
+fn are_the_same(one: &Came, other: &Came) -> bool {
+    one.done == other.done && one.bytes == other.bytes
 }
 
 /// What is found when the files are opened anew.
-fn looked_at(rt: &impl Abort, alloc: Global, held: &Held) -> Found {
-    let connection = opened(alloc, disks(rt, alloc, held, Stop::Never));
-    shown(rt, alloc, connection.ok().expect(rt, "a database"))
+fn looked_at(rt: &impl Abort, alloc: Global, held: &Held) -> Came {
+    let found = opened_anew(rt, alloc, held, Work::IsRead);
+    // An empty database has the lines of what isn't there, and files that are no database have none.
+    assert!(rt; !found.bytes.is_empty());
+    found
 }
 
 /// What the files hold after work that meets no stop.
 fn after(rt: &impl Abort, alloc: Global, held: &Held, work: Work<'_>) -> Held {
-    let (files, done) = tried(rt, alloc, disks(rt, alloc, held, Stop::Never), work);
-    assert_eq!(rt; done, work.events());
+    let (files, came) = tried(rt, alloc, disks(rt, alloc, held, Stop::Never), work);
+    assert_eq!(rt; came.done, work.events());
     all_written(rt, alloc, &files)
 }
 
@@ -222,13 +294,13 @@ fn after(rt: &impl Abort, alloc: Global, held: &Held, work: Work<'_>) -> Held {
 struct Watched<'a> {
     work: Work<'a>,
     held: Held,
-    states: Vec<Found>,
+    states: Vec<Came>,
 }
 
 /// Whether what is found is what it is after so many events.
-fn is_after(watched: &Watched<'_>, found: &Found, events: usize) -> bool {
+fn is_after(watched: &Watched<'_>, found: &Came, events: usize) -> bool {
     match watched.states.get(events) {
-        Some(state) => found.is(state),
+        Some(state) => are_the_same(found, state),
         None => false,
     }
 }
@@ -248,7 +320,8 @@ fn is_right(rt: &impl Abort, alloc: Global, watched: &Watched<'_>, held: &Held, 
 /// What a stop was met by: how many events were acknowledged, or nothing where it wasn't met.
 fn stops(rt: &impl Abort, alloc: Global, watched: &Watched<'_>, stop: Stop) -> Option<usize> {
     let files = disks(rt, alloc, &watched.held, stop);
-    let (mut files, done) = tried(rt, alloc, files, watched.work);
+    let (mut files, came) = tried(rt, alloc, files, watched.work);
+    let done = came.done;
     let stopped = have_stopped(&mut files);
     assert!(rt; stopped || done == watched.work.events());
     for held in &left_by_a_crash(rt, alloc, files) {
@@ -286,17 +359,17 @@ fn stops_at_each(rt: &impl Abort, alloc: Global, watched: &Watched<'_>, of_the_l
 }
 
 /// What is found before some work and after each of its events, each of which changes it.
-fn states(rt: &impl Abort, alloc: Global, held: &Held, work: Work<'_>) -> Vec<Found> {
-    let mut all: Vec<Found> = Vec::new(alloc);
+fn states(rt: &impl Abort, alloc: Global, held: &Held, work: Work<'_>) -> Vec<Came> {
+    let mut all: Vec<Came> = Vec::new(alloc);
     all.push(looked_at(rt, alloc, held))
         .ok()
         .expect(rt, "memory");
     for place in 0..work.events() {
         let next = after(rt, alloc, held, work.up_to(place.saturating_add(1)));
         let found = looked_at(rt, alloc, &next);
-        assert!(rt; found.adopted);
+        assert_eq!(rt; found.done, 1);
         if let Some(last) = all.last() {
-            assert!(rt; last.rows != found.rows);
+            assert!(rt; last.bytes != found.bytes);
         }
         all.push(found).ok().expect(rt, "memory");
     }
@@ -335,42 +408,18 @@ fn a_stop_leaves_the_rows_after_what_was_acknowledged_over_one_connection(rt: Ho
 #[test]
 fn a_stop_leaves_the_tables_before_a_migration_or_after_it(rt: HostRuntime) {
     let alloc = rt.alloc();
-    for schema in [FIRST_SCHEMA, SECOND_SCHEMA] {
+    for schema in &[FIRST_SCHEMA, SECOND_SCHEMA] {
         let nothing = Held::nothing(alloc);
-        let held = after(&rt, alloc, &nothing, Work::Runs(schema));
+        let held = after(&rt, alloc, &nothing, Work::Runs(*schema));
         survives(&rt, alloc, held, Work::Migrates);
     }
 }
 
-/// The database of these files, which are opened anew.
-fn opened_anew(rt: &impl Abort, alloc: Global, held: &Held) -> Connection<FileStore<Fuse<Memory>>> {
-    let connection = opened(alloc, disks(rt, alloc, held, Stop::Never));
-    connection.ok().expect(rt, "a database")
-}
-
-/// Asserts what a script with one event puts out over the store of a database.
-fn puts_out<S: Alter + Drop>(
-    rt: &impl Abort,
-    alloc: Global,
-    connection: Connection<S>,
-    script: &[u8],
-    wanted: &[u8],
-) {
-    let tables = adopt(alloc, connection).ok().expect(rt, "a store");
-    let (_, output) = run_script(rt, alloc, tables, script);
-    assert_eq!(rt; output.as_slice(), wanted);
-}
-
-/// Asserts which rows the store of a database has.
-fn has_rows<S: Alter + Drop>(
-    rt: &impl Abort,
-    alloc: Global,
-    connection: Connection<S>,
-    wanted: &[u8],
-) {
-    let tables = adopt(alloc, connection).ok().expect(rt, "a store");
-    let found = rows_alone(rt, alloc, &mut tables.into_connection());
-    assert_eq!(rt; found.as_slice(), wanted);
+/// Asserts what is read of a store by some work, when its files are opened anew.
+fn gives(rt: &impl Abort, alloc: Global, held: &Held, work: Work<'_>, wanted: &[u8]) {
+    let came = opened_anew(rt, alloc, held, work);
+    assert_eq!(rt; came.done, 1);
+    assert_eq!(rt; came.bytes.as_slice(), wanted);
 }
 
 #[test]
@@ -379,19 +428,7 @@ fn a_code_is_used_when_the_file_is_opened_anew(rt: HostRuntime) {
     let held = after(&rt, alloc, &Held::nothing(alloc), Work::Creates);
     let logged_in = Work::Scripts(VALIDATION).up_to(2);
     let held = after(&rt, alloc, &held, logged_in);
-    puts_out(&rt, alloc, opened_anew(&rt, alloc, &held), AGAIN, REFUSED);
-}
-
-/// These lines.
-fn lines(rt: &impl Abort, alloc: Global, lines: &[&str]) -> Vec<u8> {
-    let mut all = Vec::new(alloc);
-    for line in lines {
-        all.extend_from_slice(line.as_bytes())
-            .ok()
-            .expect(rt, "memory");
-        all.push(b'\n').ok().expect(rt, "memory");
-    }
-    all
+    gives(&rt, alloc, &held, Work::PutsOut(AGAIN), REFUSED);
 }
 
 #[test]
@@ -400,6 +437,5 @@ fn every_row_is_there_when_the_file_is_opened_anew(rt: HostRuntime) {
     let held = after(&rt, alloc, &Held::nothing(alloc), Work::Creates);
     let held = after(&rt, alloc, &held, Work::Scripts(VALIDATION));
     let held = after(&rt, alloc, &held, Work::Scripts(ON_THE_SECOND_SESSION));
-    let wanted = lines(&rt, alloc, AFTERWARDS);
-    has_rows(&rt, alloc, opened_anew(&rt, alloc, &held), &wanted);
+    gives(&rt, alloc, &held, Work::HasRows, AFTERWARDS.as_bytes());
 }

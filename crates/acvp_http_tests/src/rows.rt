@@ -1,5 +1,6 @@
 //! The rows of a database, as text, by statements that the product doesn't have.
 
+use crate::cases::asked::push;
 use sqlite::{Alter, Connection, Row};
 use std::alloc::Global;
 use std::process::Abort;
@@ -26,14 +27,17 @@ fn lines<S: Alter>(connection: &mut Connection<S>, text: &str) -> Option<Vec<Row
     connection.query_all(text, &[]).ok()
 }
 
-/// Puts a part behind bytes.
-fn push(rt: &impl Abort, bytes: &mut Vec<u8>, part: &[u8]) {
-    bytes.extend_from_slice(part).ok().expect(rt, "memory");
-}
-
 /// The text of a line.
 fn line(rt: &impl Abort, row: &Row) -> String {
     row.get(0).ok().expect(rt, "a text")
+}
+
+/// Puts these lines behind bytes.
+fn put_lines(rt: &impl Abort, all: &mut Vec<u8>, found: &[Row]) {
+    for row in found {
+        push(rt, all, line(rt, row).as_bytes());
+        push(rt, all, b"\n");
+    }
 }
 
 /// Puts the lines that a statement gives behind bytes. Where it needn't be answered, its tables may be missing.
@@ -44,14 +48,12 @@ fn put<S: Alter>(
     text: &str,
     is_there: bool,
 ) {
-    let Some(found) = lines(connection, text) else {
-        assert!(rt; !is_there, "{text}");
-        push(rt, all, b"not there\n");
-        return;
-    };
-    for row in &found {
-        push(rt, all, line(rt, row).as_bytes());
-        push(rt, all, b"\n");
+    match lines(connection, text) {
+        Some(found) => put_lines(rt, all, &found),
+        None => {
+            assert!(rt; !is_there, "{text}");
+            push(rt, all, b"not there\n");
+        }
     }
 }
 
