@@ -30,7 +30,7 @@ const KEY_LIMITS: (u64, u64) = (8, 524288);
 const MAC_LEAST: u64 = 32;
 
 /// The domains of an algorithm's parameters, all of them lengths in bits.
-#[derive(Drop, Debug)]
+#[derive(Drop)]
 pub enum Domains {
     /// Of a hash function: the length of the message.
     Message(Domain),
@@ -107,7 +107,7 @@ impl Domains {
 
 /// An algorithm and the domains of its parameters, which lie within what the algorithm is tested
 /// at. It is made by reading a registration, or a capability's text.
-#[derive(Drop, Debug)]
+#[derive(Drop)]
 pub struct Capability {
     algorithm: Algorithm,
     domains: Domains,

@@ -30,7 +30,7 @@ const ITEM_LIMIT: usize = 32;
 
 /// The numbers that a parameter may take, at least one: contracts see them as an ascending list in
 /// which each stands once. What is kept is the items that were given, and only a clone takes memory.
-#[derive(Drop, Debug)]
+#[derive(Drop)]
 pub struct Domain {
     items: Vec<Item>,
 }

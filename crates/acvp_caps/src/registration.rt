@@ -18,7 +18,7 @@ const CAPABILITY_LIMIT: usize = 20;
 
 /// Capabilities, from 1 to 20, and whether they are registered for a sample. It is made by reading
 /// it.
-#[derive(Drop, Debug)]
+#[derive(Drop)]
 pub struct Registration {
     sample: bool,
     capabilities: Vec<Capability>,

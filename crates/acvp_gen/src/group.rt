@@ -7,7 +7,7 @@ use crate::test_case::Test;
 use std::marker::Model;
 
 /// What the tests of a group ask for.
-#[derive(Clone, Copy, Debug, PartialEq, Eq)]
+#[derive(Clone, Copy, PartialEq, Eq)]
 pub enum GroupKind {
     /// The digest of each message, or its HMAC under the key.
     Functional,
@@ -17,7 +17,7 @@ pub enum GroupKind {
 }
 
 /// The sizes that the tests of an HMAC group share, in bits.
-#[derive(Clone, Copy, Debug, PartialEq, Eq)]
+#[derive(Clone, Copy, PartialEq, Eq)]
 pub struct Sizes {
     /// Of the key.
     pub key_bits: u64,
@@ -30,7 +30,7 @@ pub struct Sizes {
 }
 
 /// What a group asks for, and the sizes that its tests share where it asks for MACs.
-#[derive(Clone, Copy, Debug, PartialEq, Eq)]
+#[derive(Clone, Copy)]
 pub enum GroupForm {
     /// The digest of each message.
     Digest,
@@ -43,7 +43,7 @@ pub enum GroupForm {
 }
 
 /// A group of tests. It is made by `prompts`, and its calls take no memory.
-#[derive(Drop, Debug)]
+#[derive(Drop)]
 pub struct Group {
     pub(crate) number: u64,
     pub(crate) form: GroupForm,

@@ -8,7 +8,7 @@ use acvp_caps::Algorithm;
 use std::marker::Model;
 
 /// The prompts of a vector set. They are made by `prompts`, and their calls take no memory.
-#[derive(Drop, Debug)]
+#[derive(Drop)]
 pub struct Prompts {
     pub(crate) vs: u64,
     pub(crate) algorithm: Algorithm,

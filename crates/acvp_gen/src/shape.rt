@@ -4,7 +4,7 @@ use crate::group::GroupForm;
 use std::marker::Model;
 
 /// A test by its sizes in bits. A hash function takes no key: 0 bits.
-#[derive(Clone, Copy, Debug, PartialEq, Eq)]
+#[derive(Clone, Copy)]
 pub struct TestShape {
     /// Of the key.
     pub key_bits: u64,

@@ -5,7 +5,7 @@ ghost use Rattle.std.specs.Prelude.{◌≡◌};
 use std::marker::Model;
 
 /// A test. It is made by `prompts`, and its calls take no memory.
-#[derive(Drop, Debug)]
+#[derive(Drop)]
 pub struct Test {
     pub(crate) number: u64,
     pub(crate) bits: u64,

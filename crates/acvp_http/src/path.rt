@@ -13,7 +13,7 @@ pub struct Route {
 }
 
 /// A path of the table, with its numbers.
-#[derive(Clone, Copy, Debug, PartialEq, Eq)]
+#[derive(Clone, Copy)]
 pub(crate) enum Path {
     Login,
     Account,

@@ -17,7 +17,7 @@ use httparse::spans::EMPTY_HEADER_SPAN;
 pub(crate) const MOST_FIELDS: usize = 64;
 
 /// Why an input is refused before anyone is looked at.
-#[derive(Clone, Copy, Debug, PartialEq, Eq)]
+#[derive(Clone, Copy)]
 pub(crate) enum Refusal {
     /// This rule is broken.
     ByRule(Rule),

@@ -15,7 +15,7 @@ use std::marker::Model;
 use std::str;
 
 /// The pattern of a path: the path without its numbers.
-#[derive(Clone, Copy, Debug, PartialEq, Eq)]
+#[derive(Clone, Copy)]
 pub(crate) enum Pattern {
     Login,
     Account,

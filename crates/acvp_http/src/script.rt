@@ -145,7 +145,7 @@ fn read_decision(text: &[u8]) -> Option<(u64, u64)>
 }
 
 /// The first word of a line.
-#[derive(Clone, Copy, PartialEq, Eq)]
+#[derive(Clone, Copy)]
 enum Command {
     Request,
     AddAccount,

@@ -3,7 +3,7 @@
 use crate::kind::Kind;
 
 /// What was decided on a request.
-#[derive(Clone, Copy, Debug, PartialEq, Eq)]
+#[derive(Clone, Copy)]
 pub enum Status {
     /// Nothing yet.
     Initial,
@@ -12,7 +12,7 @@ pub enum Status {
 }
 
 /// A request for registration or certification.
-#[derive(Clone, Copy, Debug, PartialEq, Eq)]
+#[derive(Clone, Copy)]
 pub struct PendingRequest {
     /// The request's own number.
     pub number: u64,
