@@ -40,7 +40,7 @@ use Rattle.acvp_desk.specs.declared.wish.SetWish.{SetWish}
 use Rattle.acvp_desk.specs.declared.wish.SetWish.TheVariants as on_set
 use Rattle.acvp_desk.proofs.Judging.{back_held, first_held}
 
-on_resource : (a : Action) (f : Facts) → first_broken (policy a f) ≡ None → first_broken (resource_conditions a f) ≡ None
+pub on_resource : (a : Action) (f : Facts) → first_broken (policy a f) ≡ None → first_broken (resource_conditions a f) ≡ None
 unfolding policy
 on_resource a f held = back_held (claims_conditions (scope_of a) f) (resource_conditions a f) held
 

@@ -96,7 +96,7 @@ login_covers keys moment r login found = go found.account
     go (Some row) = at row (step_of moment login row)
 
 -- whose session a grant is for
-abbrev Owns : Type 0
+abbrev pub Owns : Type 0
 Owns = (action : Action) (facts : Facts) (grant : Granted) → decision action facts ≡ Ok grant
     → (session : ℕ) → IsOfSession session grant.resource → (account_of_session session ≡ grant.account) ⊎ IsReview action facts
 
@@ -288,7 +288,7 @@ wish_covers owns keys moment u r found (Registry (on_registry.List of page)) f g
 wish_covers owns keys moment u r found (Registry (on_registry.ReadRequest n)) f g names for within own acts decided is = tt
 wish_covers owns keys moment u r found (Registry (on_registry.ListRequests page)) f g names for within own acts decided is = tt
 
-covers : (owns : Owns) (keys : Keys) (moment : ℕ) (r : RequestValue) (it : Ask) (found : Found) (g : Granted) → IsOf it found
+pub covers : (owns : Owns) (keys : Keys) (moment : ℕ) (r : RequestValue) (it : Ask) (found : Found) (g : Granted) → IsOf it found
     → first_broken (own_conditions keys.seed r it found) ≡ None → Ok g ≡ decision (action_of it) (facts_from moment it found) → g ≡ granted (action_of it) (facts_from moment it found)
     → CoversAny g (change_of keys moment r it found)
 covers owns keys moment r (Login login) found g of own decided is = rw is (login_covers keys moment r login found)

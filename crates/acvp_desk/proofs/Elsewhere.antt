@@ -30,7 +30,7 @@ module _ (names : (n : ℕ) (state : State) (row : SetRecord) → IsWellNumbered
   set_in session n state well same =
       found_there (λ (row : SetRecord). row.session) session (n / 100) (set_record_at n state.sets) (λ row is. names n state row well is) same
 
-  none_live : (session n : ℕ) (state : State) → IsWellNumbered state → ((n / 100) == session) ≡ false
+  pub none_live : (session n : ℕ) (state : State) → IsWellNumbered state → ((n / 100) == session) ≡ false
       → option_and_then (if_live_in session) (set_record_at n state.sets) ≡ None
   none_live session n state well apart = go (set_record_at n state.sets) refl
     where

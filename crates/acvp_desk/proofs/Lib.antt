@@ -24,3 +24,12 @@ pub mod Walking
 pub mod Telling
 pub mod OrderedApart
 pub mod Nobody
+pub mod Wishes
+pub mod OwnPlace
+pub mod Alike
+pub mod OwnAnswer
+pub mod ChangesOwn
+pub mod SeenAnswer
+pub mod Objects
+pub mod Adding
+pub mod ServedApart

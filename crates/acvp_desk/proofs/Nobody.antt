@@ -76,11 +76,11 @@ no_claims (Some c) none = absurd (cc)
 -- ---- what is refused
 
 -- the rule of the conditions before it, where one is broken there
-abbrev earlier_or : Option Rule → Rule → Rule
+abbrev pub earlier_or : Option Rule → Rule → Rule
 earlier_or None refusal = refusal
 earlier_or (Some earlier) refusal = earlier
 
-refused_by : (front later : List (Condition Rule)) (refusal : Rule) → first_broken later ≡ Some refusal
+pub refused_by : (front later : List (Condition Rule)) (refusal : Rule) → first_broken later ≡ Some refusal
     → first_broken (front ++ later) ≡ Some (earlier_or (first_broken front) refusal)
 refused_by front later refusal broken = go (first_broken front) refl
   where
@@ -88,7 +88,7 @@ refused_by front later refusal broken = go (first_broken front) refl
     go None held = front_held front later held ∙ broken
     go (Some earlier) first = front_broken front later earlier first
 
-judged_err : {X : Type 0} (conditions : List (Condition Rule)) (x : X) (refusal : Rule) → first_broken conditions ≡ Some refusal → judged conditions x ≡ Err refusal
+pub judged_err : {X : Type 0} (conditions : List (Condition Rule)) (x : X) (refusal : Rule) → first_broken conditions ≡ Some refusal → judged conditions x ≡ Err refusal
 judged_err conditions x refusal broken = ap (λ b. unless b x) broken
 
 caller_answer : (keys : Keys) (moment : ℕ) (r : RequestValue) (caller : CallerAsk) (found : Found) (reply : Option Data) → claims_of caller.token ≡ None

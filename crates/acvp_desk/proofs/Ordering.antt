@@ -142,7 +142,7 @@ module _ {T : Type 0} (faults : StoreFault → Type 0) (stands : T → Content �
       (approval : Option (Kind × ℕ)) (decides : Decides old mid (Done approval) (Some ch)) where
     -- carried out
     pub carried_out : (y : Y) → Changes IsSound faults stands is_live is_clean leaves {X = Y} (Ok y) mid new (after_order ch)
-        → Orders faults stands is_live is_clean leaves (Done approval) old new it
+        → Orders stands is_live is_clean leaves (Done approval) old new it
     carried_out y changes = record {
       was_live = λ live. reads.was_live (changes.was_live live);
       was_clean = λ clean. reads.was_clean (changes.was_clean clean);
@@ -159,11 +159,11 @@ module _ {T : Type 0} (faults : StoreFault → Type 0) (stands : T → Content �
 
     -- the change failed
     pub failed : (e : StoreFault) → Changes IsSound faults stands is_live is_clean leaves {X = Y} (Err e) mid new (after_order ch)
-        → Orders faults stands is_live is_clean leaves Unavailable old new it
+        → Orders stands is_live is_clean leaves Unavailable old new it
     failed e changes = record {
       was_live = λ live. reads.was_live (changes.was_live live);
       was_clean = λ clean. reads.was_clean (changes.was_clean clean);
-      answered = (e, changes.fault);
+      answered = tt;
       same = λ live c h. changes.err live c (reads.same (changes.was_live live) c h);
       live = tt;
       kept = tt;

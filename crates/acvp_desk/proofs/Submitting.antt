@@ -196,7 +196,7 @@ module _ (once : (n : ℕ) (c : Content) → IsSound c → length (filter (is_se
 
 -- ---- what is kept
 
-found_has : {R : Type 0} (P : R → Type 0) (t : R → Bool) (rows : List R) (x : R) → find t rows ≡ Some x → All P rows → P x
+pub found_has : {R : Type 0} (P : R → Type 0) (t : R → Bool) (rows : List R) (x : R) → find t rows ≡ Some x → All P rows → P x
 found_has P t [] x found all = absurd (cc)
 found_has {R = R} P t (r ∷ rows) x found all = go (t r) refl (found_has P t rows x)
   where

@@ -7,7 +7,6 @@ use Rattle.acvp_tables.specs.Content.{Content, account_at, request_at, subject_o
 use Rattle.acvp_tables.specs.State.{State, first_of_account, is_account_number, record_counts, state_of, IsSound}
 use Rattle.acvp_tables.specs.StateChanges.{after_order_state}
 use Rattle.acvp_tables.specs.declared.change.OrderChange.{OrderChange}
-use Rattle.acvp_tables.specs.declared.tables.StoreFault.{StoreFault}
 use Rattle.acvp_tables.specs.declared.change.OrderChange.TheVariants as change
 use Rattle.acvp_tables.specs.declared.rows.RequestRow.{RequestRow}
 use Rattle.acvp_tables.specs.declared.rows.RequestStatus.{RequestStatus}
@@ -119,7 +118,7 @@ ByReply Unknown P Q R = Q
 ByReply NotInitial P Q R = Q
 ByReply Unavailable P Q R = R
 
-module _ {T : Type 0} (faults : StoreFault → Type 0) (stands : T → Content → Type 0) (is_live is_clean : T → Type 0) (leaves : T → Content → Content → Type 0) where
+module _ {T : Type 0} (stands : T → Content → Type 0) (is_live is_clean : T → Type 0) (leaves : T → Content → Content → Type 0) where
   abbrev pub Answers : OrderReply → T → T → Order → Type 0
   Answers reply old new it = is_live new → (c : Content) → IsSound c → stands old c
       → (reply ≡ order_reply it (state_of c)) × stands new (content_order_effect it c)
@@ -132,11 +131,11 @@ module _ {T : Type 0} (faults : StoreFault → Type 0) (stands : T → Content �
 
   -- For every content that the tables stand for: the order is answered, and the content after its effect stands; or it
   -- is unavailable, and all stands as it did. A crash finds the effect of what was answered; and of what was
-  -- unavailable, what there was or that with the effect. Only a fault of the tables makes it unavailable.
+  -- unavailable, what there was or that with the effect.
   pub record Orders (reply : OrderReply) (old new : T) (it : Order) : Type 0 where
     pub was_live : is_live new → is_live old
     pub was_clean : is_clean new → is_clean old
-    pub answered : ByReply reply (Answers reply old new it) (Answers reply old new it) ((fault : StoreFault) × faults fault)
+    pub answered : ByReply reply (Answers reply old new it) (Answers reply old new it) ⊤
     pub same : ByReply reply ⊤ (Stays old new) (Stays old new)
     pub settled : ByReply reply (Settles old new it) (Settles old new it)
         (is_clean new → is_live old → (c : Content) → IsSound c → stands old c → leaves new c (content_order_effect it c))

@@ -5,12 +5,14 @@ ghost use Rattle.acvp_tables.specs.Content.{Content, greatest_epoch_of};
 ghost use Rattle.acvp_tables.specs.State.{IsSound};
 ghost use Rattle.acvp_desk.specs.Request.{request_value};
 ghost use Rattle.acvp_desk.specs.Desk.{HasSeeds, tables_of};
-ghost use Rattle.acvp_desk.specs.Isolation.{IsOrderedApart};
+ghost use Rattle.acvp_desk.specs.Isolation.{IsOrderedApart, IsServedApart, IsToldBySeen};
 ghost use Rattle.acvp_desk.specs.Orders.{IsOrder, Orders};
 ghost use Rattle.acvp_desk.specs.Serves.{Looks, Serves, result_of, IfDenied};
 
 use crate::cache::Cache;
-use crate::isolation::orders_are_apart;
+use crate::isolation::{
+    nobody_is_answered_alike, orders_are_apart, requests_are_apart, seen_rows_answer,
+};
 use crate::keys::Keys;
 use crate::laws::effects_follow;
 use crate::order::{Order, OrderReply, order_on};
@@ -107,7 +109,7 @@ impl<T: Tables> Desk<T> {
     pub fn order(&mut self, moment: u64, order: &Order) -> OrderReply
         requires { IsOrder order.now }
         ensures keys { self.new.keys ≡ self.old.keys }
-        ensures answered { Orders T.faults T.stands T.is_live T.is_clean T.leaves result self.old.tables self.new.tables order.now }
+        ensures answered { Orders T.stands T.is_live T.is_clean T.leaves result self.old.tables self.new.tables order.now }
         ensures apart { IsOrderedApart T.stands T.is_live result self.old.tables self.new.tables order.now }
     {
         let _ = moment;
@@ -116,8 +118,24 @@ impl<T: Tables> Desk<T> {
         order_on(&mut self.tables, order)
     }
 
-    /// Answers a request at a moment, in seconds since 1970.
+    /// Answers a request at a moment, in seconds since 1970. What is told to an account depends on what it owns and on
+    /// what it sees of the sessions that it reviews, and what is left of an account's rows on these rows alone.
     pub fn handle(&mut self, moment: u64, request: &TypedRequest<'_>) -> Outcome
+        ensures keys { self.new.keys ≡ self.old.keys }
+        ensures served { Serves T.stands T.is_live T.is_clean T.leaves (result_of result.reply result.changed) self.old.tables self.new.tables self.old.keys moment (request_value request.now) }
+        ensures denied { IfDenied result.reply (result.changed ≡ false) }
+        ensures apart { IsServedApart T.stands T.is_live T.is_clean result.reply self.old.tables self.new.tables self.old.keys moment (request_value request.now) }
+        ensures seen { IsToldBySeen T.stands T.is_live T.is_clean result.reply self.old.tables self.new.tables self.old.keys moment (request_value request.now) }
+    {
+        effects_follow();
+        nobody_is_answered_alike();
+        requests_are_apart();
+        seen_rows_answer();
+        self.answered(moment, request)
+    }
+
+    /// What a request is answered.
+    fn answered(&mut self, moment: u64, request: &TypedRequest<'_>) -> Outcome
         ensures keys { self.new.keys ≡ self.old.keys }
         ensures served { Serves T.stands T.is_live T.is_clean T.leaves (result_of result.reply result.changed) self.old.tables self.new.tables self.old.keys moment (request_value request.now) }
         ensures denied { IfDenied result.reply (result.changed ≡ false) }

@@ -1,12 +1,12 @@
 //! What holds of the records after requests and orders, whoever keeps them.
 
-ghost use Rattle.std.specs.Prelude.{◌≡◌, ◌++◌, ℕ, List, codes, true};
+ghost use Rattle.std.specs.Prelude.{◌≡◌, ◌++◌, ◌≤◌, ℕ, IfOk, List, codes, is_some, length, true};
 ghost use Rattle.acvp_tables.specs.Changes.{reviewers_after};
 ghost use Rattle.acvp_tables.specs.Content.{Content, no_rows, reviewers_of};
 ghost use Rattle.acvp_tables.specs.State.{is_account_number, state_of};
 ghost use Rattle.acvp_tables.specs.declared.change.Change.TheVariants as change;
 ghost use Rattle.acvp_tables.specs.declared.rows.ReviewerRow.{ReviewerRow};
-ghost use Rattle.acvp_desk.specs.Answer.{effect, content_effect};
+ghost use Rattle.acvp_desk.specs.Answer.{answer, effect, content_effect};
 ghost use Rattle.acvp_desk.specs.Errors.{error_body};
 ghost use Rattle.acvp_desk.specs.Kept.{IsKept};
 ghost use Rattle.acvp_desk.specs.Reviewers.{with_account, without_account};
@@ -46,6 +46,13 @@ pub fn records_are_kept()
     selections_follow();
     numbers_name();
     counts_differ_by_one();
+}
+
+/// A request that is accepted has an object, where what is kept is right and there is a seed: no reply is without one.
+pub fn accepted_requests_are_told()
+    ensures { (keys : Keys) (moment : ℕ) (r : RequestValue) (c : Content) → IsKept keys.seed c → 1 ≤ length keys.seed → IfOk (answer keys moment r (state_of c)) (λ object. is_some object ≡ true) }
+{
+    selections_follow();
 }
 
 /// The list that is told to who adds or removes a reviewer of a session is that of its reviewers after the change.

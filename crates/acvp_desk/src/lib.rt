@@ -7,9 +7,15 @@ pub use acvp_token::KeyRing;
 pub use ask::END_OF_MOMENTS;
 pub use desk::{Desk, DeskReply, NewFault, Outcome};
 pub use draft::SPARE_BYTES;
-pub use isolation::{nobody_is_answered_alike, orders_are_apart};
+pub use isolation::{
+    changes_are_of_who_asks, nobody_is_answered_alike, orders_are_apart, requests_are_apart,
+    seen_rows_answer,
+};
 pub use keys::Keys;
-pub use laws::{effects_follow, errors_are_named, records_are_kept, reviewers_are_told};
+pub use laws::{
+    accepted_requests_are_told, effects_follow, errors_are_named, records_are_kept,
+    reviewers_are_told,
+};
 pub use order::{Order, OrderReply, order_on};
 pub use request::{Numbers, TokenField, TypedRequest};
 

@@ -47,7 +47,7 @@ pub enum OrderReply {
 /// Adds an account that isn't there.
 #[tactic(auto, unfolding(crate::specs::Orders::order_reply, crate::specs::Orders::order_change))]
 fn add<T: Tables>(tables: &mut T, account: u16, secret: [u8; 32]) -> OrderReply
-    ensures { Orders T.faults T.stands T.is_live T.is_clean T.leaves result tables.old tables.new (order.AddAccount account secret) }
+    ensures { Orders T.stands T.is_live T.is_clean T.leaves result tables.old tables.new (order.AddAccount account secret) }
 {
     match tables.account(account) {
         Err(_) => OrderReply::Unavailable,
@@ -65,7 +65,7 @@ fn add<T: Tables>(tables: &mut T, account: u16, secret: [u8; 32]) -> OrderReply
 /// Disables an account that is there.
 #[tactic(auto, unfolding(crate::specs::Orders::order_reply, crate::specs::Orders::order_change))]
 fn disable<T: Tables>(tables: &mut T, account: u16) -> OrderReply
-    ensures { Orders T.faults T.stands T.is_live T.is_clean T.leaves result tables.old tables.new (order.DisableAccount account) }
+    ensures { Orders T.stands T.is_live T.is_clean T.leaves result tables.old tables.new (order.DisableAccount account) }
 {
     match tables.account(account) {
         Err(_) => OrderReply::Unavailable,
@@ -153,7 +153,7 @@ fn find_waiting<T: Tables>(tables: &mut T, number: u64) -> Result<Option<Waiting
 
 /// Approves a request that waits.
 fn approve<T: Tables>(tables: &mut T, number: u64) -> OrderReply
-    ensures { Orders T.faults T.stands T.is_live T.is_clean T.leaves result tables.old tables.new (order.ApproveRequest number) }
+    ensures { Orders T.stands T.is_live T.is_clean T.leaves result tables.old tables.new (order.ApproveRequest number) }
 {
     let waiting = match find_waiting(tables, number) {
         Err(_) => return OrderReply::Unavailable,
@@ -175,7 +175,7 @@ fn approve<T: Tables>(tables: &mut T, number: u64) -> OrderReply
 
 /// Rejects a request that waits.
 fn reject<T: Tables>(tables: &mut T, number: u64) -> OrderReply
-    ensures { Orders T.faults T.stands T.is_live T.is_clean T.leaves result tables.old tables.new (order.RejectRequest number) }
+    ensures { Orders T.stands T.is_live T.is_clean T.leaves result tables.old tables.new (order.RejectRequest number) }
 {
     let request = match tables.request(number) {
         Err(_) => return OrderReply::Unavailable,
@@ -195,7 +195,7 @@ fn reject<T: Tables>(tables: &mut T, number: u64) -> OrderReply
 #[tactic(auto, unfolding(crate::specs::Orders::order_reply, crate::specs::Orders::order_change))]
 pub fn order_on<T: Tables>(tables: &mut T, order: &Order) -> OrderReply
     requires { IsOrder order.now }
-    ensures { Orders T.faults T.stands T.is_live T.is_clean T.leaves result tables.old tables.new order.now }
+    ensures { Orders T.stands T.is_live T.is_clean T.leaves result tables.old tables.new order.now }
 {
     match *order {
         Order::AddAccount { account, secret } => add(tables, account, secret),

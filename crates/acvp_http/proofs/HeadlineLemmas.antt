@@ -1,5 +1,5 @@
 -- A run as the headline tells it: each turn over the state that the accepted ones before it left.
-use Rattle.std.proofs.Common.{◌≡◌, inl, inr, ℕ, suc, List, [], ◌∷◌, ◌++◌, length, Bool, true, false, Option, None, Some, Result, Ok, Err, refl, sym, ap, subst, ◌∙◌, if◌then◌else◌}
+use Rattle.std.proofs.Common.{◌≡◌, inl, inr, ℕ, suc, List, [], ◌∷◌, ◌++◌, Bool, true, false, Option, None, Some, Result, Ok, Err, refl, sym, ap, subst, ◌∙◌, if◌then◌else◌}
 use Rattle.std.specs.Prelude.{option_map, option_and_then}
 use Rattle.acvp_policy.specs.declared.rule.Rule.{Rule}
 use Rattle.acvp_tables.specs.Content.{Content, request_at}
@@ -19,7 +19,7 @@ use Rattle.acvp_desk.specs.declared.order.OrderReply.TheVariants.{Done, Taken, U
 use Rattle.acvp_http.specs.Event.{Event, request, order, Answer, replied, ordered, Turn}
 use Rattle.acvp_http.specs.Reply.{IsDateOf}
 use Rattle.acvp_http.specs.Serve.{AsksTheDesk, IsReplied, Runs, Takes}
-use Rattle.acvp_http.specs.Headline.{IsAnswered, LeftBy, is_done}
+use Rattle.acvp_http.specs.Headline.{AnswersTurn, IsAnswered, LeftBy, is_done}
 
 -- ---- conditions
 
@@ -119,13 +119,8 @@ module _ (follow_request : (keys : Keys) (m : ℕ) (r : RequestValue) (c : Conte
     | inr accepted ↦ inl (next, told, refl, accepted, left)
   ]
 
-  abbrev Tells : List Turn → Turn → State → List Answer → Type 0
-  Tells earlier turn state answers =
-      (told : List Answer) × (answer : Answer) × (after : List Answer) × (now : State) × (next : State)
-      × (answers ≡ told ++ answer ∷ after) × (length told ≡ length earlier) × LeftBy keys earlier state now × IsAnswered keys turn now next answer
-
   pub tells : (earlier later : List Turn) (turn : Turn) (old new : Content) (answers : List Answer) → Runs keys (earlier ++ turn ∷ later) old new answers
-      → Tells earlier turn (state_of old) answers
+      → AnswersTurn keys earlier turn (state_of old) answers
   tells [] later turn old new [] runs = absurd runs
   tells [] later turn old new (a ∷ answers) (next, takes, rest) =
       ([], a, answers, state_of old, state_of next, refl, refl, refl, turn_answered turn.event turn.unavailable old next a takes)
@@ -142,3 +137,11 @@ module _ (follow_request : (keys : Keys) (m : ℕ) (r : RequestValue) (c : Conte
         left_more t.event t.unavailable earlier (state_of old) (state_of mid) now a (turn_answered t.event t.unavailable old mid a takes) left,
         answered,
       )
+
+  -- and what it leaves
+  pub leaves : (turns : List Turn) (old new : Content) (answers : List Answer) → Runs keys turns old new answers → LeftBy keys turns (state_of old) (state_of new)
+  leaves [] old new [] runs = ap state_of runs
+  leaves [] old new (a ∷ answers) runs = absurd runs
+  leaves (t ∷ turns) old new [] runs = absurd runs
+  leaves (t ∷ turns) old new (a ∷ answers) (mid, takes, rest) =
+      left_more t.event t.unavailable turns (state_of old) (state_of mid) (state_of new) a (turn_answered t.event t.unavailable old mid a takes) (leaves turns mid new answers rest)

@@ -24,3 +24,5 @@ pub mod OneLemmas
 pub mod NeededLemmas
 pub mod ReceivingLemmas
 pub mod HeadlineLemmas
+pub mod Isolated
+pub mod PromiseLemmas

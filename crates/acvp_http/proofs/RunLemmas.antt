@@ -16,7 +16,7 @@ use Rattle.acvp_http.specs.Script.{IsScript, IsWritten, IsAccountNumber, HasNoEv
 use Rattle.acvp_http.specs.Serve.{GoesByTurn, GoesByTurns, GoesThrough, ShowsEvent}
 use Rattle.acvp_http.specs.Private.Reading.{TakesPart, StopsReading}
 use Rattle.acvp_http.specs.Source.{InputStream, OutputStream, Gives, Gets, GetsFront}
-use Rattle.acvp_http.specs.Run.{events_of, most_reads, BeginsWith, TakesInPart, StopsAfter, WritesAnswers, RunsScript}
+use Rattle.acvp_http.specs.Run.{events_of, most_reads, BeginsWith, TakesInPart, StopsAfter, WritesAnswers, RunsTurns}
 use Rattle.acvp_http.proofs.KnownLemmas.{consumes_consumes, consumes_nothing}
 use Rattle.acvp_http.proofs.WritingLemmas.{appends_appends}
 
@@ -139,9 +139,9 @@ module _ {T : Type 0} (stands : T → Content → Type 0) (is_live is_clean : T 
     pub ran_writes : (count : ℕ) (fault : ScriptFault) → Ran mid input left old new count → count < 100000 → (is_clean now → is_clean mid)
         → IsWritten turn.event front → Gives left left' front → ShowsEvent stands is_live turn.event answer mid now
         → GoesByTurn stands is_live is_clean keys turn answer mid now → fault ≡ Write
-        → GetsFront new new' (answer_text answer) → RunsScript stands is_live is_clean keys start now input left' old new' (Err fault)
+        → GetsFront new new' (answer_text answer) → RunsTurns stands is_live is_clean keys start now input left' old new' (Err fault)
     ran_writes count fault ran few was_clean written consumed shows takes is (begun, rest, parts, appended) =
-        let result : RunsScript stands is_live is_clean keys start now input left' old new' (Err Write) = (
+        let result : RunsTurns stands is_live is_clean keys start now input left' old new' (Err Write) = (
           ran.turns ++ turn ∷ [],
           ran.answers ++ answer ∷ [],
           ran.text ++ front,

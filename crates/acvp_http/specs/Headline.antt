@@ -75,10 +75,19 @@ LeftBy keys (turn ∷ turns) state now =
     ((next : State) × (answer : Answer) × (turn.unavailable ≡ false) × IsAccepted keys turn.event state next answer × LeftBy keys turns next now)
     ⊎ (IsNotAccepted keys turn state × LeftBy keys turns state now)
 
+-- the answer to this turn is among those of the run, in its place, and is given over the state that the accepted turns
+-- before it left
+abbrev pub AnswersTurn : Keys → List Turn → Turn → State → List Answer → Type 0
+AnswersTurn keys earlier turn state answers = (told : List Answer) × (answer : Answer) × (after : List Answer) × (now : State) × (next : State)
+    × (answers ≡ told ++ answer ∷ after) × (length told ≡ length earlier) × LeftBy keys earlier state now
+    × IsAnswered keys turn now next answer
+
 -- The headline: in every run each event is answered over the state that the accepted ones before it left.
 abbrev pub Headline : Type 0
 Headline = (keys : Keys) (earlier later : List Turn) (turn : Turn) (old new : Content) (answers : List Answer)
-    → Runs keys (earlier ++ turn ∷ later) old new answers
-    → (told : List Answer) × (answer : Answer) × (after : List Answer) × (now : State) × (next : State)
-    × (answers ≡ told ++ answer ∷ after) × (length told ≡ length earlier) × LeftBy keys earlier (state_of old) now
-    × IsAnswered keys turn now next answer
+    → Runs keys (earlier ++ turn ∷ later) old new answers → AnswersTurn keys earlier turn (state_of old) answers
+
+-- And what a run leaves is what its accepted events left.
+abbrev pub HeadlineLeft : Type 0
+HeadlineLeft = (keys : Keys) (turns : List Turn) (old new : Content) (answers : List Answer) → Runs keys turns old new answers
+    → LeftBy keys turns (state_of old) (state_of new)

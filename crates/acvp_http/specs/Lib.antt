@@ -7,6 +7,8 @@ pub mod Asks
 pub mod Source
 pub mod Run
 pub mod Headline
+pub mod Isolation
+pub mod Promise
 pub mod Needed
 pub mod Connection
 pub mod Private

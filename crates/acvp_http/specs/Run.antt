@@ -6,6 +6,7 @@ use Rattle.acvp_tables.specs.Content.{Content}
 use Rattle.acvp_http.specs.declared.script.ScriptFault.{ScriptFault}
 use Rattle.acvp_http.specs.declared.script.ScriptFault.TheVariants.{Read, Write, Syntax, Limit, Memory}
 use Rattle.acvp_http.specs.Event.{Event, Answer, Turn}
+use Rattle.acvp_http.specs.Promise.{GoesAsPromised}
 use Rattle.acvp_http.specs.Script.{IsScript, HasNoEvent, LeavesGrammar, answer_text, output_of}
 use Rattle.acvp_http.specs.Serve.{GoesThrough}
 use Rattle.acvp_http.specs.Source.{InputStream, OutputStream, Gives, Gets, ReadsTooOften}
@@ -63,12 +64,21 @@ WritesAnswers old new answers (Err Syntax) = Gets old new (output_of answers)
 WritesAnswers old new answers (Err Limit) = Gets old new (output_of answers)
 WritesAnswers old new answers (Err Memory) = Gets old new (output_of answers)
 
--- The input begins with the script of some turns, which the tables went through and whose answers are written; `left`
--- is what was not taken of it.
 module _ {T : Type 0} (stands : T → Content → Type 0) (is_live is_clean : T → Type 0) where
+  -- The input begins with the script of some turns, which the tables went through and whose answers are written; `left`
+  -- is what was not taken of it.
+  abbrev pub RunsTurns : Keys → T → T → InputStream → InputStream → OutputStream → OutputStream → Result ℕ ScriptFault → Type 0
+  RunsTurns keys tables last input left old new result =
+      (turns : List Turn) × (answers : List Answer) × (text : List ℕ)
+      × GoesThrough stands is_live is_clean keys turns answers tables last × IsScript (events_of turns) text
+      × StopsAfter input left turns text result × WritesAnswers old new answers result
+      × (length turns ≤ most_events)
+
+  -- The same, and the promise of the server of these turns and answers.
   abbrev pub RunsScript : Keys → T → T → InputStream → InputStream → OutputStream → OutputStream → Result ℕ ScriptFault → Type 0
   RunsScript keys tables last input left old new result =
       (turns : List Turn) × (answers : List Answer) × (text : List ℕ)
+      × GoesAsPromised stands is_live is_clean keys turns answers tables last
       × GoesThrough stands is_live is_clean keys turns answers tables last × IsScript (events_of turns) text
       × StopsAfter input left turns text result × WritesAnswers old new answers result
       × (length turns ≤ most_events)

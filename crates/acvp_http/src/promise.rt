@@ -1,17 +1,44 @@
 //! The promise of the server, in one place.
-ghost use Rattle.acvp_http.specs.Headline.{Headline};
+ghost use Rattle.acvp_http.specs.Headline.{Headline, HeadlineLeft};
+ghost use Rattle.acvp_http.specs.Isolation.{Isolation, IsolationAlone};
 
-use acvp_desk::effects_follow;
+use acvp_desk::{
+    accepted_requests_are_told, changes_are_of_who_asks, effects_follow, nobody_is_answered_alike,
+    orders_are_apart, records_are_kept, requests_are_apart, seen_rows_answer,
+};
+use acvp_tables::{numbers_tell, reviewers_are_added};
 
 /// The headline. For every list of requests and operator's orders with their moments, each reply is byte for byte what
 /// the policy's conditions, in their one order, give to the claims that are verified at that moment over the records
-/// that the accepted events before it left. A denial names the first rule that is broken, and changes nothing; nor does
+/// that the accepted events before it left, and after the last one the records are what all of them left. A denial names the first rule that is broken, and changes nothing; nor does
 /// an event that is unavailable. No verdict is among these records: each disposition is worked out from the answers
 /// that are kept.
 ///
 /// What `handle_bytes`, `run` and `serve_one` do is such a run, for every form of the tables: their contracts say so.
 pub fn headline()
-    ensures { Headline }
+    ensures told { Headline }
+    ensures left { HeadlineLeft }
 {
     effects_follow();
+}
+
+/// Isolation. What an account is told over a whole run is what it is told where nobody acts but the operator, itself, and
+/// the accounts that have it as a reviewer or ask to add it as one: its replies are byte for byte those of the run of
+/// their turns alone, from the same records. An account that nobody adds as a reviewer is answered as if it were alone.
+///
+/// Events that were unavailable count for neither run.
+pub fn isolation()
+    ensures runs { Isolation }
+    ensures alone { IsolationAlone }
+{
+    effects_follow();
+    records_are_kept();
+    orders_are_apart();
+    requests_are_apart();
+    nobody_is_answered_alike();
+    seen_rows_answer();
+    changes_are_of_who_asks();
+    accepted_requests_are_told();
+    numbers_tell();
+    reviewers_are_added();
 }

@@ -4,11 +4,12 @@ ghost use Rattle.acvp_http.specs.Event.{Answer, Turn};
 ghost use Rattle.acvp_desk.specs.declared.keys.Keys.{Keys};
 ghost use Rattle.acvp_http.specs.Private.Turns.{CanHappen};
 ghost use Rattle.acvp_http.specs.Private.Reading.{event_of};
-ghost use Rattle.acvp_http.specs.Run.{RunsScript, is_read_answer, is_write_answer};
+ghost use Rattle.acvp_http.specs.Run.{RunsScript, RunsTurns, is_read_answer, is_write_answer};
 ghost use Rattle.acvp_http.specs.Script.{answer_text};
 ghost use Rattle.acvp_http.specs.Serve.{GoesByTurn, GoesByTurns, GoesThrough, ShowsEvent};
 ghost use Rattle.acvp_http.specs.Private.Writing.{WritesText};
 
+use crate::promise::{headline, isolation};
 use crate::reading::{ScriptEvent, next_event, read_byte};
 use crate::routes::Routes;
 use crate::script::ScriptFault;
@@ -60,8 +61,42 @@ pub fn turns_make_a_run<T: Tables>()
         → GoesByTurns T.stands T.is_live T.is_clean keys turns answers old new }
 {}
 
+/// Runs a script, turn by turn.
+fn run_turns<T: Tables, S: Source, K: Sink>(
+    alloc: Global,
+    routes: &Routes,
+    desk: &mut Desk<T>,
+    reader: &mut S,
+    writer: &mut K,
+) -> Result<u64, ScriptFault>
+    requires reader_clear { (S.stream reader.old).failed ≡ false }
+    requires writer_clear { (K.stream writer.old).failed ≡ false }
+    ensures keys { desk.new.keys ≡ desk.old.keys }
+    ensures was_live { T.is_live desk.new.tables → T.is_live desk.old.tables }
+    ensures was_clean { T.is_clean desk.new.tables → T.is_clean desk.old.tables }
+    ensures run { RunsTurns T.stands T.is_live T.is_clean desk.old.keys desk.old.tables desk.new.tables (S.stream reader.old) (S.stream reader.new)
+        (K.stream writer.old) (K.stream writer.new) result }
+    ensures read_fault { (S.stream reader.new).failed ≡ is_read_answer result }
+    ensures write_fault { (K.stream writer.new).failed ≡ is_write_answer result }
+{
+    let limit = reader.reads().saturating_add(MOST_READS);
+    for count in 0..MOST_EVENTS {
+        let Some(event) = next_event(alloc, reader, limit)? else {
+            return Ok(count);
+        };
+        take_turn(routes, desk, &event, writer)?;
+    }
+    match read_byte(reader, limit)? {
+        None => Ok(MOST_EVENTS),
+        Some(_) => Err(ScriptFault::Limit),
+    }
+}
+
 /// Runs a script. It ends at the input's end, or at the first fault; the event at fault isn't handled, but for a writer
 /// that fails, which does so after its event was handled. The number is how many events there were.
+///
+/// The answers that are written are those of the script's events over the records that the tables stood for, as `headline`
+/// and `isolation` say of every run.
 pub fn run<T: Tables, S: Source, K: Sink>(
     alloc: Global,
     routes: &Routes,
@@ -79,15 +114,8 @@ pub fn run<T: Tables, S: Source, K: Sink>(
     ensures read_fault { (S.stream reader.new).failed ≡ is_read_answer result }
     ensures write_fault { (K.stream writer.new).failed ≡ is_write_answer result }
 {
-    let limit = reader.reads().saturating_add(MOST_READS);
-    for count in 0..MOST_EVENTS {
-        let Some(event) = next_event(alloc, reader, limit)? else {
-            return Ok(count);
-        };
-        take_turn(routes, desk, &event, writer)?;
-    }
-    match read_byte(reader, limit)? {
-        None => Ok(MOST_EVENTS),
-        Some(_) => Err(ScriptFault::Limit),
-    }
+    headline();
+    isolation();
+    turns_make_a_run::<T>();
+    run_turns(alloc, routes, desk, reader, writer)
 }

@@ -22,7 +22,7 @@ returns-in-Request-clause-turn g c =
 pub returns-in-Order-clause-turn : goal.returns-in-Order-clause-turn
 returns-in-Order-clause-turn g c =
     let (unavailable, takes) =
-    order_taken g.T.Tables.faults g.T.Tables.stands g.T.Tables.is_live g.T.Tables.is_clean g.T.Tables.leaves c.args.desk.now.keys
+    order_taken g.T.Tables.stands g.T.Tables.is_live g.T.Tables.is_clean g.T.Tables.leaves c.args.desk.now.keys
     c.in-Order.moment c.in-Order.order c.args.desk.now.tables c.order-reply.new.self.tables
     (λ content kept. c.records_are_kept.ensures.order c.args.desk.now.keys.seed c.in-Order.order content
     (rw c.in-Order.is at c.requires.event).0 (rw c.in-Order.is at c.requires.event).1 kept)

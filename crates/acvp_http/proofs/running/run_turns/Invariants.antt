@@ -1,6 +1,6 @@
 use Rattle.std.proofs.Common.{◌≡◌, false}
 use Rattle.acvp_http.proofs.RunLemmas.{Ran}
-use Rattle.acvp_http.proofs.running.run.Given as goal
+use Rattle.acvp_http.proofs.running.run_turns.Given as goal
 
 abbrev pub invariant-loop-count : goal.invariant-loop-count
 invariant-loop-count g l = record {

@@ -1,0 +1,101 @@
+-- Whose an event is, and what an account is told in a run and in the run of some accounts alone.
+use Rattle.std.specs.Prelude.{◌≡◌, ℕ, ◌≤◌, ◌==◌, List, [], ◌∷◌, Bool, true, false, not, ◌&&◌, ◌||◌, nat_lt, MatchBool, length, Option, Some, None, ⊤}
+use Rattle.std.specs.List.{All}
+use Rattle.acvp_tables.specs.Content.{Content, is_reviewer}
+use Rattle.acvp_tables.specs.State.{State, owner_of, state_of}
+use Rattle.acvp_desk.specs.Answer.{end_of_moments}
+use Rattle.acvp_desk.specs.Isolation.{is_who, reviewer_asked, who_of}
+use Rattle.acvp_desk.specs.Kept.{IsKept}
+use Rattle.acvp_desk.specs.Request.{RequestValue}
+use Rattle.acvp_desk.specs.declared.keys.Keys.{Keys}
+use Rattle.acvp_http.specs.Asks.{ParsedRequest, refused, wrong_method, typed, Asks}
+use Rattle.acvp_http.specs.Event.{Event, request, order, Answer, Turn}
+use Rattle.acvp_http.specs.Private.Turns.{CanHappen}
+use Rattle.acvp_http.specs.Serve.{Runs}
+
+-- ---- whose an event is
+
+-- the account that a request is of, as its bytes are read: none where they are refused before anybody is looked at
+abbrev pub whose : Keys → ℕ → ParsedRequest → Option ℕ
+whose keys moment (refused rule) = None
+whose keys moment (wrong_method path) = None
+whose keys moment (typed r) = who_of keys moment r
+
+-- the event is of this account, or of none: past the last moment that is served nobody is looked at, and an order is the
+-- operator's
+abbrev pub IsOf : Keys → Event → Option ℕ → Type 0
+IsOf keys (request moment bytes) who =
+    MatchBool (nat_lt moment end_of_moments) ((parsed : ParsedRequest) × Asks bytes parsed × (who ≡ whose keys moment parsed)) (who ≡ None)
+IsOf keys (order moment o) who = who ≡ None
+
+-- ---- the turns of some accounts alone
+
+abbrev pub is_order : Event → Bool
+is_order (request moment bytes) = false
+is_order (order moment o) = true
+
+-- it is one of these accounts
+abbrev pub is_among : (ℕ → Bool) → Option ℕ → Bool
+is_among these None = false
+is_among these (Some u) = these u
+
+-- an event of this account is the operator's, or one of these accounts', and wasn't unavailable
+abbrev pub is_theirs : (ℕ → Bool) → Turn → Option ℕ → Bool
+is_theirs these turn who = not turn.unavailable && (is_order turn.event || is_among these who)
+
+-- of the turns of a run, in their order, those that are the operator's or one of these accounts'
+abbrev pub Only : Keys → (ℕ → Bool) → List Turn → List Turn → Type 0
+Only keys these [] chosen = chosen ≡ []
+Only keys these (turn ∷ turns) chosen = (who : Option ℕ) × IsOf keys turn.event who
+    × MatchBool (is_theirs these turn who) ((rest : List Turn) × (chosen ≡ turn ∷ rest) × Only keys these turns rest) (Only keys these turns chosen)
+
+-- ---- what an account is told
+
+-- an event of this account is u's, and wasn't unavailable
+abbrev pub is_told : ℕ → Turn → Option ℕ → Bool
+is_told u turn who = not turn.unavailable && is_who who u
+
+-- the answers to u's requests among those of a run, in their order
+abbrev pub Told : Keys → ℕ → List Turn → List Answer → List Answer → Type 0
+Told keys u [] [] told = told ≡ []
+Told keys u [] (answer ∷ answers) told = ⊥
+Told keys u (turn ∷ turns) [] told = ⊥
+Told keys u (turn ∷ turns) (answer ∷ answers) told = (who : Option ℕ) × IsOf keys turn.event who
+    × MatchBool (is_told u turn who) ((rest : List Answer) × (told ≡ answer ∷ rest) × Told keys u turns answers rest) (Told keys u turns answers told)
+
+-- ---- who can let an account see something
+
+-- a request that asks to add u as a reviewer is of one of these accounts
+abbrev pub AsksWithin : Keys → ℕ → (ℕ → Bool) → Event → Type 0
+AsksWithin keys u these (request moment bytes) = (r : RequestValue) (w : ℕ) → Asks bytes (typed r) → reviewer_asked r ≡ Some u → who_of keys moment r ≡ Some w
+    → these w ≡ true
+AsksWithin keys u these (order moment o) = ⊤
+
+-- These accounts are u itself, those that have it as a reviewer, and those that ask in a turn to add it as one; there may
+-- be others among them.
+pub record LetsSee (keys : Keys) (u : ℕ) (these : ℕ → Bool) (state : State) (turns : List Turn) : Type 0 where
+  pub itself : these u ≡ true
+  pub reviewed : (s : ℕ) → is_reviewer s u state.reviewers ≡ true → these (owner_of s) ≡ true
+  pub asked : All (λ turn. turn.unavailable ≡ false → AsksWithin keys u these turn.event) turns
+
+-- u is told in the run what it is told in the run of the operator's and these accounts' turns alone, from the same records
+abbrev pub IsToldAlone : Keys → ℕ → (ℕ → Bool) → List Turn → Content → List Answer → Type 0
+IsToldAlone keys u these turns old answers = (chosen : List Turn) × (left : Content) × (others : List Answer) × (told : List Answer)
+    × Only keys these turns chosen × Runs keys chosen old left others × Told keys u turns answers told × Told keys u chosen others told
+
+-- What an account is told in a run is what it is told where only those act that let it see something.
+abbrev pub Isolation : Type 0
+Isolation = (keys : Keys) (u : ℕ) (these : ℕ → Bool) (turns : List Turn) (old new : Content) (answers : List Answer)
+    → 1 ≤ length keys.seed → IsKept keys.seed old → All (λ turn. CanHappen turn.event) turns → LetsSee keys u these (state_of old) turns
+    → Runs keys turns old new answers → IsToldAlone keys u these turns old answers
+
+-- no other account has u as a reviewer, and none asks in a turn to add it as one
+pub record IsUnnamed (keys : Keys) (u : ℕ) (state : State) (turns : List Turn) : Type 0 where
+  pub reviewed : (s : ℕ) → is_reviewer s u state.reviewers ≡ true → owner_of s ≡ u
+  pub asked : All (λ turn. turn.unavailable ≡ false → AsksWithin keys u (λ w. w == u) turn.event) turns
+
+-- So an account that no other names a reviewer is told what it is told where the operator and it alone act.
+abbrev pub IsolationAlone : Type 0
+IsolationAlone = (keys : Keys) (u : ℕ) (turns : List Turn) (old new : Content) (answers : List Answer)
+    → 1 ≤ length keys.seed → IsKept keys.seed old → All (λ turn. CanHappen turn.event) turns → IsUnnamed keys u (state_of old) turns
+    → Runs keys turns old new answers → IsToldAlone keys u (λ w. w == u) turns old answers

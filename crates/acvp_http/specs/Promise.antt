@@ -1,0 +1,21 @@
+-- What is promised of a run: the headline and isolation, of one run.
+use Rattle.std.specs.Prelude.{◌≡◌, ℕ, ◌≤◌, List, ◌∷◌, ◌++◌, Bool, length}
+use Rattle.acvp_tables.specs.Content.{Content}
+use Rattle.acvp_tables.specs.State.{state_of}
+use Rattle.acvp_desk.specs.declared.keys.Keys.{Keys}
+use Rattle.acvp_http.specs.Event.{Answer, Turn}
+use Rattle.acvp_http.specs.Headline.{AnswersTurn, LeftBy}
+use Rattle.acvp_http.specs.Isolation.{IsToldAlone, LetsSee}
+use Rattle.acvp_http.specs.Serve.{GoesBy}
+
+-- Each turn is answered over the state that the accepted ones before it left; after the last one the records are what all
+-- of them left; and what each account is told is what it is told where only those act that let it see something.
+pub record IsPromised (keys : Keys) (turns : List Turn) (answers : List Answer) (old new : Content) : Type 0 where
+  pub told : (earlier later : List Turn) (turn : Turn) → turns ≡ earlier ++ turn ∷ later → AnswersTurn keys earlier turn (state_of old) answers
+  pub left : LeftBy keys turns (state_of old) (state_of new)
+  pub isolated : (u : ℕ) (these : ℕ → Bool) → 1 ≤ length keys.seed → LetsSee keys u these (state_of old) turns → IsToldAlone keys u these turns old answers
+
+module _ {T : Type 0} (stands : T → Content → Type 0) (is_live is_clean : T → Type 0) where
+  -- so much is promised of the turns that the tables went through, for every content that they stood for
+  abbrev pub GoesAsPromised : Keys → List Turn → List Answer → T → T → Type 0
+  GoesAsPromised keys turns answers old new = GoesBy stands is_live is_clean keys (λ c next. IsPromised keys turns answers c next) old new
