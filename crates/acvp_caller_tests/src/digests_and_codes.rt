@@ -1,13 +1,11 @@
 //! Digests and codes against values from outside: NIST's SHA-2 messages, RFC 4231, RFC 6238, and
 //! for the two truncated forms of SHA-512, for which RFC 4231 has none, Python's `hmac`.
 
+use crate::lines::{cut, number, optional};
 use acvp_mac::{
     HashFunction, HashName, Sha224, Sha256, Sha384, Sha512, Sha512_224, Sha512_256, accepted_step,
     hash, hash_pieces, hmac, step_of, totp,
 };
-use std::alloc::{AllocError, Global};
-use std::fmt::Write;
-use std::test::Fail;
 
 struct Message {
     name: HashName,
@@ -196,78 +194,102 @@ const TAGS: [Tag; 17] = [
 // The secret of 32 bytes that the reference code of RFC 6238, appendix A, takes for HMAC-SHA-256.
 const SECRET: &[u8] = b"12345678901234567890123456789012";
 
-fn hex(alloc: Global, bytes: &[u8]) -> Result<String, AllocError> {
-    let mut text = String::new(alloc);
-    for byte in bytes {
-        write!(text, "{byte:02x}")?;
+/// The digit of the last four bits of a byte.
+fn digit(byte: u8) -> u8 {
+    let bits = byte % 16;
+    if bits < 10 {
+        b'0' + bits
+    } else {
+        b'a' + (bits - 10)
     }
-    Ok(text)
+}
+
+/// Whether a text is the hex of bytes.
+fn is_hex(bytes: &[u8], text: &str) -> bool {
+    let mut digits = text.bytes();
+    for byte in bytes {
+        if digits.next() != Some(digit(byte / 16)) || digits.next() != Some(digit(*byte)) {
+            return false;
+        }
+    }
+    digits.next().is_none()
 }
 
 #[test]
-fn digests_are_those_of_nist(rt: HostRuntime) -> Result<(), Fail> {
+fn digests_are_those_of_nist(rt: HostRuntime) {
     for case in &MESSAGES {
         let digest = hash(case.name, case.bytes);
-        let text = hex(rt.alloc(), digest.as_slice())?;
-        assert_eq!(rt; text.as_str(), case.digest);
+        assert!(rt;
+            is_hex(digest.as_slice(), case.digest),
+            "not {}",
+            case.digest
+        );
     }
     let abc = hash(HashName::Sha256, b"abc");
-    let text = hex(rt.alloc(), abc.leftmost(4))?;
-    assert_eq!(rt; text.as_str(), "ba7816bf");
-    Ok(())
+    assert!(rt; is_hex(abc.leftmost(4), "ba7816bf"));
 }
 
 #[test]
-fn tags_are_those_of_rfc_4231(rt: HostRuntime) -> Result<(), Fail> {
+fn tags_are_those_of_rfc_4231(rt: HostRuntime) {
     for case in &TAGS {
         let tag = hmac(case.name, case.key, case.text);
-        let text = hex(rt.alloc(), tag.as_slice())?;
-        assert_eq!(rt; text.as_str(), case.tag);
+        assert!(rt; is_hex(tag.as_slice(), case.tag), "not {}", case.tag);
     }
-    Ok(())
 }
 
 #[test]
-fn a_tag_is_truncated_on_the_left(rt: HostRuntime) -> Result<(), Fail> {
+fn a_tag_is_truncated_on_the_left(rt: HostRuntime) {
     let tag = hmac(HashName::Sha256, &[0x0c; 20], b"Test With Truncation");
-    let text = hex(rt.alloc(), tag.leftmost(16))?;
-    assert_eq!(rt; text.as_str(), "a3b6167473100ee06e0c796c2955552b");
-    Ok(())
+    assert!(rt; is_hex(tag.leftmost(16), "a3b6167473100ee06e0c796c2955552b"));
 }
+
+/// Moments, their steps, and the codes of these.
+const CODES: &str = "\
+59 1 46119246
+1111111109 37037036 68084774
+1111111111 37037037 67062674
+1234567890 41152263 91819424
+2000000000 66666666 90698825
+20000000000 666666666 77737706
+";
 
 #[test]
 fn codes_are_those_of_rfc_6238(rt: HostRuntime) {
-    for (moment, step, code) in [
-        (59, 1, 46119246),
-        (1111111109, 37037036, 68084774),
-        (1111111111, 37037037, 67062674),
-        (1234567890, 41152263, 91819424),
-        (2000000000, 66666666, 90698825),
-        (20000000000, 666666666, 77737706),
-    ] {
-        assert_eq!(rt; step_of(moment), step);
-        assert_eq!(rt; totp(SECRET, step), code);
+    for line in CODES.lines() {
+        let (moment, rest) = cut(line);
+        let (step, code) = cut(rest);
+        let step = number(&rt, step);
+        let has_step = step_of(number(&rt, moment)) == step;
+        let has_code = u64::from(totp(SECRET, step)) == number(&rt, code);
+        assert!(rt; has_step && has_code, "{line}");
     }
 }
+
+/// The last step that was used, or none, the moment, and the step of the code of step 1 that is accepted, or none.
+const ACCEPTED: &str = "\
+- 29 -
+- 59 1
+- 89 1
+- 90 -
+0 59 1
+1 59 -
+2 89 -
+";
 
 #[test]
 fn a_code_lasts_two_steps_and_serves_once(rt: HostRuntime) {
-    for (last, moment, accepted) in [
-        (None, 29, None),
-        (None, 59, Some(1)),
-        (None, 89, Some(1)),
-        (None, 90, None),
-        (Some(0), 59, Some(1)),
-        (Some(1), 59, None),
-        (Some(2), 89, None),
-    ] {
-        assert_eq!(rt; accepted_step(SECRET, last, moment, 46119246), accepted);
+    for line in ACCEPTED.lines() {
+        let (last, rest) = cut(line);
+        let (moment, accepted) = cut(rest);
+        let last = optional(&rt, last);
+        let found = accepted_step(SECRET, last, number(&rt, moment), 46119246);
+        assert!(rt; found == optional(&rt, accepted), "{line}");
     }
-    assert_eq!(rt; accepted_step(SECRET, None, 59, 46119247), None);
+    assert!(rt; accepted_step(SECRET, None, 59, 46119247).is_none());
 }
 
 #[test]
-fn pieces_are_hashed_as_one_message(rt: HostRuntime) -> Result<(), Fail> {
+fn pieces_are_hashed_as_one_message(rt: HostRuntime) {
     for (name, digest) in [
         (
             HashName::Sha224,
@@ -279,9 +301,8 @@ fn pieces_are_hashed_as_one_message(rt: HostRuntime) -> Result<(), Fail> {
         ),
     ] {
         let found = hash_pieces(name, &[b"a", b"", b"bc"]);
-        assert_eq!(rt; hex(rt.alloc(), found.as_slice())?.as_str(), digest);
+        assert!(rt; is_hex(found.as_slice(), digest), "not {digest}");
     }
-    Ok(())
 }
 
 #[test]
@@ -291,10 +312,26 @@ fn a_running_hash_takes_pieces(rt: HostRuntime) {
     state.update(b"");
     state.update(b"bc");
     assert!(rt; state.finish() == hash(HashName::Sha256, b"abc"));
-    assert_eq!(rt; (Sha224::BLOCK, Sha224::OUT), (64, 28));
-    assert_eq!(rt; (Sha256::BLOCK, Sha256::OUT), (64, 32));
-    assert_eq!(rt; (Sha384::BLOCK, Sha384::OUT), (128, 48));
-    assert_eq!(rt; (Sha512::BLOCK, Sha512::OUT), (128, 64));
-    assert_eq!(rt; (Sha512_224::BLOCK, Sha512_224::OUT), (128, 28));
-    assert_eq!(rt; (Sha512_256::BLOCK, Sha512_256::OUT), (128, 32));
+}
+
+#[test]
+fn blocks_and_digests_have_their_sizes(rt: HostRuntime) {
+    let blocks = [
+        Sha224::BLOCK,
+        Sha256::BLOCK,
+        Sha384::BLOCK,
+        Sha512::BLOCK,
+        Sha512_224::BLOCK,
+        Sha512_256::BLOCK,
+    ];
+    let digests = [
+        Sha224::OUT,
+        Sha256::OUT,
+        Sha384::OUT,
+        Sha512::OUT,
+        Sha512_224::OUT,
+        Sha512_256::OUT,
+    ];
+    assert!(rt; blocks == [64, 64, 128, 128, 128, 128]);
+    assert!(rt; digests == [28, 32, 48, 64, 28, 32]);
 }

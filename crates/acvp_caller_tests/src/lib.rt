@@ -7,6 +7,8 @@ mod digests_and_codes;
 #[cfg(test)]
 mod key_rings;
 #[cfg(test)]
+mod lines;
+#[cfg(test)]
 mod policy;
 #[cfg(test)]
 mod tokens;

@@ -1,11 +1,13 @@
 //! The policy against the protocol's table of actions and rules, and against worked requests.
 
+use crate::lines::{cut, line_of, number};
 use acvp_policy::{
     Action, CertificationStatus, Facts, LoginFacts, Renewal, Resource, ReviewerSubject, RowSubject,
     Rule, SessionFacts, SessionSubject, SetFacts, SetSubject, Standing, Subject, Token, UserFacts,
     allows, decide, release,
 };
 use acvp_token::Claims;
+use std::alloc::Global;
 use std::process::Abort;
 
 /// How long a test session lives, in seconds: 30 days.
@@ -407,9 +409,43 @@ fn same_facts(one: &Facts, other: &Facts) -> bool {
         && same_subject(one.subject, other.subject)
 }
 
+/// The rules by their names, with their numbers.
+const NAMES: &str = "\
+HeadTooLarge 2
+NoRoute 9
+TokenMissing 11
+TokenMalformed 12
+TokenSignature 13
+TokenClaims 14
+TokenExpired 15
+AccountRefused 16
+AccountTokenNeeded 17
+SessionTokenNeeded 18
+OtherSession 19
+NoResource 20
+SessionCancelled 21
+SessionExpired 22
+SessionFrozen 23
+SetCancelled 24
+SetExpired 25
+AlreadySubmitted 26
+NotSubmitted 27
+NotSample 28
+SampleNotCertifiable 29
+NotPassed 30
+AccountFull 41
+LoginRefused 42
+RenewalRefused 43
+ClockOutOfRange 44
+BadPage 46
+ReviewersFull 47
+";
+
 /// The rule of a number.
-fn rule_of(number: u8) -> Rule {
+fn rule_of(rt: &impl Abort, number: u64) -> Rule {
     match number {
+        2 => Rule::HeadTooLarge,
+        9 => Rule::NoRoute,
         11 => Rule::TokenMissing,
         12 => Rule::TokenMalformed,
         13 => Rule::TokenSignature,
@@ -430,18 +466,104 @@ fn rule_of(number: u8) -> Rule {
         28 => Rule::NotSample,
         29 => Rule::SampleNotCertifiable,
         30 => Rule::NotPassed,
+        41 => Rule::AccountFull,
         42 => Rule::LoginRefused,
-        _ => Rule::RenewalRefused,
+        43 => Rule::RenewalRefused,
+        44 => Rule::ClockOutOfRange,
+        46 => Rule::BadPage,
+        _ => {
+            assert_eq!(rt; number, 47);
+            Rule::ReviewersFull
+        }
     }
 }
 
-/// The rule at a place of two lists of numbers, one after the other.
-fn rule_at(front: &[u8], back: &[u8], place: usize) -> Option<Rule> {
-    if place < front.len() {
-        return Some(rule_of(front[place]));
-    }
-    back.get(place - front.len()).copied().map(rule_of)
+/// The rule of a name.
+fn rule_named(rt: &impl Abort, name: &str) -> Rule {
+    let (_, behind) = line_of(rt, NAMES, name);
+    rule_of(rt, number(rt, behind))
 }
+
+/// The actions, in the order of the lines of `TABLE`.
+const ACTIONS: [Action; 31] = [
+    Action::Login,
+    Action::ReadAccount,
+    Action::ListAlgorithms,
+    Action::ReadAlgorithm,
+    Action::ListSessions,
+    Action::NewSession,
+    Action::ReadSession,
+    Action::Certify,
+    Action::CancelSession,
+    Action::SessionResults,
+    Action::ListSets,
+    Action::ReadSet,
+    Action::CancelSet,
+    Action::SetResults,
+    Action::Submit,
+    Action::Resubmit,
+    Action::Expected,
+    Action::ListVendors,
+    Action::NewVendor,
+    Action::ReadVendor,
+    Action::ListModules,
+    Action::NewModule,
+    Action::ReadModule,
+    Action::ListEnvironments,
+    Action::NewEnvironment,
+    Action::ReadEnvironment,
+    Action::ListRequests,
+    Action::ReadRequest,
+    Action::ListReviewers,
+    Action::AddReviewer,
+    Action::RemoveReviewer,
+];
+
+/// The table of the protocol: whether the token of the good facts is bound to the session, what each action asks of the
+/// token, and its rules on what the path names. Where an account's own lists and rows are meant, rule 20 is broken by
+/// facts on something else.
+const TABLE: &str = "\
+Login unbound login 42 43
+ReadAccount unbound read 20
+ListAlgorithms unbound read 20
+ReadAlgorithm unbound read 20
+ListSessions unbound read 20
+NewSession unbound change 20
+ReadSession bound session 20
+Certify bound session 20 21 22 23 29 30
+CancelSession bound session 20 21 23
+SessionResults bound session 20 21
+ListSets bound session 20
+ReadSet bound session 20 21 22 24 25
+CancelSet bound session 20 21 23 24
+SetResults bound session 20 21 24
+Submit bound session 20 21 22 23 24 25 26
+Resubmit bound session 20 21 22 23 24 25 27
+Expected bound session 20 21 24 28
+ListVendors bound read 20
+NewVendor unbound change 20
+ReadVendor unbound read 20
+ListModules bound read 20
+NewModule unbound change 20
+ReadModule bound read 20
+ListEnvironments unbound read 20
+NewEnvironment unbound change 20
+ReadEnvironment unbound read 20
+ListRequests unbound read 20
+ReadRequest bound read 20
+ListReviewers bound session 20
+AddReviewer bound session 20 21
+RemoveReviewer bound session 20 21
+";
+
+/// The rules on the caller: of a login, of which no token is asked; where any good token will do; where it must be
+/// bound to no session; and where it must be bound to the session of the path.
+const CALLERS: &str = "\
+login
+read 11 12 13 14 15 16
+change 11 12 13 14 15 16 17
+session 11 12 13 14 15 16 18 19
+";
 
 /// The rules next to one another that can't be broken by two facts, since one fact decides both: a token comes to one
 /// outcome, a token that is bound to no session is bound to no other, and what isn't there isn't cancelled.
@@ -454,501 +576,428 @@ const DECIDED_BY_ONE_FACT: &[(u8, u8)] = &[
     (20, 21),
 ];
 
-/// Each rule alone is answered, and so is each where the next is broken too. Where one fact decides both, the next one
-/// can't be broken beside it: the facts are then those on which the rule alone is broken.
-fn answers_the_first(
+/// The action of a name.
+fn action_named(rt: &impl Abort, name: &str) -> Action {
+    let (place, _) = line_of(rt, TABLE, name);
+    *ACTIONS.get(place).expect(rt, "an action")
+}
+
+/// The rule that is answered where this one alone is broken.
+fn refusal_alone(action: Action, bound: Option<u64>, rule: Rule) -> Option<Rule> {
+    refusal(action, &broken(good_facts(action, bound), rule))
+}
+
+/// Facts on which a rule and the next are broken.
+fn broken_both(action: Action, bound: Option<u64>, rule: Rule, next: Rule) -> Facts {
+    broken(broken(good_facts(action, bound), next), rule)
+}
+
+/// Whether those are the facts on which the first of the two alone is broken.
+fn is_same_alone(action: Action, bound: Option<u64>, rule: Rule, next: Rule) -> bool {
+    let both = broken_both(action, bound, rule, next);
+    let alone = broken(good_facts(action, bound), rule);
+    same_facts(&both, &alone)
+}
+
+/// A rule is answered where the next is broken too. Where one fact decides both, the next one can't be broken beside
+/// it: the facts are then those on which the rule alone is broken.
+fn stands_before(rt: &impl Abort, action: Action, bound: Option<u64>, rule: Rule, next: Rule) {
+    let by_one_fact = DECIDED_BY_ONE_FACT.contains(&(rule.number(), next.number()));
+    let is_same = is_same_alone(action, bound, rule, next);
+    assert!(rt;
+        is_same == by_one_fact,
+        "{action:?} {rule:?} beside {next:?}"
+    );
+    if !by_one_fact {
+        let found = refusal(action, &broken_both(action, bound, rule, next));
+        assert!(rt; found == Some(rule), "{action:?} {rule:?} before {next:?}");
+    }
+}
+
+/// Each rule of these numbers is answered alone, and the one before it where both are broken. The last of them.
+fn answers_each(
     rt: &impl Abort,
     action: Action,
     bound: Option<u64>,
-    front: &[u8],
-    back: &[u8],
-) {
-    let good = good_facts(action, bound);
-    assert_eq!(rt; refusal(action, &good), None, "{action:?}");
-    for place in 0..20 {
-        let Some(rule) = rule_at(front, back, place) else {
-            return;
-        };
-        let alone = broken(good, rule);
-        assert_eq!(rt; refusal(action, &alone), Some(rule), "{action:?} {rule:?}");
-        if let Some(next) = rule_at(front, back, place + 1) {
-            let both = broken(broken(good, next), rule);
-            let by_one_fact = DECIDED_BY_ONE_FACT.contains(&(rule.number(), next.number()));
-            assert_eq!(rt;
-                same_facts(&both, &alone),
-                by_one_fact,
-                "{action:?} {rule:?} beside {next:?}"
-            );
-            if !by_one_fact {
-                assert_eq!(rt;
-                    refusal(action, &both),
-                    Some(rule),
-                    "{action:?} {rule:?} before {next:?}"
-                );
-            }
+    before: Option<Rule>,
+    numbers: &str,
+) -> Option<Rule> {
+    let mut last = before;
+    for word in numbers.split_whitespace() {
+        let rule = rule_of(rt, number(rt, word));
+        let found = refusal_alone(action, bound, rule);
+        assert!(rt; found == Some(rule), "{action:?} {rule:?}");
+        if let Some(before) = last {
+            stands_before(rt, action, bound, before, rule);
         }
+        last = Some(rule);
+    }
+    last
+}
+
+/// What stands behind an action in its line of `TABLE`.
+fn answers_the_first(rt: &impl Abort, action: Action, asked: &str) {
+    let (bound, rest) = cut(asked);
+    let bound = if bound == "bound" {
+        Some(SESSION)
+    } else {
+        None
+    };
+    let found = refusal(action, &good_facts(action, bound));
+    assert!(rt; found.is_none(), "{action:?}");
+    let (caller, back) = cut(rest);
+    let (_, front) = line_of(rt, CALLERS, caller);
+    let last = answers_each(rt, action, bound, None, front);
+    answers_each(rt, action, bound, last, back);
+}
+
+/// Whether an action has this name.
+fn is_named(alloc: Global, action: Action, name: &str) -> bool {
+    match format!(in alloc; "{action:?}") {
+        Ok(text) => text.as_str() == name,
+        Err(_) => false,
     }
 }
 
-/// The rules on the caller of a login, of which no token is asked.
-const LOGIN: &[u8] = &[];
-
-/// The rules on the caller where any good token will do.
-const READ: &[u8] = &[11, 12, 13, 14, 15, 16];
-
-/// The rules on the caller where the token must be bound to no session.
-const CHANGE: &[u8] = &[11, 12, 13, 14, 15, 16, 17];
-
-/// The rules on the caller where the token must be bound to the session of the path.
-const SESSION_OF_TOKEN: &[u8] = &[11, 12, 13, 14, 15, 16, 18, 19];
-
-/// The table of the protocol: what each action asks of the token, and its rules on what the path names. Where an
-/// account's own lists and rows are meant, rule 20 is broken by facts on something else.
+/// Each rule alone is answered, and so is each where the next is broken too.
 #[test]
 fn each_action_has_its_rules_in_their_order(rt: HostRuntime) {
-    let table: [(Action, Option<u64>, &[u8], &[u8]); 31] = [
-        (Action::Login, None, LOGIN, &[42, 43]),
-        (Action::ReadAccount, None, READ, &[20]),
-        (Action::ListAlgorithms, None, READ, &[20]),
-        (Action::ReadAlgorithm, None, READ, &[20]),
-        (Action::ListSessions, None, READ, &[20]),
-        (Action::NewSession, None, CHANGE, &[20]),
-        (Action::ReadSession, Some(SESSION), SESSION_OF_TOKEN, &[20]),
-        (
-            Action::Certify,
-            Some(SESSION),
-            SESSION_OF_TOKEN,
-            &[20, 21, 22, 23, 29, 30],
-        ),
-        (
-            Action::CancelSession,
-            Some(SESSION),
-            SESSION_OF_TOKEN,
-            &[20, 21, 23],
-        ),
-        (
-            Action::SessionResults,
-            Some(SESSION),
-            SESSION_OF_TOKEN,
-            &[20, 21],
-        ),
-        (Action::ListSets, Some(SESSION), SESSION_OF_TOKEN, &[20]),
-        (
-            Action::ReadSet,
-            Some(SESSION),
-            SESSION_OF_TOKEN,
-            &[20, 21, 22, 24, 25],
-        ),
-        (
-            Action::CancelSet,
-            Some(SESSION),
-            SESSION_OF_TOKEN,
-            &[20, 21, 23, 24],
-        ),
-        (
-            Action::SetResults,
-            Some(SESSION),
-            SESSION_OF_TOKEN,
-            &[20, 21, 24],
-        ),
-        (
-            Action::Submit,
-            Some(SESSION),
-            SESSION_OF_TOKEN,
-            &[20, 21, 22, 23, 24, 25, 26],
-        ),
-        (
-            Action::Resubmit,
-            Some(SESSION),
-            SESSION_OF_TOKEN,
-            &[20, 21, 22, 23, 24, 25, 27],
-        ),
-        (
-            Action::Expected,
-            Some(SESSION),
-            SESSION_OF_TOKEN,
-            &[20, 21, 24, 28],
-        ),
-        (Action::ListVendors, Some(SESSION), READ, &[20]),
-        (Action::NewVendor, None, CHANGE, &[20]),
-        (Action::ReadVendor, None, READ, &[20]),
-        (Action::ListModules, Some(SESSION), READ, &[20]),
-        (Action::NewModule, None, CHANGE, &[20]),
-        (Action::ReadModule, Some(SESSION), READ, &[20]),
-        (Action::ListEnvironments, None, READ, &[20]),
-        (Action::NewEnvironment, None, CHANGE, &[20]),
-        (Action::ReadEnvironment, None, READ, &[20]),
-        (Action::ListRequests, None, READ, &[20]),
-        (Action::ReadRequest, Some(SESSION), READ, &[20]),
-        (
-            Action::ListReviewers,
-            Some(SESSION),
-            SESSION_OF_TOKEN,
-            &[20],
-        ),
-        (
-            Action::AddReviewer,
-            Some(SESSION),
-            SESSION_OF_TOKEN,
-            &[20, 21],
-        ),
-        (
-            Action::RemoveReviewer,
-            Some(SESSION),
-            SESSION_OF_TOKEN,
-            &[20, 21],
-        ),
-    ];
-    for (action, bound, front, back) in table {
-        answers_the_first(&rt, action, bound, front, back);
+    for line in TABLE.lines() {
+        let (name, asked) = cut(line);
+        let action = action_named(&rt, name);
+        assert!(rt; is_named(rt.alloc(), action, name), "{name}");
+        answers_the_first(&rt, action, asked);
     }
 }
 
-/// Facts on an enabled account.
-fn session_facts(token: Token, subject: Subject) -> Facts {
-    Facts {
-        moment: MOMENT,
-        token,
-        standing: Standing::Enabled,
-        reviewer: false,
-        subject,
+/// A session with what a word says: when it was created, whether it is cancelled, a sample or has passed, or how its
+/// certification stands.
+fn session_worded(rt: &impl Abort, session: SessionFacts, word: &str, number: u64) -> SessionFacts {
+    let mut worded = session;
+    match word {
+        "created" => worded.created = number,
+        "cancelled" => worded.cancelled = true,
+        "sample" => worded.sample = number == 1,
+        "passed" => worded.passed = number == 1,
+        "initial" => worded.certification = Some(CertificationStatus::Initial),
+        "approved" => worded.certification = Some(CertificationStatus::Approved),
+        _ => {
+            assert_eq!(rt; word, "rejected");
+            worded.certification = Some(CertificationStatus::Rejected);
+        }
+    }
+    worded
+}
+
+/// A login with what a word says: the step of its code, whether its user is enabled or there at all, and the token that
+/// it hands in: of the account alone, of the other account, or bound to a session.
+fn login_worded(rt: &impl Abort, login: LoginFacts, word: &str, number: u64) -> Subject {
+    let mut worded = login;
+    match word {
+        "step" => return on_login(true, Some(number), login.renewal),
+        "stepless" => return on_login(true, None, login.renewal),
+        "off" => return on_login(false, Some(1), login.renewal),
+        "nobody" => worded.user = None,
+        "unasked" => worded.renewal = Renewal::Unasked,
+        "renews_own" => worded.renewal = Renewal::Reads(claims_of(ACCOUNT, None)),
+        "renews_foreign" => worded.renewal = Renewal::Reads(claims_of(FOREIGN_ACCOUNT, None)),
+        _ => {
+            assert_eq!(rt; word, "renews");
+            worded.renewal = Renewal::Reads(claims_of(ACCOUNT, Some(number)));
+        }
+    }
+    Subject::Login(worded)
+}
+
+/// A set's facts with what a word says: that it has answers, or of its session.
+fn set_worded(rt: &impl Abort, set: SetFacts, word: &str, number: u64) -> SetFacts {
+    let mut worded = set;
+    if word == "answered" {
+        worded.answered = true;
+    } else {
+        worded.session = session_worded(rt, set.session, word, number);
+    }
+    worded
+}
+
+/// A subject with what a word says of what was found.
+fn subject_worded(rt: &impl Abort, subject: Subject, word: &str, number: u64) -> Subject {
+    match subject {
+        Subject::Login(login) => login_worded(rt, login, word, number),
+        Subject::Set(
+            SetSubject {
+                session,
+                set,
+                found: Some(found),
+            },
+        ) => Subject::Set(SetSubject {
+            session,
+            set,
+            found: Some(set_worded(rt, found, word, number)),
+        }),
+        Subject::Session(
+            SessionSubject {
+                session,
+                found: Some(found),
+            },
+        ) => Subject::Session(SessionSubject {
+            session,
+            found: Some(session_worded(rt, found, word, number)),
+        }),
+        _ => panic!(rt; "{word} of nothing found"),
     }
 }
 
-/// A path that names a session that was not found.
-fn absent_session(session: u64) -> Subject {
-    Subject::Session(SessionSubject {
-        session,
-        found: None,
-    })
+/// A token of the same account that is bound to a session.
+fn bound_to(token: Token, session: u64) -> Token {
+    match token {
+        Token::Verified(claims) => token_of(claims.account, Some(session)),
+        _ => token,
+    }
 }
+
+/// Facts with what a word says: the moment; a missing token, one of the account or of the other account that is bound
+/// to no session, or the same bound to one; how the account stands; that it is a reviewer; that what the path names is
+/// `gone`, the session of a number, or an account's `own_lists`; or what was found there.
+fn worded(rt: &impl Abort, facts: Facts, word: &str, number: u64) -> Facts {
+    let mut worded = facts;
+    match word {
+        "at" => worded.moment = number,
+        "missing" => worded.token = Token::Missing,
+        "unbound" => worded.token = token_of(ACCOUNT, None),
+        "foreign" => worded.token = token_of(FOREIGN_ACCOUNT, None),
+        "bound" => worded.token = bound_to(facts.token, number),
+        "absent" => worded.standing = Standing::Absent,
+        "disabled" => worded.standing = Standing::Disabled,
+        "reviewer" => worded.reviewer = true,
+        "gone" => worded.subject = not_found(facts.subject),
+        "own_lists" => worded.subject = Subject::Account,
+        "session" => {
+            worded.subject = Subject::Session(SessionSubject {
+                session: number,
+                found: Some(open_session()),
+            });
+        }
+        _ => worded.subject = subject_worded(rt, facts.subject, word, number),
+    }
+    worded
+}
+
+/// What words make of facts on which every test of an action holds, with a token that is bound to the session. Behind a
+/// word may stand `=` and a number.
+fn facts_of(rt: &impl Abort, action: Action, words: &str) -> Facts {
+    let mut facts = good_facts(action, Some(SESSION));
+    for word in words.split_whitespace() {
+        facts = match word.split_once('=') {
+            Some((word, given)) => worded(rt, facts, word, number(rt, given)),
+            None => worded(rt, facts, word, 0),
+        };
+    }
+    facts
+}
+
+/// The rule of a name, and none for `granted`.
+fn answer_named(rt: &impl Abort, name: &str) -> Option<Rule> {
+    if name == "granted" {
+        return None;
+    }
+    Some(rule_named(rt, name))
+}
+
+/// What is answered to an action on facts as words make them.
+fn answer_to(rt: &impl Abort, name: &str, words: &str) -> Option<Rule> {
+    let action = action_named(rt, name);
+    refusal(action, &facts_of(rt, action, words))
+}
+
+/// What a line says: the rule that is answered, or that there is a grant, to each of some actions, joined by commas, on
+/// facts as the words behind them make them.
+fn is_answered(rt: &impl Abort, line: &str) {
+    let (answer, rest) = cut(line);
+    let (actions, words) = cut(rest);
+    let wanted = answer_named(rt, answer);
+    for name in actions.split(',') {
+        let found = answer_to(rt, name, words);
+        assert!(rt; found == wanted, "{found:?} to {name}, where {line}");
+    }
+}
+
+/// What each of the lines says.
+fn answers(rt: &impl Abort, lines: &str) {
+    for line in lines.lines() {
+        is_answered(rt, line);
+    }
+}
+
+const FOREIGN: &str = "\
+OtherSession ReadSession bound=9000001 session=9000001
+OtherSession ReadSession bound=9000001 session=9000001 gone
+OtherSession ReadSession bound=9000001
+NoResource ReadSession bound=7000002 session=7000002 gone
+SessionTokenNeeded ReadSession unbound
+TokenMissing ReadSession missing
+";
 
 #[test]
 fn foreign_sessions_are_refused_whether_they_are_there_or_not(rt: HostRuntime) {
-    let foreign = token_of(ACCOUNT, Some(FOREIGN_SESSION));
-    let there = Subject::Session(SessionSubject {
-        session: FOREIGN_SESSION,
-        found: Some(open_session()),
-    });
-    for (token, subject, rule) in [
-        (foreign, there, Rule::OtherSession),
-        (foreign, absent_session(FOREIGN_SESSION), Rule::OtherSession),
-        (foreign, on_session(open_session()), Rule::OtherSession),
-        (
-            token_of(ACCOUNT, Some(OTHER_SESSION)),
-            absent_session(OTHER_SESSION),
-            Rule::NoResource,
-        ),
-        (
-            token_of(ACCOUNT, None),
-            on_session(open_session()),
-            Rule::SessionTokenNeeded,
-        ),
-        (
-            Token::Missing,
-            on_session(open_session()),
-            Rule::TokenMissing,
-        ),
-    ] {
-        assert_eq!(rt;
-            refusal(Action::ReadSession, &session_facts(token, subject)),
-            Some(rule)
-        );
-    }
+    answers(&rt, FOREIGN);
 }
+
+const WITHOUT_ACCOUNT: &str = "\
+AccountRefused ReadAccount unbound absent
+AccountRefused ReadAccount absent
+AccountRefused ReadAccount unbound disabled
+AccountRefused ReadAccount disabled
+";
 
 #[test]
 fn accounts_that_are_absent_or_disabled_are_refused(rt: HostRuntime) {
-    for standing in [Standing::Absent, Standing::Disabled] {
-        for bound in [None, Some(SESSION)] {
-            let facts = Facts {
-                standing,
-                ..session_facts(token_of(ACCOUNT, bound), Subject::Account)
-            };
-            assert_eq!(rt;
-                refusal(Action::ReadAccount, &facts),
-                Some(Rule::AccountRefused)
-            );
-        }
-    }
+    answers(&rt, WITHOUT_ACCOUNT);
 }
+
+const OF_SAMPLES: &str = "\
+NotSample Expected sample=0 answered
+granted Expected answered
+SampleNotCertifiable Certify sample=1
+NotPassed Certify passed=0
+granted Certify
+";
 
 #[test]
 fn expected_answers_and_certificates_of_samples(rt: HostRuntime) {
-    let bound = token_of(ACCOUNT, Some(SESSION));
-    let sample = SessionFacts {
-        sample: true,
-        ..open_session()
-    };
-    for (action, subject, rule) in [
-        (
-            Action::Expected,
-            on_set(open_session(), true),
-            Some(Rule::NotSample),
-        ),
-        (Action::Expected, on_set(sample, true), None),
-        (
-            Action::Certify,
-            on_session(sample),
-            Some(Rule::SampleNotCertifiable),
-        ),
-        (
-            Action::Certify,
-            on_session(SessionFacts {
-                passed: false,
-                ..open_session()
-            }),
-            Some(Rule::NotPassed),
-        ),
-        (Action::Certify, on_session(open_session()), None),
-    ] {
-        assert_eq!(rt; refusal(action, &session_facts(bound, subject)), rule);
-    }
+    answers(&rt, OF_SAMPLES);
 }
+
+/// The session and its sets begin at 60: the sets end at 604860, and the session at 2592060.
+const LIVES: &str = "\
+granted Submit at=604859
+SetExpired Submit at=604860
+SessionExpired Submit at=2592060
+granted Submit at=0
+granted Submit created=18446744073709551615 at=18446744073709551615
+granted Certify at=2592059
+SessionExpired Certify at=2592060
+granted Certify created=18446744073709551615 at=0
+SessionExpired Certify at=18446744073709551615
+";
 
 #[test]
 fn lives_end_at_their_last_second(rt: HostRuntime) {
-    let bound = token_of(ACCOUNT, Some(SESSION));
-    let late = SessionFacts {
-        created: u64::MAX,
-        ..open_session()
-    };
-    for (action, subject, moment, rule) in [
-        (
-            Action::Submit,
-            on_set(open_session(), false),
-            CREATED + SET_LIFE - 1,
-            None,
-        ),
-        (
-            Action::Submit,
-            on_set(open_session(), false),
-            CREATED + SET_LIFE,
-            Some(Rule::SetExpired),
-        ),
-        (
-            Action::Submit,
-            on_set(open_session(), false),
-            CREATED + SESSION_LIFE,
-            Some(Rule::SessionExpired),
-        ),
-        (Action::Submit, on_set(open_session(), false), 0, None),
-        (Action::Submit, on_set(late, false), u64::MAX, None),
-        (
-            Action::Certify,
-            on_session(open_session()),
-            CREATED + SESSION_LIFE - 1,
-            None,
-        ),
-        (
-            Action::Certify,
-            on_session(open_session()),
-            CREATED + SESSION_LIFE,
-            Some(Rule::SessionExpired),
-        ),
-        (Action::Certify, on_session(late), 0, None),
-        (
-            Action::Certify,
-            on_session(open_session()),
-            u64::MAX,
-            Some(Rule::SessionExpired),
-        ),
-    ] {
-        let facts = Facts {
-            moment,
-            ..session_facts(bound, subject)
-        };
-        assert_eq!(rt; refusal(action, &facts), rule, "{action:?} at {moment}");
-    }
+    answers(&rt, LIVES);
 }
+
+const CERTIFICATIONS: &str = "\
+granted Resubmit
+SessionFrozen Resubmit initial
+SessionFrozen Resubmit approved
+granted Resubmit rejected
+";
 
 #[test]
 fn certification_freezes_until_it_is_rejected(rt: HostRuntime) {
-    let bound = token_of(ACCOUNT, Some(SESSION));
-    for (certification, rule) in [
-        (None, None),
-        (
-            Some(CertificationStatus::Initial),
-            Some(Rule::SessionFrozen),
-        ),
-        (
-            Some(CertificationStatus::Approved),
-            Some(Rule::SessionFrozen),
-        ),
-        (Some(CertificationStatus::Rejected), None),
-    ] {
-        let session = SessionFacts {
-            certification,
-            ..open_session()
-        };
-        let facts = session_facts(bound, on_set(session, true));
-        assert_eq!(rt; refusal(Action::Resubmit, &facts), rule);
-    }
+    answers(&rt, CERTIFICATIONS);
 }
 
-/// What is decided for the other account, with a token that is bound to a session or not, of the session's reviewer or
-/// of none.
-fn refusal_of_foreign(action: Action, bound: Option<u64>, reviewer: bool) -> Option<Rule> {
-    let facts = Facts {
-        token: token_of(FOREIGN_ACCOUNT, bound),
-        reviewer,
-        ..good_facts(action, None)
-    };
-    refusal(action, &facts)
-}
+const REVIEWERS: &str = "\
+granted SessionResults,SetResults foreign reviewer
+OtherSession SessionResults,SetResults foreign bound=9000001 reviewer
+OtherSession SessionResults,SetResults foreign bound=7000001 reviewer
+SessionTokenNeeded SessionResults,SetResults foreign
+SessionTokenNeeded ReadSession,Certify,CancelSession,ListSets,ReadSet,CancelSet foreign reviewer
+SessionTokenNeeded Submit,Resubmit,Expected,ListReviewers,AddReviewer,RemoveReviewer foreign reviewer
+";
 
 #[test]
 fn reviewers_read_results_and_nothing_else(rt: HostRuntime) {
-    for action in [Action::SessionResults, Action::SetResults] {
-        let others = Some(Rule::OtherSession);
-        assert_eq!(rt; refusal_of_foreign(action, None, true), None);
-        assert_eq!(rt;
-            refusal_of_foreign(action, Some(FOREIGN_SESSION), true),
-            others
-        );
-        assert_eq!(rt; refusal_of_foreign(action, Some(SESSION), true), others);
-    }
-    let needed = Some(Rule::SessionTokenNeeded);
-    for action in [Action::SessionResults, Action::SetResults] {
-        assert_eq!(rt; refusal_of_foreign(action, None, false), needed);
-    }
-    for action in [
-        Action::ReadSession,
-        Action::Certify,
-        Action::CancelSession,
-        Action::ListSets,
-        Action::ReadSet,
-        Action::CancelSet,
-        Action::Submit,
-        Action::Resubmit,
-        Action::Expected,
-        Action::ListReviewers,
-        Action::AddReviewer,
-        Action::RemoveReviewer,
-    ] {
-        assert_eq!(rt;
-            refusal_of_foreign(action, None, true),
-            needed,
-            "{action:?}"
-        );
-    }
+    answers(&rt, REVIEWERS);
 }
+
+const REVIEWED: &str = "\
+SessionCancelled SessionResults foreign reviewer cancelled
+NoResource SessionResults foreign reviewer gone
+NoResource SessionResults foreign reviewer own_lists
+";
 
 #[test]
 fn reviewers_of_what_is_cancelled_or_absent_are_told_so(rt: HostRuntime) {
-    let cancelled = SessionFacts {
-        cancelled: true,
-        ..open_session()
-    };
-    for (subject, rule) in [
-        (on_session(cancelled), Rule::SessionCancelled),
-        (absent_session(SESSION), Rule::NoResource),
-        (Subject::Account, Rule::NoResource),
-    ] {
-        let facts = Facts {
-            reviewer: true,
-            ..session_facts(token_of(FOREIGN_ACCOUNT, None), subject)
-        };
-        assert_eq!(rt; refusal(Action::SessionResults, &facts), Some(rule));
-    }
+    answers(&rt, REVIEWED);
 }
+
+const LOGINS: &str = "\
+granted Login missing absent unasked step=1
+LoginRefused Login missing absent unasked stepless
+LoginRefused Login missing absent unasked off
+granted Login missing absent renews=7000001 step=1
+granted Login missing absent renews_own step=1
+RenewalRefused Login missing absent renews_foreign step=1
+RenewalRefused Login missing absent renews=9000001 step=1
+LoginRefused Login missing unasked nobody
+";
 
 #[test]
 fn logins_take_their_own_tokens_alone(rt: HostRuntime) {
-    for (user_enabled, step, renewal, rule) in [
-        (true, Some(1), Renewal::Unasked, None),
-        (true, None, Renewal::Unasked, Some(Rule::LoginRefused)),
-        (false, Some(1), Renewal::Unasked, Some(Rule::LoginRefused)),
-        (
-            true,
-            Some(1),
-            Renewal::Reads(claims_of(ACCOUNT, Some(SESSION))),
-            None,
-        ),
-        (
-            true,
-            Some(1),
-            Renewal::Reads(claims_of(ACCOUNT, None)),
-            None,
-        ),
-        (
-            true,
-            Some(1),
-            Renewal::Reads(claims_of(FOREIGN_ACCOUNT, None)),
-            Some(Rule::RenewalRefused),
-        ),
-        (
-            true,
-            Some(1),
-            Renewal::Reads(claims_of(ACCOUNT, Some(FOREIGN_SESSION))),
-            Some(Rule::RenewalRefused),
-        ),
-    ] {
-        let facts = Facts {
-            standing: Standing::Absent,
-            ..session_facts(Token::Missing, on_login(user_enabled, step, renewal))
-        };
-        assert_eq!(rt; refusal(Action::Login, &facts), rule);
+    answers(&rt, LOGINS);
+}
+
+/// Whether a grant is leave for a resource of the account, for the same of the other account, and for another set; none
+/// where there is no grant.
+fn allowed(action: Action, facts: &Facts, resource: Resource) -> Option<[bool; 3]> {
+    match decide(action, facts) {
+        Ok(grant) => {
+            let own = allows(&grant, ACCOUNT, resource);
+            let foreign = allows(&grant, FOREIGN_ACCOUNT, resource);
+            let other = allows(&grant, ACCOUNT, Resource::Set(SESSION, SET + 1));
+            release(grant);
+            Some([own, foreign, other])
+        }
+        Err(_) => None,
     }
-    let nobody = Subject::Login(LoginFacts {
-        user: None,
-        renewal: Renewal::Unasked,
-    });
-    assert_eq!(rt;
-        refusal(Action::Login, &session_facts(Token::Missing, nobody)),
-        Some(Rule::LoginRefused)
-    );
 }
 
 #[test]
 fn grants_are_for_one_resource_of_one_account(rt: HostRuntime) {
-    let set = session_facts(
-        token_of(ACCOUNT, Some(SESSION)),
-        on_set(open_session(), false),
-    );
-    let login = session_facts(Token::Missing, on_login(true, Some(1), Renewal::Unasked));
-    let removal = session_facts(
-        token_of(ACCOUNT, Some(SESSION)),
-        on_reviewer(open_session()),
-    );
     let named = Resource::Reviewer(SESSION, FOREIGN_ACCOUNT as u64);
-    for (action, facts, resource) in [
-        (Action::RemoveReviewer, removal, named),
-        (Action::Submit, set, Resource::Set(SESSION, SET)),
-        (Action::Login, login, Resource::Account),
+    for (action, words, resource) in [
+        (Action::RemoveReviewer, "", named),
+        (Action::Submit, "", Resource::Set(SESSION, SET)),
+        (Action::Login, "missing unasked step=1", Resource::Account),
     ] {
-        match decide(action, &facts) {
-            Ok(grant) => {
-                assert!(rt; allows(&grant, ACCOUNT, resource));
-                assert!(rt; !allows(&grant, FOREIGN_ACCOUNT, resource));
-                assert!(rt; !allows(&grant, ACCOUNT, Resource::Set(SESSION, SET + 1)));
-                release(grant);
-            }
-            Err(rule) => assert_eq!(rt; Some(rule), None),
-        }
+        let found = allowed(action, &facts_of(&rt, action, words), resource);
+        assert!(rt; found == Some([true, false, false]), "{action:?}");
     }
+}
+
+/// Rules, each with its number, its status and its word.
+const OF_RULES: &str = "\
+HeadTooLarge 2 431 headTooLarge
+NoRoute 9 404 noRoute
+TokenMissing 11 401 tokenMissing
+OtherSession 19 403 otherSession
+NoResource 20 404 noResource
+SetExpired 25 409 setExpired
+NotSample 28 403 notSample
+SampleNotCertifiable 29 403 sampleNotCertifiable
+NotPassed 30 409 notPassed
+AccountFull 41 403 accountFull
+LoginRefused 42 403 loginRefused
+ClockOutOfRange 44 503 clockOutOfRange
+BadPage 46 400 badPage
+ReviewersFull 47 403 reviewersFull
+";
+
+/// Whether a rule has the number, the status and the word that words say.
+fn has_words(rt: &impl Abort, rule: Rule, words: &str) -> bool {
+    let (given, rest) = cut(words);
+    let (status, word) = cut(rest);
+    u64::from(rule.number()) == number(rt, given)
+        && u64::from(rule.status()) == number(rt, status)
+        && rule.word() == word
 }
 
 #[test]
 fn rules_have_the_words_and_statuses_of_the_protocol(rt: HostRuntime) {
-    for (rule, number, status, word) in [
-        (Rule::HeadTooLarge, 2, 431, "headTooLarge"),
-        (Rule::NoRoute, 9, 404, "noRoute"),
-        (Rule::TokenMissing, 11, 401, "tokenMissing"),
-        (Rule::OtherSession, 19, 403, "otherSession"),
-        (Rule::NoResource, 20, 404, "noResource"),
-        (Rule::SetExpired, 25, 409, "setExpired"),
-        (Rule::NotSample, 28, 403, "notSample"),
-        (Rule::SampleNotCertifiable, 29, 403, "sampleNotCertifiable"),
-        (Rule::NotPassed, 30, 409, "notPassed"),
-        (Rule::AccountFull, 41, 403, "accountFull"),
-        (Rule::LoginRefused, 42, 403, "loginRefused"),
-        (Rule::ClockOutOfRange, 44, 503, "clockOutOfRange"),
-        (Rule::BadPage, 46, 400, "badPage"),
-        (Rule::ReviewersFull, 47, 403, "reviewersFull"),
-    ] {
-        assert_eq!(rt; rule.number(), number);
-        assert_eq!(rt; rule.status(), status);
-        assert_eq!(rt; rule.word(), word);
+    for line in OF_RULES.lines() {
+        let (name, words) = cut(line);
+        assert!(rt; has_words(&rt, rule_named(&rt, name), words), "{line}");
     }
 }

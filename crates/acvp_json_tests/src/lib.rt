@@ -9,8 +9,12 @@ mod answers;
 #[cfg(test)]
 mod bodies;
 #[cfg(test)]
+mod lines;
+#[cfg(test)]
 mod registered;
 #[cfg(test)]
 mod registry;
 #[cfg(test)]
 mod replies;
+#[cfg(test)]
+mod shown;

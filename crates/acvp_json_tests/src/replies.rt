@@ -2,14 +2,13 @@
 //! seed, read by the rules of the choice of tests, and digests and HMACs are those of Python's `hashlib` and `hmac`;
 //! the texts of results are those of Python's `json`, with sorted members.
 
-use acvp_answers::{Answers, Disposition, Verdict, standard};
+use crate::shown::shows;
+use acvp_answers::{Answers, standard};
 use acvp_caps::{CapFault, Capability};
 use acvp_gen::{Prompts, prompts};
 use acvp_json::{ReplyObject, write_reply};
 use serde_json::Value;
 use std::alloc::Global;
-use std::process::Abort;
-use std::test::Fail;
 
 const HASH: &str = r#"{"algorithm":"SHA2-256","revision":"1.0","messageLength":[8]}"#;
 
@@ -106,148 +105,132 @@ fn prompts_of(alloc: Global, vs: u64, capability: &str) -> Result<Prompts, CapFa
     prompts(alloc, &[0; 32], vs, &capability).map_err(|_| CapFault::Memory)
 }
 
-/// The text of a reply.
-fn text_of<'a>(alloc: Global, reply: &'a ReplyObject<'a>) -> Result<String, Fail> {
-    Ok(String::from_utf8(write_reply(alloc, reply)?).map_err(|_| "no UTF-8")?)
-}
-
-/// That a reply is written as this text.
-pub(crate) fn assert_shown<'a>(
-    rt: &impl Abort,
-    alloc: Global,
-    reply: &'a ReplyObject<'a>,
-    wanted: &str,
-) {
+/// The text of a reply; none where memory runs out.
+fn text_of<'a>(alloc: Global, reply: &'a ReplyObject<'a>) -> Option<String> {
     match write_reply(alloc, reply) {
-        Ok(text) => assert!(rt; text.as_slice() == wanted.as_bytes(), "not {wanted}"),
-        Err(_) => assert!(rt; false, "no memory for {wanted}"),
+        Ok(text) => String::from_utf8(text).ok(),
+        Err(_) => None,
     }
 }
 
-fn set_text(alloc: Global, vs: u64, capability: &str, sample: bool) -> Result<String, Fail> {
-    let prompts = prompts_of(alloc, vs, capability)?;
-    let prompts = &prompts;
-    text_of(alloc, &ReplyObject::ReadSet { sample, prompts })
+/// The text of a vector set.
+fn set_text(alloc: Global, vs: u64, capability: &str, sample: bool) -> Option<String> {
+    match prompts_of(alloc, vs, capability) {
+        Ok(prompts) => text_of(
+            alloc,
+            &ReplyObject::ReadSet {
+                sample,
+                prompts: &prompts,
+            },
+        ),
+        Err(_) => None,
+    }
 }
 
-fn expected_text(alloc: Global, capability: &str) -> Result<String, Fail> {
-    let prompts = prompts_of(alloc, 0, capability)?;
-    let standard = standard(alloc, &prompts)?;
-    let (prompts, standard) = (&prompts, &standard);
+/// The text of answers as the expected ones.
+fn answers_text(alloc: Global, prompts: &Prompts, standard: &Answers) -> Option<String> {
     text_of(alloc, &ReplyObject::Expected { prompts, standard })
 }
 
-#[test]
-fn vector_sets_of_hash_functions_and_hmac(rt: HostRuntime) -> Result<(), Fail> {
-    for (vs, capability, sample, wanted) in [
-        (0, HASH, true, HASH_SET),
-        (700000101, HASH, false, LATER_HASH_SET),
-        (0, HMAC, false, HMAC_SET),
-    ] {
-        let text = set_text(rt.alloc(), vs, capability, sample)?;
-        assert_eq!(rt; text.as_str(), wanted);
+/// The text of the standard's answers to prompts.
+fn standard_text(alloc: Global, prompts: &Prompts) -> Option<String> {
+    match standard(alloc, prompts) {
+        Ok(right) => answers_text(alloc, prompts, &right),
+        Err(_) => None,
     }
-    Ok(())
 }
 
-#[test]
-fn a_vector_set_with_a_monte_carlo_test(rt: HostRuntime) -> Result<(), Fail> {
-    let text = set_text(rt.alloc(), 0, MONTE_CARLO, false)?;
-    assert!(rt; text.as_str().ends_with(MONTE_CARLO_SET), "{text}");
-    Ok(())
-}
-
-#[test]
-fn expected_digests_and_macs(rt: HostRuntime) -> Result<(), Fail> {
-    for (capability, wanted) in [(HASH, HASH_EXPECTED), (HMAC, HMAC_EXPECTED)] {
-        assert_eq!(rt; expected_text(rt.alloc(), capability)?.as_str(), wanted);
+/// The text of the expected answers to a capability's vector set.
+fn expected_text(alloc: Global, capability: &str) -> Option<String> {
+    match prompts_of(alloc, 0, capability) {
+        Ok(prompts) => standard_text(alloc, &prompts),
+        Err(_) => None,
     }
-    Ok(())
+}
+
+/// The same where no test is answered.
+fn unanswered_text(alloc: Global, capability: &str) -> Option<String> {
+    match prompts_of(alloc, 0, capability) {
+        Ok(prompts) => answers_text(alloc, &prompts, &Answers::new(alloc)),
+        Err(_) => None,
+    }
+}
+
+/// Whether there is a text, and it is this one.
+fn is_text(text: Option<String>, wanted: &str) -> bool {
+    text.is_some_and(|text| text.as_str() == wanted)
+}
+
+/// Whether there is a text, and it ends so.
+fn has_end(text: Option<String>, end: &str) -> bool {
+    text.is_some_and(|text| text.as_str().ends_with(end))
 }
 
 #[test]
-fn a_hundred_expected_checkpoints(rt: HostRuntime) -> Result<(), Fail> {
-    let alloc = rt.alloc();
-    let text = expected_text(alloc, MONTE_CARLO)?;
-    assert!(rt; text.as_str().contains(FIRST_CHECKPOINT), "{text}");
-    assert!(rt; text.as_str().ends_with(LAST_CHECKPOINT), "{text}");
-    match Value::from_str(alloc, text.as_str()) {
+fn vector_sets_of_hash_functions_and_hmac(rt: HostRuntime) {
+    assert!(rt; is_text(set_text(rt.alloc(), 0, HASH, true), HASH_SET));
+    assert!(rt; is_text(set_text(rt.alloc(), 700000101, HASH, false), LATER_HASH_SET));
+    assert!(rt; is_text(set_text(rt.alloc(), 0, HMAC, false), HMAC_SET));
+}
+
+#[test]
+fn a_vector_set_with_a_monte_carlo_test(rt: HostRuntime) {
+    assert!(rt; has_end(set_text(rt.alloc(), 0, MONTE_CARLO, false), MONTE_CARLO_SET));
+}
+
+#[test]
+fn expected_digests_and_macs(rt: HostRuntime) {
+    assert!(rt; is_text(expected_text(rt.alloc(), HASH), HASH_EXPECTED));
+    assert!(rt; is_text(expected_text(rt.alloc(), HMAC), HMAC_EXPECTED));
+}
+
+/// How many checkpoints a text of expected answers has.
+fn count_of_checkpoints(alloc: Global, text: &str) -> Option<usize> {
+    match Value::from_str(alloc, text) {
         Ok(body) => {
             let checkpoints = body.pointer("/1/testGroups/1/tests/0/resultsArray");
-            let count = checkpoints.and_then(Value::as_array).map(|all| all.len());
-            assert_eq!(rt; count, Some(100));
+            checkpoints.and_then(Value::as_array).map(|all| all.len())
         }
-        Err(_) => assert!(rt; false),
+        Err(_) => None,
     }
-    Ok(())
+}
+
+/// Whether a text has the first checkpoint and the last one, and a hundred of them.
+fn has_checkpoints(alloc: Global, text: &str) -> bool {
+    text.contains(FIRST_CHECKPOINT)
+        && text.ends_with(LAST_CHECKPOINT)
+        && count_of_checkpoints(alloc, text) == Some(100)
+}
+
+#[test]
+fn a_hundred_expected_checkpoints(rt: HostRuntime) {
+    let has_them = match expected_text(rt.alloc(), MONTE_CARLO) {
+        Some(text) => has_checkpoints(rt.alloc(), text.as_str()),
+        None => false,
+    };
+    assert!(rt; has_them);
 }
 
 /// Where no test is answered, each digest and HMAC is the empty text, and there are no checkpoints.
 #[test]
-fn expected_answers_that_are_not_there(rt: HostRuntime) -> Result<(), Fail> {
-    let alloc = rt.alloc();
-    for (capability, test) in [
-        (HASH, "{\"md\":\"\",\"tcId\":17}],\"tgId\":1}],\"vsId\":0}]"),
-        (HMAC, "{\"mac\":\"\",\"tcId\":9}],\"tgId\":3}],\"vsId\":0}]"),
-        (
-            MONTE_CARLO,
-            "{\"tests\":[{\"resultsArray\":[],\"tcId\":19}],\"tgId\":2}],\"vsId\":0}]",
-        ),
-    ] {
-        let prompts = prompts_of(alloc, 0, capability)?;
-        let standard = Answers::new(alloc);
-        let (prompts, standard) = (&prompts, &standard);
-        let text = text_of(alloc, &ReplyObject::Expected { prompts, standard })?;
-        assert!(rt; text.as_str().ends_with(test), "{text}");
-    }
-    Ok(())
+fn expected_answers_that_are_not_there(rt: HostRuntime) {
+    let hash = r#"{"md":"","tcId":17}],"tgId":1}],"vsId":0}]"#;
+    assert!(rt; has_end(unanswered_text(rt.alloc(), HASH), hash));
+    let hmac = r#"{"mac":"","tcId":9}],"tgId":3}],"vsId":0}]"#;
+    assert!(rt; has_end(unanswered_text(rt.alloc(), HMAC), hmac));
+    let monte_carlo = r#"{"tests":[{"resultsArray":[],"tcId":19}],"tgId":2}],"vsId":0}]"#;
+    assert!(rt; has_end(unanswered_text(rt.alloc(), MONTE_CARLO), monte_carlo));
 }
+
+const VERDICTS: &str =
+    r#"SetResults 700000101 passed passed = [{"acvVersion":"1.0"},{"disposition":"passed","tests":[{"result":"passed","tcId":1}],"vsId":700000101}]
+SetResults 700000101 fail passed fail missing = [{"acvVersion":"1.0"},{"disposition":"fail","tests":[{"result":"passed","tcId":1},{"result":"fail","tcId":2},{"result":"missing","tcId":3}],"vsId":700000101}]
+SetResults 700000101 missing missing passed = [{"acvVersion":"1.0"},{"disposition":"missing","tests":[{"result":"missing","tcId":1},{"result":"passed","tcId":2}],"vsId":700000101}]
+SetResults 999999999920 expired missing missing missing = [{"acvVersion":"1.0"},{"disposition":"expired","tests":[{"result":"missing","tcId":1},{"result":"missing","tcId":2},{"result":"missing","tcId":3}],"vsId":999999999920}]
+SetResults 0 unreceived = [{"acvVersion":"1.0"},{"disposition":"unreceived","tests":[],"vsId":0}]
+"#;
 
 #[test]
 fn tests_have_their_verdicts_by_their_numbers(rt: HostRuntime) {
-    for (vs, disposition, verdicts, wanted) in [
-        (
-            700000101,
-            Disposition::Passed,
-            [Verdict::Passed].as_slice(),
-            r#"[{"acvVersion":"1.0"},{"disposition":"passed","tests":[{"result":"passed","tcId":1}],"vsId":700000101}]"#,
-        ),
-        (
-            700000101,
-            Disposition::Fail,
-            &[Verdict::Passed, Verdict::Fail, Verdict::Missing],
-            "[{\"acvVersion\":\"1.0\"},{\"disposition\":\"fail\",\
-             \"tests\":[{\"result\":\"passed\",\"tcId\":1},{\"result\":\"fail\",\"tcId\":2},\
-             {\"result\":\"missing\",\"tcId\":3}],\"vsId\":700000101}]",
-        ),
-        (
-            700000101,
-            Disposition::Missing,
-            &[Verdict::Missing, Verdict::Passed],
-            "[{\"acvVersion\":\"1.0\"},{\"disposition\":\"missing\",\
-             \"tests\":[{\"result\":\"missing\",\"tcId\":1},{\"result\":\"passed\",\"tcId\":2}],\
-             \"vsId\":700000101}]",
-        ),
-        (
-            999999999920,
-            Disposition::Expired,
-            &[Verdict::Missing, Verdict::Missing, Verdict::Missing],
-            "[{\"acvVersion\":\"1.0\"},{\"disposition\":\"expired\",\
-             \"tests\":[{\"result\":\"missing\",\"tcId\":1},{\"result\":\"missing\",\"tcId\":2},\
-             {\"result\":\"missing\",\"tcId\":3}],\"vsId\":999999999920}]",
-        ),
-        (
-            0,
-            Disposition::Unreceived,
-            &[],
-            r#"[{"acvVersion":"1.0"},{"disposition":"unreceived","tests":[],"vsId":0}]"#,
-        ),
-    ] {
-        let reply = ReplyObject::SetResults {
-            vs,
-            disposition,
-            verdicts,
-        };
-        assert_shown(&rt, rt.alloc(), &reply, wanted);
-    }
+    shows(&rt, rt.alloc(), VERDICTS);
 }

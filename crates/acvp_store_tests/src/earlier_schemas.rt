@@ -45,10 +45,10 @@ const OF_REQUEST: &str =
     r#"INSERT INTO request VALUES (7000001, 7, 1, '{"name":"V"}', 1, 7000001)"#;
 
 /// The session's vector sets as schema 1 keeps them, one with answers and one without.
-const OLD_ANSWERED: &str =
+pub const OLD_ANSWERED: &str =
     r#"INSERT INTO vset VALUES (700000101, 7000001, '{"algorithm":"SHA2-256","messageLength":[8],"revision":"1.0"}', 0, '[[1,["ab"]]]', 'p', 2)"#;
 
-const OLD_UNANSWERED: &str =
+pub const OLD_UNANSWERED: &str =
     r#"INSERT INTO vset VALUES (700000102, 7000001, '{"algorithm":"SHA2-512","messageLength":[8],"revision":"1.0"}', 0, NULL, NULL, NULL)"#;
 
 /// The same as schema 2 keeps them, with the epochs 3 and 4.
@@ -57,9 +57,6 @@ const ANSWERED: &str =
 
 const UNANSWERED: &str =
     r#"INSERT INTO vset2 VALUES (700000102, 7000001, '{"algorithm":"SHA2-512","messageLength":[8],"revision":"1.0"}', 0, NULL, NULL, NULL, 4)"#;
-
-/// The vector sets of schema 1 alone, for tables that are there.
-pub const SETS_OF_THE_FIRST: &[&str] = &[OLD_ANSWERED, OLD_UNANSWERED];
 
 /// A database of schema 1.
 pub const FIRST_SCHEMA: &[&str] = &[

@@ -5,9 +5,17 @@
 #[cfg(test)]
 mod cases;
 #[cfg(test)]
+mod changes;
+#[cfg(test)]
 mod databases;
 pub mod earlier_schemas;
 #[cfg(test)]
 mod migrations;
 #[cfg(test)]
 mod over_both_forms;
+#[cfg(test)]
+mod reads;
+#[cfg(test)]
+mod steps;
+#[cfg(test)]
+mod words;
