@@ -1,6 +1,11 @@
 #!/usr/bin/env python3
 """Runs a script with each growth of memory refused in turn.
 
+    checks/each-growth-refused.py SHIM FAULT COMMAND..
+
+COMMAND runs the server in script mode under a token key and a seed of zeros, and FAULT is what it writes to its standard
+error where memory ends the run. SHIM is the library of refuse_growth.c.
+
 The right answers are those of the small server below, which is written from the protocol and not from the program.
 With nothing refused every answer is right, and none is `unavailable`. With one growth refused, the event that was
 being handled may be answered `unavailable`, and has then changed nothing: every other answer is right, and so is
@@ -17,7 +22,7 @@ from chacha20 import Words
 from laboratory import compact, signed
 from validation import one_time_code
 
-PROGRAM, SHIM = sys.argv[1:3]
+SHIM, FAULT, COMMAND = sys.argv[1], sys.argv[2].encode(), sys.argv[3:]
 TOKEN_KEY, SEED = bytes(32), bytes(32)
 ANOTHER_KEY = bytes(range(32))
 SECRET = b"12345678901234567890123456789012"
@@ -182,6 +187,38 @@ def session_results(accounts, moment):
     return 200, "OK", {"passed": passed is True, "results": [{"status": status, "vectorSetUrl": SET_URL}]}
 
 
+def new_vendor(accounts, moment):
+    accounts["requests"] = accounts.get("requests", []) + ["initial"]
+    return 200, "OK", {"status": "initial", "url": f"/acvp/v1/requests/{7000000 + len(accounts['requests'])}"}
+
+
+def approve(number):
+    def answer(accounts):
+        place = number - 7000001
+        if place >= len(accounts.get("requests", [])):
+            return b"unknown"
+        if accounts["requests"][place] != "initial":
+            return b"notInitial"
+        accounts["requests"][place] = "approved"
+        return b"done"
+    return order("approval", b"request-approve 0 %d" % number, answer)
+
+
+def vendor(accounts, moment):
+    if "approved" not in accounts.get("requests", []):
+        return 404, "Not Found", {"error": "noResource"}
+    return 200, "OK", {"name": "V", "url": "/acvp/v1/vendors/7000001"}
+
+
+def vendor_request(accounts, moment):
+    url = "/acvp/v1/requests/7000001"
+    if "requests" not in accounts:
+        return 404, "Not Found", {"error": "noResource"}
+    if "approved" not in accounts.get("requests", []):
+        return 200, "OK", {"status": "initial", "url": url}
+    return 200, "OK", {"approvedUrl": "/acvp/v1/vendors/7000001", "status": "approved", "url": url}
+
+
 def sent(tests):
     return {"testGroups": [{"tests": tests, "tgId": 1}], "vsId": SET}
 
@@ -220,13 +257,20 @@ EVENTS = [
     called("resubmission", 100065, "PUT", f"{SET_URL}/results", submitted(False, True), sent(ANSWERS)),
     called("results", 100066, "GET", f"{SET_URL}/results", results),
     called("session's results", 100067, "GET", f"{SESSION_URL}/results", session_results),
+    approve(7000001),
+    called("new vendor", 100068, "POST", "/acvp/v1/vendors", new_vendor, {"name": "V"}, bound=False),
+    called("request", 100069, "GET", "/acvp/v1/requests/7000001", vendor_request, bound=False),
+    called("vendor", 100069, "GET", "/acvp/v1/vendors/7000001", vendor, bound=False),
+    approve(7000001), approve(7000001),
+    called("request", 100070, "GET", "/acvp/v1/requests/7000001", vendor_request, bound=False),
+    called("vendor", 100070, "GET", "/acvp/v1/vendors/7000001", vendor, bound=False),
     disable(7), login("login", 100080, 3336), login("login", 100081, 3336, number=8),
 ]
 # What no memory can be refused to: the moment and the head are judged before any is asked for.
 NEVER_UNAVAILABLE = {"head", "clock"}
 # What asks for memory, so that the refusals must have met it.
 MET = {"add", "refused body", "login", "renewal", "refused renewal", "new session", "prompts", "submission", "resubmission",
-       "results", "session's results"}
+       "results", "session's results", "new vendor", "approval", "request", "vendor"}
 
 
 def right_answers(events, without=None):
@@ -237,12 +281,10 @@ def right_answers(events, without=None):
 
 def run(events, at, folder):
     """The program's status, output and errors, and how much of the output was written where the growth was refused."""
-    keys, mark, output = (os.path.join(folder, name) for name in ("keys", "refused", "output"))
-    with open(keys, "w") as file:
-        file.write(f"{TOKEN_KEY.hex()}\n{SEED.hex()}\n")
+    mark, output = (os.path.join(folder, name) for name in ("refused", "output"))
     env = {"LD_PRELOAD": SHIM, "REFUSE_AT": str(at), "REFUSED": mark}
     with open(output, "wb") as file:
-        ran = subprocess.run([PROGRAM, "script", "--keys", keys], input=b"".join(e.text for e in events), stdout=file,
+        ran = subprocess.run(COMMAND, input=b"".join(e.text for e in events), stdout=file,
                              stderr=subprocess.PIPE, env=env, timeout=60)
     written = None
     if os.path.exists(mark):
@@ -265,7 +307,7 @@ def judge(events, at, folder):
     place = next((n for n in range(len(events) + 1) if len(b"".join(answers[:n])) == written), None)
     if place is None:
         sys.exit(f"growth {at}, refused within an answer: {told(events, answers, status, output, errors)}")
-    if (status, output, errors) == (1, b"".join(answers[:place]), b"fault: memory\n"):
+    if (status, output, errors) == (1, b"".join(answers[:place]), FAULT):
         return place, False
     if (status, output, errors) == (0, b"".join(answers), b""):
         return place, False

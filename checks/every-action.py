@@ -1,15 +1,23 @@
 #!/usr/bin/env python3
-"""Goes through the protocol for ten accounts in turn over one run of a script: each of the 31 actions is accepted, and
-each rule of refusal is met but three: that an account is full, that the moment isn't served, and that memory is
+"""Goes through the protocol for ten accounts in turn: each of the 31 actions is accepted, and each rule of refusal is
+met but three: that an account is full, that the moment isn't served, and that memory is
 refused. With ample memory no reply has status 503 and no order is unavailable. Tokens that are no good are signed by
 Python's hmac. Each account after the first also asks for what the one before it has, and is told no more than of what
-isn't there."""
+isn't there.
+
+    checks/every-action.py COMMAND..
+    checks/every-action.py --file PROGRAM FILE KEYS CLOCK
+
+COMMAND runs the server in script mode. With --file PROGRAM serves the records in FILE, which `init` has made, over
+sockets, and is ended whenever the operator has an order; its clock shows the number in the file CLOCK, by the library
+of set_clock.c."""
 import hashlib
 import json
+import socket
 import sys
 
-from laboratory import signed
-from validation import Server, answers, one_time_code
+from laboratory import free_port, read_all, signed
+from validation import Server, SocketServer, answers, one_time_code
 
 STATUSES = {400: "badHead truncated badLength hostMissing bodyNotJson bodyEnvelope bodyField notByteOriented lengthOutOfRange"
                  " unsupported unknownTest duplicateTest setMismatch noReference badPage",
@@ -27,6 +35,34 @@ def hash_set(*lengths):
     return {"algorithm": "SHA2-256", "messageLength": list(lengths), "revision": "1.0"}
 
 
+class Piped(Server):
+    """A run of a script, which is handed one event after another."""
+
+    def ask_at(self, moment, text):
+        self.send(b"request %d %d\n%s\n" % (moment, len(text), text))
+        reply = self.process.stdout.read(int(self.line().split(" ")[1]))
+        self.line()
+        return reply
+
+
+class Served(SocketServer):
+    """A file that is served, under a clock that is set."""
+
+    def __init__(self, program, file, keys, clock):
+        super().__init__(free_port(), program, file, keys)
+        self.clock = clock
+
+    def ask_at(self, moment, text):
+        with open(self.clock, "w") as file:
+            file.write(f"{moment}\n")
+        if self.process is None:
+            self.serve()
+        with socket.create_connection(("127.0.0.1", self.port)) as connection:
+            connection.sendall(text)
+            connection.shutdown(socket.SHUT_WR)
+            return read_all(connection)
+
+
 class Laboratory:
     """One account's walk through the protocol, with a clock that it sets."""
 
@@ -38,11 +74,7 @@ class Laboratory:
         self.token = None
 
     def ask(self, text, moment=None):
-        self.server.send(b"request %d %d\n%s\n" % (moment or self.moment, len(text), text))
-        size = int(self.server.line().split(" ")[1])
-        reply = self.server.process.stdout.read(size)
-        self.server.line()
-        head, _, content = reply.partition(b"\r\n\r\n")
+        head, _, content = self.server.ask_at(moment or self.moment, text).partition(b"\r\n\r\n")
         return int(head.split(b" ")[1]), json.loads(content)[1]
 
     def request(self, method, path, token=None, thing=None, body=None, moment=None, lengths=("{}",)):
@@ -240,7 +272,7 @@ class Laboratory:
 
 
 def main():
-    server = Server(sys.argv[1:])
+    server = Served(*sys.argv[2:]) if sys.argv[1] == "--file" else Piped(sys.argv[1:])
     laboratory = None
     for place in range(10):
         laboratory = Laboratory(server, 11 + 998 * place, 1000000000 + 100000000 * place, laboratory)

@@ -1,4 +1,5 @@
--- Records in which the same is found of a request, or in which a rule on callers refuses it, answer it alike and are changed alike.
+-- Records in which the same is found of a request, or in which a rule on callers refuses it, answer it alike and are
+-- changed alike.
 use Rattle.std.proofs.Common.{◌≡◌, ◌⊎◌, inl, inr, ℕ, ◌++◌, Option, None, Some, Result, Ok, Err, refl, sym, ap, ◌∙◌}
 use Rattle.acvp_json.specs.Data.{Data}
 use Rattle.acvp_mac.specs.Conditions.{first_broken, judged}

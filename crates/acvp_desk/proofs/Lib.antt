@@ -33,3 +33,4 @@ pub mod SeenAnswer
 pub mod Objects
 pub mod Adding
 pub mod ServedApart
+pub mod Told

@@ -1,4 +1,5 @@
--- Where an account asks for no results, its own rows answer it as all rows do; and whatever it asks, they tell what it changes.
+-- Where an account asks for no results, its own rows answer it as all rows do; and whatever it asks, they tell what
+-- it changes.
 use Rattle.std.proofs.Common.{◌≡◌, ◌⊎◌, inl, inr, ℕ, List, Bool, true, false, ◌==◌, Option, None, Some, refl, sym, ap, ◌∙◌, arith}
 use Rattle.std.specs.Prelude.{is_some, option_and_then, option_map, if◌then◌else◌}
 use Rattle.std.proofs.lemmas.Bool.Decides.{nat_tests}

@@ -1,4 +1,4 @@
--- Whose a request or an order is, and what it makes of each account's own rows.
+-- Whose a request or an order is, what it makes of each account's own rows, and by what its account is told.
 use Rattle.std.specs.Prelude.{◌≡◌, ◌⊎◌, ℕ, ◌/◌, Bool, true, false, ◌==◌, List, Option, None, Some, option_and_then, is_some, if◌then◌else◌, Result, ⊤}
 use Rattle.acvp_json.specs.Data.{Data}
 use Rattle.acvp_mac.specs.Conditions.{first_broken}
@@ -48,8 +48,8 @@ own_after_request keys moment r v mine = if is_who (who_of keys moment r) v then
 abbrev pub own_after_order : Order → ℕ → State → State
 own_after_order it u mine = if account_of_asked it == u then order_effect it mine else mine
 
--- An account sees the same in both: it owns the same rows and reviews the same sessions, and of each session that it may
--- see the row and the vector sets are the same.
+-- An account sees the same in both: it owns the same rows and reviews the same sessions, and each session that it may
+-- see has the same row and vector sets.
 pub record SeesTheSame (u : ℕ) (one other : State) : Type 0 where
   pub owned : own u one ≡ own u other
   pub reviews : (s : ℕ) → is_reviewer s u one.reviewers ≡ is_reviewer s u other.reviewers
@@ -65,8 +65,8 @@ reviewer_asked_by _ body = None
 abbrev pub reviewer_asked : RequestValue → Option ℕ
 reviewer_asked r = reviewer_asked_by r.action r.body
 
--- The account that asks sees the same in both: its own rows, and what it sees of the sessions that it reviews. To nobody
--- all records are alike.
+-- The rows that the account of a request sees are the same in both: its own, and those of the sessions that it reviews.
+-- To nobody all records are alike.
 abbrev pub SeesAlike : Option ℕ → State → State → Type 0
 SeesAlike None one other = ⊤
 SeesAlike (Some u) one other = seen u one ≡ seen u other
@@ -91,14 +91,14 @@ module _ {T : Type 0} (stands : T → Content → Type 0) (is_live : T → Type 
   abbrev pub IsOrderedApart : OrderReply → T → T → Order → Type 0
   IsOrderedApart reply old new it = ByReply reply (LeavesApart old new it) (LeavesApart old new it) ⊤
 
-  -- The same of a request, while the disk tells no lie, unless it is unavailable.
+  -- The same of a request while the disk tells no lie; or the request is unavailable, and all stays.
   abbrev pub IsServedApart : (T → Type 0) → DeskReply → T → T → Keys → ℕ → RequestValue → Type 0
   IsServedApart is_clean reply old new keys moment r = is_clean new → (c : Content) → IsKept keys.seed c → Holds stands is_live old c
-      → IsUnavailable reply
+      → (IsUnavailable reply × Holds stands is_live new c)
       ⊎ ((d : Content) × Holds stands is_live new d × ((v : ℕ) → own v (state_of d) ≡ own_after_request keys moment r v (own v (state_of c))))
 
-  -- What is replied is what any well numbered records give in which the account that asks sees what it sees in those that
-  -- the tables stood for.
+  -- What is replied is what any well numbered records give in which the account that asks sees the rows that it sees in
+  -- those that the tables stood for.
   abbrev pub IsToldBySeen : (T → Type 0) → DeskReply → T → T → Keys → ℕ → RequestValue → Type 0
   IsToldBySeen is_clean reply old new keys moment r = is_clean new → (c : Content) → IsKept keys.seed c → Holds stands is_live old c
       → (state : State) → IsWellNumbered state → SeesAlike (who_of keys moment r) (state_of c) state → IsReplyBy reply (answer keys moment r state)

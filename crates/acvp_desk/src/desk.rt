@@ -118,8 +118,9 @@ impl<T: Tables> Desk<T> {
         order_on(&mut self.tables, order)
     }
 
-    /// Answers a request at a moment, in seconds since 1970. What is told to an account depends on what it owns and on
-    /// what it sees of the sessions that it reviews, and what is left of an account's rows on these rows alone.
+    /// Answers a request at a moment, in seconds since 1970. Unless it is unavailable, what is told to an account depends
+    /// alone on the rows that it owns and on those of the sessions that it reviews, and what is left of an account's rows
+    /// on these rows alone.
     pub fn handle(&mut self, moment: u64, request: &TypedRequest<'_>) -> Outcome
         ensures keys { self.new.keys ≡ self.old.keys }
         ensures served { Serves T.stands T.is_live T.is_clean T.leaves (result_of result.reply result.changed) self.old.tables self.new.tables self.old.keys moment (request_value request.now) }

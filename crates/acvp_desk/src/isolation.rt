@@ -17,8 +17,8 @@ use acvp_tables::{
     changes_are_of_one_account, grants_name_the_account, numbers_name, numbers_tell,
 };
 
-/// What an order leaves of the rows that an account owns depends on the order and on these rows alone, whichever account
-/// it is; of every account but the one that the order is of it leaves them as they were.
+/// What an order leaves of the rows that an account owns depends on the order and on these rows alone, whichever
+/// account it is; of every account but the one that the order is of it leaves them as they were.
 pub fn orders_are_apart()
     ensures { (u : ℕ) (it : Order) (state : State) → IsWellNumbered state → own u (order_effect it state) ≡ own_after_order it u (own u state) }
 {
@@ -60,8 +60,8 @@ pub fn changes_are_of_who_asks()
     numbers_name();
 }
 
-/// An account is answered alike in all records in which it sees the same; and it does so where its own rows are the same,
-/// and of each session that it reviews its row, its vector sets and that it reviews it.
+/// An account is answered alike in all records in which it sees the same. It sees the same where the rows are the same
+/// that it owns, and those of the sessions that it reviews.
 pub fn seen_rows_answer()
     ensures alike { (u : ℕ) (keys : Keys) (moment : ℕ) (r : RequestValue) (one other : State) → IsWellNumbered one → IsWellNumbered other → who_of keys moment r ≡ Some u
         → SeesTheSame u one other → answer keys moment r one ≡ answer keys moment r other }

@@ -1,9 +1,9 @@
 //! What holds of the records after requests and orders, whoever keeps them.
 
-ghost use Rattle.std.specs.Prelude.{◌≡◌, ◌++◌, ◌≤◌, ℕ, IfOk, List, codes, is_some, length, true};
+ghost use Rattle.std.specs.Prelude.{◌≡◌, ◌++◌, ◌≤◌, ℕ, Err, IfOk, List, codes, is_some, length, true};
 ghost use Rattle.acvp_tables.specs.Changes.{reviewers_after};
 ghost use Rattle.acvp_tables.specs.Content.{Content, no_rows, reviewers_of};
-ghost use Rattle.acvp_tables.specs.State.{is_account_number, state_of};
+ghost use Rattle.acvp_tables.specs.State.{State, is_account_number, state_of};
 ghost use Rattle.acvp_tables.specs.declared.change.Change.TheVariants as change;
 ghost use Rattle.acvp_tables.specs.declared.rows.ReviewerRow.{ReviewerRow};
 ghost use Rattle.acvp_desk.specs.Answer.{answer, effect, content_effect};
@@ -13,6 +13,7 @@ ghost use Rattle.acvp_desk.specs.Reviewers.{with_account, without_account};
 ghost use Rattle.acvp_desk.specs.Orders.{IsOrder, HasSecret, order_effect, content_order_effect};
 ghost use Rattle.acvp_policy.specs.Rule.{rule_word};
 ghost use Rattle.acvp_policy.specs.declared.rule.Rule.{Rule};
+ghost use Rattle.acvp_policy.specs.declared.rule.Rule.TheVariants as rule;
 ghost use Rattle.acvp_desk.specs.declared.keys.Keys.{Keys};
 ghost use Rattle.acvp_desk.specs.declared.order.Order.{Order};
 ghost use Rattle.acvp_desk.specs.Request.{RequestValue};
@@ -48,12 +49,17 @@ pub fn records_are_kept()
     counts_differ_by_one();
 }
 
-/// A request that is accepted has an object, where what is kept is right and there is a seed: no reply is without one.
+/// The reply to a request that is accepted shows an object, where what is kept is right and there is a seed.
 pub fn accepted_requests_are_told()
     ensures { (keys : Keys) (moment : ℕ) (r : RequestValue) (c : Content) → IsKept keys.seed c → 1 ≤ length keys.seed → IfOk (answer keys moment r (state_of c)) (λ object. is_some object ≡ true) }
 {
     selections_follow();
 }
+
+/// No answer is that the server is unavailable: that is said for want of memory or of the store alone.
+pub fn no_answer_is_unavailable()
+    ensures { (keys : Keys) (moment : ℕ) (r : RequestValue) (state : State) → answer keys moment r state ≡ Err rule.Unavailable → ⊥ }
+{}
 
 /// The list that is told to who adds or removes a reviewer of a session is that of its reviewers after the change.
 pub fn reviewers_are_told()

@@ -13,8 +13,8 @@ pub use isolation::{
 };
 pub use keys::Keys;
 pub use laws::{
-    accepted_requests_are_told, effects_follow, errors_are_named, records_are_kept,
-    reviewers_are_told,
+    accepted_requests_are_told, effects_follow, errors_are_named, no_answer_is_unavailable,
+    records_are_kept, reviewers_are_told,
 };
 pub use order::{Order, OrderReply, order_on};
 pub use request::{Numbers, TokenField, TypedRequest};

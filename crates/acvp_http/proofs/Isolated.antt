@@ -39,7 +39,7 @@ abbrev no_one : Option ℕ
 no_one = None
 
 -- what is refused before anybody is looked at is nobody's
-of_refused : (keys : Keys) (m : ℕ) (bytes reply : List ℕ) → RefusesAtOnce m bytes reply → IsOf keys (request m bytes) None
+pub of_refused : (keys : Keys) (m : ℕ) (bytes reply : List ℕ) → RefusesAtOnce m bytes reply → IsOf keys (request m bytes) None
 unfolding RefusesAtOnce
 of_refused keys m bytes reply refuses = go (nat_lt m end_of_moments) refuses
   where
@@ -54,7 +54,7 @@ of_refused keys m bytes reply refuses = go (nat_lt m end_of_moments) refuses
     go false is = refl
 
 -- and what asks the desk is of whom it names
-of_asked : (keys : Keys) (m : ℕ) (bytes : List ℕ) (r : RequestValue) → AsksTheDesk m bytes r → IsOf keys (request m bytes) (who_of keys m r)
+pub of_asked : (keys : Keys) (m : ℕ) (bytes : List ℕ) (r : RequestValue) → AsksTheDesk m bytes r → IsOf keys (request m bytes) (who_of keys m r)
 of_asked keys m bytes r (early, asks) = let in_time : nat_lt m end_of_moments ≡ true = lt-ltb m end_of_moments early in rw in_time (typed r, asks, refl)
 
 -- ---- a turn in both runs

@@ -26,3 +26,4 @@ pub mod ReceivingLemmas
 pub mod HeadlineLemmas
 pub mod Isolated
 pub mod PromiseLemmas
+pub mod AnsweredApart

@@ -53,7 +53,7 @@ module _ (m : ℕ) (bytes a b : List ℕ) where
   at_once_one x y = at_once_by (nat_lt m end_of_moments) x y
 
 -- what is asked of the desk isn't refused at once
-not_both : (m : ℕ) (bytes reply : List ℕ) (r : RequestValue) → RefusesAtOnce m bytes reply → AsksTheDesk m bytes r → ⊥
+pub not_both : (m : ℕ) (bytes reply : List ℕ) (r : RequestValue) → RefusesAtOnce m bytes reply → AsksTheDesk m bytes r → ⊥
 unfolding RefusesAtOnce Refuses
 not_both m bytes reply r refuses (early, asks) =
     let in_time : nat_lt m end_of_moments ≡ true = lt-ltb m end_of_moments early in
@@ -65,7 +65,7 @@ abbrev value_of : RequestValue → ParsedRequest → RequestValue
 value_of r (typed other) = other
 value_of r _ = r
 
-one_value : (r other : RequestValue) → typed r ≡ typed other → r ≡ other
+pub one_value : (r other : RequestValue) → typed r ≡ typed other → r ≡ other
 one_value r other same = ap (value_of r) same
 
 -- a request is served in one way

@@ -1,17 +1,17 @@
 -- Whose an event is, and what an account is told in a run and in the run of some accounts alone.
-use Rattle.std.specs.Prelude.{◌≡◌, ℕ, ◌≤◌, ◌==◌, List, [], ◌∷◌, Bool, true, false, not, ◌&&◌, ◌||◌, nat_lt, MatchBool, length, Option, Some, None, ⊤}
+use Rattle.std.specs.Prelude.{◌≡◌, ◌⊎◌, ℕ, ◌≤◌, ◌==◌, List, [], ◌∷◌, Bool, true, false, not, ◌&&◌, ◌||◌, nat_lt, MatchBool, length, Option, Some, None, ⊤}
 use Rattle.std.specs.List.{All}
 use Rattle.acvp_tables.specs.Content.{Content, is_reviewer}
-use Rattle.acvp_tables.specs.State.{State, owner_of, state_of}
+use Rattle.acvp_tables.specs.State.{State, own, owner_of, state_of, IsSound}
 use Rattle.acvp_desk.specs.Answer.{end_of_moments}
-use Rattle.acvp_desk.specs.Isolation.{is_who, reviewer_asked, who_of}
+use Rattle.acvp_desk.specs.Isolation.{is_who, reviewer_asked, who_of, SeesAlike}
 use Rattle.acvp_desk.specs.Kept.{IsKept}
 use Rattle.acvp_desk.specs.Request.{RequestValue}
 use Rattle.acvp_desk.specs.declared.keys.Keys.{Keys}
 use Rattle.acvp_http.specs.Asks.{ParsedRequest, refused, wrong_method, typed, Asks}
 use Rattle.acvp_http.specs.Event.{Event, request, order, Answer, Turn}
 use Rattle.acvp_http.specs.Private.Turns.{CanHappen}
-use Rattle.acvp_http.specs.Serve.{Runs}
+use Rattle.acvp_http.specs.Serve.{IsUnavailableRequest, Runs, ServesRequest}
 
 -- ---- whose an event is
 
@@ -21,12 +21,36 @@ whose keys moment (refused rule) = None
 whose keys moment (wrong_method path) = None
 whose keys moment (typed r) = who_of keys moment r
 
--- the event is of this account, or of none: past the last moment that is served nobody is looked at, and an order is the
--- operator's
+-- the event is of this account, or of none: past the last moment that is served nobody is looked at, and an order is
+-- the operator's
 abbrev pub IsOf : Keys → Event → Option ℕ → Type 0
 IsOf keys (request moment bytes) who =
     MatchBool (nat_lt moment end_of_moments) ((parsed : ParsedRequest) × Asks bytes parsed × (who ≡ whose keys moment parsed)) (who ≡ None)
 IsOf keys (order moment o) who = who ≡ None
+
+-- ---- one request
+
+-- The bytes of a request were answered so over these records, and left the others. The account that they are of is told
+-- the same over all records in which it sees the same, and nobody what all records give. Of the account's own rows is
+-- left what these alone tell, and those of every other stay as they were.
+pub record IsAnsweredApart (keys : Keys) (moment : ℕ) (bytes : List ℕ) (old new : Content) (reply : List ℕ) : Type 0 where
+  pub who : Option ℕ
+  pub of : IsOf keys (request moment bytes) who
+  pub told : (other : Content) → IsSound other → SeesAlike who (state_of old) (state_of other)
+      → (after : Content) × ServesRequest keys moment bytes other after reply
+  pub left : (v : ℕ) (other after : Content) (said : List ℕ) → IsSound other → own v (state_of old) ≡ own v (state_of other)
+      → ServesRequest keys moment bytes other after said → own v (state_of new) ≡ own v (state_of after)
+  pub others : (v : ℕ) → is_who who v ≡ false → own v (state_of new) ≡ own v (state_of old)
+
+-- so is each request that is served
+abbrev pub RequestIsolation : Type 0
+RequestIsolation = (keys : Keys) (moment : ℕ) (bytes : List ℕ) (old new : Content) (reply : List ℕ) → IsSound old
+    → ServesRequest keys moment bytes old new reply → IsAnsweredApart keys moment bytes old new reply
+
+-- or it is unavailable, and changes nothing
+abbrev pub IsTakenApart : Keys → ℕ → List ℕ → Content → Content → List ℕ → Type 0
+IsTakenApart keys moment bytes old new reply =
+    ((new ≡ old) × IsUnavailableRequest moment bytes reply) ⊎ IsAnsweredApart keys moment bytes old new reply
 
 -- ---- the turns of some accounts alone
 
@@ -71,14 +95,15 @@ AsksWithin keys u these (request moment bytes) = (r : RequestValue) (w : ℕ) �
     → these w ≡ true
 AsksWithin keys u these (order moment o) = ⊤
 
--- These accounts are u itself, those that have it as a reviewer, and those that ask in a turn to add it as one; there may
--- be others among them.
+-- Among these accounts are u itself, those that have it as a reviewer, and those that ask in a turn to add it as one;
+-- there may be others.
 pub record LetsSee (keys : Keys) (u : ℕ) (these : ℕ → Bool) (state : State) (turns : List Turn) : Type 0 where
   pub itself : these u ≡ true
   pub reviewed : (s : ℕ) → is_reviewer s u state.reviewers ≡ true → these (owner_of s) ≡ true
   pub asked : All (λ turn. turn.unavailable ≡ false → AsksWithin keys u these turn.event) turns
 
--- u is told in the run what it is told in the run of the operator's and these accounts' turns alone, from the same records
+-- u is told in the run what it is told in the run of the operator's and these accounts' turns alone, from the same
+-- records
 abbrev pub IsToldAlone : Keys → ℕ → (ℕ → Bool) → List Turn → Content → List Answer → Type 0
 IsToldAlone keys u these turns old answers = (chosen : List Turn) × (left : Content) × (others : List Answer) × (told : List Answer)
     × Only keys these turns chosen × Runs keys chosen old left others × Told keys u turns answers told × Told keys u chosen others told

@@ -8,8 +8,8 @@ use Rattle.acvp_http.specs.Headline.{AnswersTurn, LeftBy}
 use Rattle.acvp_http.specs.Isolation.{IsToldAlone, LetsSee}
 use Rattle.acvp_http.specs.Serve.{GoesBy}
 
--- Each turn is answered over the state that the accepted ones before it left; after the last one the records are what all
--- of them left; and what each account is told is what it is told where only those act that let it see something.
+-- Each turn is answered over the state that the accepted ones before it left; after the last one the records are what
+-- all of them left; and what each account is told is what it is told where only those act that let it see something.
 pub record IsPromised (keys : Keys) (turns : List Turn) (answers : List Answer) (old new : Content) : Type 0 where
   pub told : (earlier later : List Turn) (turn : Turn) → turns ≡ earlier ++ turn ∷ later → AnswersTurn keys earlier turn (state_of old) answers
   pub left : LeftBy keys turns (state_of old) (state_of new)

@@ -24,7 +24,7 @@ pub use connection::{ServeFault, serve_one};
 pub use framing::BODY_BYTES;
 pub use head::HEAD_BYTES;
 pub use path::Route;
-pub use promise::{headline, isolation};
+pub use promise::{headline, isolation, request_isolation};
 pub use reply::Reply;
 pub use request::asks_one_thing;
 pub use routes::{Routes, finds_one_thing};

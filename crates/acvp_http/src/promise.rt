@@ -1,6 +1,6 @@
 //! The promise of the server, in one place.
 ghost use Rattle.acvp_http.specs.Headline.{Headline, HeadlineLeft};
-ghost use Rattle.acvp_http.specs.Isolation.{Isolation, IsolationAlone};
+ghost use Rattle.acvp_http.specs.Isolation.{Isolation, IsolationAlone, RequestIsolation};
 
 use acvp_desk::{
     accepted_requests_are_told, changes_are_of_who_asks, effects_follow, nobody_is_answered_alike,
@@ -10,9 +10,9 @@ use acvp_tables::{numbers_tell, reviewers_are_added};
 
 /// The headline. For every list of requests and operator's orders with their moments, each reply is byte for byte what
 /// the policy's conditions, in their one order, give to the claims that are verified at that moment over the records
-/// that the accepted events before it left, and after the last one the records are what all of them left. A denial names the first rule that is broken, and changes nothing; nor does
-/// an event that is unavailable. No verdict is among these records: each disposition is worked out from the answers
-/// that are kept.
+/// that the accepted events before it left; after the last event the records are what all accepted ones left. A denial
+/// names the first rule that is broken, and changes nothing; nor does an event that is unavailable. No verdict is among
+/// these records: each disposition is worked out from the answers that are kept.
 ///
 /// What `handle_bytes`, `run` and `serve_one` do is such a run, for every form of the tables: their contracts say so.
 pub fn headline()
@@ -22,9 +22,10 @@ pub fn headline()
     effects_follow();
 }
 
-/// Isolation. What an account is told over a whole run is what it is told where nobody acts but the operator, itself, and
-/// the accounts that have it as a reviewer or ask to add it as one: its replies are byte for byte those of the run of
-/// their turns alone, from the same records. An account that nobody adds as a reviewer is answered as if it were alone.
+/// Isolation. What an account is told over a whole run is what it is told where nobody acts but the operator, the
+/// account itself, and those that have it as a reviewer or ask to add it as one: its replies are byte for byte those of
+/// the run of their turns alone, from the same records. An account that nobody else adds as a reviewer is answered as if
+/// it were alone.
 ///
 /// Events that were unavailable count for neither run.
 pub fn isolation()
@@ -41,4 +42,16 @@ pub fn isolation()
     accepted_requests_are_told();
     numbers_tell();
     reviewers_are_added();
+}
+
+/// Isolation of one request. Its account is told the same over all records in which it sees the same: its own rows, and
+/// of each session that it reviews its row and its vector sets. Of its own rows is left what these alone tell; every
+/// other account's rows stay. A request of nobody is answered alike over all records.
+pub fn request_isolation()
+    ensures { RequestIsolation }
+{
+    effects_follow();
+    requests_are_apart();
+    nobody_is_answered_alike();
+    seen_rows_answer();
 }

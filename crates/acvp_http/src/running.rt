@@ -95,8 +95,8 @@ fn run_turns<T: Tables, S: Source, K: Sink>(
 /// Runs a script. It ends at the input's end, or at the first fault; the event at fault isn't handled, but for a writer
 /// that fails, which does so after its event was handled. The number is how many events there were.
 ///
-/// The answers that are written are those of the script's events over the records that the tables stood for, as `headline`
-/// and `isolation` say of every run.
+/// The answers that are written are those of the script's events over the records that the tables stood for, as
+/// `headline` and `isolation` say of every run.
 pub fn run<T: Tables, S: Source, K: Sink>(
     alloc: Global,
     routes: &Routes,

@@ -5,9 +5,11 @@ ghost use Rattle.acvp_tables.specs.Content.{Content};
 ghost use Rattle.acvp_desk.specs.Request.{RequestValue};
 ghost use Rattle.acvp_desk.specs.declared.keys.Keys.{Keys};
 ghost use Rattle.acvp_http.specs.Event.{Event, Answer};
+ghost use Rattle.acvp_http.specs.Isolation.{IsTakenApart};
 ghost use Rattle.acvp_http.specs.Reply.{refusal, IsDateOf};
-ghost use Rattle.acvp_http.specs.Serve.{RefusesAtOnce, AsksTheDesk, ShowsReply, Serves, RequestTaken, LeavesRequest};
+ghost use Rattle.acvp_http.specs.Serve.{RefusesAtOnce, AsksTheDesk, GoesBy, ShowsReply, Serves, RequestTaken, LeavesRequest};
 
+use crate::promise::request_isolation;
 use crate::reply::Reply;
 use crate::request::{Refusal, parse_request};
 use crate::routes::Routes;
@@ -27,14 +29,8 @@ fn date_of(moment: u64) -> [u8; 29]
     }
 }
 
-/// Answers the request of these bytes at a moment, in seconds since 1970. Where the answer is 45, memory or the store
-/// was refused, and the same bytes may be sent again.
-pub fn handle_bytes<T: Tables>(
-    routes: &Routes,
-    desk: &mut Desk<T>,
-    moment: u64,
-    bytes: &[u8],
-) -> Reply
+/// Answers the request of these bytes.
+fn answer_bytes<T: Tables>(routes: &Routes, desk: &mut Desk<T>, moment: u64, bytes: &[u8]) -> Reply
     ensures keys { desk.new.keys ≡ desk.old.keys }
     ensures was_live { T.is_live desk.new.tables → T.is_live desk.old.tables }
     ensures was_clean { T.is_clean desk.new.tables → T.is_clean desk.old.tables }
@@ -58,6 +54,32 @@ pub fn handle_bytes<T: Tables>(
         DeskReply::Given(buffer) => Reply::accepted(&date, buffer),
         DeskReply::Denied(rule) => Reply::refusal(Some(&date), rule),
     }
+}
+
+/// Answers the request of these bytes at a moment, in seconds since 1970. Where the answer is 45, memory or the store
+/// was refused, and the same bytes may be sent again.
+///
+/// Unless it is unavailable, what is told depends alone on what the account that asks sees, and what is left of each
+/// account's rows on these rows alone, as `request_isolation` says.
+pub fn handle_bytes<T: Tables>(
+    routes: &Routes,
+    desk: &mut Desk<T>,
+    moment: u64,
+    bytes: &[u8],
+) -> Reply
+    ensures keys { desk.new.keys ≡ desk.old.keys }
+    ensures was_live { T.is_live desk.new.tables → T.is_live desk.old.tables }
+    ensures was_clean { T.is_clean desk.new.tables → T.is_clean desk.old.tables }
+    ensures live { (result ≡ refusal None Rule.Unavailable) ⊎ (T.is_clean desk.new.tables → T.is_live desk.old.tables → T.is_live desk.new.tables) }
+    ensures shown { (RefusesAtOnce moment bytes.now result × (desk.new ≡ desk.old))
+        ⊎ ((r : RequestValue) × AsksTheDesk moment bytes.now r × ShowsReply T.stands T.is_live T.is_clean T.leaves moment result desk.old.tables desk.new.tables) }
+    ensures served { RequestTaken T.stands T.is_live T.is_clean desk.old.keys moment bytes.now result desk.old.tables desk.new.tables }
+    ensures left { LeavesRequest T.stands T.is_live T.is_clean T.leaves desk.old.keys moment bytes.now result desk.old.tables desk.new.tables }
+    ensures shut { T.is_clean desk.new.tables → (T.is_live desk.old.tables → ⊥) → (c d : Content) → T.leaves desk.old.tables c d → T.leaves desk.new.tables c d }
+    ensures apart { GoesBy T.stands T.is_live T.is_clean desk.old.keys (λ c next. IsTakenApart desk.old.keys moment bytes.now c next result) desk.old.tables desk.new.tables }
+{
+    request_isolation();
+    answer_bytes(routes, desk, moment, bytes)
 }
 
 /// The definitions give one answer to an event over the same records, and leave the same records after it.
