@@ -1,9 +1,9 @@
 #!/usr/bin/env python3
 """Shows that an account is told the same whoever else acts. Three accounts each walk through the protocol, one event
-after another, with nobody else there; then their events run together in two orders, and each account's replies must be
-byte for byte those that it got alone. Then one adds another as a reviewer: the reviewer's replies must be those of the
-run of its own events and of the one that added it. And a token that names another account's vector set under a session
-of its own gets the same bytes whether that set is there or not.
+after another, with nobody else there; then their events run together in several orders, and each account's replies must
+be byte for byte those that it got alone. Then one adds another as a reviewer: the reviewer's replies must be those of
+the run of its own events and of the one that added it. And a request for another account's vector set under a session of
+one's own gets the same bytes whether that set is there or not.
 
     checks/accounts-apart.py COMMAND.. [-- COMMAND..]
 
@@ -147,12 +147,17 @@ def three_accounts(command):
         walk.walk()
         walks.append(walk.end())
     for sizes in ((1, 1, 1), (3, 7, 2), (1000, 1, 1000)):
-        together = in_turn(walks, sizes)
-        for walk in walks:
-            alone = of(walk.account, walk.events, walk.told)
-            same(f"together by {sizes}", walk.account, together, command, alone)
-            same("with all orders", walk.account, only({walk.account}, together), command, alone)
+        for order in (walks, walks[::-1]):
+            together = in_turn(order, sizes)
+            for walk in walks:
+                alone = of(walk.account, walk.events, walk.told)
+                same(f"together by {sizes}", walk.account, together, command, alone)
+                same("with all orders", walk.account, only({walk.account}, together), command, alone)
         print(f"{len(together)} events of three accounts, by turns of {sizes}: each is told what it is told alone")
+    # without its own approvals an account is told something else, so the comparison can fail
+    first = walks[0]
+    without = [event for event in together if event[1] not in ("request-approve 0 7000001", "request-approve 0 7000002")]
+    assert of(7, without, replies(command, without)) != of(7, first.events, first.told)
 
 
 def a_reviewer(command):
@@ -167,11 +172,16 @@ def a_reviewer(command):
             text = request("GET", path, walk.account_token)
             walk.events.append((walk.account, text))
 
-    # the one adds the other as a reviewer, who asks before, between and after; and takes it away again
+    # the one adds the other as a reviewer, answers a set anew, cancels the other set, and takes the reviewer away again;
+    # and the other asks before, between and after
+    set_of = "/testSessions/7000001/vectorSets/70000010"
+    wrong = {"testGroups": [], "vsId": 700000101}
     events = in_turn((adds, reviews, looks_on), (5, 2, 3))
-    for method, path, thing in ((None, None, None), ("POST", "/testSessions/7000001/reviewers", {"account": 9}), (None, None, None),
-                                ("DELETE", "/testSessions/7000001/reviewers/9", None)):
-        if method:
+    changes = (None, ("POST", "/testSessions/7000001/reviewers", {"account": 9}), ("PUT", f"{set_of}1/results", wrong),
+               ("DELETE", f"{set_of}2", None), ("DELETE", "/testSessions/7000001/reviewers/9", None))
+    for change in changes:
+        if change:
+            method, path, thing = change
             events.append((7, request(method, path, bound, thing)))
         for walk in (reviews, looks_on):
             walk.events = []
@@ -180,8 +190,11 @@ def a_reviewer(command):
     told = replies(command, events)
     for account, within in ((9, {7, 9}), (7, {7}), (11, {11})):
         same("with a reviewer", account, only(within, events), command, of(account, events, told))
-    statuses = [shown(reply)[0] for reply in of(9, events, told)[-12:]]
-    assert statuses == [403] * 3 + [200] * 6 + [403] * 3, statuses
+    looks = [shown(reply) for reply in of(9, events, told)[-15:]]
+    statuses = [status for status, _ in looks]
+    assert statuses == [403] * 3 + [200] * 8 + [409] + [403] * 3, statuses
+    assert len({json.dumps(thing) for _, thing in (looks[3], looks[6], looks[9])}) == 3, looks
+    assert [shown(reply)[0] for reply in of(7, events, told)[-4:]] == [200] * 4
     # without the one that adds it the reviewer is told something else, so the comparison can fail
     without = only({9}, events)
     assert of(9, without, replies(command, without)) != of(9, events, told)
@@ -195,6 +208,9 @@ def a_set_of_another_session(command):
     mine = [(7, request("POST", "/testSessions", token_of(7), REGISTRATION))]
     theirs = [(9, request("POST", "/testSessions", token_of(9), REGISTRATION))]
     asked = [(7, request("GET", "/testSessions/7000001/vectorSets/900000101", token_of(7, 7000001)))]
+    there = [(9, request("GET", "/testSessions/9000001/vectorSets/900000101", token_of(9, 9000001)))]
+    made = replies(command, add + mine + theirs + there)[-3:]
+    assert [shown(reply)[0] for reply in made] == [200] * 3, made
     told = [replies(command, events)[-1] for events in (add + mine + asked, add + mine + theirs + asked, add + theirs + mine + asked)]
     assert told[0] == told[1] == told[2], told
     assert shown(told[0]) == (404, {"error": "noResource"}), told[0]

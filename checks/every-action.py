@@ -1,18 +1,18 @@
 #!/usr/bin/env python3
 """Goes through the protocol for ten accounts in turn: each of the 31 actions is accepted, and each rule of refusal is
-met but three: that an account is full, that the moment isn't served, and that memory is
-refused. With ample memory no reply has status 503 and no order is unavailable. Tokens that are no good are signed by
-Python's hmac. Each account after the first also asks for what the one before it has, and is told no more than of what
-isn't there.
+met but three: that an account is full, that the moment isn't served, and that memory is refused. With ample memory no
+reply has status 503 and no order is unavailable. Tokens that are no good are signed by Python's hmac. Each account after
+the first also asks for what the one before it has, and is told no more than of what isn't there.
 
     checks/every-action.py COMMAND..
-    checks/every-action.py --file PROGRAM FILE KEYS CLOCK
+    checks/every-action.py --file PROGRAM FILE KEYS SHIM
 
 COMMAND runs the server in script mode. With --file PROGRAM serves the records in FILE, which `init` has made, over
-sockets, and is ended whenever the operator has an order; its clock shows the number in the file CLOCK, by the library
-of set_clock.c."""
+sockets, and is ended whenever the operator has an order; SHIM, the library of set_clock.c, shows it the moment of each
+request."""
 import hashlib
 import json
+import os
 import socket
 import sys
 
@@ -48,9 +48,11 @@ class Piped(Server):
 class Served(SocketServer):
     """A file that is served, under a clock that is set."""
 
-    def __init__(self, program, file, keys, clock):
+    def __init__(self, program, file, keys, shim):
         super().__init__(free_port(), program, file, keys)
-        self.clock = clock
+        self.clock = f"{file}-clock"
+        # for the processes that are started, not for this one
+        os.environ.update({"LD_PRELOAD": shim, "CLOCK": self.clock})
 
     def ask_at(self, moment, text):
         with open(self.clock, "w") as file:
@@ -274,9 +276,13 @@ class Laboratory:
 def main():
     server = Served(*sys.argv[2:]) if sys.argv[1] == "--file" else Piped(sys.argv[1:])
     laboratory = None
-    for place in range(10):
-        laboratory = Laboratory(server, 11 + 998 * place, 1000000000 + 100000000 * place, laboratory)
-        laboratory.walk()
+    try:
+        for place in range(10):
+            laboratory = Laboratory(server, 11 + 998 * place, 1000000000 + 100000000 * place, laboratory)
+            laboratory.walk()
+    except BaseException:
+        server.process and server.process.kill()
+        raise
     server.end()
     print(f"ten accounts: 31 actions accepted and {len(STATUS_OF)} rules met by each")
 

@@ -18,4 +18,4 @@ python3 checks/every-action.py "$lists"
 echo "over a file:"
 cc -shared -fPIC -O2 -o "$room/set_clock.so" checks/set_clock.c -ldl
 (umask 077; "$program" init --db "$room/laboratory.db")
-CLOCK=$room/clock LD_PRELOAD=$room/set_clock.so python3 checks/every-action.py --file "$program" "$room/laboratory.db" "$room/keys.txt" "$room/clock"
+python3 checks/every-action.py --file "$program" "$room/laboratory.db" "$room/keys.txt" "$room/set_clock.so"
