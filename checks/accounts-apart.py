@@ -5,23 +5,25 @@ be byte for byte those that it got alone. Then one adds another as a reviewer: t
 the run of its own events and of the one that added it. And a request for another account's vector set under a session of
 one's own gets the same bytes whether that set is there or not.
 
-    checks/accounts-apart.py COMMAND.. [-- COMMAND..]
+    checks/accounts-apart.py COMMAND..
+    checks/accounts-apart.py --file PROGRAM KEYS SHIM
 
-Each COMMAND runs the server in script mode under a token key and a seed of zeros."""
+COMMAND runs the server in script mode under a token key and a seed of zeros, or such keys are in KEYS, under which
+PROGRAM serves a new file for each run. SHIM, the library of set_clock.c, shows it the moment of each request."""
+import contextlib
 import hashlib
 import json
+import os
 import subprocess
 import sys
+import tempfile
 
-from laboratory import request, shown, signed
-from validation import Server, answers, one_time_code
+from laboratory import Piped, Served, request, shown, signed
+from validation import answers, one_time_code
 
 MOMENT = 1000000000
 REGISTRATION = {"algorithms": [{"algorithm": "SHA2-256", "messageLength": [8], "revision": "1.0"},
                                {"algorithm": "HMAC-SHA2-256", "keyLen": [64], "macLen": [128], "revision": "1.0"}]}
-orders_of = {}
-
-
 def secret_of(account):
     return hashlib.sha256(b"%d" % account).digest()
 
@@ -31,8 +33,30 @@ def token_of(account, session=None):
     return signed(claims if session is None else {**claims, "sid": session})
 
 
+@contextlib.contextmanager
+def server(command):
+    """A server without a record."""
+    if command[0] != "--file":
+        running = Piped(command)
+        yield running
+        running.end()
+        return
+    program, keys, shim = command[1:]
+    with tempfile.TemporaryDirectory() as folder:
+        file = os.path.join(folder, "laboratory.db")
+        subprocess.run([program, "init", "--db", file], check=True, stdout=subprocess.DEVNULL)
+        running = Served(program, file, keys, shim)
+        try:
+            yield running
+        finally:
+            running.end()
+
+
 def replies(command, events):
     """The answers to events, in one run: of a request the bytes of its reply, of an order its line."""
+    if command[0] == "--file":
+        with server(command) as running:
+            return [running.ask_at(MOMENT, it) if isinstance(it, bytes) else running.order(it) for _, it in events]
     text = b"".join(b"request %d %d\n%s\n" % (MOMENT, len(it), it) if isinstance(it, bytes) else it.encode() + b"\n"
                     for _, it in events)
     output = subprocess.run(command, input=text, stdout=subprocess.PIPE, check=True).stdout
@@ -52,8 +76,8 @@ def replies(command, events):
 class Walk:
     """An account's walk, alone: it asks one thing after another, and keeps what it asked with what it was told."""
 
-    def __init__(self, command, account, others=()):
-        self.account, self.server, self.events, self.told = account, Server(command), [], []
+    def __init__(self, server, account, others=()):
+        self.account, self.server, self.events, self.told = account, server, [], []
         self.account_token = token_of(account)
         # the accounts that there are in each run
         for other in sorted({account, *others}):
@@ -66,10 +90,7 @@ class Walk:
 
     def ask(self, method, path, thing=None, token=None):
         text = request(method, path, token, thing)
-        self.server.send(b"request %d %d\n%s\n" % (MOMENT, len(text), text))
-        size = int(self.server.line().split(" ")[1])
-        self.told.append(self.server.process.stdout.read(size))
-        self.server.line()
+        self.told.append(self.server.ask_at(MOMENT, text))
         self.events.append((self.account, text))
         return shown(self.told[-1])
 
@@ -109,9 +130,13 @@ class Walk:
             self.ask("GET", f"/testSessions/{session}/results", token=token)
         self.does("DELETE", f"/testSessions/{first + 1}", token=token_of(self.account, first + 1))
 
-    def end(self):
-        self.server.end()
-        return self
+
+def walked(command, account, others=()):
+    """The walk of an account that is alone."""
+    with server(command) as running:
+        walk = Walk(running, account, others)
+        walk.walk()
+        return walk
 
 
 def in_turn(walks, sizes):
@@ -141,11 +166,7 @@ def same(what, account, events, command, wanted):
 
 
 def three_accounts(command):
-    walks = []
-    for account in (7, 9, 11):
-        walk = Walk(command, account)
-        walk.walk()
-        walks.append(walk.end())
+    walks = [walked(command, account) for account in (7, 9, 11)]
     for sizes in ((1, 1, 1), (3, 7, 2), (1000, 1, 1000)):
         for order in (walks, walks[::-1]):
             together = in_turn(order, sizes)
@@ -161,9 +182,7 @@ def three_accounts(command):
 
 
 def a_reviewer(command):
-    adds, reviews, looks_on = Walk(command, 7, (9, 11)), Walk(command, 9, (7, 11)), Walk(command, 11, (7, 9))
-    for walk in (adds, reviews, looks_on):
-        walk.walk()
+    adds, reviews, looks_on = walked(command, 7, (9, 11)), walked(command, 9, (7, 11)), walked(command, 11, (7, 9))
     bound = token_of(7, 7000001)
     results = ["/testSessions/7000001/results"] + [f"/testSessions/7000001/vectorSets/70000010{place}/results" for place in (1, 2)]
 
@@ -198,8 +217,6 @@ def a_reviewer(command):
     # without the one that adds it the reviewer is told something else, so the comparison can fail
     without = only({9}, events)
     assert of(9, without, replies(command, without)) != of(9, events, told)
-    for walk in (adds, reviews, looks_on):
-        walk.end()
     print(f"{len(events)} events with a reviewer: it is told what its own events and those of who adds it tell")
 
 
@@ -218,18 +235,9 @@ def a_set_of_another_session(command):
 
 
 def main():
-    commands, command = [], []
-    for word in sys.argv[1:] + ["--"]:
-        if word == "--":
-            commands += [command] if command else []
-            command = []
-        else:
-            command.append(word)
-    for command in commands:
-        print(" ".join(command[:2]))
-        three_accounts(command)
-        a_reviewer(command)
-        a_set_of_another_session(command)
+    three_accounts(sys.argv[1:])
+    a_reviewer(sys.argv[1:])
+    a_set_of_another_session(sys.argv[1:])
 
 
 main()

@@ -12,12 +12,10 @@ sockets, and is ended whenever the operator has an order; SHIM, the library of s
 request."""
 import hashlib
 import json
-import os
-import socket
 import sys
 
-from laboratory import free_port, read_all, signed
-from validation import Server, SocketServer, answers, one_time_code
+from laboratory import Piped, Served, signed
+from validation import answers, one_time_code
 
 STATUSES = {400: "badHead truncated badLength hostMissing bodyNotJson bodyEnvelope bodyField notByteOriented lengthOutOfRange"
                  " unsupported unknownTest duplicateTest setMismatch noReference badPage",
@@ -33,36 +31,6 @@ DAY = 86400
 
 def hash_set(*lengths):
     return {"algorithm": "SHA2-256", "messageLength": list(lengths), "revision": "1.0"}
-
-
-class Piped(Server):
-    """A run of a script, which is handed one event after another."""
-
-    def ask_at(self, moment, text):
-        self.send(b"request %d %d\n%s\n" % (moment, len(text), text))
-        reply = self.process.stdout.read(int(self.line().split(" ")[1]))
-        self.line()
-        return reply
-
-
-class Served(SocketServer):
-    """A file that is served, under a clock that is set."""
-
-    def __init__(self, program, file, keys, shim):
-        super().__init__(free_port(), program, file, keys)
-        self.clock = f"{file}-clock"
-        # for the processes that are started, not for this one
-        os.environ.update({"LD_PRELOAD": shim, "CLOCK": self.clock})
-
-    def ask_at(self, moment, text):
-        with open(self.clock, "w") as file:
-            file.write(f"{moment}\n")
-        if self.process is None:
-            self.serve()
-        with socket.create_connection(("127.0.0.1", self.port)) as connection:
-            connection.sendall(text)
-            connection.shutdown(socket.SHUT_WR)
-            return read_all(connection)
 
 
 class Laboratory:

@@ -11,7 +11,7 @@ import sys
 import time
 
 sys.path.insert(0, os.path.join(os.path.dirname(os.path.abspath(__file__)), "..", "examples"))
-from validation import one_time_code  # noqa: E402
+from validation import Server, SocketServer, one_time_code  # noqa: E402
 
 STEP = 30
 KEY, SEED = bytes(32), bytes([17] * 32)
@@ -75,6 +75,36 @@ def shown(reply):
     if not end or len(content) != int(head.split(b"Content-Length: ")[1].split(b"\r\n")[0]):
         raise BrokenOff(reply)
     return int(head.split(b" ")[1]), json.loads(content)[1]
+
+
+class Piped(Server):
+    """A run of a script, which is handed one event after another."""
+
+    def ask_at(self, moment, text):
+        self.send(b"request %d %d\n%s\n" % (moment, len(text), text))
+        reply = self.process.stdout.read(int(self.line().split(" ")[1]))
+        self.line()
+        return reply
+
+
+class Served(SocketServer):
+    """A file that is served, under a clock that is set."""
+
+    def __init__(self, program, file, keys, shim):
+        super().__init__(free_port(), program, file, keys)
+        self.clock = f"{file}-clock"
+        # for the processes that are started, not for this one
+        os.environ.update({"LD_PRELOAD": shim, "CLOCK": self.clock})
+
+    def ask_at(self, moment, text):
+        with open(self.clock, "w") as file:
+            file.write(f"{moment}\n")
+        if self.process is None:
+            self.serve()
+        with socket.create_connection(("127.0.0.1", self.port)) as connection:
+            connection.sendall(text)
+            connection.shutdown(socket.SHUT_WR)
+            return read_all(connection)
 
 
 class Laboratory:
