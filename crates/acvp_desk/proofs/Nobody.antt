@@ -177,7 +177,7 @@ unchanged keys moment r state nobody = go (ask_of keys moment r) nobody
         ap (λ reply. change_on reply (change_by keys moment r (Some (Caller caller)) state))
         (caller_answer keys moment r caller (found_of keys.seed r.body (Caller caller) state) (reply_to keys moment r (Some (Caller caller)) state) named)
 
-nothing_made : (keys : Keys) (moment : ℕ) (r : RequestValue) (state : State) → who_of keys moment r ≡ None → accepted_change keys moment r state ≡ None
+pub nothing_made : (keys : Keys) (moment : ℕ) (r : RequestValue) (state : State) → who_of keys moment r ≡ None → accepted_change keys moment r state ≡ None
 unfolding accepted_change answer
 nothing_made keys moment r state nobody = go (first_broken (first_conditions_on r.action r)) refl nobody
   where

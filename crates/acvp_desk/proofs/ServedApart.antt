@@ -3,7 +3,7 @@ use Rattle.std.proofs.Common.{◌≡◌, inl, inr, ℕ, Bool, Option, None, Some
 use Rattle.acvp_json.specs.Data.{Data}
 use Rattle.acvp_policy.specs.declared.rule.Rule.{Rule}
 use Rattle.acvp_tables.specs.Content.{Content}
-use Rattle.acvp_tables.specs.State.{State, own, seen, state_of, IsWellNumbered}
+use Rattle.acvp_tables.specs.State.{State, own, state_of, IsWellNumbered}
 use Rattle.acvp_desk.specs.Answer.{accepted_change, answer, content_effect, effect, Gives}
 use Rattle.acvp_desk.specs.Isolation.{own_after_request, who_of, IsServedApart, IsToldBySeen, SeesAlike, SeesTheSame}
 use Rattle.acvp_desk.specs.Kept.{IsKept}
@@ -18,14 +18,13 @@ module _ (follow : (keys : Keys) (moment : ℕ) (r : RequestValue) (c : Content)
     (nobody : (keys : Keys) (moment : ℕ) (r : RequestValue) (one other : State) → who_of keys moment r ≡ None → answer keys moment r one ≡ answer keys moment r other)
     (alike : (u : ℕ) (keys : Keys) (moment : ℕ) (r : RequestValue) (one other : State) → IsWellNumbered one → IsWellNumbered other → who_of keys moment r ≡ Some u
     → SeesTheSame u one other → answer keys moment r one ≡ answer keys moment r other)
-    (sees : (u : ℕ) (one other : State) → IsWellNumbered one → IsWellNumbered other → seen u one ≡ seen u other → SeesTheSame u one other)
     (keys : Keys) (moment : ℕ) (r : RequestValue) where
   same_answer : (one other : State) → IsWellNumbered one → IsWellNumbered other → SeesAlike (who_of keys moment r) one other → answer keys moment r one ≡ answer keys moment r other
   same_answer one other well_one well_other = go (who_of keys moment r) refl
     where
       go : (w : Option ℕ) → who_of keys moment r ≡ w → SeesAlike w one other → answer keys moment r one ≡ answer keys moment r other
       go None is same = nobody keys moment r one other is
-      go (Some u) is same = alike u keys moment r one other well_one well_other is (sees u one other well_one well_other same)
+      go (Some u) is same = alike u keys moment r one other well_one well_other is same
 
   left : (c : Content) → IsKept keys.seed c → (v : ℕ) → own v (state_of (content_effect keys moment r c)) ≡ own_after_request keys moment r v (own v (state_of c))
   left c kept v = ap (own v) (follow keys moment r c) ∙ apart v keys moment r (state_of c) kept.sound

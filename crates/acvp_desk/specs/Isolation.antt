@@ -7,7 +7,7 @@ use Rattle.acvp_policy.specs.declared.rule.Rule.TheVariants as rule
 use Rattle.acvp_policy.specs.declared.action.Action.{Action}
 use Rattle.acvp_policy.specs.declared.action.Action.TheVariants as action
 use Rattle.acvp_tables.specs.Content.{Content, is_reviewer}
-use Rattle.acvp_tables.specs.State.{State, IsSound, IsWellNumbered, live_records, may_see, own, owner_of, seen, session_record_at, set_record_at, state_of}
+use Rattle.acvp_tables.specs.State.{State, IsSound, IsWellNumbered, live_records, may_see, own, owner_of, session_record_at, set_record_at, state_of}
 use Rattle.acvp_desk.specs.Answer.{answer, ask_of, effect, first_conditions_on, who, Gives, Refuses}
 use Rattle.acvp_desk.specs.Kept.{IsKept}
 use Rattle.acvp_desk.specs.Serves.{Holds}
@@ -57,6 +57,11 @@ pub record SeesTheSame (u : ℕ) (one other : State) : Type 0 where
   pub live_sets : (s : ℕ) → may_see u (owner_of s) s one ≡ true → live_records s one.sets ≡ live_records s other.sets
   pub set : (v : ℕ) → may_see u (owner_of (v / 100)) (v / 100) one ≡ true → set_record_at v one.sets ≡ set_record_at v other.sets
 
+-- so does the account of a request; to nobody all records are alike
+abbrev pub SeesAlike : Option ℕ → State → State → Type 0
+SeesAlike None one other = ⊤
+SeesAlike (Some u) one other = SeesTheSame u one other
+
 -- whom a request asks to add as a reviewer
 abbrev pub reviewer_asked_by : Action → List ℕ → Option ℕ
 reviewer_asked_by action.AddReviewer body = reviewer_at body
@@ -64,12 +69,6 @@ reviewer_asked_by _ body = None
 
 abbrev pub reviewer_asked : RequestValue → Option ℕ
 reviewer_asked r = reviewer_asked_by r.action r.body
-
--- The rows that the account of a request sees are the same in both: its own, and those of the sessions that it reviews.
--- To nobody all records are alike.
-abbrev pub SeesAlike : Option ℕ → State → State → Type 0
-SeesAlike None one other = ⊤
-SeesAlike (Some u) one other = seen u one ≡ seen u other
 
 -- what is replied is the object of this answer, or its rule; or it is unavailable
 abbrev pub IsReplyBy : DeskReply → Result (Option Data) Rule → Type 0
@@ -97,8 +96,8 @@ module _ {T : Type 0} (stands : T → Content → Type 0) (is_live : T → Type 
       → (IsUnavailable reply × Holds stands is_live new c)
       ⊎ ((d : Content) × Holds stands is_live new d × ((v : ℕ) → own v (state_of d) ≡ own_after_request keys moment r v (own v (state_of c))))
 
-  -- What is replied is what any well numbered records give in which the account that asks sees the rows that it sees in
-  -- those that the tables stood for.
+  -- What is replied is what any well numbered records give in which the account that asks sees the same as in those
+  -- that the tables stood for.
   abbrev pub IsToldBySeen : (T → Type 0) → DeskReply → T → T → Keys → ℕ → RequestValue → Type 0
   IsToldBySeen is_clean reply old new keys moment r = is_clean new → (c : Content) → IsKept keys.seed c → Holds stands is_live old c
       → (state : State) → IsWellNumbered state → SeesAlike (who_of keys moment r) (state_of c) state → IsReplyBy reply (answer keys moment r state)

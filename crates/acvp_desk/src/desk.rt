@@ -1,6 +1,6 @@
 //! The desk: the keys of a server, what it computed last, and its records.
 
-ghost use Rattle.std.specs.Prelude.{◌≡◌, ◌≤◌, false, IfOk, IfErr};
+ghost use Rattle.std.specs.Prelude.{◌≡◌, ◌+◌, ◌≤◌, false, length, IfOk, IfErr};
 ghost use Rattle.acvp_tables.specs.Content.{Content, greatest_epoch_of};
 ghost use Rattle.acvp_tables.specs.State.{IsSound};
 ghost use Rattle.acvp_desk.specs.Request.{request_value};
@@ -158,6 +158,13 @@ impl<T: Tables> Desk<T> {
                 changed: false,
             },
         }
+    }
+
+    /// The epoch of the newest seed, under which new vector sets are made. It takes no memory.
+    pub fn newest_epoch(&self) -> u64
+        ensures { result + 1 ≡ length self.now.keys.seed }
+    {
+        self.cache.seeds().newest()
     }
 
     /// How many vector sets the cache holds something of. It takes no memory.

@@ -30,6 +30,7 @@ pub fn orders_are_apart()
 /// A request that names no account has the same answer whatever the records hold, and changes nothing.
 pub fn nobody_is_answered_alike()
     ensures answer { (keys : Keys) (moment : ℕ) (r : RequestValue) (one other : State) → who_of keys moment r ≡ None → answer keys moment r one ≡ answer keys moment r other }
+    ensures change { (keys : Keys) (moment : ℕ) (r : RequestValue) (state : State) → who_of keys moment r ≡ None → accepted_change keys moment r state ≡ None }
     ensures effect { (keys : Keys) (moment : ℕ) (r : RequestValue) (state : State) → who_of keys moment r ≡ None → effect keys moment r state ≡ state }
 {}
 

@@ -2,8 +2,9 @@
 use Rattle.std.proofs.Common.{◌≡◌, inl, inr, ℕ, List, true, false, Option, None, Some, Result, refl, sym, ap, subst, ◌∙◌}
 use Rattle.acvp_policy.specs.declared.rule.Rule.{Rule}
 use Rattle.acvp_tables.specs.Content.{Content}
-use Rattle.acvp_tables.specs.State.{State, own, seen, state_of, IsSound, IsWellNumbered}
-use Rattle.acvp_desk.specs.Answer.{answer, content_effect, effect}
+use Rattle.acvp_tables.specs.State.{State, own, state_of, IsSound, IsWellNumbered}
+use Rattle.acvp_tables.specs.declared.change.Change.{Change}
+use Rattle.acvp_desk.specs.Answer.{accepted_change, answer, content_after, content_effect, effect}
 use Rattle.acvp_desk.specs.Data.{Data}
 use Rattle.acvp_desk.specs.Isolation.{own_after_request, who_of, SeesAlike, SeesTheSame}
 use Rattle.acvp_desk.specs.Request.{RequestValue}
@@ -20,14 +21,14 @@ module _ (follow : (keys : Keys) (m : ℕ) (r : RequestValue) (c : Content) → 
     (nobody : (keys : Keys) (m : ℕ) (r : RequestValue) (one other : State) → who_of keys m r ≡ None → answer keys m r one ≡ answer keys m r other)
     (alike : (u : ℕ) (keys : Keys) (m : ℕ) (r : RequestValue) (one other : State) → IsWellNumbered one → IsWellNumbered other → who_of keys m r ≡ Some u
     → SeesTheSame u one other → answer keys m r one ≡ answer keys m r other)
-    (sees : (u : ℕ) (one other : State) → IsWellNumbered one → IsWellNumbered other → seen u one ≡ seen u other → SeesTheSame u one other)
+    (unchanged : (keys : Keys) (m : ℕ) (r : RequestValue) (state : State) → who_of keys m r ≡ None → accepted_change keys m r state ≡ None)
     (keys : Keys) (m : ℕ) (bytes : List ℕ) where
   same_answer : (r : RequestValue) (one other : State) → IsWellNumbered one → IsWellNumbered other → SeesAlike (who_of keys m r) one other → answer keys m r one ≡ answer keys m r other
   same_answer r one other well_one well_other = go (who_of keys m r) refl
     where
       go : (w : Option ℕ) → who_of keys m r ≡ w → SeesAlike w one other → answer keys m r one ≡ answer keys m r other
       go None is same = nobody keys m r one other is
-      go (Some u) is same = alike u keys m r one other well_one well_other is (sees u one other well_one well_other same)
+      go (Some u) is same = alike u keys m r one other well_one well_other is same
 
   left_by : (r : RequestValue) (c : Content) → IsSound c → (v : ℕ) → own v (state_of (content_effect keys m r c)) ≡ own_after_request keys m r v (own v (state_of c))
   left_by r c sound v = ap (own v) (follow keys m r c) ∙ apart v keys m r (state_of c) sound
@@ -46,6 +47,7 @@ module _ (follow : (keys : Keys) (m : ℕ) (r : RequestValue) (c : Content) → 
     told = λ other well alike_to. (other, inl (refl, refuses));
     left = λ v other after said well same_rows served. at_once v other after said same_rows served;
     others = λ v off. ap (λ (c : Content). own v (state_of c)) same;
+    nobody = λ none. same;
   }
     where
       at_once : (v : ℕ) (other after : Content) (said : List ℕ) → own v (state_of old) ≡ own v (state_of other) → ServesRequest keys m bytes other after said
@@ -63,6 +65,7 @@ module _ (follow : (keys : Keys) (m : ℕ) (r : RequestValue) (c : Content) → 
         ap (λ (c : Content). own v (state_of c)) is ∙ left_by r old sound v ∙ ap (own_after_request keys m r v) same_rows
         ∙ sym (ap (λ (c : Content). own v (state_of c)) (after_is r asks other after said served) ∙ left_by r other well v);
     others = λ v off. ap (λ (c : Content). own v (state_of c)) is ∙ left_by r old sound v ∙ rw off refl;
+    nobody = λ none. is ∙ ap (λ (made : Option Change). content_after made old) (unchanged keys m r (state_of old) none);
   }
 
 -- so the tables are taken on by each request
@@ -71,4 +74,4 @@ module _ {T : Type 0} (stands : T → Content → Type 0) (is_live is_clean : T 
       → GoesBy stands is_live is_clean keys (λ c next. IsTakenApart keys m bytes c next reply) old new
   taken_apart (true, goes) = λ clean c kept h. let (next, takes, after, kept_after) = goes clean c kept h in (next, inl takes, after, kept_after)
   taken_apart (false, goes) = λ clean c kept h.
-      let (next, takes, after, kept_after) = goes clean c kept h in (next, inr (law keys m bytes c next reply kept.sound takes), after, kept_after)
+      let (next, takes, after, kept_after) = goes clean c kept h in (next, inr (takes, law keys m bytes c next reply kept.sound takes), after, kept_after)

@@ -25,9 +25,10 @@ use Rattle.acvp_desk.specs.declared.keys.Keys.{Keys}
 use Rattle.acvp_desk.specs.declared.order.Order.{Order}
 use Rattle.acvp_http.specs.Asks.{ParsedRequest, refused, wrong_method, typed, Asks}
 use Rattle.acvp_http.specs.Event.{Event, request, order, Answer, replied, ordered, Turn}
-use Rattle.acvp_http.specs.Isolation.{is_theirs, is_told, whose, AsksWithin, IsOf, IsToldAlone, Isolation, IsolationAlone, LetsSee, Only}
-use Rattle.acvp_http.specs.Private.Turns.{CanHappen}
+use Rattle.acvp_http.specs.Isolation.{is_theirs, is_told, whose, AsksWithin, IsOf, IsToldAlone, Isolation, IsolationAlone, LetsSee, Only, Told}
+use Rattle.acvp_http.specs.Event.{CanHappen}
 use Rattle.acvp_http.specs.Reply.{framed, refusal, IsDateOf}
+use Rattle.acvp_http.proofs.OneRun.{only_one, run_one, told_one}
 use Rattle.acvp_http.specs.Serve.{AsksTheDesk, IsRefused, IsReplied, RefusesAtOnce, Runs, Serves, Takes}
 
 same_number : (n : ℕ) → (n == n) ≡ true
@@ -304,7 +305,7 @@ module _ (keys : Keys) (u : ℕ) (these : ℕ → Bool) (itself : these u ≡ tr
             by : (w : ℕ) → who_of keys m r ≡ Some w → (b : Bool) → these w ≡ b
                 → Kept keys u these Alike asking (content_effect keys m r one) other (replied reply) ⊎ Dropped keys u these Alike asking (content_effect keys m r one) other
             by w named true ours = inl (ours_taken w named ours reply told)
-            by w named false off = inr (others_dropped w named off (λ asked. within r w asks.1 asked named))
+            by w named false off = inr (others_dropped w named off (λ asked. within r w asks asked named))
 
             go : (who : Option ℕ) → who_of keys m r ≡ who
                 → Kept keys u these Alike asking (content_effect keys m r one) other (replied reply) ⊎ Dropped keys u these Alike asking (content_effect keys m r one) other
@@ -342,7 +343,8 @@ module _ (keys : Keys) (u : ℕ) (these : ℕ → Bool) (AlikeNow : Content → 
     (turned : (turn : Turn) (one other next : Content) (told : Answer) → CanHappen turn.event → (turn.unavailable ≡ false → AsksWithin keys u these turn.event) → AlikeNow one other
     → Takes keys turn one next told → Kept keys u these AlikeNow turn next other told ⊎ Dropped keys u these AlikeNow turn next other) where
   abbrev Alone : List Turn → List Answer → Content → Type 0
-  Alone turns answers other = IsToldAlone keys u these turns other answers
+  Alone turns answers other = (chosen : List Turn) × (left : Content) × (others : List Answer) × (told : List Answer)
+      × Only keys these turns chosen × Runs keys chosen other left others × Told keys u turns answers told × Told keys u chosen others told
 
   kept_first : (turn : Turn) (turns : List Turn) (next other : Content) (told : Answer) (answers : List Answer) → (kept : Kept keys u these AlikeNow turn next other told)
       → Alone turns answers kept.left → Alone (turn ∷ turns) (told ∷ answers) other
@@ -436,10 +438,27 @@ module _ (keys : Keys) (u : ℕ) (these : ℕ → Bool) (itself : these u ≡ tr
   pub isolated : (turns : List Turn) (old new : Content) (answers : List Answer) → IsKept keys.seed old → All (λ turn. CanHappen turn.event) turns
       → LetsSee keys u these (state_of old) turns → Runs keys turns old new answers → IsToldAlone keys u these turns old answers
   isolated turns old new answers kept can lets runs =
+      let (chosen, left, others, told, only, runs_alone, here, heard) =
       alone keys u these (Alike keys u these itself)
       (λ turn one other next told can_now asked alike takes. turned turn.event turn.unavailable one other next told can_now asked alike takes)
       turns old old new answers can lets.asked
-      (record { kept_one = kept; kept_other = kept; owned = λ w ours. refl; reviewed_one = lets.reviewed; reviewed_other = lets.reviewed }) runs
+      (record { kept_one = kept; kept_other = kept; owned = λ w ours. refl; reviewed_one = lets.reviewed; reviewed_other = lets.reviewed }) runs in
+      record {
+        chosen = chosen;
+        left = left;
+        others = others;
+        told = told;
+        only = only;
+        runs = runs_alone;
+        here = here;
+        alone = heard;
+        every = λ theirs after said hears only_theirs runs_theirs told_theirs.
+            let same : theirs ≡ chosen = only_one keys these turns theirs chosen only_theirs only in
+            let ran = run_one keys chosen old after left said others (subst (λ (ts : List Turn). Runs keys ts old after said) same runs_theirs) runs_alone in
+            let hears_here : Told keys u chosen others hears = subst (λ (answers : List Answer). Told keys u chosen answers hears) ran.1 (subst (λ (ts : List Turn). Told keys u ts said hears) same told_theirs) in
+            let is : hears ≡ told = told_one keys u chosen others hears told hears_here heard in
+            subst (λ (answers_told : List Answer). Told keys u turns answers answers_told) (sym is) here;
+      }
 
 -- where nobody else lets it see anything
 pub alone_unnamed : Isolation → IsolationAlone

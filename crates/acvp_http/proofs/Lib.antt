@@ -27,3 +27,4 @@ pub mod HeadlineLemmas
 pub mod Isolated
 pub mod PromiseLemmas
 pub mod AnsweredApart
+pub mod OneRun

@@ -1,5 +1,5 @@
 -- A script's turns are as promised, for any tables.
-use Rattle.std.proofs.Common.{ℕ, List, [], ◌∷◌, subst}
+use Rattle.std.proofs.Common.{ℕ, ◌≤◌, List, [], ◌∷◌, length, subst}
 use Rattle.std.specs.List.{All}
 use Rattle.std.proofs.lemmas.List.Elements.{All-nil, All-cons}
 use Rattle.acvp_tables.specs.Content.{Content}
@@ -7,7 +7,7 @@ use Rattle.acvp_desk.specs.declared.keys.Keys.{Keys}
 use Rattle.acvp_http.specs.Event.{Answer, Turn}
 use Rattle.acvp_http.specs.Headline.{Headline, HeadlineLeft}
 use Rattle.acvp_http.specs.Isolation.{Isolation}
-use Rattle.acvp_http.specs.Private.Turns.{CanHappen}
+use Rattle.acvp_http.specs.Event.{CanHappen}
 use Rattle.acvp_http.specs.Promise.{GoesAsPromised}
 use Rattle.acvp_http.specs.Run.{RunsScript, RunsTurns, events_of}
 use Rattle.acvp_http.specs.Script.{IsScript}
@@ -26,16 +26,17 @@ all_can (turn ∷ turns) text (front, rest, is, written, script) =
 module _ {T : Type 0} (stands : T → Content → Type 0) (is_live is_clean : T → Type 0)
     (makes : (keys : Keys) (turns : List Turn) (answers : List Answer) (old new : T) → GoesThrough stands is_live is_clean keys turns answers old new
     → GoesByTurns stands is_live is_clean keys turns answers old new)
-    (headline : Headline) (left : HeadlineLeft) (isolation : Isolation) (keys : Keys) where
+    (headline : Headline) (left : HeadlineLeft) (isolation : Isolation) (keys : Keys) (seeded : 1 ≤ length keys.seed) where
   promised : (turns : List Turn) (answers : List Answer) (text : List ℕ) (old new : T) → IsScript (events_of turns) text → GoesThrough stands is_live is_clean keys turns answers old new
       → GoesAsPromised stands is_live is_clean keys turns answers old new
   promised turns answers text old new script through = λ clean c kept h.
       let (next, runs, stands-next, kept-next) = makes keys turns answers old new through clean c kept h in (
         next,
         record {
+          runs = runs;
           told = λ earlier later turn is. headline keys earlier later turn c next answers (subst (λ (ts : List Turn). Runs keys ts c next answers) is runs);
           left = left keys turns c next answers runs;
-          isolated = λ u these seeded lets. isolation keys u these turns c next answers seeded kept (all_can turns text script) lets runs;
+          isolated = λ u these lets. isolation keys u these turns c next answers seeded kept (all_can turns text script) lets runs;
         },
         stands-next,
         kept-next,

@@ -11,7 +11,7 @@ use Rattle.acvp_desk.specs.declared.order.Order.TheVariants.{AddAccount, Disable
 use Rattle.acvp_http.specs.declared.script.ScriptFault.{ScriptFault}
 use Rattle.acvp_http.specs.declared.script.ScriptFault.TheVariants.{Read, Write, Syntax, Limit, Memory}
 use Rattle.acvp_http.specs.Event.{Event, request, order, Answer, Turn}
-use Rattle.acvp_http.specs.Private.Turns.{CanHappen}
+use Rattle.acvp_http.specs.Event.{CanHappen}
 use Rattle.acvp_http.specs.Script.{IsScript, IsWritten, IsAccountNumber, HasNoEvent, answer_text, output_of}
 use Rattle.acvp_http.specs.Serve.{GoesByTurn, GoesByTurns, GoesThrough, ShowsEvent}
 use Rattle.acvp_http.specs.Private.Reading.{TakesPart, StopsReading}

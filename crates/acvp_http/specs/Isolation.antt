@@ -9,9 +9,8 @@ use Rattle.acvp_desk.specs.Kept.{IsKept}
 use Rattle.acvp_desk.specs.Request.{RequestValue}
 use Rattle.acvp_desk.specs.declared.keys.Keys.{Keys}
 use Rattle.acvp_http.specs.Asks.{ParsedRequest, refused, wrong_method, typed, Asks}
-use Rattle.acvp_http.specs.Event.{Event, request, order, Answer, Turn}
-use Rattle.acvp_http.specs.Private.Turns.{CanHappen}
-use Rattle.acvp_http.specs.Serve.{IsUnavailableRequest, Runs, ServesRequest}
+use Rattle.acvp_http.specs.Event.{Event, request, order, Answer, CanHappen, Turn}
+use Rattle.acvp_http.specs.Serve.{AsksTheDesk, IsUnavailableRequest, Runs, ServesRequest}
 
 -- ---- whose an event is
 
@@ -32,7 +31,7 @@ IsOf keys (order moment o) who = who ≡ None
 
 -- The bytes of a request were answered so over these records, and left the others. The account that they are of is told
 -- the same over all records in which it sees the same, and nobody what all records give. Of the account's own rows is
--- left what these alone tell, and those of every other stay as they were.
+-- left what these alone tell, and those of every other stay as they were; and nobody changes anything.
 pub record IsAnsweredApart (keys : Keys) (moment : ℕ) (bytes : List ℕ) (old new : Content) (reply : List ℕ) : Type 0 where
   pub who : Option ℕ
   pub of : IsOf keys (request moment bytes) who
@@ -41,6 +40,7 @@ pub record IsAnsweredApart (keys : Keys) (moment : ℕ) (bytes : List ℕ) (old 
   pub left : (v : ℕ) (other after : Content) (said : List ℕ) → IsSound other → own v (state_of old) ≡ own v (state_of other)
       → ServesRequest keys moment bytes other after said → own v (state_of new) ≡ own v (state_of after)
   pub others : (v : ℕ) → is_who who v ≡ false → own v (state_of new) ≡ own v (state_of old)
+  pub nobody : who ≡ None → new ≡ old
 
 -- so is each request that is served
 abbrev pub RequestIsolation : Type 0
@@ -50,7 +50,8 @@ RequestIsolation = (keys : Keys) (moment : ℕ) (bytes : List ℕ) (old new : Co
 -- or it is unavailable, and changes nothing
 abbrev pub IsTakenApart : Keys → ℕ → List ℕ → Content → Content → List ℕ → Type 0
 IsTakenApart keys moment bytes old new reply =
-    ((new ≡ old) × IsUnavailableRequest moment bytes reply) ⊎ IsAnsweredApart keys moment bytes old new reply
+    ((new ≡ old) × IsUnavailableRequest moment bytes reply)
+    ⊎ (ServesRequest keys moment bytes old new reply × IsAnsweredApart keys moment bytes old new reply)
 
 -- ---- the turns of some accounts alone
 
@@ -91,7 +92,7 @@ Told keys u (turn ∷ turns) (answer ∷ answers) told = (who : Option ℕ) × I
 
 -- a request that asks to add u as a reviewer is of one of these accounts
 abbrev pub AsksWithin : Keys → ℕ → (ℕ → Bool) → Event → Type 0
-AsksWithin keys u these (request moment bytes) = (r : RequestValue) (w : ℕ) → Asks bytes (typed r) → reviewer_asked r ≡ Some u → who_of keys moment r ≡ Some w
+AsksWithin keys u these (request moment bytes) = (r : RequestValue) (w : ℕ) → AsksTheDesk moment bytes r → reviewer_asked r ≡ Some u → who_of keys moment r ≡ Some w
     → these w ≡ true
 AsksWithin keys u these (order moment o) = ⊤
 
@@ -103,10 +104,18 @@ pub record LetsSee (keys : Keys) (u : ℕ) (these : ℕ → Bool) (state : State
   pub asked : All (λ turn. turn.unavailable ≡ false → AsksWithin keys u these turn.event) turns
 
 -- u is told in the run what it is told in the run of the operator's and these accounts' turns alone, from the same
--- records
-abbrev pub IsToldAlone : Keys → ℕ → (ℕ → Bool) → List Turn → Content → List Answer → Type 0
-IsToldAlone keys u these turns old answers = (chosen : List Turn) × (left : Content) × (others : List Answer) × (told : List Answer)
-    × Only keys these turns chosen × Runs keys chosen old left others × Told keys u turns answers told × Told keys u chosen others told
+-- records: there is such a run, and in each that is one it is told the same
+pub record IsToldAlone (keys : Keys) (u : ℕ) (these : ℕ → Bool) (turns : List Turn) (old : Content) (answers : List Answer) : Type 0 where
+  pub chosen : List Turn
+  pub left : Content
+  pub others : List Answer
+  pub told : List Answer
+  pub only : Only keys these turns chosen
+  pub runs : Runs keys chosen old left others
+  pub here : Told keys u turns answers told
+  pub alone : Told keys u chosen others told
+  pub every : (only_theirs : List Turn) (after : Content) (said heard : List Answer) → Only keys these turns only_theirs → Runs keys only_theirs old after said
+      → Told keys u only_theirs said heard → Told keys u turns answers heard
 
 -- What an account is told in a run is what it is told where only those act that let it see something.
 abbrev pub Isolation : Type 0

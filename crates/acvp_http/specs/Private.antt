@@ -5,6 +5,5 @@ pub mod Receiving
 pub mod Writing
 pub mod Head
 pub mod ReplyBytes
-pub mod Turns
 pub mod Rows
 pub mod Spaces

@@ -24,8 +24,8 @@ pub fn headline()
 
 /// Isolation. What an account is told over a whole run is what it is told where nobody acts but the operator, the
 /// account itself, and those that have it as a reviewer or ask to add it as one: its replies are byte for byte those of
-/// the run of their turns alone, from the same records. An account that nobody else adds as a reviewer is answered as if
-/// it were alone.
+/// the run of their turns alone, from the same records, and there is one such run. An account that no other has as a
+/// reviewer, or asks to add as one, is told what it is told where the operator and it alone act.
 ///
 /// Events that were unavailable count for neither run.
 pub fn isolation()

@@ -1,8 +1,7 @@
 //! A script from its bytes to the bytes of the replies.
 ghost use Rattle.std.specs.Prelude.{◌≡◌, Bool, List, false};
-ghost use Rattle.acvp_http.specs.Event.{Answer, Turn};
+ghost use Rattle.acvp_http.specs.Event.{Answer, CanHappen, Turn};
 ghost use Rattle.acvp_desk.specs.declared.keys.Keys.{Keys};
-ghost use Rattle.acvp_http.specs.Private.Turns.{CanHappen};
 ghost use Rattle.acvp_http.specs.Private.Reading.{event_of};
 ghost use Rattle.acvp_http.specs.Run.{RunsScript, RunsTurns, is_read_answer, is_write_answer};
 ghost use Rattle.acvp_http.specs.Script.{answer_text};
@@ -114,6 +113,7 @@ pub fn run<T: Tables, S: Source, K: Sink>(
     ensures read_fault { (S.stream reader.new).failed ≡ is_read_answer result }
     ensures write_fault { (K.stream writer.new).failed ≡ is_write_answer result }
 {
+    desk.newest_epoch();
     headline();
     isolation();
     turns_make_a_run::<T>();

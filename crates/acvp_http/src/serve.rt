@@ -56,8 +56,8 @@ fn answer_bytes<T: Tables>(routes: &Routes, desk: &mut Desk<T>, moment: u64, byt
     }
 }
 
-/// Answers the request of these bytes at a moment, in seconds since 1970. Where the answer is 45, memory or the store
-/// was refused, and the same bytes may be sent again.
+/// Answers the request of these bytes at a moment, in seconds since 1970. Where the answer is 45, nothing has changed: the
+/// same bytes may be sent again, and are answered where there is memory then and no row of theirs stands for nothing.
 ///
 /// Unless it is unavailable, what is told depends alone on what the account that asks sees, and what is left of each
 /// account's rows on these rows alone, as `request_isolation` says.
