@@ -2,18 +2,20 @@
 """Shows that an account is told the same whoever else acts. Three accounts each walk through the protocol, one event
 after another, with nobody else there; then their events run together in several orders, and each account's replies must
 be byte for byte those that it got alone. Then one adds another as a reviewer: the reviewer's replies must be those of
-the run of its own events and of the one that added it. And a request for another account's vector set under a session of
-one's own gets the same bytes whether that set is there or not.
+the run of its own events and of the one that added it. Over files the same goes for a reviewer that an earlier run has
+added: each run begins with a copy of the file that this one has left. And a request for another account's vector set
+under a session of one's own gets the same bytes whether that set is there or not.
 
     checks/accounts-apart.py COMMAND..
     checks/accounts-apart.py --file PROGRAM KEYS SHIM
 
 COMMAND runs the server in script mode under a token key and a seed of zeros, or such keys are in KEYS, under which
-PROGRAM serves a new file for each run. SHIM, the library of set_clock.c, shows it the moment of each request."""
+PROGRAM serves a file of its own for each run. SHIM, the library of set_clock.c, shows it the moment of each request."""
 import contextlib
 import hashlib
 import json
 import os
+import shutil
 import subprocess
 import sys
 import tempfile
@@ -34,8 +36,8 @@ def token_of(account, session=None):
 
 
 @contextlib.contextmanager
-def server(command):
-    """A server without a record."""
+def server(command, start=None):
+    """A server without a record, or over a copy of the folder that an earlier run has left."""
     if command[0] != "--file":
         running = Piped(command)
         yield running
@@ -44,7 +46,10 @@ def server(command):
     program, keys, shim = command[1:]
     with tempfile.TemporaryDirectory() as folder:
         file = os.path.join(folder, "laboratory.db")
-        subprocess.run([program, "init", "--db", file], check=True, stdout=subprocess.DEVNULL)
+        if start is None:
+            subprocess.run([program, "init", "--db", file], check=True, stdout=subprocess.DEVNULL)
+        else:
+            shutil.copytree(start, folder, dirs_exist_ok=True)
         running = Served(program, file, keys, shim)
         try:
             yield running
@@ -52,11 +57,27 @@ def server(command):
             running.end()
 
 
-def replies(command, events):
+def each_told(running, events):
+    return [running.ask_at(MOMENT, it) if isinstance(it, bytes) else running.order(it) for _, it in events]
+
+
+@contextlib.contextmanager
+def left_by(command, events):
+    """The folder that a run of events leaves, each of which must be done: the file and what lies beside it."""
+    with tempfile.TemporaryDirectory() as folder:
+        with server(command) as running:
+            for told in each_told(running, events):
+                assert told == "order done" or shown(told)[0] == 200, told
+            running.end()
+            shutil.copytree(os.path.dirname(running.file), folder, dirs_exist_ok=True)
+        yield folder
+
+
+def replies(command, events, start=None):
     """The answers to events, in one run: of a request the bytes of its reply, of an order its line."""
     if command[0] == "--file":
-        with server(command) as running:
-            return [running.ask_at(MOMENT, it) if isinstance(it, bytes) else running.order(it) for _, it in events]
+        with server(command, start) as running:
+            return each_told(running, events)
     text = b"".join(b"request %d %d\n%s\n" % (MOMENT, len(it), it) if isinstance(it, bytes) else it.encode() + b"\n"
                     for _, it in events)
     output = subprocess.run(command, input=text, stdout=subprocess.PIPE, check=True).stdout
@@ -131,9 +152,9 @@ class Walk:
         self.does("DELETE", f"/testSessions/{first + 1}", token=token_of(self.account, first + 1))
 
 
-def walked(command, account, others=()):
+def walked(command, account, others=(), start=None):
     """The walk of an account that is alone."""
-    with server(command) as running:
+    with server(command, start) as running:
         walk = Walk(running, account, others)
         walk.walk()
         return walk
@@ -158,8 +179,8 @@ def only(accounts, events):
     return [event for event in events if event[0] is None or event[0] in accounts]
 
 
-def same(what, account, events, command, wanted):
-    got = of(account, events, replies(command, events))
+def same(what, account, events, command, wanted, start=None):
+    got = of(account, events, replies(command, events, start))
     for place, (one, other) in enumerate(zip(got, wanted)):
         assert one == other, f"{what}, account {account}, reply {place}: {one!r} in place of {other!r}"
     assert len(got) == len(wanted), what
@@ -181,43 +202,68 @@ def three_accounts(command):
     assert of(7, without, replies(command, without)) != of(7, first.events, first.told)
 
 
+SET_OF = "/testSessions/7000001/vectorSets/70000010"
+WRONG = {"testGroups": [], "vsId": 700000101}
+ADDS_NINE = ("POST", "/testSessions/7000001/reviewers", {"account": 9})
+REMOVES_NINE = ("DELETE", "/testSessions/7000001/reviewers/9", None)
+
+
+def of_seven(method, path, thing):
+    """A request of account 7 on its first session."""
+    return 7, request(method, path, token_of(7, 7000001), thing)
+
+
+def looked_at_between(*changes):
+    """Changes of account 7 to its first session, whose results accounts 9 and 11 ask for before, between and after."""
+    paths = ["/testSessions/7000001/results", f"{SET_OF}1/results", f"{SET_OF}2/results"]
+    looks = [(account, request("GET", path, token_of(account))) for account in (9, 11) for path in paths]
+    return looks + [event for change in changes for event in [of_seven(*change)] + looks]
+
+
+def are_apart(what, command, events, start=None):
+    """The answers to events of account 7, of its reviewer 9 and of account 11. Each account is told the same without
+    what the others do, but for the reviewer, who isn't told the same without what account 7 does."""
+    told = replies(command, events, start)
+    for account, within in ((9, {7, 9}), (7, {7}), (11, {11})):
+        same(what, account, only(within, events), command, of(account, events, told), start)
+    # so the comparison can fail
+    without = only({9}, events)
+    assert of(9, without, replies(command, without, start)) != of(9, events, told)
+    return told
+
+
 def a_reviewer(command):
     adds, reviews, looks_on = walked(command, 7, (9, 11)), walked(command, 9, (7, 11)), walked(command, 11, (7, 9))
-    bound = token_of(7, 7000001)
-    results = ["/testSessions/7000001/results"] + [f"/testSessions/7000001/vectorSets/70000010{place}/results" for place in (1, 2)]
-
-    def asks(walk):
-        for path in results:
-            text = request("GET", path, walk.account_token)
-            walk.events.append((walk.account, text))
-
     # the one adds the other as a reviewer, answers a set anew, cancels the other set, and takes the reviewer away again;
     # and the other asks before, between and after
-    set_of = "/testSessions/7000001/vectorSets/70000010"
-    wrong = {"testGroups": [], "vsId": 700000101}
     events = in_turn((adds, reviews, looks_on), (5, 2, 3))
-    changes = (None, ("POST", "/testSessions/7000001/reviewers", {"account": 9}), ("PUT", f"{set_of}1/results", wrong),
-               ("DELETE", f"{set_of}2", None), ("DELETE", "/testSessions/7000001/reviewers/9", None))
-    for change in changes:
-        if change:
-            method, path, thing = change
-            events.append((7, request(method, path, bound, thing)))
-        for walk in (reviews, looks_on):
-            walk.events = []
-            asks(walk)
-            events += walk.events
-    told = replies(command, events)
-    for account, within in ((9, {7, 9}), (7, {7}), (11, {11})):
-        same("with a reviewer", account, only(within, events), command, of(account, events, told))
+    submits_anew, cancels = ("PUT", f"{SET_OF}1/results", WRONG), ("DELETE", f"{SET_OF}2", None)
+    events += looked_at_between(ADDS_NINE, submits_anew, cancels, REMOVES_NINE)
+    told = are_apart("with a reviewer", command, events)
     looks = [shown(reply) for reply in of(9, events, told)[-15:]]
     statuses = [status for status, _ in looks]
     assert statuses == [403] * 3 + [200] * 8 + [409] + [403] * 3, statuses
     assert len({json.dumps(thing) for _, thing in (looks[3], looks[6], looks[9])}) == 3, looks
     assert [shown(reply)[0] for reply in of(7, events, told)[-4:]] == [200] * 4
-    # without the one that adds it the reviewer is told something else, so the comparison can fail
-    without = only({9}, events)
-    assert of(9, without, replies(command, without)) != of(9, events, told)
     print(f"{len(events)} events with a reviewer: it is told what its own events and those of who adds it tell")
+
+
+def a_reviewer_from_the_start(command):
+    """Over files alone: no other run begins with what an earlier one has left."""
+    before = [(None, f"account-add 0 {account} {secret_of(account).hex()}") for account in (7, 9, 11)]
+    before += [(7, request("POST", "/testSessions", token_of(7), REGISTRATION)), of_seven(*ADDS_NINE)]
+    with left_by(command, before) as start:
+        walks = [walked(command, account, (7, 9, 11), start) for account in (9, 11)]
+        # the one answers a set, cancels the other, and takes the reviewer away, who asks before, between and after
+        events = looked_at_between(("POST", f"{SET_OF}1/results", WRONG), ("DELETE", f"{SET_OF}2", None))
+        events += in_turn(walks, (2, 3)) + looked_at_between(REMOVES_NINE)
+        told = are_apart("with a reviewer from the start", command, events, start)
+    of_nine = of(9, events, told)
+    statuses = [shown(reply)[0] for reply in of_nine[:9] + of_nine[-6:]]
+    assert statuses == [200] * 8 + [409] + [200] * 2 + [409] + [403] * 3, statuses
+    assert len({json.dumps(shown(of_nine[place])[1]) for place in (0, 3, 6)}) == 3, of_nine[:9]
+    assert [shown(reply)[0] for reply in of(7, events, told)] == [200] * 3
+    print(f"{len(events)} events with a reviewer from the start: it is told what its own events and account 7's tell")
 
 
 def a_set_of_another_session(command):
@@ -237,6 +283,8 @@ def a_set_of_another_session(command):
 def main():
     three_accounts(sys.argv[1:])
     a_reviewer(sys.argv[1:])
+    if sys.argv[1] == "--file":
+        a_reviewer_from_the_start(sys.argv[1:])
     a_set_of_another_session(sys.argv[1:])
 
 

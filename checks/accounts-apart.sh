@@ -1,6 +1,6 @@
 #!/usr/bin/env bash
 # Shows that an account is told the same whoever else acts: by the proved program over a database in memory and over
-# files that it serves, and by acvp_demo over lists.
+# files that it serves, some of which an earlier run has left, and by acvp_demo over lists.
 set -eu
 cd "$(dirname "$0")/.."
 for tool in cc python3; do

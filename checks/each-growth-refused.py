@@ -1,28 +1,44 @@
 #!/usr/bin/env python3
-"""Runs a script with each growth of memory refused in turn.
+"""Runs a script with each growth of memory refused in turn, or does so with requests over a file that is served.
 
     checks/each-growth-refused.py SHIM FAULT COMMAND..
+    checks/each-growth-refused.py --file SHIM CLOCK PROGRAM KEYS
 
-COMMAND runs the server in script mode under a token key and a seed of zeros, and FAULT is what it writes to its standard
-error where memory ends the run. SHIM is the library of refuse_growth.c.
+COMMAND runs the server in script mode under a token key and a seed of zeros, and FAULT is what it writes to its
+standard error where memory ends the run. SHIM is the library of refuse_growth.c.
 
 The right answers are those of the small server below, which is written from the protocol and not from the program.
 With nothing refused every answer is right, and none is `unavailable`. With one growth refused, the event that was
 being handled may be answered `unavailable`, and has then changed nothing: every other answer is right, and so is
 that to the same event where it is sent again. Or the run ends there as `fault: memory`, with the answers to the
-events before it."""
+events before it.
+
+With --file PROGRAM serves a file under the keys in KEYS, and CLOCK, the library of set_clock.c, shows it the moment of
+each request: a login, one POST and one GET. Each growth from the moment that it listens until it has replied is refused
+to a process of its own, over a copy of the file. The reply is right; or it is `unavailable`, and the same request, sent
+again, is answered right. The process goes on. Of the growths before it listens some are refused, too: there it may also
+end as `fault: memory`. Each time the file is then served anew with nothing refused: what was acknowledged is there, and
+nothing else. The command that adds an account is done, or it is `fault: unavailable` or `fault: memory`. Given again it
+is `taken`, or done where it wasn't acknowledged, and the account logs in."""
+import copy
 import hashlib
+import itertools
 import os
+import shutil
 import subprocess
 import sys
 import tempfile
 import time
 
 from chacha20 import Words
-from laboratory import compact, signed
+from laboratory import Served, compact, signed
 from validation import one_time_code
 
-SHIM, FAULT, COMMAND = sys.argv[1], sys.argv[2].encode(), sys.argv[3:]
+IS_SERVED = sys.argv[1] == "--file"
+if IS_SERVED:
+    SHIM, CLOCK, PROGRAM, KEYS = sys.argv[2:]
+else:
+    SHIM, FAULT, COMMAND = sys.argv[1], sys.argv[2].encode(), sys.argv[3:]
 TOKEN_KEY, SEED = bytes(32), bytes(32)
 ANOTHER_KEY = bytes(range(32))
 SECRET = b"12345678901234567890123456789012"
@@ -359,4 +375,181 @@ def main():
     print(f"{at - 1} growths, each refused once; {again} made an event unavailable, answered right when sent again")
 
 
-main()
+# ---- over a file that is served
+
+REQUESTS = [login("login", 59, 1),
+            called("new session", 60, "POST", "/acvp/v1/testSessions", new_session, REGISTERED, bound=False),
+            called("session's results", 61, "GET", f"{SESSION_URL}/results", session_results)]
+# What is asked when the file is served anew: the code is used, or not, and the session is there, or not.
+ASKED_ANEW = [login("login", 62, 1), REQUESTS[2]]
+# Of the growths before a process listens, and before the last ones of a command, one in so many is tried. What a
+# command takes to carry its order out, and to say so, is among its last ones.
+STRIDE, LAST = 1000, 120
+# No machine stops here, so the files may lie in memory, where a commit waits for no disk.
+ROOM = "/dev/shm" if os.access("/dev/shm", os.W_OK) else None
+ADDED, TAKEN = (0, b"account 7 added\n", b""), (1, b"", b"fault: taken\n")
+NO_MEMORY, NOT_AVAILABLE = (1, b"", b"fault: memory\n"), (1, b"", b"fault: unavailable\n")
+
+
+def without_line(text):
+    """The request of a script, or the reply among its answers, without the line before it."""
+    return text.partition(b"\n")[2][:-1]
+
+
+def refusing(at, mark):
+    """The environment of a process to which this growth is refused, or none, as 0."""
+    return {**os.environ, "REFUSE_AT": str(at), "REFUSED": mark}
+
+
+class Serving(Served):
+    """A file that is served by one process, to which this growth is refused."""
+
+    def __init__(self, file, at=0):
+        super().__init__(PROGRAM, file, KEYS, f"{CLOCK}:{SHIM}")
+        self.mark = f"{file}-refused"
+        args = [PROGRAM, "serve", "--db", file, "--keys", KEYS, "--port", str(self.port), "--count", "9"]
+        self.process = subprocess.Popen(args, stdout=subprocess.PIPE, stderr=subprocess.PIPE,
+                                        env=refusing(at, self.mark))
+        self.listens = self.process.stdout.readline() == b"listening 127.0.0.1:%d\n" % self.port
+
+    def is_refused(self):
+        return os.path.exists(self.mark)
+
+    def ended(self):
+        """How the process has ended by itself."""
+        output, errors = self.process.communicate(timeout=60)
+        return self.process.returncode, output, errors
+
+    def asked(self, event):
+        return self.ask_at(int(event.text.split(b" ")[1]), without_line(event.text))
+
+
+def copied(base, room):
+    """The file of a folder, in a copy of the folder."""
+    shutil.rmtree(room, ignore_errors=True)
+    shutil.copytree(base, room)
+    return os.path.join(room, "laboratory.db")
+
+
+def is_right(what, event, got, accounts):
+    wanted = without_line(event.answer(accounts))
+    if got != wanted:
+        sys.exit(f"{what}: {event.what} is answered {got!r} in place of {wanted!r}")
+
+
+def served_anew(what, file, events, accounts):
+    """Serves the file with nothing refused: these events are answered right."""
+    serving = Serving(file)
+    for event in events:
+        is_right(what, event, serving.asked(event), accounts)
+    serving.end()
+
+
+def serve_without(base, room, event, accounts, at):
+    """Serves an event over a copy of the file with this growth refused. Whether it was refused, and whether the event
+    was unavailable."""
+    what = f"growth {at}, refused to a process that serves"
+    accounts, file = copy.deepcopy(accounts), copied(base, room)
+    serving, is_unavailable = Serving(file, at), False
+    if serving.listens:
+        was_refused, got = serving.is_refused(), serving.asked(event)
+        is_unavailable = got == without_line(UNAVAILABLE) and serving.is_refused() and not was_refused
+        is_right(what, event, serving.asked(event) if is_unavailable else got, accounts)
+        if serving.process.poll() is not None:
+            sys.exit(f"{what}: it ends with {serving.ended()}")
+        serving.end()
+    elif (ended := serving.ended()) != NO_MEMORY:
+        sys.exit(f"{what}: it ends with {ended}")
+    served_anew(f"{what}, and then anew", file, ASKED_ANEW, accounts)
+    return serving.is_refused(), is_unavailable
+
+
+def listens_without(base, room, at):
+    """Whether a process listens before it meets this growth."""
+    serving = Serving(copied(base, room), at)
+    listens = serving.listens and not serving.is_refused()
+    serving.end()
+    return listens
+
+
+def added(file, secret, at=0):
+    """How the command that adds account 7 ends, with this growth refused."""
+    args = [PROGRAM, "account-add", "--db", file, "--account", "7", "--secret", secret]
+    env = {**refusing(at, f"{file}-refused"), "LD_PRELOAD": SHIM}
+    done = subprocess.run(args, stdin=subprocess.DEVNULL, capture_output=True, env=env, timeout=60)
+    return done.returncode, done.stdout, done.stderr
+
+
+def account_seven():
+    accounts = {}
+    add(7).answer(accounts)
+    return accounts
+
+
+def add_without(base, room, secret, at):
+    """Adds account 7 to a copy of the file with this growth refused. Whether it was refused."""
+    what = f"growth {at}, refused to the command that adds an account"
+    file = copied(base, room)
+    first = added(file, secret, at)
+    again = added(file, secret)
+    may_be = [(ADDED, TAKEN), *((fault, told) for fault in (NO_MEMORY, NOT_AVAILABLE) for told in (ADDED, TAKEN))]
+    if (first, again) not in may_be:
+        sys.exit(f"{what}: it ends with {first}, and given again with {again}")
+    served_anew(what, file, REQUESTS[:1], account_seven())
+    return os.path.exists(f"{file}-refused")
+
+
+def first_that(holds):
+    """The first growth for which this holds, as it does for all behind it."""
+    low, high = 1, 100000
+    while low < high:
+        middle = (low + high) // 2
+        low, high = (low, middle) if holds(middle) else (middle + 1, high)
+    return low
+
+
+def command_with_a_file(base, room, secret):
+    end = first_that(lambda at: not add_without(base, room, secret, at))
+    last = end - LAST
+    for at in [*range(1, last, STRIDE), *range(last, end)]:
+        add_without(base, room, secret, at)
+    print(f"an account is added: the last {LAST} of {end - 1} growths, and one in {STRIDE} before, each refused once")
+
+
+def requests_with_a_file(base, room, event, accounts):
+    start = first_that(lambda at: listens_without(base, room, at))
+    for at in range(1, start, STRIDE):
+        serve_without(base, room, event, accounts, at)
+    met = 0
+    for at in itertools.count(start):
+        is_refused, is_unavailable = serve_without(base, room, event, accounts, at)
+        met += is_unavailable
+        if not is_refused:
+            break
+    if met < 20:
+        sys.exit(f"{event.what}: {met} growths made it unavailable. Is the shim in place?")
+    print(f"{event.what}: {at - start} growths, each refused once; {met} made it unavailable, right when sent again")
+
+
+def over_a_file():
+    os.umask(0o077)
+    with tempfile.TemporaryDirectory(dir=ROOM) as folder:
+        base, room, secret = (os.path.join(folder, name) for name in ("base", "room", "secret"))
+        file = os.path.join(base, "laboratory.db")
+        os.mkdir(base)
+        with open(secret, "w") as written:
+            written.write(SECRET.hex() + "\n")
+        subprocess.run([PROGRAM, "init", "--db", file], check=True, stdout=subprocess.DEVNULL)
+        command_with_a_file(base, room, secret)
+        if added(file, secret) != ADDED:
+            sys.exit("with nothing refused no account is added")
+        accounts = account_seven()
+        for event in REQUESTS:
+            requests_with_a_file(base, room, event, accounts)
+            served_anew("with nothing refused", file, [event], accounts)
+
+
+if IS_SERVED:
+    over_a_file()
+else:
+    main()

@@ -1,6 +1,6 @@
 // Stands between the program and malloc: refuses the growth whose number REFUSE_AT gives, and then writes into the
-// file REFUSED how many bytes of standard output, a file, are written. Preloaded into the built program by
-// each-growth-refused.sh.
+// file REFUSED how many bytes of standard output are written, where that is a file. Preloaded into the built program
+// by each-growth-refused.sh.
 #define _GNU_SOURCE
 #include <dlfcn.h>
 #include <errno.h>

@@ -1,11 +1,11 @@
 -- What is read of rows one after another.
 use Rattle.std.proofs.Common.{◌≡◌, ℕ, zero, suc, ◌+◌, ◌<◌, ◌≤◌, List, [], ◌∷◌, ◌++◌, map, length, get_or, Some, Ok, refl, sym, ap, ◌∙◌, arith}
 use Rattle.std.specs.Prelude.{take}
+use Rattle.std.proofs.lemmas.List.{length-map}
 use Rattle.acvp_json.specs.declared.page.Page.{Page}
-use Rattle.acvp_tables.specs.Content.{Content, counts_of, page, sessions_of}
-use Rattle.acvp_tables.specs.State.{record_counts, session_record, session_records_of, state_of}
+use Rattle.acvp_tables.specs.Content.{Content, page, sessions_of}
+use Rattle.acvp_tables.specs.State.{session_record, session_records_of, state_of}
 use Rattle.acvp_tables.specs.declared.rows.SessionRow.{SessionRow}
-use Rattle.acvp_tables.specs.declared.summary.Counts.{Counts}
 use Rattle.acvp_desk.specs.Place.{listed_session, sessions_material}
 use Rattle.acvp_desk.specs.declared.found.ListedSession.{ListedSession}
 use Rattle.acvp_desk.specs.declared.found.Material.TheVariants.{Sessions}
@@ -49,13 +49,12 @@ all_read f g rows i items so_far all = so_far ∙ ap (map (λ row. g (f row))) (
 -- a page of an account's sessions
 pub sessions_there : (sessions : (u : ℕ) (c : Content) → session_records_of u (state_of c).sessions ≡ map session_record (sessions_of u c.sessions))
     → (pages : (offset limit : ℕ) (rows : List SessionRow) → page offset limit (map session_record rows) ≡ map session_record (page offset limit rows))
-    → (counted : (u : ℕ) (c : Content) → record_counts u (state_of c) ≡ counts_of u c)
-    → (u : ℕ) (c : Content) (wanted : Page) (counts : Counts) (rows : List SessionRow) (listed : List ListedSession) → counts ≡ counts_of u c
+    → (u : ℕ) (c : Content) (wanted : Page) (count : ℕ) (rows : List SessionRow) (listed : List ListedSession) → count ≡ length (sessions_of u c.sessions)
     → rows ≡ page wanted.offset wanted.limit (sessions_of u c.sessions) → listed ≡ map (listed_session c.requests) (map session_record rows)
-    → Sessions counts.sessions listed ≡ sessions_material u (state_of c) (Some wanted)
+    → Sessions count listed ≡ sessions_material u (state_of c) (Some wanted)
 unfolding state_of
-sessions_there sessions pages counted u c wanted counts rows listed count_is rows_are listed_is =
-    let total : counts.sessions ≡ length (session_records_of u (state_of c).sessions) = ap (λ (n : Counts). n.sessions) (count_is ∙ sym (counted u c)) in
+sessions_there sessions pages u c wanted count rows listed count_is rows_are listed_is =
+    let total : count ≡ length (session_records_of u (state_of c).sessions) = count_is ∙ sym (ap length (sessions u c) ∙ length-map (sessions_of u c.sessions) session_record) in
     let there : listed ≡ map (listed_session c.requests) (page wanted.offset wanted.limit (session_records_of u (state_of c).sessions)) =
     listed_is ∙ ap (λ rows. map (listed_session c.requests) (map session_record rows)) rows_are
     ∙ ap (map (listed_session c.requests)) (sym (pages wanted.offset wanted.limit (sessions_of u c.sessions)) ∙ ap (page wanted.offset wanted.limit) (sym (sessions u c))) in

@@ -28,7 +28,7 @@ use acvp_policy::{
     Subject, Token, admit,
 };
 use acvp_tables::{
-    AccountRow, RequestStatus, SessionRow, StoreFault, Tables, numbers_name, numbers_tell,
+    AccountRow, Counted, RequestStatus, SessionRow, StoreFault, Tables, numbers_name, numbers_tell,
     selections_follow, sets_are_there_once,
 };
 use std::alloc::{AllocError, Global};
@@ -115,8 +115,8 @@ fn certification<T: Tables>(
     let Some(number) = certify else {
         return Ok(None);
     };
-    match tables.request(number)? {
-        Some(request) => Ok(Some(certification_status(request.status))),
+    match tables.request_status(number)? {
+        Some(status) => Ok(Some(certification_status(status))),
         None => Ok(None),
     }
 }
@@ -499,10 +499,10 @@ fn sessions_material<T: Tables>(
     let Some(page) = page else {
         return Ok(Material::Nothing);
     };
-    let counts = tables.counts(account)?;
+    let count = tables.count(account, Counted::Sessions)?;
     let rows = tables.sessions(account, page.offset, page.limit)?;
     let sessions = listed_sessions(alloc, tables, &rows)?;
-    Ok(Material::Sessions(counts.sessions, sessions))
+    Ok(Material::Sessions(count, sessions))
 }
 
 /// What is read of the records for a reply.

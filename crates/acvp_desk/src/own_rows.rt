@@ -1,10 +1,10 @@
 //! What an account owns is looked up: the objects of its registries, and its requests.
 
-ghost use Rattle.std.specs.Prelude.{◌≡◌, ℕ, List, length, map, ◌||◌, not, true, false, is_some, IfOk, option_map};
+ghost use Rattle.std.specs.Prelude.{◌≡◌, ◌||◌, not, true, false, is_some, IfOk, option_map};
 ghost use Rattle.acvp_policy.specs.Conditions.{is_none_or};
 ghost use Rattle.acvp_policy.specs.Resource.{resource_of};
 ghost use Rattle.acvp_registry.specs.Object.{object_vendor};
-ghost use Rattle.acvp_tables.specs.Content.{Content, counts_of, objects_of, request_summary, requests_of};
+ghost use Rattle.acvp_tables.specs.Content.{Content, request_summary};
 ghost use Rattle.acvp_tables.specs.State.{state_of};
 ghost use Rattle.acvp_desk.specs.Asked.{certification_asked, certified_in, has_own_parts, has_own_vendor, object_in, registration_asked};
 ghost use Rattle.acvp_desk.specs.Kept.{IsKept};
@@ -19,7 +19,7 @@ use crate::wish::{Registry, RegistryWish};
 use acvp_json::{CertifyBody, Page};
 use acvp_policy::{RowSubject, Subject};
 use acvp_registry::{Kind, Object};
-use acvp_tables::{Counts, ObjectRow, RequestSummary, StoreFault, Tables, numbers_name};
+use acvp_tables::{Counted, ObjectRow, RequestSummary, StoreFault, Tables, numbers_name};
 use std::alloc::Global;
 
 // ---- what a path names
@@ -133,17 +133,6 @@ pub(crate) fn has_row<T: Tables>(
 
 // ---- its lists
 
-/// How many objects a registry has.
-fn count_in(registry: Registry, counts: &Counts) -> u64
-    ensures { (account : ℕ) (c : Content) → counts.now ≡ counts_of account c → result ≡ length (objects_of (kind_of registry) account c.objects) }
-{
-    match registry {
-        Registry::Vendors => counts.vendors,
-        Registry::Modules => counts.modules,
-        Registry::Environments => counts.environments,
-    }
-}
-
 /// What is read for a page of a registry.
 fn objects_material<T: Tables>(
     tables: &mut T,
@@ -158,9 +147,10 @@ fn objects_material<T: Tables>(
     let Some(page) = page else {
         return Ok(Material::Nothing);
     };
-    let counts = tables.counts(account)?;
-    let rows = tables.objects(registry.kind(), account, page.offset, page.limit)?;
-    Ok(Material::Objects(count_in(registry, &counts), ObjectRows { rows }))
+    let kind = registry.kind();
+    let count = tables.count(account, Counted::Objects(kind))?;
+    let rows = tables.objects(kind, account, page.offset, page.limit)?;
+    Ok(Material::Objects(count, ObjectRows { rows }))
 }
 
 /// What is read for a page of an account's requests.
@@ -176,9 +166,9 @@ fn requests_material<T: Tables>(
     let Some(page) = page else {
         return Ok(Material::Nothing);
     };
-    let counts = tables.counts(account)?;
+    let count = tables.count(account, Counted::Requests)?;
     let rows = tables.requests(account, page.offset, page.limit)?;
-    Ok(Material::Requests(counts.requests, RequestRows { rows }))
+    Ok(Material::Requests(count, RequestRows { rows }))
 }
 
 // ---- what a body names
@@ -258,11 +248,8 @@ fn registration_asked<T: Tables>(
     ensures looks { Looks T.stands T.is_live T.is_clean T.leaves result tables.old tables.new }
 {
     let named = registration_named(alloc, tables, kind, account, body)?;
-    let counts = tables.counts(account)?;
-    Ok(Asked {
-        requests: counts.requests,
-        named,
-    })
+    let requests = tables.count(account, Counted::Requests)?;
+    Ok(Asked { requests, named })
 }
 
 /// What a certification is judged by, beside its body.
@@ -277,11 +264,8 @@ pub(crate) fn certification_asked<T: Tables>(
     ensures looks { Looks T.stands T.is_live T.is_clean T.leaves result tables.old tables.new }
 {
     let named = certification_named(alloc, tables, account, body)?;
-    let counts = tables.counts(account)?;
-    Ok(Asked {
-        requests: counts.requests,
-        named,
-    })
+    let requests = tables.count(account, Counted::Requests)?;
+    Ok(Asked { requests, named })
 }
 
 // ---- all of it

@@ -21,8 +21,8 @@ pub(crate) enum Connected {
     /// Replies into writers that go to each of their bytes.
     WritesEachFront,
 
-    /// A login whose reply is cut off, and the same again.
-    UsesItsCode,
+    /// A login whose writer has room for this front of its reply, and the same again.
+    UsesItsCode(&'static [u8]),
 
     /// Requests with more behind them.
     LeavesTheRest,
@@ -45,7 +45,7 @@ pub(crate) fn connects<T: Tables + Drop>(
     match connected {
         Connected::EndsEarly => leaves_the_code(rt, alloc, &mut desk),
         Connected::WritesEachFront => writes_each_front(rt, alloc, &mut desk),
-        Connected::UsesItsCode => uses_its_code(rt, alloc, &mut desk),
+        Connected::UsesItsCode(front) => uses_its_code(rt, alloc, &mut desk, front),
         Connected::LeavesTheRest => leaves_what_it_does_not_need(rt, alloc, &mut desk),
         Connected::GivesUp => gives_up(rt, alloc, &mut desk),
         Connected::GoesOn(place) => goes_on(rt, alloc, &mut desk, place),
@@ -160,16 +160,19 @@ fn a_reply_is_written_as_far_as_the_writer_goes(rt: HostRuntime) {
     over_both(&rt, rt.alloc(), Deed::Connected(Connected::WritesEachFront));
 }
 
-/// A login whose reply is cut off has used its code.
-fn uses_its_code<T: Tables>(rt: &impl Abort, alloc: Global, desk: &mut Desk<T>) {
-    writes_as_far(rt, alloc, desk, 59, LOGIN, b"HTTP/1.1 2");
+/// A login whose reply is cut off behind this front has used its code.
+fn uses_its_code<T: Tables>(rt: &impl Abort, alloc: Global, desk: &mut Desk<T>, front: &[u8]) {
+    writes_as_far(rt, alloc, desk, 59, LOGIN, front);
     let again = reply_to(rt, alloc, desk, 60, LOGIN);
     assert!(rt; again.ends_with(b"{\"error\":\"loginRefused\"}]"));
 }
 
 #[test]
 fn a_login_whose_reply_is_cut_has_used_its_code(rt: HostRuntime) {
-    over_both(&rt, rt.alloc(), Deed::Connected(Connected::UsesItsCode));
+    for room in 0..ACCEPTED.len() {
+        let deed = Deed::Connected(Connected::UsesItsCode(&ACCEPTED[..room]));
+        over_both(&rt, rt.alloc(), deed);
+    }
 }
 
 /// Asserts that what stands behind a request at a moment stays unread.

@@ -12,6 +12,28 @@ use std::alloc::Global;
 use std::io::{ErrorKind, Read, Write};
 use std::process::Abort;
 
+/// A script whose reader fails at a place: what is answered up to there, and the events that aren't read whole, with
+/// their number and what they are answered by a run of their own.
+#[derive(Clone, Copy)]
+pub(crate) struct Unread<'a> {
+    script: &'a [u8],
+    place: usize,
+    answered: &'a [u8],
+    left: &'a [u8],
+    left_count: usize,
+    left_answers: &'a [u8],
+}
+
+/// A script whose writer has room for a front of the answers: whether account 7 is enabled by then, and the step whose
+/// code it has used.
+#[derive(Clone, Copy)]
+pub(crate) struct Unwritten<'a> {
+    script: &'a [u8],
+    front: &'a [u8],
+    is_enabled: bool,
+    last_step: Option<u64>,
+}
+
 /// What is run by a desk over new tables.
 #[derive(Clone, Copy)]
 pub(crate) enum Scripted<'a> {
@@ -27,14 +49,14 @@ pub(crate) enum Scripted<'a> {
     /// A line behind orders that is none.
     OtherLine(&'a str),
 
-    /// Orders whose reader fails behind this front of them.
-    EndsBehind(&'a [u8]),
+    /// A script whose reader fails.
+    EndsAt(Unread<'a>),
 
     /// Orders whose reader is interrupted at this place.
     GoesOn(usize),
 
-    /// Orders whose writer has room for this front of the answers.
-    EndsWithRoom(&'a [u8]),
+    /// A script whose writer fails.
+    EndsWithRoom(Unwritten<'a>),
 
     /// A login after its code's time, and in it.
     LateLogin,
@@ -44,7 +66,10 @@ pub(crate) enum Scripted<'a> {
 /// The keys that this is run under: of zeros for logins, and other ones.
 fn keys_for(rt: &impl Abort, scripted: Scripted<'_>) -> Keys {
     match scripted {
-        Scripted::LateLogin | Scripted::LoginInTime => keys(rt),
+        Scripted::LateLogin
+        | Scripted::LoginInTime
+        | Scripted::EndsAt(_)
+        | Scripted::EndsWithRoom(_) => keys(rt),
         _ => keys_of(rt, &[Some([1; 32])], &[[2; 32]]),
     }
 }
@@ -64,9 +89,9 @@ fn runs_with<T: Tables>(
             answers(rt, alloc, desk, DECISIONS, Ok(2), wanted);
         }
         Scripted::OtherLine(line) => refuses_line(rt, alloc, desk, line),
-        Scripted::EndsBehind(front) => ends_behind(rt, alloc, desk, front),
+        Scripted::EndsAt(unread) => ends_at(rt, alloc, desk, unread),
         Scripted::GoesOn(place) => goes_on(rt, alloc, desk, place),
-        Scripted::EndsWithRoom(front) => ends_with_room(rt, alloc, desk, front),
+        Scripted::EndsWithRoom(unwritten) => ends_with_room(rt, alloc, desk, unwritten),
         Scripted::LateLogin => answers(rt, alloc, desk, LATE_LOGIN, Ok(2), REFUSED),
         Scripted::LoginInTime => answers_login(rt, alloc, desk),
     }
@@ -84,9 +109,10 @@ fn leaves<T: Tables>(rt: &impl Abort, tables: &mut T, scripted: Scripted<'_>) {
             let account = account_of(rt, tables, 9999);
             assert!(rt; account.secret.starts_with(&[0xab, 0xcd, 0xef, 0xab]));
         }
-        Scripted::EndsWithRoom(front) => {
+        Scripted::EndsWithRoom(unwritten) => {
             let account = account_of(rt, tables, 7);
-            assert_eq!(rt; account.enabled, front.len() < 23);
+            assert_eq!(rt; account.enabled, unwritten.is_enabled);
+            assert_eq!(rt; account.last_step, unwritten.last_step);
         }
         _ => {}
     }
@@ -231,18 +257,18 @@ fn other_lines_are_refused(rt: HostRuntime) {
     }
 }
 
-/// So many lines from the front.
-fn lines_of(text: &[u8], count: usize) -> &[u8] {
+/// So many lines from the front, and what stands behind them.
+fn parted(text: &[u8], count: usize) -> (&[u8], &[u8]) {
     let mut left = count;
     for (place, byte) in text.iter().enumerate() {
         if left == 0 {
-            return &text[..place];
+            return (&text[..place], &text[place..]);
         }
         if *byte == b'\n' {
             left -= 1;
         }
     }
-    text
+    (text, b"")
 }
 
 /// How many lines end in a text.
@@ -250,25 +276,72 @@ fn ends_in(text: &[u8]) -> usize {
     text.iter().filter(|byte| **byte == b'\n').count()
 }
 
-/// Asserts that a read that fails behind this front of the orders ends the run there.
-fn ends_behind<T: Tables>(rt: &impl Abort, alloc: Global, desk: &mut Desk<T>, front: &[u8]) {
+/// Asserts that a read that fails ends the run there, and that no event which isn't read whole has happened.
+fn ends_at<T: Tables>(rt: &impl Abort, alloc: Global, desk: &mut Desk<T>, unread: Unread<'_>) {
     let reader = FailsOnce {
-        bytes: ORDERS,
-        place: front.len(),
+        bytes: unread.script,
+        place: unread.place,
         fault: Some(ErrorKind::ConnectionReset),
     };
     let outcome = run_over(rt, alloc, desk, reader, Vec::new(alloc));
     assert_eq!(rt; outcome.answer, Err(ScriptFault::Read));
     assert!(rt; outcome.has_read_fault && !outcome.has_write_fault);
-    let wanted = lines_of(ANSWERS, ends_in(front));
-    assert_eq!(rt; outcome.writer.as_slice(), wanted);
+    assert_eq!(rt; outcome.writer.as_slice(), unread.answered);
+    let left_count = Ok(unread.left_count as u64);
+    answers(
+        rt,
+        alloc,
+        desk,
+        unread.left,
+        left_count,
+        unread.left_answers,
+    );
+}
+
+/// The same over both, where so many lines of a script and of its answers are those of the events that are read whole.
+fn both_end_at(
+    rt: &impl Abort,
+    alloc: Global,
+    (script, script_answers): (&[u8], &[u8]),
+    place: usize,
+    (lines, answer_lines): (usize, usize),
+    left_count: usize,
+) {
+    let (_, left) = parted(script, lines);
+    let (answered, left_answers) = parted(script_answers, answer_lines);
+    let unread = Unread {
+        script,
+        place,
+        answered,
+        left,
+        left_count,
+        left_answers,
+    };
+    over_both(rt, alloc, Deed::Scripted(Scripted::EndsAt(unread)));
 }
 
 #[test]
 fn a_failed_read_ends_the_run(rt: HostRuntime) {
     for place in 0..=ORDERS.len() {
-        let deed = Deed::Scripted(Scripted::EndsBehind(&ORDERS[..place]));
-        over_both(&rt, rt.alloc(), deed);
+        let lines = ends_in(&ORDERS[..place]);
+        let left_count = 4usize.saturating_sub(lines);
+        let script = (ORDERS, ANSWERS);
+        both_end_at(&rt, rt.alloc(), script, place, (lines, lines), left_count);
+    }
+}
+
+/// The order is one line of seven, and its answer one of nine.
+#[test]
+fn a_login_that_is_not_read_whole_leaves_the_code(rt: HostRuntime) {
+    let login_answers = answers_to_login(&rt, rt.alloc());
+    for place in 0..=LOGIN_IN_TIME.len() {
+        let (whole, left_count) = match ends_in(&LOGIN_IN_TIME[..place]) {
+            0 => ((0, 0), 2),
+            1..=6 => ((1, 1), 1),
+            _ => ((7, 9), 0),
+        };
+        let script = (LOGIN_IN_TIME, login_answers.as_slice());
+        both_end_at(&rt, rt.alloc(), script, place, whole, left_count);
     }
 }
 
@@ -299,22 +372,50 @@ fn an_interrupted_read_is_tried_again(rt: HostRuntime) {
     over_a_database(&rt, rt.alloc(), Door::Bytes, deed);
 }
 
-/// Asserts that a writer with room for this front of the answers ends the run.
-fn ends_with_room<T: Tables>(rt: &impl Abort, alloc: Global, desk: &mut Desk<T>, front: &[u8]) {
+/// Asserts that a writer with room for a front of the answers ends the run.
+fn ends_with_room<T: Tables>(
+    rt: &impl Abort,
+    alloc: Global,
+    desk: &mut Desk<T>,
+    unwritten: Unwritten<'_>,
+) {
     let writer = Narrow {
         held: Vec::new(alloc),
-        room: front.len(),
+        room: unwritten.front.len(),
     };
-    let outcome = run_over(rt, alloc, desk, ORDERS, writer);
+    let outcome = run_over(rt, alloc, desk, unwritten.script, writer);
     assert_eq!(rt; outcome.answer, Err(ScriptFault::Write));
     assert!(rt; outcome.has_write_fault && !outcome.has_read_fault);
-    assert_eq!(rt; outcome.writer.held.as_slice(), front);
+    assert_eq!(rt; outcome.writer.held.as_slice(), unwritten.front);
 }
 
+/// Account 7 is disabled by the third order, which is handled once the first two are answered.
 #[test]
 fn a_failed_write_ends_the_run(rt: HostRuntime) {
     for room in 0..ANSWERS.len() {
-        let deed = Deed::Scripted(Scripted::EndsWithRoom(&ANSWERS[..room]));
+        let unwritten = Unwritten {
+            script: ORDERS,
+            front: &ANSWERS[..room],
+            is_enabled: room < 23,
+            last_step: None,
+        };
+        let deed = Deed::Scripted(Scripted::EndsWithRoom(unwritten));
+        over_both(&rt, rt.alloc(), deed);
+    }
+}
+
+/// The login is handled once the order is answered; second 59 is in step 1.
+#[test]
+fn a_login_whose_answer_is_cut_has_used_its_code(rt: HostRuntime) {
+    let login_answers = answers_to_login(&rt, rt.alloc());
+    for room in 0..login_answers.len() {
+        let unwritten = Unwritten {
+            script: LOGIN_IN_TIME,
+            front: &login_answers[..room],
+            is_enabled: true,
+            last_step: if room < 11 { None } else { Some(1) },
+        };
+        let deed = Deed::Scripted(Scripted::EndsWithRoom(unwritten));
         over_both(&rt, rt.alloc(), deed);
     }
 }
@@ -338,10 +439,15 @@ const REFUSED: &[u8] = b"order done\n\
         Content-Type: application/json\r\nContent-Length: 47\r\nConnection: close\r\n\r\n\
         [{\"acvVersion\":\"1.0\"},{\"error\":\"loginRefused\"}]\n";
 
-/// A login is answered by the code's time, under a key of zeros.
-fn answers_login<T: Tables>(rt: &impl Abort, alloc: Global, desk: &mut Desk<T>) {
+/// The answers to a login by the code's time, under a key of zeros.
+fn answers_to_login(rt: &impl Abort, alloc: Global) -> Vec<u8> {
     let parts: [&[u8]; 3] = [b"order done\nreply 292\n", ACCEPTED, b"\n"];
-    let wanted = joined(rt, alloc, &parts);
+    joined(rt, alloc, &parts)
+}
+
+/// A login is answered by the code's time.
+fn answers_login<T: Tables>(rt: &impl Abort, alloc: Global, desk: &mut Desk<T>) {
+    let wanted = answers_to_login(rt, alloc);
     answers(rt, alloc, desk, LOGIN_IN_TIME, Ok(2), &wanted);
 }
 

@@ -1,5 +1,5 @@
 -- The pages of an account's rows.
-use Rattle.std.proofs.Common.{◌≡◌, ℕ, pos, List, [], ◌∷◌, map, take, drop, true, refl, sym, ap, subst, ◌∙◌, arith}
+use Rattle.std.proofs.Common.{◌≡◌, ℕ, ◌+◌, pos, List, [], ◌∷◌, map, take, true, refl, sym, ap, subst, ◌∙◌, arith}
 use Rattle.std.specs.Prelude.{◌&&◌, nat_le, min}
 use Rattle.std.specs.List.Sorted.{IsPermutation}
 use Rattle.std.specs.Ordering.{is_le, is_ge}
@@ -16,12 +16,12 @@ use Rattle.sqlite_sql.specs.declared.ops.BinaryOp.TheVariants.{Compare}
 use Rattle.sqlite_sql.specs.declared.ops.CompareOp.TheVariants.{Le, Ge}
 use Rattle.sqlite_value.proofs.OrderLemmas.{value_cmp-Int}
 use Rattle.acvp_tables.specs.Content.{Content, page, sessions_of}
-use Rattle.acvp_tables.specs.State.{IsSound}
+use Rattle.acvp_tables.specs.State.{IsSound, first_of_account}
 use Rattle.acvp_tables.specs.declared.rows.SessionRow.{SessionRow}
 use Rattle.acvp_store.specs.Values.{whole}
 use Rattle.acvp_store.specs.Schema.{Layout, schema_of}
 use Rattle.acvp_store.specs.Rows.{session_tree, session_row, HoldsSessions, session_shown}
-use Rattle.acvp_store.proofs.Owned.{first_number, last_number, in_range, range_is, session_numbers, session_selection}
+use Rattle.acvp_store.proofs.Owned.{last_number, in_range, range_drops, rising_dropped, session_numbers, session_selection}
 use Rattle.acvp_store.proofs.Paging.{paged, capped_page}
 use Rattle.acvp_store.proofs.PageTexts.{within, page_sessions, sessions_is, sessions_plain, sessions_unlisted, session_columns}
 use Rattle.acvp_store.proofs.Parts.{both_true}
@@ -44,7 +44,7 @@ most = 9223372036854775807
 
 -- the parameters of a page
 abbrev pub page_params : ℕ → ℕ → ℕ → Row
-page_params u o l = whole (first_number u) ∷ whole (last_number u) ∷ whole (min l most) ∷ whole (min o most) ∷ []
+page_params u o l = whole (first_of_account u + min o 999999) ∷ whole (last_number u) ∷ whole (min l most) ∷ []
 
 -- ---- sessions
 
@@ -53,10 +53,10 @@ pub session_page : (layout : Layout) (u o l : ℕ) (old new : State) (rows : Lis
 session_page layout u o l old new rows schema shown c sound h =
     let key = λ (s : SessionRow). s.number in
     let account = λ (s : SessionRow). s.account in
-    let picked = range_is key account u c.sessions (session_numbers c sound) in
     let selection = session_selection c u sound in
+    let picked = range_drops key account u (min o 999999) (λ s. true) c.sessions (session_numbers c sound) selection.numbered in
     let whole_list = subst (λ xs. IsPermutation xs c.sessions) (sym (map-id h.ordered)) h.same in
-    let it = paged (page_params u o l) session_row (λ s. s) (in_range key account u) (within 0) session_columns 0 key session_shown (λ s. test_range s.number (first_number u) (last_number u)) (λ s. refl) (λ s. refl) session_tree (min l most) (min o most) refl refl
-    (overlay old.now.trees []) h.ordered c.sessions rows h.rows_are whole_list (rw picked selection.rises)
+    let it = paged (page_params u o l) session_row (λ s. s) (in_range key account u (min o 999999)) (within 0) session_columns 0 key session_shown (λ s. test_range s.number (first_of_account u + min o 999999) (last_number u)) (λ s. refl) (λ s. refl) session_tree (min l most) refl
+    (overlay old.now.trees []) h.ordered c.sessions rows h.rows_are whole_list (rw picked (rising_dropped key (min o 999999) (first_of_account u) (sessions_of u c.sessions) selection.numbered))
     ((reads_as page_sessions (page_params u o l) old new (schema_of layout) schema _ (sessions_is layout) (sessions_plain layout) (sessions_unlisted layout) rows shown).answer Null) in
-    it ∙ ap (map session_shown) (ap (λ xs. take (min l most) (drop (min o most) xs)) picked ∙ capped_page o l (sessions_of u c.sessions) selection.few)
+    it ∙ ap (map session_shown) (ap (take (min l most)) picked ∙ capped_page o l (sessions_of u c.sessions) selection.few)

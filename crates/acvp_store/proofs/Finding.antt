@@ -1,6 +1,6 @@
 -- The row that a query by a number finds.
 use Rattle.std.proofs.Common.{◌≡◌, ◌≤◌, ℕ, List, [], ◌∷◌, map, Option, Some, None, Ok, Err, Result, IfOk, IsOk, slice_get, length, refl, sym, ap, ◌∙◌, arith}
-use Rattle.std.specs.Prelude.{◌==◌, find}
+use Rattle.std.specs.Prelude.{◌==◌, find, option_map}
 use Rattle.std.specs.List.Sorted.{IsPermutation}
 use Rattle.std.proofs.lemmas.List.Sorted.{length_permutation}
 use Rattle.sqlite.proofs.Callers.{one_permutation}
@@ -39,6 +39,19 @@ one_found shown (x ∷ []) (r ∷ []) row a same few head is =
     let back = one_permutation (shown x) (r ∷ []) same in
     let it : row ≡ shown x = cc in
     ap Some (is x it)
+
+-- what a query's answer shows as one row, of each list that the table holds
+pub one_answered : {T C X E F : Type 0} (Held : C → Type 0) (shown : T → Row) (outcome : Result X E) (rows_of : X → List Row) (result : Result (Option T) F) (picked : C → List T) → (IsOk result → IsOk outcome)
+    → IfOk result (λ found. IfOk outcome (λ x. (list : List T) → IsPermutation (map shown list) (rows_of x) → found ≡ slice_get list 0))
+    → IfOk outcome (λ x. (c : C) → Held c → IsPermutation (map shown (picked c)) (rows_of x))
+    → IfOk result (λ found. (c : C) → Held c → found ≡ slice_get (picked c) 0)
+one_answered Held shown outcome rows_of (Err f) picked ok found rows = tt
+one_answered Held shown (Err e) rows_of (Ok r) picked ok found rows = absurd (let impossible = ok refl in cc)
+one_answered Held shown (Ok x) rows_of (Ok r) picked ok found rows = λ c held. found (picked c) (rows c held)
+
+pub first_mapped : {A B : Type 0} (f : A → B) (xs : List A) → slice_get (map f xs) 0 ≡ option_map f (slice_get xs 0)
+first_mapped f [] = refl
+first_mapped f (x ∷ xs) = refl
 
 -- ---- by a number
 

@@ -22,6 +22,7 @@ pub mod SetRows
 pub mod SessionSets
 pub mod Epochs
 pub mod RequestRows
+pub mod RequestStatuses
 pub mod ReviewerRows
 pub mod SessionReviewers
 pub mod Versions

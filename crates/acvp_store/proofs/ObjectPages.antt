@@ -1,5 +1,5 @@
 -- Registered objects: one by its kind and number, and the pages of an account's.
-use Rattle.std.proofs.Common.{◌≡◌, ◌⊎◌, inl, inr, ◌<◌, ◌≤◌, ◌^◌, ℕ, ℤ, pos, negsuc, List, [], ◌∷◌, map, take, drop, slice_get, Bool, true, false, refl, sym, ap, ap₂, subst, ◌∙◌, arith}
+use Rattle.std.proofs.Common.{◌≡◌, ◌⊎◌, inl, inr, ◌<◌, ◌≤◌, ◌+◌, ◌^◌, ℕ, ℤ, pos, negsuc, List, [], ◌∷◌, map, take, slice_get, Bool, true, false, refl, sym, ap, ap₂, subst, ◌∙◌, arith}
 use Rattle.std.specs.Prelude.{◌==◌, ◌&&◌, min, filter}
 use Rattle.std.specs.List.{AllByRecursion}
 use Rattle.std.specs.List.Sorted.{IsPermutation}
@@ -17,7 +17,7 @@ use Rattle.sqlite_sql.specs.declared.ops.CompareOp.TheVariants.{Eq}
 use Rattle.sqlite_trees.proofs.ListLemmas.{map-map, filter-map, all-filter, IsPermutation-filter}
 use Rattle.acvp_registry.specs.declared.kind.Kind.{Kind}
 use Rattle.acvp_tables.specs.Content.{Content, kind_number, is_kind, object_at, objects_of, page}
-use Rattle.acvp_tables.specs.State.{IsSound}
+use Rattle.acvp_tables.specs.State.{IsSound, first_of_account}
 use Rattle.acvp_tables.specs.declared.rows.ObjectRow.{ObjectRow}
 use Rattle.acvp_store.specs.Values.{whole}
 use Rattle.acvp_store.specs.Schema.{Layout, schema_of}
@@ -25,7 +25,7 @@ use Rattle.acvp_store.specs.Stands.{Entry, entry_row, HoldsObjects, object_colum
 use Rattle.acvp_store.proofs.AccountPages.{test_range, most}
 use Rattle.acvp_store.proofs.Listing.{all_taken, all_dropped}
 use Rattle.acvp_store.proofs.ObjectRows.{is_it, neither, none_passes, none_fits}
-use Rattle.acvp_store.proofs.Owned.{first_number, last_number, in_range, range_with, object_numbers, object_selection}
+use Rattle.acvp_store.proofs.Owned.{last_number, in_range, range_drops, rising_dropped, object_numbers, object_selection}
 use Rattle.acvp_store.proofs.Paging.{paged, capped_page}
 use Rattle.acvp_store.proofs.PageTexts.{within, find_object, object_is, object_plain, object_unlisted, object_fields, page_objects, objects_is, objects_plain, objects_unlisted}
 use Rattle.acvp_store.proofs.Parts.{both_true}
@@ -71,7 +71,7 @@ first_object kind n (o ∷ objects) = elim (cases_Bool (is_it kind n o)) [
 -- ---- a page
 
 abbrev pub objects_params : Kind → ℕ → ℕ → ℕ → Row
-objects_params kind u o l = whole (first_number u) ∷ whole (last_number u) ∷ whole (min l most) ∷ whole (min o most) ∷ whole (kind_number kind) ∷ []
+objects_params kind u o l = whole (first_of_account u + min o 999999) ∷ whole (last_number u) ∷ whole (min l most) ∷ whole (kind_number kind) ∷ []
 
 pub object_page : (layout : Layout) (kind : Kind) (u o l : ℕ) (old new : State) (rows : List Row) → old.now.schema ≡ schema_of layout → Shown page_objects (objects_params kind u o l) old new rows
     → (c : Content) → IsSound c → HoldsObjects (old.now.trees object_tree) c.objects → FitColumns c.objects
@@ -81,12 +81,12 @@ object_page layout kind u o l old new rows schema shown c sound h fit =
     let account = λ (x : ObjectRow). x.account in
     let of_kind = λ (x : ObjectRow). is_kind x.object.kind kind in
     let mine = objects_of kind u c.objects in
-    let picked = range_with key account u of_kind c.objects (object_numbers c sound) in
     let selection = object_selection c kind u sound in
-    let it = paged (objects_params kind u o l) (entry_row object_columns) (λ (e : Entry ObjectRow). e.row) (λ x. of_kind x && in_range key account u x) (equals 1 4 ∷ within 2) object_fields 2 key object_columns
-    (λ e. ap₂ (λ a b. a && b) (test_equals (kind_number e.row.object.kind) (kind_number kind)) (test_range e.row.number (first_number u) (last_number u))) (λ e. refl) (λ e. refl) object_tree (min l most) (min o most) refl refl
-    (overlay old.now.trees []) h.entries c.objects rows h.rows_are h.same (rw picked selection.rises)
+    let picked = range_drops key account u (min o 999999) of_kind c.objects (object_numbers c sound) selection.numbered in
+    let it = paged (objects_params kind u o l) (entry_row object_columns) (λ (e : Entry ObjectRow). e.row) (λ x. of_kind x && in_range key account u (min o 999999) x) (equals 1 3 ∷ within 2) object_fields 2 key object_columns
+    (λ e. ap₂ (λ a b. a && b) (test_equals (kind_number e.row.object.kind) (kind_number kind)) (test_range e.row.number (first_of_account u + min o 999999) (last_number u))) (λ e. refl) (λ e. refl) object_tree (min l most) refl
+    (overlay old.now.trees []) h.entries c.objects rows h.rows_are h.same (rw picked (rising_dropped key (min o 999999) (first_of_account u) mine selection.numbered))
     ((reads_as page_objects (objects_params kind u o l) old new (schema_of layout) schema _ (objects_is layout) (objects_plain layout) (objects_unlisted layout) rows shown).answer Null) in (
       all_taken IsKeepable l _ (all_dropped IsKeepable o mine (all-filter IsKeepable (λ x. of_kind x && (x.account == u)) c.objects fit)),
-      it ∙ ap (map object_columns) (ap (λ xs. take (min l most) (drop (min o most) xs)) picked ∙ capped_page o l mine selection.few),
+      it ∙ ap (map object_columns) (ap (take (min l most)) picked ∙ capped_page o l mine selection.few),
     )

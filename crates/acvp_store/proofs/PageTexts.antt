@@ -1,5 +1,5 @@
 -- What the texts of the statements on an account's rows mean.
-use Rattle.std.proofs.Common.{◌≡◌, refl, None, Some, [], ◌∷◌, List, ℕ, codes, pos, negsuc, false, true}
+use Rattle.std.proofs.Common.{◌≡◌, refl, None, [], ◌∷◌, List, ℕ, codes, pos, false, true}
 use Rattle.sqlite.specs.Collation.TheVariants.{Binary}
 use Rattle.sqlite.specs.Command.TheVariants.{Select}
 use Rattle.sqlite.specs.declared.types.Value.TheVariants.{Null, Int}
@@ -9,8 +9,6 @@ use Rattle.sqlite.specs.Term.{Term, lit, col, op2, case}
 use Rattle.sqlite_resolve.specs.Compile.{first}
 use Rattle.sqlite_sql.specs.declared.ops.BinaryOp.TheVariants.{Compare}
 use Rattle.sqlite_sql.specs.declared.ops.CompareOp.TheVariants.{Eq, Le, Ge}
-use Rattle.sqlite_sql.specs.declared.aggregate.AggregateOp.TheVariants.{CountRows}
-use Rattle.sqlite_sql.specs.Group.{Grouping}
 use Rattle.sqlite_tied.specs.Compute.{everything}
 use Rattle.sqlite_value.specs.Keys.{ascending}
 use Rattle.sqlite.proofs.Callers.{IsPlain, command_of}
@@ -22,7 +20,7 @@ use Rattle.acvp_store.proofs.Texts.{simple, equals}
 abbrev pub within : ℕ → List Term
 within place = op2 (Compare Ge Binary) (col 1 place) (col 0 0) ∷ op2 (Compare Le Binary) (col 1 place) (col 0 1) ∷ []
 
--- SELECT project FROM the table in the tree WHERE terms ORDER BY the column LIMIT ?3 OFFSET ?4
+-- SELECT project FROM the table in the tree WHERE terms ORDER BY the column LIMIT ?3
 abbrev pub paging : ℕ → List Term → List Term → ℕ → Query
 paging tree terms project place = record {
   from = inner tree end;
@@ -33,13 +31,13 @@ paging tree terms project place = record {
   collations = [];
   order = (col 1 place, ascending Binary) ∷ [];
   limit = col 0 2;
-  offset = col 0 3;
+  offset = lit (Int (pos 0));
 }
 
 -- ---- sessions
 
 abbrev pub page_sessions : List ℕ
-page_sessions = codes "SELECT session, account, sample, created, cancelled, certify, live, passed FROM session WHERE session BETWEEN ?1 AND ?2 ORDER BY session LIMIT ?3 OFFSET ?4"
+page_sessions = codes "SELECT session, account, sample, created, cancelled, certify, live, passed FROM session WHERE session BETWEEN ?1 AND ?2 ORDER BY session LIMIT ?3"
 
 abbrev pub session_columns : List Term
 session_columns = col 1 0 ∷ col 1 2 ∷ col 1 3 ∷ col 1 4 ∷ col 1 5 ∷ col 1 6 ∷ col 1 7 ∷ col 1 8 ∷ []
@@ -91,8 +89,33 @@ pub request_ask : asks (first find_request) ≡ true
 unfolding first everything
 request_ask = refl
 
+abbrev pub find_status : List ℕ
+find_status = codes "SELECT status, approved FROM request WHERE request = ?1"
+
+abbrev pub status_columns : List Term
+status_columns = col 1 5 ∷ col 1 6 ∷ []
+
+pub status_is : (layout : Layout) → command_of (understood (schema_of layout) find_status) ≡ Select (record { lets = []; body = simple 7 (equals 0 0 ∷ []) status_columns }) (codes "status" ∷ codes "approved" ∷ [])
+unfolding understood everything
+status_is Created = refl
+status_is Migrated = refl
+
+pub status_unlisted : (layout : Layout) → reads_listing (schema_of layout) find_status ≡ false
+unfolding understood everything
+status_unlisted Created = refl
+status_unlisted Migrated = refl
+
+pub status_plain : (layout : Layout) → IsPlain (understood (schema_of layout) find_status)
+unfolding understood everything
+status_plain Created = (refl, refl)
+status_plain Migrated = (refl, refl)
+
+pub status_ask : asks (first find_status) ≡ true
+unfolding first everything
+status_ask = refl
+
 abbrev pub page_requests : List ℕ
-page_requests = codes "SELECT request, account, kind, CASE WHEN kind = 4 THEN body END, status, approved FROM request WHERE request BETWEEN ?1 AND ?2 ORDER BY request LIMIT ?3 OFFSET ?4"
+page_requests = codes "SELECT request, account, kind, CASE WHEN kind = 4 THEN body END, status, approved FROM request WHERE request BETWEEN ?1 AND ?2 ORDER BY request LIMIT ?3"
 
 pub requests_is : (layout : Layout) → command_of (understood (schema_of layout) page_requests) ≡ Select (record { lets = []; body = paging 7 (within 0) request_columns 0 }) (codes "request" ∷ codes "account" ∷ codes "kind" ∷ codes "CASE WHEN kind = 4 THEN body END" ∷ codes "status" ∷ codes "approved" ∷ [])
 unfolding understood everything
@@ -141,9 +164,9 @@ unfolding first everything
 object_ask = refl
 
 abbrev pub page_objects : List ℕ
-page_objects = codes "SELECT kind, number, account, body FROM object WHERE kind = ?5 AND number BETWEEN ?1 AND ?2 ORDER BY number LIMIT ?3 OFFSET ?4"
+page_objects = codes "SELECT kind, number, account, body FROM object WHERE kind = ?4 AND number BETWEEN ?1 AND ?2 ORDER BY number LIMIT ?3"
 
-pub objects_is : (layout : Layout) → command_of (understood (schema_of layout) page_objects) ≡ Select (record { lets = []; body = paging 5 (equals 1 4 ∷ within 2) object_fields 2 }) (codes "kind" ∷ codes "number" ∷ codes "account" ∷ codes "body" ∷ [])
+pub objects_is : (layout : Layout) → command_of (understood (schema_of layout) page_objects) ≡ Select (record { lets = []; body = paging 5 (equals 1 3 ∷ within 2) object_fields 2 }) (codes "kind" ∷ codes "number" ∷ codes "account" ∷ codes "body" ∷ [])
 unfolding understood everything
 objects_is Created = refl
 objects_is Migrated = refl
@@ -162,87 +185,84 @@ pub objects_ask : asks (first page_objects) ≡ true
 unfolding first everything
 objects_ask = refl
 
--- ---- counts
+-- ---- the greatest numbers
 
-abbrev pub all_in_one : Grouping
-all_in_one = record { keys = []; collations = []; aggregates = record { op = CountRows; distinct = false; collation = Binary; argument = lit Null } ∷ []; having = [] }
-
--- SELECT COUNT(*) FROM the table in the tree WHERE terms
-abbrev pub counting : ℕ → List Term → Query
-counting tree terms = record {
+-- SELECT the column FROM the table in the tree WHERE terms ORDER BY the column DESC LIMIT 1
+abbrev pub newest : ℕ → List Term → ℕ → Query
+newest tree terms place = record {
   from = inner tree end;
   filter = terms;
-  group = Some all_in_one;
-  project = col 1 0 ∷ [];
+  group = None;
+  project = col 1 place ∷ [];
   distinct = false;
   collations = [];
-  order = [];
-  limit = lit (Int (negsuc 0));
+  order = (col 1 place, record { collation = Binary; descending = true }) ∷ [];
+  limit = lit (Int (pos 1));
   offset = lit (Int (pos 0));
 }
 
-abbrev pub count_sessions : List ℕ
-count_sessions = codes "SELECT COUNT(*) FROM session WHERE session BETWEEN ?1 AND ?2"
+abbrev pub newest_sessions : List ℕ
+newest_sessions = codes "SELECT session FROM session WHERE session BETWEEN ?1 AND ?2 ORDER BY session DESC LIMIT 1"
 
-pub sessions_count_is : (layout : Layout) → command_of (understood (schema_of layout) count_sessions) ≡ Select (record { lets = []; body = counting 3 (within 0) }) (codes "COUNT(*)" ∷ [])
+pub sessions_newest_is : (layout : Layout) → command_of (understood (schema_of layout) newest_sessions) ≡ Select (record { lets = []; body = newest 3 (within 0) 0 }) (codes "session" ∷ [])
 unfolding understood everything
-sessions_count_is Created = refl
-sessions_count_is Migrated = refl
+sessions_newest_is Created = refl
+sessions_newest_is Migrated = refl
 
-pub sessions_count_unlisted : (layout : Layout) → reads_listing (schema_of layout) count_sessions ≡ false
+pub sessions_newest_unlisted : (layout : Layout) → reads_listing (schema_of layout) newest_sessions ≡ false
 unfolding understood everything
-sessions_count_unlisted Created = refl
-sessions_count_unlisted Migrated = refl
+sessions_newest_unlisted Created = refl
+sessions_newest_unlisted Migrated = refl
 
-pub sessions_count_plain : (layout : Layout) → IsPlain (understood (schema_of layout) count_sessions)
+pub sessions_newest_plain : (layout : Layout) → IsPlain (understood (schema_of layout) newest_sessions)
 unfolding understood everything
-sessions_count_plain Created = (refl, refl)
-sessions_count_plain Migrated = (refl, refl)
+sessions_newest_plain Created = (refl, refl)
+sessions_newest_plain Migrated = (refl, refl)
 
-pub sessions_count_ask : asks (first count_sessions) ≡ true
+pub sessions_newest_ask : asks (first newest_sessions) ≡ true
 unfolding first everything
-sessions_count_ask = refl
+sessions_newest_ask = refl
 
-abbrev pub count_objects : List ℕ
-count_objects = codes "SELECT COUNT(*) FROM object WHERE kind = ?3 AND number BETWEEN ?1 AND ?2"
+abbrev pub newest_objects : List ℕ
+newest_objects = codes "SELECT number FROM object WHERE kind = ?3 AND number BETWEEN ?1 AND ?2 ORDER BY number DESC LIMIT 1"
 
-pub objects_count_is : (layout : Layout) → command_of (understood (schema_of layout) count_objects) ≡ Select (record { lets = []; body = counting 5 (equals 1 2 ∷ within 2) }) (codes "COUNT(*)" ∷ [])
+pub objects_newest_is : (layout : Layout) → command_of (understood (schema_of layout) newest_objects) ≡ Select (record { lets = []; body = newest 5 (equals 1 2 ∷ within 2) 2 }) (codes "number" ∷ [])
 unfolding understood everything
-objects_count_is Created = refl
-objects_count_is Migrated = refl
+objects_newest_is Created = refl
+objects_newest_is Migrated = refl
 
-pub objects_count_unlisted : (layout : Layout) → reads_listing (schema_of layout) count_objects ≡ false
+pub objects_newest_unlisted : (layout : Layout) → reads_listing (schema_of layout) newest_objects ≡ false
 unfolding understood everything
-objects_count_unlisted Created = refl
-objects_count_unlisted Migrated = refl
+objects_newest_unlisted Created = refl
+objects_newest_unlisted Migrated = refl
 
-pub objects_count_plain : (layout : Layout) → IsPlain (understood (schema_of layout) count_objects)
+pub objects_newest_plain : (layout : Layout) → IsPlain (understood (schema_of layout) newest_objects)
 unfolding understood everything
-objects_count_plain Created = (refl, refl)
-objects_count_plain Migrated = (refl, refl)
+objects_newest_plain Created = (refl, refl)
+objects_newest_plain Migrated = (refl, refl)
 
-pub objects_count_ask : asks (first count_objects) ≡ true
+pub objects_newest_ask : asks (first newest_objects) ≡ true
 unfolding first everything
-objects_count_ask = refl
+objects_newest_ask = refl
 
-abbrev pub count_requests : List ℕ
-count_requests = codes "SELECT COUNT(*) FROM request WHERE request BETWEEN ?1 AND ?2"
+abbrev pub newest_requests : List ℕ
+newest_requests = codes "SELECT request FROM request WHERE request BETWEEN ?1 AND ?2 ORDER BY request DESC LIMIT 1"
 
-pub requests_count_is : (layout : Layout) → command_of (understood (schema_of layout) count_requests) ≡ Select (record { lets = []; body = counting 7 (within 0) }) (codes "COUNT(*)" ∷ [])
+pub requests_newest_is : (layout : Layout) → command_of (understood (schema_of layout) newest_requests) ≡ Select (record { lets = []; body = newest 7 (within 0) 0 }) (codes "request" ∷ [])
 unfolding understood everything
-requests_count_is Created = refl
-requests_count_is Migrated = refl
+requests_newest_is Created = refl
+requests_newest_is Migrated = refl
 
-pub requests_count_unlisted : (layout : Layout) → reads_listing (schema_of layout) count_requests ≡ false
+pub requests_newest_unlisted : (layout : Layout) → reads_listing (schema_of layout) newest_requests ≡ false
 unfolding understood everything
-requests_count_unlisted Created = refl
-requests_count_unlisted Migrated = refl
+requests_newest_unlisted Created = refl
+requests_newest_unlisted Migrated = refl
 
-pub requests_count_plain : (layout : Layout) → IsPlain (understood (schema_of layout) count_requests)
+pub requests_newest_plain : (layout : Layout) → IsPlain (understood (schema_of layout) newest_requests)
 unfolding understood everything
-requests_count_plain Created = (refl, refl)
-requests_count_plain Migrated = (refl, refl)
+requests_newest_plain Created = (refl, refl)
+requests_newest_plain Migrated = (refl, refl)
 
-pub requests_count_ask : asks (first count_requests) ≡ true
+pub requests_newest_ask : asks (first newest_requests) ≡ true
 unfolding first everything
-requests_count_ask = refl
+requests_newest_ask = refl

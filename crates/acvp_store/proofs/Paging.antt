@@ -1,7 +1,7 @@
--- ORDER BY a column with LIMIT and OFFSET, over rows of members whose numbers in that column rise.
+-- ORDER BY a column with LIMIT, over rows of members whose numbers in that column rise.
 use Rattle.std.proofs.Common.{◌≡◌, ◌⊎◌, inl, inr, ◌<◌, ◌≤◌, ℕ, pos, List, [], ◌∷◌, map, take, drop, length, Bool, refl, sym, ap, subst, ◌∙◌, arith, Less, Equal}
 use Rattle.std.specs.Prelude.{min, filter}
-use Rattle.std.specs.List.{list_all, drop-map}
+use Rattle.std.specs.List.{list_all}
 use Rattle.std.specs.List.Sorted.{IsPermutation}
 use Rattle.std.specs.Ordering.{ordering_then}
 use Rattle.std.proofs.Math.Seq.{take-length}
@@ -26,7 +26,7 @@ module _ {E A : Type 0} (params : Row) (encode : E → Row) (member : E → A) (
     (tests : (e : E) → list_all (holds (params ∷ encode e ∷ [])) terms ≡ p (member e))
     (keyed : (e : E) → eval (col 1 place) (params ∷ encode e ∷ []) ≡ whole (key (member e)))
     (shows : (e : E) → eval_all project (params ∷ encode e ∷ []) ≡ show (member e))
-    (tree l o : ℕ) (limit : eval (col 0 2) (params ∷ []) ≡ whole l) (offset : eval (col 0 3) (params ∷ []) ≡ whole o) where
+    (tree l : ℕ) (limit : eval (col 0 2) (params ∷ []) ≡ whole l) where
   abbrev q : Query
   q = paging tree terms project place
 
@@ -41,7 +41,7 @@ module _ {E A : Type 0} (params : Row) (encode : E → Row) (member : E → A) (
   below a b low = ap (λ c. ordering_then c Equal) (value_cmp-Int (pos (key a)) (pos (key b))) ∙ grind (arith, nat_tests)
 
   pub paged : (db : Trees) (all : List E) (list : List A) (rows : List Row) → db tree ≡ map encode all → IsPermutation (map member all) list → IsAscending (λ a b. key a < key b) (filter p list) → IsAnswer q db params rows
-      → rows ≡ map show (take l (drop o (filter p list)))
+      → rows ≡ map show (take l (filter p list))
   paged db all list rows has whole_list rise a =
       let passing = λ (e : E). p (member e) in
       let picked = filter p list in
@@ -52,7 +52,7 @@ module _ {E A : Type 0} (params : Row) (encode : E → Row) (member : E → A) (
       IsPermutation-trans _ _ _ (IsPermutation-sym _ _ (IsPermutation-map out _ _ same)) (subst (λ k. IsPermutation k a.ordered) kept a.same) in
       let strict = ascending-map (λ x y. output_cmp q x y ≡ Less) out picked (ascending_weaker (λ x y. key x < key y) (λ x y. output_cmp q (out x) (out y) ≡ Less) below picked rise) in
       let ordered = sorted_unique (output_cmp q) (output_cmp_total q) (map out picked) a.ordered strict all_out a.sorted in
-      a.shown ∙ rw (ordered, limit, offset) (ap (λ xs. take l (drop o xs)) (map-map (λ (x : Output). x.1) out picked) ∙ ap (take l) (drop-map show o picked) ∙ take-map show l (drop o picked))
+      a.shown ∙ rw (ordered, limit) (ap (take l) (map-map (λ (x : Output). x.1) out picked) ∙ take-map show l picked)
 
 -- ---- a limit and an offset that are as large as the list, and more
 
@@ -65,18 +65,18 @@ either_way n m = search arith
 take_all : {A : Type 0} (n : ℕ) (xs : List A) → length xs ≤ n → take n xs ≡ xs
 take_all n xs few = let same : min n (length xs) ≡ length xs = omega arith in sym (take_min n xs) ∙ ap (λ k. take k xs) same ∙ take-length xs
 
-pub capped_take : {A : Type 0} (l m : ℕ) (xs : List A) → length xs ≤ m → take (min l m) xs ≡ take l xs
+capped_take : {A : Type 0} (l m : ℕ) (xs : List A) → length xs ≤ m → take (min l m) xs ≡ take l xs
 capped_take l m xs few = elim (either_way l m) [
   | inl low ↦ let same : min l m ≡ l = omega arith in ap (λ n. take n xs) same
   | inr high ↦ let same : min l m ≡ m = omega arith in ap (λ n. take n xs) same ∙ take_all m xs few ∙ sym (take_all l xs (omega arith))
 ]
 
-pub capped_drop : {A : Type 0} (o m : ℕ) (xs : List A) → length xs ≤ m → drop (min o m) xs ≡ drop o xs
+capped_drop : {A : Type 0} (o m : ℕ) (xs : List A) → length xs ≤ m → drop (min o m) xs ≡ drop o xs
 capped_drop o m xs few = elim (either_way o m) [
   | inl low ↦ let same : min o m ≡ o = omega arith in ap (λ n. drop n xs) same
   | inr high ↦ let same : min o m ≡ m = omega arith in ap (λ n. drop n xs) same ∙ drop_all m xs few ∙ sym (drop_all o xs (omega arith))
 ]
 
-pub capped_page : {A : Type 0} (o l : ℕ) (xs : List A) → length xs ≤ 999999 → take (min l 9223372036854775807) (drop (min o 9223372036854775807) xs) ≡ page o l xs
+pub capped_page : {A : Type 0} (o l : ℕ) (xs : List A) → length xs ≤ 999999 → take (min l 9223372036854775807) (drop (min o 999999) xs) ≡ page o l xs
 capped_page o l xs few =
-    ap (take (min l 9223372036854775807)) (capped_drop o 9223372036854775807 xs (omega arith)) ∙ capped_take l 9223372036854775807 (drop o xs) (omega (arith, length-drop o xs))
+    ap (take (min l 9223372036854775807)) (capped_drop o 999999 xs few) ∙ capped_take l 9223372036854775807 (drop o xs) (omega (arith, length-drop o xs))

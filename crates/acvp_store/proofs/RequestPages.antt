@@ -1,5 +1,5 @@
 -- Requests without the objects that they ask to register: one by its number, and the pages of an account's.
-use Rattle.std.proofs.Common.{◌≡◌, ◌⊎◌, inl, inr, ◌<◌, ◌≤◌, ◌^◌, ℕ, ℤ, pos, negsuc, List, [], ◌∷◌, map, take, drop, slice_get, Bool, false, refl, sym, ap, subst, ◌∙◌, arith}
+use Rattle.std.proofs.Common.{◌≡◌, ◌⊎◌, inl, inr, ◌<◌, ◌≤◌, ◌+◌, ◌^◌, ℕ, ℤ, pos, negsuc, List, [], ◌∷◌, map, take, drop, slice_get, Bool, true, false, refl, sym, ap, subst, ◌∙◌, arith}
 use Rattle.std.specs.Prelude.{◌==◌, min, filter, if◌then◌else◌, option_map}
 use Rattle.std.specs.List.{AllByRecursion, drop-map}
 use Rattle.std.specs.List.Sorted.{IsPermutation}
@@ -18,7 +18,7 @@ use Rattle.sqlite_sql.specs.declared.ops.BinaryOp.TheVariants.{Compare}
 use Rattle.sqlite_sql.specs.declared.ops.CompareOp.TheVariants.{Eq}
 use Rattle.sqlite_trees.proofs.ListLemmas.{all-filter}
 use Rattle.acvp_tables.specs.Content.{Content, page, kind_number, request_at, request_summary, requests_of, subject_of}
-use Rattle.acvp_tables.specs.State.{IsSound, given_number}
+use Rattle.acvp_tables.specs.State.{IsSound, first_of_account, given_number}
 use Rattle.acvp_tables.specs.declared.rows.RequestBody.{RequestBody}
 use Rattle.acvp_tables.specs.declared.rows.RequestBody.TheVariants as body
 use Rattle.acvp_tables.specs.declared.rows.RequestRow.{RequestRow}
@@ -30,9 +30,10 @@ use Rattle.acvp_store.specs.Stands.{request_tree, request_key, request_row, Hold
 use Rattle.acvp_store.specs.Private.Objects.{IsOfKind}
 use Rattle.acvp_store.specs.Private.Summaries.{SubjectReads, subject_number, subject_text, summary_shown}
 use Rattle.acvp_store.proofs.AccountPages.{test_range, most, page_params}
-use Rattle.acvp_store.proofs.Keyed.{keyed, keyed_same, find_is, none_fits}
+use Rattle.acvp_store.proofs.Finding.{first_mapped}
+use Rattle.acvp_store.proofs.Keyed.{keyed, keyed_same, find_is, none_fits, none_passes}
 use Rattle.acvp_store.proofs.Listing.{all_taken, all_dropped}
-use Rattle.acvp_store.proofs.Owned.{first_number, last_number, in_range, range_is, request_numbers, request_selection}
+use Rattle.acvp_store.proofs.Owned.{last_number, in_range, range_drops, rising_dropped, request_numbers, request_selection}
 use Rattle.acvp_store.proofs.Paging.{paged, capped_page}
 use Rattle.acvp_store.proofs.PageTexts.{within, find_request, request_is, request_plain, request_unlisted, request_columns, page_requests, requests_is, requests_plain, requests_unlisted}
 use Rattle.acvp_store.proofs.Parts.{and_true}
@@ -86,10 +87,6 @@ rows_by layout k p tests old new rows schema h list kept =
     selected (Int k ∷ []) request_row p (equals 0 0 ∷ []) (λ r. rw tests (and_true _)) request_tree request_columns request_shown (shows (Int k ∷ [])) (overlay old.now.trees []) kept.ordered rows kept.rows_are
     ((reads_as find_request (Int k ∷ []) old new (schema_of layout) schema _ (request_is layout) (request_plain layout) (request_unlisted layout) rows h).answer Null)
 
-none_passes : {A : Type 0} (xs : List A) → filter (λ x. false) xs ≡ []
-none_passes [] = refl
-none_passes (x ∷ xs) = none_passes xs
-
 request_rows : (layout : Layout) (n : ℕ) (k : ℤ) → (n < 2 ^ 63 → k ≡ pos n) → (2 ^ 63 ≤ n → k ≡ negsuc 0) → (old new : State) (rows : List Row) → old.now.schema ≡ schema_of layout → Shown find_request (Int k ∷ []) old new rows
     → (list : List RequestRow) (kept : IsKept request_key request_row (old.now.trees request_tree) list) → IsPermutation (map request_shown (keyed request_key n kept.ordered)) rows
 request_rows layout n k fits large old new rows schema h list kept = elim (small_or_large n) [
@@ -111,12 +108,8 @@ request_found layout n k fits large old new rows schema shown c sound h =
       subst (λ xs. IsPermutation xs rows) (ap (map request_shown) same ∙ summaries_are mine kinds) found,
     )
 
-first_summary : (xs : List RequestRow) → slice_get (summaries xs) 0 ≡ option_map request_summary (slice_get xs 0)
-first_summary [] = refl
-first_summary (x ∷ xs) = refl
-
 pub summary_of : (n : ℕ) (requests : List RequestRow) → slice_get (summaries (keyed request_key n requests)) 0 ≡ option_map request_summary (request_at n requests)
-summary_of n requests = first_summary (keyed request_key n requests) ∙ ap (option_map request_summary) (sym (find_is request_key n requests))
+summary_of n requests = first_mapped request_summary (keyed request_key n requests) ∙ ap (option_map request_summary) (sym (find_is request_key n requests))
 
 -- ---- a page
 
@@ -127,15 +120,15 @@ request_page layout u o l old new rows schema shown c sound h =
     let key = λ (r : RequestRow). r.number in
     let account = λ (r : RequestRow). r.account in
     let mine = requests_of u c.requests in
-    let picked = range_is key account u c.requests (request_numbers c sound) in
     let selection = request_selection c u sound in
+    let picked = range_drops key account u (min o 999999) (λ r. true) c.requests (request_numbers c sound) selection.numbered in
     let whole_list = subst (λ xs. IsPermutation xs c.requests) (sym (map-id h.kept.ordered)) h.kept.same in
-    let it = paged (page_params u o l) request_row (λ r. r) (in_range key account u) (within 0) request_columns 0 key request_shown (λ r. test_range r.number (first_number u) (last_number u)) (λ r. refl) (shows (page_params u o l)) request_tree (min l most) (min o most) refl refl
-    (overlay old.now.trees []) h.kept.ordered c.requests rows h.kept.rows_are whole_list (rw picked selection.rises)
+    let it = paged (page_params u o l) request_row (λ r. r) (in_range key account u (min o 999999)) (within 0) request_columns 0 key request_shown (λ r. test_range r.number (first_of_account u + min o 999999) (last_number u)) (λ r. refl) (shows (page_params u o l)) request_tree (min l most) refl
+    (overlay old.now.trees []) h.kept.ordered c.requests rows h.kept.rows_are whole_list (rw picked (rising_dropped key (min o 999999) (first_of_account u) mine selection.numbered))
     ((reads_as page_requests (page_params u o l) old new (schema_of layout) schema _ (requests_is layout) (requests_plain layout) (requests_unlisted layout) rows shown).answer Null) in
     let kinds = all-filter (λ (r : RequestRow). IsOfKind r.body) (λ r. r.account == u) c.requests (kinds_of c sound) in
     let texts = all-filter (λ (r : RequestRow). BodyReads r.body) (λ r. r.account == u) c.requests h.texts in
-    let exact = it ∙ ap (map request_shown) (ap (λ xs. take (min l most) (drop (min o most) xs)) picked ∙ capped_page o l mine selection.few) in (
+    let exact = it ∙ ap (map request_shown) (ap (take (min l most)) picked ∙ capped_page o l mine selection.few) in (
       all_taken Reads l _ (all_dropped Reads o (summaries mine) (summaries_read mine kinds texts)),
       exact ∙ page_mapped request_shown mine ∙ ap (page o l) (summaries_are mine kinds) ∙ sym (page_mapped summary_shown (summaries mine)),
     )

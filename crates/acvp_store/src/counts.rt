@@ -1,32 +1,45 @@
-//! How many rows an account has.
-ghost use Rattle.std.specs.Prelude.{◌≡◌, ◌∷◌, [], ℕ, length, IsTrue, IfOk, IsOk};
+//! How many rows an account has. Their numbers have no gaps, so the greatest of them tells.
+ghost use Rattle.std.specs.Prelude.{◌≡◌, ◌*◌, ◌+◌, ℕ, length, IsTrue, IfOk, IsOk};
 ghost use Rattle.sqlite.specs.Held.{state};
-ghost use Rattle.acvp_tables.specs.Content.{Content, sessions_of, objects_of, requests_of, counts_of};
+ghost use Rattle.acvp_tables.specs.Content.{Content, sessions_of, objects_of, requests_of, count_of, counts_of};
 ghost use Rattle.acvp_tables.specs.State.{IsSound};
 ghost use Rattle.acvp_store.specs.Connection.{ServesStore, IsRead};
 ghost use Rattle.acvp_store.specs.Rows.{session_tree, HoldsSessions};
 ghost use Rattle.acvp_store.specs.Stands.{object_tree, request_tree, HoldsObjects, HoldsRequests};
 ghost use Rattle.acvp_store.specs.Values.{whole};
+ghost use Rattle.sqlite_value.specs.Order.{column};
+ghost use Rattle.acvp_store.specs.Private.Pages.{greatest};
 
 use crate::fault::fault_of;
 use crate::objects::kind_number;
 use crate::pages::page_of;
 use crate::shown::field;
 use acvp_registry::Kind;
-use acvp_tables::{Counts, StoreFault};
+use acvp_tables::{Counted, Counts, StoreFault};
 use sqlite::{Alter, Connection, Error, Row, params};
 
-/// The number that a query shows alone.
-fn counted(outcome: Result<Vec<Row>, Error>) -> Result<u64, StoreFault>
-    ensures found { IfOk result (λ found. IfOk outcome (λ rows. (n : ℕ) → rows.items ≡ (whole n ∷ []) ∷ [] → found ≡ n)) }
+/// How many rows an account has, by the query for their greatest number.
+fn counted(account: u16, outcome: Result<Vec<Row>, Error>) -> Result<u64, StoreFault>
+    ensures found { IfOk result (λ found. IfOk outcome (λ rows. (n : ℕ) → rows.items ≡ greatest (account * 1000000) n → found ≡ n)) }
     ensures ok { IsOk result → IsOk outcome }
 {
     match outcome {
         Ok(rows) => match rows.first() {
-            Some(row) => field(row, 0),
-            None => Err(StoreFault::Refused),
+            Some(row) => given_since(account, row),
+            None => Ok(0),
         },
         Err(error) => Err(fault_of(error)),
+    }
+}
+
+/// How many numbers an account has given up to that in a row.
+fn given_since(account: u16, row: &Row) -> Result<u64, StoreFault>
+    ensures { IfOk result (λ n. column row.now 0 ≡ whole (account * 1000000 + n)) }
+{
+    let number: u64 = field(row, 0)?;
+    match number.checked_sub(u64::from(account) * 1000000) {
+        Some(count) => Ok(count),
+        None => Err(StoreFault::Refused),
     }
 }
 
@@ -37,10 +50,13 @@ fn count_sessions<S: Alter>(conn: &mut Connection<S>, account: u16) -> Result<u6
     ensures read { IsRead result (state S.Store conn.old) (state S.Store conn.new) }
 {
     let at = page_of(account, 0, 0);
-    counted(conn.query_all(
-        "SELECT COUNT(*) FROM session WHERE session BETWEEN ?1 AND ?2",
-        params![at.first, at.last],
-    ))
+    counted(
+        account,
+        conn.query_all(
+            "SELECT session FROM session WHERE session BETWEEN ?1 AND ?2 ORDER BY session DESC LIMIT 1",
+            params![at.first, at.last],
+        ),
+    )
 }
 
 /// How many registered objects of a kind an account has.
@@ -54,10 +70,13 @@ fn count_objects<S: Alter>(
     ensures read { IsRead result (state S.Store conn.old) (state S.Store conn.new) }
 {
     let at = page_of(account, 0, 0);
-    counted(conn.query_all(
-        "SELECT COUNT(*) FROM object WHERE kind = ?3 AND number BETWEEN ?1 AND ?2",
-        params![at.first, at.last, kind_number(kind)],
-    ))
+    counted(
+        account,
+        conn.query_all(
+            "SELECT number FROM object WHERE kind = ?3 AND number BETWEEN ?1 AND ?2 ORDER BY number DESC LIMIT 1",
+            params![at.first, at.last, kind_number(kind)],
+        ),
+    )
 }
 
 /// How many requests an account has.
@@ -67,10 +86,30 @@ fn count_requests<S: Alter>(conn: &mut Connection<S>, account: u16) -> Result<u6
     ensures read { IsRead result (state S.Store conn.old) (state S.Store conn.new) }
 {
     let at = page_of(account, 0, 0);
-    counted(conn.query_all(
-        "SELECT COUNT(*) FROM request WHERE request BETWEEN ?1 AND ?2",
-        params![at.first, at.last],
-    ))
+    counted(
+        account,
+        conn.query_all(
+            "SELECT request FROM request WHERE request BETWEEN ?1 AND ?2 ORDER BY request DESC LIMIT 1",
+            params![at.first, at.last],
+        ),
+    )
+}
+
+/// How many of these rows an account has.
+pub(crate) fn find_count<S: Alter>(
+    conn: &mut Connection<S>,
+    account: u16,
+    of: Counted,
+) -> Result<u64, StoreFault>
+    requires { ServesStore (state S.Store conn.old) }
+    ensures found { IsTrue (state S.Store conn.new).is_open → IfOk result (λ found. (c : Content) → IsSound c → HoldsSessions ((state S.Store conn.old).now.trees session_tree) c.sessions → HoldsObjects ((state S.Store conn.old).now.trees object_tree) c.objects → HoldsRequests ((state S.Store conn.old).now.trees request_tree) c.requests → found ≡ count_of of account c) }
+    ensures read { IsRead result (state S.Store conn.old) (state S.Store conn.new) }
+{
+    match of {
+        Counted::Sessions => count_sessions(conn, account),
+        Counted::Objects(kind) => count_objects(conn, kind, account),
+        Counted::Requests => count_requests(conn, account),
+    }
 }
 
 /// How many rows an account has.

@@ -140,8 +140,8 @@ pub(crate) fn page_objects<S: Alter>(
     listed(
         alloc,
         conn.query_all(
-            "SELECT kind, number, account, body FROM object WHERE kind = ?5 AND number BETWEEN ?1 AND ?2 ORDER BY number LIMIT ?3 OFFSET ?4",
-            params![at.first, at.last, at.limit, at.offset, kind_number(kind)],
+            "SELECT kind, number, account, body FROM object WHERE kind = ?4 AND number BETWEEN ?1 AND ?2 ORDER BY number LIMIT ?3",
+            params![at.first, at.last, at.limit, kind_number(kind)],
         ),
     )
 }

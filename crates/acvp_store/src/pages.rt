@@ -9,13 +9,12 @@ use acvp_tables::StoreFault;
 use sqlite::{Error, Row};
 use std::alloc::Global;
 
-/// The numbers between which an account's rows lie, and so many of them from an offset on, as a statement takes them.
+/// The numbers between which the rows of a page lie, and how many of them it has, as a statement takes them.
 #[derive(Clone, Copy)]
 pub(crate) struct Span {
     pub first: i64,
     pub last: i64,
     pub limit: i64,
-    pub offset: i64,
 }
 
 /// The number, or the greatest that a statement takes.
@@ -29,20 +28,24 @@ fn capped(number: u64) -> i64
     }
 }
 
-/// The page of an account's rows from an offset on. No table has as many rows as the greatest number that a statement
-/// takes.
+/// The page of an account's rows from an offset on. An account's rows have numbers without gaps, so it begins at the
+/// number that lies as far behind the account's first. No account has as many rows as the greatest number that a
+/// statement takes.
 pub(crate) fn page_of(account: u16, offset: u64, limit: u64) -> Span
-    ensures first { result.first ≡ pos (account * 1000000) }
+    ensures first { result.first ≡ pos (account * 1000000 + 1 + min offset 999999) }
     ensures last { result.last ≡ pos (account * 1000000 + 999999) }
     ensures limit { result.limit ≡ pos (min limit 9223372036854775807) }
-    ensures offset { result.offset ≡ pos (min offset 9223372036854775807) }
 {
-    let first = i64::from(account) * 1000000;
+    let numbers = i64::from(account) * 1000000;
+    let offset = if offset < 999999 {
+        offset as i64
+    } else {
+        999999
+    };
     Span {
-        first,
-        last: first + 999999,
+        first: numbers + 1 + offset,
+        last: numbers + 999999,
         limit: capped(limit),
-        offset: capped(offset),
     }
 }
 

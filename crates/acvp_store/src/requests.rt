@@ -1,5 +1,5 @@
 //! The table of requests.
-ghost use Rattle.std.specs.Prelude.{◌≡◌, ◌++◌, ◌∷◌, [], pos, map, IsTrue, IfOk, string_bytes, option_map, unwrap_or};
+ghost use Rattle.std.specs.Prelude.{◌≡◌, ◌++◌, ◌∷◌, [], pos, List, map, IsTrue, IfOk, string_bytes, option_map, unwrap_or};
 ghost use Rattle.serde_json.specs.View.{view};
 ghost use Rattle.sqlite.specs.Held.{state};
 ghost use Rattle.acvp_tables.specs.Changes.{changed, is_request, with_status, new_request, new_certification};
@@ -16,7 +16,7 @@ ghost use Rattle.acvp_store.specs.Private.Requests.{IsAsked};
 use crate::fault::done;
 use crate::objects::kind_number;
 use crate::pages::{listed, only, page_of};
-use crate::shown::{fitting, key};
+use crate::shown::{answered, fitting, key};
 use crate::work::Work;
 use acvp_registry::{Kind, object_url};
 use acvp_tables::{
@@ -181,6 +181,21 @@ pub(crate) fn find_request<S: Alter>(
     ))
 }
 
+/// What was decided on the request of a number.
+pub(crate) fn find_status<S: Alter>(
+    conn: &mut Connection<S>,
+    number: u64,
+) -> Result<Option<RequestStatus>, StoreFault>
+    requires { ServesStore (state S.Store conn.old) }
+    ensures found { IsTrue (state S.Store conn.new).is_open → IfOk result (λ found. (requests : List Request) → HoldsRequests ((state S.Store conn.old).now.trees request_tree) requests → found ≡ option_map (λ row. row.status) (request_at number requests)) }
+    ensures read { IsRead result (state S.Store conn.old) (state S.Store conn.new) }
+{
+    answered(conn.query_all(
+        "SELECT status, approved FROM request WHERE request = ?1",
+        params![key(number)],
+    ))
+}
+
 /// So many requests of an account, from the offset on, without the objects that they ask to register.
 pub(crate) fn page_requests<S: Alter>(
     alloc: Global,
@@ -197,8 +212,8 @@ pub(crate) fn page_requests<S: Alter>(
     listed(
         alloc,
         conn.query_all(
-            "SELECT request, account, kind, CASE WHEN kind = 4 THEN body END, status, approved FROM request WHERE request BETWEEN ?1 AND ?2 ORDER BY request LIMIT ?3 OFFSET ?4",
-            params![at.first, at.last, at.limit, at.offset],
+            "SELECT request, account, kind, CASE WHEN kind = 4 THEN body END, status, approved FROM request WHERE request BETWEEN ?1 AND ?2 ORDER BY request LIMIT ?3",
+            params![at.first, at.last, at.limit],
         ),
     )
 }

@@ -88,8 +88,8 @@ pub(crate) fn page_sessions<S: Alter>(
     listed(
         alloc,
         conn.query_all(
-            "SELECT session, account, sample, created, cancelled, certify, live, passed FROM session WHERE session BETWEEN ?1 AND ?2 ORDER BY session LIMIT ?3 OFFSET ?4",
-            params![at.first, at.last, at.limit, at.offset],
+            "SELECT session, account, sample, created, cancelled, certify, live, passed FROM session WHERE session BETWEEN ?1 AND ?2 ORDER BY session LIMIT ?3",
+            params![at.first, at.last, at.limit],
         ),
     )
 }

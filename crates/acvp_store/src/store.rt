@@ -18,11 +18,13 @@ ghost use Rattle.acvp_store.specs.Private.Migration.{version_of, IsEarlierOf};
 ghost use Rattle.acvp_store.specs.Store.{may_fail, Begins, BecomesMigrated, IsStoreAt, IsStoreOf, IsOldOrMigrated, stands, IsLive, is_clean, leaves};
 
 use crate::accounts::{DisabledAccount, find_account};
-use crate::counts::find_counts;
+use crate::counts::{find_count, find_counts};
 use crate::fault::{AdoptFault, adopt_fault};
 use crate::migration::{Earlier, turn};
 use crate::objects::{Registered, find_object, find_owner, page_objects};
-use crate::requests::{CertificationAsked, DecidedRequest, find_request, page_requests};
+use crate::requests::{
+    CertificationAsked, DecidedRequest, find_request, find_status, page_requests,
+};
 use crate::reviewers::{ReviewerAdded, ReviewerRemoved, find_reviewer, find_reviewers};
 use crate::same::{same_front, same_schema};
 use crate::sessions::{
@@ -39,9 +41,9 @@ use acvp_caps::Capability;
 use acvp_policy::{Grant, release};
 use acvp_registry::Kind;
 use acvp_tables::{
-    AccountRow, Approval, CancelledSet, Change, Counts, KeptAnswers, NewAccount, NewCertification,
-    NewRequest, NewSession, ObjectRow, OrderChange, RequestStatus, RequestSummary, ReviewerRow,
-    SessionRow, SetSummary, StoreFault, Tables, UsedStep,
+    AccountRow, Approval, CancelledSet, Change, Counted, Counts, KeptAnswers, NewAccount,
+    NewCertification, NewRequest, NewSession, ObjectRow, OrderChange, RequestStatus,
+    RequestSummary, ReviewerRow, SessionRow, SetSummary, StoreFault, Tables, UsedStep,
 };
 use sqlite::{Alter, Connection, MemStore};
 use std::alloc::Global;
@@ -617,12 +619,20 @@ impl<S: Alter> Tables for SqlTables<S> {
         find_request(&mut self.connection, number)
     }
 
+    fn request_status(&mut self, number: u64) -> Result<Option<RequestStatus>, StoreFault> {
+        find_status(&mut self.connection, number)
+    }
+
     fn is_reviewer(&mut self, session: u64, account: u16) -> Result<bool, StoreFault> {
         find_reviewer(&mut self.connection, session, account)
     }
 
     fn reviewers_of(&mut self, session: u64) -> Result<Vec<u16>, StoreFault> {
         find_reviewers(self.alloc, &mut self.connection, session)
+    }
+
+    fn count(&mut self, account: u16, of: Counted) -> Result<u64, StoreFault> {
+        find_count(&mut self.connection, account, of)
     }
 
     fn counts(&mut self, account: u16) -> Result<Counts, StoreFault> {

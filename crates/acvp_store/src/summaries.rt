@@ -17,7 +17,7 @@ ghost use Rattle.acvp_store.specs.Stands.{BodyReads, certification_data, status_
 ghost use Rattle.acvp_store.specs.Private.Summaries.{subject_number, subject_text, SubjectReads};
 
 use crate::pages::Member;
-use crate::shown::{account_number, field};
+use crate::shown::{Shown, account_number, field};
 use acvp_registry::{Kind, RegFault, body_value, url_number};
 use acvp_tables::{Certification, RequestStatus, RequestSubject, RequestSummary, StoreFault};
 use serde_json::Value;
@@ -109,6 +109,18 @@ fn status(number: u32, given: Option<u64>) -> Result<RequestStatus, StoreFault>
         (1, Some(number)) => Ok(RequestStatus::Approved(number)),
         (2, None) => Ok(RequestStatus::Rejected),
         _ => Err(StoreFault::Refused),
+    }
+}
+
+impl Shown for RequestStatus {
+    ghost use Rattle.acvp_store.specs.Private.Summaries.{status_shown};
+
+    ghost shown = { status_shown };
+
+    fn read(row: &Row) -> Result<RequestStatus, StoreFault> {
+        let decided: u32 = field(row, 0)?;
+        let given: Option<u64> = field(row, 1)?;
+        status(decided, given)
     }
 }
 

@@ -11,6 +11,10 @@ counters 9000001: 2 0
 counters 8000001: none
 sets_of 7000002: 700000201 700000202
 counts 7: 2 0 0 0 0
+count Sessions 7: 2
+count Sessions 9: 1
+count Sessions 8: 0
+count Requests 7: 0
 sessions 7 0 1: 7000001
 sessions 7 1 20: 7000002
 sessions 8 0 20:
@@ -64,6 +68,9 @@ rejects 7000001: made
 status 7000001: rejected
 status 7000002: approved 7000001
 status 7000006: initial
+decision 7000001: rejected
+decision 7000002: approved 7000001
+decision 7000006: initial
 subject 7000006: Vendor
 requests 1 2: 7000002 7000003
 requests 5 20: 7000006
@@ -75,6 +82,9 @@ vendors 1 2: 7000002 7000003
 vendors 4 2:
 vendors 2 18446744073709551615: 7000003 7000004
 vendors 18446744073709551615 1:
+count Vendor 7: 4
+count Module 7: 0
+count Requests 7: 6
 "#;
 
 /// A session keeps the number of its last certification request, which registers nothing.
@@ -82,13 +92,16 @@ pub(crate) const A_CERTIFICATION_REQUEST_IS_KEPT_WITH_ITS_SESSION: &str = "\
 adds 7: made
 begins 7000001: made
 certifies: made
-certified_by 7000001: 7000004
-status 7000004: initial
-approves 7000004 7000001: made
-status 7000004: approved 7000001
-subject 7000004: 7000009 7000005 7000001
+certified_by 7000001: 7000001
+status 7000001: initial
+decision 7000001: initial
+approves 7000001 7000001: made
+status 7000001: approved 7000001
+decision 7000001: approved 7000001
+subject 7000001: 7000009 7000005 7000001
 status 7000009: none
 counts 7: 1 0 0 0 1
+count Requests 7: 1
 ";
 
 /// Each kind of object has numbers of its own.
@@ -100,6 +113,9 @@ approves 7000002 7000001: made
 asks Environment 7000003: made
 approves 7000003 7000001: made
 counts 7: 0 1 1 1 3
+count Module 7: 1
+count Environment 7: 1
+count Vendor 8: 0
 object Module 7000001: {"name":"M","vendorUrl":"/acvp/v1/vendors/7000001"}
 vendor_of 7000001: 7000001
 object Environment 7000001: {"name":"E"}
@@ -144,6 +160,7 @@ verdicts 7000001: none
 object Vendor 7000001: none
 owner Vendor 7000001: none
 status 7000001: none
+decision 7000001: none
 session 18446744073709551615: none
 set 18446744073709551615: none
 algorithm 18446744073709551615: none
@@ -151,6 +168,7 @@ verdicts 18446744073709551615: none
 object Vendor 18446744073709551615: none
 owner Vendor 18446744073709551615: none
 status 18446744073709551615: none
+decision 18446744073709551615: none
 sessions 7 0 20:
 vendors 0 20:
 requests 0 20:

@@ -317,10 +317,10 @@ fn reject<T: Tables>(tables: &mut T, request: u64) -> Result<(), StoreFault> {
     tables.order(&OrderChange::Reject(request))
 }
 
-/// Asks for the certification of the first session of account 7, by its fourth request.
+/// Asks for the certification of the first session of account 7, by its first request.
 fn certify<T: Tables>(tables: &mut T) -> Outcome {
     let request = NewCertification {
-        number: 7000004,
+        number: 7000001,
         account: 7,
         certification: Certification {
             module: 7000009,

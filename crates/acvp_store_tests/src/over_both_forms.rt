@@ -85,9 +85,9 @@ fn an_approved_request_becomes_an_object(rt: HostRuntime) {
 
 /// What is left of a certification that was approved.
 const CERTIFIED: &str = r#"0 SELECT count(*) FROM object
-1 SELECT count(*) FROM request WHERE request = 7000004 AND account = 7 AND kind = 4 AND status = 1 AND approved = 7000001
+1 SELECT count(*) FROM request WHERE request = 7000001 AND account = 7 AND kind = 4 AND status = 1 AND approved = 7000001
 1 SELECT count(*) FROM request WHERE body = '{"moduleUrl":"/acvp/v1/modules/7000009","oeUrl":"/acvp/v1/oes/7000005","session":7000001}'
-1 SELECT count(*) FROM session WHERE session = 7000001 AND certify = 7000004
+1 SELECT count(*) FROM session WHERE session = 7000001 AND certify = 7000001
 "#;
 
 #[test]

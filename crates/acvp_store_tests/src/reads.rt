@@ -5,7 +5,7 @@ use crate::changes::{SECRET, fault_word};
 use crate::words::{account_in, cut, kind_of, number};
 use acvp_answers::{Disposition, Verdict};
 use acvp_registry::Kind;
-use acvp_tables::{RequestStatus, RequestSubject, StoreFault, Tables};
+use acvp_tables::{Counted, RequestStatus, RequestSubject, StoreFault, Tables};
 use std::alloc::AllocError;
 use std::fmt::Write;
 use std::process::Abort;
@@ -278,18 +278,30 @@ fn vendor_of<T: Tables>(text: &mut String, tables: &mut T, number: u64) -> Resul
     }
 }
 
-/// What was decided on a request, with the number that it gave.
-fn status<T: Tables>(text: &mut String, tables: &mut T, number: u64) -> Result<(), StoreFault> {
-    match tables.request(number)? {
-        Some(request) => match request.status {
-            RequestStatus::Initial => put_all(text, &[Word::Text("initial")]),
-            RequestStatus::Approved(given) => {
-                put_all(text, &[Word::Text("approved"), Word::Number(given)])
-            }
-            RequestStatus::Rejected => put_all(text, &[Word::Text("rejected")]),
-        },
+/// Writes what was decided, with the number that it gave.
+fn put_status(text: &mut String, status: Option<RequestStatus>) -> Result<(), StoreFault> {
+    match status {
+        Some(RequestStatus::Initial) => put_all(text, &[Word::Text("initial")]),
+        Some(RequestStatus::Approved(given)) => {
+            put_all(text, &[Word::Text("approved"), Word::Number(given)])
+        }
+        Some(RequestStatus::Rejected) => put_all(text, &[Word::Text("rejected")]),
         None => put_all(text, NONE),
     }
+}
+
+/// What was decided on a request.
+fn status<T: Tables>(text: &mut String, tables: &mut T, number: u64) -> Result<(), StoreFault> {
+    let status = match tables.request(number)? {
+        Some(request) => Some(request.status),
+        None => None,
+    };
+    put_status(text, status)
+}
+
+/// The same, read alone.
+fn decision<T: Tables>(text: &mut String, tables: &mut T, number: u64) -> Result<(), StoreFault> {
+    put_status(text, tables.request_status(number)?)
 }
 
 /// What a request asks to register or to certify: a kind, or a module, an environment and a session.
@@ -325,6 +337,26 @@ fn counts<T: Tables>(text: &mut String, tables: &mut T, account: u16) -> Result<
     )
 }
 
+/// The rows that are counted, by their name.
+fn counted_in(rt: &impl Abort, name: &str) -> Counted {
+    match name {
+        "Sessions" => Counted::Sessions,
+        "Requests" => Counted::Requests,
+        kind => Counted::Objects(kind_of(rt, kind)),
+    }
+}
+
+/// How many of these rows an account has.
+fn count<T: Tables>(
+    text: &mut String,
+    tables: &mut T,
+    account: u16,
+    of: Counted,
+) -> Result<(), StoreFault> {
+    let count = tables.count(account, of)?;
+    put_all(text, &[Word::Number(count)])
+}
+
 /// The greatest epoch of all sets.
 fn greatest_epoch<T: Tables>(text: &mut String, tables: &mut T) -> Result<(), StoreFault> {
     match tables.greatest_epoch()? {
@@ -353,6 +385,10 @@ fn of_account<T: Tables>(
     match name {
         "account" => Some(account(text, tables, account_in(rt, of))),
         "counts" => Some(counts(text, tables, account_in(rt, of))),
+        "count" => {
+            let (rows, account) = cut(of);
+            Some(count(text, tables, account_in(rt, account), counted_in(rt, rows)))
+        }
         "sessions" => {
             let (account, page) = cut(of);
             let (account, page) = (account_in(rt, account), page_in(rt, page));
@@ -410,6 +446,7 @@ fn of_registry<T: Tables>(
         }
         "vendor_of" => Some(vendor_of(text, tables, number(rt, of))),
         "status" => Some(status(text, tables, number(rt, of))),
+        "decision" => Some(decision(text, tables, number(rt, of))),
         "subject" => Some(subject(text, tables, number(rt, of))),
         _ => None,
     }

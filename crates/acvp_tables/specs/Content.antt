@@ -17,6 +17,8 @@ use Rattle.acvp_tables.specs.declared.summary.SetSummary.{SetSummary}
 use Rattle.acvp_tables.specs.declared.summary.RequestSummary.{RequestSummary}
 use Rattle.acvp_tables.specs.declared.summary.RequestSubject.{RequestSubject}
 use Rattle.acvp_tables.specs.declared.summary.RequestSubject.TheVariants as subject
+use Rattle.acvp_tables.specs.declared.summary.Counted.{Counted}
+use Rattle.acvp_tables.specs.declared.summary.Counted.TheVariants as counted
 use Rattle.acvp_tables.specs.declared.summary.Counts.{Counts}
 
 pub record Content : Type 0 where
@@ -106,6 +108,11 @@ requests_of account rows = filter (λ row. row.account == account) rows
 -- a page: so many from the offset on
 abbrev pub page : {Row : Type 0} → ℕ → ℕ → List Row → List Row
 page offset limit rows = take limit (drop offset rows)
+
+abbrev pub count_of : Counted → ℕ → Content → ℕ
+count_of counted.Sessions account c = length (sessions_of account c.sessions)
+count_of (counted.Objects kind) account c = length (objects_of kind account c.objects)
+count_of counted.Requests account c = length (requests_of account c.requests)
 
 abbrev pub counts_of : ℕ → Content → Counts
 counts_of account c = record {

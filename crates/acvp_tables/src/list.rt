@@ -27,7 +27,8 @@ use crate::list::accounts::{AccountIs, Disabled, WholeAccount, WithStep, new_acc
 use crate::list::counting::counts_in;
 use crate::list::objects::{ItsOwner, ObjectIs, ObjectsOf, WholeObject};
 use crate::list::requests::{
-    RequestInShort, RequestIs, RequestsOf, WithStatus, new_certification, new_object, new_request,
+    ItsStatus, RequestInShort, RequestIs, RequestsOf, WithStatus, new_certification, new_object,
+    new_request,
 };
 use crate::list::reviewers::{ReviewerIs, add, remove, reviewers_of};
 use crate::list::sessions::{
@@ -37,11 +38,13 @@ use crate::list::sessions::{
 use crate::list::sets::{
     CancelSet, ItsCapability, LiveIn, SetInShort, SetIs, greatest_epoch, keep, new_sets, verdicts,
 };
-use crate::list::walks::{all, any, change_all, first, first_shown, page, push, push_reserved};
+use crate::list::walks::{
+    all, any, change_all, count, first, first_shown, page, push, push_reserved,
+};
 use crate::rows::{
     AccountRow, ObjectRow, RequestRow, RequestStatus, ReviewerRow, SessionRow, SetRow,
 };
-use crate::summary::{Counts, RequestSummary, SetSummary};
+use crate::summary::{Counted, Counts, RequestSummary, SetSummary};
 use crate::tables::{StoreFault, Tables};
 use acvp_answers::Verdict;
 use acvp_caps::Capability;
@@ -309,12 +312,24 @@ impl Tables for ListTables {
         Ok(first_shown(&self.requests, &RequestIs { number }, &RequestInShort)?)
     }
 
+    fn request_status(&mut self, number: u64) -> Result<Option<RequestStatus>, StoreFault> {
+        Ok(first_shown(&self.requests, &RequestIs { number }, &ItsStatus)?)
+    }
+
     fn is_reviewer(&mut self, session: u64, account: u16) -> Result<bool, StoreFault> {
         Ok(any(&self.reviewers, &ReviewerIs { session, account }))
     }
 
     fn reviewers_of(&mut self, session: u64) -> Result<Vec<u16>, StoreFault> {
         Ok(reviewers_of(self.alloc, &self.reviewers, session)?)
+    }
+
+    fn count(&mut self, account: u16, of: Counted) -> Result<u64, StoreFault> {
+        Ok(match of {
+            Counted::Sessions => count(&self.sessions, &SessionsOf { account }),
+            Counted::Objects(kind) => count(&self.objects, &ObjectsOf { kind, account }),
+            Counted::Requests => count(&self.requests, &RequestsOf { account }),
+        })
     }
 
     fn counts(&mut self, account: u16) -> Result<Counts, StoreFault> {

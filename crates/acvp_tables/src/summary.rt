@@ -32,6 +32,14 @@ pub struct RequestSummary {
     pub status: RequestStatus,
 }
 
+/// Which rows of an account are counted.
+#[derive(Clone, Copy)]
+pub enum Counted {
+    Sessions,
+    Objects(Kind),
+    Requests,
+}
+
 /// How many rows of each kind an account has.
 #[derive(Clone, Copy)]
 pub struct Counts {

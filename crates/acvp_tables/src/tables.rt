@@ -2,7 +2,7 @@
 
 ghost use Rattle.std.specs.Prelude.{◌≡◌, ℕ, List, Option, IfOk, map, option_map, option_and_then};
 ghost use Rattle.acvp_tables.specs.Calls.{Finds, Reads, Changes};
-ghost use Rattle.acvp_tables.specs.Content.{Content, account_at, session_at, set_at, set_summary, set_verdicts, live_sets, object_at, objects_of, request_at, requests_of, request_summary, is_reviewer, reviewers_of, sessions_of, page, counts_of, greatest_epoch_of};
+ghost use Rattle.acvp_tables.specs.Content.{Content, account_at, session_at, set_at, set_summary, set_verdicts, live_sets, object_at, objects_of, request_at, requests_of, request_summary, is_reviewer, reviewers_of, sessions_of, page, count_of, counts_of, greatest_epoch_of};
 ghost use Rattle.acvp_tables.specs.Changes.{after, after_order};
 ghost use Rattle.acvp_tables.specs.Covers.{Covers};
 ghost use Rattle.acvp_tables.specs.Own.{Fits};
@@ -10,8 +10,8 @@ ghost use Rattle.acvp_tables.specs.State.{IsSound};
 ghost use Rattle.acvp_tables.specs.declared.tables.StoreFault.{StoreFault};
 
 use crate::change::{Change, OrderChange};
-use crate::rows::{AccountRow, ObjectRow, SessionRow};
-use crate::summary::{Counts, RequestSummary, SetSummary};
+use crate::rows::{AccountRow, ObjectRow, RequestStatus, SessionRow};
+use crate::summary::{Counted, Counts, RequestSummary, SetSummary};
 use acvp_answers::Verdict;
 use acvp_caps::Capability;
 use acvp_policy::Grant;
@@ -103,6 +103,11 @@ pub trait Tables {
         ensures found { Finds IsSound stands is_live (λ x. x) result self.old self.new (λ c. option_map request_summary (request_at number c.requests)) }
         ensures reads { Reads faults stands is_live is_clean leaves result self.old self.new };
 
+    /// What was decided on the request of a number.
+    fn request_status(&mut self, number: u64) -> Result<Option<RequestStatus>, StoreFault>
+        ensures found { Finds IsSound stands is_live (λ x. x) result self.old self.new (λ c. option_map (λ row. row.status) (request_at number c.requests)) }
+        ensures reads { Reads faults stands is_live is_clean leaves result self.old self.new };
+
     /// Whether an account, which needn't have a row, is a reviewer of a test session.
     fn is_reviewer(&mut self, session: u64, account: u16) -> Result<bool, StoreFault>
         ensures found { Finds IsSound stands is_live (λ x. x) result self.old self.new (λ c. is_reviewer session account c.reviewers) }
@@ -111,6 +116,11 @@ pub trait Tables {
     /// The accounts that are reviewers of a test session.
     fn reviewers_of(&mut self, session: u64) -> Result<Vec<u16>, StoreFault>
         ensures found { Finds IsSound stands is_live (λ v. v.items) result self.old self.new (λ c. reviewers_of session c.reviewers) }
+        ensures reads { Reads faults stands is_live is_clean leaves result self.old self.new };
+
+    /// How many of these rows an account has.
+    fn count(&mut self, account: u16, of: Counted) -> Result<u64, StoreFault>
+        ensures found { Finds IsSound stands is_live (λ x. x) result self.old self.new (count_of of account) }
         ensures reads { Reads faults stands is_live is_clean leaves result self.old self.new };
 
     /// How many rows an account has.

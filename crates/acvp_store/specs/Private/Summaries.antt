@@ -7,6 +7,7 @@ use Rattle.sqlite_value.specs.Order.{Row}
 use Rattle.acvp_tables.specs.Content.{kind_number}
 use Rattle.acvp_tables.specs.State.{given_number}
 use Rattle.acvp_tables.specs.declared.rows.RequestBody.TheVariants as body
+use Rattle.acvp_tables.specs.declared.rows.RequestStatus.{RequestStatus}
 use Rattle.acvp_tables.specs.declared.summary.RequestSubject.{RequestSubject}
 use Rattle.acvp_tables.specs.declared.summary.RequestSubject.TheVariants as subject
 use Rattle.acvp_tables.specs.declared.summary.RequestSummary.{RequestSummary}
@@ -27,6 +28,9 @@ abbrev pub SubjectReads : RequestSubject → Type 0
 SubjectReads (subject.Registration kind) = kind_number kind < 4
 SubjectReads (subject.Certification c) = BodyReads (body.Certification c)
 
+-- what was decided, and the number that it gave
+abbrev pub status_shown : RequestStatus → Row
+status_shown s = whole (status_number s) ∷ or_null whole (given_number s) ∷ []
+
 abbrev pub summary_shown : RequestSummary → Row
-summary_shown s = whole s.number ∷ whole s.account ∷ whole (subject_number s.subject) ∷ or_null Text (subject_text s.subject)
-    ∷ whole (status_number s.status) ∷ or_null whole (given_number s.status) ∷ []
+summary_shown s = whole s.number ∷ whole s.account ∷ whole (subject_number s.subject) ∷ or_null Text (subject_text s.subject) ∷ status_shown s.status

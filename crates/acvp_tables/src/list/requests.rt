@@ -73,6 +73,18 @@ impl Show<RequestRow, RequestSummary> for RequestInShort {
 
 /// What was decided on it.
 #[derive(Drop)]
+pub(crate) struct ItsStatus;
+
+impl Show<RequestRow, RequestStatus> for ItsStatus {
+    ghost shown = { λ _ row. row.status };
+
+    fn show(&self, row: &RequestRow) -> Result<RequestStatus, AllocError> {
+        Ok(row.status)
+    }
+}
+
+/// It is decided so.
+#[derive(Drop)]
 pub(crate) struct WithStatus {
     pub status: RequestStatus,
 }

@@ -5,8 +5,8 @@ use Rattle.acvp_desk.proofs.find.sessions_material.Goals as goal
 pub returns-clause-found : goal.returns-clause-found
 returns-clause-found g c =
     λ live seeds content kept h. let up = c.in_ok-sessions.ensures.looks.was_live live in let early = c.in_ok-rows.ensures.reads.was_live up in
-    let counted = c.in_ok-counts.ensures.reads.same early content h in let there = c.in_ok-rows.ensures.reads.same up content counted in
+    let counted = c.in_ok-count.ensures.reads.same early content h in let there = c.in_ok-rows.ensures.reads.same up content counted in
     rw (c.in-Some.is)
-    (sessions_there c.selections_follow.ensures.sessions c.selections_follow.ensures.page c.selections_follow.ensures.counts c.args.account content c.in-Some.page
-    c.in_ok-counts.counts c.deref.result.now c.in_ok-sessions.sessions (c.in_ok-counts.ensures.found early content kept.sound h)
+    (sessions_there c.selections_follow.ensures.sessions c.selections_follow.ensures.page c.args.account content c.in-Some.page
+    c.in_ok-count.count c.deref.result.now c.in_ok-sessions.sessions (c.in_ok-count.ensures.found early content kept.sound h)
     (c.deref.ensures.value ∙ c.in_ok-rows.ensures.found up content kept.sound counted) (c.in_ok-sessions.ensures.found live seeds content kept there))
