@@ -13,13 +13,16 @@ use Rattle.acvp_caps.specs.declared.algorithm.Algorithm.{Algorithm}
 use Rattle.acvp_caps.specs.declared.algorithm.Algorithm.TheVariants.{Sha2_224, Sha2_256, Sha2_384, Sha2_512, Sha2_512_224, Sha2_512_256, HmacSha2_224, HmacSha2_256, HmacSha2_384, HmacSha2_512, HmacSha2_512_224, HmacSha2_512_256}
 use Rattle.acvp_caps.specs.declared.capability.Domains.{Domains}
 use Rattle.acvp_caps.specs.declared.capability.Domains.TheVariants.{Message, KeyAndMac}
+use Rattle.acvp_caps.specs.declared.given.Given.{Given}
+use Rattle.acvp_caps.specs.declared.given.Given.TheVariants.{MessageItems, KeyAndMacItems}
 use Rattle.acvp_caps.specs.Algorithms.{named, name_of, is_hmac_of}
 use Rattle.acvp_caps.specs.Items.{is_formed, is_byte_oriented}
 use Rattle.acvp_caps.specs.Json.{elements}
 use Rattle.acvp_caps.specs.Members.{members, all_within}
 use Rattle.acvp_caps.specs.Capability.{AreLengths, AreDomainsOf, AreHashDomains, AreHmacDomains, digest_bits}
 use Rattle.acvp_caps.specs.Registered.{item_of, is_item, items_at, is_domain, domain_of, registered_capability}
-use Rattle.acvp_caps.specs.Private.Written.{item_data, domain_data, IsDomainData, hash_data, hmac_data, IsHashData, IsHmacData, IsCapabilityData}
+use Rattle.acvp_caps.specs.Private.Kept.{IsGivenBy, AreGivenBy, AreKept}
+use Rattle.acvp_caps.specs.Private.Written.{item_data, domain_data, hash_data, hmac_data, IsCapabilityData}
 use Rattle.acvp_caps.proofs.JsonLemmas.{item_list-items_of}
 
 -- ---- a domain
@@ -44,12 +47,13 @@ items-are (i ∷ is) h =
     let parts = both (is_formed i) (list_all is_formed is) h in
     rw (item_of-item_data i parts.0, items-are is parts.1) refl
 
--- the tests of a domain pass, and it is this one
-pub record IsGood (low high : ℕ) (member : Option Data) (xs : List ℕ) : Type 0 where
+-- the tests of a domain pass, it has these members and these items
+pub record IsGood (low high : ℕ) (member : Option Data) (xs : List ℕ) (items : List Item) : Type 0 where
   pub form : is_domain (elements member) ≡ true
   pub whole : list_all is_byte_oriented (items_at member) ≡ true
   pub within : all_within low high (members (items_at member)) ≡ true
   pub same : domain_of member ≡ xs
+  pub given : items_at member ≡ items
 
 item-depth : (i : Item) → depth (item_data i) ≤ 1
 item-depth (Single value) = lit≤ tt
@@ -77,34 +81,32 @@ within-test low high xs l = list_all-from_AllPass (λ n. nat_le low n && nat_le 
     two : (a b : Bool) → a ≡ true → b ≡ true → (a && b) ≡ true
     two a b e f = rw (e, f) refl
 
-pub good-domain : (low high : ℕ) (d : Data) (xs : List ℕ) → IsDomainData xs d → AreLengths low high xs
-    → IsGood low high (Some d) xs
-good-domain low high d xs w l = subst (λ (e : Data). IsGood low high (Some e) xs) (sym w.written) good
+pub good-domain : (low high : ℕ) (items : List Item) (xs : List ℕ) → IsGivenBy xs items → AreLengths low high xs
+    → IsGood low high (Some (domain_data items)) xs items
+good-domain low high items xs w l = record {
+  form = three (nat_le 1 (length (elements (Some (domain_data items)))))
+      (nat_le (length (elements (Some (domain_data items)))) 32)
+      (list_all is_item (elements (Some (domain_data items))))
+      (at_least 1 _ (omega (arith, count, w.kept.some))) (at_least _ 32 (omega (arith, count, w.kept.most)))
+      (ap (list_all is_item) given ∙ items-are items formed);
+  whole = ap (list_all is_byte_oriented) read ∙ w.kept.whole_bytes;
+  within = ap (λ (js : List Item). all_within low high (members js)) read ∙ ap (all_within low high) w.same
+      ∙ within-test low high xs l;
+  same = ap members read ∙ w.same;
+  given = read;
+}
   where
-    formed : list_all is_formed w.items ≡ true
-    formed = list_all-from_AllPass is_formed w.items w.kept.formed
+    formed : list_all is_formed items ≡ true
+    formed = list_all-from_AllPass is_formed items w.kept.formed
 
-    given : elements (Some (domain_data w.items)) ≡ map item_data w.items
-    given = item_list-items_of (map item_data w.items)
+    given : elements (Some (domain_data items)) ≡ map item_data items
+    given = item_list-items_of (map item_data items)
 
-    read : items_at (Some (domain_data w.items)) ≡ w.items
-    read = ap (filter_map item_of) given ∙ items-back w.items formed
+    read : items_at (Some (domain_data items)) ≡ items
+    read = ap (filter_map item_of) given ∙ items-back items formed
 
-    count : length (elements (Some (domain_data w.items))) ≡ length w.items
-    count = ap length given ∙ length-map w.items item_data
-
-    good : IsGood low high (Some (domain_data w.items)) xs
-    good = record {
-      form = three (nat_le 1 (length (elements (Some (domain_data w.items)))))
-          (nat_le (length (elements (Some (domain_data w.items)))) 32)
-          (list_all is_item (elements (Some (domain_data w.items))))
-          (at_least 1 _ (omega (arith, count, w.kept.some))) (at_least _ 32 (omega (arith, count, w.kept.most)))
-          (ap (list_all is_item) given ∙ items-are w.items formed);
-      whole = ap (list_all is_byte_oriented) read ∙ w.kept.whole_bytes;
-      within = ap (λ (js : List Item). all_within low high (members js)) read ∙ ap (all_within low high) w.same
-          ∙ within-test low high xs l;
-      same = ap members read ∙ w.same;
-    }
+    count : length (elements (Some (domain_data items))) ≡ length items
+    count = ap length given ∙ length-map items item_data
 
 -- ---- a capability
 
@@ -123,17 +125,40 @@ named-name_of HmacSha2_512 = refl
 named-name_of HmacSha2_512_224 = refl
 named-name_of HmacSha2_512_256 = refl
 
-hash-reads : (a : Algorithm) (name : List ℕ) (given : Data) (xs : List ℕ) → named name ≡ Some a → is_hmac_of a ≡ false
-    → IsGood 0 65536 (Some given) xs
-    → registered_capability (hash_data name given) ≡ Ok (Some (record { algorithm = a; domains = Message xs }))
-hash-reads a name given xs e h good = rw (e, h, good.form, good.whole, good.within, good.same) refl
+hash-reads : (a : Algorithm) (name : List ℕ) (given : Data) (xs : List ℕ) (items : List Item) → named name ≡ Some a
+    → is_hmac_of a ≡ false → IsGood 0 65536 (Some given) xs items
+    → registered_capability (hash_data name given) ≡ Ok (Some (record {
+      algorithm = a;
+      domains = Message xs;
+      given = MessageItems items;
+    }))
+hash-reads a name given xs items e h good = rw (e, h, good.form, good.whole, good.within, good.same, good.given) refl
 
-hmac-reads : (a : Algorithm) (name : List ℕ) (key mac : Data) (xs ys : List ℕ) → named name ≡ Some a
-    → is_hmac_of a ≡ true → IsGood 8 524288 (Some key) xs
-    → IsGood 32 (digest_bits a) (Some mac) ys
-    → registered_capability (hmac_data name key mac) ≡ Ok (Some (record { algorithm = a; domains = KeyAndMac xs ys }))
-hmac-reads a name key mac xs ys e h good fine =
-    rw (e, h, good.form, good.whole, good.within, good.same, fine.form, fine.whole, fine.within, fine.same) refl
+hmac-reads : (a : Algorithm) (name : List ℕ) (key mac : Data) (xs ys : List ℕ) (is js : List Item)
+    → named name ≡ Some a
+    → is_hmac_of a ≡ true → IsGood 8 524288 (Some key) xs is
+    → IsGood 32 (digest_bits a) (Some mac) ys js
+    → registered_capability (hmac_data name key mac) ≡ Ok (Some (record {
+      algorithm = a;
+      domains = KeyAndMac xs ys;
+      given = KeyAndMacItems is js;
+    }))
+hmac-reads a name key mac xs ys is js e h good fine =
+    rw (
+      e,
+      h,
+      good.form,
+      good.whole,
+      good.within,
+      good.same,
+      good.given,
+      fine.form,
+      fine.whole,
+      fine.within,
+      fine.same,
+      fine.given,
+    )
+    refl
 
 -- ---- the value of a capability
 
@@ -149,43 +174,52 @@ hmac-fits : (a : Algorithm) (key mac : List ℕ) (b : Bool) → is_hmac_of a ≡
 hmac-fits a key mac true e h = (e, h.0, h.1)
 hmac-fits a key mac false e h = absurd h
 
-domain-data-depth : (xs : List ℕ) (d : Data) → IsDomainData xs d → depth d ≤ 2
-domain-data-depth xs d w = omega (arith, ap depth w.written, domain-depth w.items)
+hash-depth : (name : List ℕ) (items : List Item) → depth (hash_data name (domain_data items)) ≤ 127
+hash-depth name items = omega (arith, domain-depth items)
 
-hash-depth : (name : List ℕ) (d : Data) → depth d ≤ 2 → depth (hash_data name d) ≤ 127
-hash-depth name d h = omega arith
+hmac-depth : (name : List ℕ) (is js : List Item) → depth (hmac_data name (domain_data is) (domain_data js)) ≤ 127
+hmac-depth name is js = omega (arith, domain-depth is, domain-depth js)
 
-hmac-depth : (name : List ℕ) (d e : Data) → depth d ≤ 2 → depth e ≤ 2 → depth (hmac_data name d e) ≤ 127
-hmac-depth name d e h g = omega arith
+pub hash-written : (a : Algorithm) (domains : Domains) (given : Given) (name : List ℕ) (items : List Item) (d : Data)
+    → given ≡ MessageItems items → name ≡ name_of a → AreKept a domains given → d ≡ hash_data name (domain_data items)
+    → IsCapabilityData (record { algorithm = a; domains = domains; given = given }) d
+hash-written a domains given name items d is named_so kept w =
+    subst (λ (e : Data). IsCapabilityData (record { algorithm = a; domains = domains; given = given }) e) (sym w)
+    (subst (λ (g : Given). IsCapabilityData (record { algorithm = a; domains = domains; given = g })
+    (hash_data name (domain_data items))) (sym is)
+    (of domains kept.fit (subst (λ (g : Given). AreGivenBy domains g) is kept.by)))
+  where
+    of : (domains : Domains) → AreDomainsOf a domains → AreGivenBy domains (MessageItems items)
+        → IsCapabilityData (record { algorithm = a; domains = domains; given = MessageItems items })
+        (hash_data name (domain_data items))
+    of (Message message) fit by =
+        let fits = hash-fits a message (is_hmac_of a) refl fit in
+        record {
+          reads = hash-reads a name (domain_data items) message items (ap named named_so ∙ named-name_of a) fits.0
+              (good-domain 0 65536 items message by fits.1);
+          shallow = hash-depth name items;
+        }
+    of (KeyAndMac key mac) fit by = absurd by
 
-pub hash-written : (a : Algorithm) (domains : Domains) (name message : List ℕ) (d : Data) → domains ≡ Message message
-    → name ≡ name_of a
-    → AreDomainsOf a domains → IsHashData name message d
-    → IsCapabilityData (record { algorithm = a; domains = domains }) d
-hash-written a domains name message d is named_so fit w =
-    let fits = hash-fits a message (is_hmac_of a) refl (subst (λ (e : Domains). AreDomainsOf a e) is fit) in
-    let good = good-domain 0 65536 w.given message w.is_message fits.1 in
-    record {
-      reads = ap registered_capability w.written ∙ hash-reads a name w.given message (ap named named_so
-          ∙ named-name_of a) fits.0 good
-          ∙ ap (λ (e : Domains). Ok (Some (record { algorithm = a; domains = e }))) (sym is);
-      shallow = subst (λ (e : Data). depth e ≤ 127) (sym w.written)
-          (hash-depth name w.given (domain-data-depth message w.given w.is_message));
-    }
-
-pub hmac-written : (a : Algorithm) (domains : Domains) (name key mac : List ℕ) (d : Data) → domains ≡ KeyAndMac key mac
-    → name ≡ name_of a
-    → AreDomainsOf a domains → IsHmacData name key mac d
-    → IsCapabilityData (record { algorithm = a; domains = domains }) d
-hmac-written a domains name key mac d is named_so fit w =
-    let fits = hmac-fits a key mac (is_hmac_of a) refl (subst (λ (e : Domains). AreDomainsOf a e) is fit) in
-    let good = good-domain 8 524288 w.key_given key w.is_key fits.1 in
-    let fine = good-domain 32 (digest_bits a) w.mac_given mac w.is_mac fits.2 in
-    record {
-      reads = ap registered_capability w.written ∙ hmac-reads a name w.key_given w.mac_given key mac (ap named named_so
-          ∙ named-name_of a) fits.0 good fine
-          ∙ ap (λ (e : Domains). Ok (Some (record { algorithm = a; domains = e }))) (sym is);
-      shallow = subst (λ (e : Data). depth e ≤ 127) (sym w.written)
-          (hmac-depth name w.key_given w.mac_given (domain-data-depth key w.key_given w.is_key)
-          (domain-data-depth mac w.mac_given w.is_mac));
-    }
+pub hmac-written : (a : Algorithm) (domains : Domains) (given : Given) (name : List ℕ) (is js : List Item) (d : Data)
+    → given ≡ KeyAndMacItems is js → name ≡ name_of a → AreKept a domains given
+    → d ≡ hmac_data name (domain_data is) (domain_data js)
+    → IsCapabilityData (record { algorithm = a; domains = domains; given = given }) d
+hmac-written a domains given name is js d e named_so kept w =
+    subst (λ (x : Data). IsCapabilityData (record { algorithm = a; domains = domains; given = given }) x) (sym w)
+    (subst (λ (g : Given). IsCapabilityData (record { algorithm = a; domains = domains; given = g })
+    (hmac_data name (domain_data is) (domain_data js))) (sym e)
+    (of domains kept.fit (subst (λ (g : Given). AreGivenBy domains g) e kept.by)))
+  where
+    of : (domains : Domains) → AreDomainsOf a domains → AreGivenBy domains (KeyAndMacItems is js)
+        → IsCapabilityData (record { algorithm = a; domains = domains; given = KeyAndMacItems is js })
+        (hmac_data name (domain_data is) (domain_data js))
+    of (Message message) fit by = absurd by
+    of (KeyAndMac key mac) fit by =
+        let fits = hmac-fits a key mac (is_hmac_of a) refl fit in
+        let is_name : named name ≡ Some a = ap named named_so ∙ named-name_of a in
+        record {
+          reads = hmac-reads a name (domain_data is) (domain_data js) key mac is js is_name
+              fits.0 (good-domain 8 524288 is key by.0 fits.1) (good-domain 32 (digest_bits a) js mac by.1 fits.2);
+          shallow = hmac-depth name is js;
+        }

@@ -7,11 +7,14 @@ use Rattle.acvp_mac.specs.Hash.{block_of, out_of}
 use Rattle.acvp_caps.specs.declared.algorithm.Algorithm.{Algorithm}
 use Rattle.acvp_caps.specs.declared.capability.Domains.{Domains}
 use Rattle.acvp_caps.specs.declared.capability.Domains.TheVariants.{Message, KeyAndMac}
+use Rattle.acvp_caps.specs.declared.given.Given.{Given}
 use Rattle.acvp_caps.specs.Algorithms.{algorithm_number, hash_of, is_hmac_of}
 
+-- what contracts see of a capability, with the items by which the domains were given
 pub record CapabilityValue : Type 0 where
   pub algorithm : Algorithm
   pub domains : Domains
+  pub given : Given
 
 -- the members of each parameter's domain
 abbrev pub parameter_lists : Domains → List (List ℕ)

@@ -7,6 +7,8 @@ use Rattle.serde_json.specs.Read.{read}
 use Rattle.acvp_caps.specs.declared.algorithm.Algorithm.{Algorithm}
 use Rattle.acvp_caps.specs.declared.capability.Domains.{Domains}
 use Rattle.acvp_caps.specs.declared.capability.Domains.TheVariants.{Message, KeyAndMac}
+use Rattle.acvp_caps.specs.declared.given.Given.{Given}
+use Rattle.acvp_caps.specs.declared.given.Given.TheVariants.{MessageItems, KeyAndMacItems}
 use Rattle.acvp_caps.specs.declared.item.Item.{Item}
 use Rattle.acvp_caps.specs.declared.item.Item.TheVariants.{Single, Range}
 use Rattle.acvp_caps.specs.declared.CapFault.{CapFault}
@@ -100,8 +102,16 @@ domains_at d a =
     then KeyAndMac (domain_of (get (codes "keyLen") d)) (domain_of (get (codes "macLen") d))
     else Message (domain_of (get (codes "messageLength") d))
 
+-- the items by which they are given
+abbrev pub given_at : Data → Algorithm → Given
+given_at d a =
+    if is_hmac_of a
+    then KeyAndMacItems (items_at (get (codes "keyLen") d)) (items_at (get (codes "macLen") d))
+    else MessageItems (items_at (get (codes "messageLength") d))
+
 abbrev pub capability_at : Data → Option CapabilityValue
-capability_at d = option_map (λ a. record { algorithm = a; domains = domains_at d a }) (algorithm_at d)
+capability_at d =
+    option_map (λ a. record { algorithm = a; domains = domains_at d a; given = given_at d a }) (algorithm_at d)
 
 -- the capability that a JSON value is (there is one wherever every condition holds), or the fault of the first broken
 -- one

@@ -7,14 +7,16 @@ ghost use Rattle.std.specs.Cmp.{partial_equiv_from_equiv, on_equiv, and_equiv, n
 ghost use Rattle.std.specs.Cmp.Lexicographic.{lists_equiv, nat_list_eq_equiv};
 ghost use Rattle.acvp_caps.specs.Algorithms.{algorithm_number, hash_of, is_hmac_of};
 ghost use Rattle.acvp_caps.specs.Capability.{AreDomainsOf, AreHashDomains, AreHmacDomains, digest_bits, parameter_lists, same_capability, same_domains};
-ghost use Rattle.acvp_caps.specs.Registered.{capability_conditions, capability_at, parameter_conditions, domains_at, domain_conditions, domain_of, large_data_conditions, registered_capability, registered_text};
+ghost use Rattle.acvp_caps.specs.Registered.{capability_conditions, capability_at, parameter_conditions, domains_at, domain_conditions, domain_of, items_at, given_at, large_data_conditions, registered_capability, registered_text};
 ghost use Rattle.acvp_mac.specs.Conditions.{IsJudged};
 ghost use Rattle.acvp_caps.specs.Private.Readings.{IsReadBy};
-ghost use Rattle.acvp_caps.specs.Private.Written.{IsCapabilityData, IsHashData, IsHmacData};
+ghost use Rattle.acvp_caps.specs.Private.Kept.{AreGivenBy};
+ghost use Rattle.acvp_caps.specs.Private.Written.{IsCapabilityData, domain_data, hash_data, hmac_data};
 
 use crate::CapFault;
 use crate::algorithm::Algorithm;
 use crate::domain::{Domain, read_domain};
+use crate::given::{Given, GivenItems};
 use crate::json::{elements, is_optional_array, is_text, text_at};
 use serde_json::{Value, json};
 use std::alloc::{AllocError, Global};
@@ -39,7 +41,7 @@ pub enum Domains {
     KeyAndMac { key: Domain, mac: Domain },
 }
 
-/// The clone keeps the items of the domains as they were given.
+/// The clone has the same members.
 impl Clone for Domains {
     ghost is_clone = { λ it copy. copy ≡ it };
 
@@ -86,52 +88,38 @@ impl Eq for Domains {
     ghost laws = { on_equiv parameter_lists (lists_equiv nat_list_eq_equiv) };
 }
 
-impl Domains {
-    /// Whether the others were given by the same items.
-    fn is_same(&self, other: &Domains) -> bool
-        ensures { IsTrue result → self.now ≡ other.now }
-    {
-        match (self, other) {
-            (Domains::Message(message), Domains::Message(other)) => message.is_same(other),
-            (
-                Domains::KeyAndMac { key, mac },
-                Domains::KeyAndMac {
-                    key: other_key,
-                    mac: other_mac,
-                },
-            ) => key.is_same(other_key) && mac.is_same(other_mac),
-            _ => false,
-        }
-    }
-}
-
 /// An algorithm and the domains of its parameters, which lie within what the algorithm is tested
-/// at. It is made by reading a registration, or a capability's text.
+/// at, and the items by which the domains were given. It is made by reading a registration, or a
+/// capability's text.
 #[derive(Drop)]
 pub struct Capability {
     algorithm: Algorithm,
     domains: Domains,
+    given: Given,
 }
 
 impl Model for Capability {
-    ghost use Rattle.acvp_caps.specs.Capability.{CapabilityValue, AreDomainsOf};
+    ghost use Rattle.acvp_caps.specs.Capability.{CapabilityValue};
+    ghost use Rattle.acvp_caps.specs.Private.Kept.{AreKept};
 
     ghost Value = { CapabilityValue };
 
-    ghost view = { λ c. record { algorithm = c.algorithm; domains = c.domains } };
+    ghost view = { λ c. record { algorithm = c.algorithm; domains = c.domains; given = c.given } };
 
-    ghost invariant = { λ c. AreDomainsOf c.algorithm c.domains };
+    ghost invariant = { λ c. AreKept c.algorithm c.domains c.given };
 }
 
-/// The clone keeps the items of the domains as they were given.
+/// The clone keeps the items as they were given.
 impl Clone for Capability {
     ghost is_clone = { λ it copy. copy ≡ it };
 
     fn clone(&self) -> Result<Capability, AllocError> {
         let domains = self.domains.clone()?;
+        let given = self.given.clone()?;
         Ok(Capability {
             algorithm: self.algorithm,
             domains,
+            given,
         })
     }
 }
@@ -145,7 +133,8 @@ impl PartialEq for Capability {
 
     fn eq(&self, other: &Capability) -> bool
         ensures value { result ≡ same_capability self.now other.now }
-        ensures same { IsTrue result ↔ (self.now ≡ other.now) }
+        ensures same { IsTrue result
+            ↔ ((self.now.algorithm ≡ other.now.algorithm) × (self.now.domains ≡ other.now.domains)) }
     {
         self.algorithm == other.algorithm && self.domains == other.domains
     }
@@ -176,9 +165,11 @@ impl Capability {
     /// same capability. It may be false of equal capabilities, where other items have the same
     /// members; but unlike `==` it walks to no member. It takes no memory.
     pub fn is_same(&self, other: &Capability) -> bool
-        ensures { IsTrue result → self.now ≡ other.now }
+        ensures exact { IsTrue result
+            ↔ ((self.now.algorithm ≡ other.now.algorithm) × (self.now.given ≡ other.now.given)) }
+        ensures same { IsTrue result ↔ (self.now ≡ other.now) }
     {
-        self.algorithm == other.algorithm && self.domains.is_same(&other.domains)
+        self.algorithm == other.algorithm && self.given.is_same(&other.given)
     }
 
     /// The capability as compact JSON, with the items of its domains as they were given.
@@ -193,11 +184,15 @@ impl Capability {
     fn to_value(&self, alloc: Global) -> Result<Value, AllocError>
         ensures { IfOk result (λ v. IsCapabilityData self.now (view v)) }
     {
-        let Capability { algorithm, domains } = self;
+        let Capability {
+            algorithm,
+            given,
+            ..
+        } = self;
         let name = algorithm.name();
-        match domains {
-            Domains::Message(message) => hash_value(alloc, name, message),
-            Domains::KeyAndMac { key, mac } => hmac_value(alloc, name, key, mac),
+        match given {
+            Given::MessageItems(message) => hash_value(alloc, name, message),
+            Given::KeyAndMacItems { key, mac } => hmac_value(alloc, name, key, mac),
         }
     }
 
@@ -216,16 +211,21 @@ impl Capability {
 }
 
 /// The value of a capability for a hash function.
-fn hash_value(alloc: Global, name: &str, message: &Domain) -> Result<Value, AllocError>
-    ensures { IfOk result (λ v. IsHashData name.now message.now (view v)) }
+fn hash_value(alloc: Global, name: &str, message: &GivenItems) -> Result<Value, AllocError>
+    ensures { IfOk result (λ v. view v ≡ hash_data name.now (domain_data message.now)) }
 {
     let message = message.to_value(alloc)?;
     json!(in alloc; {"algorithm": name, "messageLength": message, "revision": "1.0"})
 }
 
 /// The value of a capability for HMAC.
-fn hmac_value(alloc: Global, name: &str, key: &Domain, mac: &Domain) -> Result<Value, AllocError>
-    ensures { IfOk result (λ v. IsHmacData name.now key.now mac.now (view v)) }
+fn hmac_value(
+    alloc: Global,
+    name: &str,
+    key: &GivenItems,
+    mac: &GivenItems,
+) -> Result<Value, AllocError>
+    ensures { IfOk result (λ v. view v ≡ hmac_data name.now (domain_data key.now) (domain_data mac.now)) }
 {
     let key = key.to_value(alloc)?;
     let mac = mac.to_value(alloc)?;
@@ -256,22 +256,34 @@ fn read_parameters(
     algorithm: Algorithm,
 ) -> Result<Capability, CapFault>
     ensures { IsReadBy (parameter_conditions (view value.now) algorithm)
-        (Some (record { algorithm = algorithm; domains = domains_at (view value.now) algorithm })) result }
+        (Some (record {
+          algorithm = algorithm;
+          domains = domains_at (view value.now) algorithm;
+          given = given_at (view value.now) algorithm;
+        })) result }
 {
-    let domains = if algorithm.is_hmac() {
+    let (domains, given) = if algorithm.is_hmac() {
         read_hmac_domains(alloc, value, algorithm.digest_bits())?
     } else {
         read_hash_domains(alloc, value)?
     };
-    Ok(Capability { algorithm, domains })
+    Ok(Capability {
+        algorithm,
+        domains,
+        given,
+    })
 }
 
-/// The domain of a hash function, and no test of large messages.
-fn read_hash_domains(alloc: Global, value: &Value) -> Result<Domains, CapFault>
+/// The domain of a hash function, with its items, and no test of large messages.
+fn read_hash_domains(alloc: Global, value: &Value) -> Result<(Domains, Given), CapFault>
     ensures read { IsReadBy (large_data_conditions (get (codes "performLargeDataTest") (view value.now))
         ++ domain_conditions 0 65536 (get (codes "messageLength") (view value.now)))
-        (Some (Domains.Message (domain_of (get (codes "messageLength") (view value.now))))) result }
-    ensures fit { IfOk result AreHashDomains }
+        (Some (
+          Domains.Message (domain_of (get (codes "messageLength") (view value.now))),
+          Given.MessageItems (items_at (get (codes "messageLength") (view value.now))),
+        )) result }
+    ensures fit { IfOk result (λ pair. AreHashDomains pair.0) }
+    ensures given { IfOk result (λ pair. AreGivenBy pair.0 pair.1) }
 {
     let large = value.get("performLargeDataTest");
     if !is_optional_array(large) {
@@ -280,20 +292,35 @@ fn read_hash_domains(alloc: Global, value: &Value) -> Result<Domains, CapFault>
     if !elements(large).is_empty() {
         return Err(CapFault::Unsupported);
     }
-    let message = read_domain(alloc, value.get("messageLength"), 0, MESSAGE_LIMIT)?;
-    Ok(Domains::Message(message))
+    let (message, items) = read_domain(alloc, value.get("messageLength"), 0, MESSAGE_LIMIT)?;
+    Ok((Domains::Message(message), Given::MessageItems(items)))
 }
 
-/// The domains of HMAC, whose result has at most so many bits.
-fn read_hmac_domains(alloc: Global, value: &Value, mac_limit: u64) -> Result<Domains, CapFault>
+/// The domains of HMAC, whose result has at most so many bits, with their items.
+fn read_hmac_domains(
+    alloc: Global,
+    value: &Value,
+    mac_limit: u64,
+) -> Result<(Domains, Given), CapFault>
     requires { mac_limit ≤ 524288 }
     ensures read { IsReadBy (domain_conditions 8 524288 (get (codes "keyLen") (view value.now))
         ++ domain_conditions 32 mac_limit (get (codes "macLen") (view value.now)))
-        (Some (Domains.KeyAndMac (domain_of (get (codes "keyLen") (view value.now)))
-        (domain_of (get (codes "macLen") (view value.now))))) result }
-    ensures fit { IfOk result (AreHmacDomains mac_limit) }
+        (Some (
+          Domains.KeyAndMac (domain_of (get (codes "keyLen") (view value.now)))
+              (domain_of (get (codes "macLen") (view value.now))),
+          Given.KeyAndMacItems (items_at (get (codes "keyLen") (view value.now)))
+              (items_at (get (codes "macLen") (view value.now))),
+        )) result }
+    ensures fit { IfOk result (λ pair. AreHmacDomains mac_limit pair.0) }
+    ensures given { IfOk result (λ pair. AreGivenBy pair.0 pair.1) }
 {
-    let key = read_domain(alloc, value.get("keyLen"), KEY_LIMITS.0, KEY_LIMITS.1)?;
-    let mac = read_domain(alloc, value.get("macLen"), MAC_LEAST, mac_limit)?;
-    Ok(Domains::KeyAndMac { key, mac })
+    let (key, key_items) = read_domain(alloc, value.get("keyLen"), KEY_LIMITS.0, KEY_LIMITS.1)?;
+    let (mac, mac_items) = read_domain(alloc, value.get("macLen"), MAC_LEAST, mac_limit)?;
+    Ok((
+        Domains::KeyAndMac { key, mac },
+        Given::KeyAndMacItems {
+            key: key_items,
+            mac: mac_items,
+        },
+    ))
 }

@@ -1,6 +1,6 @@
 //! The numbers that a parameter may take.
 
-ghost use Rattle.std.specs.Prelude.{◌≡◌, ◌<◌, ◌≤◌, ◌-◌, ◌↔◌, ◌==◌, ℕ, List, length, true, Some, IsTrue, Contains, All, IfOk, map, option_map};
+ghost use Rattle.std.specs.Prelude.{◌≡◌, ◌<◌, ◌≤◌, ◌-◌, ◌↔◌, ◌==◌, ℕ, List, length, true, Some, IsTrue, Contains, All, IfOk, option_map};
 ghost use Rattle.std.specs.List.{slice_get, list_any, list_all};
 ghost use Rattle.std.specs.List.Sorted.{IsStrictlyIncreasing};
 ghost use Rattle.std.specs.Cmp.{partial_equiv_from_equiv};
@@ -10,12 +10,13 @@ ghost use Rattle.acvp_caps.specs.declared.item.Item.{Item};
 ghost use Rattle.acvp_caps.specs.Capability.{AreLengths};
 ghost use Rattle.acvp_caps.specs.Items.{is_byte_oriented, item_within};
 ghost use Rattle.acvp_caps.specs.Members.{members, is_member};
-ghost use Rattle.acvp_caps.specs.Registered.{domain_conditions, domain_of, length_conditions};
+ghost use Rattle.acvp_caps.specs.Registered.{domain_conditions, domain_of, items_at, length_conditions};
+ghost use Rattle.acvp_caps.specs.Private.Kept.{IsGivenBy};
 ghost use Rattle.acvp_caps.specs.Private.Readings.{IsReadBy};
 ghost use Rattle.acvp_caps.specs.Private.Walk.{AllFormed};
-ghost use Rattle.acvp_caps.specs.Private.Written.{item_data, IsDomainData};
 
 use crate::CapFault;
+use crate::given::GivenItems;
 use crate::item::{Item, read_items};
 use crate::json::elements;
 use crate::walk::{
@@ -29,7 +30,7 @@ use std::marker::Model;
 const ITEM_LIMIT: usize = 32;
 
 /// The numbers that a parameter may take, at least one: contracts see them as an ascending list in
-/// which each stands once. What is kept is the items that were given, and only a clone takes memory.
+/// which each stands once. What is kept is items that have these members, and only a clone takes memory.
 #[derive(Drop)]
 pub struct Domain {
     items: Vec<Item>,
@@ -88,25 +89,9 @@ impl Domain {
     {
         nth_member(&self.items, i).unwrap_or(0)
     }
-
-    /// Whether the other was given by the same items, and so has the same members. No member is
-    /// walked to.
-    pub(crate) fn is_same(&self, other: &Domain) -> bool
-        ensures { IsTrue result → self.now ≡ other.now }
-    {
-        self.items == other.items
-    }
-
-    /// The items as a JSON array.
-    pub(crate) fn to_value(&self, alloc: Global) -> Result<Value, AllocError>
-        ensures { IfOk result (λ v. IsDomainData self.now (view v)) }
-    {
-        let values = item_values(alloc, &self.items)?;
-        Ok(Value::Array(values))
-    }
 }
 
-/// The clone keeps the items that were given.
+/// The clone has the same members.
 impl Clone for Domain {
     ghost is_clone = { λ it copy. copy ≡ it };
 
@@ -141,17 +126,18 @@ pub fn members_are_exact()
     ensures exact { (items : List Item) (n : ℕ) → Contains (members items) n ↔ (is_member items n ≡ true) }
 {}
 
-/// The domain that a JSON array is, which has to lie from `low` to `high`.
+/// The domain that a JSON array is, which has to lie from `low` to `high`, and the items that give it.
 pub(crate) fn read_domain(
     alloc: Global,
     member: Option<&Value>,
     low: u64,
     high: u64,
-) -> Result<Domain, CapFault>
+) -> Result<(Domain, GivenItems), CapFault>
     requires { high ≤ 524288 }
     ensures read { let given = option_map (λ v. view v.now) member.entry in
-        IsReadBy (domain_conditions low high given) (Some (domain_of given)) result }
-    ensures fit { IfOk result (AreLengths low high) }
+        IsReadBy (domain_conditions low high given) (Some (domain_of given, items_at given)) result }
+    ensures fit { IfOk result (λ pair. AreLengths low high pair.0) }
+    ensures given { IfOk result (λ pair. IsGivenBy pair.0 pair.1) }
 {
     let values = elements(member);
     if values.is_empty() || values.len() > ITEM_LIMIT {
@@ -161,15 +147,16 @@ pub(crate) fn read_domain(
     judged_domain(items, low, high)
 }
 
-/// The domain of items that have the form, where all its members are whole bytes and lie from `low`
-/// to `high`. No member is walked to.
-fn judged_domain(items: Vec<Item>, low: u64, high: u64) -> Result<Domain, CapFault>
+/// The domain of items that have the form, and the items, where all its members are whole bytes and
+/// lie from `low` to `high`. No member is walked to.
+fn judged_domain(items: Vec<Item>, low: u64, high: u64) -> Result<(Domain, GivenItems), CapFault>
     requires formed { AllFormed items.items }
     requires some { 1 ≤ length items.items }
     requires most { length items.items ≤ 32 }
     requires limit { high ≤ 524288 }
-    ensures read { IsReadBy (length_conditions low high items.items) (Some (members items.items)) result }
-    ensures fit { IfOk result (AreLengths low high) }
+    ensures read { IsReadBy (length_conditions low high items.items) (Some (members items.items, items.items)) result }
+    ensures fit { IfOk result (λ pair. AreLengths low high pair.0) }
+    ensures given { IfOk result (λ pair. IsGivenBy pair.0 pair.1) }
 {
     if !are_byte_oriented(&items) {
         return Err(CapFault::NotByteOriented);
@@ -177,7 +164,8 @@ fn judged_domain(items: Vec<Item>, low: u64, high: u64) -> Result<Domain, CapFau
     if !are_within(&items, low, high) {
         return Err(CapFault::OutOfRange);
     }
-    Ok(Domain { items })
+    let given = GivenItems::copy_of(&items)?;
+    Ok((Domain { items }, given))
 }
 
 /// Whether each item is byte-oriented.
@@ -198,15 +186,4 @@ fn are_within(items: &[Item], low: u64, high: u64) -> bool
         }
     }
     true
-}
-
-/// The items as JSON values.
-fn item_values(alloc: Global, items: &[Item]) -> Result<Vec<Value>, AllocError>
-    ensures { IfOk result (λ values. map view values.items ≡ map item_data items.now) }
-{
-    let mut values = Vec::new(alloc);
-    for item in items {
-        values.push(item.to_value(alloc)?)?;
-    }
-    Ok(values)
 }

@@ -14,6 +14,7 @@ use std::alloc::{AllocError, AllocFailed};
 mod algorithm;
 mod capability;
 mod domain;
+mod given;
 mod item;
 pub mod json;
 mod registration;

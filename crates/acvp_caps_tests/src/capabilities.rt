@@ -317,6 +317,36 @@ fn another_algorithm_or_domain_is_not_the_same(rt: HostRuntime) {
     }
 }
 
+// Pairs whose first items are the same, and whose members are.
+const OTHER_ITEMS: [(&str, &str); 3] = [
+    (
+        r#"{"algorithm":"SHA2-256","revision":"1.0","messageLength":[0,16,32]}"#,
+        r#"{"algorithm":"SHA2-256","revision":"1.0","messageLength":[0,32,16]}"#,
+    ),
+    (
+        HMAC,
+        r#"{"algorithm":"HMAC-SHA2-256","revision":"1.0","keyLen":[32,64,64],"macLen":[64]}"#,
+    ),
+    (
+        HMAC,
+        r#"{"algorithm":"HMAC-SHA2-256","revision":"1.0","keyLen":[32,64],"macLen":[64,64]}"#,
+    ),
+];
+
+#[test]
+fn other_items_of_the_same_members_are_equal_and_not_the_same(rt: HostRuntime) {
+    for (text, other) in OTHER_ITEMS.iter() {
+        assert!(rt;
+            compared(rt.alloc(), text, other) == Ok(EQUAL),
+            "{text} {other}"
+        );
+        assert!(rt;
+            clones_compared(rt.alloc(), text, other) == Ok(EQUAL),
+            "{text} {other}"
+        );
+    }
+}
+
 fn likeness_to_clone(capability: &Capability) -> Result<Likeness, AllocError> {
     let copied = capability.clone()?;
     Ok(likeness(capability, &copied))
@@ -361,7 +391,7 @@ fn is_clone_written(alloc: Global, text: &str, wanted: &str) -> Result<bool, Cap
 
 #[test]
 fn a_clone_keeps_the_items_as_they_were_given(rt: HostRuntime) {
-    for text in [SPREAD, SINGLES].iter() {
+    for text in [SPREAD, SINGLES, WRITTEN_HMAC].iter() {
         assert!(rt;
             is_clone_written(rt.alloc(), text, text) == Ok(true),
             "{text}"

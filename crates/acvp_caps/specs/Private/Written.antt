@@ -7,8 +7,6 @@ use Rattle.acvp_caps.specs.declared.item.Item.{Item}
 use Rattle.acvp_caps.specs.declared.item.Item.TheVariants.{Single, Range}
 use Rattle.acvp_caps.specs.Capability.{CapabilityValue}
 use Rattle.acvp_caps.specs.Registered.{registered_capability}
-use Rattle.acvp_caps.specs.Private.DomainItems.{AreDomainItems}
-use Rattle.acvp_caps.specs.Members.{members}
 
 abbrev pub number_data : ℕ → Data
 number_data n = number (unsigned n)
@@ -22,13 +20,6 @@ item_data (Range min max increment) =
 abbrev pub domain_data : List Item → Data
 domain_data items = array (items_of (map item_data items))
 
--- the value has the items of a domain
-pub record IsDomainData (xs : List ℕ) (d : Data) : Type 0 where
-  pub items : List Item
-  pub kept : AreDomainItems items
-  pub same : members items ≡ xs
-  pub written : d ≡ domain_data items
-
 -- the value of a capability with this name and these domains
 abbrev pub hash_data : List ℕ → Data → Data
 hash_data name message =
@@ -40,18 +31,6 @@ hmac_data name key mac =
     object (member (codes "algorithm") (string name)
     (member (codes "keyLen") key
     (member (codes "macLen") mac (member (codes "revision") (string (codes "1.0")) no_members))))
-
-pub record IsHashData (name message : List ℕ) (d : Data) : Type 0 where
-  pub given : Data
-  pub is_message : IsDomainData message given
-  pub written : d ≡ hash_data name given
-
-pub record IsHmacData (name key mac : List ℕ) (d : Data) : Type 0 where
-  pub key_given : Data
-  pub mac_given : Data
-  pub is_key : IsDomainData key key_given
-  pub is_mac : IsDomainData mac mac_given
-  pub written : d ≡ hmac_data name key_given mac_given
 
 -- the value is read as this capability, and its text is not too deep to be read
 pub record IsCapabilityData (c : CapabilityValue) (d : Data) : Type 0 where

@@ -17,8 +17,10 @@ returns-clause-read c =
     let whole : true ≡ list_all is_byte_oriented c.args.items.items = sym c.if-not-are_byte_oriented.false
     ∙ (rw c.deref.ensures.value at c.are_byte_oriented.ensures) in
     let inside : true ≡ list_all (item_within c.args.low c.args.high) c.args.items.items =
-    sym c.if-not-are_within.false ∙ (rw c.deref-2.ensures.value at c.are_within.ensures) in
-    (lengths-outcome c.args.low c.args.high c.args.items.items true true c.requires.formed whole inside, refl)
+    sym c.if-not-are_within.false ∙ (rw c.deref-2.ensures.value at c.are_within.ensures) in (
+      lengths-outcome c.args.low c.args.high c.args.items.items true true c.requires.formed whole inside,
+      rw c.in_ok-given.ensures refl,
+    )
 
 pub returns-clause-fit : goal.returns-clause-fit
 returns-clause-fit c =
