@@ -1,12 +1,12 @@
 -- The text of a certification, and what it reads as.
-use Rattle.std.proofs.Common.{◌≡◌, ◌≤◌, ◌<◌, ◌^◌, ℕ, List, ◌++◌, codes, decimal, Some, Ok, Err, Result, IfOk, String, Global, string_bytes, false, refl, sym, ap, subst, ◌∙◌, arith}
+use Rattle.std.proofs.Common.{◌≡◌, ◌≤◌, ◌<◌, ◌^◌, ℕ, List, ◌++◌, codes, decimal, None, Some, Ok, Err, Result, IfOk, String, Global, string_bytes, false, refl, sym, ap, subst, ◌∙◌, arith}
 use Rattle.std.proofs.lemmas.Fmt.{decimal_injective}
 use Rattle.std.proofs.lemmas.List.{append_cancel_left}
 use Rattle.std.proofs.lemmas.Str.{IsUtf8-string_bytes}
-use Rattle.serde_json.specs.Data.{Data, depth, string, number, unsigned}
-use Rattle.serde_json.specs.Find.{get}
+use Rattle.serde_json.specs.Data.{Data, depth}
 use Rattle.serde_json.specs.Read.{read, max_depth}
 use Rattle.serde_json.specs.Written.{has_float, compact_text}
+use Rattle.acvp_caps.specs.Json.{number_at, text_at}
 use Rattle.acvp_registry.specs.declared.kind.Kind.{Kind}
 use Rattle.acvp_registry.specs.declared.kind.Kind.TheVariants.{Module, Environment}
 use Rattle.acvp_registry.specs.Json.{body_json}
@@ -15,6 +15,7 @@ use Rattle.acvp_registry.proofs.JsonLemmas.{body_json-read}
 use Rattle.acvp_tables.specs.declared.rows.RequestBody.TheVariants as body
 use Rattle.acvp_tables.specs.declared.rows.Certification.{Certification}
 use Rattle.acvp_store.specs.Stands.{BodyReads, certification_data}
+use Rattle.acvp_store.specs.Private.Summaries.{FitsCertification}
 
 shallow : (c : Certification) → depth (certification_data c) ≤ max_depth
 shallow c = omega arith
@@ -33,13 +34,13 @@ text_reads c d (Err e) fits_module fits_environment is text reads = tt
 
 -- ---- what is read of it
 
-module_at : (c : Certification) → get (codes "moduleUrl") (certification_data c) ≡ Some (string (codes "/acvp/v1/modules/" ++ decimal c.«module»))
+module_at : (c : Certification) → text_at (codes "moduleUrl") (certification_data c) ≡ Some (codes "/acvp/v1/modules/" ++ decimal c.«module»)
 module_at c = refl
 
-environment_at : (c : Certification) → get (codes "oeUrl") (certification_data c) ≡ Some (string (codes "/acvp/v1/oes/" ++ decimal c.environment))
+environment_at : (c : Certification) → text_at (codes "oeUrl") (certification_data c) ≡ Some (codes "/acvp/v1/oes/" ++ decimal c.environment)
 environment_at c = refl
 
-session_at : (c : Certification) → get (codes "session") (certification_data c) ≡ Some (number (unsigned c.session))
+session_at : (c : Certification) → number_at (codes "session") (certification_data c) ≡ Some c.session
 session_at c = refl
 
 same_number : (kind : Kind) (place : List ℕ) (m n : ℕ) → place_of kind ≡ Some place → n < 2 ^ 64 → IsUrl kind m (place ++ decimal n) → m ≡ n
@@ -49,14 +50,29 @@ same_number kind place m n at small is =
     let low : m < 10 ^ 19 = is.2 in
     decimal_injective m n (omega arith) small (sym (append_cancel_left place (decimal n) (decimal m) url))
 
-pub same_certification : (c : Certification) (d : Data) (text : List ℕ) (m e s : ℕ) → body_json text ≡ Some d → ((url : List ℕ) → get (codes "moduleUrl") d ≡ Some (string url) → IsUrl Module m url)
-    → ((url : List ℕ) → get (codes "oeUrl") d ≡ Some (string url) → IsUrl Environment e url) → get (codes "session") d ≡ Some (number (unsigned s)) → BodyReads (body.Certification c) → text ≡ compact_text (certification_data c)
+-- the value of its text is its own
+value_is : (c : Certification) (d : Data) (text : List ℕ) → body_json text ≡ Some d → BodyReads (body.Certification c) → text ≡ compact_text (certification_data c) → d ≡ certification_data c
+value_is c d text is reads written = let both : Some d ≡ Some (certification_data c) = sym is ∙ ap body_json written ∙ reads.0 in cc
+
+pub same_certification : (c : Certification) (d : Data) (text : List ℕ) (m e s : ℕ) → body_json text ≡ Some d → ((url : List ℕ) → text_at (codes "moduleUrl") d ≡ Some url → IsUrl Module m url)
+    → ((url : List ℕ) → text_at (codes "oeUrl") d ≡ Some url → IsUrl Environment e url) → number_at (codes "session") d ≡ Some s → BodyReads (body.Certification c) → text ≡ compact_text (certification_data c)
     → record { «module» = m; environment = e; session = s } ≡ c
 same_certification c d text m e s is at_module at_environment at_session reads written =
-    let both : Some d ≡ Some (certification_data c) = sym is ∙ ap body_json written ∙ reads.0 in
-    let same : d ≡ certification_data c = cc in
-    let modules = same_number Module (codes "/acvp/v1/modules/") m c.«module» refl reads.1 (at_module _ (ap (get (codes "moduleUrl")) same ∙ module_at c)) in
-    let environments = same_number Environment (codes "/acvp/v1/oes/") e c.environment refl reads.2 (at_environment _ (ap (get (codes "oeUrl")) same ∙ environment_at c)) in
-    let found : Some (number (unsigned s)) ≡ Some (number (unsigned c.session)) = sym at_session ∙ ap (get (codes "session")) same ∙ session_at c in
+    let same = value_is c d text is reads written in
+    let modules = same_number Module (codes "/acvp/v1/modules/") m c.«module» refl reads.1 (at_module _ (ap (text_at (codes "moduleUrl")) same ∙ module_at c)) in
+    let environments = same_number Environment (codes "/acvp/v1/oes/") e c.environment refl reads.2 (at_environment _ (ap (text_at (codes "oeUrl")) same ∙ environment_at c)) in
+    let found : Some s ≡ Some c.session = sym at_session ∙ ap (number_at (codes "session")) same ∙ session_at c in
     let sessions : s ≡ c.session = cc in
     λ i. record { «module» = modules i; environment = environments i; session = sessions i }
+
+-- ---- a text in which something isn't found is that of none
+
+module _ (c : Certification) (d : Data) (text : List ℕ) (is : body_json text ≡ Some d) (reads : BodyReads (body.Certification c)) (fits : FitsCertification c) (written : text ≡ compact_text (certification_data c)) where
+  pub has_module : ((url : List ℕ) → text_at (codes "moduleUrl") d ≡ Some url → (number : ℕ) → ¬ IsUrl Module number url) → ⊥
+  has_module none = none _ (ap (text_at (codes "moduleUrl")) (value_is c d text is reads written) ∙ module_at c) c.«module» (codes "/acvp/v1/modules/", refl, fits.0, refl)
+
+  pub has_environment : ((url : List ℕ) → text_at (codes "oeUrl") d ≡ Some url → (number : ℕ) → ¬ IsUrl Environment number url) → ⊥
+  has_environment none = none _ (ap (text_at (codes "oeUrl")) (value_is c d text is reads written) ∙ environment_at c) c.environment (codes "/acvp/v1/oes/", refl, fits.1, refl)
+
+  pub has_session : number_at (codes "session") d ≡ None → ⊥
+  has_session none = let found : Some c.session ≡ None = sym (session_at c) ∙ sym (ap (number_at (codes "session")) (value_is c d text is reads written)) ∙ none in cc

@@ -26,6 +26,8 @@ pub mod RequestStatuses
 pub mod ReviewerRows
 pub mod SessionReviewers
 pub mod Versions
+pub mod Meeting
+pub mod RowsMet
 pub mod Registering
 pub mod Sound
 pub mod Standing

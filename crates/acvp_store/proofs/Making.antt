@@ -25,10 +25,11 @@ use Rattle.sqlite_schema.specs.declared.schema.Keys.TheVariants.{Enforced}
 use Rattle.acvp_store.specs.Values.{whole}
 use Rattle.acvp_store.specs.Schema.{Created, schema_of, meta_table}
 use Rattle.acvp_store.specs.Alters.{SparesOthers}
-use Rattle.acvp_store.specs.Stands.{version_row}
+use Rattle.acvp_store.specs.Version.{HasVersion, version_row}
 use Rattle.acvp_store.specs.Private.Creating.{text_of, table_of, before, Makes, WritesVersion}
 use Rattle.acvp_store.specs.declared.setup.StoreTable.{StoreTable}
 use Rattle.acvp_store.specs.declared.setup.StoreTable.TheVariants as table
+use Rattle.acvp_store.proofs.Versions.{named_so}
 use Rattle.acvp_store.proofs.Texts.{is_making, add_version, version_terms}
 use Rattle.acvp_store.proofs.Parts.{went, same_value, cast_null, cast_whole}
 
@@ -98,7 +99,7 @@ versions limit text trees tally after does =
     let next : written.0 ≡ after.trees = sym (ap (λ (d : Database). d.trees) now ∙ trees_are) in
     record {
       schema = ap (λ (d : Database). d.schema) now;
-      written = λ none. subst (λ (t : Trees). t 0 ≡ version_row 3 ∷ []) next (rows none);
+      written = λ none. subst (HasVersion 3) next (named_so 3 written.0 (rows none));
       others = subst (SparesOthers Created 0 trees) next applied.tables;
     }
 

@@ -1,11 +1,15 @@
 -- What the statements of a migration do.
-use Rattle.std.proofs.Common.{◌≡◌, ◌<◌, ◌^◌, ℕ, List, [], ◌∷◌, ◌++◌, append-nil, append_assoc, map, true, false, Option, None, Ok, codes, refl, sym, ap, subst, ◌∙◌}
-use Rattle.std.specs.Prelude.{drop}
+use Rattle.std.proofs.Common.{inl, inr, ◌≡◌, ◌<◌, ◌<ℤ◌, ◌^◌, ℕ, pos, suc, List, [], ◌∷◌, ◌++◌, append-nil, append_assoc, map, length, Bool, true, false, Option, None, Ok, Ordering, Less, Equal, Greater, codes, refl, sym, ap, ap₂, subst, ◌∙◌, arith}
+use Rattle.std.specs.Prelude.{◌&&◌, ◌||◌, drop}
 use Rattle.std.specs.List.{filter, list_any, AllByRecursion}
 use Rattle.std.specs.List.Sorted.{IsPermutation}
-use Rattle.std.specs.Ordering.{is_eq}
-use Rattle.std.proofs.lemmas.List.Sorted.{IsPermutation-map, IsPermutation-sym, IsPermutation-trans}
-use Rattle.sqlite.specs.declared.types.Value.TheVariants.{Null, Text}
+use Rattle.std.specs.Ordering.{is_eq, match_ordering}
+use Rattle.std.proofs.lemmas.Bool.{cases_Bool}
+use Rattle.std.proofs.lemmas.Int.{ints}
+use Rattle.std.proofs.lemmas.List.{length-map}
+use Rattle.std.proofs.lemmas.List.Sorted.{IsPermutation-map, IsPermutation-sym, IsPermutation-trans, length_permutation}
+use Rattle.sqlite.specs.declared.types.Value.{Value}
+use Rattle.sqlite.specs.declared.types.Value.TheVariants.{Null, Int, Text}
 use Rattle.sqlite.specs.Order.{Row, column}
 use Rattle.sqlite.specs.Program.{overlay}
 use Rattle.sqlite.specs.Command.TheVariants.{Insert, Update, Delete}
@@ -20,20 +24,19 @@ use Rattle.sqlite.specs.Rows.{Written}
 use Rattle.sqlite.specs.State.{State, mode_of}
 use Rattle.sqlite.specs.Listing.{understood}
 use Rattle.sqlite.specs.Values.{or_null}
-use Rattle.sqlite.proofs.Callers.{statement_of, one_permutation}
+use Rattle.sqlite.proofs.Callers.{statement_of}
 use Rattle.sqlite_rules.specs.Action.{Writes}
 use Rattle.sqlite_rules.specs.Calls.{ids_of}
-use Rattle.sqlite_rules.specs.Edit.{put_all, are_fresh, numbered as numbered_rows, without_all}
+use Rattle.sqlite_rules.specs.Edit.{put_all, are_fresh, numbered as numbered_rows, with_rowid, without_all}
 use Rattle.sqlite_schema.specs.declared.schema.Keys.TheVariants.{Enforced}
 use Rattle.sqlite_trees.proofs.ListLemmas.{pull_back, all-permutation}
 use Rattle.sqlite_value.specs.Order.{value_cmp}
-use Rattle.sqlite_value.proofs.OrderLemmas.{value_cmp-Text}
 use Rattle.acvp_tables.specs.declared.rows.SetRow.{SetRow}
-use Rattle.acvp_store.specs.Adopted.{is_equal, is_schema_row}
+use Rattle.acvp_store.specs.Version.{is_equal, is_schema_row, is_version_row, HasVersion}
 use Rattle.acvp_store.specs.Alters.{SparesOthers}
 use Rattle.acvp_store.specs.Kept.{IsKept}
 use Rattle.acvp_store.specs.Schema.{Layout, Migrated, schema_of, meta_table, old_set_table, set_table}
-use Rattle.acvp_store.specs.Stands.{version_row, SetColumns, set_key, set_row, old_set_columns, old_set_row, of_first_epoch, HoldsSets, HoldsOldSets, Entry, entry_row}
+use Rattle.acvp_store.specs.Stands.{SetColumns, set_key, set_row, old_set_columns, old_set_row, of_first_epoch, HoldsSets, HoldsOldSets, Entry, entry_row}
 use Rattle.acvp_store.specs.Values.{whole, flag}
 use Rattle.acvp_store.specs.Private.Migration.{CopiesSets, EmptiesOldSets, RaisesVersion}
 use Rattle.acvp_store.proofs.Effects.{task_of, mode, concluded}
@@ -47,7 +50,7 @@ use Rattle.acvp_store.proofs.Sound.{first_of, then_of}
 use Rattle.acvp_store.proofs.Standing.{kept_none}
 use Rattle.acvp_store.proofs.Texts.{copy_sets, copy_query, delete_sets, delete_query, raise_version, raise_query}
 use Rattle.acvp_store.proofs.Updating.{edit_for}
-use Rattle.acvp_store.proofs.Versions.{map_same, test_text}
+use Rattle.acvp_store.proofs.Versions.{map_same, test_text, its_text, its_name}
 
 -- ---- many rows under numbers that they bring
 
@@ -143,15 +146,15 @@ copy_effect old schema tally after does =
 -- ---- the sets that are taken out
 
 abbrev entry_of : SetColumns → Entry SetColumns
-entry_of c = record { id = c.number; row = c }
+entry_of c = record { id = pos c.number; row = c }
 
-entries_rise : (xs : List SetColumns) → IsAscending (λ (a b : SetColumns). a.number < b.number) xs → IsAscending (λ (a b : Entry SetColumns). a.id < b.id) (map entry_of xs)
+entries_rise : (xs : List SetColumns) → IsAscending (λ (a b : SetColumns). a.number < b.number) xs → IsAscending (λ (a b : Entry SetColumns). a.id <ℤ b.id) (map entry_of xs)
 entries_rise [] h = tt
 entries_rise (x ∷ xs) h = (below xs h.0, entries_rise xs h.1)
   where
-    below : (xs : List SetColumns) → AllByRecursion (λ (y : SetColumns). x.number < y.number) xs → AllByRecursion (λ (e : Entry SetColumns). x.number < e.id) (map entry_of xs)
+    below : (xs : List SetColumns) → AllByRecursion (λ (y : SetColumns). x.number < y.number) xs → AllByRecursion (λ (e : Entry SetColumns). pos x.number <ℤ e.id) (map entry_of xs)
     below [] k = tt
-    below (y ∷ xs) k = (k.0, below xs k.1)
+    below (y ∷ xs) k = (let low = k.0 in omega (arith, ints), below xs k.1)
 
 entry_rows : (xs : List SetColumns) → map old_set_row xs ≡ map (entry_row old_set_columns) (map entry_of xs)
 entry_rows [] = refl
@@ -173,7 +176,7 @@ deleting limit text trees tally after does =
       emptied = λ sets h.
           let entries = map entry_of h.kept.ordered in
           let has : trees 4 ≡ map (entry_row old_set_columns) entries = h.kept.rows_are ∙ entry_rows h.kept.ordered in
-          let rows = selected [] (entry_row old_set_columns) (λ e. true) [] (λ e. refl) 4 delete_query.project (λ e. whole e.id ∷ []) (λ e. refl) (overlay trees []) entries found.0 has (found.1.answer Null) in
+          let rows = selected [] (entry_row old_set_columns) (λ e. true) [] (λ e. refl) 4 delete_query.project (λ e. Int e.id ∷ []) (λ e. refl) (overlay trees []) entries found.0 has (found.1.answer Null) in
           let left = it.rows ∙ ap (λ all. without_all all (ids_of found.0)) has ∙ removed old_set_columns (λ e. true) entries found.0 (entries_rise h.kept.ordered h.kept.rising) rows in
           subst (λ (t : Trees). t 4 ≡ []) next (left ∙ ap (map (entry_row old_set_columns)) (none_passes entries));
       others = subst (SparesOthers Migrated 4 trees) next it.tables;
@@ -193,18 +196,77 @@ delete_effect old schema tally after does =
 abbrev renewed : Row → Row
 renewed row = column row 0 ∷ column row 0 ∷ column row 1 ∷ whole 3 ∷ []
 
-cast_version : cast_row (meta_table 0) (whole 1 ∷ Text (codes "schema") ∷ whole 3 ∷ []) ≡ version_row 3
-cast_version = rw (cast_whole 1, cast_whole 3) refl
+-- what is written of a row
+abbrev written_for : Row → Row
+written_for s = cast_row (meta_table 0) (drop 1 s)
 
--- the one row is written anew
-rewritten : (n : ℕ) (rows found : List Row) → rows ≡ version_row n ∷ [] → found ≡ renewed (version_row n) ∷ [] → put_all (without_all rows (ids_of found)) (numbered_rows Given (without_all rows (ids_of found)) (map (λ s. cast_row (meta_table 0) (drop 1 s)) found)) ≡ version_row 3 ∷ []
-rewritten n rows found was is = rw (was, is, cast_version, same_whole 1 1) refl
+-- it is the row 'schema', at version 3
+is_third : (r : Row) → is_schema_row r ≡ true → is_version_row 3 (written_for (renewed r)) ≡ true
+is_third r is = subst (λ v. is_version_row 3 (cast_row (meta_table 0) (column r 0 ∷ v ∷ whole 3 ∷ [])) ≡ true) (sym (its_text (column r 1) is)) (third (column r 0))
+  where
+    third : (id : Value) → is_version_row 3 (cast_row (meta_table 0) (id ∷ Text (codes "schema") ∷ whole 3 ∷ [])) ≡ true
+    third id = ap₂ (λ a b. a && b) its_name (ap (λ v. is_equal v (whole 3)) (cast_whole 3) ∙ same_whole 3 3)
 
-pub its_name : is_equal (Text (codes "schema")) (Text (codes "schema")) ≡ true
-its_name = ap is_eq (value_cmp-Text (codes "schema") (codes "schema"))
+-- its number is given, and none is chosen for it
+is_third_under : (rows : List Row) (r : Row) → is_version_row 3 (written_for r) ≡ true → is_version_row 3 (with_rowid Given rows (written_for r)) ≡ true
+is_third_under rows r is = is
 
-one_row : (rows : List Row) (n : ℕ) → rows ≡ version_row n ∷ [] → filter is_schema_row rows ≡ version_row n ∷ []
-one_row rows n was = rw (was, its_name) refl
+abbrev AreThird : List Row → Type 0
+AreThird = AllByRecursion (λ r. is_version_row 3 r ≡ true)
+
+thirds : (rows found : List Row) → AllByRecursion (λ r. is_version_row 3 (written_for r) ≡ true) found → AreThird (numbered_rows Given rows (map written_for found))
+thirds rows [] all = tt
+thirds rows (r ∷ found) all = (is_third_under rows r all.0, thirds (put_row (with_rowid Given rows (written_for r)) rows) found all.1)
+
+renewed_all : (rows : List Row) → AllByRecursion (λ r. is_version_row 3 (written_for r) ≡ true) (map renewed (filter is_schema_row rows))
+renewed_all [] = tt
+renewed_all (r ∷ rows) = elim (cases_Bool (is_schema_row r)) [
+  | inl is ↦ rw is (is_third r is, renewed_all rows)
+  | inr other ↦ rw other (renewed_all rows)
+]
+
+-- a row that is put in is there
+put_there : (p : Row → Bool) (new : Row) (rows : List Row) → p new ≡ true → list_any p (put_row new rows) ≡ true
+put_there p new [] is = rw is refl
+put_there p new (r ∷ rows) is = in_place (value_cmp (rowid r) (rowid new)) (r ∷ put_row new rows) (new ∷ rows) (new ∷ r ∷ rows) (rw (put_there p new rows is) (or_true (p r))) (rw is refl) (rw is refl)
+  where
+    or_true : (b : Bool) → (b || true) ≡ true
+    or_true true = refl
+    or_true false = refl
+
+    in_place : (o : Ordering) (less equal greater : List Row) → list_any p less ≡ true → list_any p equal ≡ true → list_any p greater ≡ true → list_any p (match_ordering o less equal greater) ≡ true
+    in_place Less less equal greater a b c = a
+    in_place Equal less equal greater a b c = b
+    in_place Greater less equal greater a b c = c
+
+all_there : (rows : List Row) (r : Row) (news : List Row) → AreThird (r ∷ news) → list_any (is_version_row 3) (put_all rows (r ∷ news)) ≡ true
+all_there rows r [] all = put_there (is_version_row 3) r rows all.0
+all_there rows r (s ∷ news) all = all_there (put_row r rows) s news all.1
+
+any_there : (rows : List Row) (news : List Row) → 0 < length news → AreThird news → list_any (is_version_row 3) (put_all rows news) ≡ true
+any_there rows [] some all = absurd (omega arith)
+any_there rows (r ∷ news) some all = all_there rows r news all
+
+-- so many rows are written as there are rows 'schema', and one is there where `meta` names a version
+some_named : (n : ℕ) (rows : List Row) → list_any (is_version_row n) rows ≡ true → 0 < length (filter is_schema_row rows)
+some_named n [] named = absurd (cc)
+some_named n (r ∷ rows) named = elim (cases_Bool (is_schema_row r)) [
+  | inl is ↦ rw is (omega arith)
+  | inr other ↦ rw other (some_named n rows (rw other at named))
+]
+
+length_numbered : (rows news : List Row) → length (numbered_rows Given rows news) ≡ length news
+length_numbered rows [] = refl
+length_numbered rows (r ∷ news) = ap suc (length_numbered (put_row (with_rowid Given rows r) rows) news)
+
+rewritten : (n : ℕ) (rows left found : List Row) → list_any (is_version_row n) rows ≡ true → IsPermutation (map renewed (filter is_schema_row rows)) found → list_any (is_version_row 3) (put_all left (numbered_rows Given left (map written_for found))) ≡ true
+rewritten n rows left found named same =
+    let as_many = length_permutation _ _ same in
+    let many = length-map (filter is_schema_row rows) renewed in
+    let written = length-map found written_for in
+    let some = some_named n rows named in
+    any_there left _ (rw (length_numbered left (map written_for found)) (omega (arith, as_many, many, written, some)))
+    (thirds left found (all-permutation _ _ _ same (renewed_all rows)))
 
 raising : (layout : Layout) (limit : Option ℕ) (text : List ℕ) (trees : Trees) (tally : Tally) (after : Database)
     → Does limit mode [] (record { schema = schema_of layout; trees = trees }) text None (Update 0 (record { lets = []; body = raise_query })) (Ok (tally, after))
@@ -220,9 +282,7 @@ raising layout limit text trees tally after does =
     let rows = selected [] (λ (r : Row). r) is_schema_row raise_query.filter (λ r. rw test_text (and_true _)) 0 raise_query.project renewed (λ r. refl) (overlay trees []) (trees 0) found.0 (map_same _) (found.1.answer Null) in
     record {
       schema = ap (λ (d : Database). d.schema) now;
-      raised = λ n was.
-          let one = one_permutation (renewed (version_row n)) found.0 (subst (λ l. IsPermutation (map renewed l) found.0) (one_row (trees 0) n was) rows) in
-          subst (λ (t : Trees). t 0 ≡ version_row 3 ∷ []) next (it.rows ∙ rewritten n (trees 0) found.0 was one);
+      raised = λ n named. subst (HasVersion 3) next (ap (list_any (is_version_row 3)) it.rows ∙ rewritten n (trees 0) _ found.0 named rows);
       others = subst (SparesOthers layout 0 trees) next it.tables;
     }
 

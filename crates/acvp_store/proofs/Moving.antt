@@ -1,5 +1,6 @@
 -- What all the statements of a migration do, one after the other.
-use Rattle.std.proofs.Common.{◌≡◌, List, [], refl, sym, subst, ◌∙◌}
+use Rattle.std.proofs.Common.{◌≡◌, List, [], refl, sym, ap, subst, ◌∙◌}
+use Rattle.std.specs.List.{list_any}
 use Rattle.std.proofs.lemmas.List.Sorted.{IsPermutation-refl}
 use Rattle.sqlite.specs.Effect.{Database}
 use Rattle.sqlite.specs.Order.{Row}
@@ -8,6 +9,7 @@ use Rattle.acvp_store.specs.Connection.{Under, UnderStore, Both}
 use Rattle.acvp_store.specs.Migrated.{Turns}
 use Rattle.acvp_store.specs.Rows.{HoldsAccounts, HoldsSessions}
 use Rattle.acvp_store.specs.Schema.{Created, Migrated, schema_of, First, Second, schema_at}
+use Rattle.acvp_store.specs.Version.{is_version_row}
 use Rattle.acvp_store.specs.Stands.{HoldsSets, HoldsOldSets, HoldsObjects, HoldsRequests, HoldsReviewers}
 use Rattle.acvp_store.specs.Private.Creating.{Makes, before}
 use Rattle.acvp_store.specs.Private.Migration.{CopiesSets, EmptiesOldSets, RaisesVersion}
@@ -48,7 +50,7 @@ first_turns old new h schema =
       record {
         schema = z.schema;
         stands = λ c st. record {
-          version = z.raised 1 (meta ∙ st.version);
+          version = z.raised 1 (ap (list_any (is_version_row 1)) meta ∙ st.version);
           accounts = subst (λ rows. HoldsAccounts rows c.accounts) (sym accounts) st.accounts;
           sessions = subst (λ rows. HoldsSessions rows c.sessions) (sym sessions) st.sessions;
           sets = subst (λ rows. HoldsSets rows c.sets) (sym sets) (x.copied none c.sets (subst (λ rows. HoldsOldSets rows c.sets) (sym old_sets) st.sets));
@@ -74,7 +76,7 @@ second_turns old new h schema =
       record {
         schema = z.schema;
         stands = λ c st. record {
-          version = z.raised 2 (m.others.0 ∙ st.version);
+          version = z.raised 2 (ap (list_any (is_version_row 2)) m.others.0 ∙ st.version);
           accounts = subst (λ rows. HoldsAccounts rows c.accounts) (sym (z.others.1.0 (apart 2 0 refl) ∙ m.others.1.0)) st.accounts;
           sessions = subst (λ rows. HoldsSessions rows c.sessions) (sym (z.others.1.1.0 (apart 3 0 refl) ∙ m.others.1.1.0)) st.sessions;
           sets = subst (λ rows. HoldsSets rows c.sets) (sym (z.others.1.1.1.0 (apart 4 0 refl) ∙ m.others.1.1.1.0)) st.sets;
@@ -100,7 +102,7 @@ second_beside_turns old new h schema =
       record {
         schema = z.schema;
         stands = λ c st. record {
-          version = z.raised 2 (m.others.0 ∙ st.version);
+          version = z.raised 2 (ap (list_any (is_version_row 2)) m.others.0 ∙ st.version);
           accounts = subst (λ rows. HoldsAccounts rows c.accounts) (sym (z.others.1.0 (apart 2 0 refl) ∙ m.others.1.0)) st.accounts;
           sessions = subst (λ rows. HoldsSessions rows c.sessions) (sym (z.others.1.1.0 (apart 3 0 refl) ∙ m.others.1.1.0)) st.sessions;
           sets = subst (λ rows. HoldsSets rows c.sets) (sym (z.others.1.1.1.1.1.1.0 (apart 8 0 refl) ∙ m.others.1.1.1.1.1.1.0)) st.sets;

@@ -22,9 +22,10 @@ use Rattle.acvp_tables.specs.declared.rows.ObjectRow.{ObjectRow}
 use Rattle.acvp_store.specs.Values.{whole}
 use Rattle.acvp_store.specs.Schema.{Layout, schema_of}
 use Rattle.acvp_store.specs.Stands.{Entry, entry_row, HoldsObjects, object_columns, object_tree, IsKeepable, FitColumns}
+use Rattle.acvp_store.proofs.Keyed.{none_passes}
 use Rattle.acvp_store.proofs.AccountPages.{test_range, most}
 use Rattle.acvp_store.proofs.Listing.{all_taken, all_dropped}
-use Rattle.acvp_store.proofs.ObjectRows.{is_it, neither, none_passes, none_fits}
+use Rattle.acvp_store.proofs.ObjectRows.{is_it, neither, none_fits}
 use Rattle.acvp_store.proofs.Owned.{last_number, in_range, range_drops, rising_dropped, object_numbers, object_selection}
 use Rattle.acvp_store.proofs.Paging.{paged, capped_page}
 use Rattle.acvp_store.proofs.PageTexts.{within, find_object, object_is, object_plain, object_unlisted, object_fields, page_objects, objects_is, objects_plain, objects_unlisted}

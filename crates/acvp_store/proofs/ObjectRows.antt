@@ -22,6 +22,7 @@ use Rattle.acvp_tables.specs.declared.rows.ObjectRow.{ObjectRow}
 use Rattle.acvp_store.specs.Values.{whole}
 use Rattle.acvp_store.specs.Schema.{Layout, schema_of}
 use Rattle.acvp_store.specs.Stands.{Entry, entry_row, HoldsObjects, object_columns, object_tree, FitColumns}
+use Rattle.acvp_store.proofs.Keyed.{none_passes}
 use Rattle.acvp_store.proofs.Parts.{both_true}
 use Rattle.acvp_store.proofs.Selecting.{test_equals, test_none, selected}
 use Rattle.acvp_store.proofs.Texts.{find_owner, owner_query, owner_is, owner_plain, owner_unlisted}
@@ -53,10 +54,6 @@ module _ (layout : Layout) (k : ℕ) (n : ℤ) (p : ObjectRow → Bool) (tests :
     | inl same ↦ rw same (ap (λ rows. owner_shown e.row.account ∷ rows) (shown_of entries))
     | inr apart ↦ rw apart (shown_of entries)
   ]
-
-pub none_passes : {A : Type 0} (xs : List A) → filter (λ x. false) xs ≡ []
-none_passes [] = refl
-none_passes (x ∷ xs) = none_passes xs
 
 pub none_fits : (kind : Kind) (n : ℕ) (objects : List ObjectRow) → 2 ^ 63 ≤ n → FitColumns objects → filter (is_it kind n) objects ≡ []
 none_fits kind n [] high fits = refl

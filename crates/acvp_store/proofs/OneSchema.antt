@@ -1,8 +1,6 @@
 -- Trees list one schema, so what a store's database shows to an open is that store.
 use Rattle.std.proofs.Common.{◌≡◌, ◌⊎◌, inl, inr, ◌≤◌, ◌+◌, ◌↔◌, ℕ, zero, suc, pos, List, [], ◌∷◌, length, slice_get, Bool, true, false, Some, Result, Ok, Err, IsTrue, IfErr, refl, sym, ap, subst, ◌∙◌, arith}
-use Rattle.std.specs.List.{AllZip, AllByRecursion, filter, list_any}
-use Rattle.std.specs.Prelude.{◌==◌}
-use Rattle.std.proofs.lemmas.Bool.Decides.{nat_tests}
+use Rattle.std.specs.List.{AllZip, AllByRecursion, filter}
 use Rattle.sqlite.specs.Effect.{Database, IsDatabase}
 use Rattle.sqlite.specs.Held.{Held, state}
 use Rattle.sqlite.specs.Order.{Row, column}
@@ -21,16 +19,14 @@ use Rattle.sqlite_trees.specs.Tree.{Trees, IsAscending, rowid}
 use Rattle.sqlite_value.specs.declared.value.Value.{Value}
 use Rattle.sqlite_value.specs.declared.value.Value.TheVariants.{Null, Int, Real, Text, Blob}
 use Rattle.acvp_tables.specs.Content.{Content}
-use Rattle.acvp_store.specs.Adopted.{IsOurs, HasVersion, is_version_row}
+use Rattle.acvp_store.specs.Adopted.{IsOurs}
 use Rattle.acvp_store.specs.Connection.{LeavesNoMore, LeavesSo}
 use Rattle.acvp_store.specs.Migrated.{IsOf, IsMigrated, Migrates, Turns, layout_after, IsAfterMigration}
-use Rattle.acvp_store.specs.Schema.{Layout, Created, Migrated, schema_of, SchemaVersion, First, Second, Third, schema_at, version_number}
-use Rattle.acvp_store.specs.Stands.{StandsAt, Stands, version_row}
+use Rattle.acvp_store.specs.Schema.{Layout, Created, Migrated, schema_of, SchemaVersion, First, Second, Third, schema_at}
+use Rattle.acvp_store.specs.Stands.{StandsAt, Stands}
 use Rattle.acvp_store.specs.Store.{IsStoreAt, IsStoreOf, IsOldOrMigrated, stands}
 use Rattle.acvp_store.specs.Private.Found.{store_of}
-use Rattle.acvp_store.proofs.Keyed.{same_whole}
 use Rattle.acvp_store.proofs.Known.{same_version}
-use Rattle.acvp_store.proofs.Migrating.{its_name}
 
 -- ---- each row lists one thing
 
@@ -124,11 +120,8 @@ one_schema version s db h k =
 
 -- ---- a store's database
 
-named_so : (n : ℕ) (trees : Trees) → trees 0 ≡ version_row n ∷ [] → HasVersion n trees
-named_so n trees is = let same : (n == n) ≡ true = grind (arith, nat_tests) in subst (λ rows. list_any (is_version_row n) rows ≡ true) (sym is) (rw (its_name, same_whole n n, same) refl)
-
 pub is_of : (version : SchemaVersion) (db : Database) → IsDatabase db → (c : Content) → IsStoreAt version db.trees c → IsOf version db
-is_of version db sound c it = record { schema = one_schema version db.schema db.trees sound it.sound; named = named_so (version_number version) db.trees it.stands.version; no_old_sets = it.stands.no_old_sets }
+is_of version db sound c it = record { schema = one_schema version db.schema db.trees sound it.sound; named = it.stands.version; no_old_sets = it.stands.no_old_sets }
 
 pub is_ours : (db : Database) → IsDatabase db → (c : Content) → IsStoreOf db.trees c → IsOurs db
 is_ours db sound c it = let of = is_of (Third it.0) db sound c it.1 in record { layout = it.0; schema = of.schema; version = of.named; no_old_sets = of.no_old_sets }

@@ -65,12 +65,15 @@ sessions_ask = refl
 -- ---- requests, with the text of a certification alone
 
 abbrev pub find_request : List ℕ
-find_request = codes "SELECT request, account, kind, CASE WHEN kind = 4 THEN body END, status, approved FROM request WHERE request = ?1"
+find_request = codes "SELECT request, account, kind, body, status, approved FROM request WHERE request = ?1"
+
+abbrev pub whole_request : List Term
+whole_request = col 1 0 ∷ col 1 2 ∷ col 1 3 ∷ col 1 4 ∷ col 1 5 ∷ col 1 6 ∷ []
 
 abbrev pub request_columns : List Term
 request_columns = col 1 0 ∷ col 1 2 ∷ col 1 3 ∷ case (op2 (Compare Eq Binary) (col 1 3) (lit (Int (pos 4)))) (col 1 4) (lit Null) ∷ col 1 5 ∷ col 1 6 ∷ []
 
-pub request_is : (layout : Layout) → command_of (understood (schema_of layout) find_request) ≡ Select (record { lets = []; body = simple 7 (equals 0 0 ∷ []) request_columns }) (codes "request" ∷ codes "account" ∷ codes "kind" ∷ codes "CASE WHEN kind = 4 THEN body END" ∷ codes "status" ∷ codes "approved" ∷ [])
+pub request_is : (layout : Layout) → command_of (understood (schema_of layout) find_request) ≡ Select (record { lets = []; body = simple 7 (equals 0 0 ∷ []) whole_request }) (codes "request" ∷ codes "account" ∷ codes "kind" ∷ codes "body" ∷ codes "status" ∷ codes "approved" ∷ [])
 unfolding understood everything
 request_is Created = refl
 request_is Migrated = refl

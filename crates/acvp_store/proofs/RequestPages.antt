@@ -1,5 +1,5 @@
 -- Requests without the objects that they ask to register: one by its number, and the pages of an account's.
-use Rattle.std.proofs.Common.{◌≡◌, ◌⊎◌, inl, inr, ◌<◌, ◌≤◌, ◌+◌, ◌^◌, ℕ, ℤ, pos, negsuc, List, [], ◌∷◌, map, take, drop, slice_get, Bool, true, false, refl, sym, ap, subst, ◌∙◌, arith}
+use Rattle.std.proofs.Common.{◌≡◌, ◌⊎◌, inl, inr, ◌<◌, ◌≤◌, ◌+◌, ◌^◌, ℕ, ℤ, pos, negsuc, List, [], ◌∷◌, map, take, drop, slice_get, Bool, true, false, Option, Ok, Err, Result, IfOk, IsOk, refl, sym, ap, subst, ◌∙◌, arith}
 use Rattle.std.specs.Prelude.{◌==◌, min, filter, if◌then◌else◌, option_map}
 use Rattle.std.specs.List.{AllByRecursion, drop-map}
 use Rattle.std.specs.List.Sorted.{IsPermutation}
@@ -28,14 +28,14 @@ use Rattle.acvp_store.specs.Kept.{IsKept}
 use Rattle.acvp_store.specs.Schema.{Layout, schema_of}
 use Rattle.acvp_store.specs.Stands.{request_tree, request_key, request_row, HoldsRequests, BodyReads, body_number, body_text, status_number}
 use Rattle.acvp_store.specs.Private.Objects.{IsOfKind}
+use Rattle.acvp_store.specs.Private.Requests.{request_shown, IsReadable}
 use Rattle.acvp_store.specs.Private.Summaries.{SubjectReads, subject_number, subject_text, summary_shown}
 use Rattle.acvp_store.proofs.AccountPages.{test_range, most, page_params}
-use Rattle.acvp_store.proofs.Finding.{first_mapped}
 use Rattle.acvp_store.proofs.Keyed.{keyed, keyed_same, find_is, none_fits, none_passes}
 use Rattle.acvp_store.proofs.Listing.{all_taken, all_dropped}
 use Rattle.acvp_store.proofs.Owned.{last_number, in_range, range_drops, rising_dropped, request_numbers, request_selection}
 use Rattle.acvp_store.proofs.Paging.{paged, capped_page}
-use Rattle.acvp_store.proofs.PageTexts.{within, find_request, request_is, request_plain, request_unlisted, request_columns, page_requests, requests_is, requests_plain, requests_unlisted}
+use Rattle.acvp_store.proofs.PageTexts.{within, whole_request, find_request, request_is, request_plain, request_unlisted, request_columns, page_requests, requests_is, requests_plain, requests_unlisted}
 use Rattle.acvp_store.proofs.Parts.{and_true}
 use Rattle.acvp_store.proofs.Selecting.{test_equals, test_none, selected}
 use Rattle.acvp_store.proofs.Sound.{kinds_of}
@@ -46,17 +46,17 @@ use Rattle.acvp_store.proofs.Texts.{equals}
 abbrev body_shown : RequestBody → Rattle.sqlite.specs.declared.types.Value.Value
 body_shown b = if body_number b == 4 then Text (body_text b) else Null
 
-abbrev request_shown : RequestRow → Row
-request_shown r = whole r.number ∷ whole r.account ∷ whole (body_number r.body) ∷ body_shown r.body ∷ whole (status_number r.status) ∷ or_null whole (given_number r.status) ∷ []
+abbrev listed_request : RequestRow → Row
+listed_request r = whole r.number ∷ whole r.account ∷ whole (body_number r.body) ∷ body_shown r.body ∷ whole (status_number r.status) ∷ or_null whole (given_number r.status) ∷ []
 
-shows : (params : Row) (r : RequestRow) → eval_all request_columns (params ∷ request_row r ∷ []) ≡ request_shown r
+shows : (params : Row) (r : RequestRow) → eval_all request_columns (params ∷ request_row r ∷ []) ≡ listed_request r
 shows params r = rw (test_equals (body_number r.body) 4) refl
 
 subject_is : (b : RequestBody) → IsOfKind b → (whole (body_number b) ≡ whole (subject_number (subject_of b))) × (body_shown b ≡ or_null Text (subject_text (subject_of b)))
 subject_is (body.Registration o) kind = let other : (kind_number o.kind == 4) ≡ false = grind (arith, nat_tests, kind) in (refl, rw other refl)
 subject_is (body.Certification c) kind = (refl, refl)
 
-summary_is : (r : RequestRow) → IsOfKind r.body → request_shown r ≡ summary_shown (request_summary r)
+summary_is : (r : RequestRow) → IsOfKind r.body → listed_request r ≡ summary_shown (request_summary r)
 summary_is r kind =
     let is = subject_is r.body kind in
     λ i. whole r.number ∷ whole r.account ∷ is.0 i ∷ is.1 i ∷ whole (status_number r.status) ∷ or_null whole (given_number r.status) ∷ []
@@ -64,7 +64,7 @@ summary_is r kind =
 abbrev summaries : List RequestRow → List RequestSummary
 summaries = map request_summary
 
-summaries_are : (list : List RequestRow) → AllByRecursion (λ (r : RequestRow). IsOfKind r.body) list → map request_shown list ≡ map summary_shown (summaries list)
+summaries_are : (list : List RequestRow) → AllByRecursion (λ (r : RequestRow). IsOfKind r.body) list → map listed_request list ≡ map summary_shown (summaries list)
 summaries_are [] all = refl
 summaries_are (r ∷ list) all = λ i. summary_is r all.0 i ∷ summaries_are list all.1 i
 
@@ -84,7 +84,7 @@ summaries_read (r ∷ list) kinds reads = (subject_reads r.body kinds.0 reads.0,
 rows_by : (layout : Layout) (k : ℤ) (p : RequestRow → Bool) → ((r : RequestRow) → is_true (binary (Compare Eq Binary) (whole r.number) (Int k)) ≡ p r) → (old new : State) (rows : List Row) → old.now.schema ≡ schema_of layout → Shown find_request (Int k ∷ []) old new rows
     → (list : List RequestRow) (kept : IsKept request_key request_row (old.now.trees request_tree) list) → IsPermutation (map request_shown (filter p kept.ordered)) rows
 rows_by layout k p tests old new rows schema h list kept =
-    selected (Int k ∷ []) request_row p (equals 0 0 ∷ []) (λ r. rw tests (and_true _)) request_tree request_columns request_shown (shows (Int k ∷ [])) (overlay old.now.trees []) kept.ordered rows kept.rows_are
+    selected (Int k ∷ []) request_row p (equals 0 0 ∷ []) (λ r. rw tests (and_true _)) request_tree whole_request request_shown (λ r. refl) (overlay old.now.trees []) kept.ordered rows kept.rows_are
     ((reads_as find_request (Int k ∷ []) old new (schema_of layout) schema _ (request_is layout) (request_plain layout) (request_unlisted layout) rows h).answer Null)
 
 request_rows : (layout : Layout) (n : ℕ) (k : ℤ) → (n < 2 ^ 63 → k ≡ pos n) → (2 ^ 63 ≤ n → k ≡ negsuc 0) → (old new : State) (rows : List Row) → old.now.schema ≡ schema_of layout → Shown find_request (Int k ∷ []) old new rows
@@ -98,18 +98,30 @@ request_rows layout n k fits large old new rows schema h list kept = elim (small
     small_or_large n = search arith
 
 pub request_found : (layout : Layout) (n : ℕ) (k : ℤ) → (n < 2 ^ 63 → k ≡ pos n) → (2 ^ 63 ≤ n → k ≡ negsuc 0) → (old new : State) (rows : List Row) → old.now.schema ≡ schema_of layout → Shown find_request (Int k ∷ []) old new rows
-    → (c : Content) → IsSound c → HoldsRequests (old.now.trees request_tree) c.requests → AllByRecursion Reads (summaries (keyed request_key n c.requests)) × IsPermutation (map summary_shown (summaries (keyed request_key n c.requests))) rows
+    → (c : Content) → IsSound c → HoldsRequests (old.now.trees request_tree) c.requests → AllByRecursion (λ (r : RequestRow). IsReadable r.body) (keyed request_key n c.requests) × IsPermutation (map request_shown (keyed request_key n c.requests)) rows
 request_found layout n k fits large old new rows schema shown c sound h =
     let mine = keyed request_key n c.requests in
     let kinds = all-filter (λ (r : RequestRow). IsOfKind r.body) (λ r. r.number == n) c.requests (kinds_of c sound) in
-    let same = keyed_same request_key n h.kept.ordered c.requests h.kept.rising h.kept.same in
-    let found = request_rows layout n k fits large old new rows schema shown c.requests h.kept in (
-      summaries_read mine kinds (all-filter (λ (r : RequestRow). BodyReads r.body) (λ r. r.number == n) c.requests h.texts),
-      subst (λ xs. IsPermutation xs rows) (ap (map request_shown) same ∙ summaries_are mine kinds) found,
+    let texts = all-filter (λ (r : RequestRow). BodyReads r.body) (λ r. r.number == n) c.requests h.texts in
+    let same = keyed_same request_key n h.kept.ordered c.requests h.kept.rising h.kept.same in (
+      readable mine kinds texts,
+      subst (λ xs. IsPermutation xs rows) (ap (map request_shown) same) (request_rows layout n k fits large old new rows schema shown c.requests h.kept),
     )
+  where
+    readable : (list : List RequestRow) → AllByRecursion (λ (r : RequestRow). IsOfKind r.body) list → AllByRecursion (λ (r : RequestRow). BodyReads r.body) list → AllByRecursion (λ (r : RequestRow). IsReadable r.body) list
+    readable [] kinds texts = tt
+    readable (r ∷ list) kinds texts = ((kinds.0, texts.0), readable list kinds.1 texts.1)
 
-pub summary_of : (n : ℕ) (requests : List RequestRow) → slice_get (summaries (keyed request_key n requests)) 0 ≡ option_map request_summary (request_at n requests)
-summary_of n requests = first_mapped request_summary (keyed request_key n requests) ∙ ap (option_map request_summary) (sym (find_is request_key n requests))
+pub request_is_at : (n : ℕ) (requests : List RequestRow) → slice_get (keyed request_key n requests) 0 ≡ request_at n requests
+request_is_at n requests = sym (find_is request_key n requests)
+
+-- what is told of the request that is found, without its object
+pub summary_told : {E F : Type 0} (Sound Held : Content → Type 0) (found : Result (Option RequestRow) E) (result : Result (Option RequestSummary) F) (picked : Content → Option RequestRow) → (IsOk result → IsOk found)
+    → IfOk result (λ told. IfOk found (λ row. told ≡ option_map request_summary row)) → IfOk found (λ row. (c : Content) → Sound c → Held c → row ≡ picked c)
+    → IfOk result (λ told. (c : Content) → Sound c → Held c → told ≡ option_map request_summary (picked c))
+summary_told Sound Held found (Err f) picked ok tells finds = tt
+summary_told Sound Held (Err e) (Ok told) picked ok tells finds = absurd (let impossible = ok refl in cc)
+summary_told Sound Held (Ok row) (Ok told) picked ok tells finds = λ c sound held. tells ∙ ap (option_map request_summary) (finds c sound held)
 
 -- ---- a page
 
@@ -123,14 +135,14 @@ request_page layout u o l old new rows schema shown c sound h =
     let selection = request_selection c u sound in
     let picked = range_drops key account u (min o 999999) (λ r. true) c.requests (request_numbers c sound) selection.numbered in
     let whole_list = subst (λ xs. IsPermutation xs c.requests) (sym (map-id h.kept.ordered)) h.kept.same in
-    let it = paged (page_params u o l) request_row (λ r. r) (in_range key account u (min o 999999)) (within 0) request_columns 0 key request_shown (λ r. test_range r.number (first_of_account u + min o 999999) (last_number u)) (λ r. refl) (shows (page_params u o l)) request_tree (min l most) refl
+    let it = paged (page_params u o l) request_row (λ r. r) (in_range key account u (min o 999999)) (within 0) request_columns 0 key listed_request (λ r. test_range r.number (first_of_account u + min o 999999) (last_number u)) (λ r. refl) (shows (page_params u o l)) request_tree (min l most) refl
     (overlay old.now.trees []) h.kept.ordered c.requests rows h.kept.rows_are whole_list (rw picked (rising_dropped key (min o 999999) (first_of_account u) mine selection.numbered))
     ((reads_as page_requests (page_params u o l) old new (schema_of layout) schema _ (requests_is layout) (requests_plain layout) (requests_unlisted layout) rows shown).answer Null) in
     let kinds = all-filter (λ (r : RequestRow). IsOfKind r.body) (λ r. r.account == u) c.requests (kinds_of c sound) in
     let texts = all-filter (λ (r : RequestRow). BodyReads r.body) (λ r. r.account == u) c.requests h.texts in
-    let exact = it ∙ ap (map request_shown) (ap (take (min l most)) picked ∙ capped_page o l mine selection.few) in (
+    let exact = it ∙ ap (map listed_request) (ap (take (min l most)) picked ∙ capped_page o l mine selection.few) in (
       all_taken Reads l _ (all_dropped Reads o (summaries mine) (summaries_read mine kinds texts)),
-      exact ∙ page_mapped request_shown mine ∙ ap (page o l) (summaries_are mine kinds) ∙ sym (page_mapped summary_shown (summaries mine)),
+      exact ∙ page_mapped listed_request mine ∙ ap (page o l) (summaries_are mine kinds) ∙ sym (page_mapped summary_shown (summaries mine)),
     )
   where
     page_mapped : {A B : Type 0} (f : A → B) (xs : List A) → map f (page o l xs) ≡ page o l (map f xs)

@@ -129,7 +129,7 @@ found_reviewer r table (Ok x) rows_in (Ok b) ok found rows = λ list h.
 cast_given : (tree : ℕ) (r : ReviewerRow) → cast_row (reviewer_table tree) (Null ∷ reviewer_columns r) ≡ Null ∷ reviewer_columns r
 cast_given tree r = rw (cast_null, cast_whole r.session, cast_whole r.account) refl
 
-agrees : (r a : ReviewerRow) (i j : ℕ) → agree plain (1 ∷ 2 ∷ []) (whole i ∷ reviewer_columns a) (1 ∷ 2 ∷ []) (whole j ∷ reviewer_columns r) ≡ is_pair r a
+agrees : (r a : ReviewerRow) (i j : ℤ) → agree plain (1 ∷ 2 ∷ []) (Int i ∷ reviewer_columns a) (1 ∷ 2 ∷ []) (Int j ∷ reviewer_columns r) ≡ is_pair r a
 unfolding first_key
 agrees r a i j = both_true _ _ (a.session == r.session) (a.account == r.account) (test_equals a.session r.session) (test_equals a.account r.account)
 
@@ -211,7 +211,7 @@ removes layout limit text r trees tally after does =
           let h = held.kept in
           let rows = selected (reviewer_columns r) (entry_row reviewer_columns) (λ e. is_pair r e.row) (remove_query layout).filter
           (λ e. both_true _ _ (e.row.session == r.session) (e.row.account == r.account) (test_equals e.row.session r.session) (test_equals e.row.account r.account))
-          (reviewer_tree layout) (remove_query layout).project (λ e. whole e.id ∷ []) (λ e. refl) (overlay trees []) h.entries found.0 (reviewers_seen layout trees ∙ h.rows_are) (found.1.answer Null) in
+          (reviewer_tree layout) (remove_query layout).project (λ e. Int e.id ∷ []) (λ e. refl) (overlay trees []) h.entries found.0 (reviewers_seen layout trees ∙ h.rows_are) (found.1.answer Null) in
           let left = it.rows ∙ ap (λ all. without_all all (ids_of found.0)) h.rows_are ∙ removed reviewer_columns (λ e. is_pair r e.row) h.entries found.0 h.rising rows in
           record {
             kept = subst (λ (t : Trees). HoldsEntries reviewer_columns (t (reviewer_tree layout)) (filter (λ row. not (is_pair r row)) list)) next (takes reviewer_columns (is_pair r) trees written.0 (reviewer_tree layout) list h left);

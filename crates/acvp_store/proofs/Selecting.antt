@@ -1,10 +1,11 @@
 -- What a query over one table gives, where the table's rows are those of members.
-use Rattle.std.proofs.Common.{◌≡◌, ◌<◌, ℕ, pos, negsuc, List, [], ◌∷◌, map, Bool, true, false, cond, Some, refl, ap, ◌∙◌, arith}
+use Rattle.std.proofs.Common.{◌≡◌, ◌<ℤ◌, ℕ, ℤ, pos, negsuc, Less, Greater, int_cmp, int_eq, int_lt, List, [], ◌∷◌, map, Bool, true, false, cond, Some, refl, ap, ◌∙◌, arith}
 use Rattle.std.specs.Prelude.{◌==◌, nat_lt, nat_le}
 use Rattle.std.specs.List.Sorted.{IsPermutation}
 use Rattle.std.specs.List.{filter, flat_map, list_all}
 use Rattle.std.specs.Ordering.{is_eq, is_ne, is_lt, is_le, is_ge}
 use Rattle.std.proofs.lemmas.Bool.Decides.{nat_tests}
+use Rattle.std.proofs.lemmas.Int.{ints}
 use Rattle.std.proofs.lemmas.List.Sorted.{IsPermutation-map}
 use Rattle.sqlite_trees.proofs.ListLemmas.{map-map}
 use Rattle.sqlite.specs.Order.{Row}
@@ -14,11 +15,13 @@ use Rattle.sqlite.specs.Collation.TheVariants.{Binary}
 use Rattle.sqlite.specs.Term.{Term, Env, holds, eval_all}
 use Rattle.sqlite.specs.Query.{IsAnswer, output, Output}
 use Rattle.sqlite.specs.Tree.{Trees}
-use Rattle.sqlite.specs.declared.types.Value.TheVariants.{Int}
-use Rattle.sqlite_value.proofs.OrderLemmas.{value_cmp-Int}
-use Rattle.sqlite_sql.specs.declared.ops.BinaryOp.TheVariants.{Compare}
+use Rattle.sqlite.specs.declared.types.Value.{Value}
+use Rattle.sqlite.specs.declared.types.Value.TheVariants.{Null, Int, Real, Text, Blob}
+use Rattle.sqlite_value.proofs.OrderLemmas.{value_cmp-Int, value_cmp-Null, value_cmp-apart}
+use Rattle.sqlite_sql.specs.declared.ops.BinaryOp.TheVariants.{Compare, Is}
 use Rattle.sqlite_sql.specs.declared.ops.CompareOp.TheVariants.{Eq, Ne, Lt, Le, Ge}
-use Rattle.acvp_store.specs.Values.{whole}
+use Rattle.sqlite_sql.specs.Ops.{is_null}
+use Rattle.acvp_store.specs.Values.{whole, flag}
 use Rattle.acvp_store.proofs.Texts.{simple, collated}
 use Rattle.acvp_store.proofs.Keyed.{same_whole}
 
@@ -48,10 +51,29 @@ pub test_at_least : (m n : ℕ) → is_true (binary (Compare Ge Binary) (whole m
 unfolding binary
 test_at_least m n = truth_back _ ∙ ap is_ge (value_cmp-Int (pos m) (pos n)) ∙ grind (arith, nat_tests)
 
--- two numbers of which one is less differ
-pub test_differs : (m n : ℕ) → m < n → is_true (binary (Compare Ne Binary) (whole m) (whole n)) ≡ true
+-- whether a column is NULL
+pub null_flag : (v : Value) → binary (Is Binary) v Null ≡ flag (is_null v)
 unfolding binary
-test_differs m n low = truth_back _ ∙ ap is_ne (value_cmp-Int (pos m) (pos n)) ∙ grind (arith, nat_tests)
+null_flag Null = ap (λ o. from_truth (Some (is_eq o))) (value_cmp-Null Null)
+null_flag (Int n) = ap (λ o. from_truth (Some (is_eq o))) (value_cmp-apart (Int n) Null (λ e. absurd (omega arith)))
+null_flag (Real x) = ap (λ o. from_truth (Some (is_eq o))) (value_cmp-apart (Real x) Null (λ e. absurd (omega arith)))
+null_flag (Text t) = ap (λ o. from_truth (Some (is_eq o))) (value_cmp-apart (Text t) Null (λ e. absurd (omega arith)))
+null_flag (Blob b) = ap (λ o. from_truth (Some (is_eq o))) (value_cmp-apart (Blob b) Null (λ e. absurd (omega arith)))
+
+-- ---- of two numbers of which one is less
+
+pub below_is : (m n : ℤ) → m <ℤ n → int_cmp m n ≡ Less
+below_is m n low = let lt : int_lt m n ≡ true = grind (arith, ints) in rw lt refl
+
+pub above_is : (m n : ℤ) → m <ℤ n → int_cmp n m ≡ Greater
+above_is m n low = let lt : int_lt m n ≡ true = grind (arith, ints) in let not_lt : int_lt n m ≡ false = grind (arith, ints) in rw (not_lt, lt) refl
+
+pub itself_is : (m : ℤ) → int_eq m m ≡ true
+itself_is m = let not_lt : int_lt m m ≡ false = grind (arith, ints) in rw not_lt refl
+
+pub test_differs : (m n : ℤ) → m <ℤ n → is_true (binary (Compare Ne Binary) (Int m) (Int n)) ≡ true
+unfolding binary
+test_differs m n low = truth_back _ ∙ ap is_ne (value_cmp-Int m n ∙ below_is m n low)
 
 module _ {A : Type 0} (params : Row) (encode : A → Row) (p : A → Bool) (terms : List Term) (tests : (a : A) → list_all (holds (params ∷ encode a ∷ [])) terms ≡ p a) where
   abbrev pub env_of : A → Env

@@ -18,7 +18,7 @@ use Rattle.acvp_store.specs.Values.{whole}
 use Rattle.acvp_store.specs.Schema.{Layout, schema_of}
 use Rattle.acvp_store.specs.Kept.{IsKept}
 use Rattle.acvp_store.specs.Rows.{session_tree, session_key, session_row, HoldsSessions, session_shown}
-use Rattle.acvp_store.proofs.Keyed.{keyed, none_fits}
+use Rattle.acvp_store.proofs.Keyed.{keyed, none_fits, none_passes}
 use Rattle.acvp_store.proofs.Parts.{and_true}
 use Rattle.acvp_store.proofs.Selecting.{test_equals, test_none, selected}
 use Rattle.acvp_store.proofs.Texts.{find_session, session_query, session_is, session_plain, session_unlisted}
@@ -48,10 +48,6 @@ rows_by : (layout : Layout) (k : ℤ) (p : SessionRow → Bool) → ((s : Sessio
 rows_by layout k p tests old new rows schema h list kept =
     selected (Int k ∷ []) session_row p session_query.filter (λ s. rw tests (and_true _)) session_tree session_query.project session_shown (λ s. refl) (overlay old.now.trees []) kept.ordered rows kept.rows_are
     ((reads_as find_session (Int k ∷ []) old new (schema_of layout) schema _ (session_is layout) (session_plain layout) (session_unlisted layout) rows h).answer Null)
-
-none_passes : {A : Type 0} (xs : List A) → filter (λ x. false) xs ≡ []
-none_passes [] = refl
-none_passes (x ∷ xs) = none_passes xs
 
 -- the number as it is asked for: itself, or one that no column has
 pub session_rows : (layout : Layout) (n : ℕ) (k : ℤ) → (n < 2 ^ 63 → k ≡ pos n) → (2 ^ 63 ≤ n → k ≡ negsuc 0) → (old new : State) (rows : List Row) → old.now.schema ≡ schema_of layout → Shown find_session (Int k ∷ []) old new rows

@@ -1,10 +1,12 @@
 -- The vector sets of a session, by the range of its sets' numbers.
-use Rattle.std.proofs.Common.{◌≡◌, ◌<◌, ◌≤◌, ◌+◌, ◌*◌, ◌/◌, ℕ, List, [], ◌∷◌, map, length, Bool, true, false, not, Ok, Err, Result, IfOk, IsOk, inl, inr, refl, sym, ap, subst, ◌∙◌, arith}
+use Rattle.std.proofs.Common.{◌≡◌, ◌<◌, ◌≤◌, ◌+◌, ◌*◌, ◌/◌, ℕ, pos, List, [], ◌∷◌, map, length, Bool, true, false, not, Ok, Err, Result, IfOk, IsOk, inl, inr, refl, sym, ap, subst, ◌∙◌, arith}
 use Rattle.std.specs.Prelude.{◌==◌, ◌&&◌, nat_le}
 use Rattle.std.specs.List.{filter, list_all, range_with_len, AllZip, AllByRecursion}
 use Rattle.std.specs.List.Sorted.{IsPermutation}
+use Rattle.std.specs.Ordering.{is_ne}
 use Rattle.std.proofs.lemmas.Bool.{cases_Bool}
 use Rattle.std.proofs.lemmas.Bool.Decides.{nat_tests}
+use Rattle.std.proofs.lemmas.Int.{ints}
 use Rattle.std.proofs.lemmas.List.{length-map}
 use Rattle.sqlite.specs.Order.{Row}
 use Rattle.sqlite.specs.declared.types.Value.TheVariants.{Null}
@@ -15,7 +17,8 @@ use Rattle.sqlite.specs.State.{State, Shown}
 use Rattle.sqlite.specs.Tree.{IsAscending}
 use Rattle.sqlite.proofs.Callers.{reads_as}
 use Rattle.sqlite_sql.specs.declared.ops.BinaryOp.TheVariants.{Compare}
-use Rattle.sqlite_sql.specs.declared.ops.CompareOp.TheVariants.{Eq}
+use Rattle.sqlite_sql.specs.declared.ops.CompareOp.TheVariants.{Ne}
+use Rattle.sqlite_value.proofs.OrderLemmas.{value_cmp-Int}
 use Rattle.sqlite_trees.proofs.ListLemmas.{map-map, ascending-filter, IsPermutation-filter}
 use Rattle.acvp_tables.specs.Content.{Content, live_sets, set_summary}
 use Rattle.acvp_tables.specs.State.{IsSound, SetRecord, set_record, state_of, sets_in, first_of_session}
@@ -27,12 +30,11 @@ use Rattle.acvp_store.specs.Values.{whole, flag}
 use Rattle.acvp_store.specs.Schema.{Layout, schema_of}
 use Rattle.acvp_store.specs.Kept.{IsKept}
 use Rattle.acvp_store.specs.Stands.{SetColumns, set_key, set_row, set_tree, IsSet, HoldsSets}
-use Rattle.acvp_store.specs.Private.Sets.{short_shown, short_of, IsSummary}
-use Rattle.acvp_store.specs.declared.sets.ShortSet.{ShortSet}
+use Rattle.acvp_store.specs.Private.Sets.{ShortColumns, short_shown, short_of, IsSummary}
 use Rattle.acvp_store.proofs.Parts.{and_true}
 use Rattle.acvp_store.proofs.Ranging.{ranged}
-use Rattle.acvp_store.proofs.Selecting.{test_equals, test_at_least, test_at_most}
-use Rattle.acvp_store.proofs.SetRows.{set_shown, summary_is}
+use Rattle.acvp_store.proofs.Selecting.{truth_back, test_differs, test_at_least, test_at_most}
+use Rattle.acvp_store.proofs.SetRows.{set_shown, short_shows, summary_is}
 use Rattle.acvp_store.proofs.Places.{sets_seen}
 use Rattle.acvp_store.proofs.Texts.{find_sets, sets_query, sets_is, sets_plain, sets_unlisted}
 
@@ -48,11 +50,12 @@ Rising = IsAscending (λ a b. a.number < b.number)
 
 -- ---- the rows that the query gives
 
-test_off : (b : Bool) → is_true (binary (Compare Eq Binary) (flag b) (whole 0)) ≡ not b
-test_off true = test_equals 1 0
-test_off false = test_equals 0 0
+test_off : (b : Bool) → is_true (binary (Compare Ne Binary) (flag b) (whole 1)) ≡ not b
+unfolding binary
+test_off true = truth_back _ ∙ ap is_ne (value_cmp-Int (pos 1) (pos 1))
+test_off false = test_differs (pos 0) (pos 1) (omega (arith, ints))
 
-three_true : (a b c d e f : Bool) → a ≡ d → b ≡ e → c ≡ f → (a && (b && (c && true))) ≡ (d && (e && f))
+pub three_true : (a b c d e f : Bool) → a ≡ d → b ≡ e → c ≡ f → (a && (b && (c && true))) ≡ (d && (e && f))
 three_true a b c d e f p q r = rw (p, q, r, and_true f) refl
 
 pub live_rows : (layout : Layout) (s : ℕ) (old new : State) (rows : List Row) → old.now.schema ≡ schema_of layout → Shown find_sets (whole (s * 100) ∷ whole (s * 100 + 99) ∷ []) old new rows
@@ -60,7 +63,7 @@ pub live_rows : (layout : Layout) (s : ℕ) (old new : State) (rows : List Row) 
 live_rows layout s old new rows schema h columns kept rise =
     let params = whole (s * 100) ∷ whole (s * 100 + 99) ∷ [] in
     ranged params set_row (is_live_set s) (sets_query layout).filter (λ c. three_true _ _ _ _ _ _ (test_at_least c.number (s * 100)) (test_at_most c.number (s * 100 + 99)) (test_off c.cancelled)) (λ c. c) set_key set_shown
-    0 (set_tree layout) (sets_query layout).project (λ c. refl) (λ c. refl) (overlay old.now.trees []) kept.ordered (filter (is_live_set s) columns) rows (sets_seen layout old.now.trees ∙ kept.rows_are)
+    0 (set_tree layout) (sets_query layout).project (λ c. refl) (short_shows params) (overlay old.now.trees []) kept.ordered (filter (is_live_set s) columns) rows (sets_seen layout old.now.trees ∙ kept.rows_are)
     (same_told (filter (is_live_set s) kept.ordered) (IsPermutation-filter (is_live_set s) kept.ordered columns kept.same)) rise
     ((reads_as find_sets params old new (schema_of layout) schema _ (sets_is layout) (sets_plain layout) (sets_unlisted layout) rows h).answer Null)
   where
@@ -168,9 +171,9 @@ all_told (c ∷ columns) (r ∷ sets) (t ∷ told) h is = λ i. summary_is c r t
 
 -- ---- the whole
 
-module _ {X L M E F G : Type 0} (s : ℕ) (table : List Row) (rows_in : X → List Row) (listed : L → List ShortSet) (told : M → List SetSummary) where
+module _ {X L M E F G : Type 0} (s : ℕ) (table : List Row) (rows_in : X → List Row) (listed : L → List ShortColumns) (told : M → List SetSummary) where
   pub find_live : (outcome : Result X E) (found : Result L F) (result : Result M G) → (IsOk found → IsOk outcome) → (IsOk result → IsOk found)
-      → IfOk found (λ l. IfOk outcome (λ x. (list : List ShortSet) → rows_in x ≡ map short_shown list → listed l ≡ list))
+      → IfOk found (λ l. IfOk outcome (λ x. (list : List ShortColumns) → rows_in x ≡ map short_shown list → listed l ≡ list))
       → IfOk result (λ m. IfOk found (λ l. AllZip IsSummary (listed l) (told m)))
       → IfOk outcome (λ x. (columns : List SetColumns) → IsKept set_key set_row table columns → Rising (filter (is_live_set s) columns) → rows_in x ≡ map set_shown (filter (is_live_set s) columns))
       → IfOk result (λ m. (c : Content) → IsSound c → HoldsSets table c.sets → told m ≡ map set_summary (live_sets s c.sets))

@@ -1,6 +1,6 @@
 -- The statements on vector sets.
 use Rattle.std.proofs.Common.{◌≡◌, ◌⊎◌, inl, inr, ◌<◌, ◌≤◌, ◌^◌, ℕ, ℤ, pos, negsuc, List, [], ◌∷◌, ◌++◌, ◌+◌, ◌*◌, map, length, append_assoc, Bool, true, false, Option, Some, None, Ok, Err, Result, IfOk, IsOk, slice_get, refl, sym, ap, subst, ◌∙◌, arith}
-use Rattle.std.specs.Prelude.{◌==◌, drop, find, option_map, if◌then◌else◌}
+use Rattle.std.specs.Prelude.{◌==◌, drop, find, is_none, option_map, if◌then◌else◌}
 use Rattle.std.specs.List.{filter, list_all, AllZip}
 use Rattle.std.specs.List.Sorted.{IsPermutation}
 use Rattle.std.proofs.lemmas.Bool.{cases_Bool}
@@ -20,17 +20,18 @@ use Rattle.sqlite.specs.Does.{Tally, Does}
 use Rattle.sqlite.specs.Listing.{understood, reads_listing}
 use Rattle.sqlite_rules.specs.Calls.{ids_of}
 use Rattle.sqlite.proofs.Callers.{IsPlain, command_of, reads_as, statement_of}
-use Rattle.sqlite_sql.specs.declared.ops.BinaryOp.TheVariants.{Compare}
+use Rattle.sqlite_sql.specs.declared.ops.BinaryOp.TheVariants.{Compare, Is}
 use Rattle.sqlite_sql.specs.declared.ops.CompareOp.TheVariants.{Eq}
 use Rattle.sqlite_catalog.proofs.ListFacts.{zip_push}
 use Rattle.sqlite_trees.proofs.ListLemmas.{map-map}
 use Rattle.acvp_caps.specs.Capability.{CapabilityValue}
 use Rattle.acvp_caps.specs.Registered.{registered_text}
 use Rattle.acvp_answers.specs.VerdictText.{verdicts_text}
+use Rattle.acvp_answers.specs.Verdicts.{disposition_of}
 use Rattle.acvp_answers.specs.declared.verdict.Verdict.{Verdict}
 use Rattle.acvp_answers.specs.declared.verdict.Disposition.{Disposition}
 use Rattle.acvp_answers.specs.declared.verdict.Disposition.TheVariants.{Passed, Fail, Missing, Expired, Unreceived}
-use Rattle.acvp_json.specs.KeptAnswers.{kept_text}
+use Rattle.acvp_json.specs.KeptAnswers.{kept_text, kept_answers}
 use Rattle.acvp_tables.specs.Content.{set_at, set_summary, set_verdicts}
 use Rattle.acvp_tables.specs.Changes.{changed, is_set, cancelled_set, with_graded, new_sets}
 use Rattle.acvp_tables.specs.Graded.{GradedValue}
@@ -42,17 +43,34 @@ use Rattle.acvp_store.specs.Alters.{Alters}
 use Rattle.acvp_store.specs.Connection.{UnderStore, Both}
 use Rattle.acvp_store.specs.Kept.{IsKept}
 use Rattle.acvp_store.specs.Stands.{SetColumns, set_key, set_row, set_tree, disposition_number, IsGradedAs, IsSet, HoldsSets}
-use Rattle.acvp_store.specs.Private.Sets.{short_shown, short_of, IsDispositionOf, IsSummary, IsSummaryOf, new_set, AddsSets}
+use Rattle.acvp_store.specs.Private.Sets.{ShortColumns, short_shown, short_of, IsDispositionOf, IsGiven, IsSummary, IsSummaryOf, new_set, AddsSets}
 use Rattle.acvp_store.specs.Private.SetTexts.{text_shown, TellsCapability, AreVerdictsOf}
 use Rattle.acvp_store.proofs.Keyed.{none_passes, keyed, changing, keyed_same, find_is, none_fits}
 use Rattle.acvp_store.proofs.Parts.{and_true, cast_null, cast_whole, cast_flag, cast_option, cast_text_option}
-use Rattle.acvp_store.proofs.Selecting.{test_equals, test_none, selected}
+use Rattle.acvp_store.proofs.Selecting.{null_flag, test_equals, test_none, selected}
 use Rattle.acvp_store.proofs.Effects.{insert_effect, update_effect, spares_then}
 use Rattle.acvp_store.proofs.Places.{sets_at, sets_seen}
-use Rattle.acvp_store.proofs.Texts.{set_place, simple, equals, find_set, set_query, set_is, set_plain, set_unlisted, find_capability, capability_is, capability_plain, capability_unlisted, find_verdicts, verdicts_is, verdicts_plain, verdicts_unlisted, cancel_set, cancel_set_query, grade_set, grade_query, add_set, add_set_terms}
+use Rattle.acvp_store.proofs.Texts.{set_place, simple, equals, short_terms, find_set, set_is, set_plain, set_unlisted, find_capability, capability_is, capability_plain, capability_unlisted, find_verdicts, verdicts_is, verdicts_plain, verdicts_unlisted, cancel_set, cancel_set_query, grade_set, grade_query, add_set, add_set_terms}
 
 abbrev pub set_shown : SetColumns → Row
 set_shown c = short_shown (short_of c)
+
+-- ---- the columns that are read of a set
+
+null_is : (o : Option (List ℕ)) → binary (Is Binary) (or_null Text o) Null ≡ flag (is_none o)
+null_is None = null_flag Null
+null_is (Some text) = null_flag (Text text)
+
+pub short_shows : (params : Row) (c : SetColumns) → eval_all short_terms (params ∷ set_row c ∷ []) ≡ set_shown c
+short_shows params c = rw (null_is c.answers) refl
+
+-- where no disposition is that of the letters and the number, the columns are those of no set
+pub not_given : (c : ShortColumns) (text : List ℕ) (number : ℕ) → c.verdicts ≡ Some text → c.disposition ≡ Some number → ((d : Disposition) → ¬ IsGiven text number d) → (d : Option Disposition) → ¬ IsDispositionOf c d
+not_given c text number v n none None is = let impossible : Some text ≡ None = sym v ∙ is.1 in cc
+not_given c text number v n none (Some d) is =
+    let both : Some text ≡ Some (verdicts_text is.1) = sym v ∙ is.2 in
+    let same : text ≡ verdicts_text is.1 = cc in
+    none d (is.1, same, is.3, sym is.4 ∙ n)
 
 -- ---- the rows of a number
 
@@ -77,7 +95,7 @@ module _ (layout : Layout) (text : List ℕ) (names : List (List ℕ)) (project 
 
 pub set_rows : (layout : Layout) (n : ℕ) (k : ℤ) → (n < 2 ^ 63 → k ≡ pos n) → (2 ^ 63 ≤ n → k ≡ negsuc 0) → (old new : State) (rows : List Row) → old.now.schema ≡ schema_of layout → Shown find_set (Int k ∷ []) old new rows
     → (list : List SetColumns) (kept : IsKept set_key set_row (old.now.trees (set_tree layout)) list) → IsPermutation (map set_shown (keyed set_key n kept.ordered)) rows
-set_rows layout = rows_at layout find_set _ (set_query layout).project set_shown (λ k c. refl) (set_is layout) (set_plain layout) (set_unlisted layout)
+set_rows layout = rows_at layout find_set _ short_terms set_shown (λ k. short_shows (Int k ∷ [])) (set_is layout) (set_plain layout) (set_unlisted layout)
 
 pub capability_rows : (layout : Layout) (n : ℕ) (k : ℤ) → (n < 2 ^ 63 → k ≡ pos n) → (2 ^ 63 ≤ n → k ≡ negsuc 0) → (old new : State) (rows : List Row) → old.now.schema ≡ schema_of layout → Shown find_capability (Int k ∷ []) old new rows
     → (list : List SetColumns) (kept : IsKept set_key set_row (old.now.trees (set_tree layout)) list) → IsPermutation (map (λ c. text_shown (Some c.capability)) (keyed set_key n kept.ordered)) rows
@@ -99,17 +117,11 @@ back_is Passed n h = let e : 2 ≡ n = cc in subst (λ k. back k ≡ Passed) e r
 back_is Expired n h = absurd (cc)
 back_is Unreceived n h = absurd (cc)
 
-told_none : (d : Option Disposition) → IsDispositionOf None d → d ≡ None
-told_none None h = refl
-told_none (Some d) h = absurd h
-
-told_some : (n : ℕ) (e : Disposition) (d : Option Disposition) → disposition_number e ≡ Some n → IsDispositionOf (Some n) d → d ≡ Some e
-told_some n e None is h = absurd h
-told_some n e (Some d) is h = ap Some (sym (back_is d n h) ∙ back_is e n is)
-
-told : (c : SetColumns) (g : Option GradedValue) (d : Option Disposition) → IsGradedAs c g → IsDispositionOf c.disposition d → d ≡ option_map (λ (g : GradedValue). g.disposition) g
-told c None d h is = told_none d (subst (λ o. IsDispositionOf o d) h.2 is)
-told c (Some g) d h is = told_some h.2 g.disposition d h.4 (subst (λ o. IsDispositionOf o d) h.3 is)
+told : (c : SetColumns) (g : Option GradedValue) (d : Option Disposition) → IsGradedAs c g → IsDispositionOf (short_of c) d → d ≡ option_map (λ (g : GradedValue). g.disposition) g
+told c None None h is = refl
+told c None (Some d) h is = absurd (let is_there : c.verdicts ≡ Some (verdicts_text is.1) = is.2 in let is_not : c.verdicts ≡ None = h.1 in cc)
+told c (Some g) None h is = absurd (let is_not : c.verdicts ≡ None = is.1 in let is_there : c.verdicts ≡ Some (verdicts_text g.verdicts) = h.1 in cc)
+told c (Some g) (Some d) h is = ap Some (sym (back_is d h.2 (sym is.4 ∙ h.3)) ∙ back_is g.disposition h.2 h.4)
 
 pub summary_is : (c : SetColumns) (row : SetRow) (s : SetSummary) → IsSet c row → IsSummary (short_of c) s → s ≡ set_summary row
 summary_is c row s h is =
@@ -251,14 +263,14 @@ abbrev pub grade_params : ℕ → List ℕ → List ℕ → ℕ → Row
 grade_params n answers verdicts disposition = whole n ∷ Text answers ∷ Text verdicts ∷ whole disposition ∷ []
 
 -- the columns are those of graded answers
-pub grade_effect : (layout : Layout) (old : State) (n : ℕ) (g : GradedValue) (answers verdicts : List ℕ) (disposition : ℕ) → answers ≡ kept_text g.answers → verdicts ≡ verdicts_text g.verdicts → disposition_number g.disposition ≡ Some disposition
+pub grade_effect : (layout : Layout) (old : State) (n : ℕ) (g : GradedValue) (answers verdicts : List ℕ) (disposition : ℕ) → answers ≡ kept_text g.answers → kept_answers answers ≡ Some g.answers → verdicts ≡ verdicts_text g.verdicts → disposition_number g.disposition ≡ Some disposition → g.disposition ≡ disposition_of g.verdicts
     → old.now.schema ≡ schema_of layout → (tally : Tally) (after : Database)
     → Does old.step_limit (mode_of old) (grade_params n answers verdicts disposition) old.now (statement_of grade_set (understood (schema_of layout) grade_set)) None (Update (set_place layout) (record { lets = []; body = (grade_query layout) })) (Ok (tally, after))
     → Alters layout (set_tree layout) HoldsSets (changed (is_set n) (with_graded g)) old.now after
-grade_effect layout old n g answers verdicts disposition a v d schema tally after does =
+grade_effect layout old n g answers verdicts disposition a back v d given schema tally after does =
     set_effect layout (grade_query layout).filter (grade_query layout).project (grade_params n answers verdicts disposition) n (answered answers verdicts disposition) (λ c. refl) (answers_in answers verdicts disposition) (λ c. refl) (cast_answers (set_tree layout) answers verdicts disposition)
     (λ c. rw test_equals (and_true _)) (λ c. refl) (with_graded g)
-    (λ c row is. record { number = is.number; session = is.session; capability = is.capability; cancelled = is.cancelled; graded = (ap Some a, ap Some v, disposition, refl, d); epoch = is.epoch })
+    (λ c row is. record { number = is.number; session = is.session; capability = is.capability; cancelled = is.cancelled; graded = (ap Some a, ap Some v, disposition, refl, d, subst (λ t. kept_answers t ≡ Some g.answers) a back, given); epoch = is.epoch })
     old (statement_of grade_set (understood (schema_of layout) grade_set)) schema tally after does
 
 -- ---- a new set

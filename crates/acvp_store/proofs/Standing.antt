@@ -1,7 +1,7 @@
 -- From what statements do to what the tables promise.
 use Rattle.std.proofs.Common.{◌≡◌, ◌<◌, ◌^◌, inl, inr, ℕ, List, [], ◌∷◌, ◌++◌, true, Result, Ok, Err, IsTrue, IfOk, IfErr, OnOk, refl, sym, ap, subst, ◌∙◌}
 use Rattle.std.specs.Prelude.{◌==◌, not, filter, if◌then◌else◌}
-use Rattle.std.specs.List.{AllByRecursion}
+use Rattle.std.specs.List.{list_any, AllByRecursion}
 use Rattle.std.proofs.lemmas.Bool.{cases_Bool}
 use Rattle.std.proofs.lemmas.List.Sorted.{IsPermutation-refl}
 use Rattle.sqlite.specs.Effect.{Database, IsDatabase}
@@ -37,6 +37,7 @@ use Rattle.acvp_tables.specs.declared.tables.StoreFault.{StoreFault}
 use Rattle.acvp_store.specs.Kept.{IsKept}
 use Rattle.acvp_store.specs.Rows.{account_tree, HoldsAccounts, session_tree, HoldsSessions}
 use Rattle.acvp_store.specs.Schema.{Layout, Created, no_schema, schema_of}
+use Rattle.acvp_store.specs.Version.{is_version_row}
 use Rattle.acvp_store.specs.Stands.{Stands, set_tree, HoldsSets, HoldsObjects, IsKeepable, FitColumns, BodyReads, request_tree, HoldsRequests, reviewer_tree, HoldsReviewers}
 use Rattle.acvp_store.specs.Connection.{ServesStore, InStore, IsRead, IsWritten, StaysSound, Under, UnderStore, Both}
 use Rattle.acvp_store.specs.Alters.{Alters}
@@ -238,7 +239,7 @@ module _ {S : Type 0} (g : Ghosts S) (a m b : Held S) (change : Content → Cont
 
 pub accounts_altered : (change : List AccountRow → List AccountRow) (layout : Layout) (d e : Database) → Alters layout account_tree HoldsAccounts change d e → (c : Content) → Stands layout d.trees c → Stands layout e.trees (record c { accounts = change c.accounts })
 accounts_altered change layout d e h c st = record {
-  version = h.others.0 (apart 0 2 refl) ∙ st.version;
+  version = ap (list_any (is_version_row 3)) (h.others.0 (apart 0 2 refl)) ∙ st.version;
   accounts = h.kept c.accounts st.accounts;
   sessions = subst (λ rows. HoldsSessions rows c.sessions) (sym (h.others.1.1.0 (apart 3 2 refl))) st.sessions;
   sets = subst (λ rows. HoldsSets rows c.sets) (sym (sets_spared layout 2 d.trees e.trees (set_apart layout 2 refl refl) h.others)) st.sets;
@@ -251,7 +252,7 @@ accounts_altered change layout d e h c st = record {
 
 pub sessions_altered : (change : List SessionRow → List SessionRow) (layout : Layout) (d e : Database) → Alters layout session_tree HoldsSessions change d e → (c : Content) → Stands layout d.trees c → Stands layout e.trees (record c { sessions = change c.sessions })
 sessions_altered change layout d e h c st = record {
-  version = h.others.0 (apart 0 3 refl) ∙ st.version;
+  version = ap (list_any (is_version_row 3)) (h.others.0 (apart 0 3 refl)) ∙ st.version;
   accounts = subst (λ rows. HoldsAccounts rows c.accounts) (sym (h.others.1.0 (apart 2 3 refl))) st.accounts;
   sessions = h.kept c.sessions st.sessions;
   sets = subst (λ rows. HoldsSets rows c.sets) (sym (sets_spared layout 3 d.trees e.trees (set_apart layout 3 refl refl) h.others)) st.sets;
@@ -264,7 +265,7 @@ sessions_altered change layout d e h c st = record {
 
 pub sets_altered : (change : List SetRow → List SetRow) (layout : Layout) (d e : Database) → Alters layout (set_tree layout) HoldsSets change d e → (c : Content) → Stands layout d.trees c → Stands layout e.trees (record c { sets = change c.sets })
 sets_altered change layout d e h c st = record {
-  version = h.others.0 (λ e. set_apart layout 0 refl refl (sym e)) ∙ st.version;
+  version = ap (list_any (is_version_row 3)) (h.others.0 (λ e. set_apart layout 0 refl refl (sym e))) ∙ st.version;
   accounts = subst (λ rows. HoldsAccounts rows c.accounts) (sym (h.others.1.0 (λ e. set_apart layout 2 refl refl (sym e)))) st.accounts;
   sessions = subst (λ rows. HoldsSessions rows c.sessions) (sym (h.others.1.1.0 (λ e. set_apart layout 3 refl refl (sym e)))) st.sessions;
   sets = h.kept c.sets st.sets;
@@ -277,7 +278,7 @@ sets_altered change layout d e h c st = record {
 
 pub requests_altered : (change : List RequestRow → List RequestRow) (layout : Layout) (d e : Database) → Alters layout request_tree HoldsRequests change d e → (c : Content) → Stands layout d.trees c → Stands layout e.trees (record c { requests = change c.requests })
 requests_altered change layout d e h c st = record {
-  version = h.others.0 (apart 0 7 refl) ∙ st.version;
+  version = ap (list_any (is_version_row 3)) (h.others.0 (apart 0 7 refl)) ∙ st.version;
   accounts = subst (λ rows. HoldsAccounts rows c.accounts) (sym (h.others.1.0 (apart 2 7 refl))) st.accounts;
   sessions = subst (λ rows. HoldsSessions rows c.sessions) (sym (h.others.1.1.0 (apart 3 7 refl))) st.sessions;
   sets = subst (λ rows. HoldsSets rows c.sets) (sym (sets_spared layout 7 d.trees e.trees (set_apart layout 7 refl refl) h.others)) st.sets;
@@ -290,7 +291,7 @@ requests_altered change layout d e h c st = record {
 
 pub reviewers_altered : (change : List ReviewerRow → List ReviewerRow) (layout : Layout) (d e : Database) → Alters layout (reviewer_tree layout) HoldsReviewers change d e → (c : Content) → Stands layout d.trees c → Stands layout e.trees (record c { reviewers = change c.reviewers })
 reviewers_altered change layout d e h c st = record {
-  version = h.others.0 (λ e. reviewer_apart layout 0 refl refl (sym e)) ∙ st.version;
+  version = ap (list_any (is_version_row 3)) (h.others.0 (λ e. reviewer_apart layout 0 refl refl (sym e))) ∙ st.version;
   accounts = subst (λ rows. HoldsAccounts rows c.accounts) (sym (h.others.1.0 (λ e. reviewer_apart layout 2 refl refl (sym e)))) st.accounts;
   sessions = subst (λ rows. HoldsSessions rows c.sessions) (sym (h.others.1.1.0 (λ e. reviewer_apart layout 3 refl refl (sym e)))) st.sessions;
   sets = subst (λ rows. HoldsSets rows c.sets) (sym (sets_spared layout (reviewer_tree layout) d.trees e.trees (set_is_no_reviewer layout) h.others)) st.sets;
@@ -368,7 +369,7 @@ fit_registered n number low (r ∷ requests) all = elim (cases_Bool (r.number ==
 
 registered : (n number : ℕ) (layout : Layout) (d e : Database) → Registers layout n number d e → (c : Content) → IsSound c → Stands layout d.trees c → Stands layout e.trees (record c { objects = c.objects ++ approved_objects (request_at n c.requests) number })
 registered n number layout d e h c sound st = record {
-  version = h.others.0 (apart 0 5 refl) ∙ st.version;
+  version = ap (list_any (is_version_row 3)) (h.others.0 (apart 0 5 refl)) ∙ st.version;
   accounts = subst (λ rows. HoldsAccounts rows c.accounts) (sym (h.others.1.0 (apart 2 5 refl))) st.accounts;
   sessions = subst (λ rows. HoldsSessions rows c.sessions) (sym (h.others.1.1.0 (apart 3 5 refl))) st.sessions;
   sets = subst (λ rows. HoldsSets rows c.sets) (sym (sets_spared layout 5 d.trees e.trees (set_apart layout 5 refl refl) h.others)) st.sets;

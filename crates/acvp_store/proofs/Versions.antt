@@ -1,26 +1,30 @@
 -- Whether the table `meta` names the version.
-use Rattle.std.proofs.Common.{inl, inr, ◌≡◌, ℕ, List, [], ◌∷◌, map, length, Bool, true, false, Ok, Err, Result, IfOk, IsOk, codes, refl, sym, ap, ◌∙◌, arith}
-use Rattle.std.specs.Prelude.{nat_lt}
+use Rattle.std.proofs.Common.{inl, inr, ◌≡◌, ℕ, List, [], ◌∷◌, map, length, Bool, true, false, Ok, Err, Result, IfOk, IsOk, codes, refl, sym, ap, subst, ◌∙◌, arith}
+use Rattle.std.specs.Prelude.{◌==◌, nat_lt}
 use Rattle.std.specs.List.{filter, list_any}
 use Rattle.std.specs.List.Sorted.{IsPermutation}
 use Rattle.std.specs.Ordering.{is_eq}
 use Rattle.std.proofs.lemmas.Bool.Decides.{nat_tests}
+use Rattle.std.proofs.lemmas.Map.Text.{is_eq-slice_cmp}
+use Rattle.std.proofs.lemmas.Slice.Eq.{bytes_eq-Decides}
 use Rattle.sqlite.specs.Collation.TheVariants.{Binary}
 use Rattle.sqlite.specs.declared.types.Value.{Value}
 use Rattle.sqlite.specs.declared.types.Value.TheVariants.{Null, Int, Real, Text, Blob}
 use Rattle.sqlite.specs.Ops.{is_true, binary}
 use Rattle.sqlite.specs.Order.{Row, column}
 use Rattle.sqlite.specs.Program.{overlay}
+use Rattle.sqlite_trees.specs.Tree.{Trees}
 use Rattle.sqlite.specs.State.{State, Shown}
 use Rattle.sqlite.proofs.Callers.{reads_as}
 use Rattle.sqlite_sql.specs.declared.ops.BinaryOp.TheVariants.{Compare}
 use Rattle.sqlite_sql.specs.declared.ops.CompareOp.TheVariants.{Eq}
-use Rattle.sqlite_value.proofs.OrderLemmas.{value_cmp-apart}
-use Rattle.acvp_store.specs.Adopted.{is_equal, is_version_row}
+use Rattle.sqlite_value.proofs.OrderLemmas.{value_cmp-apart, value_cmp-Text}
+use Rattle.acvp_store.specs.Version.{is_equal, is_version_row, HasVersion, version_row}
 use Rattle.acvp_store.specs.Private.Migration.{HasOldTable}
 use Rattle.acvp_store.specs.Values.{whole}
 use Rattle.sqlite.specs.Schema.{Schema}
 use Rattle.acvp_store.specs.Schema.{Migrated, schema_of, SchemaVersion, schema_at, second_schema}
+use Rattle.acvp_store.proofs.Keyed.{same_whole}
 use Rattle.acvp_store.proofs.Parts.{both_true}
 use Rattle.acvp_store.proofs.ReviewerRows.{any_passes}
 use Rattle.acvp_store.proofs.Selecting.{truth_back, selected}
@@ -35,13 +39,31 @@ test_text (Real x) s = truth_back _
 test_text (Text t) s = truth_back _
 test_text (Blob b) s = truth_back _
 
-test_whole : (v : Value) (n : ℕ) → is_true (binary (Compare Eq Binary) v (whole n)) ≡ is_equal v (whole n)
+pub test_whole : (v : Value) (n : ℕ) → is_true (binary (Compare Eq Binary) v (whole n)) ≡ is_equal v (whole n)
 unfolding binary
 test_whole Null n = sym (ap is_eq (value_cmp-apart Null (whole n) (λ e. absurd (omega arith))))
 test_whole (Int m) n = truth_back _
 test_whole (Real x) n = truth_back _
 test_whole (Text t) n = truth_back _
 test_whole (Blob b) n = truth_back _
+
+-- a text that is equal to one is that
+its_text_of : (s : List ℕ) (v : Value) → is_equal v (Text s) ≡ true → v ≡ Text s
+its_text_of s Null is = absurd (let apart = value_cmp-apart Null (Text s) (λ e. absurd (omega arith)) in cc)
+its_text_of s (Int n) is = absurd (let apart = value_cmp-apart (Int n) (Text s) (λ e. absurd (omega arith)) in cc)
+its_text_of s (Real x) is = absurd (let apart = value_cmp-apart (Real x) (Text s) (λ e. absurd (omega arith)) in cc)
+its_text_of s (Text t) is = ap Text ((bytes_eq-Decides t s).0 (sym (ap is_eq (value_cmp-Text t s) ∙ is_eq-slice_cmp t s) ∙ is))
+its_text_of s (Blob b) is = absurd (let apart = value_cmp-apart (Blob b) (Text s) (λ e. absurd (omega arith)) in cc)
+
+pub its_text : (v : Value) → is_equal v (Text (codes "schema")) ≡ true → v ≡ Text (codes "schema")
+its_text = its_text_of (codes "schema")
+
+pub its_name : is_equal (Text (codes "schema")) (Text (codes "schema")) ≡ true
+its_name = ap is_eq (value_cmp-Text (codes "schema") (codes "schema"))
+
+-- the row as it is made names its version
+pub named_so : (n : ℕ) (trees : Trees) → trees 0 ≡ version_row n ∷ [] → HasVersion n trees
+named_so n trees is = let same : (n == n) ≡ true = grind (arith, nat_tests) in subst (λ rows. list_any (is_version_row n) rows ≡ true) (sym is) (rw (its_name, same_whole n n, same) refl)
 
 abbrev value_of : Row → Row
 value_of row = column row 2 ∷ []

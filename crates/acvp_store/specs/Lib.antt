@@ -1,6 +1,7 @@
 pub mod Values
 pub mod Kept
 pub mod Rows
+pub mod Version
 pub mod Stands
 pub mod Schema
 pub mod Connection

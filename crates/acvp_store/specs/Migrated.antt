@@ -4,7 +4,7 @@ use Rattle.sqlite.specs.Effect.{Database, IsDatabase}
 use Rattle.sqlite.specs.State.{State}
 use Rattle.sqlite_trees.specs.Tree.{Trees}
 use Rattle.acvp_tables.specs.Content.{Content}
-use Rattle.acvp_store.specs.Adopted.{HasVersion}
+use Rattle.acvp_store.specs.Version.{HasVersion}
 use Rattle.acvp_store.specs.Schema.{Layout, Migrated, SchemaVersion, First, Second, Third, schema_at, schema_of, version_number}
 use Rattle.acvp_store.specs.Stands.{StandsAt, Stands, HasNoOldSetsAt}
 

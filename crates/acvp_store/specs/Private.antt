@@ -1,10 +1,12 @@
 pub mod Creating
+pub mod Shown
+pub mod Columns
 pub mod Sets
-pub mod Requests
 pub mod Objects
 pub mod SetTexts
 pub mod Pages
 pub mod Summaries
+pub mod Requests
 pub mod Bare
 pub mod Clean
 pub mod Found

@@ -1,22 +1,23 @@
 -- Which rows of the tables stand for a content.
-use Rattle.std.specs.Prelude.{◌≡◌, ◌<◌, ◌^◌, ⊤, ℕ, Bool, List, [], ◌∷◌, map, codes, Option, Some, None, Ok, unwrap_or}
+use Rattle.std.specs.Prelude.{◌≡◌, ◌<◌, ◌<ℤ◌, ◌^◌, ⊤, ℕ, ℤ, Bool, List, [], ◌∷◌, map, codes, Option, Some, None, Ok, unwrap_or}
 use Rattle.std.specs.List.{AllZip, AllByRecursion}
 use Rattle.std.specs.List.Sorted.{IsPermutation}
 use Rattle.serde_json.specs.Data.{Data, number, unsigned, string, object, member, no_members}
 use Rattle.serde_json.specs.Written.{compact_text}
 use Rattle.sqlite.specs.Values.{or_null}
-use Rattle.sqlite_value.specs.declared.value.Value.TheVariants.{Null, Text}
+use Rattle.sqlite_value.specs.declared.value.Value.TheVariants.{Null, Int, Text}
 use Rattle.sqlite_value.specs.Order.{Row}
 use Rattle.sqlite_trees.specs.Tree.{Trees, IsAscending}
 use Rattle.acvp_caps.specs.Registered.{registered_text}
 use Rattle.acvp_answers.specs.VerdictText.{verdicts_text}
+use Rattle.acvp_answers.specs.Verdicts.{disposition_of}
 use Rattle.acvp_answers.specs.declared.verdict.Disposition.{Disposition}
 use Rattle.acvp_answers.specs.declared.verdict.Disposition.TheVariants.{Passed, Fail, Missing, Expired, Unreceived}
 use Rattle.acvp_registry.specs.declared.kind.Kind.TheVariants.{Module, Environment}
 use Rattle.acvp_registry.specs.Json.{body_json}
 use Rattle.acvp_registry.specs.Object.{object_text}
 use Rattle.acvp_registry.specs.Url.{url_of}
-use Rattle.acvp_json.specs.KeptAnswers.{kept_text}
+use Rattle.acvp_json.specs.KeptAnswers.{kept_text, kept_answers}
 use Rattle.acvp_tables.specs.Content.{Content, kind_number}
 use Rattle.acvp_tables.specs.Graded.{GradedValue}
 use Rattle.acvp_tables.specs.State.{given_number}
@@ -31,14 +32,9 @@ use Rattle.acvp_tables.specs.declared.rows.Certification.{Certification}
 use Rattle.acvp_tables.specs.declared.rows.ReviewerRow.{ReviewerRow}
 use Rattle.acvp_store.specs.Values.{whole, flag}
 use Rattle.acvp_store.specs.Kept.{IsKept}
+use Rattle.acvp_store.specs.Version.{HasVersion}
 use Rattle.acvp_store.specs.Schema.{Layout, Created, Migrated, SchemaVersion, First, Second, Third, version_number}
 use Rattle.acvp_store.specs.Rows.{account_tree, HoldsAccounts, session_tree, HoldsSessions}
-
--- ---- the version
-
--- the row of the table `meta` that names the schema's version
-abbrev pub version_row : ℕ → Row
-version_row version = whole 1 ∷ Text (codes "schema") ∷ whole version ∷ []
 
 -- ---- vector sets
 
@@ -71,11 +67,13 @@ disposition_number Passed = Some 2
 disposition_number Expired = None
 disposition_number Unreceived = None
 
--- answers, verdicts and disposition are there together
+-- Answers, verdicts and disposition are there together. The text of the answers reads as they, which ascend, and the
+-- disposition is the one that the verdicts give.
 abbrev pub IsGradedAs : SetColumns → Option GradedValue → Type 0
 IsGradedAs c None = (c.answers ≡ None) × (c.verdicts ≡ None) × (c.disposition ≡ None)
 IsGradedAs c (Some g) = (c.answers ≡ Some (kept_text g.answers)) × (c.verdicts ≡ Some (verdicts_text g.verdicts))
-    × (n : ℕ) × (c.disposition ≡ Some n) × (disposition_number g.disposition ≡ Some n)
+    × (n : ℕ) × (c.disposition ≡ Some n) × (disposition_number g.disposition ≡ Some n) × (kept_answers (kept_text g.answers) ≡ Some g.answers)
+    × (g.disposition ≡ disposition_of g.verdicts)
 
 -- the columns are those of the set: the text of the capability reads as it
 pub record IsSet (c : SetColumns) (row : SetRow) : Type 0 where
@@ -111,17 +109,17 @@ pub record HoldsOldSets (rows : List Row) (sets : List SetRow) : Type 0 where
 -- ---- tables under a key of two columns: each row has a number in its tree that the database chose
 
 pub record Entry (A : Type 0) : Type 0 where
-  pub id : ℕ
+  pub id : ℤ
   pub row : A
 
 abbrev pub entry_row : {A : Type 0} → (A → Row) → Entry A → Row
-entry_row columns e = whole e.id ∷ columns e.row
+entry_row columns e = Int e.id ∷ columns e.row
 
 -- the rows are those of the list's members, in the order of these numbers
 pub record HoldsEntries {A : Type 0} (columns : A → Row) (rows : List Row) (list : List A) : Type 0 where
   pub entries : List (Entry A)
   pub rows_are : rows ≡ map (entry_row columns) entries
-  pub rising : IsAscending (λ a b. a.id < b.id) entries
+  pub rising : IsAscending (λ a b. a.id <ℤ b.id) entries
   pub same : IsPermutation (map (λ e. e.row) entries) list
 
 abbrev pub object_tree : ℕ
@@ -220,7 +218,7 @@ HasNoOldSetsAt (Third layout) trees = HasNoOldSets layout trees
 
 -- the rows of the tables of a version
 pub record StandsAt (version_of : SchemaVersion) (trees : Trees) (c : Content) : Type 0 where
-  pub version : trees 0 ≡ version_row (version_number version_of) ∷ []
+  pub version : HasVersion (version_number version_of) trees
   pub accounts : HoldsAccounts (trees account_tree) c.accounts
   pub sessions : HoldsSessions (trees session_tree) c.sessions
   pub sets : HoldsSetsAt version_of trees c.sets

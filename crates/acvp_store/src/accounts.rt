@@ -1,5 +1,5 @@
 //! The table of accounts.
-ghost use Rattle.std.specs.Prelude.{◌≡◌, ◌++◌, ◌∷◌, [], IsTrue, IfOk, List};
+ghost use Rattle.std.specs.Prelude.{◌≡◌, ◌<◌, ◌^◌, length, ◌++◌, ◌∷◌, [], IsTrue, IfOk, List};
 ghost use Rattle.sqlite.specs.Held.{state};
 ghost use Rattle.acvp_tables.specs.Content.{account_at};
 ghost use Rattle.acvp_tables.specs.Changes.{changed, is_account, with_step, disabled, new_account};
@@ -7,6 +7,8 @@ ghost use Rattle.acvp_tables.specs.declared.rows.AccountRow.{AccountRow as Accou
 ghost use Rattle.acvp_store.specs.Alters.{Alters};
 ghost use Rattle.acvp_store.specs.Connection.{ServesStore, IsRead, IsInside, UnderStore};
 ghost use Rattle.acvp_store.specs.Rows.{account_tree, HoldsAccounts, account_shown};
+ghost use Rattle.acvp_store.specs.Private.Columns.{account_columns};
+ghost use Rattle.acvp_store.specs.Private.Shown.{AreMet, is_under};
 
 use crate::fault::done;
 use crate::shown::{Shown, account_number, answered, field, fitting, truth};
@@ -15,9 +17,14 @@ use acvp_tables::{AccountRow, NewAccount, StoreFault, UsedStep};
 use sqlite::{Alter, Connection, Row, Transaction, params};
 
 impl Shown for AccountRow {
+    ghost use Rattle.std.specs.Prelude.{◌≡◌, ◌<◌, ◌^◌, length};
     ghost use Rattle.acvp_store.specs.Rows.{account_shown};
 
     ghost shown = { account_shown };
+
+    ghost fits = { λ a. (a.number < 2 ^ 16) × (length a.secret ≡ 32) };
+
+    ghost judged_so = { λ a. (a.number < 2 ^ 16) × (length a.secret ≡ 32) };
 
     fn read(row: &Row) -> Result<AccountRow, StoreFault> {
         let number = account_number(row, 0)?;
@@ -43,6 +50,7 @@ pub(crate) fn find_account<S: Alter>(
 ) -> Result<Option<AccountRow>, StoreFault>
     requires { ServesStore (state S.Store conn.old) }
     ensures found { IsTrue (state S.Store conn.new).is_open → IfOk result (λ found. (accounts : List Account) → HoldsAccounts ((state S.Store conn.old).now.trees account_tree) accounts → found ≡ account_at number accounts) }
+    ensures judged { IsTrue (state S.Store conn.new).is_open → IfOk result (λ _. AreMet (is_under number) account_columns account_shown (λ a. (a.number < 2 ^ 16) × (length a.secret ≡ 32)) ((state S.Store conn.old).now.trees account_tree)) }
     ensures read { IsRead result (state S.Store conn.old) (state S.Store conn.new) }
 {
     answered(conn.query_all(

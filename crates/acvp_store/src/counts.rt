@@ -1,14 +1,15 @@
 //! How many rows an account has. Their numbers have no gaps, so the greatest of them tells.
-ghost use Rattle.std.specs.Prelude.{◌≡◌, ◌*◌, ◌+◌, ℕ, length, IsTrue, IfOk, IsOk};
+ghost use Rattle.std.specs.Prelude.{◌≡◌, ◌≢◌, ◌<◌, ◌*◌, ◌+◌, ℕ, length, IsTrue, IfErr, IfOk, IsOk};
 ghost use Rattle.sqlite.specs.Held.{state};
+ghost use Rattle.sqlite_value.specs.Order.{column};
 ghost use Rattle.acvp_tables.specs.Content.{Content, sessions_of, objects_of, requests_of, count_of, counts_of};
 ghost use Rattle.acvp_tables.specs.State.{IsSound};
 ghost use Rattle.acvp_store.specs.Connection.{ServesStore, IsRead};
 ghost use Rattle.acvp_store.specs.Rows.{session_tree, HoldsSessions};
 ghost use Rattle.acvp_store.specs.Stands.{object_tree, request_tree, HoldsObjects, HoldsRequests};
 ghost use Rattle.acvp_store.specs.Values.{whole};
-ghost use Rattle.sqlite_value.specs.Order.{column};
 ghost use Rattle.acvp_store.specs.Private.Pages.{greatest};
+ghost use Rattle.acvp_store.specs.Private.Shown.{IsRefusedOf};
 
 use crate::fault::fault_of;
 use crate::objects::kind_number;
@@ -21,6 +22,7 @@ use sqlite::{Alter, Connection, Error, Row, params};
 /// How many rows an account has, by the query for their greatest number.
 fn counted(account: u16, outcome: Result<Vec<Row>, Error>) -> Result<u64, StoreFault>
     ensures found { IfOk result (λ found. IfOk outcome (λ rows. (n : ℕ) → rows.items ≡ greatest (account * 1000000) n → found ≡ n)) }
+    ensures refused { IfErr result (λ fault. fault ≡ StoreFault.Refused → IsRefusedOf (λ rows. (n : ℕ) → rows.items ≢ greatest (account * 1000000) n) outcome) }
     ensures ok { IsOk result → IsOk outcome }
 {
     match outcome {
@@ -34,7 +36,8 @@ fn counted(account: u16, outcome: Result<Vec<Row>, Error>) -> Result<u64, StoreF
 
 /// How many numbers an account has given up to that in a row.
 fn given_since(account: u16, row: &Row) -> Result<u64, StoreFault>
-    ensures { IfOk result (λ n. column row.now 0 ≡ whole (account * 1000000 + n)) }
+    ensures given { IfOk result (λ n. column row.now 0 ≡ whole (account * 1000000 + n)) }
+    ensures refused { IfErr result (λ fault. fault ≡ StoreFault.Refused → 0 < length row.now → (n : ℕ) → column row.now 0 ≢ whole (account * 1000000 + n)) }
 {
     let number: u64 = field(row, 0)?;
     match number.checked_sub(u64::from(account) * 1000000) {

@@ -1,5 +1,5 @@
 //! The table of registered objects.
-ghost use Rattle.std.specs.Prelude.{◌≡◌, IsTrue, IfOk, List, Some, option_map, string_bytes};
+ghost use Rattle.std.specs.Prelude.{◌≡◌, ◌≢◌, ◌<◌, ◌^◌, IsTrue, IfErr, IfOk, List, Some, option_map, string_bytes};
 ghost use Rattle.sqlite.specs.Held.{state};
 ghost use Rattle.acvp_registry.specs.Json.{body_json};
 ghost use Rattle.acvp_registry.specs.Object.{KeptObject, object_text};
@@ -7,8 +7,10 @@ ghost use Rattle.acvp_tables.specs.Content.{Content, kind_number, object_at, obj
 ghost use Rattle.acvp_tables.specs.State.{IsSound};
 ghost use Rattle.acvp_tables.specs.declared.rows.ObjectRow.{ObjectRow as Registration};
 ghost use Rattle.acvp_store.specs.Connection.{ServesStore, IsRead, IsInside, UnderStore};
-ghost use Rattle.acvp_store.specs.Private.Objects.{Registers};
-ghost use Rattle.acvp_store.specs.Stands.{HoldsObjects, FitColumns, object_tree};
+ghost use Rattle.acvp_store.specs.Private.Columns.{columns_of_object};
+ghost use Rattle.acvp_store.specs.Private.Objects.{IsObject, Registers};
+ghost use Rattle.acvp_store.specs.Private.Shown.{AreMet, is_of};
+ghost use Rattle.acvp_store.specs.Stands.{HoldsObjects, FitColumns, object_columns, object_tree};
 
 use crate::fault::done;
 use crate::pages::{Member, listed, only, page_of};
@@ -22,10 +24,15 @@ use std::alloc::Global;
 
 /// An account's number, alone in its row.
 impl Shown for u16 {
+    ghost use Rattle.std.specs.Prelude.{◌<◌, ◌^◌};
     ghost use Rattle.std.specs.Prelude.{◌∷◌, []};
     ghost use Rattle.acvp_store.specs.Values.{whole};
 
     ghost shown = { λ account. whole account ∷ [] };
+
+    ghost fits = { λ account. account < 2 ^ 16 };
+
+    ghost judged_so = { λ account. account < 2 ^ 16 };
 
     fn read(row: &Row) -> Result<u16, StoreFault> {
         account_number(row, 0)
@@ -33,12 +40,17 @@ impl Shown for u16 {
 }
 
 impl Member for u16 {
+    ghost use Rattle.std.specs.Prelude.{◌<◌, ◌^◌};
     ghost use Rattle.std.specs.Prelude.{◌∷◌, [], ⊤};
     ghost use Rattle.acvp_store.specs.Values.{whole};
 
     ghost listed_as = { λ account. whole account ∷ [] };
 
     ghost reads = { λ _. ⊤ };
+
+    ghost fits = { λ account. account < 2 ^ 16 };
+
+    ghost judged_so = { λ account. account < 2 ^ 16 };
 
     fn from_row(row: &Row) -> Result<u16, StoreFault> {
         account_number(row, 0)
@@ -73,26 +85,41 @@ pub(crate) fn find_owner<S: Alter>(
     ))
 }
 
-/// The object of a kind's number and a text.
-fn kept_object(kind: u32, text: String) -> Result<Object, StoreFault>
-    ensures { IfOk result (λ found. (o : KeptObject) → body_json (object_text o) ≡ Some o.value → kind ≡ kind_number o.kind → string_bytes text ≡ object_text o → found ≡ o) }
+/// The object of a kind's number and a text. It is Refused where the text isn't that of such an object.
+pub(crate) fn kept_object(kind: u32, text: String) -> Result<Object, StoreFault>
+    ensures known { IfOk result (λ found. (o : KeptObject) → body_json (object_text o) ≡ Some o.value → kind ≡ kind_number o.kind → string_bytes text ≡ object_text o → found ≡ o) }
+    ensures judged { IfOk result (λ found. (kind ≡ kind_number found.kind) × (string_bytes text ≡ object_text found) × IsObject found) }
+    ensures refused { IfErr result (λ fault. fault ≡ StoreFault.Refused → (o : KeptObject) → IsObject o → body_json (object_text o) ≡ Some o.value → kind ≡ kind_number o.kind → string_bytes text ≢ object_text o) }
 {
     let alloc = *text.allocator();
     let kind = registered_kind(kind)?;
-    let value = kept_value(text)?;
-    match read_object(alloc, kind, &value) {
-        Ok(object) => Ok(object),
-        Err(RegFault::Memory) => Err(StoreFault::Memory),
-        Err(_) => Err(StoreFault::Refused),
+    let value = kept_value(alloc, text.as_str())?;
+    let object = match read_object(alloc, kind, &value) {
+        Ok(object) => object,
+        Err(RegFault::Memory) => return Err(StoreFault::Memory),
+        Err(_) => return Err(StoreFault::Refused),
+    };
+    if object.text() == text.as_str() {
+        Ok(object)
+    } else {
+        Err(StoreFault::Refused)
     }
 }
 
 impl Member for ObjectRow {
+    ghost use Rattle.std.specs.Prelude.{◌<◌, ◌^◌};
+    ghost use Rattle.std.specs.Prelude.{IsUtf8};
+    ghost use Rattle.acvp_registry.specs.Object.{object_text};
+    ghost use Rattle.acvp_store.specs.Private.Objects.{IsObject};
     ghost use Rattle.acvp_store.specs.Stands.{IsKeepable, object_columns};
 
     ghost listed_as = { object_columns };
 
     ghost reads = { IsKeepable };
+
+    ghost fits = { λ o. (o.account < 2 ^ 16) × IsObject o.object × IsUtf8 (object_text o.object) };
+
+    ghost judged_so = { λ o. (o.account < 2 ^ 16) × IsObject o.object };
 
     fn from_row(row: &Row) -> Result<ObjectRow, StoreFault> {
         let kind: u32 = field(row, 0)?;
@@ -115,6 +142,7 @@ pub(crate) fn find_object<S: Alter>(
 ) -> Result<Option<ObjectRow>, StoreFault>
     requires { ServesStore (state S.Store conn.old) }
     ensures found { IsTrue (state S.Store conn.new).is_open → IfOk result (λ found. (c : Content) → IsSound c → HoldsObjects ((state S.Store conn.old).now.trees object_tree) c.objects → FitColumns c.objects → found ≡ object_at kind number c.objects) }
+    ensures judged { IsTrue (state S.Store conn.new).is_open → number < 2 ^ 63 → IfOk result (λ _. AreMet (is_of (kind_number kind) number) columns_of_object object_columns (λ o. (o.account < 2 ^ 16) × IsObject o.object) ((state S.Store conn.old).now.trees object_tree)) }
     ensures read { IsRead result (state S.Store conn.old) (state S.Store conn.new) }
 {
     only(conn.query_all(
@@ -155,7 +183,7 @@ pub(crate) struct Registered {
 
 impl Work for Registered {
     ghost use Rattle.acvp_store.specs.Connection.{UnderStore};
-    ghost use Rattle.acvp_store.specs.Private.Objects.{Registers};
+    ghost use Rattle.acvp_store.specs.Private.Objects.{IsObject, Registers};
 
     ghost change = { λ r. UnderStore (λ layout. Registers layout r.request r.number) };
 

@@ -1,29 +1,35 @@
 //! The table of requests.
-ghost use Rattle.std.specs.Prelude.{◌≡◌, ◌++◌, ◌∷◌, [], pos, List, map, IsTrue, IfOk, string_bytes, option_map, unwrap_or};
+ghost use Rattle.std.specs.Prelude.{⊤, ◌≡◌, ◌≢◌, ◌<◌, ◌^◌, ◌++◌, ◌∷◌, [], pos, List, map, IsTrue, Err, IsOk, IfErr, IfOk, string_bytes, option_map, unwrap_or};
 ghost use Rattle.serde_json.specs.View.{view};
 ghost use Rattle.sqlite.specs.Held.{state};
 ghost use Rattle.acvp_tables.specs.Changes.{changed, is_request, with_status, new_request, new_certification};
+ghost use Rattle.acvp_tables.specs.declared.rows.RequestBody.{RequestBody as Body};
 ghost use Rattle.acvp_tables.specs.declared.rows.RequestBody.TheVariants as body;
 ghost use Rattle.acvp_tables.specs.declared.rows.RequestRow.{RequestRow as Request};
 ghost use Rattle.acvp_store.specs.Alters.{Alters};
 ghost use Rattle.acvp_store.specs.Connection.{ServesStore, IsRead, IsInside, UnderStore};
-ghost use Rattle.acvp_store.specs.Stands.{request_tree, HoldsRequests, BodyReads, certification_data, body_text, status_number};
+ghost use Rattle.acvp_store.specs.Stands.{request_tree, HoldsRequests, BodyReads, certification_data, body_number, body_text, status_number};
 ghost use Rattle.acvp_registry.specs.Url.{url_of};
 ghost use Rattle.acvp_tables.specs.Content.{Content, page, request_at, requests_of, request_summary};
 ghost use Rattle.acvp_tables.specs.State.{IsSound, given_number};
-ghost use Rattle.acvp_store.specs.Private.Requests.{IsAsked};
+ghost use Rattle.acvp_store.specs.Private.Columns.{request_columns, status_columns};
+ghost use Rattle.acvp_store.specs.Private.Requests.{FitsBody, IsAsked, IsJudgedBody, IsJudgedRequest, IsReadable, request_shown};
+ghost use Rattle.acvp_store.specs.Private.Summaries.{status_shown};
+ghost use Rattle.acvp_store.specs.Private.Shown.{AreMet, is_under};
 
 use crate::fault::done;
-use crate::objects::kind_number;
-use crate::pages::{listed, only, page_of};
-use crate::shown::{answered, fitting, key};
+use crate::objects::{kept_object, kind_number};
+use crate::pages::{Member, listed, only, page_of};
+use crate::shown::{account_number, answered, field, fitting, key};
+use crate::summaries::{certification, status};
 use crate::work::Work;
 use acvp_registry::{Kind, object_url};
 use acvp_tables::{
-    Certification, NewCertification, NewRequest, RequestStatus, RequestSummary, StoreFault,
+    Certification, NewCertification, NewRequest, RequestBody, RequestRow, RequestStatus,
+    RequestSummary, StoreFault,
 };
 use serde_json::{Value, json};
-use sqlite::{Alter, Connection, Transaction, params};
+use sqlite::{Alter, Connection, Row, Transaction, params};
 use std::alloc::{AllocError, Global};
 
 /// Puts in a request on which nothing is decided yet.
@@ -85,7 +91,7 @@ fn certification_value(alloc: Global, asked: &Certification) -> Result<Value, Al
 }
 
 /// The text of a certification.
-fn certification_text(alloc: Global, asked: Certification) -> Result<String, AllocError>
+pub(crate) fn certification_text(alloc: Global, asked: Certification) -> Result<String, AllocError>
     ensures text { IfOk result (λ text. string_bytes text ≡ body_text (body.Certification asked)) }
     ensures reads { IfOk result (λ text. BodyReads (body.Certification asked)) }
 {
@@ -166,19 +172,81 @@ impl Work for DecidedRequest {
     }
 }
 
-/// The request of a number, without the object that it asks to register.
+/// The body of a kind's number and a text. It is Refused where the text isn't that of such a body.
+fn kept_body(kind: u32, text: String) -> Result<RequestBody, StoreFault>
+    ensures known { IfOk result (λ found. (b : Body) → IsReadable b → kind ≡ body_number b → string_bytes text ≡ body_text b → found ≡ b) }
+    ensures judged { IfOk result (λ found. (kind ≡ body_number found) × (string_bytes text ≡ body_text found) × IsJudgedBody found) }
+    ensures refused { IfErr result (λ fault. fault ≡ StoreFault.Refused → (b : Body) → IsReadable b → FitsBody b → kind ≡ body_number b → string_bytes text ≢ body_text b) }
+{
+    if kind == 4 {
+        Ok(RequestBody::Certification(certification(text)?))
+    } else {
+        Ok(RequestBody::Registration(kept_object(kind, text)?))
+    }
+}
+
+impl Member for RequestRow {
+    ghost use Rattle.std.specs.Prelude.{◌<◌, ◌^◌};
+    ghost use Rattle.std.specs.Prelude.{IsUtf8};
+    ghost use Rattle.acvp_store.specs.Stands.{body_text};
+    ghost use Rattle.acvp_store.specs.Private.Requests.{FitsBody, IsJudgedRequest};
+    ghost use Rattle.acvp_tables.specs.declared.rows.RequestRow.{RequestRow as Request};
+    ghost use Rattle.acvp_store.specs.Private.Requests.{request_shown, IsReadable};
+
+    ghost listed_as = { request_shown };
+
+    ghost reads = { λ r. IsReadable r.body };
+
+    ghost fits = { λ r. (r.account < 2 ^ 16) × FitsBody r.body × IsUtf8 (body_text r.body) };
+
+    ghost judged_so = { IsJudgedRequest };
+
+    fn from_row(row: &Row) -> Result<RequestRow, StoreFault> {
+        let number: u64 = field(row, 0)?;
+        let account = account_number(row, 1)?;
+        let kind: u32 = field(row, 2)?;
+        let text: String = field(row, 3)?;
+        let decided: u32 = field(row, 4)?;
+        let given: Option<u64> = field(row, 5)?;
+        Ok(RequestRow {
+            number,
+            account,
+            body: kept_body(kind, text)?,
+            status: status(decided, given)?,
+        })
+    }
+}
+
+/// The request that was found, without the object that it asks to register.
+fn summarized(
+    found: Result<Option<RequestRow>, StoreFault>,
+) -> Result<Option<RequestSummary>, StoreFault>
+    ensures told { IfOk result (λ told. IfOk found (λ row. told ≡ option_map request_summary row)) }
+    ensures refused { IfErr result (λ fault. found ≡ Err fault) }
+    ensures ok { IsOk result → IsOk found }
+{
+    match found {
+        Ok(Some(row)) => Ok(Some(RequestSummary::of(&row))),
+        Ok(None) => Ok(None),
+        Err(fault) => Err(fault),
+    }
+}
+
+/// The request of a number, without the object that it asks to register. It is Refused where the request's row isn't
+/// that of one, whatever it asks for.
 pub(crate) fn find_request<S: Alter>(
     conn: &mut Connection<S>,
     number: u64,
 ) -> Result<Option<RequestSummary>, StoreFault>
     requires { ServesStore (state S.Store conn.old) }
     ensures found { IsTrue (state S.Store conn.new).is_open → IfOk result (λ found. (c : Content) → IsSound c → HoldsRequests ((state S.Store conn.old).now.trees request_tree) c.requests → found ≡ option_map request_summary (request_at number c.requests)) }
+    ensures judged { IsTrue (state S.Store conn.new).is_open → number < 2 ^ 63 → IfOk result (λ _. AreMet (is_under number) request_columns request_shown IsJudgedRequest ((state S.Store conn.old).now.trees request_tree)) }
     ensures read { IsRead result (state S.Store conn.old) (state S.Store conn.new) }
 {
-    only(conn.query_all(
-        "SELECT request, account, kind, CASE WHEN kind = 4 THEN body END, status, approved FROM request WHERE request = ?1",
+    summarized(only(conn.query_all(
+        "SELECT request, account, kind, body, status, approved FROM request WHERE request = ?1",
         params![key(number)],
-    ))
+    )))
 }
 
 /// What was decided on the request of a number.
@@ -188,6 +256,7 @@ pub(crate) fn find_status<S: Alter>(
 ) -> Result<Option<RequestStatus>, StoreFault>
     requires { ServesStore (state S.Store conn.old) }
     ensures found { IsTrue (state S.Store conn.new).is_open → IfOk result (λ found. (requests : List Request) → HoldsRequests ((state S.Store conn.old).now.trees request_tree) requests → found ≡ option_map (λ row. row.status) (request_at number requests)) }
+    ensures judged { IsTrue (state S.Store conn.new).is_open → number < 2 ^ 63 → IfOk result (λ _. AreMet (is_under number) status_columns status_shown (λ _. ⊤) ((state S.Store conn.old).now.trees request_tree)) }
     ensures read { IsRead result (state S.Store conn.old) (state S.Store conn.new) }
 {
     answered(conn.query_all(

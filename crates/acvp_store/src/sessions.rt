@@ -1,5 +1,5 @@
 //! The table of test sessions.
-ghost use Rattle.std.specs.Prelude.{◌≡◌, ◌++◌, ◌∷◌, [], IsTrue, IfOk, List};
+ghost use Rattle.std.specs.Prelude.{◌≡◌, ◌<◌, ◌^◌, ◌++◌, ◌∷◌, [], IsTrue, IfOk, List};
 ghost use Rattle.sqlite.specs.Held.{state};
 ghost use Rattle.acvp_tables.specs.Changes.{changed, is_session, cancelled_session, with_counts, with_passed, with_certify, new_session};
 ghost use Rattle.acvp_tables.specs.Content.{Content, session_at, sessions_of, page};
@@ -7,7 +7,9 @@ ghost use Rattle.acvp_tables.specs.State.{IsSound};
 ghost use Rattle.acvp_tables.specs.declared.rows.SessionRow.{SessionRow as Session};
 ghost use Rattle.acvp_store.specs.Alters.{Alters};
 ghost use Rattle.acvp_store.specs.Connection.{ServesStore, IsRead, IsInside, UnderStore};
-ghost use Rattle.acvp_store.specs.Rows.{session_tree, HoldsSessions};
+ghost use Rattle.acvp_store.specs.Rows.{session_tree, session_shown, HoldsSessions};
+ghost use Rattle.acvp_store.specs.Private.Columns.{session_columns};
+ghost use Rattle.acvp_store.specs.Private.Shown.{AreMet, is_under};
 
 use crate::fault::done;
 use crate::pages::{Member, listed, page_of};
@@ -18,9 +20,14 @@ use sqlite::{Alter, Connection, Row, Transaction, params};
 use std::alloc::Global;
 
 impl Shown for SessionRow {
+    ghost use Rattle.std.specs.Prelude.{◌<◌, ◌^◌};
     ghost use Rattle.acvp_store.specs.Rows.{session_shown};
 
     ghost shown = { session_shown };
+
+    ghost fits = { λ s. s.account < 2 ^ 16 };
+
+    ghost judged_so = { λ s. s.account < 2 ^ 16 };
 
     fn read(row: &Row) -> Result<SessionRow, StoreFault> {
         let number: u64 = field(row, 0)?;
@@ -45,12 +52,17 @@ impl Shown for SessionRow {
 }
 
 impl Member for SessionRow {
+    ghost use Rattle.std.specs.Prelude.{◌<◌, ◌^◌};
     ghost use Rattle.std.specs.Prelude.{⊤};
     ghost use Rattle.acvp_store.specs.Rows.{session_shown};
 
     ghost listed_as = { session_shown };
 
     ghost reads = { λ _. ⊤ };
+
+    ghost fits = { λ s. s.account < 2 ^ 16 };
+
+    ghost judged_so = { λ s. s.account < 2 ^ 16 };
 
     fn from_row(row: &Row) -> Result<SessionRow, StoreFault> {
         SessionRow::read(row)
@@ -64,6 +76,7 @@ pub(crate) fn find_session<S: Alter>(
 ) -> Result<Option<SessionRow>, StoreFault>
     requires { ServesStore (state S.Store conn.old) }
     ensures found { IsTrue (state S.Store conn.new).is_open → IfOk result (λ found. (sessions : List Session) → HoldsSessions ((state S.Store conn.old).now.trees session_tree) sessions → found ≡ session_at number sessions) }
+    ensures judged { IsTrue (state S.Store conn.new).is_open → number < 2 ^ 63 → IfOk result (λ _. AreMet (is_under number) session_columns session_shown (λ s. s.account < 2 ^ 16) ((state S.Store conn.old).now.trees session_tree)) }
     ensures read { IsRead result (state S.Store conn.old) (state S.Store conn.new) }
 {
     answered(conn.query_all(

@@ -1,11 +1,15 @@
 //! The texts in the rows of vector sets: the capability, and the verdicts on the last answers.
-ghost use Rattle.std.specs.Prelude.{◌≡◌, IsTrue, IfOk, IsOk, List, option_map, option_and_then};
+ghost use Rattle.std.specs.Prelude.{◌≡◌, ◌≢◌, ◌<◌, ◌^◌, Some, IsTrue, IfErr, IsSomeAnd, MatchResult, IfOk, IsOk, List, option_map, option_and_then};
 ghost use Rattle.sqlite.specs.Held.{state};
+ghost use Rattle.acvp_answers.specs.VerdictText.{verdicts_text};
+ghost use Rattle.acvp_answers.specs.declared.verdict.Verdict.{Verdict as Letters};
 ghost use Rattle.acvp_tables.specs.Content.{set_at, set_verdicts};
 ghost use Rattle.acvp_tables.specs.declared.rows.SetRow.{SetRow as Set};
 ghost use Rattle.acvp_store.specs.Connection.{ServesStore, InStore, IsRead};
 ghost use Rattle.acvp_store.specs.Stands.{HoldsSets, set_tree};
-ghost use Rattle.acvp_store.specs.Private.SetTexts.{IsCapabilityOf, AreVerdictsOf, TellsCapability, TellsVerdicts};
+ghost use Rattle.acvp_store.specs.Private.Columns.{capability_column};
+ghost use Rattle.acvp_store.specs.Private.SetTexts.{IsCapabilityOf, IsOfCapability, AreVerdictsOf, TellsCapability, TellsVerdicts, text_shown};
+ghost use Rattle.acvp_store.specs.Private.Shown.{AreMet, is_under};
 
 use crate::shown::{Shown, answered, field, key};
 use acvp_answers::{TextFault, Verdict, verdicts_from_text};
@@ -31,9 +35,15 @@ impl Model for TextColumn {
 }
 
 impl Shown for TextColumn {
+    ghost use Rattle.std.specs.Prelude.{⊤};
+    ghost use Rattle.acvp_store.specs.Private.Shown.{IsText};
     ghost use Rattle.acvp_store.specs.Private.SetTexts.{text_shown};
 
     ghost shown = { text_shown };
+
+    ghost fits = { IsText };
+
+    ghost judged_so = { λ _. ⊤ };
 
     fn read(row: &Row) -> Result<TextColumn, StoreFault> {
         let text: Option<String> = field(row, 0)?;
@@ -43,7 +53,8 @@ impl Shown for TextColumn {
 
 /// The capability of a column. It is Refused where the column has none.
 fn capability_of(alloc: Global, column: &TextColumn) -> Result<Capability, StoreFault>
-    ensures { IfOk result (IsCapabilityOf column.now) }
+    ensures told { IfOk result (IsCapabilityOf column.now) }
+    ensures refused { IfErr result (λ fault. fault ≡ StoreFault.Refused → ¬ IsOfCapability column.now) }
 {
     let Some(text) = &column.text else {
         return Err(StoreFault::Refused);
@@ -61,6 +72,7 @@ fn capability_in(
     found: Result<Option<TextColumn>, StoreFault>,
 ) -> Result<Option<Capability>, StoreFault>
     ensures told { IfOk result (λ told. IfOk found (λ column. TellsCapability column told)) }
+    ensures refused { IfErr result (λ fault. fault ≡ StoreFault.Refused → MatchResult found (λ column. IsSomeAnd column (λ text. ¬ IsOfCapability text)) (λ fault. fault ≡ StoreFault.Refused)) }
     ensures ok { IsOk result → IsOk found }
 {
     match found {
@@ -81,6 +93,7 @@ pub(crate) fn find_capability<S: Alter>(
 ) -> Result<Option<Capability>, StoreFault>
     requires { ServesStore (state S.Store conn.old) }
     ensures found { IsTrue (state S.Store conn.new).is_open → IfOk result (λ found. InStore (state S.Store conn.old).now (λ layout. (sets : List Set) → HoldsSets ((state S.Store conn.old).now.trees (set_tree layout)) sets → found ≡ option_map (λ row. row.capability) (set_at number sets))) }
+    ensures judged { IsTrue (state S.Store conn.new).is_open → number < 2 ^ 63 → IfOk result (λ _. InStore (state S.Store conn.old).now (λ layout. AreMet (is_under number) capability_column text_shown IsOfCapability ((state S.Store conn.old).now.trees (set_tree layout)))) }
     ensures read { IsRead result (state S.Store conn.old) (state S.Store conn.new) }
 {
     capability_in(
@@ -94,7 +107,8 @@ pub(crate) fn find_capability<S: Alter>(
 
 /// The verdicts of a column; none where it is NULL. It is Refused where the text is that of none.
 fn verdicts_of(alloc: Global, column: &TextColumn) -> Result<Option<Vec<Verdict>>, StoreFault>
-    ensures { IfOk result (λ told. AreVerdictsOf column.now (option_map (λ v. v.items) told)) }
+    ensures told { IfOk result (λ told. AreVerdictsOf column.now (option_map (λ v. v.items) told)) }
+    ensures refused { IfErr result (λ fault. fault ≡ StoreFault.Refused → (verdicts : List Letters) → column.now ≢ Some (verdicts_text verdicts)) }
 {
     let Some(text) = &column.text else {
         return Ok(None);
@@ -112,6 +126,7 @@ fn verdicts_in(
     found: Result<Option<TextColumn>, StoreFault>,
 ) -> Result<Option<Vec<Verdict>>, StoreFault>
     ensures told { IfOk result (λ told. IfOk found (λ column. TellsVerdicts column (option_map (λ v. v.items) told))) }
+    ensures refused { IfErr result (λ fault. fault ≡ StoreFault.Refused → MatchResult found (λ column. IsSomeAnd column (λ text. (verdicts : List Letters) → text ≢ Some (verdicts_text verdicts))) (λ fault. fault ≡ StoreFault.Refused)) }
     ensures ok { IsOk result → IsOk found }
 {
     match found {

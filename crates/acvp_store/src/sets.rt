@@ -1,52 +1,77 @@
 //! The table of vector sets.
-ghost use Rattle.std.specs.Prelude.{◌≡◌, ◌∷◌, [], IsTrue, IfOk, IfSome, IsOk, List, Some, map, option_map};
+ghost use Rattle.std.specs.Prelude.{◌≡◌, ◌<◌, ◌^◌, ◌∷◌, [], None, Option, IsTrue, IfErr, IsSomeAnd, MatchResult, IfOk, IfSome, IsOk, List, Some, map, option_map};
 ghost use Rattle.std.specs.List.{AllZip};
 ghost use Rattle.sqlite.specs.Held.{state};
 ghost use Rattle.acvp_tables.specs.Content.{Content, set_at, set_summary, live_sets, greatest_epoch_of};
 ghost use Rattle.acvp_tables.specs.State.{IsSound};
+ghost use Rattle.acvp_answers.specs.declared.verdict.Disposition.{Disposition as Kept};
 ghost use Rattle.acvp_tables.specs.declared.rows.SetRow.{SetRow as Set};
 ghost use Rattle.acvp_tables.specs.Changes.{changed, is_set, cancelled_set, with_graded, new_sets};
 ghost use Rattle.acvp_store.specs.Alters.{Alters};
 ghost use Rattle.acvp_store.specs.Connection.{ServesStore, InStore, IsRead, IsInside, UnderStore};
 ghost use Rattle.acvp_store.specs.Stands.{HoldsSets, disposition_number, set_tree};
-ghost use Rattle.acvp_store.specs.Private.Sets.{IsSummary, IsSummaryOf, new_set, AddsSets};
+ghost use Rattle.acvp_store.specs.Private.Sets.{HasUnjudged, IsDispositionOf, IsGiven, IsJudged, IsSummary, IsSummaryOf, is_live_row, new_set, short_columns, short_shown, AddsSets};
+ghost use Rattle.acvp_store.specs.Private.Shown.{AreMet, is_under};
 
 use crate::fault::done;
 use crate::pages::{Member, listed};
 use crate::shown::{Shown, answered, field, fitting, key, truth};
 use crate::work::Work;
-use acvp_answers::{Disposition, verdicts_to_text};
+use acvp_answers::{Disposition, TextFault, disposition, verdicts_from_text, verdicts_to_text};
 use acvp_caps::Capability;
 use acvp_json::answers_to_text;
 use acvp_tables::{Graded, NewSession, SetSummary, StoreFault};
 use sqlite::{Alter, Connection, Row, Transaction, params};
 use std::alloc::Global;
+use std::marker::Model;
 
-/// The columns of a vector set that are no text.
-#[derive(Clone, Copy)]
+/// The columns of a vector set that a request rests on, whichever it is: all but its capability, and of its answers
+/// whether there are any.
+#[derive(Drop)]
 pub(crate) struct ShortSet {
-    pub number: u64,
-    pub session: u64,
-    pub cancelled: bool,
-    pub disposition: Option<u64>,
-    pub epoch: u64,
+    number: u64,
+    session: u64,
+    cancelled: bool,
+    unanswered: bool,
+    verdicts: Option<String>,
+    disposition: Option<u64>,
+    epoch: u64,
+}
+
+impl Model for ShortSet {
+    ghost use Rattle.std.specs.Prelude.{string_bytes, option_map};
+    ghost use Rattle.acvp_store.specs.Private.Sets.{ShortColumns};
+
+    ghost Value = { ShortColumns };
+
+    ghost view = { λ s. record { number = s.number; session = s.session; cancelled = s.cancelled; unanswered = s.unanswered; verdicts = option_map string_bytes s.verdicts; disposition = s.disposition; epoch = s.epoch } };
 }
 
 impl Shown for ShortSet {
+    ghost use Rattle.std.specs.Prelude.{⊤};
+    ghost use Rattle.acvp_store.specs.Private.Shown.{IsText};
     ghost use Rattle.acvp_store.specs.Private.Sets.{short_shown};
 
     ghost shown = { short_shown };
+
+    ghost fits = { λ s. IsText s.verdicts };
+
+    ghost judged_so = { λ _. ⊤ };
 
     fn read(row: &Row) -> Result<ShortSet, StoreFault> {
         let number: u64 = field(row, 0)?;
         let session: u64 = field(row, 1)?;
         let cancelled = truth(row, 2)?;
-        let disposition: Option<u64> = field(row, 3)?;
-        let epoch: u64 = field(row, 4)?;
+        let unanswered = truth(row, 3)?;
+        let verdicts: Option<String> = field(row, 4)?;
+        let disposition: Option<u64> = field(row, 5)?;
+        let epoch: u64 = field(row, 6)?;
         Ok(ShortSet {
             number,
             session,
             cancelled,
+            unanswered,
+            verdicts,
             disposition,
             epoch,
         })
@@ -54,6 +79,7 @@ impl Shown for ShortSet {
 }
 
 impl Member for ShortSet {
+    ghost use Rattle.acvp_store.specs.Private.Shown.{IsText};
     ghost use Rattle.std.specs.Prelude.{⊤};
     ghost use Rattle.acvp_store.specs.Private.Sets.{short_shown};
 
@@ -61,34 +87,67 @@ impl Member for ShortSet {
 
     ghost reads = { λ _. ⊤ };
 
+    ghost fits = { λ s. IsText s.verdicts };
+
+    ghost judged_so = { λ _. ⊤ };
+
     fn from_row(row: &Row) -> Result<ShortSet, StoreFault> {
         ShortSet::read(row)
     }
 }
 
-/// The disposition of a number, where it is that of one.
-fn disposition(number: u64) -> Option<Disposition>
-    ensures { IfSome result (λ d. disposition_number d ≡ Some number) }
+/// The number of a disposition, where it is one that is kept.
+fn kept_disposition(disposition: Disposition) -> Option<u32>
+    ensures value { result ≡ disposition_number disposition }
+    ensures some { IfSome result (λ number. disposition_number disposition ≡ Some number) }
 {
-    match number {
-        0 => Some(Disposition::Fail),
-        1 => Some(Disposition::Missing),
-        2 => Some(Disposition::Passed),
-        _ => None,
+    match disposition {
+        Disposition::Fail => Some(0),
+        Disposition::Missing => Some(1),
+        Disposition::Passed => Some(2),
+        Disposition::Expired | Disposition::Unreceived => None,
     }
 }
 
-/// What the columns tell. They are Refused where the disposition is none.
-fn summary(set: ShortSet) -> Result<SetSummary, StoreFault>
-    ensures { IfOk result (IsSummary set) }
+/// The disposition that verdicts give, where its number is this one. It is Refused where they are none, or give another.
+fn given_disposition(alloc: Global, verdicts: &str, number: u64) -> Result<Disposition, StoreFault>
+    ensures given { IfOk result (IsGiven verdicts.now number) }
+    ensures refused { IfErr result (λ fault. fault ≡ StoreFault.Refused → (d : Kept) → ¬ IsGiven verdicts.now number d) }
 {
-    let disposition = match set.disposition {
-        None => None,
-        Some(number) => match disposition(number) {
-            Some(disposition) => Some(disposition),
-            None => return Err(StoreFault::Refused),
-        },
+    let verdicts = match verdicts_from_text(alloc, verdicts) {
+        Ok(verdicts) => verdicts,
+        Err(TextFault::Memory) => return Err(StoreFault::Memory),
+        Err(TextFault::Letter) => return Err(StoreFault::Refused),
     };
+    let given = disposition(&verdicts);
+    match kept_disposition(given) {
+        Some(kept) if u64::from(kept) == number => Ok(given),
+        _ => Err(StoreFault::Refused),
+    }
+}
+
+/// The disposition of the columns, where answers are kept. They are Refused where one of answers, verdicts and
+/// disposition is there without the others, or where the disposition isn't that of the verdicts.
+fn judged_disposition(alloc: Global, set: &ShortSet) -> Result<Option<Disposition>, StoreFault>
+    ensures judged { IfOk result (IsDispositionOf set.now) }
+    ensures refused { IfErr result (λ fault. fault ≡ StoreFault.Refused → (d : Option Kept) → ¬ IsDispositionOf set.now d) }
+{
+    match (&set.verdicts, set.disposition) {
+        (None, None) if set.unanswered => Ok(None),
+        (Some(verdicts), Some(number)) if !set.unanswered => {
+            let given = given_disposition(alloc, verdicts.as_str(), number)?;
+            Ok(Some(given))
+        }
+        _ => Err(StoreFault::Refused),
+    }
+}
+
+/// What the columns tell. They are Refused where they are those of no set.
+fn summary(alloc: Global, set: &ShortSet) -> Result<SetSummary, StoreFault>
+    ensures told { IfOk result (IsSummary set.now) }
+    ensures refused { IfErr result (λ fault. fault ≡ StoreFault.Refused → ¬ IsJudged set.now) }
+{
+    let disposition = judged_disposition(alloc, set)?;
     Ok(SetSummary {
         number: set.number,
         session: set.session,
@@ -99,13 +158,17 @@ fn summary(set: ShortSet) -> Result<SetSummary, StoreFault>
 }
 
 /// What the columns that were found tell.
-fn summarized(found: Result<Option<ShortSet>, StoreFault>) -> Result<Option<SetSummary>, StoreFault>
+fn summarized(
+    alloc: Global,
+    found: Result<Option<ShortSet>, StoreFault>,
+) -> Result<Option<SetSummary>, StoreFault>
     ensures told { IfOk result (λ told. IfOk found (λ set. IsSummaryOf set told)) }
+    ensures refused { IfErr result (λ fault. fault ≡ StoreFault.Refused → MatchResult found (λ set. IsSomeAnd set (λ columns. ¬ IsJudged columns)) (λ fault. fault ≡ StoreFault.Refused)) }
     ensures ok { IsOk result → IsOk found }
 {
     match found {
         Ok(None) => Ok(None),
-        Ok(Some(set)) => match summary(set) {
+        Ok(Some(set)) => match summary(alloc, &set) {
             Ok(told) => Ok(Some(told)),
             Err(fault) => Err(fault),
         },
@@ -115,26 +178,32 @@ fn summarized(found: Result<Option<ShortSet>, StoreFault>) -> Result<Option<SetS
 
 /// The vector set of a number, without its capability and answers.
 pub(crate) fn find_set<S: Alter>(
+    alloc: Global,
     conn: &mut Connection<S>,
     number: u64,
 ) -> Result<Option<SetSummary>, StoreFault>
     requires { ServesStore (state S.Store conn.old) }
     ensures found { IsTrue (state S.Store conn.new).is_open → IfOk result (λ found. InStore (state S.Store conn.old).now (λ layout. (sets : List Set) → HoldsSets ((state S.Store conn.old).now.trees (set_tree layout)) sets → found ≡ option_map set_summary (set_at number sets))) }
+    ensures judged { IsTrue (state S.Store conn.new).is_open → number < 2 ^ 63 → IfOk result (λ _. InStore (state S.Store conn.old).now (λ layout. AreMet (is_under number) short_columns short_shown IsJudged ((state S.Store conn.old).now.trees (set_tree layout)))) }
     ensures read { IsRead result (state S.Store conn.old) (state S.Store conn.new) }
 {
-    summarized(answered(conn.query_all(
-        "SELECT vs, session, cancelled, disposition, epoch FROM vset2 WHERE vs = ?1",
-        params![key(number)],
-    )))
+    summarized(
+        alloc,
+        answered(conn.query_all(
+            "SELECT vs, session, cancelled, answers IS NULL, verdicts, disposition, epoch FROM vset2 WHERE vs = ?1",
+            params![key(number)],
+        )),
+    )
 }
 
 /// What each of the columns tell.
 fn summaries(alloc: Global, sets: &[ShortSet]) -> Result<Vec<SetSummary>, StoreFault>
-    ensures { IfOk result (λ told. AllZip IsSummary sets.now told.items) }
+    ensures told { IfOk result (λ told. AllZip IsSummary sets.now told.items) }
+    ensures refused { IfErr result (λ fault. fault ≡ StoreFault.Refused → HasUnjudged sets.now) }
 {
     let mut told = Vec::new(alloc);
     for set in sets {
-        let one = summary(*set)?;
+        let one = summary(alloc, set)?;
         if told.push(one).is_err() {
             return Err(StoreFault::Memory);
         }
@@ -148,6 +217,7 @@ fn summaries_in(
     found: Result<Vec<ShortSet>, StoreFault>,
 ) -> Result<Vec<SetSummary>, StoreFault>
     ensures told { IfOk result (λ told. IfOk found (λ sets. AllZip IsSummary sets.items told.items)) }
+    ensures refused { IfErr result (λ fault. fault ≡ StoreFault.Refused → MatchResult found (λ sets. HasUnjudged sets.items) (λ fault. fault ≡ StoreFault.Refused)) }
     ensures ok { IsOk result → IsOk found }
 {
     match found {
@@ -165,6 +235,7 @@ pub(crate) fn find_sets<S: Alter>(
 ) -> Result<Vec<SetSummary>, StoreFault>
     requires { ServesStore (state S.Store conn.old) }
     ensures found { IsTrue (state S.Store conn.new).is_open → IfOk result (λ found. InStore (state S.Store conn.old).now (λ layout. (c : Content) → IsSound c → HoldsSets ((state S.Store conn.old).now.trees (set_tree layout)) c.sets → found.items ≡ map set_summary (live_sets session c.sets))) }
+    ensures judged { IsTrue (state S.Store conn.new).is_open → IfOk result (λ _. InStore (state S.Store conn.old).now (λ layout. AreMet (is_live_row session) short_columns short_shown IsJudged ((state S.Store conn.old).now.trees (set_tree layout)))) }
     ensures read { IsRead result (state S.Store conn.old) (state S.Store conn.new) }
 {
     if 92233720368547757 < session {
@@ -176,7 +247,7 @@ pub(crate) fn find_sets<S: Alter>(
         listed(
             alloc,
             conn.query_all(
-                "SELECT vs, session, cancelled, disposition, epoch FROM vset2 WHERE vs BETWEEN ?1 AND ?2 AND cancelled = 0 ORDER BY vs",
+                "SELECT vs, session, cancelled, answers IS NULL, verdicts, disposition, epoch FROM vset2 WHERE vs BETWEEN ?1 AND ?2 AND cancelled <> 1 ORDER BY vs",
                 params![key(first), key(first + 99)],
             ),
         ),
@@ -185,9 +256,14 @@ pub(crate) fn find_sets<S: Alter>(
 
 /// An epoch alone in its row, or NULL.
 impl Shown for Option<u64> {
+    ghost use Rattle.std.specs.Prelude.{⊤};
     ghost use Rattle.acvp_store.specs.Private.Sets.{epoch_shown};
 
     ghost shown = { epoch_shown };
+
+    ghost fits = { λ _. ⊤ };
+
+    ghost judged_so = { λ _. ⊤ };
 
     fn read(row: &Row) -> Result<Option<u64>, StoreFault> {
         field(row, 0)
@@ -197,6 +273,7 @@ impl Shown for Option<u64> {
 /// The epoch of the one row that was found. None is Refused.
 fn epoch_in(found: Result<Option<Option<u64>>, StoreFault>) -> Result<Option<u64>, StoreFault>
     ensures told { IfOk result (λ told. IfOk found (λ row. row ≡ Some told)) }
+    ensures refused { IfErr result (λ fault. MatchResult found (λ row. row ≡ None) (λ met. met ≡ fault)) }
     ensures ok { IsOk result → IsOk found }
 {
     match found {
@@ -235,18 +312,6 @@ impl Work for SetCancelled {
             "UPDATE vset2 SET cancelled = 1 WHERE vs = ?1",
             params![number],
         ))
-    }
-}
-
-/// The number of a disposition, where it is one that is kept.
-fn kept_disposition(disposition: Disposition) -> Option<u32>
-    ensures { IfSome result (λ number. disposition_number disposition ≡ Some number) }
-{
-    match disposition {
-        Disposition::Fail => Some(0),
-        Disposition::Missing => Some(1),
-        Disposition::Passed => Some(2),
-        Disposition::Expired | Disposition::Unreceived => None,
     }
 }
 

@@ -1,7 +1,8 @@
 //! Rows as queries show them.
-ghost use Rattle.std.specs.Prelude.{◌≡◌, ◌<◌, ◌≤◌, ◌^◌, pos, negsuc, IfOk, IsOk, Ok, List, map, slice_get, IsPermutation};
+ghost use Rattle.std.specs.Prelude.{◌≡◌, ◌≢◌, ◌<◌, ◌≤◌, ◌^◌, ℕ, Bool, pos, negsuc, length, IfOk, IfErr, IsOk, Ok, List, map, slice_get, option_to_list, IsPermutation};
 ghost use Rattle.sqlite_value.specs.Order.{Row as Columns, column};
 ghost use Rattle.acvp_store.specs.Values.{flag, whole};
+ghost use Rattle.acvp_store.specs.Private.Shown.{BeginsWith, AreShown, IsOfNone, HasNoOne, IsRefusedOf};
 
 use crate::fault::fault_of;
 use acvp_tables::StoreFault;
@@ -13,14 +14,24 @@ pub(crate) trait Shown {
     /// Its columns.
     ghost shown: { Self → Columns };
 
+    /// Its numbers and texts are such as the program has.
+    ghost fits: { Self → Type 0 };
+
+    /// It is judged to be so, beside its columns.
+    ghost judged_so: { Self → Type 0 };
+
     /// Reads a row. It is Refused where the row can't be that of any.
     fn read(row: &Row) -> Result<Self, StoreFault>
-        ensures { IfOk result (λ x. (y : Self) → row.now ≡ shown y → x ≡ y) };
+        ensures known { IfOk result (λ x. (y : Self) → row.now ≡ shown y → x ≡ y) }
+        ensures judged { IfOk result (λ x. BeginsWith (shown x) row.now × judged_so x) }
+        ensures refused { IfErr result (λ fault. fault ≡ StoreFault.Refused → IsOfNone fits shown row.now) };
 }
 
 /// The column at a place, from 0 on.
 pub(crate) fn field<T: FromSql>(row: &Row, at: usize) -> Result<T, StoreFault>
-    ensures { IfOk result (λ x. T.FromSql.reads_as (column row.now at) x) }
+    ensures value { IfOk result (λ x. T.FromSql.reads_as (column row.now at) x) }
+    ensures within { IfOk result (λ _. at < length row.now) }
+    ensures refused { IfErr result (λ fault. fault ≡ StoreFault.Refused → at < length row.now → ¬ T.FromSql.is_readable (column row.now at)) }
 {
     match row.get(at) {
         Ok(value) => Ok(value),
@@ -30,7 +41,9 @@ pub(crate) fn field<T: FromSql>(row: &Row, at: usize) -> Result<T, StoreFault>
 
 /// The truth value in a column, 0 or 1.
 pub(crate) fn truth(row: &Row, at: usize) -> Result<bool, StoreFault>
-    ensures { IfOk result (λ b. column row.now at ≡ flag b) }
+    ensures value { IfOk result (λ b. column row.now at ≡ flag b) }
+    ensures within { IfOk result (λ _. at < length row.now) }
+    ensures refused { IfErr result (λ fault. fault ≡ StoreFault.Refused → at < length row.now → (b : Bool) → column row.now at ≢ flag b) }
 {
     let value: u32 = field(row, at)?;
     match value {
@@ -42,7 +55,9 @@ pub(crate) fn truth(row: &Row, at: usize) -> Result<bool, StoreFault>
 
 /// The account's number in a column.
 pub(crate) fn account_number(row: &Row, at: usize) -> Result<u16, StoreFault>
-    ensures { IfOk result (λ n. column row.now at ≡ whole n) }
+    ensures value { IfOk result (λ n. column row.now at ≡ whole n) }
+    ensures within { IfOk result (λ _. at < length row.now) }
+    ensures refused { IfErr result (λ fault. fault ≡ StoreFault.Refused → at < length row.now → (n : ℕ) → n < 2 ^ 16 → column row.now at ≢ whole n) }
 {
     let number: u32 = field(row, at)?;
     match u16::try_from(number) {
@@ -76,7 +91,9 @@ pub(crate) fn fitting(number: u64) -> Result<i64, StoreFault>
 
 /// The one row, where there is one. More are Refused.
 pub(crate) fn one<T: Shown + Drop>(rows: &[Row]) -> Result<Option<T>, StoreFault>
-    ensures { IfOk result (λ found. (list : List T) → IsPermutation (map T.Shown.shown list) rows.now → found ≡ slice_get list 0) }
+    ensures found { IfOk result (λ found. (list : List T) → IsPermutation (map T.Shown.shown list) rows.now → found ≡ slice_get list 0) }
+    ensures judged { IfOk result (λ found. AreShown T.Shown.judged_so T.Shown.shown rows.now (option_to_list found)) }
+    ensures refused { IfErr result (λ fault. fault ≡ StoreFault.Refused → HasNoOne T.Shown.fits T.Shown.shown rows.now) }
 {
     if rows.len() > 1 {
         return Err(StoreFault::Refused);
@@ -95,6 +112,8 @@ pub(crate) fn answered<T: Shown + Drop>(
     outcome: Result<Vec<Row>, Error>,
 ) -> Result<Option<T>, StoreFault>
     ensures found { IfOk result (λ found. IfOk outcome (λ rows. (list : List T) → IsPermutation (map T.Shown.shown list) rows.items → found ≡ slice_get list 0)) }
+    ensures judged { IfOk result (λ found. IfOk outcome (λ rows. AreShown T.Shown.judged_so T.Shown.shown rows.items (option_to_list found))) }
+    ensures refused { IfErr result (λ fault. fault ≡ StoreFault.Refused → IsRefusedOf (λ rows. HasNoOne T.Shown.fits T.Shown.shown rows.items) outcome) }
     ensures ok { IsOk result → IsOk outcome }
 {
     match outcome {

@@ -4,7 +4,8 @@ ghost use Rattle.sqlite.specs.Effect.{IsDatabase};
 ghost use Rattle.sqlite.specs.Held.{state};
 ghost use Rattle.sqlite.specs.State.{HasCleanDisk};
 ghost use Rattle.sqlite.specs.Steps.{over_memory};
-ghost use Rattle.acvp_store.specs.Adopted.{HasVersion, IsAdopted, IsOurs};
+ghost use Rattle.acvp_store.specs.Adopted.{IsAdopted, IsOurs};
+ghost use Rattle.acvp_store.specs.Version.{HasVersion};
 ghost use Rattle.acvp_tables.specs.Calls.{Changes};
 ghost use Rattle.acvp_tables.specs.Content.{Content, no_rows};
 ghost use Rattle.acvp_tables.specs.Changes.{after, after_order};
@@ -592,7 +593,7 @@ impl<S: Alter> Tables for SqlTables<S> {
     }
 
     fn set(&mut self, number: u64) -> Result<Option<SetSummary>, StoreFault> {
-        find_set(&mut self.connection, number)
+        find_set(self.alloc, &mut self.connection, number)
     }
 
     fn capability(&mut self, set: u64) -> Result<Option<Capability>, StoreFault> {

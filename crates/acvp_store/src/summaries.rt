@@ -1,8 +1,7 @@
 //! Requests without the objects that they ask to register, as queries show them.
-ghost use Rattle.std.specs.Prelude.{◌≡◌, ◌<◌, Some, IfOk, IfSome, ℕ, List, option_map, string_bytes};
-ghost use Rattle.serde_json.specs.Data.{string, number as number_data, unsigned};
+ghost use Rattle.std.specs.Prelude.{◌≡◌, ◌≢◌, ◌<◌, None, Some, IfErr, IfOk, MatchOption, ℕ, List, option_map, string_bytes};
 ghost use Rattle.serde_json.specs.Written.{compact_text};
-ghost use Rattle.serde_json.specs.Find.{get};
+ghost use Rattle.acvp_caps.specs.Json.{text_at};
 ghost use Rattle.serde_json.specs.View.{view};
 ghost use Rattle.acvp_registry.specs.Json.{body_json};
 ghost use Rattle.acvp_registry.specs.Url.{IsUrl};
@@ -14,10 +13,12 @@ ghost use Rattle.acvp_tables.specs.declared.rows.RequestBody.TheVariants as body
 ghost use Rattle.acvp_tables.specs.declared.summary.RequestSubject.{RequestSubject as Subject};
 ghost use Rattle.acvp_registry.specs.declared.kind.Kind.{Kind as ObjectKind};
 ghost use Rattle.acvp_store.specs.Stands.{BodyReads, certification_data, status_number};
-ghost use Rattle.acvp_store.specs.Private.Summaries.{subject_number, subject_text, SubjectReads};
+ghost use Rattle.acvp_store.specs.Private.Summaries.{subject_number, subject_text, FitsCertification, FitsSubject, SubjectReads};
 
 use crate::pages::Member;
+use crate::requests::certification_text;
 use crate::shown::{Shown, account_number, field};
+use acvp_caps::json::{number_at, text_at};
 use acvp_registry::{Kind, RegFault, body_value, url_number};
 use acvp_tables::{Certification, RequestStatus, RequestSubject, RequestSummary, StoreFault};
 use serde_json::Value;
@@ -26,7 +27,9 @@ use std::alloc::Global;
 
 /// The kind of a number, of those that are registered.
 pub(crate) fn registered_kind(number: u32) -> Result<Kind, StoreFault>
-    ensures { IfOk result (λ found. (kind : ObjectKind) → number ≡ kind_number kind → found ≡ kind) }
+    ensures known { IfOk result (λ found. (kind : ObjectKind) → number ≡ kind_number kind → found ≡ kind) }
+    ensures judged { IfOk result (λ found. (number ≡ kind_number found) × (number < 4)) }
+    ensures refused { IfErr result (λ fault. (fault ≡ StoreFault.Refused) × ((kind : ObjectKind) → kind_number kind < 4 → number ≢ kind_number kind)) }
 {
     match number {
         1 => Ok(Kind::Vendor),
@@ -37,72 +40,73 @@ pub(crate) fn registered_kind(number: u32) -> Result<Kind, StoreFault>
 }
 
 /// The value of a JSON text that a column keeps.
-pub(crate) fn kept_value(text: String) -> Result<Value, StoreFault>
-    ensures { IfOk result (λ value. body_json (string_bytes text) ≡ Some (view value)) }
+pub(crate) fn kept_value(alloc: Global, text: &str) -> Result<Value, StoreFault>
+    ensures value { IfOk result (λ value. body_json text.now ≡ Some (view value)) }
+    ensures refused { IfErr result (λ fault. fault ≡ StoreFault.Refused → body_json text.now ≡ None) }
 {
-    let bytes = text.into_bytes();
-    let alloc = *bytes.allocator();
-    match body_value(alloc, bytes.as_slice()) {
+    match body_value(alloc, text.as_bytes()) {
         Ok(value) => Ok(value),
         Err(RegFault::Memory) => Err(StoreFault::Memory),
         Err(_) => Err(StoreFault::Refused),
     }
 }
 
-/// The number of what a URL at a name is of.
-fn linked(value: &Value, name: &str, kind: Kind) -> Result<u64, StoreFault>
-    ensures { IfOk result (λ number. (url : List ℕ) → get name.now (view value.now) ≡ Some (string url) → IsUrl kind number url) }
+/// The number of what a URL at a name is of; none where there is no such URL.
+fn linked(value: &Value, name: &str, kind: Kind) -> Option<u64>
+    ensures { (url : List ℕ) → text_at name.now (view value.now) ≡ Some url → MatchOption result ((number : ℕ) → ¬ IsUrl kind number url) (λ number. IsUrl kind number url) }
 {
-    match value.get(name) {
-        Some(Value::String(url)) => match url_number(kind, url.as_str()) {
-            Some(number) => Ok(number),
-            None => Err(StoreFault::Refused),
-        },
-        _ => Err(StoreFault::Refused),
-    }
+    let url = text_at(value, name)?;
+    url_number(kind, url)
 }
 
-/// The number at a name.
-fn numbered(value: &Value, name: &str) -> Result<u64, StoreFault>
-    ensures { IfOk result (λ number. get name.now (view value.now) ≡ Some (number_data (unsigned number))) }
+/// The certification of a text. It is Refused where the text isn't that of one.
+pub(crate) fn certification(text: String) -> Result<Certification, StoreFault>
+    ensures known { IfOk result (λ found. (c : Certified) → BodyReads (body.Certification c) → string_bytes text ≡ compact_text (certification_data c) → found ≡ c) }
+    ensures judged { IfOk result (λ found. string_bytes text ≡ compact_text (certification_data found)) }
+    ensures refused { IfErr result (λ fault. fault ≡ StoreFault.Refused → (c : Certified) → BodyReads (body.Certification c) → FitsCertification c → string_bytes text ≢ compact_text (certification_data c)) }
 {
-    match value.get(name) {
-        Some(Value::Number(number)) => match number.as_u64() {
-            Some(number) => Ok(number),
-            None => Err(StoreFault::Refused),
-        },
-        _ => Err(StoreFault::Refused),
-    }
-}
-
-/// The certification of a text.
-fn certification(text: String) -> Result<Certification, StoreFault>
-    ensures { IfOk result (λ found. (c : Certified) → BodyReads (body.Certification c) → string_bytes text ≡ compact_text (certification_data c) → found ≡ c) }
-{
-    let value = kept_value(text)?;
-    let module = linked(&value, "moduleUrl", Kind::Module)?;
-    let environment = linked(&value, "oeUrl", Kind::Environment)?;
-    let session = numbered(&value, "session")?;
-    Ok(Certification {
+    let alloc = *text.allocator();
+    let value = kept_value(alloc, text.as_str())?;
+    let Some(module) = linked(&value, "moduleUrl", Kind::Module) else {
+        return Err(StoreFault::Refused);
+    };
+    let Some(environment) = linked(&value, "oeUrl", Kind::Environment) else {
+        return Err(StoreFault::Refused);
+    };
+    let Some(session) = number_at(&value, "session") else {
+        return Err(StoreFault::Refused);
+    };
+    let found = Certification {
         module,
         environment,
         session,
-    })
+    };
+    let written = certification_text(alloc, found)?;
+    if written.as_str() == text.as_str() {
+        Ok(found)
+    } else {
+        Err(StoreFault::Refused)
+    }
 }
 
 /// What is asked for, by the number of its kind and the text of a certification.
 fn subject(number: u32, text: Option<String>) -> Result<RequestSubject, StoreFault>
-    ensures { IfOk result (λ found. (s : Subject) → SubjectReads s → number ≡ subject_number s → option_map string_bytes text ≡ subject_text s → found ≡ s) }
+    ensures known { IfOk result (λ found. (s : Subject) → SubjectReads s → number ≡ subject_number s → option_map string_bytes text ≡ subject_text s → found ≡ s) }
+    ensures judged { IfOk result (λ found. (number ≡ subject_number found) × (option_map string_bytes text ≡ subject_text found)) }
+    ensures refused { IfErr result (λ fault. fault ≡ StoreFault.Refused → (s : Subject) → SubjectReads s → FitsSubject s → number ≡ subject_number s → option_map string_bytes text ≢ subject_text s) }
 {
     match text {
-        Some(text) => Ok(RequestSubject::Certification(certification(text)?)),
+        Some(text) if number == 4 => Ok(RequestSubject::Certification(certification(text)?)),
+        Some(_) => Err(StoreFault::Refused),
         None => Ok(RequestSubject::Registration(registered_kind(number)?)),
     }
 }
 
 /// What was decided, by its number and what it gave.
-fn status(number: u32, given: Option<u64>) -> Result<RequestStatus, StoreFault>
-    ensures { IfOk result (λ found. (s : Decided) → number ≡ status_number s → given ≡ given_number s → found ≡ s) }
+pub(crate) fn status(number: u32, given: Option<u64>) -> Result<RequestStatus, StoreFault>
+    ensures known { IfOk result (λ found. (s : Decided) → number ≡ status_number s → given ≡ given_number s → found ≡ s) }
+    ensures judged { IfOk result (λ found. (number ≡ status_number found) × (given ≡ given_number found)) }
+    ensures refused { IfErr result (λ fault. (s : Decided) → number ≡ status_number s → given ≢ given_number s) }
 {
     match (number, given) {
         (0, None) => Ok(RequestStatus::Initial),
@@ -113,9 +117,14 @@ fn status(number: u32, given: Option<u64>) -> Result<RequestStatus, StoreFault>
 }
 
 impl Shown for RequestStatus {
+    ghost use Rattle.std.specs.Prelude.{⊤};
     ghost use Rattle.acvp_store.specs.Private.Summaries.{status_shown};
 
     ghost shown = { status_shown };
+
+    ghost fits = { λ _. ⊤ };
+
+    ghost judged_so = { λ _. ⊤ };
 
     fn read(row: &Row) -> Result<RequestStatus, StoreFault> {
         let decided: u32 = field(row, 0)?;
@@ -125,12 +134,19 @@ impl Shown for RequestStatus {
 }
 
 impl Member for RequestSummary {
+    ghost use Rattle.std.specs.Prelude.{◌<◌, ◌^◌};
+    ghost use Rattle.acvp_store.specs.Private.Shown.{IsText};
+    ghost use Rattle.acvp_store.specs.Private.Summaries.{FitsSubject, subject_text};
     ghost use Rattle.acvp_tables.specs.declared.summary.RequestSummary.{RequestSummary as Summary};
     ghost use Rattle.acvp_store.specs.Private.Summaries.{SubjectReads, summary_shown};
 
     ghost listed_as = { summary_shown };
 
     ghost reads = { λ s. SubjectReads s.subject };
+
+    ghost fits = { λ s. (s.account < 2 ^ 16) × FitsSubject s.subject × IsText (subject_text s.subject) };
+
+    ghost judged_so = { λ s. s.account < 2 ^ 16 };
 
     fn from_row(row: &Row) -> Result<RequestSummary, StoreFault> {
         let number: u64 = field(row, 0)?;

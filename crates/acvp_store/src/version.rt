@@ -2,7 +2,7 @@
 ghost use Rattle.std.specs.Prelude.{◌≡◌, ◌↔◌, nat_lt, length, [], IsTrue, IfOk};
 ghost use Rattle.std.specs.List.{list_any};
 ghost use Rattle.sqlite.specs.Held.{state};
-ghost use Rattle.acvp_store.specs.Adopted.{is_version_row, HasVersion};
+ghost use Rattle.acvp_store.specs.Version.{is_version_row, HasVersion};
 ghost use Rattle.acvp_store.specs.Connection.{IsSettled, IsRead};
 ghost use Rattle.acvp_store.specs.Stands.{HasNoOldSetsAt};
 ghost use Rattle.acvp_store.specs.Schema.{Migrated, schema_at, second_schema, version_number, IsKnownSchema};

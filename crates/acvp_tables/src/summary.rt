@@ -1,6 +1,8 @@
 //! What is read of a row without the parts of it that take memory.
+ghost use Rattle.std.specs.Prelude.{◌≡◌};
+ghost use Rattle.acvp_tables.specs.Content.{request_summary, subject_of};
 
-use crate::rows::{Certification, RequestStatus};
+use crate::rows::{Certification, RequestBody, RequestRow, RequestStatus};
 use acvp_answers::Disposition;
 use acvp_registry::Kind;
 
@@ -30,6 +32,30 @@ pub struct RequestSummary {
     pub account: u16,
     pub subject: RequestSubject,
     pub status: RequestStatus,
+}
+
+/// What a request asks for.
+fn subject(body: &RequestBody) -> RequestSubject
+    ensures { result ≡ subject_of body.now }
+{
+    match body {
+        RequestBody::Registration(object) => RequestSubject::Registration(object.kind()),
+        RequestBody::Certification(certification) => RequestSubject::Certification(*certification),
+    }
+}
+
+impl RequestSummary {
+    /// A request without the object that it asks to register.
+    pub fn of(row: &RequestRow) -> RequestSummary
+        ensures { result ≡ request_summary row.now }
+    {
+        RequestSummary {
+            number: row.number,
+            account: row.account,
+            subject: subject(&row.body),
+            status: row.status,
+        }
+    }
 }
 
 /// Which rows of an account are counted.

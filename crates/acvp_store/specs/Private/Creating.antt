@@ -1,11 +1,11 @@
 -- The statements that make the tables, one after the other.
-use Rattle.std.specs.Prelude.{◌≡◌, List, ℕ, codes, [], ◌∷◌}
+use Rattle.std.specs.Prelude.{◌≡◌, List, ℕ, codes, []}
 use Rattle.sqlite.specs.Change.{created, next_tree, KeepsRows}
 use Rattle.sqlite.specs.Effect.{Database}
 use Rattle.sqlite.specs.Schema.{Schema}
 use Rattle.sqlite.specs.Table.{Table}
 use Rattle.acvp_store.specs.Schema.{no_schema, Created, schema_of, meta_table, account_table, session_table, set_table, old_set_table, object_table, request_table, reviewer_table}
-use Rattle.acvp_store.specs.Stands.{version_row}
+use Rattle.acvp_store.specs.Version.{HasVersion}
 use Rattle.acvp_store.specs.Alters.{SparesOthers}
 use Rattle.acvp_store.specs.declared.setup.StoreTable.{StoreTable}
 use Rattle.acvp_store.specs.declared.setup.StoreTable.TheVariants.{Meta, Account, Session, Set, Object, Request, Reviewer, OldSet, LaterObject, LaterRequest, LaterSet, LaterReviewer}
@@ -94,5 +94,5 @@ pub record Makes (table : StoreTable) (old new : Database) : Type 0 where
 -- the version is written into the table `meta`, which was empty
 pub record WritesVersion (version : ℕ) (old new : Database) : Type 0 where
   pub schema : new.schema ≡ schema_of Created
-  pub written : old.trees 0 ≡ [] → new.trees 0 ≡ version_row version ∷ []
+  pub written : old.trees 0 ≡ [] → HasVersion version new.trees
   pub others : SparesOthers Created 0 old.trees new.trees

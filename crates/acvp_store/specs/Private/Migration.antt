@@ -1,11 +1,12 @@
 -- The statements of a migration.
-use Rattle.std.specs.Prelude.{◌≡◌, ◌≢◌, ◌⊎◌, ℕ, List, [], ◌∷◌, Option, Some, None, take}
+use Rattle.std.specs.Prelude.{◌≡◌, ◌≢◌, ◌⊎◌, ℕ, List, [], Option, Some, None, take}
 use Rattle.sqlite.specs.Effect.{Database}
 use Rattle.sqlite_schema.specs.declared.schema.Schema.{Schema}
 use Rattle.acvp_tables.specs.declared.rows.SetRow.{SetRow}
 use Rattle.acvp_store.specs.Alters.{SparesOthers}
 use Rattle.acvp_store.specs.Schema.{Layout, Created, Migrated, schema_of, SchemaVersion, First, Second, schema_at, second_schema}
-use Rattle.acvp_store.specs.Stands.{version_row, HoldsSets, HoldsOldSets}
+use Rattle.acvp_store.specs.Stands.{HoldsSets, HoldsOldSets}
+use Rattle.acvp_store.specs.Version.{HasVersion}
 use Rattle.acvp_store.specs.declared.migration.Earlier.{Earlier}
 use Rattle.acvp_store.specs.declared.migration.Earlier.TheVariants as earlier
 
@@ -42,5 +43,5 @@ pub record EmptiesOldSets (old new : Database) : Type 0 where
 -- `meta` names schema 3 where it named another
 pub record RaisesVersion (layout : Layout) (old new : Database) : Type 0 where
   pub schema : new.schema ≡ schema_of layout
-  pub raised : (version : ℕ) → old.trees 0 ≡ version_row version ∷ [] → new.trees 0 ≡ version_row 3 ∷ []
+  pub raised : (version : ℕ) → HasVersion version old.trees → HasVersion 3 new.trees
   pub others : SparesOthers layout 0 old.trees new.trees

@@ -30,3 +30,7 @@ AreVerdictsOf (Some text) told = (verdicts : List Verdict) → text ≡ verdicts
 abbrev pub TellsVerdicts : Option (Option (List ℕ)) → Option (List Verdict) → Type 0
 TellsVerdicts None told = told ≡ None
 TellsVerdicts (Some column) told = AreVerdictsOf column told
+
+-- the column has the text of a capability
+abbrev pub IsOfCapability : Option (List ℕ) → Type 0
+IsOfCapability column = (told : CapabilityValue) × IsCapabilityOf column told

@@ -1,38 +1,76 @@
 -- A vector set without its texts, as its columns keep it.
-use Rattle.std.specs.Prelude.{◌≡◌, ℕ, false, List, [], ◌∷◌, ◌++◌, Option, Some, None, ⊤}
+use Rattle.std.specs.Prelude.{◌≡◌, ℕ, ◌+◌, ◌*◌, Bool, ◌&&◌, true, false, is_none, slice_get, List, [], ◌∷◌, ◌++◌, Option, Some, None, ⊤}
 use Rattle.sqlite.specs.Values.{or_null}
-use Rattle.sqlite_value.specs.Order.{Row}
+use Rattle.sqlite_sql.specs.Ops.{is_null}
+use Rattle.sqlite_value.specs.declared.value.Value.TheVariants.{Text}
+use Rattle.sqlite_value.specs.Order.{Row, column}
 use Rattle.sqlite.specs.Effect.{Database}
 use Rattle.acvp_caps.specs.Capability.{CapabilityValue}
+use Rattle.acvp_answers.specs.VerdictText.{verdicts_text}
+use Rattle.acvp_answers.specs.Verdicts.{disposition_of}
 use Rattle.acvp_answers.specs.declared.verdict.Disposition.{Disposition}
+use Rattle.acvp_answers.specs.declared.verdict.Verdict.{Verdict}
 use Rattle.acvp_tables.specs.declared.rows.SetRow.{SetRow}
 use Rattle.acvp_tables.specs.declared.summary.SetSummary.{SetSummary}
 use Rattle.acvp_store.specs.Values.{whole, flag}
 use Rattle.acvp_store.specs.Schema.{Layout}
 use Rattle.acvp_store.specs.Alters.{Alters}
+use Rattle.acvp_store.specs.Private.Shown.{is_at_least, is_at_most, is_other}
 use Rattle.acvp_store.specs.Stands.{SetColumns, disposition_number, set_tree, HoldsSets}
-use Rattle.acvp_store.specs.declared.sets.ShortSet.{ShortSet}
 
-abbrev pub short_shown : ShortSet → Row
-short_shown s = whole s.number ∷ whole s.session ∷ flag s.cancelled ∷ or_null whole s.disposition ∷ whole s.epoch ∷ []
+-- What is read of a vector set: all but its capability, and of its answers whether there are any.
+pub record ShortColumns : Type 0 where
+  pub number : ℕ
+  pub session : ℕ
+  pub cancelled : Bool
+  pub unanswered : Bool
+  pub verdicts : Option (List ℕ)
+  pub disposition : Option ℕ
+  pub epoch : ℕ
 
-abbrev pub short_of : SetColumns → ShortSet
-short_of c = record { number = c.number; session = c.session; cancelled = c.cancelled; disposition = c.disposition; epoch = c.epoch }
+abbrev pub short_shown : ShortColumns → Row
+short_shown s = whole s.number ∷ whole s.session ∷ flag s.cancelled ∷ flag s.unanswered ∷ or_null Text s.verdicts ∷ or_null whole s.disposition ∷ whole s.epoch ∷ []
 
-abbrev pub IsDispositionOf : Option ℕ → Option Disposition → Type 0
-IsDispositionOf None None = ⊤
-IsDispositionOf None (Some d) = ⊥
-IsDispositionOf (Some n) None = ⊥
-IsDispositionOf (Some n) (Some d) = disposition_number d ≡ Some n
+abbrev pub short_of : SetColumns → ShortColumns
+short_of c = record { number = c.number; session = c.session; cancelled = c.cancelled; unanswered = is_none c.answers; verdicts = c.verdicts; disposition = c.disposition; epoch = c.epoch }
 
-pub record IsSummary (c : ShortSet) (s : SetSummary) : Type 0 where
+-- verdicts' letters give the disposition, which is kept as the number
+abbrev pub IsGiven : List ℕ → ℕ → Disposition → Type 0
+IsGiven text number d = (verdicts : List Verdict) × (text ≡ verdicts_text verdicts) × (d ≡ disposition_of verdicts) × (disposition_number d ≡ Some number)
+
+-- The columns that are no more than there are together: answers, the letters of verdicts, and the number of the
+-- disposition that these verdicts give; or none of them.
+abbrev pub IsDispositionOf : ShortColumns → Option Disposition → Type 0
+IsDispositionOf c None = (c.unanswered ≡ true) × (c.verdicts ≡ None) × (c.disposition ≡ None)
+IsDispositionOf c (Some d) = (c.unanswered ≡ false) × (verdicts : List Verdict) × (c.verdicts ≡ Some (verdicts_text verdicts)) × (d ≡ disposition_of verdicts) × (c.disposition ≡ disposition_number d)
+
+pub record IsSummary (c : ShortColumns) (s : SetSummary) : Type 0 where
   pub number : s.number ≡ c.number
   pub session : s.session ≡ c.session
   pub epoch : s.epoch ≡ c.epoch
   pub cancelled : s.cancelled ≡ c.cancelled
-  pub disposition : IsDispositionOf c.disposition s.disposition
+  pub disposition : IsDispositionOf c s.disposition
 
-abbrev pub IsSummaryOf : Option ShortSet → Option SetSummary → Type 0
+-- the columns are those of a set
+abbrev pub IsJudged : ShortColumns → Type 0
+IsJudged c = (d : Option Disposition) × IsDispositionOf c d
+
+-- the columns of one of them are those of no set
+pub record HasUnjudged (sets : List ShortColumns) : Type 0 where
+  pub place : ℕ
+  pub columns : ShortColumns
+  pub there : slice_get sets place ≡ Some columns
+  pub of_none : ¬ IsJudged columns
+
+-- the columns that are read of a row
+abbrev pub short_columns : Row → Row
+short_columns row = column row 0 ∷ column row 2 ∷ column row 4 ∷ flag (is_null (column row 5)) ∷ column row 6 ∷ column row 7 ∷ column row 8 ∷ []
+
+-- the row has one of the numbers of a session's sets, and isn't cancelled
+abbrev pub is_live_row : ℕ → Row → Bool
+is_live_row session row = is_at_least (session * 100) (column row 0) && (is_at_most (session * 100 + 99) (column row 0) && is_other 1 (column row 4))
+
+abbrev pub IsSummaryOf : Option ShortColumns → Option SetSummary → Type 0
 IsSummaryOf None None = ⊤
 IsSummaryOf None (Some s) = ⊥
 IsSummaryOf (Some c) None = ⊥

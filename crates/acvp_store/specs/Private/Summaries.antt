@@ -1,5 +1,5 @@
 -- A request without the object that it asks to register, as a query shows it.
-use Rattle.std.specs.Prelude.{◌<◌, ℕ, List, [], ◌∷◌, Option, Some, None}
+use Rattle.std.specs.Prelude.{◌<◌, ◌^◌, ⊤, ℕ, List, [], ◌∷◌, Option, Some, None}
 use Rattle.serde_json.specs.Written.{compact_text}
 use Rattle.sqlite.specs.Values.{or_null}
 use Rattle.sqlite_value.specs.declared.value.Value.TheVariants.{Text}
@@ -7,6 +7,7 @@ use Rattle.sqlite_value.specs.Order.{Row}
 use Rattle.acvp_tables.specs.Content.{kind_number}
 use Rattle.acvp_tables.specs.State.{given_number}
 use Rattle.acvp_tables.specs.declared.rows.RequestBody.TheVariants as body
+use Rattle.acvp_tables.specs.declared.rows.Certification.{Certification}
 use Rattle.acvp_tables.specs.declared.rows.RequestStatus.{RequestStatus}
 use Rattle.acvp_tables.specs.declared.summary.RequestSubject.{RequestSubject}
 use Rattle.acvp_tables.specs.declared.summary.RequestSubject.TheVariants as subject
@@ -34,3 +35,11 @@ status_shown s = whole (status_number s) ∷ or_null whole (given_number s) ∷ 
 
 abbrev pub summary_shown : RequestSummary → Row
 summary_shown s = whole s.number ∷ whole s.account ∷ whole (subject_number s.subject) ∷ or_null Text (subject_text s.subject) ∷ status_shown s.status
+
+-- the numbers of its URLs have 19 digits at most
+abbrev pub FitsCertification : Certification → Type 0
+FitsCertification c = (c.«module» < 10 ^ 19) × (c.environment < 10 ^ 19)
+
+abbrev pub FitsSubject : RequestSubject → Type 0
+FitsSubject (subject.Registration kind) = ⊤
+FitsSubject (subject.Certification c) = FitsCertification c

@@ -1,12 +1,12 @@
 //! Requests as a list.
 ghost use Rattle.std.specs.Prelude.{◌≡◌, ◌==◌, IfOk, Option, option_to_list};
-ghost use Rattle.acvp_tables.specs.Content.{request_summary, subject_of};
+ghost use Rattle.acvp_tables.specs.Content.{request_summary};
 ghost use Rattle.acvp_tables.specs.Changes.{is_request, with_status, new_request, new_certification, new_objects};
 
 use crate::change::{NewCertification, NewRequest};
 use crate::list::walks::{Edit, Show, Test};
 use crate::rows::{ObjectRow, RequestBody, RequestRow, RequestStatus};
-use crate::summary::{RequestSubject, RequestSummary};
+use crate::summary::RequestSummary;
 use std::alloc::AllocError;
 
 /// The request of a number.
@@ -37,28 +37,6 @@ impl Test<RequestRow> for RequestsOf {
     }
 }
 
-/// What a request asks for.
-fn subject(body: &RequestBody) -> RequestSubject
-    ensures { result ≡ subject_of body.now }
-{
-    match body {
-        RequestBody::Registration(object) => RequestSubject::Registration(object.kind()),
-        RequestBody::Certification(certification) => RequestSubject::Certification(*certification),
-    }
-}
-
-/// A request without the object that it asks to register.
-pub(crate) fn summary(row: &RequestRow) -> RequestSummary
-    ensures { result ≡ request_summary row.now }
-{
-    RequestSummary {
-        number: row.number,
-        account: row.account,
-        subject: subject(&row.body),
-        status: row.status,
-    }
-}
-
 /// A request without the object that it asks to register.
 #[derive(Drop)]
 pub(crate) struct RequestInShort;
@@ -67,7 +45,7 @@ impl Show<RequestRow, RequestSummary> for RequestInShort {
     ghost shown = { λ _ row. request_summary row };
 
     fn show(&self, row: &RequestRow) -> Result<RequestSummary, AllocError> {
-        Ok(summary(row))
+        Ok(RequestSummary::of(row))
     }
 }
 

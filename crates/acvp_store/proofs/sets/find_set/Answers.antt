@@ -1,14 +1,17 @@
 use Rattle.std.proofs.Common.{rules, w64, to_z-of_z}
 use mir.Val.{SFits}
-use Rattle.std.specs.Prelude.{option_map}
+use Rattle.std.specs.Prelude.{option_map, option_to_list}
 use Rattle.std.proofs.lemmas.Result.{IfOk-weaker}
 use Rattle.sqlite.specs.Held.{state}
 use Rattle.acvp_tables.specs.Content.{set_summary}
 use Rattle.acvp_store.specs.Stands.{set_tree}
-use Rattle.acvp_store.specs.Private.Sets.{short_shown, short_of, IsSummaryOf}
+use Rattle.acvp_store.specs.Private.Sets.{short_shown, short_columns, short_of, IsJudged, IsSummaryOf}
+use Rattle.acvp_store.specs.Private.Shown.{is_under}
 use Rattle.acvp_store.proofs.Texts.{find_set, set_asks}
 use Rattle.acvp_store.proofs.Reading.{clean_if_open, read}
 use Rattle.acvp_store.proofs.Finding.{in_store, read_as}
+use Rattle.acvp_store.proofs.Meeting.{met}
+use Rattle.acvp_store.proofs.RowsMet.{set_met, judged_one}
 use Rattle.acvp_store.proofs.SetRows.{set_rows, none_told, one_told, find_told}
 use Rattle.acvp_store.proofs.sets.find_set.Goals as goal
 
@@ -28,3 +31,14 @@ returns-clause-found g c live =
     in_store c.summarized.result old.now _ (λ layout schema.
     find_told short_of IsSummaryOf (option_map set_summary) none_told one_told c.args.number short_shown (λ s. s) (old.now.trees (set_tree layout)) (λ v. v.items) c.query_all.result c.answered.result c.summarized.result c.answered.ensures.ok c.summarized.ensures.ok c.answered.ensures.found c.summarized.ensures.told
     (IfOk-weaker c.query_all.result _ _ (λ rows shown. set_rows layout c.args.number c.key.result c.key.ensures.fits c.key.ensures.too_large old new rows.items schema (rw (c.params-to_sql.ensures, to_z-of_z fit) at shown)) (c.query_all.ensures.ok clean)))
+
+pub returns-clause-judged : goal.returns-clause-judged
+returns-clause-judged g c live low =
+    let old = state g.S.Store c.args.conn.now in
+    let new = state g.S.Store c.query_all.new.self in
+    let clean = clean_if_open new.is_clean new.is_open (g.met.S.Store.shut_if_dirty c.query_all.new.self.store) live in
+    let fit : SFits w64 c.key.result = search rules in
+    in_store c.summarized.result old.now _ (λ layout schema.
+    met (is_under c.args.number) short_columns short_shown _ (λ row x is. is) IsJudged (old.now.trees (set_tree layout)) (λ v. v.items) option_to_list c.query_all.result c.answered.result c.summarized.result c.answered.ensures.ok c.summarized.ensures.ok c.answered.ensures.judged
+    (IfOk-weaker c.summarized.result _ _ (λ told tells. IfOk-weaker c.answered.result _ _ (λ found is. judged_one found told is) tells) c.summarized.ensures.told)
+    (IfOk-weaker c.query_all.result _ _ (λ rows shown. set_met layout c.args.number c.key.result low c.key.ensures.fits old new rows.items schema (rw (c.params-to_sql.ensures, to_z-of_z fit) at shown)) (c.query_all.ensures.ok clean)))

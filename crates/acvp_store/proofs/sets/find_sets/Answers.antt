@@ -6,7 +6,9 @@ use Rattle.acvp_store.specs.Stands.{set_tree}
 use Rattle.acvp_store.proofs.Texts.{find_sets, sets_asks}
 use Rattle.acvp_store.proofs.Reading.{clean_if_open, read}
 use Rattle.acvp_store.proofs.Finding.{in_store, read_as}
-use Rattle.acvp_store.specs.Private.Sets.{short_shown}
+use Rattle.acvp_store.specs.Private.Sets.{short_shown, short_columns, is_live_row, IsJudged}
+use Rattle.acvp_store.proofs.Meeting.{met}
+use Rattle.acvp_store.proofs.RowsMet.{sets_met, judged_each}
 use Rattle.acvp_store.proofs.Listing.{listed_plainly}
 use Rattle.acvp_store.proofs.SessionSets.{live_rows, find_live}
 use Rattle.acvp_store.proofs.sets.find_sets.Goals as goal
@@ -31,3 +33,18 @@ returns-clause-found g c live =
     in_store c.summaries_in.result old.now _ (λ layout schema.
     find_live s (old.now.trees (set_tree layout)) (λ v. v.items) (λ v. v.items) (λ v. v.items) c.query_all.result c.listed.result c.summaries_in.result c.listed.ensures.ok c.summaries_in.ensures.ok (listed_plainly short_shown c.query_all.result (λ v. v.items) c.listed.result (λ v. v.items) c.listed.ensures.found) c.summaries_in.ensures.told
     (IfOk-weaker c.query_all.result _ _ (λ rows shown. live_rows layout s old new rows.items schema (rw (c.params-to_sql.ensures, c.params-to_sql-2.ensures, to_z-of_z fit_low, to_z-of_z fit_high, low, high) at shown)) (c.query_all.ensures.ok clean)))
+
+pub returns-clause-judged : goal.returns-clause-judged
+returns-clause-judged g c live =
+    let old = state g.S.Store c.args.conn.now in
+    let new = state g.S.Store c.query_all.new.self in
+    let clean = clean_if_open new.is_clean new.is_open (g.met.S.Store.shut_if_dirty c.query_all.new.self.store) live in
+    let s = c.args.session in
+    let low : c.key.result ≡ pos (s * 100) = c.key.ensures.fits (omega arith) in
+    let high : c.key-2.result ≡ pos (s * 100 + 99) = c.key-2.ensures.fits (omega arith) in
+    let fit_low : SFits w64 c.key.result = search rules in
+    let fit_high : SFits w64 c.key-2.result = search rules in
+    in_store c.summaries_in.result old.now _ (λ layout schema.
+    met (is_live_row s) short_columns short_shown _ (λ row x is. is) IsJudged (old.now.trees (set_tree layout)) (λ v. v.items) (λ v. v.items) c.query_all.result c.listed.result c.summaries_in.result c.listed.ensures.ok c.summaries_in.ensures.ok c.listed.ensures.judged
+    (IfOk-weaker c.summaries_in.result _ _ (λ told tells. IfOk-weaker c.listed.result _ _ (λ found is. judged_each found.items told.items is) tells) c.summaries_in.ensures.told)
+    (IfOk-weaker c.query_all.result _ _ (λ rows shown. sets_met layout s old new rows.items schema (rw (c.params-to_sql.ensures, c.params-to_sql-2.ensures, to_z-of_z fit_low, to_z-of_z fit_high, low, high) at shown)) (c.query_all.ensures.ok clean)))

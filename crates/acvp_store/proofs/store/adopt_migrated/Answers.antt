@@ -1,7 +1,7 @@
 use Rattle.std.proofs.Common.{sym, ap, subst, ◌∙◌}
 use Rattle.std.proofs.lemmas.Result.{IfOk-weaker, IfErr-weaker}
 use Rattle.sqlite.specs.Effect.{Database, IsDatabase}
-use Rattle.acvp_store.specs.Adopted.{HasVersion}
+use Rattle.acvp_store.specs.Version.{HasVersion}
 use Rattle.acvp_store.specs.Schema.{Migrated}
 use Rattle.acvp_store.proofs.Versions.{empty}
 use Rattle.acvp_store.proofs.store.adopt_migrated.Goals as goal

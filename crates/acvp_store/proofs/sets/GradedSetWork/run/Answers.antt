@@ -1,4 +1,4 @@
-use Rattle.std.proofs.Common.{ap, rules, w64, to_z-of_z, ◌≡◌, Some, subst, ◌∙◌, string_bytes}
+use Rattle.std.proofs.Common.{ap, sym, rules, w64, to_z-of_z, ◌≡◌, Some, subst, ◌∙◌, string_bytes}
 use mir.Val.{SFits}
 use Rattle.sqlite.specs.Held.{state}
 use Rattle.acvp_answers.specs.VerdictText.{verdicts_text}
@@ -23,9 +23,9 @@ returns-clause-inside g c =
     let answers = string_bytes c.in_ok-answers.answers in
     let verdicts = string_bytes c.in_ok-verdicts.verdicts in
     let d = c.in-Some.disposition in
-    let disposition_is = subst (λ x. disposition_number x ≡ Some d) c.disposition.ensures.value c.in-Some.ensures in
+    let disposition_is = subst (λ x. disposition_number x ≡ Some d) c.disposition.ensures.value c.in-Some.ensures.some in
     let Change = λ (layout : Layout). Alters layout (set_tree layout) HoldsSets (changed (is_set s.number) (with_graded s.graded.now)) in
     inside_as c.execute.result c.done.result old new (UnderStore Change) c.done.ensures
     (inside_store c.execute.result old new Change (λ layout. inside (schema_of layout) grade_set (grade_params s.number answers verdicts d) old new (clean_if_open new.is_clean new.is_open (g.met.S.Store.shut_if_dirty c.execute.new.self.conn.now.store))
-    _ (grade_is layout) (grade_plain layout) (λ count w. w) (Change layout) (grade_effect layout old s.number s.graded.now answers verdicts d (c.in_ok-answers.ensures.text ∙ ap kept_text c.answers.ensures) (c.in_ok-verdicts.ensures ∙ ap verdicts_text c.verdicts.ensures) disposition_is) c.execute.result
+    _ (grade_is layout) (grade_plain layout) (λ count w. w) (Change layout) (grade_effect layout old s.number s.graded.now answers verdicts d (c.in_ok-answers.ensures.text ∙ ap kept_text c.answers.ensures) (c.in_ok-answers.ensures.reads_back ∙ ap Some c.answers.ensures) (c.in_ok-verdicts.ensures ∙ ap verdicts_text c.verdicts.ensures) disposition_is (sym c.disposition.ensures.value ∙ c.disposition.ensures.given)) c.execute.result
     (λ clean on. rw (c.params-to_sql.ensures, c.params-to_sql-2.ensures, c.params-to_sql-3.ensures, c.params-to_sql-4.ensures, to_z-of_z fit_number, c.in_ok-number.ensures.1) at (c.execute.ensures.runs clean on)) (λ off. ap (state g.S.Store) (c.execute.ensures.ended off).1) c.execute.ensures.survives))
