@@ -59,6 +59,7 @@ answers_add_none seeds session n body others (Some prompts) = not_mapped _ (grad
 set_adds_none : (seeds : List (List ℕ)) (session n : ℕ) (body : List ℕ) (m : Material) → added (set_change seeds session n body m) ≡ None
 set_adds_none seeds session n body material.Nothing = refl
 set_adds_none seeds session n body (material.Counts counts) = refl
+set_adds_none seeds session n body (material.SessionCount sessions) = refl
 set_adds_none seeds session n body (material.Sets sets) = refl
 set_adds_none seeds session n body (material.Outcomes outcomes) = refl
 set_adds_none seeds session n body (material.Reviewers accounts) = refl

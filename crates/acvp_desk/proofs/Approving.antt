@@ -1,14 +1,15 @@
 -- A request that is decided is next: it waits, and its number is its account's next of the kind.
-use Rattle.std.proofs.Common.{◌≡◌, ℕ, suc, ◌+◌, ◌≤◌, List, [], ◌∷◌, length, filter, Bool, true, false, Option, None, Some, refl, sym, ap, arith}
+use Rattle.std.proofs.Common.{◌≡◌, ◌≢◌, ◌∙◌, ℕ, suc, ◌+◌, ◌≤◌, List, [], ◌∷◌, length, filter, Bool, true, false, Option, None, Some, refl, sym, ap, arith}
 use Rattle.std.proofs.lemmas.Bool.Decides.{nat_tests}
 use Rattle.std.specs.Prelude.{◌==◌, ◌&&◌, not, find, is_some, option_and_then, if◌then◌else◌}
 use Rattle.std.specs.List.{list_all}
 use Rattle.acvp_registry.specs.Object.{KeptObject, object_fault, is_fit}
 use Rattle.acvp_registry.specs.declared.kind.Kind.{Kind}
 use Rattle.acvp_registry.specs.declared.kind.Kind.TheVariants.{Vendor, Module, Environment, Certification}
-use Rattle.acvp_tables.specs.Content.{objects_of, request_at, subject_of}
+use Rattle.acvp_tables.specs.Content.{Content, count_of as rows_of, counts_of, objects_of, request_at, subject_of}
+use Rattle.acvp_tables.specs.declared.summary.Counted.TheVariants.{Objects}
 use Rattle.acvp_tables.specs.Next.{IsNextApproved, IsNextOrderFor, IsWaiting}
-use Rattle.acvp_tables.specs.State.{State, own, owner_of, first_of_account, has_registered, has_vendor, is_sound_body, objects_in, record_counts, IsWellNumbered}
+use Rattle.acvp_tables.specs.State.{State, own, owner_of, first_of_account, has_registered, has_vendor, is_sound_body, objects_in, record_counts, state_of, IsWellNumbered}
 use Rattle.acvp_tables.specs.declared.change.OrderChange.TheVariants as order_change
 use Rattle.acvp_tables.specs.declared.rows.RequestBody.{RequestBody}
 use Rattle.acvp_tables.specs.declared.rows.RequestBody.TheVariants as body
@@ -116,3 +117,11 @@ module _ (requests : (u n : ℕ) (state : State) → IsWellNumbered state → re
 
   pub approved_next : IsNextOrderFor (own (owner_of n) state) (order_change.Approve (record { request = n; approved = approved_number state row }))
   approved_next = (record { row = row; there = own_request; initial = is_there.initial }, number_next)
+
+-- how many of a kind are registered, by the count of its objects
+pub registered_as : (kind : Kind) (u : ℕ) (c : Content) (count registered : ℕ) → record_counts u (state_of c) ≡ counts_of u c → count ≡ rows_of (Objects kind) u c
+    → (kind ≢ Certification → registered ≡ count) → (kind ≡ Certification → registered ≡ 0) → registered ≡ count_of kind (record_counts u (state_of c))
+registered_as Vendor u c count registered follows is some none = some (λ e. let impossible = e in cc) ∙ is ∙ ap (λ n. n.vendors) (sym follows)
+registered_as Module u c count registered follows is some none = some (λ e. let impossible = e in cc) ∙ is ∙ ap (λ n. n.modules) (sym follows)
+registered_as Environment u c count registered follows is some none = some (λ e. let impossible = e in cc) ∙ is ∙ ap (λ n. n.environments) (sym follows)
+registered_as Certification u c count registered follows is some none = none refl

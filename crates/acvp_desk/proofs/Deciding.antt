@@ -46,7 +46,7 @@ use Rattle.acvp_desk.specs.Submissions.{answers_at, graded_on, kept_answers}
 use Rattle.acvp_desk.specs.Wish.{action_of_wish, action_on_session, action_on_set}
 use Rattle.acvp_desk.specs.declared.found.Found.{Found}
 use Rattle.acvp_desk.specs.Bodies.{body_conditions, registration_rule}
-use Rattle.acvp_desk.specs.NewSessions.{counts_in_material, has_number_left, new_session_in}
+use Rattle.acvp_desk.specs.NewSessions.{sessions_in_material, has_number_left, new_session_in}
 use Rattle.acvp_desk.specs.OwnConditions.{wish_conditions}
 use Rattle.acvp_desk.proofs.Allowing.{new_allowed, cancelled_there, set_there, registration_allowed, certification_owned}
 use Rattle.acvp_desk.proofs.Asking.{few_asked, registration_covered, certification_covered}
@@ -142,11 +142,11 @@ new_covers : (seeds : List (List ℕ)) (moment u : ℕ) (r : RequestValue) (foun
 unfolding granted decision
 new_covers seeds moment u r found f g own acts decided is =
     let allowed = new_allowed f (held (policy action.NewSession f) (granted action.NewSession f) g (sym decided)) in
-    let left = first_held (has_number_left (counts_in_material found.material)) rule.AccountFull []
-    (back_held (body_conditions registration_rule registration_conditions r.body) ((has_number_left (counts_in_material found.material), rule.AccountFull) ∷ []) own) in
+    let left = first_held (has_number_left (sessions_in_material found.material)) rule.AccountFull []
+    (back_held (body_conditions registration_rule registration_conditions r.body) ((has_number_left (sessions_in_material found.material), rule.AccountFull) ∷ []) own) in
     go f.subject refl allowed.0 left
   where
-    go : (s : Subject) → f.subject ≡ s → is_account s ≡ true → has_number_left (counts_in_material found.material) ≡ true
+    go : (s : Subject) → f.subject ≡ s → is_account s ≡ true → has_number_left (sessions_in_material found.material) ≡ true
         → CoversAny g (option_map change.NewSession (new_session_in seeds moment u r.body found.material))
     go subject.Account e account left =
         registers seeds moment u r.body found.material g (ap (λ x. x.action) is) (rw (is, e) refl) (rw (is, e, acts) refl) left
@@ -213,6 +213,7 @@ set_covers owns seeds session n body on_set.Results f g names fits decided is (m
 set_covers owns seeds session n body it f g names fits decided is (material.Submission None) for = tt
 set_covers owns seeds session n body it f g names fits decided is material.Nothing for = tt
 set_covers owns seeds session n body it f g names fits decided is (material.Counts counts) for = tt
+set_covers owns seeds session n body it f g names fits decided is (material.SessionCount sessions) for = tt
 set_covers owns seeds session n body it f g names fits decided is (material.Sets sets) for = tt
 set_covers owns seeds session n body it f g names fits decided is (material.Outcomes sets) for = tt
 set_covers owns seeds session n body it f g names fits decided is (material.Reviewers accounts) for = tt

@@ -40,10 +40,6 @@ use Rattle.acvp_desk.proofs.Passing.{counters_tell, outcome_of, outcomes_among}
 
 module _ (follows : (n : ℕ) (c : Content) → session_record_at n (state_of c).sessions ≡ option_map session_record (session_at n c.sessions))
     (sets : (s : ℕ) (c : Content) → live_records s (state_of c).sets ≡ map set_record (live_sets s c.sets)) where
-  pub no_session : (seeds : List (List ℕ)) (c : Content) (n : ℕ) → session_at n c.sessions ≡ None → None ≡ session_facts seeds (state_of c) n
-  unfolding session_facts
-  no_session seeds c n none = rw (follows n c, none) refl
-
   pub session_stands : (seeds : List (List ℕ)) (c : Content) (n : ℕ) (row : SessionRow) (certification : Option CertificationStatus) (found : SessionFacts) → IsKept seeds c
       → session_at n c.sessions ≡ Some row → certification ≡ certification_of row.certify (state_of c).requests
       → found ≡ (record { cancelled = row.cancelled; created = row.created; sample = row.sample; certification = certification; passed = nat_le 1 row.live && (row.passed == row.live) })

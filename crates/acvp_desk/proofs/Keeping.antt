@@ -30,7 +30,7 @@ use Rattle.acvp_tables.specs.declared.rows.AccountRow.{AccountRow}
 use Rattle.acvp_tables.specs.declared.rows.ReviewerRow.{ReviewerRow}
 use Rattle.acvp_desk.specs.Answer.{account_found, answer, ask_of, end_of_moments, facts_from, standing_of, found_of, later_of, policy_conditions, accepted_change, change_by, change_on, content_after, content_effect, state_after, effect}
 use Rattle.acvp_desk.specs.Bodies.{body_conditions, registration_rule, rule_of}
-use Rattle.acvp_desk.specs.NewSessions.{counts_in_material, has_number_left, new_session_in, newest_epoch, registration_in, session_made}
+use Rattle.acvp_desk.specs.NewSessions.{sessions_in_material, has_number_left, new_session_in, newest_epoch, registration_in, session_made}
 use Rattle.acvp_desk.specs.Kept.{IsKept}
 use Rattle.acvp_desk.specs.Login.{step_of}
 use Rattle.acvp_tables.specs.declared.rows.RequestRow.{RequestRow}
@@ -177,28 +177,28 @@ module _ (follows : (c : Content) (it : Change) → state_of (after it c) ≡ af
           (next_reviewer sessions reviews counted seeds (state_of c) n a r.body kept.sound (rw (← names) (session_there AddReviewer f allowed)) e (rw (shows, e) at room)) kept
 
   -- where a session is registered
-  new_kept : (seeds : List (List ℕ)) (m u : ℕ) (r : RequestValue) (found : Found) (c : Content) → found.material ≡ material.Counts (record_counts u (state_of c))
+  new_kept : (seeds : List (List ℕ)) (m u : ℕ) (r : RequestValue) (found : Found) (c : Content) → found.material ≡ material.SessionCount (record_counts u (state_of c)).sessions
       → is_some (account_at u (state_of c).accounts) ≡ true → nat_lt m end_of_moments ≡ true → first_broken (wish_conditions seeds r found NewSession) ≡ None
       → IsKept seeds c → IsKept seeds (content_after (option_map change.NewSession (new_session_in seeds m u r.body found.material)) c)
   unfolding after
   new_kept seeds m u r found c shows there served held kept = rw shows (go (newest_epoch seeds) refl (registration_in r.body) refl)
     where
       bodied : first_broken (body_conditions registration_rule registration_conditions r.body) ≡ None
-      bodied = whole_held (body_conditions registration_rule registration_conditions r.body) ((has_number_left (counts_in_material found.material), rule.AccountFull) ∷ []) held
+      bodied = whole_held (body_conditions registration_rule registration_conditions r.body) ((has_number_left (sessions_in_material found.material), rule.AccountFull) ∷ []) held
 
-      left : has_number_left (counts_in_material found.material) ≡ true
-      left = first_held (has_number_left (counts_in_material found.material)) rule.AccountFull []
-          (back_held (body_conditions registration_rule registration_conditions r.body) ((has_number_left (counts_in_material found.material), rule.AccountFull) ∷ []) held)
+      left : has_number_left (sessions_in_material found.material) ≡ true
+      left = first_held (has_number_left (sessions_in_material found.material)) rule.AccountFull []
+          (back_held (body_conditions registration_rule registration_conditions r.body) ((has_number_left (sessions_in_material found.material), rule.AccountFull) ∷ []) held)
 
       few : nat_lt (record_counts u (state_of c)).sessions 999999 ≡ true
       few = rw shows at left
 
       go : (epoch : Option ℕ) → newest_epoch seeds ≡ epoch → (registration : Option RegistrationValue) → registration_in r.body ≡ registration
-          → IsKept seeds (content_after (option_map change.NewSession (option_and_then (λ epoch. option_map (session_made m u (record_counts u (state_of c)) epoch) registration) epoch)) c)
+          → IsKept seeds (content_after (option_map change.NewSession (option_and_then (λ epoch. option_map (session_made m u (record_counts u (state_of c)).sessions epoch) registration) epoch)) c)
       go None e registration is = kept
       go (Some epoch) e None is = kept
       go (Some epoch) e (Some registration) is =
-          let made = session_made m u (record_counts u (state_of c)) epoch registration in
+          let made = session_made m u (record_counts u (state_of c)).sessions epoch registration in
           let next = next_session accounts (state_of c) m u epoch registration r.body there served few bodied is in
           let fits = number_of u (record_counts u (state_of c)).sessions few in
           record {

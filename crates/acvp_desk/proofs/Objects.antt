@@ -25,7 +25,6 @@ use Rattle.acvp_tables.specs.State.{State, SetRecord, record_counts, set_record,
 use Rattle.acvp_tables.specs.declared.rows.ObjectRow.{ObjectRow}
 use Rattle.acvp_tables.specs.declared.rows.RequestRow.{RequestRow}
 use Rattle.acvp_tables.specs.declared.rows.SetRow.{SetRow}
-use Rattle.acvp_tables.specs.declared.summary.Counts.{Counts}
 use Rattle.acvp_desk.specs.Answer.{account_found, answer, ask_of, ask_on, conditions, facts_from, first_conditions, first_conditions_on, found_of, later_of, policy_conditions, reply_to, reviewer_found}
 use Rattle.acvp_desk.specs.Bodies.{body_conditions, object_conditions, registration_rule, rule_of}
 use Rattle.acvp_desk.specs.Kept.{IsGraded, IsGradedSet, IsKept}
@@ -310,7 +309,7 @@ module _ (follows : (n : ℕ) (c : Content) → set_record_at n (state_of c).set
       reviewers_shown (reviewers_of n state.reviewers) (reviewer_at r.body)
       (reviewer_said r.body (whole_held (body_conditions rule_of reviewer_body_conditions r.body) ((has_room (Some (reviewers_of n state.reviewers)) (reviewer_at r.body), rule.ReviewersFull) ∷ []) own))
 
-  new_shown : (seeds : List (List ℕ)) → 1 ≤ length seeds → is_some (registration_in r.body) ≡ true → (counts : Counts) → is_some (new_session_in seeds moment u r.body (material.Counts counts)) ≡ true
+  new_shown : (seeds : List (List ℕ)) → 1 ≤ length seeds → is_some (registration_in r.body) ≡ true → (sessions : ℕ) → is_some (new_session_in seeds moment u r.body (material.SessionCount sessions)) ≡ true
   new_shown [] seeded said counts = absurd (grind (arith, seeded))
   new_shown (seed ∷ seeds) seeded said counts = mapped _ (registration_in r.body) said
 
@@ -339,8 +338,8 @@ module _ (follows : (n : ℕ) (c : Content) → set_record_at n (state_of c).set
   wish_shown (wish.Reviewer n m) holds own = refl
   wish_shown (wish.Set session n it) holds own = set_shown session n it holds
   wish_shown wish.NewSession holds own =
-      mapped _ (new_session_in keys.seed moment u r.body (material.Counts (record_counts u state)))
-      (new_shown keys.seed seeded (registration_said r.body (whole_held (body_conditions registration_rule registration_conditions r.body) ((has_number_left (Some (record_counts u state)), rule.AccountFull) ∷ []) own)) (record_counts u state))
+      mapped _ (new_session_in keys.seed moment u r.body (material.SessionCount (record_counts u state).sessions))
+      (new_shown keys.seed seeded (registration_said r.body (whole_held (body_conditions registration_rule registration_conditions r.body) ((has_number_left (Some (record_counts u state).sessions), rule.AccountFull) ∷ []) own)) (record_counts u state).sessions)
   wish_shown (wish.CancelSet session n) holds own = refl
   wish_shown (wish.ListSessions at) holds own = sessions_shown u state at (page_there at own)
   wish_shown (wish.Certify n) holds own = refl

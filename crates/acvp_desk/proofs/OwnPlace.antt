@@ -278,7 +278,7 @@ module _ (session_told : (u n : ℕ) (state : State) → IsWellNumbered state �
   own_material body (wish.Session n it) on = own_session_material n it on
   own_material body (wish.Reviewer n m) on = rw (own_reviewers n on) refl
   own_material body (wish.Set session n it) on = own_set_material session n it on
-  own_material body wish.NewSession on = ap material.Counts (counts_told u state)
+  own_material body wish.NewSession on = ap (λ n. material.SessionCount n.sessions) (counts_told u state)
   own_material body (wish.CancelSet session n) on = rw (own_live session on) refl
   own_material body (wish.ListSessions at) on = own_sessions_material at
   own_material body (wish.Certify n) on = rw (own_certification_asked body) refl

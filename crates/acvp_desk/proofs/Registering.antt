@@ -21,11 +21,10 @@ use Rattle.acvp_tables.specs.Next.{IsNextFor}
 use Rattle.acvp_tables.specs.State.{State, own, owner_of, first_of_account, is_account_there, record_counts}
 use Rattle.acvp_tables.specs.declared.change.Change.TheVariants as change
 use Rattle.acvp_tables.specs.declared.rows.SetRow.{SetRow}
-use Rattle.acvp_tables.specs.declared.summary.Counts.{Counts}
 use Rattle.acvp_desk.specs.Answer.{CoversAny}
 use Rattle.acvp_desk.specs.Bodies.{body_conditions, object_conditions, registration_rule, rule_of}
 use Rattle.acvp_desk.specs.Kept.{IsGradedSet}
-use Rattle.acvp_desk.specs.NewSessions.{counts_in_material, has_number_left, newest_epoch, new_session_in, registration_in, session_made}
+use Rattle.acvp_desk.specs.NewSessions.{sessions_in_material, has_number_left, newest_epoch, new_session_in, registration_in, session_made}
 use Rattle.acvp_desk.specs.declared.found.Material.{Material}
 use Rattle.acvp_desk.proofs.Judging.{back_held, first_held, whole_held}
 
@@ -102,22 +101,22 @@ number_of u k few = grind (arith, nat_tests, few)
 
 -- the grant is leave for it
 pub registers : (seeds : List (List ℕ)) (m u : ℕ) (body : List ℕ) (material : Material) (g : Granted) → g.action ≡ action.NewSession → g.resource ≡ resource.Account → g.account ≡ u
-    → has_number_left (counts_in_material material) ≡ true → CoversAny g (option_map change.NewSession (new_session_in seeds m u body material))
-registers seeds m u body material g acts on is left = go (counts_in_material material) left (newest_epoch seeds) (registration_in body)
+    → has_number_left (sessions_in_material material) ≡ true → CoversAny g (option_map change.NewSession (new_session_in seeds m u body material))
+registers seeds m u body material g acts on is left = go (sessions_in_material material) left (newest_epoch seeds) (registration_in body)
   where
-    go : (n : Option Counts) → has_number_left n ≡ true → (epoch : Option ℕ) (registration : Option RegistrationValue)
+    go : (n : Option ℕ) → has_number_left n ≡ true → (epoch : Option ℕ) (registration : Option RegistrationValue)
         → CoversAny g (option_map change.NewSession (option_and_then (λ n. option_and_then (λ epoch. option_map (session_made m u n epoch) registration) epoch) n))
     go None few epoch registration = tt
     go (Some n) few None registration = tt
     go (Some n) few (Some epoch) None = tt
-    go (Some n) few (Some epoch) (Some registration) = ((acts, on, is), number_of u n.sessions few)
+    go (Some n) few (Some epoch) (Some registration) = ((acts, on, is), number_of u n few)
 
 -- it is next
 pub next_session : (accounts : (u n : ℕ) (state : State) → account_at n (own u state).accounts ≡ (if n == u then account_at n state.accounts else None))
     → (state : State) (m u epoch : ℕ) (registration : RegistrationValue) (body : List ℕ) → is_some (account_at u state.accounts) ≡ true → nat_lt m 4102444800 ≡ true
     → nat_lt (record_counts u state).sessions 999999 ≡ true → first_broken (body_conditions registration_rule registration_conditions body) ≡ None
     → registration_in body ≡ Some registration
-    → IsNextFor (own u state) (change.NewSession (session_made m u (record_counts u state) epoch registration))
+    → IsNextFor (own u state) (change.NewSession (session_made m u (record_counts u state).sessions epoch registration))
 unfolding own
 next_session accounts state m u epoch registration body there served few held is =
     let counted = registered_counted body registration held is in

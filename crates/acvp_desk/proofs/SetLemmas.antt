@@ -1,6 +1,6 @@
 -- What is read of the answers to a vector set is what the records hold of them; and what is shown where it has none.
 use Rattle.std.proofs.Common.{◌≡◌, ℕ, List, [], ◌∷◌, ◌++◌, map, Bool, true, false, Option, None, Some, refl, sym, ap, ◌∙◌, length, ◌≤◌, append-nil}
-use Rattle.std.specs.Prelude.{◌/◌, ◌==◌, drop, option_map, option_and_then, IfSome}
+use Rattle.std.specs.Prelude.{◌/◌, ◌==◌, drop, is_some, option_map, option_and_then, IfSome}
 use Rattle.std.specs.List.{All, flat_map}
 use Rattle.std.proofs.Math.ListN.{drop_of_length-le}
 use Rattle.std.proofs.lemmas.List.{map-append}
@@ -13,13 +13,15 @@ use Rattle.acvp_answers.specs.declared.verdict.Verdict.TheVariants.{Missing}
 use Rattle.acvp_gen.specs.Algorithms.{hash_of}
 use Rattle.acvp_gen.specs.Prompt.{GroupValue, PromptsValue, TestValue}
 use Rattle.acvp_mac.specs.declared.HashName.{HashName}
-use Rattle.acvp_tables.specs.Content.{Content, set_at, set_verdicts}
+use Rattle.acvp_tables.specs.Content.{Content, set_at, set_summary, set_verdicts}
 use Rattle.acvp_tables.specs.Graded.{GradedValue}
 use Rattle.acvp_policy.specs.declared.facts.SessionFacts.{SessionFacts}
 use Rattle.acvp_tables.specs.State.{State, SetRecord, state_of, set_record, set_record_at, IsWellNumbered}
 use Rattle.acvp_tables.specs.declared.rows.SetRow.{SetRow}
 use Rattle.acvp_desk.specs.Kept.{IsGradedSet, IsRightly, IsKept}
-use Rattle.acvp_desk.specs.Sets.{facts_of_set, set_facts, set_in_session, verdicts_under, verdicts_on_set}
+use Rattle.acvp_tables.specs.declared.summary.SetSummary.{SetSummary}
+use Rattle.acvp_desk.specs.Private.SetRows.{facts_in, source_from}
+use Rattle.acvp_desk.specs.Sets.{facts_of_set, if_in_session, set_facts, set_in_session, source_of, verdicts_under, verdicts_on_set}
 use Rattle.acvp_desk.proofs.Elsewhere.{no_set_in}
 
 module _ (follows : (n : ℕ) (c : Content) → set_record_at n (state_of c).sets ≡ option_map set_record (set_at n c.sets)) where
@@ -50,6 +52,45 @@ module _ (follows : (n : ℕ) (c : Content) → set_record_at n (state_of c).set
   pub verdicts_found : (seeds : List (List ℕ)) (c : Content) (n : ℕ) (found : Option (List Verdict)) → IsKept seeds c → found ≡ option_and_then set_verdicts (set_at n c.sets)
       → found ≡ option_and_then (verdicts_on_set seeds) (set_record_at n (state_of c).sets)
   verdicts_found seeds c n found kept is = is ∙ verdicts_among seeds n c.sets kept.graded ∙ sym (ap (option_and_then (verdicts_on_set seeds)) (follows n c))
+
+  -- ---- by the row that is read of a set
+
+  -- how it stands in a session
+  facts_found : (c : Content) (session n : ℕ) (of : SessionFacts) (row : Option SetSummary) → row ≡ option_map set_summary (set_at n c.sets)
+      → facts_in session of row ≡ option_map (facts_of_set of) (set_in_session session n (state_of c).sets)
+  facts_found c session n of row read = rw (read, follows n c) (go (set_at n c.sets))
+    where
+      go : (kept : Option SetRow) → facts_in session of (option_map set_summary kept) ≡ option_map (facts_of_set of) (option_and_then (if_in_session session) (option_map set_record kept))
+      go None = refl
+      go (Some kept) = on (kept.session == session) refl
+        where
+          answered : (graded : Option GradedValue) → is_some (option_map (λ (g : GradedValue). g.disposition) graded) ≡ is_some (option_map (λ (g : GradedValue). g.answers) graded)
+          answered None = refl
+          answered (Some g) = refl
+
+          on : (b : Bool) → (kept.session == session) ≡ b
+              → facts_in session of (Some (set_summary kept)) ≡ option_map (facts_of_set of) (if_in_session session (set_record kept))
+          on true is = rw (is, answered kept.graded) refl
+          on false is = rw is refl
+
+  pub facts_stand : (c : Content) (session n : ℕ) (facts : Option SessionFacts) (of : SessionFacts) (row : Option SetSummary) → Some of ≡ facts
+      → row ≡ option_map set_summary (set_at n c.sets) → facts_in session of row ≡ set_facts facts session n (state_of c).sets
+  unfolding set_facts
+  facts_stand c session n facts of row some read = rw (← some) (facts_found c session n of row read)
+
+  -- what its prompts are made from
+  pub source_found : (c : Content) (n : ℕ) (row : Option SetSummary) → row ≡ option_map set_summary (set_at n c.sets)
+      → source_from row (set_at n c.sets) ≡ option_map source_of (set_record_at n (state_of c).sets)
+  source_found c n row read = rw (read, follows n c) (go (set_at n c.sets))
+    where
+      go : (kept : Option SetRow) → source_from (option_map set_summary kept) kept ≡ option_map source_of (option_map set_record kept)
+      go None = refl
+      go (Some kept) = refl
+
+-- where there is no capability there is no row
+pub no_row : (set : SetSummary) (kept : Option SetRow) → None ≡ source_from (Some set) kept → None ≡ option_map set_summary kept
+no_row set None e = refl
+no_row set (Some kept) e = absurd (cc)
 
 -- ---- which sets are of a session
 

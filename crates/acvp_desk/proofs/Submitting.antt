@@ -5,7 +5,6 @@ use Rattle.std.specs.List.{All}
 use Rattle.std.proofs.lemmas.Bool.Decides.{nat_tests}
 use Rattle.std.proofs.lemmas.List.Elements.{All-cons, All-head, All-tail}
 use Rattle.acvp_answers.specs.Answer.{Answer}
-use Rattle.acvp_caps.specs.Capability.{CapabilityValue}
 use Rattle.acvp_gen.specs.Prompt.{PromptsValue}
 use Rattle.acvp_gen.specs.Prompts.{prompts_of}
 use Rattle.acvp_policy.specs.Conditions.{is_some_and}
@@ -26,10 +25,12 @@ use Rattle.acvp_tables.specs.declared.summary.SetSummary.{SetSummary}
 use Rattle.acvp_desk.specs.Kept.{IsGradedSet, IsKept}
 use Rattle.acvp_desk.specs.Answer.{content_after}
 use Rattle.acvp_desk.specs.Place.{facts_of_session, session_facts}
+use Rattle.acvp_desk.specs.Private.SetRows.{source_with}
 use Rattle.acvp_desk.specs.Replies.{answers_change, prompts_from, set_change}
 use Rattle.acvp_desk.specs.Sets.{if_live_in, others_passed, set_facts, set_passes, source_of, submission_for, submission_to}
 use Rattle.acvp_desk.specs.Submissions.{answers_at, graded_on, kept_answers}
 use Rattle.acvp_desk.specs.declared.found.Material.TheVariants as material
+use Rattle.acvp_desk.specs.declared.found.SetSource.{SetSource}
 use Rattle.acvp_desk.specs.declared.found.Submission.{Submission}
 use Rattle.acvp_desk.proofs.Passing.{found_holds, graded_passes, passed_is}
 
@@ -173,26 +174,26 @@ module _ (once : (n : ℕ) (c : Content) → IsSound c → length (filter (is_se
             let off' : ((row.session == session) && not row.cancelled) ≡ false = rw same at off in
             rw off' refl
 
-    pub set_is : (set : SetSummary) (capability : CapabilityValue) (row : SessionRow) (others : ℕ) → IsKept seeds c → Some set ≡ option_map set_summary (set_at n c.sets)
-        → ((set.session == session) && not set.cancelled) ≡ true → Some capability ≡ option_map (λ (row : SetRow). row.capability) (set_at n c.sets)
+    pub set_is : (set : SetSummary) (source : SetSource) (row : SessionRow) (others : ℕ) → IsKept seeds c → Some set ≡ option_map set_summary (set_at n c.sets)
+        → ((set.session == session) && not set.cancelled) ≡ true → Some source ≡ option_map (source_with set) (set_at n c.sets)
         → Some row ≡ session_at session c.sessions → others + one_if (is_some_and set.disposition is_passed) ≡ row.passed
-        → Some (record { source = record { capability = capability; epoch = set.epoch }; others = others }) ≡ submission_for seeds session n (state_of c).sets
+        → Some (record { source = source; others = others }) ≡ submission_for seeds session n (state_of c).sets
     unfolding submission_for
-    set_is set capability srow others kept found live has there counted = rw (follows n c) (go (set_at n c.sets) refl found has)
+    set_is set source srow others kept found live has there counted = rw (follows n c) (go (set_at n c.sets) refl found has)
       where
-        go : (row : Option SetRow) → set_at n c.sets ≡ row → Some set ≡ option_map set_summary row → Some capability ≡ option_map (λ (row : SetRow). row.capability) row
-            → Some (record { source = record { capability = capability; epoch = set.epoch }; others = others })
+        go : (row : Option SetRow) → set_at n c.sets ≡ row → Some set ≡ option_map set_summary row → Some source ≡ option_map (source_with set) row
+            → Some (record { source = source; others = others })
             ≡ option_map (submission_to seeds session n (state_of c).sets) (option_and_then (if_live_in session) (option_map set_record row))
         go None at e f = absurd (cc)
         go (Some row) at e f =
             let same : set ≡ set_summary row = cc in
-            let cap : capability ≡ row.capability = cc in
+            let made : source ≡ source_with set row = cc in
             let live' : ((row.session == session) && not row.cancelled) ≡ true = rw same at live in
             let all = others_are seeds session n c kept (record { row = srow; set_row = row; has_session = sym there; has_set = at; live = live' }) in
             let passed : others + one_if (is_some_and (option_map (λ (g : GradedValue). g.disposition) row.graded) is_passed) ≡ srow.passed = rw same at counted in
             let passed' : others + one_if (has_passed row.graded) ≡ srow.passed = rw (passed_is row.graded) passed in
             let is : others ≡ others_passed seeds session n (state_of c).sets = omega (arith, all, passed') in
-            rw (live', same, cap, is) refl
+            rw (live', made, same, is) refl
 
 -- ---- what is kept
 

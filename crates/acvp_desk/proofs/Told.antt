@@ -224,6 +224,7 @@ module _ (seeds : List (List ℕ)) (r : RequestValue) (found : Found) where
   set_lacks : (n : ℕ) (m : Material) → lacks is_unavailable (set_conditions seeds n r.body m) ≡ true
   set_lacks n material.Nothing = refl
   set_lacks n (material.Counts x) = refl
+  set_lacks n (material.SessionCount x) = refl
   set_lacks n (material.Sets x) = refl
   set_lacks n (material.Outcomes x) = refl
   set_lacks n (material.Reviewers x) = refl

@@ -8,7 +8,6 @@ use Rattle.acvp_json.specs.Envelope.{object_of}
 use Rattle.acvp_json.specs.Session.{new_session_data}
 use Rattle.acvp_tables.specs.State.{first_of_account, first_of_session}
 use Rattle.acvp_tables.specs.declared.change.NewSession.{NewSession}
-use Rattle.acvp_tables.specs.declared.summary.Counts.{Counts}
 use Rattle.acvp_token.specs.TokenText.{ring_token_text}
 use Rattle.acvp_token.specs.declared.Claims.{Claims}
 use Rattle.acvp_desk.specs.Login.{token_life}
@@ -20,23 +19,24 @@ use Rattle.acvp_token.specs.Keys.{Ring}
 unfoldable pub registration_in : List ℕ → Option RegistrationValue
 registration_in body = option_map registration_at (object_of body)
 
-abbrev pub counts_in_material : Material → Option Counts
-counts_in_material (material.Counts n) = Some n
-counts_in_material _ = None
+-- how many sessions the account has
+abbrev pub sessions_in_material : Material → Option ℕ
+sessions_in_material (material.SessionCount n) = Some n
+sessions_in_material _ = None
 
 -- the account has no 999999 sessions yet
-abbrev pub has_number_left : Option Counts → Bool
+abbrev pub has_number_left : Option ℕ → Bool
 has_number_left None = true
-has_number_left (Some n) = nat_lt n.sessions 999999
+has_number_left (Some n) = nat_lt n 999999
 
 -- the place of the newest seed
 abbrev pub newest_epoch : List (List ℕ) → Option ℕ
 newest_epoch [] = None
 newest_epoch (seed ∷ seeds) = Some (length seeds)
 
-abbrev pub session_made : ℕ → ℕ → Counts → ℕ → RegistrationValue → NewSession
+abbrev pub session_made : ℕ → ℕ → ℕ → ℕ → RegistrationValue → NewSession
 session_made moment u n epoch registration = record {
-  number = first_of_account u + n.sessions;
+  number = first_of_account u + n;
   account = u;
   created = moment;
   epoch = epoch;
@@ -46,7 +46,7 @@ session_made moment u n epoch registration = record {
 -- the session that a body registers: the account's next number, and vector sets under the newest seed
 abbrev pub new_session_in : List (List ℕ) → ℕ → ℕ → List ℕ → Material → Option NewSession
 new_session_in seeds moment u body material =
-    option_and_then (λ n. option_and_then (λ epoch. option_map (session_made moment u n epoch) (registration_in body)) (newest_epoch seeds)) (counts_in_material material)
+    option_and_then (λ n. option_and_then (λ epoch. option_map (session_made moment u n epoch) (registration_in body)) (newest_epoch seeds)) (sessions_in_material material)
 
 -- a token that is bound to it
 abbrev pub session_claims : NewSession → Claims

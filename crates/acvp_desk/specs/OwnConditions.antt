@@ -10,7 +10,7 @@ use Rattle.acvp_policy.specs.declared.rule.Rule.{Rule}
 use Rattle.acvp_policy.specs.declared.rule.Rule.TheVariants as rule
 use Rattle.acvp_desk.specs.Asked.{asked_in, registration_conditions_on, certification_conditions_on}
 use Rattle.acvp_desk.specs.Bodies.{body_conditions, rule_of, registration_rule}
-use Rattle.acvp_desk.specs.NewSessions.{counts_in_material, has_number_left}
+use Rattle.acvp_desk.specs.NewSessions.{sessions_in_material, has_number_left}
 use Rattle.acvp_desk.specs.Place.{reviewers_in_material}
 use Rattle.acvp_desk.specs.Registries.{kind_of}
 use Rattle.acvp_desk.specs.Replies.{prompts_from}
@@ -59,7 +59,7 @@ wish_conditions seeds r found (wish.Session n it) = session_conditions r found i
 wish_conditions seeds r found (wish.Set session n it) = set_conditions seeds n r.body found.material
 wish_conditions seeds r found wish.NewSession =
     body_conditions registration_rule registration_conditions r.body
-    ++ (has_number_left (counts_in_material found.material), rule.AccountFull) ∷ []
+    ++ (has_number_left (sessions_in_material found.material), rule.AccountFull) ∷ []
 wish_conditions seeds r found (wish.ListSessions page) = page_conditions page
 wish_conditions seeds r found (wish.Certify n) = certification_conditions_on r.body (asked_in found.material)
 wish_conditions seeds r found (wish.Registry it) = registry_conditions r.body found.material it

@@ -164,7 +164,7 @@ material_of seeds u body state (wish.Account it) = account_material u state it
 material_of seeds u body state (wish.Algorithm n) = material.Nothing
 material_of seeds u body state (wish.Session n it) = session_material seeds n state it
 material_of seeds u body state (wish.Reviewer n m) = material.Reviewers (reviewers_of n state.reviewers)
-material_of seeds u body state wish.NewSession = material.Counts (record_counts u state)
+material_of seeds u body state wish.NewSession = material.SessionCount (record_counts u state).sessions
 material_of seeds u body state (wish.CancelSet session n) = material.Outcomes (set_outcomes seeds session state)
 material_of seeds u body state (wish.Set session n it) = set_material seeds session n state.sets it
 material_of seeds u body state (wish.ListSessions page) = sessions_material u state page
@@ -180,6 +180,10 @@ place_of seeds u body state it = record { subject = subject_of seeds u state it;
 abbrev pub has_counts : Material → Bool
 has_counts (material.Counts n) = true
 has_counts _ = false
+
+abbrev pub has_session_count : Material → Bool
+has_session_count (material.SessionCount n) = true
+has_session_count _ = false
 
 abbrev pub is_for_account : AccountWish → Material → Bool
 is_for_account on_account.Read m = has_counts m
@@ -250,7 +254,7 @@ is_for (wish.Algorithm n) m = true
 is_for (wish.Session n it) m = is_for_session it m
 is_for (wish.Reviewer n a) m = has_reviewers m
 is_for (wish.Set session n it) m = is_for_set it m
-is_for wish.NewSession m = has_counts m
+is_for wish.NewSession m = has_session_count m
 is_for (wish.CancelSet session n) m = has_outcomes m
 is_for (wish.ListSessions page) m = is_for_page page m
 is_for (wish.Certify n) m = is_asked m

@@ -1,2 +1,3 @@
 pub mod Changeable
+pub mod SetRows
 pub mod Waiting

@@ -1,17 +1,18 @@
 //! The tables are looked at.
 
-ghost use Rattle.std.specs.Prelude.{◌≡◌, ◌⊎◌, ◌/◌, ℕ, List, map, ◌&&◌, ◌||◌, ◌==◌, not, nat_le, true, Some, is_some, IfOk, IfErr, IfSome, option_and_then, option_map};
+ghost use Rattle.std.specs.Prelude.{◌≡◌, ◌⊎◌, ◌/◌, ℕ, List, map, ◌&&◌, ◌||◌, ◌==◌, not, nat_le, true, Some, is_some, IfOk, IfErr, IfSome, option_and_then};
 ghost use Rattle.acvp_mac.specs.Conditions.{first_broken};
 ghost use Rattle.acvp_policy.specs.Conditions.{claims_of};
 ghost use Rattle.acvp_policy.specs.Decision.{account_of_claims};
 ghost use Rattle.acvp_policy.specs.Resource.{resource_of};
-ghost use Rattle.acvp_tables.specs.Content.{Content, account_at, reviewers_of};
-ghost use Rattle.acvp_tables.specs.State.{session_record, state_of, set_record_at};
+ghost use Rattle.acvp_tables.specs.Content.{Content, account_at, reviewers_of, session_at, set_at};
+ghost use Rattle.acvp_tables.specs.State.{record_counts, session_record, state_of, set_record_at};
 ghost use Rattle.acvp_desk.specs.Answer.{found_of, policy_conditions, reviewer_found, who, IsOf};
 ghost use Rattle.acvp_desk.specs.Kept.{IsKept};
 ghost use Rattle.acvp_desk.specs.Private.Changeable.{IfChangeable};
-ghost use Rattle.acvp_desk.specs.Place.{certification_of, certification_status, listed_session, sessions_material, is_for_page, session_facts, reviewed_facts, is_within, subject_of, material_of, account_material, session_material, is_for, is_for_account, is_for_session, place_of, set_numbers, set_outcomes, unfound};
-ghost use Rattle.acvp_desk.specs.Sets.{no_set_material, set_facts, set_material, source_of, submission_for, verdicts_on_set, is_for_set};
+ghost use Rattle.acvp_desk.specs.Private.SetRows.{facts_in, rows_in, source_from};
+ghost use Rattle.acvp_desk.specs.Place.{certification_of, certification_status, listed_session, sessions_material, is_for_page, session_facts, reviewed_facts, is_within, account_material, session_material, is_for, is_for_account, is_for_session, place_of, set_numbers, set_outcomes, unfound};
+ghost use Rattle.acvp_desk.specs.Sets.{no_set_material, set_facts, set_material, submission_for, verdicts_on_set, is_for_set};
 ghost use Rattle.acvp_desk.specs.Serves.{Holds, Knows, Looks, Sees};
 
 use crate::ask::Ask;
@@ -28,8 +29,8 @@ use acvp_policy::{
     Subject, Token, admit,
 };
 use acvp_tables::{
-    AccountRow, Counted, RequestStatus, SessionRow, StoreFault, Tables, numbers_name, numbers_tell,
-    selections_follow, sets_are_there_once,
+    AccountRow, Counted, RequestStatus, SessionRow, SetSummary, StoreFault, Tables, numbers_name,
+    numbers_tell, selections_follow, sets_are_there_once,
 };
 use std::alloc::{AllocError, Global};
 
@@ -135,18 +136,32 @@ fn facts_of(row: &SessionRow, certification: Option<CertificationStatus>) -> Ses
     }
 }
 
-/// How the session of a number stands.
+/// How the session of a number stands, whose row this is. Like all that is told of rows that are handed in, it is said
+/// of the contents that have them.
 #[tactic(auto, unfolding(acvp_tables::specs::State::state_of, crate::specs::Place::session_facts))]
-fn session_facts<T: Tables>(tables: &mut T, number: u64) -> Result<Option<SessionFacts>, StoreFault>
-    ensures found { Sees T.stands T.is_live T.is_clean T.leaves result tables.old tables.new (λ seeds c. session_facts seeds (state_of c) number) }
+fn facts_by_row<T: Tables>(
+    tables: &mut T,
+    number: u64,
+    row: Option<SessionRow>,
+) -> Result<Option<SessionFacts>, StoreFault>
+    ensures found { Sees (λ t c. T.stands t c × (row ≡ session_at number c.sessions)) T.is_live T.is_clean T.leaves result tables.old tables.new (λ seeds c. session_facts seeds (state_of c) number) }
     ensures looks { Looks T.stands T.is_live T.is_clean T.leaves result tables.old tables.new }
 {
     selections_follow();
-    let Some(row) = tables.session(number)? else {
+    let Some(row) = row else {
         return Ok(None);
     };
     let certification = certification(tables, row.certify)?;
     Ok(Some(facts_of(&row, certification)))
+}
+
+/// How the session of a number stands.
+fn session_facts<T: Tables>(tables: &mut T, number: u64) -> Result<Option<SessionFacts>, StoreFault>
+    ensures found { Sees T.stands T.is_live T.is_clean T.leaves result tables.old tables.new (λ seeds c. session_facts seeds (state_of c) number) }
+    ensures looks { Looks T.stands T.is_live T.is_clean T.leaves result tables.old tables.new }
+{
+    let row = tables.session(number)?;
+    facts_by_row(tables, number, row)
 }
 
 /// How the session of a number stands, where the account of another is a reviewer of it.
@@ -170,6 +185,20 @@ fn reviewed_facts<T: Tables>(
     session_facts(tables, session)
 }
 
+/// How the vector set of a row stands, where there is one and it is of the session of a number, which stands so.
+fn facts_in(session: u64, facts: SessionFacts, row: Option<SetSummary>) -> Option<SetFacts>
+    ensures { result ≡ facts_in session facts row }
+{
+    match row {
+        Some(row) if row.session == session => Some(SetFacts {
+            session: facts,
+            cancelled: row.cancelled,
+            answered: row.disposition.is_some(),
+        }),
+        _ => None,
+    }
+}
+
 /// How the vector set of a number stands, where it is of the session of a number.
 #[tactic(auto, unfolding(acvp_tables::specs::State::state_of, crate::specs::Sets::set_facts))]
 fn set_facts<T: Tables>(
@@ -189,61 +218,8 @@ fn set_facts<T: Tables>(
     let Some(facts) = session_facts(tables, session)? else {
         return Ok(None);
     };
-    match tables.set(number)? {
-        Some(row) if row.session == session => Ok(Some(SetFacts {
-            session: facts,
-            cancelled: row.cancelled,
-            answered: row.disposition.is_some(),
-        })),
-        _ => Ok(None),
-    }
-}
-
-/// What a wish of an account names, with what is found there.
-fn subject<T: Tables>(tables: &mut T, account: u16, wish: &Wish) -> Result<Subject, StoreFault>
-    ensures found { Sees T.stands T.is_live T.is_clean T.leaves result tables.old tables.new (λ seeds c. subject_of seeds account (state_of c) wish.now) }
-    ensures names { IfOk result (λ subject. resource_of subject ≡ resource_of (unfound wish.now)) }
-    ensures within { IfOk result (λ subject. is_within wish.now subject ≡ true) }
-    ensures looks { Looks T.stands T.is_live T.is_clean T.leaves result tables.old tables.new }
-{
-    match *wish {
-        Wish::Account(_) => Ok(Subject::Account),
-        Wish::NewSession => Ok(Subject::Account),
-        Wish::ListSessions(_) => Ok(Subject::Account),
-        Wish::Algorithm(number) => Ok(Subject::Algorithm(number)),
-        Wish::Registry(it) => {
-            let found = has_row(tables, account, it)?;
-            Ok(registry_subject(found, it))
-        }
-        Wish::Session(session, _) | Wish::Certify(session) => {
-            let found = session_facts(tables, session)?;
-            Ok(Subject::Session(SessionSubject { session, found }))
-        }
-        Wish::Reviewer(session, reviewer) => {
-            let found = reviewed_facts(tables, session, reviewer)?;
-            Ok(Subject::Reviewer(ReviewerSubject {
-                session,
-                reviewer,
-                found,
-            }))
-        }
-        Wish::Set(session, set, _) => {
-            let found = set_facts(tables, session, set)?;
-            Ok(Subject::Set(SetSubject {
-                session,
-                set,
-                found,
-            }))
-        }
-        Wish::CancelSet(session, set) => {
-            let found = set_facts(tables, session, set)?;
-            Ok(Subject::Set(SetSubject {
-                session,
-                set,
-                found,
-            }))
-        }
-    }
+    let row = tables.set(number)?;
+    Ok(facts_in(session, facts, row))
 }
 
 /// The numbers of a session's vector sets that aren't cancelled.
@@ -342,14 +318,50 @@ fn session_material<T: Tables>(
     }
 }
 
-/// What the prompts of a vector set are made from.
-#[tactic(auto, unfolding(acvp_tables::specs::State::state_of))]
-fn set_source<T: Tables>(tables: &mut T, number: u64) -> Result<Option<SetSource>, StoreFault>
-    ensures found { Sees T.stands T.is_live T.is_clean T.leaves result tables.old tables.new (λ seeds c. option_map source_of (set_record_at number (state_of c).sets)) }
+/// The rows of a vector set and of the session of a path, where they are there.
+#[derive(Clone, Copy)]
+struct SetRows {
+    session: Option<SessionRow>,
+    set: Option<SetSummary>,
+}
+
+/// The rows of the vector set and of the session of two numbers, each read once.
+fn set_rows<T: Tables>(tables: &mut T, session: u64, number: u64) -> Result<SetRows, StoreFault>
+    ensures found { Sees T.stands T.is_live T.is_clean T.leaves result tables.old tables.new (λ seeds c. rows_in session number c) }
+    ensures looks { Looks T.stands T.is_live T.is_clean T.leaves result tables.old tables.new }
+{
+    let session = tables.session(session)?;
+    let set = tables.set(number)?;
+    Ok(SetRows { session, set })
+}
+
+/// How the vector set of a number stands in the session of a number, whose rows these are.
+fn facts_by_rows<T: Tables>(
+    tables: &mut T,
+    session: u64,
+    number: u64,
+    rows: &SetRows,
+) -> Result<Option<SetFacts>, StoreFault>
+    ensures found { Sees (λ t c. T.stands t c × (rows.now ≡ rows_in session number c)) T.is_live T.is_clean T.leaves result tables.old tables.new (λ seeds c. set_facts (session_facts seeds (state_of c) session) session number (state_of c).sets) }
     ensures looks { Looks T.stands T.is_live T.is_clean T.leaves result tables.old tables.new }
 {
     selections_follow();
-    let Some(row) = tables.set(number)? else {
+    match facts_by_row(tables, session, rows.session)? {
+        Some(facts) => Ok(facts_in(session, facts, rows.set)),
+        None => Ok(None),
+    }
+}
+
+/// What the prompts of the vector set of a number are made from, whose row this is.
+fn set_source<T: Tables>(
+    tables: &mut T,
+    number: u64,
+    row: Option<SetSummary>,
+) -> Result<Option<SetSource>, StoreFault>
+    ensures found { Sees T.stands T.is_live T.is_clean T.leaves result tables.old tables.new (λ seeds c. source_from row (set_at number c.sets)) }
+    ensures looks { Looks T.stands T.is_live T.is_clean T.leaves result tables.old tables.new }
+{
+    let Some(row) = row else {
         return Ok(None);
     };
     match tables.capability(number)? {
@@ -375,36 +387,32 @@ fn set_verdicts<T: Tables>(tables: &mut T, number: u64) -> Result<Option<SetVerd
 }
 
 /// What answers to the vector set of a number are graded by and counted with, where it is of the session of a number
-/// and isn't cancelled. A set whose session isn't there or doesn't count it stands for nothing.
-#[tactic(auto, unfolding(acvp_tables::specs::State::state_of))]
+/// and isn't cancelled; these are their rows. A set whose session isn't there or doesn't count it stands for nothing.
 fn submission<T: Tables>(
     tables: &mut T,
     session: u64,
     number: u64,
+    rows: &SetRows,
 ) -> Result<Option<Submission>, StoreFault>
-    ensures found { Sees T.stands T.is_live T.is_clean T.leaves result tables.old tables.new (λ seeds c. submission_for seeds session number (state_of c).sets) }
+    ensures found { Sees (λ t c. T.stands t c × (rows.now ≡ rows_in session number c)) T.is_live T.is_clean T.leaves result tables.old tables.new (λ seeds c. submission_for seeds session number (state_of c).sets) }
     ensures looks { Looks T.stands T.is_live T.is_clean T.leaves result tables.old tables.new }
 {
     selections_follow();
     sets_are_there_once();
-    let Some(set) = tables.set(number)? else {
+    let Some(set) = rows.set else {
         return Ok(None);
     };
     if set.session != session || set.cancelled {
         return Ok(None);
     }
-    let Some(capability) = tables.capability(number)? else {
+    let Some(source) = set_source(tables, number, Some(set))? else {
         return Ok(None);
     };
-    let Some(row) = tables.session(session)? else {
+    let Some(row) = rows.session else {
         return Err(StoreFault::Refused);
     };
     let Some(others) = row.passed.checked_sub(one_if_passed(set.disposition)) else {
         return Err(StoreFault::Refused);
-    };
-    let source = SetSource {
-        capability,
-        epoch: set.epoch,
     };
     Ok(Some(Submission { source, others }))
 }
@@ -420,32 +428,31 @@ fn no_set_material(wish: SetWish) -> Material
     }
 }
 
-/// What is read for the reply to who asks something of a vector set. Of a number of another session nothing is read,
-/// since its row may be another account's.
-#[tactic(auto, unfolding(acvp_tables::specs::State::state_of))]
+/// What is read for the reply to who asks something of the vector set of a number, which names the session of a number;
+/// these are their rows.
 fn set_material<T: Tables>(
     tables: &mut T,
     session: u64,
     number: u64,
+    rows: &SetRows,
     wish: SetWish,
 ) -> Result<Material, StoreFault>
-    ensures found { Sees T.stands T.is_live T.is_clean T.leaves result tables.old tables.new (λ seeds c. set_material seeds session number (state_of c).sets wish) }
+    requires { ((number / 100) == session) ≡ true }
+    ensures found { Sees (λ t c. T.stands t c × (rows.now ≡ rows_in session number c)) T.is_live T.is_clean T.leaves result tables.old tables.new (λ seeds c. set_material seeds session number (state_of c).sets wish) }
     ensures fits { IfOk result (λ material. is_for_set wish material ≡ true) }
     ensures looks { Looks T.stands T.is_live T.is_clean T.leaves result tables.old tables.new }
 {
+    selections_follow();
     numbers_name();
-    if number / SETS_OF_A_SESSION != session {
-        return Ok(no_set_material(wish));
-    }
     match wish {
-        SetWish::Read => Ok(Material::Source(set_source(tables, number)?)),
-        SetWish::Expected => Ok(Material::Source(set_source(tables, number)?)),
+        SetWish::Read => Ok(Material::Source(set_source(tables, number, rows.set)?)),
+        SetWish::Expected => Ok(Material::Source(set_source(tables, number, rows.set)?)),
         SetWish::Results => match set_verdicts(tables, number)? {
             Some(verdicts) => Ok(Material::Verdicts(verdicts)),
-            None => Ok(Material::Source(set_source(tables, number)?)),
+            None => Ok(Material::Source(set_source(tables, number, rows.set)?)),
         },
-        SetWish::Submit => Ok(Material::Submission(submission(tables, session, number)?)),
-        SetWish::Resubmit => Ok(Material::Submission(submission(tables, session, number)?)),
+        SetWish::Submit => Ok(Material::Submission(submission(tables, session, number, rows)?)),
+        SetWish::Resubmit => Ok(Material::Submission(submission(tables, session, number, rows)?)),
     }
 }
 
@@ -483,6 +490,16 @@ fn listed_sessions<T: Tables>(
     Ok(ListedSessions { sessions })
 }
 
+/// How many sessions an account has.
+#[tactic(auto, unfolding(acvp_tables::specs::State::state_of))]
+fn session_count<T: Tables>(tables: &mut T, account: u16) -> Result<u64, StoreFault>
+    ensures found { Sees T.stands T.is_live T.is_clean T.leaves result tables.old tables.new (λ seeds c. (record_counts account (state_of c)).sessions) }
+    ensures looks { Looks T.stands T.is_live T.is_clean T.leaves result tables.old tables.new }
+{
+    selections_follow();
+    tables.count(account, Counted::Sessions)
+}
+
 /// What is read for the reply to who lists the sessions of an account.
 #[tactic(auto, unfolding(acvp_tables::specs::State::state_of))]
 fn sessions_material<T: Tables>(
@@ -505,39 +522,50 @@ fn sessions_material<T: Tables>(
     Ok(Material::Sessions(count, sessions))
 }
 
-/// What is read of the records for a reply.
-fn material<T: Tables>(
-    alloc: Global,
-    tables: &mut T,
-    account: u16,
-    body: &[u8],
-    wish: &Wish,
-) -> Result<Material, StoreFault>
-    ensures found { Sees T.stands T.is_live T.is_clean T.leaves result tables.old tables.new (λ seeds c. material_of seeds account body.now (state_of c) wish.now) }
-    ensures fits { IfOk result (λ material. is_for wish.now material ≡ true) }
-    ensures looks { Looks T.stands T.is_live T.is_clean T.leaves result tables.old tables.new }
-{
-    match *wish {
-        Wish::Account(it) => account_material(tables, account, it),
-        Wish::Algorithm(_) => Ok(Material::Nothing),
-        Wish::Session(session, it) => session_material(alloc, tables, session, it),
-        Wish::Reviewer(session, _) => Ok(Material::Reviewers(reviewers(tables, session)?)),
-        Wish::Set(session, set, it) => set_material(tables, session, set, it),
-        Wish::NewSession => account_material(tables, account, AccountWish::Read),
-        Wish::CancelSet(session, _) => Ok(Material::Outcomes(set_outcomes(
-            alloc, tables, session,
-        )?)),
-        Wish::ListSessions(page) => sessions_material(alloc, tables, account, page),
-        Wish::Certify(_) => Ok(Material::Asked(certification_asked(alloc, tables, account, body)?)),
-        Wish::Registry(it) => registry_material(alloc, tables, account, body, it),
-    }
-}
-
 /// What a path names, with what is found there, and what is read for the reply.
 #[derive(Drop)]
 struct Place {
     subject: Subject,
     material: Material,
+}
+
+/// What is found of the vector set of a number on a path of a session, and what is read for the reply to who asks
+/// something of it: each row once. Of a number of another session nothing is read, since its row may be another
+/// account's.
+fn set_place<T: Tables>(
+    tables: &mut T,
+    session: u64,
+    number: u64,
+    wish: SetWish,
+) -> Result<Place, StoreFault>
+    ensures found { Sees T.stands T.is_live T.is_clean T.leaves result tables.old tables.new (λ seeds c. record { subject = Subject.Set (record { session = session; set = number; found = set_facts (session_facts seeds (state_of c) session) session number (state_of c).sets }); material = set_material seeds session number (state_of c).sets wish }) }
+    ensures names { IfOk result (λ place. resource_of place.subject ≡ resource_of (unfound (Wish.Set session number wish))) }
+    ensures within { IfOk result (λ place. is_within (Wish.Set session number wish) place.subject ≡ true) }
+    ensures fits { IfOk result (λ place. is_for_set wish place.material ≡ true) }
+    ensures looks { Looks T.stands T.is_live T.is_clean T.leaves result tables.old tables.new }
+{
+    numbers_name();
+    if number / SETS_OF_A_SESSION != session {
+        return Ok(Place {
+            subject: Subject::Set(SetSubject {
+                session,
+                set: number,
+                found: None,
+            }),
+            material: no_set_material(wish),
+        });
+    }
+    let rows = set_rows(tables, session, number)?;
+    let found = facts_by_rows(tables, session, number, &rows)?;
+    let material = set_material(tables, session, number, &rows, wish)?;
+    Ok(Place {
+        subject: Subject::Set(SetSubject {
+            session,
+            set: number,
+            found,
+        }),
+        material,
+    })
 }
 
 /// What is found of a wish of an account.
@@ -554,9 +582,63 @@ fn look_at<T: Tables>(
     ensures fits { IfOk result (λ place. is_for wish.now place.material ≡ true) }
     ensures looks { Looks T.stands T.is_live T.is_clean T.leaves result tables.old tables.new }
 {
-    let subject = subject(tables, account, wish)?;
-    let material = material(alloc, tables, account, body, wish)?;
-    Ok(Place { subject, material })
+    match *wish {
+        Wish::Account(it) => Ok(Place {
+            subject: Subject::Account,
+            material: account_material(tables, account, it)?,
+        }),
+        Wish::NewSession => Ok(Place {
+            subject: Subject::Account,
+            material: Material::SessionCount(session_count(tables, account)?),
+        }),
+        Wish::ListSessions(page) => Ok(Place {
+            subject: Subject::Account,
+            material: sessions_material(alloc, tables, account, page)?,
+        }),
+        Wish::Algorithm(number) => Ok(Place {
+            subject: Subject::Algorithm(number),
+            material: Material::Nothing,
+        }),
+        Wish::Registry(it) => {
+            let found = has_row(tables, account, it)?;
+            let material = registry_material(alloc, tables, account, body, it)?;
+            let subject = registry_subject(found, it);
+            Ok(Place { subject, material })
+        }
+        Wish::Session(session, it) => {
+            let found = session_facts(tables, session)?;
+            let material = session_material(alloc, tables, session, it)?;
+            let subject = Subject::Session(SessionSubject { session, found });
+            Ok(Place { subject, material })
+        }
+        Wish::Certify(session) => {
+            let found = session_facts(tables, session)?;
+            let material = Material::Asked(certification_asked(alloc, tables, account, body)?);
+            let subject = Subject::Session(SessionSubject { session, found });
+            Ok(Place { subject, material })
+        }
+        Wish::Reviewer(session, reviewer) => {
+            let found = reviewed_facts(tables, session, reviewer)?;
+            let material = Material::Reviewers(reviewers(tables, session)?);
+            let subject = Subject::Reviewer(ReviewerSubject {
+                session,
+                reviewer,
+                found,
+            });
+            Ok(Place { subject, material })
+        }
+        Wish::Set(session, set, it) => set_place(tables, session, set, it),
+        Wish::CancelSet(session, set) => {
+            let found = set_facts(tables, session, set)?;
+            let material = Material::Outcomes(set_outcomes(alloc, tables, session)?);
+            let subject = Subject::Set(SetSubject {
+                session,
+                set,
+                found,
+            });
+            Ok(Place { subject, material })
+        }
+    }
 }
 
 /// What the tables hold of what is asked; or the rule on the caller that is broken, before anything is looked at that

@@ -180,6 +180,9 @@ pub(crate) enum Material {
     /// How many rows the account that acts has.
     Counts(Counts),
 
+    /// How many sessions the account that acts has.
+    SessionCount(u64),
+
     /// The vector sets of a session that aren't cancelled.
     Sets(SetNumbers),
 

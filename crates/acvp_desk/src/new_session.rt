@@ -9,8 +9,8 @@ ghost use Rattle.acvp_tables.specs.State.{first_of_session};
 ghost use Rattle.acvp_tables.specs.declared.change.Change.TheVariants as change;
 ghost use Rattle.acvp_desk.specs.Answer.{end_of_moments, IsReply};
 ghost use Rattle.acvp_desk.specs.Bodies.{body_conditions, registration_rule};
-ghost use Rattle.acvp_desk.specs.NewSessions.{counts_in_material, has_number_left, new_session_in, newest_epoch, session_made_data};
-ghost use Rattle.acvp_desk.specs.Place.{has_counts};
+ghost use Rattle.acvp_desk.specs.NewSessions.{sessions_in_material, has_number_left, new_session_in, newest_epoch, session_made_data};
+ghost use Rattle.acvp_desk.specs.Place.{has_session_count};
 
 use crate::body::registration_body;
 use crate::draft::{Draft, TOKEN_LIFE, told};
@@ -20,22 +20,22 @@ use acvp_gen::Seeds;
 use acvp_json::{Created, ReplyObject};
 use acvp_mac::joined_conditions;
 use acvp_policy::Rule;
-use acvp_tables::{Change, Counts, NewSession};
+use acvp_tables::{Change, NewSession};
 use acvp_token::{Claims, KeyRing, issue_ring};
 use std::alloc::{AllocError, Global};
 
 /// How many numbers each session has for its vector sets.
 const NUMBERS_OF_SESSION: u64 = 100;
 
-/// How many rows the account has that acts.
-fn found_counts(material: &Material) -> &Counts
-    requires { has_counts material.now ≡ true }
-    ensures { counts_in_material material.now ≡ Some result.now }
+/// How many sessions the account that acts has.
+fn found_sessions(material: &Material) -> u64
+    requires { has_session_count material.now ≡ true }
+    ensures { sessions_in_material material.now ≡ Some result }
 {
-    let Material::Counts(counts) = material else {
+    let Material::SessionCount(sessions) = material else {
         unreachable!()
     };
-    counts
+    *sessions
 }
 
 /// The place of the newest seed.
@@ -102,18 +102,18 @@ pub(crate) fn draft_new_session(
     material: &Material,
 ) -> Result<Draft, Rule>
     requires moment { moment < end_of_moments }
-    requires material { has_counts material.now ≡ true }
-    ensures held { IfOk result (λ _. first_broken (body_conditions registration_rule registration_conditions body.now ++ (has_number_left (counts_in_material material.now), rule.AccountFull) ∷ []) ≡ None) }
+    requires material { has_session_count material.now ≡ true }
+    ensures held { IfOk result (λ _. first_broken (body_conditions registration_rule registration_conditions body.now ++ (has_number_left (sessions_in_material material.now), rule.AccountFull) ∷ []) ≡ None) }
     ensures reply { IfOk result (λ draft. IsReply draft.reply.items (option_map (session_made_data ring.now) (new_session_in seeds.now moment account body.now material.now))) }
     ensures change { IfOk result (λ draft. draft.change ≡ option_map change.NewSession (new_session_in seeds.now moment account body.now material.now)) }
-    ensures denied { IfErr result (λ denied. (denied ≡ Rule.Unavailable) ⊎ (first_broken (body_conditions registration_rule registration_conditions body.now ++ (has_number_left (counts_in_material material.now), rule.AccountFull) ∷ []) ≡ Some denied)) }
+    ensures denied { IfErr result (λ denied. (denied ≡ Rule.Unavailable) ⊎ (first_broken (body_conditions registration_rule registration_conditions body.now ++ (has_number_left (sessions_in_material material.now), rule.AccountFull) ∷ []) ≡ Some denied)) }
 {
     joined_conditions::<Rule>();
     let registration = match registration_body(alloc, body) {
         Ok(registration) => registration,
         Err(rule) => return Err(rule),
     };
-    let sessions = found_counts(material).sessions;
+    let sessions = found_sessions(material);
     if sessions >= MOST_ROWS {
         return Err(Rule::AccountFull);
     }

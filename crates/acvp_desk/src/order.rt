@@ -1,10 +1,11 @@
 //! The operator's orders.
 
-ghost use Rattle.std.specs.Prelude.{◌≡◌, ◌+◌, ◌≤◌, IfOk, option_map};
+ghost use Rattle.std.specs.Prelude.{◌≡◌, ◌≢◌, ◌+◌, ◌≤◌, IfOk, option_map};
 ghost use Rattle.acvp_tables.specs.Calls.{Reads};
-ghost use Rattle.acvp_tables.specs.Content.{Content, counts_of, request_at};
+ghost use Rattle.acvp_tables.specs.Content.{Content, request_at};
 ghost use Rattle.acvp_tables.specs.State.{first_of_account, state_of, IsSound};
-ghost use Rattle.acvp_desk.specs.Orders.{approved_as, count_of, is_initial, IsOrder, Orders};
+ghost use Rattle.acvp_tables.specs.declared.summary.RequestSubject.TheVariants as asks;
+ghost use Rattle.acvp_desk.specs.Orders.{approved_as, is_initial, IsOrder, Orders};
 ghost use Rattle.acvp_desk.specs.Private.Waiting.{waiting_in};
 ghost use Rattle.acvp_desk.specs.declared.order.Order.TheVariants as order;
 
@@ -12,7 +13,7 @@ use crate::numbers::NUMBERS_OF_ACCOUNT;
 use crate::registry::kind_asked;
 use acvp_registry::Kind;
 use acvp_tables::{
-    Approval, Counts, NewAccount, OrderChange, RequestStatus, RequestSubject, RequestSummary,
+    Approval, Counted, NewAccount, OrderChange, RequestStatus, RequestSubject, RequestSummary,
     StoreFault, Tables, numbers_count, numbers_name, selections_follow,
 };
 
@@ -87,18 +88,6 @@ fn is_initial(status: RequestStatus) -> bool
     }
 }
 
-/// How many objects of a kind an account has.
-fn count_of(kind: Kind, counts: &Counts) -> u64
-    ensures { result ≡ count_of kind counts.now }
-{
-    match kind {
-        Kind::Vendor => counts.vendors,
-        Kind::Module => counts.modules,
-        Kind::Environment => counts.environments,
-        Kind::Certification => 0,
-    }
-}
-
 /// A request, as far as the operator's decision goes.
 #[derive(Clone, Copy)]
 struct Waiting {
@@ -117,21 +106,27 @@ fn next_of_kind(account: u16, so_many: u64) -> u64
     (u64::from(account) * NUMBERS_OF_ACCOUNT + 1).saturating_add(so_many)
 }
 
-/// The number that an approval of a request gives.
+/// How many objects are registered of a kind that has so many. A certification registers none.
+fn registered(kind: Kind, so_many: u64) -> u64
+    ensures objects { kind ≢ Kind.Certification → result ≡ so_many }
+    ensures none { kind ≡ Kind.Certification → result ≡ 0 }
+{
+    match kind {
+        Kind::Vendor | Kind::Module | Kind::Environment => so_many,
+        Kind::Certification => 0,
+    }
+}
+
+/// The number that an approval gives to what is registered of a kind.
 #[tactic(auto, unfolding(acvp_tables::specs::State::state_of))]
-fn approved_number<T: Tables>(tables: &mut T, request: &RequestSummary) -> Result<u64, StoreFault>
-    ensures found { T.is_live tables.new → IfOk result (λ number. (c : Content) → IsSound c → T.stands tables.old c → number ≡ approved_as (state_of c) request.now.account request.now.subject) }
+fn registered_number<T: Tables>(tables: &mut T, account: u16, kind: Kind) -> Result<u64, StoreFault>
+    ensures found { T.is_live tables.new → IfOk result (λ number. (c : Content) → IsSound c → T.stands tables.old c → number ≡ approved_as (state_of c) account (asks.Registration kind)) }
     ensures reads { Reads T.faults T.stands T.is_live T.is_clean T.leaves result tables.old tables.new }
 {
     selections_follow();
     numbers_count();
-    let counts = tables.counts(request.account)?;
-    match request.subject {
-        RequestSubject::Registration(kind) => {
-            Ok(next_of_kind(request.account, count_of(kind, &counts)))
-        }
-        RequestSubject::Certification(certification) => Ok(certification.session),
-    }
+    let count = tables.count(account, Counted::Objects(kind))?;
+    Ok(next_of_kind(account, registered(kind, count)))
 }
 
 /// The request of a number, as far as the operator's decision goes.
@@ -143,7 +138,10 @@ fn find_waiting<T: Tables>(tables: &mut T, number: u64) -> Result<Option<Waiting
     let Some(request) = tables.request(number)? else {
         return Ok(None);
     };
-    let approved = approved_number(tables, &request)?;
+    let approved = match request.subject {
+        RequestSubject::Registration(kind) => registered_number(tables, request.account, kind)?,
+        RequestSubject::Certification(certification) => certification.session,
+    };
     Ok(Some(Waiting {
         initial: is_initial(request.status),
         kind: kind_asked(request.subject),
