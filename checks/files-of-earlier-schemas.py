@@ -14,6 +14,7 @@ import time
 
 import laboratory
 from laboratory import Laboratory, compact, expect, free_port, signed
+from validation import answers
 
 META = "CREATE TABLE meta (name TEXT PRIMARY KEY NOT NULL, value INTEGER NOT NULL) STRICT"
 ACCOUNT = ("CREATE TABLE account (account INTEGER PRIMARY KEY, secret BLOB NOT NULL, enabled INTEGER NOT NULL, "
@@ -35,6 +36,8 @@ FORMS = {"schema 1": (1, [META, ACCOUNT, SESSION, OLD_SET, OBJECT, REQUEST]),
          "schema 2 beside the sets of schema 1": (2, [META, ACCOUNT, SESSION, OLD_SET, OBJECT, REQUEST, SET])}
 OTHERS = ["account", "session", "object", "request"]
 CAPABILITY = compact({"algorithm": "SHA2-256", "messageLength": [8], "revision": "1.0"}).decode()
+# The same algorithm in a text that the program wouldn't write.
+SPACED = '{ "revision": "1.0",\n  "messageLength": [ {"min": 8, "max": 17, "increment": 8} ], "algorithm": "SHA2-256" }'
 SESSIONS, STOPS = 300, 30
 
 
@@ -76,7 +79,7 @@ def rows_of(path, table):
 
 def seen(path, form):
     """The rows that there are, whichever schema they are of now, with the epoch of each vector set."""
-    version = rows_of(path, "meta")
+    version = [row for row in rows_of(path, "meta") if row[0] == "schema"]
     if version == [("schema", 3)]:
         sets = rows_of(path, "vset2")
         expect(f"the reviewers of {form}", rows_of(path, "reviewer"), [])
@@ -89,7 +92,8 @@ def seen(path, form):
     expect(f"the integrity of {form}", connection.execute("PRAGMA integrity_check").fetchall(), [("ok",)])
     expect(f"the references of {form}", connection.execute("PRAGMA foreign_key_check").fetchall(), [])
     connection.close()
-    return {"version": version, "sets": sets, **{table: rows_of(path, table) for table in OTHERS}}
+    others = [row for row in rows_of(path, "meta") if row[0] != "schema"]
+    return {"version": version, "meta": others, "sets": sets, **{table: rows_of(path, table) for table in OTHERS}}
 
 
 def is_moved(lab, path, form, before):
@@ -113,13 +117,15 @@ def refused_before(lab, path):
 
 
 def moved(lab):
-    """All rows go over, those that stand for nothing too."""
+    """All rows go over with their very texts, those that stand for nothing too, and no other row of `meta` changes."""
     for form in FORMS:
         path = older_file(lab.path("older.db"), form)
         connection = opened(path)
         sets = "vset" if form == "schema 1" else "vset2"
         connection.execute(f"UPDATE {sets} SET verdicts = 'x', disposition = 9, capability = 'none' WHERE vs = 700000302")
+        connection.execute(f"UPDATE {sets} SET capability = ? WHERE vs = 700000201", (SPACED,))
         connection.execute("UPDATE session SET cancelled = 5, passed = -1 WHERE session = 7000004")
+        connection.execute("INSERT INTO meta VALUES ('laboratory', 5)")
         connection.close()
         before = seen(path, form)
         expect(f"the vector sets of {form}", len(before["sets"]), 2 * SESSIONS)
@@ -152,6 +158,34 @@ def served(lab):
         lab.served(2)
     expect("the prompts under one seed and under two", shown[0], shown[1])
     expect("the vector set", shown[0]["vsId"], 700000101)
+    remove(lab.db)
+
+
+def kept(lab):
+    """Answers change no other column of their vector set, so its capability keeps its very text, also one that the
+    program wouldn't write; and other rows of `meta` and rows under negative numbers are rows like any others."""
+    older_file(lab.db, "schema 1")
+    lab.does("schema 3", "migrate", "--db", lab.db)
+    connection = opened(lab.db)
+    connection.execute("UPDATE vset2 SET capability = ? WHERE vs = 700000101", (SPACED,))
+    connection.execute("INSERT INTO meta VALUES ('laboratory', 5)")
+    connection.execute("INSERT INTO reviewer (rowid, session, account) VALUES (-5, 7000001, 9)")
+    connection.close()
+    meta, (before, *others) = rows_of(lab.db, "meta"), rows_of(lab.db, "vset2")
+    now = int(time.time())
+    token = signed({"exp": now + 1800, "iat": now, "sid": 7000001, "sub": "7"})
+    lab.serve(count=4)
+    vector_set = lab.must("GET", "/testSessions/7000001/vectorSets/700000101", token)
+    lab.must("POST", "/testSessions/7000001/vectorSets/700000101/results", token, answers(vector_set))
+    lab.must("POST", "/testSessions/7000001/reviewers", token, {"account": 10})
+    reviewers = lab.must("GET", "/testSessions/7000001/reviewers", token)
+    lab.served(4)
+    expect("the reviewers", reviewers["reviewers"], [9, 10])
+    (after, *same) = rows_of(lab.db, "vset2")
+    expect("the other columns", (*after[:4], after[7]), (*before[:4], before[7]))
+    expect("the disposition", after[6], 2)
+    expect("the other vector sets", same, others)
+    expect("the rows of meta", rows_of(lab.db, "meta"), meta)
     remove(lab.db)
 
 
@@ -205,7 +239,7 @@ def main():
     with tempfile.TemporaryDirectory() as folder:
         lab = Laboratory(os.path.abspath(sys.argv[1]), folder)
         try:
-            for part in (moved, refused, killed, served):
+            for part in (moved, refused, killed, served, kept):
                 part(lab)
         finally:
             lab.kill()

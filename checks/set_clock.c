@@ -1,5 +1,6 @@
 // Shows the number in the file CLOCK as the seconds since 1970. Preloaded into the built program by every-action.sh,
-// accounts-apart.sh and each-growth-refused.sh. It takes no memory, so that each growth is one of the program's own.
+// accounts-apart.sh, each-growth-refused.sh and damaged-rows.sh. It takes no memory, so that each growth is one of the
+// program's own.
 #define _GNU_SOURCE
 #include <dlfcn.h>
 #include <fcntl.h>
