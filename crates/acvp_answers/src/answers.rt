@@ -1,5 +1,6 @@
 //! Answers to tests, by their numbers.
-ghost use Rattle.std.specs.Prelude.{◌≡◌, ◌<◌, [], Some, Contains, length, map, string_bytes, MatchResult, MatchBool, option_map};
+ghost use Rattle.std.specs.Prelude.{◌≡◌, ◌<◌, [], Some, Contains, length, map, string_bytes, MatchResult, MatchBool};
+ghost use Rattle.std.specs.Prelude.{option_map};
 ghost use Rattle.std.specs.BTreeMap.{insert_entry};
 ghost use Rattle.std.specs.Ordering.{nat_cmp};
 ghost use Rattle.std.specs.List.{slice_get};

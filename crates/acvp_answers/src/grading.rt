@@ -23,7 +23,7 @@ fn is_lowered_to(given: &str, wanted: &str) -> bool
     true
 }
 
-/// The same of each text.
+/// The same of each text. One text too few or too many is another list.
 fn are_lowered_to(given: &[String], wanted: &[String]) -> bool
     ensures { result ≡ are_lowered_to (map string_bytes given.now) (map string_bytes wanted.now) }
 {

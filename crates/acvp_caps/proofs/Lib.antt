@@ -5,6 +5,6 @@ pub mod MembersLemmas
 pub mod SideBySide
 pub mod DomainLemmas
 pub mod JsonLemmas
-pub mod ReadingLemmas
-pub mod WritingLemmas
+pub mod DomainItemLemmas
+pub mod CapabilityTextLemmas
 pub use Rattle.acvp_mac.proofs.ConditionLemmas

@@ -4,7 +4,10 @@ use Rattle.std.specs.Str.{bytes_eq}
 use Rattle.acvp_mac.specs.declared.HashName.{HashName}
 use Rattle.acvp_mac.specs.declared.HashName.TheVariants.{Sha224, Sha256, Sha384, Sha512, Sha512_224, Sha512_256}
 use Rattle.acvp_caps.specs.declared.algorithm.Algorithm.{Algorithm}
-use Rattle.acvp_caps.specs.declared.algorithm.Algorithm.TheVariants.{Sha2_224, Sha2_256, Sha2_384, Sha2_512, Sha2_512_224, Sha2_512_256, HmacSha2_224, HmacSha2_256, HmacSha2_384, HmacSha2_512, HmacSha2_512_224, HmacSha2_512_256}
+use Rattle.acvp_caps.specs.declared.algorithm.Algorithm.TheVariants.{Sha2_224, Sha2_256, Sha2_384, Sha2_512}
+use Rattle.acvp_caps.specs.declared.algorithm.Algorithm.TheVariants.{Sha2_512_224, Sha2_512_256, HmacSha2_224}
+use Rattle.acvp_caps.specs.declared.algorithm.Algorithm.TheVariants.{HmacSha2_256, HmacSha2_384, HmacSha2_512}
+use Rattle.acvp_caps.specs.declared.algorithm.Algorithm.TheVariants.{HmacSha2_512_224, HmacSha2_512_256}
 
 -- all of them, in the order of their numbers from 1 on
 abbrev pub algorithms : List Algorithm

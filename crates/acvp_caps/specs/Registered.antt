@@ -1,5 +1,7 @@
 -- What a registration says: the conditions on its JSON value in their order, each with its fault.
-use Rattle.std.specs.Prelude.{ℕ, ◌==◌, ◌&&◌, List, [], ◌∷◌, ◌++◌, length, codes, Bool, false, not, nat_le, if◌then◌else◌, Option, None, Some, is_some, option_map, option_and_then, unwrap_or, Result, Err}
+use Rattle.std.specs.Prelude.{ℕ, ◌==◌, ◌&&◌, List, [], ◌∷◌, ◌++◌, length, codes, Bool, false, not, nat_le}
+use Rattle.std.specs.Prelude.{if◌then◌else◌, Option, None, Some, is_some, option_map, option_and_then, unwrap_or}
+use Rattle.std.specs.Prelude.{Result, Err}
 use Rattle.std.specs.List.{list_all, filter_map, flat_map}
 use Rattle.serde_json.specs.Data.{Data}
 use Rattle.serde_json.specs.Find.{get}

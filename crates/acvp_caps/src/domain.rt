@@ -1,6 +1,7 @@
 //! The numbers that a parameter may take.
 
-ghost use Rattle.std.specs.Prelude.{◌≡◌, ◌<◌, ◌≤◌, ◌-◌, ◌↔◌, ◌==◌, ℕ, List, length, true, Some, IsTrue, Contains, All, IfOk, option_map};
+ghost use Rattle.std.specs.Prelude.{◌≡◌, ◌<◌, ◌≤◌, ◌-◌, ◌↔◌, ◌==◌, ℕ, List, length, true, Some, IsTrue, Contains, All};
+ghost use Rattle.std.specs.Prelude.{IfOk, option_map};
 ghost use Rattle.std.specs.List.{slice_get, list_any, list_all};
 ghost use Rattle.std.specs.List.Sorted.{IsStrictlyIncreasing};
 ghost use Rattle.std.specs.Cmp.{partial_equiv_from_equiv};

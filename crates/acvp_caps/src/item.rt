@@ -39,7 +39,8 @@ impl Item {
         }
     }
 
-    /// The greatest number of the item.
+    /// The greatest number of the item. It is worked out and not walked to, so a range as wide as a 64-bit number is
+    /// judged at once.
     pub(crate) fn last(self) -> u64
         requires { is_formed self ≡ true }
         ensures { result ≡ last self }

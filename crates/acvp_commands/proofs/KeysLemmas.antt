@@ -3,7 +3,7 @@ use Rattle.std.proofs.Common.{◌≡◌, ◌≢◌, ◌<◌, ◌≤◌, ◌+◌,
 use Rattle.std.proofs.lemmas.List.{append_cancel_left, length-take, take_at}
 use Rattle.hex.proofs.HexLemmas.{decode_of-ok, decode_of-same}
 use Rattle.hex.specs.Hex.{decode_of, is_hex_digit}
-use Rattle.acvp_http.proofs.ReadingLemmas.{same_fronts}
+use Rattle.acvp_http.proofs.ReadLineLemmas.{same_fronts}
 use Rattle.acvp_token.specs.Keys.{Ring}
 use Rattle.acvp_gen.specs.Seeds.{AreSeeds}
 use Rattle.acvp_desk.specs.declared.keys.Keys.{Keys}

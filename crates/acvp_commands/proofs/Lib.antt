@@ -1,3 +1,3 @@
 pub mod KeysLemmas
 pub mod NumbersLemmas
-pub mod ServingLemmas
+pub mod ConnectionLemmas

@@ -1,17 +1,19 @@
 -- What serving connections, one after another, makes of the records.
 use Rattle.std.specs.Prelude.{◌≡◌, ◌<◌, ◌⊎◌, ℕ, zero, suc, List, Result, Ok, Err}
-use Rattle.acvp_tables.specs.Content.{Content}
+use Rattle.acvp_tables.specs.Meaning.{Meaning}
 use Rattle.acvp_desk.specs.declared.keys.Keys.{Keys}
 use Rattle.acvp_http.specs.Serve.{RequestTaken}
 use Rattle.acvp_commands.specs.declared.fault.Fault.{Fault}
 use Rattle.acvp_commands.specs.declared.fault.Fault.TheVariants.{Accept}
 
-module _ {T : Type 0} (stands : T → Content → Type 0) (is_live is_clean : T → Type 0) where
+module _ {T : Type 0} (meaning : Meaning T) where
+  open meaning use {is_clean}
+
   -- A connection was served at a moment: the request that came is answered, or it is unavailable; or nothing changed,
   -- since none came whole, or there was no memory for it.
   abbrev pub ServesConnection : Keys → ℕ → T → T → Type 0
   ServesConnection keys moment old new =
-      ((request : List ℕ) × (reply : List ℕ) × RequestTaken stands is_live is_clean keys moment request reply old new)
+      ((request : List ℕ) × (reply : List ℕ) × RequestTaken meaning keys moment request reply old new)
       ⊎ (new ≡ old)
 
   -- So many were, one after another, each at some moment.

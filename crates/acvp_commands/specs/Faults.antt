@@ -2,7 +2,9 @@
 use Rattle.std.specs.declared.io.ErrorKind.{ErrorKind}
 use Rattle.std.specs.declared.io.ErrorKind.TheVariants as kind
 use Rattle.acvp_http.specs.declared.script.ScriptFault.{ScriptFault}
-use Rattle.acvp_http.specs.declared.script.ScriptFault.TheVariants.{Read as run-read, Write as run-write, Syntax as run-syntax, Limit as run-limit, Memory as run-memory}
+use Rattle.acvp_http.specs.declared.script.ScriptFault.TheVariants.{Read as run-read, Write as run-write}
+use Rattle.acvp_http.specs.declared.script.ScriptFault.TheVariants.{Syntax as run-syntax, Limit as run-limit}
+use Rattle.acvp_http.specs.declared.script.ScriptFault.TheVariants.{Memory as run-memory}
 use Rattle.acvp_desk.specs.declared.desk.NewFault.{NewFault}
 use Rattle.acvp_desk.specs.declared.desk.NewFault.TheVariants as refused
 use Rattle.acvp_store.specs.declared.fault.AdoptFault.{AdoptFault}
@@ -10,7 +12,8 @@ use Rattle.acvp_store.specs.declared.fault.AdoptFault.TheVariants as adopted
 use Rattle.acvp_tables.specs.declared.tables.StoreFault.{StoreFault}
 use Rattle.acvp_tables.specs.declared.tables.StoreFault.TheVariants as store
 use Rattle.acvp_commands.specs.declared.fault.Fault.{Fault}
-use Rattle.acvp_commands.specs.declared.fault.Fault.TheVariants.{Keys, Read, Write, Syntax, Limit, Memory, Unavailable, Schema}
+use Rattle.acvp_commands.specs.declared.fault.Fault.TheVariants.{Keys, Read, Write, Syntax, Limit, Memory, Unavailable}
+use Rattle.acvp_commands.specs.declared.fault.Fault.TheVariants.{Schema}
 
 -- each fault of a run keeps its name
 unfoldable pub fault_of_run : ScriptFault → Fault

@@ -9,7 +9,8 @@ use Rattle.acvp_desk.specs.declared.order.OrderReply.TheVariants as reply
 use Rattle.acvp_commands.specs.declared.fault.Fault.{Fault}
 use Rattle.acvp_commands.specs.declared.fault.Fault.TheVariants as fault
 use Rattle.acvp_commands.specs.declared.lines.Line.{Line}
-use Rattle.acvp_commands.specs.declared.lines.Line.TheVariants.{Ready, Migrated, Added, Disabled, Approved, Rejected, Listening, Served}
+use Rattle.acvp_commands.specs.declared.lines.Line.TheVariants.{Ready, Migrated, Added, Disabled, Approved, Rejected}
+use Rattle.acvp_commands.specs.declared.lines.Line.TheVariants.{Listening, Served}
 
 -- the URL of what was approved: of an object of the registries, or of the test session that is certified
 abbrev pub approved_url : Kind → ℕ → List ℕ

@@ -1,6 +1,6 @@
 -- What an order's line or fault says of the records.
 use Rattle.std.specs.Prelude.{◌≡◌, Result}
-use Rattle.acvp_tables.specs.Content.{Content}
+use Rattle.acvp_tables.specs.Meaning.{Meaning}
 use Rattle.acvp_desk.specs.declared.order.Order.{Order}
 use Rattle.acvp_desk.specs.declared.order.OrderReply.{OrderReply}
 use Rattle.acvp_desk.specs.Orders.{Orders}
@@ -9,7 +9,6 @@ use Rattle.acvp_commands.specs.declared.lines.Line.{Line}
 use Rattle.acvp_commands.specs.Lines.{outcome_of}
 
 -- the order was answered as the desk answers it, and the line or the fault is that reply's
-abbrev pub IsCarriedOut : {T : Type 0} → (T → Content → Type 0) → (T → Type 0) → (T → Type 0)
-    → (T → Content → Content → Type 0) → Result Line Fault → T → T → Order → Type 0
-IsCarriedOut stands is_live is_clean leaves result old new order =
-    (reply : OrderReply) × Orders stands is_live is_clean leaves reply old new order × (result ≡ outcome_of order reply)
+abbrev pub IsCarriedOut : {T : Type 0} → Meaning T → Result Line Fault → T → T → Order → Type 0
+IsCarriedOut meaning result old new order =
+    (reply : OrderReply) × Orders meaning reply old new order × (result ≡ outcome_of order reply)

@@ -59,7 +59,8 @@ fn joined(alloc: Global, first: &str, second: &str) -> Result<String, AllocError
 
 /// The line of a request that is approved, with the URL of what is approved.
 fn approved_line(alloc: Global, request: u64, url: &str) -> Result<String, AllocError>
-    ensures { IfOk result (λ text. string_bytes text ≡ (codes "request " ++ decimal request ++ codes " approved ") ++ url.now) }
+    ensures { IfOk result (λ text. string_bytes text ≡ (codes "request " ++ decimal request ++ codes " approved ")
+        ++ url.now) }
 {
     let front = before_url(alloc, request)?;
     joined(alloc, front.as_str(), url)

@@ -39,14 +39,16 @@ fn short_within(text: &str, most: u16) -> Option<u16>
 
 /// The number of an account.
 pub fn account_number(text: &str) -> Option<u16>
-    ensures { MatchOption result ((n : ℕ) → IsNumber most_account text.now n → ⊥) (λ n. IsNumber most_account text.now n) }
+    ensures { MatchOption result ((n : ℕ) → IsNumber most_account text.now n → ⊥)
+        (λ n. IsNumber most_account text.now n) }
 {
     short_within(text, MOST_ACCOUNT)
 }
 
 /// The number of a request.
 pub fn request_number(text: &str) -> Option<u64>
-    ensures { MatchOption result ((n : ℕ) → IsNumber most_request text.now n → ⊥) (λ n. IsNumber most_request text.now n) }
+    ensures { MatchOption result ((n : ℕ) → IsNumber most_request text.now n → ⊥)
+        (λ n. IsNumber most_request text.now n) }
 {
     number_within(text, MOST_REQUEST)
 }

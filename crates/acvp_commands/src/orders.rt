@@ -35,7 +35,7 @@ fn outcome_of(order: &Order, reply: OrderReply) -> Result<Line, Fault>
 /// Carries an order out on the records, and gives its line.
 pub fn carry_out<T: Tables>(tables: &mut T, order: &Order) -> Result<Line, Fault>
     requires { IsOrder order.now }
-    ensures { IsCarriedOut T.stands T.is_live T.is_clean T.leaves result tables.old tables.new order.now }
+    ensures { IsCarriedOut T.meaning result tables.old tables.new order.now }
 {
     let reply = order_on(tables, order);
     outcome_of(order, reply)

@@ -71,9 +71,9 @@ fn serve_request<T: Tables, S: Source, K: Sink>(
     requires reader_clear { (S.stream reader.old).failed ≡ false }
     requires writer_clear { (K.stream writer.old).failed ≡ false }
     ensures keys { desk.new.keys ≡ desk.old.keys }
-    ensures was_live { T.is_live desk.new.tables → T.is_live desk.old.tables }
-    ensures was_clean { T.is_clean desk.new.tables → T.is_clean desk.old.tables }
-    ensures served { ServesConnection T.stands T.is_live T.is_clean desk.old.keys moment desk.old.tables desk.new.tables }
+    ensures was_live { T.meaning.is_live desk.new.tables → T.meaning.is_live desk.old.tables }
+    ensures was_clean { T.meaning.is_clean desk.new.tables → T.meaning.is_clean desk.old.tables }
+    ensures served { ServesConnection T.meaning desk.old.keys moment desk.old.tables desk.new.tables }
 {
     serve_one(alloc, routes, desk, reader, writer, moment).is_ok()
 }
@@ -88,9 +88,9 @@ fn serve_ends<T: Tables, R: Read + Drop>(
     moment: u64,
 ) -> bool
     ensures keys { desk.new.keys ≡ desk.old.keys }
-    ensures was_live { T.is_live desk.new.tables → T.is_live desk.old.tables }
-    ensures was_clean { T.is_clean desk.new.tables → T.is_clean desk.old.tables }
-    ensures served { ServesConnection T.stands T.is_live T.is_clean desk.old.keys moment desk.old.tables desk.new.tables }
+    ensures was_live { T.meaning.is_live desk.new.tables → T.meaning.is_live desk.old.tables }
+    ensures was_clean { T.meaning.is_clean desk.new.tables → T.meaning.is_clean desk.old.tables }
+    ensures served { ServesConnection T.meaning desk.old.keys moment desk.old.tables desk.new.tables }
 {
     let mut reader = Flagged::new(input);
     let mut writer = Flagged::new(output);
@@ -107,9 +107,9 @@ fn serve_stream<T: Tables>(
     moment: u64,
 ) -> bool
     ensures keys { desk.new.keys ≡ desk.old.keys }
-    ensures was_live { T.is_live desk.new.tables → T.is_live desk.old.tables }
-    ensures was_clean { T.is_clean desk.new.tables → T.is_clean desk.old.tables }
-    ensures served { ServesConnection T.stands T.is_live T.is_clean desk.old.keys moment desk.old.tables desk.new.tables }
+    ensures was_live { T.meaning.is_live desk.new.tables → T.meaning.is_live desk.old.tables }
+    ensures was_clean { T.meaning.is_clean desk.new.tables → T.meaning.is_clean desk.old.tables }
+    ensures served { ServesConnection T.meaning desk.old.keys moment desk.old.tables desk.new.tables }
 {
     match BufReader::new(alloc, stream) {
         Ok(input) => serve_ends(alloc, routes, desk, input, stream, moment),
@@ -126,9 +126,9 @@ fn serve_connection<T: Tables>(
     moment: u64,
 )
     ensures keys { desk.new.keys ≡ desk.old.keys }
-    ensures was_live { T.is_live desk.new.tables → T.is_live desk.old.tables }
-    ensures was_clean { T.is_clean desk.new.tables → T.is_clean desk.old.tables }
-    ensures served { ServesConnection T.stands T.is_live T.is_clean desk.old.keys moment desk.old.tables desk.new.tables }
+    ensures was_live { T.meaning.is_live desk.new.tables → T.meaning.is_live desk.old.tables }
+    ensures was_clean { T.meaning.is_clean desk.new.tables → T.meaning.is_clean desk.old.tables }
+    ensures served { ServesConnection T.meaning desk.old.keys moment desk.old.tables desk.new.tables }
 {
     if serve_stream(alloc, routes, desk, stream, moment) {
         end(stream);
@@ -146,9 +146,9 @@ pub fn serve_connections<T: Tables, C: Clock>(
     clock: &C,
 ) -> Result<(), Fault>
     ensures keys { desk.new.keys ≡ desk.old.keys }
-    ensures was_live { T.is_live desk.new.tables → T.is_live desk.old.tables }
-    ensures was_clean { T.is_clean desk.new.tables → T.is_clean desk.old.tables }
-    ensures served { EndsServing T.stands T.is_live T.is_clean desk.old.keys count desk.old.tables desk.new.tables result }
+    ensures was_live { T.meaning.is_live desk.new.tables → T.meaning.is_live desk.old.tables }
+    ensures was_clean { T.meaning.is_clean desk.new.tables → T.meaning.is_clean desk.old.tables }
+    ensures served { EndsServing T.meaning desk.old.keys count desk.old.tables desk.new.tables result }
 {
     for _served in 0..count {
         let Ok((stream, _)) = listener.accept() else {

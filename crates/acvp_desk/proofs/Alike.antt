@@ -5,23 +5,23 @@ use Rattle.acvp_json.specs.Data.{Data}
 use Rattle.acvp_mac.specs.Conditions.{first_broken, judged}
 use Rattle.acvp_policy.specs.declared.rule.Rule.{Rule}
 use Rattle.acvp_tables.specs.State.{State}
-use Rattle.acvp_desk.specs.Answer.{accepted_change, answer, ask_of, change_by, change_of, change_on, first_conditions, found_of, later_conditions, later_of, own_conditions, policy_conditions, reply_of, reply_to}
+use Rattle.acvp_desk.specs.Answer.{accepted_change, answer, asker_of, change_by, change_of, change_on, first_conditions, found_of, later_conditions, later_of, own_conditions, policy_conditions, reply_of, reply_to}
 use Rattle.acvp_desk.specs.Request.{RequestValue}
-use Rattle.acvp_desk.specs.declared.ask.Ask.{Ask}
+use Rattle.acvp_desk.specs.declared.ask.Asker.{Asker}
 use Rattle.acvp_desk.specs.declared.found.Found.{Found}
 use Rattle.acvp_desk.specs.declared.keys.Keys.{Keys}
-use Rattle.acvp_desk.proofs.Judging.{front_broken}
+use Rattle.acvp_desk.proofs.FirstBroken.{front_broken}
 use Rattle.acvp_desk.proofs.Nobody.{earlier_or, judged_err, refused_by}
 
 -- the rule that both break
-abbrev pub AreRefusedAlike : ℕ → Ask → Found → Found → Type 0
+abbrev pub AreRefusedAlike : ℕ → Asker → Found → Found → Type 0
 AreRefusedAlike moment it one other = (refusal : Rule) × (first_broken (policy_conditions moment it one) ≡ Some refusal)
     × (first_broken (policy_conditions moment it other) ≡ Some refusal)
 
-abbrev pub AreAlike : ℕ → Ask → Found → Found → Type 0
+abbrev pub AreAlike : ℕ → Asker → Found → Found → Type 0
 AreAlike moment it one other = (one ≡ other) ⊎ AreRefusedAlike moment it one other
 
-module _ (keys : Keys) (moment : ℕ) (r : RequestValue) (it : Ask) where
+module _ (keys : Keys) (moment : ℕ) (r : RequestValue) (it : Asker) where
   refused_answer : (found : Found) (refusal : Rule) → first_broken (policy_conditions moment it found) ≡ Some refusal
       → judged (first_conditions moment r ++ later_conditions keys.seed moment r it found) (reply_of keys moment r it found)
       ≡ Err (earlier_or (first_broken (first_conditions moment r)) refusal)
@@ -51,7 +51,7 @@ module _ (keys : Keys) (moment : ℕ) (r : RequestValue) (it : Ask) where
   ]
 
 -- of a request that asks this
-pub answers_alike : (keys : Keys) (moment : ℕ) (r : RequestValue) (it : Ask) (one other : State) → ask_of keys moment r ≡ Some it
+pub answers_alike : (keys : Keys) (moment : ℕ) (r : RequestValue) (it : Asker) (one other : State) → asker_of keys moment r ≡ Some it
     → AreAlike moment it (found_of keys.seed r.body it one) (found_of keys.seed r.body it other) → answer keys moment r one ≡ answer keys moment r other
 unfolding answer
 answers_alike keys moment r it one other asks alike =
@@ -59,7 +59,7 @@ answers_alike keys moment r it one other asks alike =
     ∙ judged_alike keys moment r it (found_of keys.seed r.body it one) (found_of keys.seed r.body it other) alike
     ∙ sym (ap (λ asked. judged (first_conditions moment r ++ later_of keys.seed moment r asked other) (reply_to keys moment r asked other)) asks)
 
-pub changes_alike : (keys : Keys) (moment : ℕ) (r : RequestValue) (it : Ask) (one other : State) → ask_of keys moment r ≡ Some it
+pub changes_alike : (keys : Keys) (moment : ℕ) (r : RequestValue) (it : Asker) (one other : State) → asker_of keys moment r ≡ Some it
     → AreAlike moment it (found_of keys.seed r.body it one) (found_of keys.seed r.body it other) → accepted_change keys moment r one ≡ accepted_change keys moment r other
 unfolding accepted_change answer
 changes_alike keys moment r it one other asks alike =
@@ -68,7 +68,7 @@ changes_alike keys moment r it one other asks alike =
     ∙ sym (ap (λ asked. change_on (judged (first_conditions moment r ++ later_of keys.seed moment r asked other) (reply_to keys moment r asked other)) (change_by keys moment r asked other)) asks)
 
 -- what changes nothing where it is accepted changes nothing
-pub unchanged_by : (keys : Keys) (moment : ℕ) (r : RequestValue) (it : Ask) (state : State) → ask_of keys moment r ≡ Some it
+pub unchanged_by : (keys : Keys) (moment : ℕ) (r : RequestValue) (it : Asker) (state : State) → asker_of keys moment r ≡ Some it
     → change_of keys moment r it (found_of keys.seed r.body it state) ≡ None → accepted_change keys moment r state ≡ None
 unfolding accepted_change
 unchanged_by keys moment r it state asks none =

@@ -18,17 +18,17 @@ use Rattle.acvp_tables.specs.StateChanges.{after_state}
 use Rattle.acvp_tables.specs.declared.change.Change.{Change}
 use Rattle.acvp_tables.specs.declared.change.Change.TheVariants as change
 use Rattle.acvp_tables.specs.declared.rows.AccountRow.{AccountRow}
-use Rattle.acvp_desk.specs.Answer.{accepted_change, account_found, action_of, answer, ask_of, change_by, change_of, change_on, effect, facts_from, first_conditions, first_conditions_on, found_of, later_conditions, later_of, own_conditions, policy_conditions, reply_to, state_after, who, IsOf}
+use Rattle.acvp_desk.specs.Answer.{accepted_change, account_found, action_of, answer, asker_of, change_by, change_of, change_on, effect, facts_from, first_conditions, first_conditions_on, found_of, later_conditions, later_of, own_conditions, policy_conditions, reply_to, state_after, who, IsOf}
 use Rattle.acvp_desk.specs.Isolation.{is_who, own_after_request, who_of}
 use Rattle.acvp_desk.specs.Login.{step_of}
 use Rattle.acvp_desk.specs.Request.{RequestValue}
-use Rattle.acvp_desk.specs.declared.ask.Ask.{Ask}
-use Rattle.acvp_desk.specs.declared.ask.Ask.TheVariants.{Login, Caller}
+use Rattle.acvp_desk.specs.declared.ask.Asker.{Asker}
+use Rattle.acvp_desk.specs.declared.ask.Asker.TheVariants.{Login, Caller}
 use Rattle.acvp_desk.specs.declared.ask.LoginAsk.{LoginAsk}
 use Rattle.acvp_desk.specs.declared.keys.Keys.{Keys}
 use Rattle.acvp_desk.specs.declared.wish.CallerAsk.{CallerAsk}
-use Rattle.acvp_desk.proofs.Deciding.{Owns, covers}
-use Rattle.acvp_desk.proofs.Judging.{back_held, held, whole_held}
+use Rattle.acvp_desk.proofs.Decision.{Owns, covers}
+use Rattle.acvp_desk.proofs.FirstBroken.{back_held, held, whole_held}
 use Rattle.acvp_desk.proofs.Nobody.{nothing_changed}
 use Rattle.acvp_desk.proofs.OwnAnswer.{acts_as, asked_by}
 use Rattle.acvp_desk.proofs.Wishes.{wish_for, wish_names, wish_within}
@@ -73,7 +73,7 @@ module _ (owns : Owns)
     (reviews : (u s a : ℕ) (state : State) → is_reviewer s a (own u state).reviewers ≡ ((owner_of s == u) && is_reviewer s a state.reviewers))
     (set_names : (n : ℕ) (state : State) (row : SetRecord) → IsWellNumbered state → set_record_at n state.sets ≡ Some row → row.session ≡ n / 100) where
   -- what is found is of what is asked
-  is_of : (seeds : List (List ℕ)) (body : List ℕ) (it : Ask) (state : State) → IsWellNumbered state → IsOf it (found_of seeds body it state)
+  is_of : (seeds : List (List ℕ)) (body : List ℕ) (it : Asker) (state : State) → IsWellNumbered state → IsOf it (found_of seeds body it state)
   unfolding found_of
   is_of seeds body (Login login) state well = tt
   is_of seeds body (Caller caller) state well = (wish_names seeds _ state caller.wish, wish_for seeds _ body state caller.wish, wish_within reviews set_names seeds _ state caller.wish well)
@@ -96,9 +96,9 @@ module _ (owns : Owns)
       → accepted_change keys moment r state ≡ Some made → (account_of_change made ≡ u) × Fits made
   unfolding accepted_change answer found_of
   of_account keys moment r u state made well is makes =
-      go (ask_of keys moment r) (asked_by (first_broken (first_conditions_on r.action r)) (option_and_then who (ask_of keys moment r)) u is) makes
+      go (asker_of keys moment r) (asked_by (first_broken (first_conditions_on r.ask r)) (option_and_then who (asker_of keys moment r)) u is) makes
     where
-      go : (asked : Option Ask) → option_and_then who asked ≡ Some u
+      go : (asked : Option Asker) → option_and_then who asked ≡ Some u
           → change_on (judged (first_conditions moment r ++ later_of keys.seed moment r asked state) (reply_to keys moment r asked state)) (change_by keys moment r asked state) ≡ Some made
           → (account_of_change made ≡ u) × Fits made
       go None named makes = absurd (cc)

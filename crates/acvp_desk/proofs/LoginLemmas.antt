@@ -8,7 +8,7 @@ use Rattle.acvp_policy.specs.declared.rule.Rule.{Rule}
 use Rattle.acvp_policy.specs.declared.rule.Rule.TheVariants.{LoginRefused}
 use Rattle.acvp_desk.specs.Answer.{policy_conditions}
 use Rattle.acvp_desk.specs.Login.{step_of}
-use Rattle.acvp_desk.specs.declared.ask.Ask.TheVariants.{Login}
+use Rattle.acvp_desk.specs.declared.ask.Asker.TheVariants.{Login}
 use Rattle.acvp_desk.specs.declared.ask.LoginAsk.{LoginAsk}
 use Rattle.acvp_desk.specs.declared.found.Found.{Found}
 

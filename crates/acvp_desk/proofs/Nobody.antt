@@ -15,18 +15,18 @@ use Rattle.acvp_policy.specs.declared.facts.Token.TheVariants as token
 use Rattle.acvp_policy.specs.declared.rule.Rule.{Rule}
 use Rattle.acvp_policy.specs.declared.rule.Rule.TheVariants as rule
 use Rattle.acvp_tables.specs.State.{State}
-use Rattle.acvp_desk.specs.Answer.{accepted_change, answer, ask_of, change_by, change_on, effect, end_of_moments, facts_from, first_conditions, first_conditions_on, found_of, later_conditions, later_of, own_conditions, policy_conditions, reply_to, state_after, who}
+use Rattle.acvp_desk.specs.Answer.{accepted_change, answer, asker_of, change_by, change_on, effect, end_of_moments, facts_from, first_conditions, first_conditions_on, found_of, later_conditions, later_of, own_conditions, policy_conditions, reply_to, state_after, who}
 use Rattle.acvp_desk.specs.Isolation.{who_of}
 use Rattle.acvp_desk.specs.Request.{RequestValue}
 use Rattle.acvp_desk.specs.Wish.{action_of_wish}
-use Rattle.acvp_desk.specs.declared.ask.Ask.{Ask}
-use Rattle.acvp_desk.specs.declared.ask.Ask.TheVariants.{Login, Caller}
+use Rattle.acvp_desk.specs.declared.ask.Asker.{Asker}
+use Rattle.acvp_desk.specs.declared.ask.Asker.TheVariants.{Login, Caller}
 use Rattle.acvp_desk.specs.declared.ask.LoginAsk.{LoginAsk}
 use Rattle.acvp_desk.specs.declared.found.Found.{Found}
 use Rattle.acvp_desk.specs.declared.keys.Keys.{Keys}
 use Rattle.acvp_desk.specs.declared.wish.CallerAsk.{CallerAsk}
-use Rattle.acvp_desk.proofs.Judging.{front_broken, front_held}
-use Rattle.acvp_desk.proofs.Looking.{no_login}
+use Rattle.acvp_desk.proofs.FirstBroken.{front_broken, front_held}
+use Rattle.acvp_desk.proofs.AdmittedCaller.{no_login}
 
 -- ---- a token without claims
 
@@ -117,15 +117,15 @@ abbrev clock_or : Bool → Rule → Rule
 clock_or true refusal = refusal
 clock_or false refusal = rule.ClockOutOfRange
 
-first_refused : (moment : ℕ) (r : RequestValue) (refusal : Rule) → first_broken (first_conditions_on r.action r) ≡ Some refusal
+first_refused : (moment : ℕ) (r : RequestValue) (refusal : Rule) → first_broken (first_conditions_on r.ask r) ≡ Some refusal
     → first_broken (first_conditions moment r) ≡ Some (clock_or (nat_lt moment end_of_moments) refusal)
 first_refused moment r refusal broken = go (nat_lt moment end_of_moments)
   where
-    go : (b : Bool) → first_broken ((b, rule.ClockOutOfRange) ∷ first_conditions_on r.action r) ≡ Some (clock_or b refusal)
+    go : (b : Bool) → first_broken ((b, rule.ClockOutOfRange) ∷ first_conditions_on r.ask r) ≡ Some (clock_or b refusal)
     go true = broken
     go false = refl
 
-first_answer : (moment : ℕ) (r : RequestValue) (refusal : Rule) (later : List (Condition Rule)) (reply : Option Data) → first_broken (first_conditions_on r.action r) ≡ Some refusal
+first_answer : (moment : ℕ) (r : RequestValue) (refusal : Rule) (later : List (Condition Rule)) (reply : Option Data) → first_broken (first_conditions_on r.ask r) ≡ Some refusal
     → judged (first_conditions moment r ++ later) reply ≡ Err (clock_or (nat_lt moment end_of_moments) refusal)
 first_answer moment r refusal later reply broken =
     judged_err (first_conditions moment r ++ later) reply _ (front_broken (first_conditions moment r) later _ (first_refused moment r refusal broken))
@@ -133,11 +133,11 @@ first_answer moment r refusal later reply broken =
 -- ---- alike in all records
 
 -- where what comes before a row holds
-asked_alike : (keys : Keys) (moment : ℕ) (r : RequestValue) (one other : State) → option_and_then who (ask_of keys moment r) ≡ None → answer keys moment r one ≡ answer keys moment r other
+asked_alike : (keys : Keys) (moment : ℕ) (r : RequestValue) (one other : State) → option_and_then who (asker_of keys moment r) ≡ None → answer keys moment r one ≡ answer keys moment r other
 unfolding answer
-asked_alike keys moment r one other nobody = go (ask_of keys moment r) nobody
+asked_alike keys moment r one other nobody = go (asker_of keys moment r) nobody
   where
-    go : (asked : Option Ask) → option_and_then who asked ≡ None
+    go : (asked : Option Asker) → option_and_then who asked ≡ None
         → judged (first_conditions moment r ++ later_of keys.seed moment r asked one) (reply_to keys moment r asked one)
         ≡ judged (first_conditions moment r ++ later_of keys.seed moment r asked other) (reply_to keys moment r asked other)
     go None none = refl
@@ -149,14 +149,14 @@ asked_alike keys moment r one other nobody = go (ask_of keys moment r) nobody
 
 pub answered_alike : (keys : Keys) (moment : ℕ) (r : RequestValue) (one other : State) → who_of keys moment r ≡ None → answer keys moment r one ≡ answer keys moment r other
 unfolding answer
-answered_alike keys moment r one other nobody = go (first_broken (first_conditions_on r.action r)) refl nobody
+answered_alike keys moment r one other nobody = go (first_broken (first_conditions_on r.ask r)) refl nobody
   where
-    go : (b : Option Rule) → first_broken (first_conditions_on r.action r) ≡ b → (if is_some b then None else option_and_then who (ask_of keys moment r)) ≡ None
+    go : (b : Option Rule) → first_broken (first_conditions_on r.ask r) ≡ b → (if is_some b then None else option_and_then who (asker_of keys moment r)) ≡ None
         → answer keys moment r one ≡ answer keys moment r other
     go None held none = asked_alike keys moment r one other none
     go (Some refusal) broken none =
-        first_answer moment r refusal (later_of keys.seed moment r (ask_of keys moment r) one) (reply_to keys moment r (ask_of keys moment r) one) broken
-        ∙ sym (first_answer moment r refusal (later_of keys.seed moment r (ask_of keys moment r) other) (reply_to keys moment r (ask_of keys moment r) other) broken)
+        first_answer moment r refusal (later_of keys.seed moment r (asker_of keys moment r) one) (reply_to keys moment r (asker_of keys moment r) one) broken
+        ∙ sym (first_answer moment r refusal (later_of keys.seed moment r (asker_of keys moment r) other) (reply_to keys moment r (asker_of keys moment r) other) broken)
 
 -- ---- and without a change
 
@@ -164,11 +164,11 @@ change_none : (reply : Result (Option Data) Rule) → change_on reply None ≡ N
 change_none (Ok shown) = refl
 change_none (Err refusal) = refl
 
-unchanged : (keys : Keys) (moment : ℕ) (r : RequestValue) (state : State) → option_and_then who (ask_of keys moment r) ≡ None → accepted_change keys moment r state ≡ None
+unchanged : (keys : Keys) (moment : ℕ) (r : RequestValue) (state : State) → option_and_then who (asker_of keys moment r) ≡ None → accepted_change keys moment r state ≡ None
 unfolding accepted_change answer
-unchanged keys moment r state nobody = go (ask_of keys moment r) nobody
+unchanged keys moment r state nobody = go (asker_of keys moment r) nobody
   where
-    go : (asked : Option Ask) → option_and_then who asked ≡ None
+    go : (asked : Option Asker) → option_and_then who asked ≡ None
         → change_on (judged (first_conditions moment r ++ later_of keys.seed moment r asked state) (reply_to keys moment r asked state)) (change_by keys moment r asked state) ≡ None
     go None none = change_none _
     go (Some (Login login)) none = rw (no_account keys.seed r.body login state none) (change_none _)
@@ -179,14 +179,14 @@ unchanged keys moment r state nobody = go (ask_of keys moment r) nobody
 
 pub nothing_made : (keys : Keys) (moment : ℕ) (r : RequestValue) (state : State) → who_of keys moment r ≡ None → accepted_change keys moment r state ≡ None
 unfolding accepted_change answer
-nothing_made keys moment r state nobody = go (first_broken (first_conditions_on r.action r)) refl nobody
+nothing_made keys moment r state nobody = go (first_broken (first_conditions_on r.ask r)) refl nobody
   where
-    go : (b : Option Rule) → first_broken (first_conditions_on r.action r) ≡ b → (if is_some b then None else option_and_then who (ask_of keys moment r)) ≡ None
+    go : (b : Option Rule) → first_broken (first_conditions_on r.ask r) ≡ b → (if is_some b then None else option_and_then who (asker_of keys moment r)) ≡ None
         → accepted_change keys moment r state ≡ None
     go None held none = unchanged keys moment r state none
     go (Some refusal) broken none =
-        ap (λ reply. change_on reply (change_by keys moment r (ask_of keys moment r) state))
-        (first_answer moment r refusal (later_of keys.seed moment r (ask_of keys moment r) state) (reply_to keys moment r (ask_of keys moment r) state) broken)
+        ap (λ reply. change_on reply (change_by keys moment r (asker_of keys moment r) state))
+        (first_answer moment r refusal (later_of keys.seed moment r (asker_of keys moment r) state) (reply_to keys moment r (asker_of keys moment r) state) broken)
 
 pub nothing_changed : (keys : Keys) (moment : ℕ) (r : RequestValue) (state : State) → who_of keys moment r ≡ None → effect keys moment r state ≡ state
 nothing_changed keys moment r state nobody = ap (λ made. state_after made state) (nothing_made keys moment r state nobody)

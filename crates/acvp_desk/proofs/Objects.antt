@@ -12,7 +12,6 @@ use Rattle.acvp_mac.specs.Conditions.{Condition, first_broken, unless, with_faul
 use Rattle.acvp_policy.specs.Conditions.{claims_of, is_answered, is_some_and, is_unanswered, session_lasts, session_live, session_thawed, set_found, set_lasts, set_live, set_there}
 use Rattle.acvp_policy.specs.Decision.{account_of_claims}
 use Rattle.acvp_policy.specs.Policy.{policy}
-use Rattle.acvp_policy.specs.declared.action.Action.{Action}
 use Rattle.acvp_policy.specs.declared.action.Action.TheVariants as action
 use Rattle.acvp_policy.specs.declared.facts.Facts.{Facts}
 use Rattle.acvp_policy.specs.declared.facts.SessionFacts.{SessionFacts}
@@ -25,7 +24,7 @@ use Rattle.acvp_tables.specs.State.{State, SetRecord, record_counts, set_record,
 use Rattle.acvp_tables.specs.declared.rows.ObjectRow.{ObjectRow}
 use Rattle.acvp_tables.specs.declared.rows.RequestRow.{RequestRow}
 use Rattle.acvp_tables.specs.declared.rows.SetRow.{SetRow}
-use Rattle.acvp_desk.specs.Answer.{account_found, answer, ask_of, ask_on, conditions, facts_from, first_conditions, first_conditions_on, found_of, later_of, policy_conditions, reply_to, reviewer_found}
+use Rattle.acvp_desk.specs.Answer.{account_found, answer, asker_of, asker_on, conditions, facts_from, first_conditions, first_conditions_on, found_of, later_of, policy_conditions, reply_to, reviewer_found}
 use Rattle.acvp_desk.specs.Bodies.{body_conditions, object_conditions, registration_rule, rule_of}
 use Rattle.acvp_desk.specs.Kept.{IsGraded, IsGradedSet, IsKept}
 use Rattle.acvp_desk.specs.Login.{login_at}
@@ -38,12 +37,14 @@ use Rattle.acvp_desk.specs.Request.{RequestValue}
 use Rattle.acvp_desk.specs.Reviewers.{has_room, reviewer_at}
 use Rattle.acvp_desk.specs.Sets.{facts_of_set, if_in_session, results_material, set_facts, source_of, submission_for, verdicts_on_set}
 use Rattle.acvp_desk.specs.Wish.{action_of_wish, action_on_session, action_on_set}
-use Rattle.acvp_desk.specs.declared.ask.Ask.{Ask}
-use Rattle.acvp_desk.specs.declared.ask.Ask.TheVariants.{Login, Caller}
+use Rattle.acvp_desk.specs.declared.ask.Asker.{Asker}
+use Rattle.acvp_desk.specs.declared.ask.Asker.TheVariants.{Login, Caller}
 use Rattle.acvp_desk.specs.declared.ask.LoginAsk.{LoginAsk}
 use Rattle.acvp_desk.specs.declared.found.Found.{Found}
 use Rattle.acvp_desk.specs.declared.found.Material.TheVariants as material
 use Rattle.acvp_desk.specs.declared.keys.Keys.{Keys}
+use Rattle.acvp_desk.specs.declared.request.Ask.{Ask}
+use Rattle.acvp_desk.specs.declared.request.Ask.TheVariants as request
 use Rattle.acvp_desk.specs.declared.wish.AccountWish.TheVariants as on_account
 use Rattle.acvp_desk.specs.declared.wish.CallerAsk.{CallerAsk}
 use Rattle.acvp_desk.specs.declared.wish.Registry.{Registry}
@@ -56,10 +57,10 @@ use Rattle.acvp_desk.specs.declared.wish.SetWish.{SetWish}
 use Rattle.acvp_desk.specs.declared.wish.SetWish.TheVariants as on_set
 use Rattle.acvp_desk.specs.declared.wish.Wish.{Wish}
 use Rattle.acvp_desk.specs.declared.wish.Wish.TheVariants as wish
-use Rattle.acvp_desk.proofs.Allowing.{each_algorithm, on_resource, session_there, set_there as set_is_there}
-use Rattle.acvp_desk.proofs.Judging.{back_held, first_held, whole_held}
+use Rattle.acvp_desk.proofs.Allowed.{each_algorithm, on_resource, session_there, set_there as set_is_there}
+use Rattle.acvp_desk.proofs.FirstBroken.{back_held, first_held, whole_held}
 use Rattle.acvp_desk.proofs.LoginLemmas.{needs_account}
-use Rattle.acvp_desk.proofs.Submitting.{found_has}
+use Rattle.acvp_desk.proofs.KeptAnswers.{found_has}
 
 is_there : {X : Type 0} (x : Option X) → (x ≡ None → ⊥) → is_some x ≡ true
 is_there None none = absurd (none refl)
@@ -97,38 +98,9 @@ registration_said body holds = mapped _ (object_of body) (object_there registrat
 
 -- ---- something is asked
 
-asked_on : (a : Action) (keys : Keys) (moment : ℕ) (r : RequestValue) → first_broken (first_conditions_on a r) ≡ None → is_some (ask_on a keys moment r) ≡ true
-asked_on action.Login keys moment r holds = mapped Login _ (mapped _ (login_at r.body) (login_said r.body holds))
-asked_on action.ReadAccount keys moment r holds = refl
-asked_on action.ListAlgorithms keys moment r holds = refl
-asked_on action.ReadAlgorithm keys moment r holds = refl
-asked_on action.ReadSession keys moment r holds = refl
-asked_on action.CancelSession keys moment r holds = refl
-asked_on action.SessionResults keys moment r holds = refl
-asked_on action.ListSets keys moment r holds = refl
-asked_on action.ListReviewers keys moment r holds = refl
-asked_on action.AddReviewer keys moment r holds = refl
-asked_on action.RemoveReviewer keys moment r holds = refl
-asked_on action.ReadSet keys moment r holds = refl
-asked_on action.Expected keys moment r holds = refl
-asked_on action.SetResults keys moment r holds = refl
-asked_on action.NewSession keys moment r holds = refl
-asked_on action.CancelSet keys moment r holds = refl
-asked_on action.Submit keys moment r holds = refl
-asked_on action.Resubmit keys moment r holds = refl
-asked_on action.ListSessions keys moment r holds = refl
-asked_on action.Certify keys moment r holds = refl
-asked_on action.ListVendors keys moment r holds = refl
-asked_on action.NewVendor keys moment r holds = refl
-asked_on action.ReadVendor keys moment r holds = refl
-asked_on action.ListModules keys moment r holds = refl
-asked_on action.NewModule keys moment r holds = refl
-asked_on action.ReadModule keys moment r holds = refl
-asked_on action.ListEnvironments keys moment r holds = refl
-asked_on action.NewEnvironment keys moment r holds = refl
-asked_on action.ReadEnvironment keys moment r holds = refl
-asked_on action.ListRequests keys moment r holds = refl
-asked_on action.ReadRequest keys moment r holds = refl
+asked_on : (a : Ask) (keys : Keys) (moment : ℕ) (r : RequestValue) → first_broken (first_conditions_on a r) ≡ None → is_some (asker_on a keys moment r) ≡ true
+asked_on request.Login keys moment r holds = mapped Login _ (mapped _ (login_at r.body) (login_said r.body holds))
+asked_on (request.Caller it) keys moment r holds = refl
 
 -- ---- a test session
 
@@ -368,22 +340,22 @@ module _ (follows : (n : ℕ) (c : Content) → set_record_at n (state_of c).set
       front : List (Condition Rule)
       front = first_conditions moment r
 
-      later : first_broken (conditions keys moment r (state_of c)) ≡ None → first_broken (later_of keys.seed moment r (ask_of keys moment r) (state_of c)) ≡ None
-      later none = back_held front (later_of keys.seed moment r (ask_of keys moment r) (state_of c)) none
+      later : first_broken (conditions keys moment r (state_of c)) ≡ None → first_broken (later_of keys.seed moment r (asker_of keys moment r) (state_of c)) ≡ None
+      later none = back_held front (later_of keys.seed moment r (asker_of keys moment r) (state_of c)) none
 
-      told : (asked : Option Ask) → ask_of keys moment r ≡ asked → is_some asked ≡ true → first_broken (conditions keys moment r (state_of c)) ≡ None
-          → is_some (reply_to keys moment r (ask_of keys moment r) (state_of c)) ≡ true
+      told : (asked : Option Asker) → asker_of keys moment r ≡ asked → is_some asked ≡ true → first_broken (conditions keys moment r (state_of c)) ≡ None
+          → is_some (reply_to keys moment r (asker_of keys moment r) (state_of c)) ≡ true
       told None is there none = absurd (cc)
       told (Some (Login login)) is there none =
           rw is (login_shown login (rw is at (later none)))
       told (Some (Caller caller)) is there none =
           rw is (caller_shown follows keys moment r c kept seeded caller (rw is at (later none)))
 
-      asked : first_broken (conditions keys moment r (state_of c)) ≡ None → is_some (ask_of keys moment r) ≡ true
+      asked : first_broken (conditions keys moment r (state_of c)) ≡ None → is_some (asker_of keys moment r) ≡ true
       asked none =
-          asked_on r.action keys moment r (back_held (_ ∷ []) (first_conditions_on r.action r) (whole_held front (later_of keys.seed moment r (ask_of keys moment r) (state_of c)) none))
+          asked_on r.ask keys moment r (back_held (_ ∷ []) (first_conditions_on r.ask r) (whole_held front (later_of keys.seed moment r (asker_of keys moment r) (state_of c)) none))
 
       go : (b : Option Rule) → first_broken (conditions keys moment r (state_of c)) ≡ b
-          → IfOk (unless b (reply_to keys moment r (ask_of keys moment r) (state_of c))) (λ object. is_some object ≡ true)
-      go None none = told (ask_of keys moment r) refl (asked none) none
+          → IfOk (unless b (reply_to keys moment r (asker_of keys moment r) (state_of c))) (λ object. is_some object ≡ true)
+      go None none = told (asker_of keys moment r) refl (asked none) none
       go (Some refusal) broken = tt

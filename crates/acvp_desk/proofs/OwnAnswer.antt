@@ -21,15 +21,15 @@ use Rattle.acvp_policy.specs.declared.facts.Facts.{Facts}
 use Rattle.acvp_policy.specs.declared.rule.Rule.{Rule}
 use Rattle.acvp_tables.specs.Content.{account_at}
 use Rattle.acvp_tables.specs.State.{State, own, owner_of, IsWellNumbered}
-use Rattle.acvp_desk.specs.Answer.{accepted_change, account_found, ask_of, change_of, facts_from, first_conditions_on, found_of, policy_conditions, reviewer_found, standing_of, who}
+use Rattle.acvp_desk.specs.Answer.{accepted_change, account_found, asker_of, change_of, facts_from, first_conditions_on, found_of, policy_conditions, reviewer_found, standing_of, who}
 use Rattle.acvp_desk.specs.Isolation.{who_of}
 use Rattle.acvp_desk.specs.Place.{place_of, unfound}
 use Rattle.acvp_desk.specs.Replies.{set_change}
 use Rattle.acvp_desk.specs.Request.{RequestValue}
 use Rattle.acvp_desk.specs.Sets.{results_material, set_source, verdicts_in_session}
 use Rattle.acvp_desk.specs.Wish.{action_of_wish}
-use Rattle.acvp_desk.specs.declared.ask.Ask.{Ask}
-use Rattle.acvp_desk.specs.declared.ask.Ask.TheVariants.{Login, Caller}
+use Rattle.acvp_desk.specs.declared.ask.Asker.{Asker}
+use Rattle.acvp_desk.specs.declared.ask.Asker.TheVariants.{Login, Caller}
 use Rattle.acvp_desk.specs.declared.ask.LoginAsk.{LoginAsk}
 use Rattle.acvp_desk.specs.declared.found.SetSource.{SetSource}
 use Rattle.acvp_desk.specs.declared.keys.Keys.{Keys}
@@ -39,7 +39,7 @@ use Rattle.acvp_desk.specs.declared.wish.SetWish.TheVariants as on_set
 use Rattle.acvp_desk.specs.declared.wish.Wish.{Wish}
 use Rattle.acvp_desk.specs.declared.wish.Wish.TheVariants as wish
 use Rattle.acvp_desk.proofs.Alike.{AreAlike, changes_alike, unchanged_by}
-use Rattle.acvp_desk.proofs.Judging.{front_broken}
+use Rattle.acvp_desk.proofs.FirstBroken.{front_broken}
 use Rattle.acvp_desk.proofs.OwnPlace.{IsOnOwn}
 use Rattle.acvp_desk.proofs.Wishes.{not_reviewed, reads_results, wish_names, wish_no_login}
 
@@ -60,7 +60,7 @@ module _ (account_told : (u n : ℕ) (state : State) → account_at n (own u sta
   own_row : (u : ℕ) (state : State) → account_at u (own u state).accounts ≡ account_at u state.accounts
   own_row u state = let same : (u == u) ≡ true = grind (arith, nat_tests) in account_told u u state ∙ rw same refl
 
-  pub own_account_found : (it : Ask) (u : ℕ) (state : State) → who it ≡ Some u → account_found it (own u state) ≡ account_found it state
+  pub own_account_found : (it : Asker) (u : ℕ) (state : State) → who it ≡ Some u → account_found it (own u state) ≡ account_found it state
   own_account_found it u state named = rw (named, own_row u state) refl
 
   pub login_own : (seeds : List (List ℕ)) (body : List ℕ) (login : LoginAsk) (u : ℕ) (state : State) → who (Login login) ≡ Some u
@@ -224,9 +224,9 @@ module _ (account_told : (u n : ℕ) (state : State) → account_at n (own u sta
   pub made_alike : (keys : Keys) (moment : ℕ) (r : RequestValue) (u : ℕ) (state : State) → IsWellNumbered state → who_of keys moment r ≡ Some u
       → accepted_change keys moment r (own u state) ≡ accepted_change keys moment r state
   made_alike keys moment r u state well is =
-      go (ask_of keys moment r) refl (asked_by (first_broken (first_conditions_on r.action r)) (option_and_then who (ask_of keys moment r)) u is)
+      go (asker_of keys moment r) refl (asked_by (first_broken (first_conditions_on r.ask r)) (option_and_then who (asker_of keys moment r)) u is)
     where
-      called : (caller : CallerAsk) → ask_of keys moment r ≡ Some (Caller caller) → who (Caller caller) ≡ Some u → (b : Bool) → reads_results caller.wish ≡ b
+      called : (caller : CallerAsk) → asker_of keys moment r ≡ Some (Caller caller) → who (Caller caller) ≡ Some u → (b : Bool) → reads_results caller.wish ≡ b
           → accepted_change keys moment r (own u state) ≡ accepted_change keys moment r state
       called caller asks named true reading =
           unchanged_by keys moment r (Caller caller) (own u state) asks (results_unchanged keys moment r caller (own u state) reading)
@@ -234,7 +234,7 @@ module _ (account_told : (u n : ℕ) (state : State) → account_at n (own u sta
       called caller asks named false off =
           changes_alike keys moment r (Caller caller) (own u state) state asks (caller_alike moment keys.seed r.body caller u state well named off)
 
-      go : (asked : Option Ask) → ask_of keys moment r ≡ asked → option_and_then who asked ≡ Some u → accepted_change keys moment r (own u state) ≡ accepted_change keys moment r state
+      go : (asked : Option Asker) → asker_of keys moment r ≡ asked → option_and_then who asked ≡ Some u → accepted_change keys moment r (own u state) ≡ accepted_change keys moment r state
       go None asks named = absurd (cc)
       go (Some (Login login)) asks named =
           changes_alike keys moment r (Login login) (own u state) state asks (inl (login_own account_told keys.seed r.body login u state named))

@@ -28,7 +28,7 @@ use Rattle.acvp_policy.specs.declared.rule.Rule.{Rule}
 use Rattle.acvp_policy.specs.declared.rule.Rule.TheVariants as rule
 use Rattle.acvp_tables.specs.Content.{account_at, is_reviewer}
 use Rattle.acvp_tables.specs.State.{State, SessionRecord, SetRecord, own, seen, may_see, owner_of, session_record_at, set_record_at, live_records, IsWellNumbered}
-use Rattle.acvp_desk.specs.Answer.{account_found, answer, ask_of, facts_from, first_conditions, first_conditions_on, found_of, later_conditions, later_of, own_conditions, policy_conditions, reply_of, reply_to, reviewer_found, who}
+use Rattle.acvp_desk.specs.Answer.{account_found, answer, asker_of, facts_from, first_conditions, first_conditions_on, found_of, later_conditions, later_of, own_conditions, policy_conditions, reply_of, reply_to, reviewer_found, who}
 use Rattle.acvp_desk.specs.Isolation.{who_of, SeesTheSame}
 use Rattle.acvp_desk.specs.OwnConditions.{set_conditions}
 use Rattle.acvp_desk.specs.Place.{facts_of_session, place_of, reviewed, session_facts, session_passes, set_outcome, set_outcomes, subject_of}
@@ -36,8 +36,8 @@ use Rattle.acvp_desk.specs.Replies.{disposition_at, prompts_from, result_shown, 
 use Rattle.acvp_desk.specs.Request.{RequestValue}
 use Rattle.acvp_desk.specs.Sets.{facts_of_set, if_in_session, results_material, set_facts, set_in_session, set_source, source_of, verdicts_in_session, verdicts_on_set}
 use Rattle.acvp_desk.specs.Wish.{action_of_wish}
-use Rattle.acvp_desk.specs.declared.ask.Ask.{Ask}
-use Rattle.acvp_desk.specs.declared.ask.Ask.TheVariants.{Login, Caller}
+use Rattle.acvp_desk.specs.declared.ask.Asker.{Asker}
+use Rattle.acvp_desk.specs.declared.ask.Asker.TheVariants.{Login, Caller}
 use Rattle.acvp_desk.specs.declared.found.Found.{Found}
 use Rattle.acvp_desk.specs.declared.found.SetOutcome.{SetOutcome}
 use Rattle.acvp_desk.specs.declared.found.SetSource.{SetSource}
@@ -49,7 +49,7 @@ use Rattle.acvp_desk.specs.declared.wish.Wish.{Wish}
 use Rattle.acvp_desk.specs.declared.wish.Wish.TheVariants as wish
 use Rattle.acvp_desk.proofs.Alike.{answers_alike}
 use Rattle.acvp_desk.proofs.Elsewhere.{no_set_in}
-use Rattle.acvp_desk.proofs.Judging.{front_broken}
+use Rattle.acvp_desk.proofs.FirstBroken.{front_broken}
 use Rattle.acvp_desk.proofs.Nobody.{earlier_or, judged_err, refused_by}
 use Rattle.acvp_desk.proofs.OwnAnswer.{acting, acts_as, agree_on_caller, asked_by, caller_alike, login_own, own_account_found}
 use Rattle.acvp_desk.proofs.OwnPlace.{IsOnOwn, found_number}
@@ -207,7 +207,7 @@ none_asked seeds n body (Some verdicts) source = refl
 
 module _ (agree : (s : Scope) (one other : Facts) → AgreeOnCaller one other → claims_conditions s one ≡ claims_conditions s other)
     (keys : Keys) (moment : ℕ) (r : RequestValue) (token : Token) (one other : State) where
-  abbrev asks : Wish → Ask
+  abbrev asks : Wish → Asker
   asks it = Caller (record { token = token; wish = it })
 
   abbrev found : Wish → State → Found
@@ -282,7 +282,7 @@ module _ (set_names : (n : ℕ) (state : State) (row : SetRecord) → IsWellNumb
     (owns : (a : Action) (f : Facts) (session : ℕ) → first_broken (claims_conditions (scope_of a) f) ≡ None → IsOfItsKind a (resource_of f.subject)
     → IsOfSession session (resource_of f.subject) → (account_of_session session ≡ account_of f) ⊎ IsReview a f)
     (keys : Keys) (moment : ℕ) (r : RequestValue) (u : ℕ) (one other : State) (well_one : IsWellNumbered one) (well_other : IsWellNumbered other) (same : SeesTheSame u one other) where
-  accounts_same : (it : Ask) → who it ≡ Some u → account_found it one ≡ account_found it other
+  accounts_same : (it : Asker) → who it ≡ Some u → account_found it one ≡ account_found it other
   accounts_same it named =
       sym (own_account_found account_told it u one named) ∙ ap (account_found it) same.owned ∙ own_account_found account_told it u other named
 
@@ -348,7 +348,7 @@ module _ (set_names : (n : ℕ) (state : State) (row : SetRecord) → IsWellNumb
       (same_set set_names u session n one other well_one well_other same by_one))
 
   -- what is answered to a caller who reads results
-  results_told : (caller : CallerAsk) → ask_of keys moment r ≡ Some (Caller caller) → who (Caller caller) ≡ Some u → reads_results caller.wish ≡ true
+  results_told : (caller : CallerAsk) → asker_of keys moment r ≡ Some (Caller caller) → who (Caller caller) ≡ Some u → reads_results caller.wish ≡ true
       → told agree keys moment r caller.token one other caller.wish one ≡ told agree keys moment r caller.token one other caller.wish other
   results_told caller asks named reads = go caller.wish named reads
     where
@@ -376,13 +376,13 @@ module _ (set_names : (n : ℕ) (state : State) (row : SetRecord) → IsWellNumb
 
   pub answered_by_seen : who_of keys moment r ≡ Some u → answer keys moment r one ≡ answer keys moment r other
   unfolding answer
-  answered_by_seen is = go (ask_of keys moment r) refl (asked_by (first_broken (first_conditions_on r.action r)) (option_and_then who (ask_of keys moment r)) u is)
+  answered_by_seen is = go (asker_of keys moment r) refl (asked_by (first_broken (first_conditions_on r.ask r)) (option_and_then who (asker_of keys moment r)) u is)
     where
-      by_own : (it : Ask) → ask_of keys moment r ≡ Some it → ((state : State) → IsWellNumbered state → answer keys moment r (own u state) ≡ answer keys moment r state)
+      by_own : (it : Asker) → asker_of keys moment r ≡ Some it → ((state : State) → IsWellNumbered state → answer keys moment r (own u state) ≡ answer keys moment r state)
           → answer keys moment r one ≡ answer keys moment r other
       by_own it asks told = sym (told one well_one) ∙ ap (answer keys moment r) same.owned ∙ told other well_other
 
-      called : (caller : CallerAsk) → ask_of keys moment r ≡ Some (Caller caller) → who (Caller caller) ≡ Some u → (b : Bool) → reads_results caller.wish ≡ b
+      called : (caller : CallerAsk) → asker_of keys moment r ≡ Some (Caller caller) → who (Caller caller) ≡ Some u → (b : Bool) → reads_results caller.wish ≡ b
           → answer keys moment r one ≡ answer keys moment r other
       called caller asks named true reading =
           ap (λ asked. judged (first_conditions moment r ++ later_of keys.seed moment r asked one) (reply_to keys moment r asked one)) asks
@@ -392,7 +392,7 @@ module _ (set_names : (n : ℕ) (state : State) (row : SetRecord) → IsWellNumb
           by_own (Caller caller) asks (λ state well. answers_alike keys moment r (Caller caller) (own u state) state asks
           (caller_alike account_told place_told agree owns moment keys.seed r.body caller u state well named off))
 
-      go : (asked : Option Ask) → ask_of keys moment r ≡ asked → option_and_then who asked ≡ Some u → answer keys moment r one ≡ answer keys moment r other
+      go : (asked : Option Asker) → asker_of keys moment r ≡ asked → option_and_then who asked ≡ Some u → answer keys moment r one ≡ answer keys moment r other
       go None asks named = absurd (cc)
       go (Some (Login login)) asks named =
           by_own (Login login) asks (λ state well. answers_alike keys moment r (Login login) (own u state) state asks (inl (login_own account_told keys.seed r.body login u state named)))

@@ -3,6 +3,7 @@ use Rattle.std.proofs.Common.{◌≡◌, inl, inr, ℕ, Bool, Option, None, Some
 use Rattle.acvp_json.specs.Data.{Data}
 use Rattle.acvp_policy.specs.declared.rule.Rule.{Rule}
 use Rattle.acvp_tables.specs.Content.{Content}
+use Rattle.acvp_tables.specs.Meaning.{Meaning}
 use Rattle.acvp_tables.specs.State.{State, own, state_of, IsWellNumbered}
 use Rattle.acvp_desk.specs.Answer.{accepted_change, answer, content_effect, effect, Gives}
 use Rattle.acvp_desk.specs.Isolation.{own_after_request, who_of, IsServedApart, IsToldBySeen, SeesAlike, SeesTheSame}
@@ -34,9 +35,9 @@ module _ (follow : (keys : Keys) (moment : ℕ) (r : RequestValue) (c : Content)
   unfolding accepted_change
   stays c broken is = rw is refl
 
-  module _ {T : Type 0} (stands : T → Content → Type 0) (is_live is_clean : T → Type 0) (leaves : T → Content → Content → Type 0) (old new : T) where
-    pub served_apart : (reply : DeskReply) (changed : Bool) → Serves stands is_live is_clean leaves (result_of reply changed) old new keys moment r
-        → IsServedApart stands is_live is_clean reply old new keys moment r
+  module _ {T : Type 0} (meaning : Meaning T) (old new : T) where
+    pub served_apart : (reply : DeskReply) (changed : Bool) → Serves meaning (result_of reply changed) old new keys moment r
+        → IsServedApart meaning reply old new keys moment r
     served_apart (Given reply) changed served clean c kept h =
         let given = served.given clean c kept h in
         inr (content_effect keys moment r c, given.1, left c kept)
@@ -49,8 +50,8 @@ module _ (follow : (keys : Keys) (moment : ℕ) (r : RequestValue) (c : Content)
       )
     ]
 
-    pub told_by_seen : (reply : DeskReply) (changed : Bool) → Serves stands is_live is_clean leaves (result_of reply changed) old new keys moment r
-        → IsToldBySeen stands is_live is_clean reply old new keys moment r
+    pub told_by_seen : (reply : DeskReply) (changed : Bool) → Serves meaning (result_of reply changed) old new keys moment r
+        → IsToldBySeen meaning reply old new keys moment r
     told_by_seen (Given reply) changed served clean c kept h state well same =
         subst (λ (it : Result (Option Data) Rule). Gives reply.items it) (same_answer (state_of c) state kept.sound well same) (served.given clean c kept h).0
     told_by_seen (Denied broken) changed served clean c kept h state well same = elim (served.denied clean c kept h) [

@@ -15,7 +15,7 @@ use Rattle.acvp_json.specs.Envelope.{envelope_conditions, object_of}
 use Rattle.acvp_json.specs.LoginBody.{login_body_conditions}
 use Rattle.acvp_json.specs.ReviewerBody.{reviewer_body_conditions}
 use Rattle.acvp_json.specs.Elements.{joined}
-use Rattle.acvp_json.specs.Submission.{GivenValue, SubmissionValue, submission_of}
+use Rattle.acvp_json.specs.SubmittedAnswers.{GivenValue, SubmissionValue, submission_of}
 use Rattle.acvp_json.specs.declared.fault.BodyFault.{BodyFault}
 use Rattle.acvp_json.specs.declared.fault.BodyFault.TheVariants as fault
 use Rattle.acvp_mac.specs.Conditions.{Condition, first_broken, with_fault}
@@ -33,24 +33,26 @@ use Rattle.acvp_registry.specs.Object.{object_conditions}
 use Rattle.acvp_registry.specs.declared.fault.RegFault.{RegFault}
 use Rattle.acvp_registry.specs.declared.fault.RegFault.TheVariants as reg
 use Rattle.acvp_tables.specs.State.{State}
-use Rattle.acvp_desk.specs.Answer.{action_of, answer, ask_of, conditions, facts_from, first_conditions, first_conditions_on, found_of, later_of, own_conditions, policy_conditions, reply_to}
+use Rattle.acvp_desk.specs.Answer.{action_of, answer, asker_of, conditions, facts_from, first_conditions, first_conditions_on, found_of, later_of, own_conditions, policy_conditions, reply_to}
 use Rattle.acvp_desk.specs.Asked.{asked_conditions, asked_in, registered_conditions}
 use Rattle.acvp_desk.specs.Bodies.{body_conditions, object_conditions as conditions_on, object_rule, registration_rule, rule_of}
 use Rattle.acvp_desk.specs.OwnConditions.{prompted_conditions, set_conditions, wish_conditions}
 use Rattle.acvp_desk.specs.Registries.{kind_of}
 use Rattle.acvp_desk.specs.Replies.{prompts_from}
 use Rattle.acvp_desk.specs.Request.{RequestValue}
-use Rattle.acvp_desk.specs.declared.ask.Ask.{Ask}
-use Rattle.acvp_desk.specs.declared.ask.Ask.TheVariants.{Login, Caller}
+use Rattle.acvp_desk.specs.declared.ask.Asker.{Asker}
+use Rattle.acvp_desk.specs.declared.ask.Asker.TheVariants.{Login, Caller}
 use Rattle.acvp_desk.specs.declared.found.Found.{Found}
 use Rattle.acvp_desk.specs.declared.found.Material.{Material}
 use Rattle.acvp_desk.specs.declared.found.Material.TheVariants as material
 use Rattle.acvp_desk.specs.declared.keys.Keys.{Keys}
+use Rattle.acvp_desk.specs.declared.request.Ask.{Ask}
+use Rattle.acvp_desk.specs.declared.request.Ask.TheVariants as request
 use Rattle.acvp_desk.specs.declared.wish.RegistryWish.TheVariants as on_registry
 use Rattle.acvp_desk.specs.declared.wish.SessionWish.TheVariants as on_session
 use Rattle.acvp_desk.specs.declared.wish.Wish.{Wish}
 use Rattle.acvp_desk.specs.declared.wish.Wish.TheVariants as wish
-use Rattle.acvp_desk.proofs.Judging.{broken}
+use Rattle.acvp_desk.proofs.FirstBroken.{broken}
 
 -- no condition has such a fault
 abbrev lacks : {F : Type 0} → (F → Bool) → List (Condition F) → Bool
@@ -271,55 +273,26 @@ module _ (seeds : List (List ℕ)) (r : RequestValue) (found : Found) where
 -- ---- all conditions
 
 module _ (keys : Keys) (moment : ℕ) (r : RequestValue) (state : State) where
-  later_lacks : (asked : Option Ask) → lacks is_unavailable (later_of keys.seed moment r asked state) ≡ true
+  later_lacks : (asked : Option Asker) → lacks is_unavailable (later_of keys.seed moment r asked state) ≡ true
   unfolding policy_conditions
   later_lacks None = refl
   later_lacks (Some it) =
       let found = found_of keys.seed r.body it state in
       both_lack is_unavailable (policy_conditions moment it found) (own_conditions keys.seed r it found) (policy_lacks (action_of it) (facts_from moment it found)) (own_lacks it found)
     where
-      own_lacks : (it : Ask) (found : Found) → lacks is_unavailable (own_conditions keys.seed r it found) ≡ true
+      own_lacks : (it : Asker) (found : Found) → lacks is_unavailable (own_conditions keys.seed r it found) ≡ true
       own_lacks (Login login) found = refl
       own_lacks (Caller caller) found = wish_lacks keys.seed r found caller.wish
 
-  first_lacks : (a : Action) → lacks is_unavailable (first_conditions_on a r) ≡ true
-  first_lacks action.Login = body_lacks is_memory rule_of rule_lacks login_body_conditions (λ d. refl) r.body
-  first_lacks action.ReadAccount = refl
-  first_lacks action.ListAlgorithms = refl
-  first_lacks action.ReadAlgorithm = refl
-  first_lacks action.ReadSession = refl
-  first_lacks action.CancelSession = refl
-  first_lacks action.SessionResults = refl
-  first_lacks action.ListSets = refl
-  first_lacks action.ListReviewers = refl
-  first_lacks action.AddReviewer = refl
-  first_lacks action.RemoveReviewer = refl
-  first_lacks action.ReadSet = refl
-  first_lacks action.Expected = refl
-  first_lacks action.SetResults = refl
-  first_lacks action.NewSession = refl
-  first_lacks action.CancelSet = refl
-  first_lacks action.Submit = refl
-  first_lacks action.Resubmit = refl
-  first_lacks action.ListSessions = refl
-  first_lacks action.Certify = refl
-  first_lacks action.ListVendors = refl
-  first_lacks action.NewVendor = refl
-  first_lacks action.ReadVendor = refl
-  first_lacks action.ListModules = refl
-  first_lacks action.NewModule = refl
-  first_lacks action.ReadModule = refl
-  first_lacks action.ListEnvironments = refl
-  first_lacks action.NewEnvironment = refl
-  first_lacks action.ReadEnvironment = refl
-  first_lacks action.ListRequests = refl
-  first_lacks action.ReadRequest = refl
+  first_lacks : (a : Ask) → lacks is_unavailable (first_conditions_on a r) ≡ true
+  first_lacks request.Login = body_lacks is_memory rule_of rule_lacks login_body_conditions (λ d. refl) r.body
+  first_lacks (request.Caller it) = refl
 
   pub never_unavailable : answer keys moment r state ≡ Err rule.Unavailable → ⊥
   unfolding answer
   never_unavailable is =
       let all = conditions keys moment r state in
       let none = not_broken is_unavailable all rule.Unavailable
-      (both_lack is_unavailable (first_conditions moment r) (later_of keys.seed moment r (ask_of keys moment r) state) (first_lacks r.action) (later_lacks (ask_of keys moment r)))
-      (broken all (reply_to keys moment r (ask_of keys moment r) state) rule.Unavailable is) in
+      (both_lack is_unavailable (first_conditions moment r) (later_of keys.seed moment r (asker_of keys moment r) state) (first_lacks r.ask) (later_lacks (asker_of keys moment r)))
+      (broken all (reply_to keys moment r (asker_of keys moment r) state) rule.Unavailable is) in
       cc

@@ -22,8 +22,8 @@ use Rattle.acvp_desk.specs.declared.wish.SetWish.TheVariants as on_set
 use Rattle.acvp_desk.specs.declared.wish.AccountWish.TheVariants as on_account
 use Rattle.acvp_desk.specs.declared.wish.Wish.{Wish}
 use Rattle.acvp_desk.specs.declared.wish.Wish.TheVariants as wish
-use Rattle.acvp_desk.proofs.Cancelling.{number_fits}
-use Rattle.acvp_desk.proofs.Reviewing.{none_reviews}
+use Rattle.acvp_desk.proofs.CancelledSet.{number_fits}
+use Rattle.acvp_desk.proofs.NextReviewer.{none_reviews}
 
 -- the actions that reviewers are let in to
 abbrev pub reads_results : Wish → Bool

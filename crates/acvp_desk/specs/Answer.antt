@@ -1,5 +1,6 @@
 -- What a request is answered, and what it changes.
-use Rattle.std.specs.Prelude.{◌≡◌, ◌⊎◌, ℕ, ◌≤◌, Bool, false, List, [], ◌∷◌, ◌++◌, length, drop, nat_lt, true, Option, Some, None, option_map, option_and_then, is_some, if◌then◌else◌, Result, Ok, Err, ⊤}
+use Rattle.std.specs.Prelude.{◌≡◌, ◌⊎◌, ℕ, ◌≤◌, Bool, false, List, [], ◌∷◌, ◌++◌, length, drop, nat_lt, true, Option}
+use Rattle.std.specs.Prelude.{Some, None, option_map, option_and_then, is_some, if◌then◌else◌, Result, Ok, Err, ⊤}
 use Rattle.acvp_json.specs.Data.{Data}
 use Rattle.acvp_mac.specs.Conditions.{Condition, judged}
 use Rattle.acvp_token.specs.Keys.{Ring}
@@ -32,18 +33,20 @@ use Rattle.acvp_tables.specs.declared.change.Change.TheVariants as change
 use Rattle.acvp_tables.specs.declared.rows.AccountRow.{AccountRow}
 use Rattle.acvp_desk.specs.Bodies.{body_conditions, rule_of}
 use Rattle.acvp_desk.specs.Login.{login_ask_at, login_facts, step_of, claims_at}
-use Rattle.acvp_desk.specs.declared.ask.Ask.{Ask}
-use Rattle.acvp_desk.specs.declared.ask.Ask.TheVariants as ask
+use Rattle.acvp_desk.specs.declared.ask.Asker.{Asker}
+use Rattle.acvp_desk.specs.declared.ask.Asker.TheVariants as ask
 use Rattle.acvp_desk.specs.declared.ask.LoginAsk.{LoginAsk}
 use Rattle.acvp_desk.specs.declared.found.Found.{Found}
 use Rattle.acvp_desk.specs.declared.found.Material.TheVariants as material
 use Rattle.acvp_desk.specs.declared.keys.Keys.{Keys}
+use Rattle.acvp_desk.specs.declared.request.Ask.{Ask}
+use Rattle.acvp_desk.specs.declared.request.Ask.TheVariants as request
 use Rattle.acvp_desk.specs.declared.wish.Wish.{Wish}
 use Rattle.acvp_desk.specs.Place.{unfound, subject_of, material_of, is_for, is_within, reviewed}
 use Rattle.acvp_desk.specs.OwnConditions.{wish_conditions}
 use Rattle.acvp_desk.specs.Replies.{wish_reply, wish_change}
 use Rattle.acvp_desk.specs.Request.{RequestValue}
-use Rattle.acvp_desk.specs.Wish.{wish_of, action_of_wish, token_at}
+use Rattle.acvp_desk.specs.Wish.{action_of_wish, token_at}
 
 -- the first moment that is no longer served: the year 2100, in seconds since 1970
 abbrev pub end_of_moments : ℕ
@@ -51,52 +54,63 @@ end_of_moments = 4102444800
 
 -- ---- what is asked
 
--- the conditions on the body that are looked at before a row is: those on a login's. Each other action asks something
-abbrev pub first_conditions_on : Action → RequestValue → List (Condition Rule)
-first_conditions_on action.Login r = body_conditions rule_of login_body_conditions r.body
-first_conditions_on a r = (is_some (wish_of a r.numbers r.query), rule.NoRoute) ∷ []
+-- the conditions on the body that are looked at before a row is: those on a login's
+abbrev pub first_conditions_on : Ask → RequestValue → List (Condition Rule)
+first_conditions_on request.Login r = body_conditions rule_of login_body_conditions r.body
+first_conditions_on (request.Caller it) r = []
 
 -- the conditions that are looked at before a row is
 abbrev pub first_conditions : ℕ → RequestValue → List (Condition Rule)
-first_conditions moment r = (nat_lt moment end_of_moments, rule.ClockOutOfRange) ∷ first_conditions_on r.action r
+first_conditions moment r = (nat_lt moment end_of_moments, rule.ClockOutOfRange) ∷ first_conditions_on r.ask r
 
-abbrev pub caller_ask : Keys → ℕ → RequestValue → Wish → Ask
+abbrev pub caller_ask : Keys → ℕ → RequestValue → Wish → Asker
 caller_ask keys moment r it = ask.Caller (record { token = token_at keys.token moment r.token; wish = it })
 
-abbrev pub ask_on : Action → Keys → ℕ → RequestValue → Option Ask
-ask_on action.Login keys moment r = option_map ask.Login (login_ask_at keys.token r.body)
-ask_on a keys moment r = option_map (caller_ask keys moment r) (wish_of a r.numbers r.query)
+abbrev pub asker_on : Ask → Keys → ℕ → RequestValue → Option Asker
+asker_on request.Login keys moment r = option_map ask.Login (login_ask_at keys.token r.body)
+asker_on (request.Caller it) keys moment r = Some (caller_ask keys moment r it)
 
-abbrev pub ask_of : Keys → ℕ → RequestValue → Option Ask
-ask_of keys moment r = ask_on r.action keys moment r
+abbrev pub asker_of : Keys → ℕ → RequestValue → Option Asker
+asker_of keys moment r = asker_on r.ask keys moment r
 
-abbrev pub action_of : Ask → Action
+abbrev pub action_of : Asker → Action
 action_of (ask.Login login) = action.Login
 action_of (ask.Caller caller) = action_of_wish caller.wish
 
 -- ---- what is found
 
 -- whose row is looked up: the login's user's, or that of the token's claims
-abbrev pub who : Ask → Option ℕ
+abbrev pub who : Asker → Option ℕ
 who (ask.Login login) = login.user
 who (ask.Caller caller) = option_map (λ claims. claims.account) (claims_of caller.token)
 
-abbrev pub account_found : Ask → State → Option AccountRow
+abbrev pub account_found : Asker → State → Option AccountRow
 account_found it state = option_and_then (λ n. account_at n state.accounts) (who it)
 
 -- before anything is looked at that the path names
-abbrev pub unfound_of : Ask → Option AccountRow → Bool → Found
-unfound_of (ask.Login login) account reviewer = record { account = account; reviewer = reviewer; subject = subject.Account; material = material.Nothing }
-unfound_of (ask.Caller caller) account reviewer = record { account = account; reviewer = reviewer; subject = unfound caller.wish; material = material.Nothing }
+abbrev pub unfound_of : Asker → Option AccountRow → Bool → Found
+unfound_of (ask.Login login) account reviewer = record {
+  account = account;
+  reviewer = reviewer;
+  subject = subject.Account;
+  material = material.Nothing;
+}
+unfound_of (ask.Caller caller) account reviewer = record {
+  account = account;
+  reviewer = reviewer;
+  subject = unfound caller.wish;
+  material = material.Nothing;
+}
 
 -- whether the account that acts reviews the session of the path, where that is asked
-abbrev pub reviewer_found : Ask → State → Bool
+abbrev pub reviewer_found : Asker → State → Bool
 reviewer_found (ask.Login login) state = false
 reviewer_found (ask.Caller caller) state = reviewed caller.wish (account_of_claims (claims_of caller.token)) state
 
 -- by the body, too, where it names rows
-unfoldable pub found_of : List (List ℕ) → List ℕ → Ask → State → Found
-found_of seeds body (ask.Login login) state = unfound_of (ask.Login login) (account_found (ask.Login login) state) (reviewer_found (ask.Login login) state)
+unfoldable pub found_of : List (List ℕ) → List ℕ → Asker → State → Found
+found_of seeds body (ask.Login login) state =
+    unfound_of (ask.Login login) (account_found (ask.Login login) state) (reviewer_found (ask.Login login) state)
 found_of seeds body (ask.Caller caller) state = record {
   account = account_found (ask.Caller caller) state;
   reviewer = reviewer_found (ask.Caller caller) state;
@@ -108,7 +122,7 @@ abbrev pub standing_of : Option AccountRow → Standing
 standing_of None = standing.Absent
 standing_of (Some row) = if row.enabled then standing.Enabled else standing.Disabled
 
-abbrev pub facts_from : ℕ → Ask → Found → Facts
+abbrev pub facts_from : ℕ → Asker → Found → Facts
 facts_from moment (ask.Login login) found = record {
   moment = moment;
   token = token.Missing;
@@ -125,64 +139,70 @@ facts_from moment (ask.Caller caller) found = record {
 }
 
 -- what was found is of what is asked: the path names it, and what the reply shows was read
-abbrev pub IsOf : Ask → Found → Type 0
+abbrev pub IsOf : Asker → Found → Type 0
 IsOf (ask.Login login) found = ⊤
 IsOf (ask.Caller caller) found =
-    (resource_of found.subject ≡ resource_of (unfound caller.wish)) × (is_for caller.wish found.material ≡ true) × (is_within caller.wish found.subject ≡ true)
+    (resource_of found.subject ≡ resource_of (unfound caller.wish)) × (is_for caller.wish found.material ≡ true)
+    × (is_within caller.wish found.subject ≡ true)
 
 -- ---- the answer
 
 -- what the policy asks of what was found
-unfoldable pub policy_conditions : ℕ → Ask → Found → List (Condition Rule)
+unfoldable pub policy_conditions : ℕ → Asker → Found → List (Condition Rule)
 policy_conditions moment it found = policy (action_of it) (facts_from moment it found)
 
 -- and what the action itself does
-abbrev pub own_conditions : List (List ℕ) → RequestValue → Ask → Found → List (Condition Rule)
+abbrev pub own_conditions : List (List ℕ) → RequestValue → Asker → Found → List (Condition Rule)
 own_conditions seeds r (ask.Login login) found = []
 own_conditions seeds r (ask.Caller caller) found = wish_conditions seeds r found caller.wish
 
 -- the conditions on what was found
-abbrev pub later_conditions : List (List ℕ) → ℕ → RequestValue → Ask → Found → List (Condition Rule)
+abbrev pub later_conditions : List (List ℕ) → ℕ → RequestValue → Asker → Found → List (Condition Rule)
 later_conditions seeds moment r it found = policy_conditions moment it found ++ own_conditions seeds r it found
 
 -- the object of a login's reply
 abbrev pub login_reply : Ring → ℕ → LoginAsk → Found → Option Data
-login_reply ring moment login found = option_map (λ row. token_data (ring_token_text ring (claims_at moment login row))) found.account
+login_reply ring moment login found =
+    option_map (λ row. token_data (ring_token_text ring (claims_at moment login row))) found.account
 
 -- the object of the reply
-abbrev pub reply_of : Keys → ℕ → RequestValue → Ask → Found → Option Data
+abbrev pub reply_of : Keys → ℕ → RequestValue → Asker → Found → Option Data
 reply_of keys moment r (ask.Login login) found = login_reply keys.token moment login found
-reply_of keys moment r (ask.Caller caller) found = wish_reply keys moment (account_of_claims (claims_of caller.token)) r found caller.wish
+reply_of keys moment r (ask.Caller caller) found =
+    wish_reply keys moment (account_of_claims (claims_of caller.token)) r found caller.wish
 
 -- the change that a login makes
 abbrev pub login_change : ℕ → LoginAsk → Found → Option Change
 login_change moment login found =
-    option_and_then (λ row. option_map (λ step. change.UseStep (record { account = row.number; step = step })) (step_of moment login row)) found.account
+    option_and_then (λ row. option_map (λ step. change.UseStep (record { account = row.number; step = step }))
+    (step_of moment login row)) found.account
 
 -- the change that is made
-abbrev pub change_of : Keys → ℕ → RequestValue → Ask → Found → Option Change
+abbrev pub change_of : Keys → ℕ → RequestValue → Asker → Found → Option Change
 change_of keys moment r (ask.Login login) found = login_change moment login found
-change_of keys moment r (ask.Caller caller) found = wish_change keys.seed moment (account_of_claims (claims_of caller.token)) r found caller.wish
+change_of keys moment r (ask.Caller caller) found =
+    wish_change keys.seed moment (account_of_claims (claims_of caller.token)) r found caller.wish
 
-abbrev pub later_of : List (List ℕ) → ℕ → RequestValue → Option Ask → State → List (Condition Rule)
+abbrev pub later_of : List (List ℕ) → ℕ → RequestValue → Option Asker → State → List (Condition Rule)
 later_of seeds moment r None state = []
 later_of seeds moment r (Some it) state = later_conditions seeds moment r it (found_of seeds r.body it state)
 
 -- all conditions, in their order
 abbrev pub conditions : Keys → ℕ → RequestValue → State → List (Condition Rule)
-conditions keys moment r state = first_conditions moment r ++ later_of keys.seed moment r (ask_of keys moment r) state
+conditions keys moment r state = first_conditions moment r ++ later_of keys.seed moment r (asker_of keys moment r) state
 
-abbrev pub reply_to : Keys → ℕ → RequestValue → Option Ask → State → Option Data
+abbrev pub reply_to : Keys → ℕ → RequestValue → Option Asker → State → Option Data
 reply_to keys moment r None state = None
 reply_to keys moment r (Some it) state = reply_of keys moment r it (found_of keys.seed r.body it state)
 
 -- the rule of the first condition that doesn't hold, or the object of the reply
 unfoldable pub answer : Keys → ℕ → RequestValue → State → Result (Option Data) Rule
-answer keys moment r state = judged (conditions keys moment r state) (reply_to keys moment r (ask_of keys moment r) state)
+answer keys moment r state =
+    judged (conditions keys moment r state) (reply_to keys moment r (asker_of keys moment r) state)
 
 -- ---- the effect
 
-abbrev pub change_by : Keys → ℕ → RequestValue → Option Ask → State → Option Change
+abbrev pub change_by : Keys → ℕ → RequestValue → Option Asker → State → Option Change
 change_by keys moment r None state = None
 change_by keys moment r (Some it) state = change_of keys moment r it (found_of keys.seed r.body it state)
 
@@ -192,7 +212,8 @@ change_on (Ok reply) it = it
 change_on (Err rule) it = None
 
 unfoldable pub accepted_change : Keys → ℕ → RequestValue → State → Option Change
-accepted_change keys moment r state = change_on (answer keys moment r state) (change_by keys moment r (ask_of keys moment r) state)
+accepted_change keys moment r state =
+    change_on (answer keys moment r state) (change_by keys moment r (asker_of keys moment r) state)
 
 abbrev pub state_after : Option Change → State → State
 state_after None state = state

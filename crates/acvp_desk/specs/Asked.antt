@@ -1,5 +1,6 @@
 -- What an account asks the operator for: that an object is registered, or that a test session is certified.
-use Rattle.std.specs.Prelude.{ℕ, ◌+◌, List, [], ◌∷◌, ◌++◌, Bool, ◌&&◌, nat_lt, if◌then◌else◌, Option, Some, None, option_map, option_and_then, is_some}
+use Rattle.std.specs.Prelude.{ℕ, ◌+◌, List, [], ◌∷◌, ◌++◌, Bool, ◌&&◌, nat_lt, if◌then◌else◌, Option, Some, None}
+use Rattle.std.specs.Prelude.{option_map, option_and_then, is_some}
 use Rattle.acvp_json.specs.CertifyBody.{certify_body_conditions, certify_body_of}
 use Rattle.acvp_json.specs.Data.{Data}
 use Rattle.acvp_json.specs.Envelope.{object_of}
@@ -61,16 +62,21 @@ has_own_vendor u objects object = is_none_or (object_vendor object) (λ n. is_so
 
 -- the module and the environment are
 abbrev pub has_own_parts : ℕ → List ObjectRow → CertifyBody → Bool
-has_own_parts u objects body = is_some (own_object Module u body.module objects) && is_some (own_object Environment u body.environment objects)
+has_own_parts u objects body =
+    is_some (own_object Module u body.module objects) && is_some (own_object Environment u body.environment objects)
 
 -- so many requests the account has, and whether all that is named is there
 abbrev pub registration_asked : Kind → ℕ → List ℕ → State → Asked
-registration_asked kind u body state =
-    record { requests = length (requests_of u state.requests); named = is_none_or (object_in kind body) (has_own_vendor u state.objects) }
+registration_asked kind u body state = record {
+  requests = length (requests_of u state.requests);
+  named = is_none_or (object_in kind body) (has_own_vendor u state.objects);
+}
 
 abbrev pub certification_asked : ℕ → List ℕ → State → Asked
-certification_asked u body state =
-    record { requests = length (requests_of u state.requests); named = is_none_or (certified_in body) (has_own_parts u state.objects) }
+certification_asked u body state = record {
+  requests = length (requests_of u state.requests);
+  named = is_none_or (certified_in body) (has_own_parts u state.objects);
+}
 
 -- ---- the conditions
 
@@ -80,7 +86,8 @@ asked_in _ = None
 
 -- what the body names is there, and the account has no 999999 requests yet
 abbrev pub asked_conditions : Option Asked → List (Condition Rule)
-asked_conditions asked = (is_none_or asked (λ a. a.named), rule.NoReference) ∷ (is_none_or asked (λ a. nat_lt a.requests 999999), rule.AccountFull) ∷ []
+asked_conditions asked = (is_none_or asked (λ a. a.named), rule.NoReference)
+    ∷ (is_none_or asked (λ a. nat_lt a.requests 999999), rule.AccountFull) ∷ []
 
 abbrev pub registration_conditions_on : Kind → List ℕ → Option Asked → List (Condition Rule)
 registration_conditions_on kind body asked = registered_conditions kind body ++ asked_conditions asked
@@ -106,11 +113,13 @@ certification_made u session asked body = record {
 
 abbrev pub registration_change : Kind → ℕ → List ℕ → Option Asked → Option Change
 registration_change kind u body None = None
-registration_change kind u body (Some asked) = option_map (λ object. change.NewRequest (request_made u asked object)) (object_in kind body)
+registration_change kind u body (Some asked) =
+    option_map (λ object. change.NewRequest (request_made u asked object)) (object_in kind body)
 
 abbrev pub certification_change : ℕ → ℕ → List ℕ → Option Asked → Option Change
 certification_change u session body None = None
-certification_change u session body (Some asked) = option_map (λ parts. change.Certify (certification_made u session asked parts)) (certified_in body)
+certification_change u session body (Some asked) =
+    option_map (λ parts. change.Certify (certification_made u session asked parts)) (certified_in body)
 
 -- it waits for the operator's decision
 abbrev pub request_waiting : Kind → ℕ → PendingRequest

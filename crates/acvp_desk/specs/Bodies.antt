@@ -45,4 +45,5 @@ object_conditions conditions (Some d) = conditions d
 -- what is asked of a body: its envelope, and then its object, whose faults are told as rules
 abbrev pub body_conditions : {F : Type 0} → (F → Rule) → (Data → List (Condition F)) → List ℕ → List (Condition Rule)
 body_conditions told conditions body =
-    map (with_fault rule_of) (envelope_conditions body) ++ map (with_fault told) (object_conditions conditions (object_of body))
+    map (with_fault rule_of) (envelope_conditions body)
+    ++ map (with_fault told) (object_conditions conditions (object_of body))

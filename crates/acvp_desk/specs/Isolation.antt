@@ -1,14 +1,15 @@
 -- Whose a request or an order is, what it makes of each account's own rows, and by what its account is told.
-use Rattle.std.specs.Prelude.{◌≡◌, ◌⊎◌, ℕ, ◌/◌, Bool, true, false, ◌==◌, List, Option, None, Some, option_and_then, is_some, if◌then◌else◌, Result, ⊤}
+use Rattle.std.specs.Prelude.{◌≡◌, ◌⊎◌, ℕ, ◌/◌, Bool, true, false, ◌==◌, List, Option, None, Some, option_and_then}
+use Rattle.std.specs.Prelude.{is_some, if◌then◌else◌, Result, ⊤}
 use Rattle.acvp_json.specs.Data.{Data}
 use Rattle.acvp_mac.specs.Conditions.{first_broken}
 use Rattle.acvp_policy.specs.declared.rule.Rule.{Rule}
 use Rattle.acvp_policy.specs.declared.rule.Rule.TheVariants as rule
-use Rattle.acvp_policy.specs.declared.action.Action.{Action}
-use Rattle.acvp_policy.specs.declared.action.Action.TheVariants as action
 use Rattle.acvp_tables.specs.Content.{Content, is_reviewer}
-use Rattle.acvp_tables.specs.State.{State, IsSound, IsWellNumbered, live_records, may_see, own, owner_of, session_record_at, set_record_at, state_of}
-use Rattle.acvp_desk.specs.Answer.{answer, ask_of, effect, first_conditions_on, who, Gives, Refuses}
+use Rattle.acvp_tables.specs.Meaning.{Meaning}
+use Rattle.acvp_tables.specs.State.{State, IsSound, IsWellNumbered, live_records, may_see, own, owner_of}
+use Rattle.acvp_tables.specs.State.{session_record_at, set_record_at, state_of}
+use Rattle.acvp_desk.specs.Answer.{answer, asker_of, effect, first_conditions_on, who, Gives, Refuses}
 use Rattle.acvp_desk.specs.Kept.{IsKept}
 use Rattle.acvp_desk.specs.Serves.{Holds}
 use Rattle.acvp_desk.specs.Orders.{ByReply, order_effect}
@@ -20,11 +21,16 @@ use Rattle.acvp_desk.specs.declared.keys.Keys.{Keys}
 use Rattle.acvp_desk.specs.declared.order.Order.{Order}
 use Rattle.acvp_desk.specs.declared.order.Order.TheVariants as order
 use Rattle.acvp_desk.specs.declared.order.OrderReply.{OrderReply}
+use Rattle.acvp_desk.specs.declared.request.Ask.{Ask}
+use Rattle.acvp_desk.specs.declared.request.Ask.TheVariants.{Caller}
+use Rattle.acvp_desk.specs.declared.wish.Wish.TheVariants.{Session}
+use Rattle.acvp_desk.specs.declared.wish.SessionWish.TheVariants.{AddReviewer}
 
 -- the account that a request is of: of a login whose body is read the one that it names, and of each other the one that
 -- its token's claims name; none where there is none
 abbrev pub who_of : Keys → ℕ → RequestValue → Option ℕ
-who_of keys moment r = if is_some (first_broken (first_conditions_on r.action r)) then None else option_and_then who (ask_of keys moment r)
+who_of keys moment r =
+    if is_some (first_broken (first_conditions_on r.ask r)) then None else option_and_then who (asker_of keys moment r)
 
 -- the account that an order is of: the one that it names, or that whose request it names
 abbrev pub account_of_asked : Order → ℕ
@@ -53,9 +59,11 @@ own_after_order it u mine = if account_of_asked it == u then order_effect it min
 pub record SeesTheSame (u : ℕ) (one other : State) : Type 0 where
   pub owned : own u one ≡ own u other
   pub reviews : (s : ℕ) → is_reviewer s u one.reviewers ≡ is_reviewer s u other.reviewers
-  pub session : (s : ℕ) → may_see u (owner_of s) s one ≡ true → session_record_at s one.sessions ≡ session_record_at s other.sessions
+  pub session : (s : ℕ) → may_see u (owner_of s) s one ≡ true
+      → session_record_at s one.sessions ≡ session_record_at s other.sessions
   pub live_sets : (s : ℕ) → may_see u (owner_of s) s one ≡ true → live_records s one.sets ≡ live_records s other.sets
-  pub set : (v : ℕ) → may_see u (owner_of (v / 100)) (v / 100) one ≡ true → set_record_at v one.sets ≡ set_record_at v other.sets
+  pub set : (v : ℕ) → may_see u (owner_of (v / 100)) (v / 100) one ≡ true
+      → set_record_at v one.sets ≡ set_record_at v other.sets
 
 -- so does the account of a request; to nobody all records are alike
 abbrev pub SeesAlike : Option ℕ → State → State → Type 0
@@ -63,12 +71,12 @@ SeesAlike None one other = ⊤
 SeesAlike (Some u) one other = SeesTheSame u one other
 
 -- whom a request asks to add as a reviewer
-abbrev pub reviewer_asked_by : Action → List ℕ → Option ℕ
-reviewer_asked_by action.AddReviewer body = reviewer_at body
+abbrev pub reviewer_asked_by : Ask → List ℕ → Option ℕ
+reviewer_asked_by (Caller (Session n AddReviewer)) body = reviewer_at body
 reviewer_asked_by _ body = None
 
 abbrev pub reviewer_asked : RequestValue → Option ℕ
-reviewer_asked r = reviewer_asked_by r.action r.body
+reviewer_asked r = reviewer_asked_by r.ask r.body
 
 -- what is replied is the object of this answer, or its rule; or it is unavailable
 abbrev pub IsReplyBy : DeskReply → Result (Option Data) Rule → Type 0
@@ -79,7 +87,9 @@ abbrev pub IsUnavailable : DeskReply → Type 0
 IsUnavailable (Given reply) = ⊥
 IsUnavailable (Denied broken) = broken ≡ rule.Unavailable
 
-module _ {T : Type 0} (stands : T → Content → Type 0) (is_live : T → Type 0) where
+module _ {T : Type 0} (meaning : Meaning T) where
+  open meaning use {stands, is_live, is_clean}
+
   -- For every content that the tables stood for they stand for one in which each account owns what the order leaves of
   -- its own rows.
   abbrev pub LeavesApart : T → T → Order → Type 0
@@ -91,13 +101,15 @@ module _ {T : Type 0} (stands : T → Content → Type 0) (is_live : T → Type 
   IsOrderedApart reply old new it = ByReply reply (LeavesApart old new it) (LeavesApart old new it) ⊤
 
   -- The same of a request while the disk tells no lie; or the request is unavailable, and all stays.
-  abbrev pub IsServedApart : (T → Type 0) → DeskReply → T → T → Keys → ℕ → RequestValue → Type 0
-  IsServedApart is_clean reply old new keys moment r = is_clean new → (c : Content) → IsKept keys.seed c → Holds stands is_live old c
-      → (IsUnavailable reply × Holds stands is_live new c)
-      ⊎ ((d : Content) × Holds stands is_live new d × ((v : ℕ) → own v (state_of d) ≡ own_after_request keys moment r v (own v (state_of c))))
+  abbrev pub IsServedApart : DeskReply → T → T → Keys → ℕ → RequestValue → Type 0
+  IsServedApart reply old new keys moment r = is_clean new → (c : Content) → IsKept keys.seed c → Holds meaning old c
+      → (IsUnavailable reply × Holds meaning new c)
+      ⊎ ((d : Content) × Holds meaning new d
+      × ((v : ℕ) → own v (state_of d) ≡ own_after_request keys moment r v (own v (state_of c))))
 
   -- What is replied is what any well numbered records give in which the account that asks sees the same as in those
   -- that the tables stood for.
-  abbrev pub IsToldBySeen : (T → Type 0) → DeskReply → T → T → Keys → ℕ → RequestValue → Type 0
-  IsToldBySeen is_clean reply old new keys moment r = is_clean new → (c : Content) → IsKept keys.seed c → Holds stands is_live old c
-      → (state : State) → IsWellNumbered state → SeesAlike (who_of keys moment r) (state_of c) state → IsReplyBy reply (answer keys moment r state)
+  abbrev pub IsToldBySeen : DeskReply → T → T → Keys → ℕ → RequestValue → Type 0
+  IsToldBySeen reply old new keys moment r = is_clean new → (c : Content) → IsKept keys.seed c → Holds meaning old c
+      → (state : State) → IsWellNumbered state → SeesAlike (who_of keys moment r) (state_of c) state
+      → IsReplyBy reply (answer keys moment r state)

@@ -17,7 +17,8 @@ pub record IsRightly (seed : List ℕ) (row : SetRow) (graded : GradedValue) : T
 
 -- the seed of a vector set's epoch is there, and what is kept of its answers is right under it
 unfoldable pub IsGradedSet : List (List ℕ) → SetRow → Type 0
-IsGradedSet seeds row = (seed : List ℕ) × (slice_get seeds row.epoch ≡ Some seed) × IfSome row.graded (IsRightly seed row)
+IsGradedSet seeds row =
+    (seed : List ℕ) × (slice_get seeds row.epoch ≡ Some seed) × IfSome row.graded (IsRightly seed row)
 
 -- each vector set's
 abbrev pub IsGraded : List (List ℕ) → Content → Type 0

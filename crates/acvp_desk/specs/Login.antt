@@ -1,5 +1,6 @@
 -- A login: what its body says, and what is found on it.
-use Rattle.std.specs.Prelude.{ℕ, ◌+◌, List, length, ◌&&◌, ◌==◌, if◌then◌else◌, Option, Some, None, option_map, option_and_then, Result, Ok, Err}
+use Rattle.std.specs.Prelude.{ℕ, ◌+◌, List, length, ◌&&◌, ◌==◌, if◌then◌else◌, Option, Some, None, option_map}
+use Rattle.std.specs.Prelude.{option_and_then, Result, Ok, Err}
 use Rattle.std.specs.Str.{all_ascii_digits}
 use Rattle.std.specs.Str.Parse.{digits_value}
 use Rattle.acvp_mac.specs.Codes.{accepted}
@@ -47,7 +48,11 @@ renewal_of ring (Some text) = renewal_from (reading_under ring text)
 
 -- what a login asks
 abbrev pub login_ask : Ring → LoginBody → LoginAsk
-login_ask ring body = record { user = user_of body.user; password = password_of body.password; renewal = renewal_of ring body.access_token }
+login_ask ring body = record {
+  user = user_of body.user;
+  password = password_of body.password;
+  renewal = renewal_of ring body.access_token;
+}
 
 abbrev pub login_ask_at : Ring → List ℕ → Option LoginAsk
 login_ask_at ring body = option_map (login_ask ring) (login_at body)
@@ -78,4 +83,9 @@ renewed_session (renewal.Reads claims) = claims.session
 
 -- the claims of the new token
 abbrev pub claims_at : ℕ → LoginAsk → AccountRow → Claims
-claims_at moment ask row = record { account = row.number; session = renewed_session ask.renewal; issued = moment; expires = moment + token_life }
+claims_at moment ask row = record {
+  account = row.number;
+  session = renewed_session ask.renewal;
+  issued = moment;
+  expires = moment + token_life;
+}

@@ -1,5 +1,6 @@
 -- A new test session: what its body registers, its number, its vector sets and the token that is bound to it.
-use Rattle.std.specs.Prelude.{ℕ, ◌+◌, List, [], ◌∷◌, length, Bool, true, nat_lt, Option, Some, None, option_map, option_and_then}
+use Rattle.std.specs.Prelude.{ℕ, ◌+◌, List, [], ◌∷◌, length, Bool, true, nat_lt, Option, Some, None, option_map}
+use Rattle.std.specs.Prelude.{option_and_then}
 use Rattle.std.specs.List.{range_with_len}
 use Rattle.acvp_caps.specs.Registered.{registration_at}
 use Rattle.acvp_caps.specs.Registration.{RegistrationValue}
@@ -46,14 +47,21 @@ session_made moment u n epoch registration = record {
 -- the session that a body registers: the account's next number, and vector sets under the newest seed
 abbrev pub new_session_in : List (List ℕ) → ℕ → ℕ → List ℕ → Material → Option NewSession
 new_session_in seeds moment u body material =
-    option_and_then (λ n. option_and_then (λ epoch. option_map (session_made moment u n epoch) (registration_in body)) (newest_epoch seeds)) (sessions_in_material material)
+    option_and_then (λ n. option_and_then (λ epoch. option_map (session_made moment u n epoch) (registration_in body))
+    (newest_epoch seeds)) (sessions_in_material material)
 
 -- a token that is bound to it
 abbrev pub session_claims : NewSession → Claims
-session_claims s = record { account = s.account; session = Some s.number; issued = s.created; expires = s.created + token_life }
+session_claims s = record {
+  account = s.account;
+  session = Some s.number;
+  issued = s.created;
+  expires = s.created + token_life;
+}
 
 abbrev pub made_numbers : NewSession → List ℕ
 made_numbers s = range_with_len (first_of_session s.number) (length s.registration.capabilities)
 
 abbrev pub session_made_data : Ring → NewSession → Data
-session_made_data ring s = new_session_data (ring_token_text ring (session_claims s)) s.number s.created (made_numbers s)
+session_made_data ring s =
+    new_session_data (ring_token_text ring (session_claims s)) s.number s.created (made_numbers s)

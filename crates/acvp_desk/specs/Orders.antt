@@ -1,9 +1,11 @@
 -- The operator's orders: what each is answered, and what it changes.
-use Rattle.std.specs.Prelude.{◌≡◌, ℕ, ◌+◌, length, Bool, true, false, Option, Some, None, option_map, option_and_then, is_some, if◌then◌else◌, ⊤}
+use Rattle.std.specs.Prelude.{◌≡◌, ℕ, ◌+◌, length, Bool, true, false, Option, Some, None, option_map, option_and_then}
+use Rattle.std.specs.Prelude.{is_some, if◌then◌else◌, ⊤}
 use Rattle.acvp_tables.specs.Changes.{after_order}
 use Rattle.acvp_registry.specs.declared.kind.Kind.{Kind}
 use Rattle.acvp_registry.specs.declared.kind.Kind.TheVariants.{Vendor, Module, Environment, Certification}
 use Rattle.acvp_tables.specs.Content.{Content, account_at, request_at, subject_of}
+use Rattle.acvp_tables.specs.Meaning.{Meaning}
 use Rattle.acvp_tables.specs.State.{State, first_of_account, is_account_number, record_counts, state_of, IsSound}
 use Rattle.acvp_tables.specs.StateChanges.{after_order_state}
 use Rattle.acvp_tables.specs.declared.change.OrderChange.{OrderChange}
@@ -11,7 +13,7 @@ use Rattle.acvp_tables.specs.declared.change.OrderChange.TheVariants as change
 use Rattle.acvp_tables.specs.declared.rows.RequestRow.{RequestRow}
 use Rattle.acvp_tables.specs.declared.rows.RequestStatus.{RequestStatus}
 use Rattle.acvp_tables.specs.declared.rows.RequestStatus.TheVariants as status
-use Rattle.acvp_tables.specs.declared.summary.Counts.{Counts}
+use Rattle.acvp_registry.specs.declared.counts.Counts.{Counts}
 use Rattle.acvp_tables.specs.declared.summary.RequestSubject.{RequestSubject}
 use Rattle.acvp_tables.specs.declared.summary.RequestSubject.TheVariants as asks
 use Rattle.acvp_desk.specs.declared.order.Order.{Order}
@@ -52,7 +54,8 @@ count_of Certification n = 0
 
 -- the number that an approval gives: the account's next of the kind, or that of the session that is certified
 abbrev pub approved_as : State → ℕ → RequestSubject → ℕ
-approved_as state account (asks.Registration kind) = first_of_account account + count_of kind (record_counts account state)
+approved_as state account (asks.Registration kind) =
+    first_of_account account + count_of kind (record_counts account state)
 approved_as state account (asks.Certification c) = c.session
 
 abbrev pub approved_number : State → RequestRow → ℕ
@@ -90,7 +93,8 @@ order_reply (order.RejectRequest n) state = on_request (λ row. Done None) (requ
 unfoldable pub order_change : Order → State → Option OrderChange
 order_change (order.AddAccount account secret) state =
     if has_account account state then None else Some (change.AddAccount (record { account = account; secret = secret }))
-order_change (order.DisableAccount account) state = if has_account account state then Some (change.DisableAccount account) else None
+order_change (order.DisableAccount account) state =
+    if has_account account state then Some (change.DisableAccount account) else None
 order_change (order.ApproveRequest n) state = option_map (approval state n) (waiting_request n state)
 order_change (order.RejectRequest n) state = option_map (λ row. change.Reject n) (waiting_request n state)
 
@@ -118,13 +122,16 @@ ByReply Unknown P Q R = Q
 ByReply NotInitial P Q R = Q
 ByReply Unavailable P Q R = R
 
-module _ {T : Type 0} (stands : T → Content → Type 0) (is_live is_clean : T → Type 0) (leaves : T → Content → Content → Type 0) where
+module _ {T : Type 0} (meaning : Meaning T) where
+  open meaning use {stands, is_live, is_clean, leaves}
+
   abbrev pub Answers : OrderReply → T → T → Order → Type 0
   Answers reply old new it = is_live new → (c : Content) → IsSound c → stands old c
       → (reply ≡ order_reply it (state_of c)) × stands new (content_order_effect it c)
 
   abbrev pub Settles : T → T → Order → Type 0
-  Settles old new it = is_clean new → is_live old → (c d : Content) → IsSound c → stands old c → leaves new (content_order_effect it c) d
+  Settles old new it =
+      is_clean new → is_live old → (c d : Content) → IsSound c → stands old c → leaves new (content_order_effect it c) d
 
   abbrev pub Stays : T → T → Type 0
   Stays old new = is_live new → (c : Content) → stands old c → stands new c
@@ -138,7 +145,8 @@ module _ {T : Type 0} (stands : T → Content → Type 0) (is_live is_clean : T 
     pub answered : ByReply reply (Answers reply old new it) (Answers reply old new it) ⊤
     pub same : ByReply reply ⊤ (Stays old new) (Stays old new)
     pub settled : ByReply reply (Settles old new it) (Settles old new it)
-        (is_clean new → is_live old → (c : Content) → IsSound c → stands old c → leaves new c (content_order_effect it c))
+        (is_clean new → is_live old → (c : Content) → IsSound c → stands old c
+        → leaves new c (content_order_effect it c))
     -- unless it is unavailable, the tables were open and stay so, and where it is refused a crash finds what it found
     -- before
     pub live : ByReply reply (is_clean new → is_live old × is_live new) (is_clean new → is_live old × is_live new) ⊤

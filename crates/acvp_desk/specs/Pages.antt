@@ -1,5 +1,6 @@
 -- Which page of a list a query asks for.
-use Rattle.std.specs.Prelude.{◌≢◌, ℕ, List, [], ◌∷◌, All, length, take, drop, filter_map, Bool, ◌==◌, ◌&&◌, nat_le, codes, if◌then◌else◌, Option, Some, None, option_map, option_and_then}
+use Rattle.std.specs.Prelude.{◌≢◌, ℕ, List, [], ◌∷◌, All, length, take, drop, filter_map, Bool, ◌==◌, ◌&&◌, nat_le}
+use Rattle.std.specs.Prelude.{codes, if◌then◌else◌, Option, Some, None, option_map, option_and_then}
 use Rattle.std.specs.List.{list_all}
 use Rattle.std.specs.Str.{bytes_eq}
 use Rattle.acvp_json.specs.declared.page.Page.{Page}
@@ -77,7 +78,10 @@ is_page pairs =
 -- what isn't named is the first row, and 20 of them
 abbrev pub page_by : List Pair → Option Page
 page_by pairs =
-    if is_page pairs then Some (record { offset = first_or 0 (filter_map offset_in pairs); limit = first_or 20 (filter_map limit_in pairs) }) else None
+    if is_page pairs then Some (record {
+      offset = first_or 0 (filter_map offset_in pairs);
+      limit = first_or 20 (filter_map limit_in pairs);
+    }) else None
 
 -- the page that a query asks for
 unfoldable pub page_of : List ℕ → Option Page

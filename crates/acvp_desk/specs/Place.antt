@@ -1,5 +1,6 @@
 -- What the records hold of what a path names.
-use Rattle.std.specs.Prelude.{ℕ, ◌/◌, List, [], ◌∷◌, map, length, Bool, true, false, not, ◌&&◌, ◌||◌, ◌==◌, nat_le, if◌then◌else◌, Option, Some, None, option_map, option_and_then, is_some}
+use Rattle.std.specs.Prelude.{ℕ, ◌/◌, List, [], ◌∷◌, map, length, Bool, true, false, not, ◌&&◌, ◌||◌, ◌==◌, nat_le}
+use Rattle.std.specs.Prelude.{if◌then◌else◌, Option, Some, None, option_map, option_and_then, is_some}
 use Rattle.std.specs.List.{list_all}
 use Rattle.acvp_json.specs.declared.page.Page.{Page}
 use Rattle.acvp_policy.specs.Conditions.{session_found, reviewer_found, set_found}
@@ -9,7 +10,8 @@ use Rattle.acvp_policy.specs.declared.facts.SessionFacts.{SessionFacts}
 use Rattle.acvp_policy.specs.declared.facts.Subject.{Subject}
 use Rattle.acvp_policy.specs.declared.facts.Subject.TheVariants as subject
 use Rattle.acvp_tables.specs.Content.{is_reviewer, page, request_at, request_summary, reviewers_of}
-use Rattle.acvp_tables.specs.State.{State, SessionRecord, SetRecord, session_record_at, session_records_of, live_records, record_counts}
+use Rattle.acvp_tables.specs.State.{State, SessionRecord, SetRecord, session_record_at, session_records_of}
+use Rattle.acvp_tables.specs.State.{live_records, record_counts}
 use Rattle.acvp_tables.specs.declared.rows.RequestRow.{RequestRow}
 use Rattle.acvp_tables.specs.declared.rows.RequestStatus.{RequestStatus}
 use Rattle.acvp_tables.specs.declared.rows.RequestStatus.TheVariants as status
@@ -27,7 +29,8 @@ use Rattle.acvp_desk.specs.declared.wish.SessionWish.TheVariants as on_session
 use Rattle.acvp_desk.specs.declared.wish.RegistryWish.{RegistryWish}
 use Rattle.acvp_desk.specs.declared.wish.RegistryWish.TheVariants as on_registry
 use Rattle.acvp_desk.specs.Asked.{registration_asked, certification_asked}
-use Rattle.acvp_desk.specs.Registries.{has_row, kind_of, objects_material, own_object, own_request, registry_subject, requests_material}
+use Rattle.acvp_desk.specs.Registries.{has_row, kind_of, objects_material, own_object, own_request, registry_subject}
+use Rattle.acvp_desk.specs.Registries.{requests_material}
 use Rattle.acvp_desk.specs.Sets.{set_disposition, set_facts, set_material, set_passes, set_reviewed, is_for_set}
 
 -- ---- a test session
@@ -47,7 +50,8 @@ certification_status status.Rejected = certification.Rejected
 
 -- the status of a session's last certification request
 abbrev pub certification_of : Option ℕ → List RequestRow → Option CertificationStatus
-certification_of certify requests = option_map (λ row. certification_status row.status) (option_and_then (λ n. request_at n requests) certify)
+certification_of certify requests =
+    option_map (λ row. certification_status row.status) (option_and_then (λ n. request_at n requests) certify)
 
 abbrev pub facts_of_session : List (List ℕ) → State → SessionRecord → SessionFacts
 facts_of_session seeds state row = record {
@@ -97,15 +101,26 @@ reviewed_facts seeds state n m = if is_reviewer n m state.reviewers then session
 abbrev pub subject_of : List (List ℕ) → ℕ → State → Wish → Subject
 subject_of seeds u state (wish.Account it) = subject.Account
 subject_of seeds u state (wish.Algorithm n) = subject.Algorithm n
-subject_of seeds u state (wish.Session n it) = subject.Session (record { session = n; found = session_facts seeds state n })
-subject_of seeds u state (wish.Reviewer n m) = subject.Reviewer (record { session = n; reviewer = m; found = reviewed_facts seeds state n m })
+subject_of seeds u state (wish.Session n it) =
+    subject.Session (record { session = n; found = session_facts seeds state n })
+subject_of seeds u state (wish.Reviewer n m) =
+    subject.Reviewer (record { session = n; reviewer = m; found = reviewed_facts seeds state n m })
 subject_of seeds u state (wish.Set session n it) =
-    subject.Set (record { session = session; set = n; found = set_facts (session_facts seeds state session) session n state.sets })
+    subject.Set (record {
+      session = session;
+      set = n;
+      found = set_facts (session_facts seeds state session) session n state.sets;
+    })
 subject_of seeds u state wish.NewSession = subject.Account
 subject_of seeds u state (wish.CancelSet session n) =
-    subject.Set (record { session = session; set = n; found = set_facts (session_facts seeds state session) session n state.sets })
+    subject.Set (record {
+      session = session;
+      set = n;
+      found = set_facts (session_facts seeds state session) session n state.sets;
+    })
 subject_of seeds u state (wish.ListSessions page) = subject.Account
-subject_of seeds u state (wish.Certify n) = subject.Session (record { session = n; found = session_facts seeds state n })
+subject_of seeds u state (wish.Certify n) =
+    subject.Session (record { session = n; found = session_facts seeds state n })
 subject_of seeds u state (wish.Registry it) = registry_subject (has_row u state it) it
 
 -- ---- what a reply shows besides
@@ -155,7 +170,8 @@ abbrev pub registry_material : ℕ → List ℕ → State → RegistryWish → M
 registry_material u body state (on_registry.Read of n) = material.Object (own_object (kind_of of) u n state.objects)
 registry_material u body state (on_registry.New of) = material.Asked (registration_asked (kind_of of) u body state)
 registry_material u body state (on_registry.List of at) = objects_material (kind_of of) u state.objects at
-registry_material u body state (on_registry.ReadRequest n) = material.Request (option_map request_summary (own_request u n state.requests))
+registry_material u body state (on_registry.ReadRequest n) =
+    material.Request (option_map request_summary (own_request u n state.requests))
 registry_material u body state (on_registry.ListRequests at) = requests_material u state.requests at
 
 -- what is read of the records of the account that acts, and of what the path and the body name
@@ -173,7 +189,10 @@ material_of seeds u body state (wish.Registry it) = registry_material u body sta
 
 -- both
 abbrev pub place_of : List (List ℕ) → ℕ → List ℕ → State → Wish → Place
-place_of seeds u body state it = record { subject = subject_of seeds u state it; material = material_of seeds u body state it }
+place_of seeds u body state it = record {
+  subject = subject_of seeds u state it;
+  material = material_of seeds u body state it;
+}
 
 -- ---- which material a wish has
 

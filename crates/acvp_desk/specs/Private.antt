@@ -1,3 +1,4 @@
+pub mod Admitted
 pub mod Changeable
 pub mod SetRows
 pub mod Waiting

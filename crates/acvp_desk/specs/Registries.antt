@@ -1,5 +1,6 @@
 -- The registries of an account: its vendors, modules and operational environments, and the requests for them.
-use Rattle.std.specs.Prelude.{ℕ, List, length, map, Bool, true, ◌==◌, if◌then◌else◌, Option, Some, None, option_and_then, is_some}
+use Rattle.std.specs.Prelude.{ℕ, List, length, map, Bool, true, ◌==◌, if◌then◌else◌, Option, Some, None}
+use Rattle.std.specs.Prelude.{option_and_then, is_some}
 use Rattle.acvp_json.specs.Data.{Data}
 use Rattle.acvp_json.specs.Page.{page_data}
 use Rattle.acvp_json.specs.Registry.{object_data, request_data}
@@ -65,10 +66,12 @@ action_on_registry (on.ListRequests page) = action.ListRequests
 
 -- a row is looked up in an account: one of another account isn't there
 abbrev pub own_object : Kind → ℕ → ℕ → List ObjectRow → Option ObjectRow
-own_object kind u n objects = option_and_then (λ (row : ObjectRow). if row.account == u then Some row else None) (object_at kind n objects)
+own_object kind u n objects =
+    option_and_then (λ (row : ObjectRow). if row.account == u then Some row else None) (object_at kind n objects)
 
 abbrev pub own_request : ℕ → ℕ → List RequestRow → Option RequestRow
-own_request u n requests = option_and_then (λ (row : RequestRow). if row.account == u then Some row else None) (request_at n requests)
+own_request u n requests =
+    option_and_then (λ (row : RequestRow). if row.account == u then Some row else None) (request_at n requests)
 
 -- ---- what a path names
 
@@ -101,7 +104,8 @@ objects_material kind u objects (Some at) =
 abbrev pub requests_material : ℕ → List RequestRow → Option Page → Material
 requests_material u requests None = material.Nothing
 requests_material u requests (Some at) =
-    material.Requests (length (requests_of u requests)) (page at.offset at.limit (map request_summary (requests_of u requests)))
+    material.Requests (length (requests_of u requests))
+    (page at.offset at.limit (map request_summary (requests_of u requests)))
 
 -- ---- what is shown
 
@@ -119,7 +123,12 @@ status_shown (decided.Approved n) = status.Approved
 status_shown decided.Rejected = status.Rejected
 
 abbrev pub request_shown : RequestSummary → PendingRequest
-request_shown row = record { number = row.number; kind = kind_asked row.subject; status = status_shown row.status; approved = given_number row.status }
+request_shown row = record {
+  number = row.number;
+  kind = kind_asked row.subject;
+  status = status_shown row.status;
+  approved = given_number row.status;
+}
 
 abbrev pub object_reply : Material → Option Data
 object_reply (material.Object (Some row)) = Some (object_shown row)
@@ -130,9 +139,11 @@ request_reply (material.Request (Some row)) = Some (request_data (request_shown 
 request_reply _ = None
 
 abbrev pub objects_reply : Kind → Option Page → Material → Option Data
-objects_reply kind (Some at) (material.Objects total rows) = Some (page_data object_shown (list_path kind) at total rows)
+objects_reply kind (Some at) (material.Objects total rows) =
+    Some (page_data object_shown (list_path kind) at total rows)
 objects_reply kind _ _ = None
 
 abbrev pub requests_reply : Option Page → Material → Option Data
-requests_reply (Some at) (material.Requests total rows) = Some (page_data request_data (list_path Certification) at total (map request_shown rows))
+requests_reply (Some at) (material.Requests total rows) =
+    Some (page_data request_data (list_path Certification) at total (map request_shown rows))
 requests_reply _ _ = None

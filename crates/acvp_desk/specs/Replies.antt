@@ -1,5 +1,6 @@
 -- The object of the reply to each wish, and the change that is made.
-use Rattle.std.specs.Prelude.{ℕ, ◌+◌, ◌==◌, ◌&&◌, not, nat_le, Bool, List, [], map, filter, length, codes, find, if◌then◌else◌, slice_get, Option, Some, None, option_map, option_and_then}
+use Rattle.std.specs.Prelude.{ℕ, ◌+◌, ◌==◌, ◌&&◌, not, nat_le, Bool, List, [], map, filter, length, codes, find}
+use Rattle.std.specs.Prelude.{if◌then◌else◌, slice_get, Option, Some, None, option_map, option_and_then}
 use Rattle.acvp_caps.specs.Algorithms.{algorithms, algorithm_number}
 use Rattle.acvp_caps.specs.declared.algorithm.Algorithm.{Algorithm}
 use Rattle.acvp_json.specs.Account.{account_data, reviewers_data}
@@ -18,7 +19,6 @@ use Rattle.acvp_json.specs.VectorSet.{vector_set_data}
 use Rattle.acvp_gen.specs.Prompt.{PromptsValue}
 use Rattle.acvp_gen.specs.Prompts.{prompts_of}
 use Rattle.acvp_json.specs.Urls.{results_url, session_url, set_url}
-use Rattle.acvp_json.specs.declared.account.Counts.{Counts as ShownCounts}
 use Rattle.acvp_json.specs.declared.page.Page.{Page}
 use Rattle.acvp_json.specs.declared.session.Session.{Session}
 use Rattle.acvp_json.specs.declared.session.SetResult.{SetResult}
@@ -34,7 +34,7 @@ use Rattle.acvp_tables.specs.Counted.{is_passed}
 use Rattle.acvp_tables.specs.declared.change.CancelledSet.{CancelledSet}
 use Rattle.acvp_tables.specs.declared.change.Change.{Change}
 use Rattle.acvp_tables.specs.declared.change.Change.TheVariants as change
-use Rattle.acvp_tables.specs.declared.summary.Counts.{Counts}
+use Rattle.acvp_registry.specs.declared.counts.Counts.{Counts}
 use Rattle.acvp_desk.specs.Asked.{asked_in, asked_reply, registration_change, certification_change}
 use Rattle.acvp_desk.specs.NewSessions.{new_session_in, session_made_data}
 use Rattle.acvp_desk.specs.Registries.{kind_of, object_reply, objects_reply, request_reply, requests_reply}
@@ -63,11 +63,8 @@ use Rattle.acvp_desk.specs.declared.wish.Wish.TheVariants as wish
 
 -- ---- accounts and algorithms
 
-abbrev pub shown_counts : Counts → ShownCounts
-shown_counts n = record { modules = n.modules; environments = n.environments; requests = n.requests; sessions = n.sessions; vendors = n.vendors }
-
 abbrev pub counts_reply : ℕ → Material → Option Data
-counts_reply u (material.Counts n) = Some (account_data u (shown_counts n))
+counts_reply u (material.Counts n) = Some (account_data u n)
 counts_reply u _ = None
 
 abbrev pub account_reply : ℕ → Found → AccountWish → Option Data
@@ -91,7 +88,12 @@ abbrev pub session_status : SessionFacts → SessionStatus
 session_status facts = if facts.cancelled then shown.Cancelled else certified_status facts.certification
 
 abbrev pub session_shown : ℕ → SessionFacts → Session
-session_shown n facts = record { number = n; created = facts.created; sample = facts.sample; status = session_status facts }
+session_shown n facts = record {
+  number = n;
+  created = facts.created;
+  sample = facts.sample;
+  status = session_status facts;
+}
 
 abbrev pub sets_in_material : Material → Option (List ℕ)
 sets_in_material (material.Sets sets) = Some sets
@@ -104,17 +106,22 @@ facts_reply n _ _ = None
 -- what a vector set comes to at a moment: what its answers do, where it has any; else it waits for them, until its end
 abbrev pub disposition_at : ℕ → ℕ → Option Disposition → Disposition
 disposition_at moment created (Some d) = d
-disposition_at moment created None = if nat_le (created + set_life) moment then disposition.Expired else disposition.Unreceived
+disposition_at moment created None =
+    if nat_le (created + set_life) moment then disposition.Expired else disposition.Unreceived
 
 abbrev pub result_shown : ℕ → SessionFacts → SetOutcome → SetResult
-result_shown moment facts set = record { vs = set.vs; disposition = disposition_at moment facts.created set.disposition }
+result_shown moment facts set = record {
+  vs = set.vs;
+  disposition = disposition_at moment facts.created set.disposition;
+}
 
 abbrev pub outcomes_in_material : Material → Option (List SetOutcome)
 outcomes_in_material (material.Outcomes sets) = Some sets
 outcomes_in_material _ = None
 
 abbrev pub results_reply : ℕ → Option SessionFacts → Option (List SetOutcome) → Option Data
-results_reply moment (Some facts) (Some sets) = Some (session_results_data facts.passed (map (result_shown moment facts) sets))
+results_reply moment (Some facts) (Some sets) =
+    Some (session_results_data facts.passed (map (result_shown moment facts) sets))
 results_reply moment _ _ = None
 
 -- the reviewers of a session, with one more
@@ -123,12 +130,16 @@ added_reply (Some accounts) (Some a) = Some (reviewers_data (with_account a acco
 added_reply _ _ = None
 
 abbrev pub session_reply : ℕ → ℕ → RequestValue → Found → SessionWish → Option Data
-session_reply moment n r found on_session.Read = facts_reply n (session_found found.subject) (sets_in_material found.material)
+session_reply moment n r found on_session.Read =
+    facts_reply n (session_found found.subject) (sets_in_material found.material)
 session_reply moment n r found on_session.Cancel = Some (outcome_data (codes "cancelled") (session_url n))
-session_reply moment n r found on_session.Results = results_reply moment (session_found found.subject) (outcomes_in_material found.material)
+session_reply moment n r found on_session.Results =
+    results_reply moment (session_found found.subject) (outcomes_in_material found.material)
 session_reply moment n r found on_session.ListSets = option_map sets_data (sets_in_material found.material)
-session_reply moment n r found on_session.ListReviewers = option_map reviewers_data (reviewers_in_material found.material)
-session_reply moment n r found on_session.AddReviewer = added_reply (reviewers_in_material found.material) (reviewer_at r.body)
+session_reply moment n r found on_session.ListReviewers =
+    option_map reviewers_data (reviewers_in_material found.material)
+session_reply moment n r found on_session.AddReviewer =
+    added_reply (reviewers_in_material found.material) (reviewer_at r.body)
 
 -- ---- vector sets
 
@@ -137,29 +148,34 @@ abbrev pub prompts_from : List (List ℕ) → ℕ → SetSource → Option Promp
 prompts_from seeds n source = option_map (λ seed. prompts_of seed n source.capability) (slice_get seeds source.epoch)
 
 abbrev pub set_results_reply : ℕ → ℕ → SetFacts → Option Disposition → List Verdict → Data
-set_results_reply moment n facts disposition verdicts = set_results_data n (disposition_at moment facts.session.created disposition) verdicts
+set_results_reply moment n facts disposition verdicts =
+    set_results_data n (disposition_at moment facts.session.created disposition) verdicts
 
 -- by the prompts; results are shown by them where there are no answers
 abbrev pub prompts_reply : ℕ → ℕ → SetFacts → SetWish → PromptsValue → Option Data
 prompts_reply moment n facts on_set.Read prompts = Some (vector_set_data facts.session.sample prompts)
 prompts_reply moment n facts on_set.Expected prompts = Some (expected_data prompts (standard_of prompts))
-prompts_reply moment n facts on_set.Results prompts = Some (set_results_reply moment n facts None (verdicts_of (standard_of prompts) []))
+prompts_reply moment n facts on_set.Results prompts =
+    Some (set_results_reply moment n facts None (verdicts_of (standard_of prompts) []))
 prompts_reply moment n facts on_set.Submit prompts = None
 prompts_reply moment n facts on_set.Resubmit prompts = None
 
 abbrev pub source_reply : List (List ℕ) → ℕ → ℕ → SetFacts → SetWish → Option SetSource → Option Data
-source_reply seeds moment n facts it source = option_and_then (prompts_reply moment n facts it) (option_and_then (prompts_from seeds n) source)
+source_reply seeds moment n facts it source =
+    option_and_then (prompts_reply moment n facts it) (option_and_then (prompts_from seeds n) source)
 
 -- by the verdicts on the answers
 abbrev pub verdicts_reply : ℕ → ℕ → SetFacts → SetWish → List Verdict → Option Data
-verdicts_reply moment n facts on_set.Results verdicts = Some (set_results_reply moment n facts (Some (disposition_of verdicts)) verdicts)
+verdicts_reply moment n facts on_set.Results verdicts =
+    Some (set_results_reply moment n facts (Some (disposition_of verdicts)) verdicts)
 verdicts_reply moment n facts _ verdicts = None
 
 abbrev pub material_reply : List (List ℕ) → ℕ → ℕ → SetFacts → SetWish → Material → Option Data
 material_reply seeds moment n facts it (material.Source source) = source_reply seeds moment n facts it source
 material_reply seeds moment n facts it (material.Verdicts verdicts) = verdicts_reply moment n facts it verdicts
 -- that the answers are kept
-material_reply seeds moment n facts it (material.Submission (Some submission)) = Some (outcome_data (codes "received") (results_url n))
+material_reply seeds moment n facts it (material.Submission (Some submission)) =
+    Some (outcome_data (codes "received") (results_url n))
 material_reply seeds moment n facts it _ = None
 
 abbrev pub set_reply : List (List ℕ) → ℕ → ℕ → SetWish → Option SetFacts → Material → Option Data
@@ -219,9 +235,12 @@ abbrev pub wish_reply : Keys → ℕ → ℕ → RequestValue → Found → Wish
 wish_reply keys moment u r found (wish.Account it) = account_reply u found it
 wish_reply keys moment u r found (wish.Algorithm n) = option_map algorithm_data (algorithm_at n)
 wish_reply keys moment u r found (wish.Session n it) = session_reply moment n r found it
-wish_reply keys moment u r found (wish.Reviewer n m) = option_map (λ accounts. reviewers_data (without_account m accounts)) (reviewers_in_material found.material)
-wish_reply keys moment u r found (wish.Set session n it) = set_reply keys.seed moment n it (set_found found.subject) found.material
-wish_reply keys moment u r found wish.NewSession = option_map (session_made_data keys.token) (new_session_in keys.seed moment u r.body found.material)
+wish_reply keys moment u r found (wish.Reviewer n m) =
+    option_map (λ accounts. reviewers_data (without_account m accounts)) (reviewers_in_material found.material)
+wish_reply keys moment u r found (wish.Set session n it) =
+    set_reply keys.seed moment n it (set_found found.subject) found.material
+wish_reply keys moment u r found wish.NewSession =
+    option_map (session_made_data keys.token) (new_session_in keys.seed moment u r.body found.material)
 wish_reply keys moment u r found (wish.CancelSet session n) = Some (outcome_data (codes "cancelled") (set_url n))
 wish_reply keys moment u r found (wish.ListSessions page) = sessions_reply page found.material
 wish_reply keys moment u r found (wish.Certify n) = asked_reply Certification u (asked_in found.material)
@@ -229,7 +248,8 @@ wish_reply keys moment u r found (wish.Registry it) = registry_reply u found.mat
 
 abbrev pub session_change : ℕ → RequestValue → SessionWish → Option Change
 session_change n r on_session.Cancel = Some (change.CancelSession n)
-session_change n r on_session.AddReviewer = option_map (λ a. change.AddReviewer (record { session = n; account = a })) (reviewer_at r.body)
+session_change n r on_session.AddReviewer =
+    option_map (λ a. change.AddReviewer (record { session = n; account = a })) (reviewer_at r.body)
 session_change n r _ = None
 
 -- the answers that a body gives are kept, graded by these prompts
@@ -238,7 +258,8 @@ answers_change session n body others prompts =
     option_map (λ graded. change.KeepAnswers (kept_answers session n others graded)) (graded_at body prompts)
 
 abbrev pub submission_change : List (List ℕ) → ℕ → ℕ → List ℕ → Submission → Option Change
-submission_change seeds session n body s = option_and_then (answers_change session n body s.others) (prompts_from seeds n s.source)
+submission_change seeds session n body s =
+    option_and_then (answers_change session n body s.others) (prompts_from seeds n s.source)
 
 abbrev pub set_change : List (List ℕ) → ℕ → ℕ → List ℕ → Material → Option Change
 set_change seeds session n body (material.Submission (Some s)) = submission_change seeds session n body s
@@ -248,9 +269,11 @@ abbrev pub wish_change : List (List ℕ) → ℕ → ℕ → RequestValue → Fo
 wish_change seeds moment u r found (wish.Account it) = None
 wish_change seeds moment u r found (wish.Algorithm n) = None
 wish_change seeds moment u r found (wish.Session n it) = session_change n r it
-wish_change seeds moment u r found (wish.Reviewer n m) = Some (change.RemoveReviewer (record { session = n; account = m }))
+wish_change seeds moment u r found (wish.Reviewer n m) =
+    Some (change.RemoveReviewer (record { session = n; account = m }))
 wish_change seeds moment u r found (wish.Set session n it) = set_change seeds session n r.body found.material
-wish_change seeds moment u r found wish.NewSession = option_map change.NewSession (new_session_in seeds moment u r.body found.material)
+wish_change seeds moment u r found wish.NewSession =
+    option_map change.NewSession (new_session_in seeds moment u r.body found.material)
 wish_change seeds moment u r found (wish.CancelSet session n) =
     option_map (λ sets. change.CancelSet (cancelled_set session n sets)) (outcomes_in_material found.material)
 wish_change seeds moment u r found (wish.ListSessions page) = None

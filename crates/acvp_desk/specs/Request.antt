@@ -1,7 +1,6 @@
 -- What a request says.
 use Rattle.std.specs.Prelude.{ℕ, List}
-use Rattle.acvp_policy.specs.declared.action.Action.{Action}
-use Rattle.acvp_desk.specs.declared.request.Numbers.{Numbers}
+use Rattle.acvp_desk.specs.declared.request.Ask.{Ask}
 use Rattle.acvp_desk.specs.declared.request.TokenField.{TokenField}
 use Rattle.acvp_desk.specs.declared.request.TokenField.TheVariants as field
 use Rattle.acvp_desk.specs.declared.request.TypedRequest.{TypedRequest}
@@ -12,12 +11,10 @@ pub data TokenValue : Type 0 where
   doubled : TokenValue
   bearer : List ℕ → TokenValue
 
--- the action and the numbers of the path, and the bytes of the token, of the query and of the body
+-- what the target and its method ask, and the bytes of the token and of the body
 pub record RequestValue : Type 0 where
-  pub action : Action
-  pub numbers : Numbers
+  pub ask : Ask
   pub token : TokenValue
-  pub query : List ℕ
   pub body : List ℕ
 
 abbrev pub token_value : TokenField → TokenValue
@@ -27,4 +24,4 @@ token_value (field.Bearer token) = bearer token.now
 
 -- what the code's request says
 abbrev pub request_value : TypedRequest → RequestValue
-request_value r = record { action = r.action; numbers = r.numbers; token = token_value r.token; query = r.query.now; body = r.body.now }
+request_value r = record { ask = r.ask; token = token_value r.token; body = r.body.now }

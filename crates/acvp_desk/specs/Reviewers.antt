@@ -1,5 +1,6 @@
 -- The reviewers of a test session: who is named, whether there is room, and the list after it.
-use Rattle.std.specs.Prelude.{ℕ, List, ◌∷◌, ◌++◌, length, filter, Bool, true, ◌||◌, ◌==◌, not, nat_lt, Option, Some, option_and_then}
+use Rattle.std.specs.Prelude.{ℕ, List, ◌∷◌, ◌++◌, length, filter, Bool, true, ◌||◌, ◌==◌, not, nat_lt, Option, Some}
+use Rattle.std.specs.Prelude.{option_and_then}
 use Rattle.std.specs.List.{list_any}
 use Rattle.acvp_json.specs.Envelope.{object_of}
 use Rattle.acvp_json.specs.ReviewerBody.{reviewer_body_of}

@@ -1,8 +1,10 @@
 -- What serving a request does to what the tables stand for.
-use Rattle.std.specs.Prelude.{◌≡◌, ◌⊎◌, ◌≤◌, false, ℕ, List, length, Result, Ok, Err, OnOk, OnErr, IfOk, IfErr, Bool, is_some, ⊤}
+use Rattle.std.specs.Prelude.{◌≡◌, ◌⊎◌, ◌≤◌, false, ℕ, List, length, Result, Ok, Err, OnOk, OnErr, IfOk, IfErr, Bool}
+use Rattle.std.specs.Prelude.{is_some, ⊤}
 use Rattle.acvp_policy.specs.declared.rule.Rule.{Rule}
 use Rattle.acvp_policy.specs.declared.rule.Rule.TheVariants.{ClockOutOfRange, Unavailable}
 use Rattle.acvp_tables.specs.Content.{Content}
+use Rattle.acvp_tables.specs.Meaning.{Meaning}
 use Rattle.acvp_tables.specs.State.{state_of}
 use Rattle.acvp_desk.specs.Answer.{end_of_moments, answer, accepted_change, content_effect, spare, Gives, Refuses}
 use Rattle.acvp_desk.specs.Kept.{IsKept}
@@ -32,12 +34,13 @@ abbrev pub IfUnchanged : Result Served Rule → Type 0 → Type 0
 IfUnchanged (Ok served) P = served.changed ≡ false → P
 IfUnchanged (Err rule) P = (rule ≡ Unavailable) ⊎ P
 
-module _ {T : Type 0} (stands : T → Content → Type 0) (is_live : T → Type 0) where
+module _ {T : Type 0} (meaning : Meaning T) where
+  open meaning use {stands, is_live, is_clean, leaves}
+
   -- The tables stand for the content, if they are open. Of tables that are shut this says nothing.
   abbrev pub Holds : T → Content → Type 0
   Holds t c = is_live t → stands t c
 
-module _ {T : Type 0} (stands : T → Content → Type 0) (is_live is_clean : T → Type 0) (leaves : T → Content → Content → Type 0) where
   -- The tables are looked at, or left alone: as a read, but that nothing need be asked of them.
   pub record Looks {X E : Type 0} (result : Result X E) (old new : T) : Type 0 where
     pub was_live : is_live new → is_live old
@@ -50,32 +53,38 @@ module _ {T : Type 0} (stands : T → Content → Type 0) (is_live is_clean : T 
   -- What is seen is what is selected of each content that the tables stood for, whatever the seeds that it is kept
   -- under.
   abbrev pub Sees : {X E : Type 0} → Result X E → T → T → (List (List ℕ) → Content → X) → Type 0
-  Sees result old new selected = is_live new → IfOk result (λ found. (seeds : List (List ℕ)) (c : Content) → IsKept seeds c → stands old c → found ≡ selected seeds c)
+  Sees result old new selected = is_live new → IfOk result (λ found. (seeds : List (List ℕ)) (c : Content)
+      → IsKept seeds c → stands old c → found ≡ selected seeds c)
 
   -- What is seen while the disk tells no lie, whether the tables are open or shut: of tables that are shut nothing is
   -- read.
   abbrev pub Knows : {X E : Type 0} → Result X E → T → T → (List (List ℕ) → Content → X) → Type 0
-  Knows result old new selected = is_clean new → IfOk result (λ found. (seeds : List (List ℕ)) (c : Content) → IsKept seeds c → Holds stands is_live old c → found ≡ selected seeds c)
+  Knows result old new selected = is_clean new → IfOk result (λ found. (seeds : List (List ℕ)) (c : Content)
+      → IsKept seeds c → Holds old c → found ≡ selected seeds c)
 
   -- While the disk tells no lie, and for every content that the tables stand for if they are open: the reply is given,
   -- and the content after the request's effect stands and holds what holds at all times; or the request is refused, and
   -- all stands as it did. So of tables that are shut either nothing is told that the records decide, or it is
   -- unavailable. A crash finds the effect of what was given; and of what was refused, what there was or that with the
   -- effect. Past the last moment that is served nothing else is looked at.
-  pub record Serves (result : Result Served Rule) (old new : T) (keys : Keys) (moment : ℕ) (r : RequestValue) : Type 0 where
+  pub record Serves (result : Result Served Rule) (old new : T) (keys : Keys) (moment : ℕ)
+      (r : RequestValue) : Type 0 where
     pub was_live : is_live new → is_live old
     pub was_clean : is_clean new → is_clean old
     pub clock : end_of_moments ≤ moment → result ≡ Err ClockOutOfRange
     -- there is room for the head of what is given, whatever the tables stand for
     pub room : IfOk result (λ served. spare ≤ length served.reply.items)
-    pub given : IfOk result (λ served. is_clean new → (c : Content) → IsKept keys.seed c → Holds stands is_live old c
-        → Gives served.reply.items (answer keys moment r (state_of c)) × Holds stands is_live new (content_effect keys moment r c)
+    pub given : IfOk result (λ served. is_clean new → (c : Content) → IsKept keys.seed c → Holds old c
+        → Gives served.reply.items (answer keys moment r (state_of c)) × Holds new (content_effect keys moment r c)
         × IsKept keys.seed (content_effect keys moment r c)
         × (served.changed ≡ is_some (accepted_change keys moment r (state_of c))))
-    pub denied : IfErr result (λ rule. is_clean new → (c : Content) → IsKept keys.seed c → Holds stands is_live old c → Refuses rule (answer keys moment r (state_of c)))
+    pub denied : IfErr result (λ rule. is_clean new → (c : Content) → IsKept keys.seed c → Holds old c
+        → Refuses rule (answer keys moment r (state_of c)))
     pub same : OnErr result (is_live new → (c : Content) → stands old c → stands new c)
-    pub settled : OnOk result (is_clean new → is_live old → (c d : Content) → IsKept keys.seed c → stands old c → leaves new (content_effect keys moment r c) d)
-    pub unsettled : OnErr result (is_clean new → is_live old → (c : Content) → IsKept keys.seed c → stands old c → leaves new c (content_effect keys moment r c))
+    pub settled : OnOk result (is_clean new → is_live old → (c d : Content) → IsKept keys.seed c → stands old c
+        → leaves new (content_effect keys moment r c) d)
+    pub unsettled : OnErr result (is_clean new → is_live old → (c : Content) → IsKept keys.seed c → stands old c
+        → leaves new c (content_effect keys moment r c))
     -- unless it is unavailable, a live store stays live, and where no change was made a crash finds what it found
     -- before
     pub live : IfLasting result (is_clean new → is_live old → is_live new)

@@ -1,5 +1,6 @@
 -- What the records hold of a vector set.
-use Rattle.std.specs.Prelude.{ℕ, List, length, filter, Bool, true, false, not, ◌&&◌, ◌==◌, ◌||◌, if◌then◌else◌, slice_get, Option, Some, None, option_map, option_and_then, is_some}
+use Rattle.std.specs.Prelude.{ℕ, List, length, filter, Bool, true, false, not, ◌&&◌, ◌==◌, ◌||◌, if◌then◌else◌}
+use Rattle.std.specs.Prelude.{slice_get, Option, Some, None, option_map, option_and_then, is_some}
 use Rattle.acvp_answers.specs.Answer.{Answer}
 use Rattle.acvp_answers.specs.Standards.{standard_of}
 use Rattle.acvp_answers.specs.Verdicts.{verdicts_of, disposition_of}
@@ -33,7 +34,8 @@ set_in_session session n sets = option_and_then (if_in_session session) (set_rec
 
 -- how the vector set of a number stands in a session that stands so
 unfoldable pub set_facts : Option SessionFacts → ℕ → ℕ → List SetRecord → Option SetFacts
-set_facts facts session n sets = option_and_then (λ of. option_map (facts_of_set of) (set_in_session session n sets)) facts
+set_facts facts session n sets =
+    option_and_then (λ of. option_map (facts_of_set of) (set_in_session session n sets)) facts
 
 -- whether the account that acts is let in as a reviewer of the set's session, and reviews it
 abbrev pub set_reviewed : SetWish → ℕ → ℕ → State → Bool
@@ -76,7 +78,8 @@ results_material None source = material.Source source
 
 -- the disposition of answers to a vector set: their verdicts, worked out anew under the seed
 abbrev pub answers_disposition : List ℕ → SetRecord → List Answer → Disposition
-answers_disposition seed row answers = disposition_of (verdicts_of (standard_of (prompts_of seed row.number row.capability)) answers)
+answers_disposition seed row answers =
+    disposition_of (verdicts_of (standard_of (prompts_of seed row.number row.capability)) answers)
 
 abbrev pub disposition_under : SetRecord → Option (List ℕ) → Option (List Answer) → Option Disposition
 disposition_under row None answers = None
@@ -98,21 +101,24 @@ if_live_in session row = if (row.session == session) && not row.cancelled then S
 
 -- how many vector sets of the session beside it aren't cancelled and pass
 abbrev pub others_passed : List (List ℕ) → ℕ → ℕ → List SetRecord → ℕ
-others_passed seeds session n sets = length (filter (λ row. not (row.number == n) && set_passes seeds row) (live_records session sets))
+others_passed seeds session n sets =
+    length (filter (λ row. not (row.number == n) && set_passes seeds row) (live_records session sets))
 
 abbrev pub submission_to : List (List ℕ) → ℕ → ℕ → List SetRecord → SetRecord → Submission
 submission_to seeds session n sets row = record { source = source_of row; others = others_passed seeds session n sets }
 
 -- where it is of the session and isn't cancelled
 unfoldable pub submission_for : List (List ℕ) → ℕ → ℕ → List SetRecord → Option Submission
-submission_for seeds session n sets = option_map (submission_to seeds session n sets) (option_and_then (if_live_in session) (set_record_at n sets))
+submission_for seeds session n sets =
+    option_map (submission_to seeds session n sets) (option_and_then (if_live_in session) (set_record_at n sets))
 
 -- ---- what is read of it
 
 abbrev pub set_material : List (List ℕ) → ℕ → ℕ → List SetRecord → SetWish → Material
 set_material seeds session n sets on_set.Read = material.Source (set_source session n sets)
 set_material seeds session n sets on_set.Expected = material.Source (set_source session n sets)
-set_material seeds session n sets on_set.Results = results_material (verdicts_in_session seeds session n sets) (set_source session n sets)
+set_material seeds session n sets on_set.Results =
+    results_material (verdicts_in_session seeds session n sets) (set_source session n sets)
 set_material seeds session n sets on_set.Submit = material.Submission (submission_for seeds session n sets)
 set_material seeds session n sets on_set.Resubmit = material.Submission (submission_for seeds session n sets)
 

@@ -24,7 +24,11 @@ answers_at prompts body = option_and_then (λ d. answers_body_of d prompts) (obj
 
 -- answers with the verdicts on them, and what these come to
 abbrev pub with_verdicts : List Answer → List Verdict → GradedValue
-with_verdicts answers verdicts = record { answers = answers; verdicts = verdicts; disposition = disposition_of verdicts }
+with_verdicts answers verdicts = record {
+  answers = answers;
+  verdicts = verdicts;
+  disposition = disposition_of verdicts;
+}
 
 -- graded by the standard answers to the prompts
 abbrev pub graded_on : PromptsValue → List Answer → GradedValue
@@ -36,4 +40,9 @@ graded_at body prompts = option_map (graded_on prompts) (answers_at prompts body
 
 -- what is kept of a vector set's answers, where so many other sets of its session have passed
 abbrev pub kept_answers : ℕ → ℕ → ℕ → GradedValue → KeptAnswers
-kept_answers session n others graded = record { session = session; set = n; graded = graded; passed = others + one_if (is_passed graded.disposition) }
+kept_answers session n others graded = record {
+  session = session;
+  set = n;
+  graded = graded;
+  passed = others + one_if (is_passed graded.disposition);
+}

@@ -3,7 +3,7 @@
 ghost use Rattle.std.specs.Prelude.{◌≡◌, ◌&&◌, nat_le, true, Some, None, IfOk, IfErr};
 ghost use Rattle.acvp_desk.specs.Answer.{IsReply};
 ghost use Rattle.acvp_desk.specs.Place.{is_for_account};
-ghost use Rattle.acvp_desk.specs.Replies.{account_reply, algorithm_at, shown_counts, wish_reply};
+ghost use Rattle.acvp_desk.specs.Replies.{account_reply, algorithm_at, wish_reply};
 ghost use Rattle.acvp_json.specs.AlgorithmData.{algorithm_data};
 ghost use Rattle.std.specs.Prelude.{option_map};
 
@@ -11,22 +11,9 @@ use crate::draft::{Draft, told};
 use crate::found::{Found, Material};
 use crate::wish::AccountWish;
 use acvp_caps::Algorithm;
-use acvp_json::{Counts as ShownCounts, ReplyObject};
+use acvp_json::ReplyObject;
 use acvp_policy::Rule;
-use acvp_tables::Counts;
 use std::alloc::Global;
-
-fn shown_counts(counts: &Counts) -> ShownCounts
-    ensures { result ≡ shown_counts counts.now }
-{
-    ShownCounts {
-        modules: counts.modules,
-        environments: counts.environments,
-        requests: counts.requests,
-        sessions: counts.sessions,
-        vendors: counts.vendors,
-    }
-}
 
 /// What is given to who reads its account, or the list of algorithms.
 #[tactic(auto, unfolding(acvp_json::specs::ReplyData::reply_data))]
@@ -46,8 +33,11 @@ pub(crate) fn draft_account(
             let Material::Counts(counts) = &found.material else {
                 unreachable!()
             };
-            let counts = shown_counts(counts);
-            told(alloc, &ReplyObject::ReadAccount { account, counts }, None)
+            let object = ReplyObject::ReadAccount {
+                account,
+                counts: *counts,
+            };
+            told(alloc, &object, None)
         }
         AccountWish::ListAlgorithms => told(alloc, &ReplyObject::ListAlgorithms, None),
     }

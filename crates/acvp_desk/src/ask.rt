@@ -5,15 +5,15 @@ ghost use Rattle.acvp_mac.specs.Conditions.{first_broken};
 ghost use Rattle.acvp_json.specs.LoginBody.{login_body_conditions};
 ghost use Rattle.acvp_desk.specs.Request.{request_value};
 ghost use Rattle.acvp_desk.specs.Bodies.{rule_of, body_conditions};
-ghost use Rattle.acvp_desk.specs.Wish.{wish_of, token_at};
+ghost use Rattle.acvp_desk.specs.Wish.{token_at};
 ghost use Rattle.acvp_desk.specs.Login.{login_ask_at, password_of, user_of, renewal_of};
-ghost use Rattle.acvp_desk.specs.Answer.{ask_of, first_conditions, first_conditions_on, action_of, end_of_moments};
+ghost use Rattle.acvp_desk.specs.Answer.{asker_of, first_conditions, first_conditions_on, action_of, end_of_moments};
 ghost use Rattle.acvp_desk.specs.Desk.{keys_of};
 
 use crate::body::login_body;
-use crate::request::TypedRequest;
+use crate::request::{Ask, TypedRequest};
 use crate::token::token_at;
-use crate::wish::{CallerAsk, wish_of};
+use crate::wish::CallerAsk;
 use acvp_json::Text;
 use acvp_policy::{Action, Renewal, Rule};
 use acvp_registry::{digits_number, plain_number};
@@ -34,21 +34,21 @@ pub(crate) struct LoginAsk {
 
 /// What is asked.
 #[derive(Clone, Copy)]
-pub(crate) enum Ask {
+pub(crate) enum Asker {
     Login(LoginAsk),
 
     /// What a caller with a token asks.
     Caller(CallerAsk),
 }
 
-impl Ask {
+impl Asker {
     /// The action that it is.
     pub fn action(self) -> Action
         ensures { result ≡ action_of self }
     {
         match self {
-            Ask::Login(_) => Action::Login,
-            Ask::Caller(caller) => caller.wish.action(),
+            Asker::Login(_) => Action::Login,
+            Asker::Caller(caller) => caller.wish.action(),
         }
     }
 }
@@ -91,8 +91,10 @@ fn renewal(alloc: Global, ring: &KeyRing, text: &Option<Text>) -> Result<Renewal
 
 /// What a login asks.
 fn login_ask(alloc: Global, ring: &KeyRing, body: &[u8]) -> Result<LoginAsk, Rule>
-    ensures ok { IfOk result (λ ask. (first_broken (body_conditions rule_of login_body_conditions body.now) ≡ None) × (login_ask_at ring.now body.now ≡ Some ask)) }
-    ensures err { IfErr result (λ rule. (rule ≡ Rule.Unavailable) ⊎ (first_broken (body_conditions rule_of login_body_conditions body.now) ≡ Some rule)) }
+    ensures ok { IfOk result (λ ask. (first_broken (body_conditions rule_of login_body_conditions body.now) ≡ None)
+        × (login_ask_at ring.now body.now ≡ Some ask)) }
+    ensures err { IfErr result (λ rule. (rule ≡ Rule.Unavailable)
+        ⊎ (first_broken (body_conditions rule_of login_body_conditions body.now) ≡ Some rule)) }
 {
     let login = login_body(alloc, body)?;
     let renewal = renewal(alloc, ring, &login.access_token)?;
@@ -103,54 +105,46 @@ fn login_ask(alloc: Global, ring: &KeyRing, body: &[u8]) -> Result<LoginAsk, Rul
     })
 }
 
-/// What a caller asks.
-fn caller_ask(
-    alloc: Global,
-    ring: &KeyRing,
-    moment: u64,
-    request: &TypedRequest<'_>,
-) -> Result<CallerAsk, Rule>
-    ensures ok { IfOk result (λ ask. (wish_of request.now.action request.now.numbers request.now.query.now ≡ Some ask.wish) × (ask.token ≡ token_at ring.now moment (request_value request.now).token)) }
-    ensures err { IfErr result (λ rule. (rule ≡ Rule.Unavailable) ⊎ ((wish_of request.now.action request.now.numbers request.now.query.now ≡ None) × (rule ≡ Rule.NoRoute))) }
-{
-    let Some(wish) = wish_of(request.action, request.numbers, request.query) else {
-        return Err(Rule::NoRoute);
-    };
-    let token = token_at(alloc, ring, moment, &request.token)?;
-    Ok(CallerAsk { token, wish })
-}
-
 /// What a request asks, or the rule of the first condition on its body that is looked at before a row is and doesn't
 /// hold.
-fn ask_in(
+fn asker_in(
     alloc: Global,
     ring: &KeyRing,
     moment: u64,
     request: &TypedRequest<'_>,
-) -> Result<Ask, Rule>
-    ensures ok { IfOk result (λ ask. (first_broken (first_conditions_on request.now.action (request_value request.now)) ≡ None) × ((seeds : List (List ℕ)) → ask_of (keys_of ring.now seeds) moment (request_value request.now) ≡ Some ask)) }
-    ensures err { IfErr result (λ rule. (rule ≡ Rule.Unavailable) ⊎ (first_broken (first_conditions_on request.now.action (request_value request.now)) ≡ Some rule)) }
+) -> Result<Asker, Rule>
+    ensures ok { IfOk result
+        (λ asker. (first_broken (first_conditions_on request.now.ask (request_value request.now)) ≡ None)
+        × ((seeds : List (List ℕ)) → asker_of (keys_of ring.now seeds) moment (request_value request.now)
+        ≡ Some asker)) }
+    ensures err { IfErr result (λ rule. (rule ≡ Rule.Unavailable)
+        ⊎ (first_broken (first_conditions_on request.now.ask (request_value request.now)) ≡ Some rule)) }
 {
-    match request.action {
-        Action::Login => Ok(Ask::Login(login_ask(alloc, ring, request.body)?)),
-        _ => Ok(Ask::Caller(caller_ask(alloc, ring, moment, request)?)),
+    match request.ask {
+        Ask::Login => Ok(Asker::Login(login_ask(alloc, ring, request.body)?)),
+        Ask::Caller(wish) => {
+            let token = token_at(alloc, ring, moment, &request.token)?;
+            Ok(Asker::Caller(CallerAsk { token, wish }))
+        }
     }
 }
 
 /// What a request asks, or the rule of the first condition that is looked at before a row is and doesn't hold.
-pub(crate) fn ask_for(
+pub(crate) fn asker_for(
     alloc: Global,
     ring: &KeyRing,
     moment: u64,
     request: &TypedRequest<'_>,
-) -> Result<Ask, Rule>
+) -> Result<Asker, Rule>
     ensures moment { IfOk result (λ _. moment < end_of_moments) }
     ensures clock { IfErr result (λ rule. end_of_moments ≤ moment → rule ≡ Rule.ClockOutOfRange) }
-    ensures ok { IfOk result (λ ask. (first_broken (first_conditions moment (request_value request.now)) ≡ None) × ((seeds : List (List ℕ)) → ask_of (keys_of ring.now seeds) moment (request_value request.now) ≡ Some ask)) }
-    ensures err { IfErr result (λ rule. (rule ≡ Rule.Unavailable) ⊎ (first_broken (first_conditions moment (request_value request.now)) ≡ Some rule)) }
+    ensures ok { IfOk result (λ ask. (first_broken (first_conditions moment (request_value request.now)) ≡ None)
+        × ((seeds : List (List ℕ)) → asker_of (keys_of ring.now seeds) moment (request_value request.now) ≡ Some ask)) }
+    ensures err { IfErr result (λ rule. (rule ≡ Rule.Unavailable)
+        ⊎ (first_broken (first_conditions moment (request_value request.now)) ≡ Some rule)) }
 {
     if moment >= END_OF_MOMENTS {
         return Err(Rule::ClockOutOfRange);
     }
-    ask_in(alloc, ring, moment, request)
+    asker_in(alloc, ring, moment, request)
 }

@@ -48,8 +48,10 @@ fn rule_of(fault: BodyFault) -> Rule
 
 /// The object of a body, or the rule of the first condition on its envelope that doesn't hold.
 fn opened(alloc: Global, body: &[u8]) -> Result<Value, Rule>
-    ensures ok { IfOk result (λ object. (first_broken (map (with_fault rule_of) (envelope_conditions body.now)) ≡ None) × (object_of body.now ≡ Some (view object))) }
-    ensures err { IfErr result (λ rule. (rule ≡ Rule.Unavailable) ⊎ (first_broken (map (with_fault rule_of) (envelope_conditions body.now)) ≡ Some rule)) }
+    ensures ok { IfOk result (λ object. (first_broken (map (with_fault rule_of) (envelope_conditions body.now)) ≡ None)
+        × (object_of body.now ≡ Some (view object))) }
+    ensures err { IfErr result (λ rule. (rule ≡ Rule.Unavailable)
+        ⊎ (first_broken (map (with_fault rule_of) (envelope_conditions body.now)) ≡ Some rule)) }
 {
     renamed_conditions::<BodyFault, Rule>();
     match open_envelope(alloc, body) {
@@ -60,8 +62,11 @@ fn opened(alloc: Global, body: &[u8]) -> Result<Value, Rule>
 
 /// What the object of a login says, or the rule of the first condition on it that doesn't hold.
 fn login_said(alloc: Global, object: &Value) -> Result<LoginBody, Rule>
-    ensures ok { IfOk result (λ login. (first_broken (map (with_fault rule_of) (login_body_conditions (view object.now))) ≡ None) × (login_body_of (view object.now) ≡ Some login)) }
-    ensures err { IfErr result (λ rule. (rule ≡ Rule.Unavailable) ⊎ (first_broken (map (with_fault rule_of) (login_body_conditions (view object.now))) ≡ Some rule)) }
+    ensures ok { IfOk result
+        (λ login. (first_broken (map (with_fault rule_of) (login_body_conditions (view object.now))) ≡ None)
+        × (login_body_of (view object.now) ≡ Some login)) }
+    ensures err { IfErr result (λ rule. (rule ≡ Rule.Unavailable)
+        ⊎ (first_broken (map (with_fault rule_of) (login_body_conditions (view object.now))) ≡ Some rule)) }
 {
     renamed_conditions::<BodyFault, Rule>();
     match read_login(alloc, object) {
@@ -72,8 +77,10 @@ fn login_said(alloc: Global, object: &Value) -> Result<LoginBody, Rule>
 
 /// What the body of a login says, or the rule of the first condition on it that doesn't hold.
 pub(crate) fn login_body(alloc: Global, body: &[u8]) -> Result<LoginBody, Rule>
-    ensures ok { IfOk result (λ login. (first_broken (body_conditions rule_of login_body_conditions body.now) ≡ None) × (login_at body.now ≡ Some login)) }
-    ensures err { IfErr result (λ rule. (rule ≡ Rule.Unavailable) ⊎ (first_broken (body_conditions rule_of login_body_conditions body.now) ≡ Some rule)) }
+    ensures ok { IfOk result (λ login. (first_broken (body_conditions rule_of login_body_conditions body.now) ≡ None)
+        × (login_at body.now ≡ Some login)) }
+    ensures err { IfErr result (λ rule. (rule ≡ Rule.Unavailable)
+        ⊎ (first_broken (body_conditions rule_of login_body_conditions body.now) ≡ Some rule)) }
 {
     joined_conditions::<Rule>();
     let object = match opened(alloc, body) {
@@ -99,8 +106,11 @@ fn registration_rule(fault: CapFault) -> Rule
 /// What the object of a new session registers, or the rule of the first condition on it that doesn't hold.
 #[tactic(auto, unfolding(acvp_caps::specs::Registered::registered))]
 fn registration_said(alloc: Global, object: &Value) -> Result<Registration, Rule>
-    ensures ok { IfOk result (λ registration. (first_broken (map (with_fault registration_rule) (registration_conditions (view object.now))) ≡ None) × (registration_at (view object.now) ≡ registration)) }
-    ensures err { IfErr result (λ rule. (rule ≡ Rule.Unavailable) ⊎ (first_broken (map (with_fault registration_rule) (registration_conditions (view object.now))) ≡ Some rule)) }
+    ensures ok { IfOk result
+        (λ registration. (first_broken (map (with_fault registration_rule) (registration_conditions (view object.now)))
+        ≡ None) × (registration_at (view object.now) ≡ registration)) }
+    ensures err { IfErr result (λ rule. (rule ≡ Rule.Unavailable)
+        ⊎ (first_broken (map (with_fault registration_rule) (registration_conditions (view object.now))) ≡ Some rule)) }
 {
     renamed_conditions::<CapFault, Rule>();
     match read_registration(alloc, object) {
@@ -112,8 +122,11 @@ fn registration_said(alloc: Global, object: &Value) -> Result<Registration, Rule
 /// What the body of a new session registers, or the rule of the first condition on it that doesn't hold.
 #[tactic(auto, unfolding(crate::specs::NewSessions::registration_in))]
 pub(crate) fn registration_body(alloc: Global, body: &[u8]) -> Result<Registration, Rule>
-    ensures ok { IfOk result (λ registration. (first_broken (body_conditions registration_rule registration_conditions body.now) ≡ None) × (registration_in body.now ≡ Some registration)) }
-    ensures err { IfErr result (λ rule. (rule ≡ Rule.Unavailable) ⊎ (first_broken (body_conditions registration_rule registration_conditions body.now) ≡ Some rule)) }
+    ensures ok { IfOk result
+        (λ registration. (first_broken (body_conditions registration_rule registration_conditions body.now) ≡ None)
+        × (registration_in body.now ≡ Some registration)) }
+    ensures err { IfErr result (λ rule. (rule ≡ Rule.Unavailable)
+        ⊎ (first_broken (body_conditions registration_rule registration_conditions body.now) ≡ Some rule)) }
 {
     joined_conditions::<Rule>();
     let object = match opened(alloc, body) {
@@ -125,8 +138,11 @@ pub(crate) fn registration_body(alloc: Global, body: &[u8]) -> Result<Registrati
 
 /// The account that the object of an added reviewer names, or the rule of the condition on it that doesn't hold.
 fn reviewer_said(object: &Value) -> Result<u16, Rule>
-    ensures ok { IfOk result (λ account. (first_broken (map (with_fault rule_of) (reviewer_body_conditions (view object.now))) ≡ None) × (reviewer_body_of (view object.now) ≡ Some account)) }
-    ensures err { IfErr result (λ rule. first_broken (map (with_fault rule_of) (reviewer_body_conditions (view object.now))) ≡ Some rule) }
+    ensures ok { IfOk result
+        (λ account. (first_broken (map (with_fault rule_of) (reviewer_body_conditions (view object.now))) ≡ None)
+        × (reviewer_body_of (view object.now) ≡ Some account)) }
+    ensures err { IfErr result
+        (λ rule. first_broken (map (with_fault rule_of) (reviewer_body_conditions (view object.now))) ≡ Some rule) }
 {
     renamed_conditions::<BodyFault, Rule>();
     match read_reviewer(object) {
@@ -137,8 +153,10 @@ fn reviewer_said(object: &Value) -> Result<u16, Rule>
 
 /// The account that the body of an added reviewer names, or the rule of the first condition on it that doesn't hold.
 pub(crate) fn reviewer_body(alloc: Global, body: &[u8]) -> Result<u16, Rule>
-    ensures ok { IfOk result (λ account. (first_broken (body_conditions rule_of reviewer_body_conditions body.now) ≡ None) × (reviewer_at body.now ≡ Some account)) }
-    ensures err { IfErr result (λ rule. (rule ≡ Rule.Unavailable) ⊎ (first_broken (body_conditions rule_of reviewer_body_conditions body.now) ≡ Some rule)) }
+    ensures ok { IfOk result (λ account. (first_broken (body_conditions rule_of reviewer_body_conditions body.now)
+        ≡ None) × (reviewer_at body.now ≡ Some account)) }
+    ensures err { IfErr result (λ rule. (rule ≡ Rule.Unavailable)
+        ⊎ (first_broken (body_conditions rule_of reviewer_body_conditions body.now) ≡ Some rule)) }
 {
     joined_conditions::<Rule>();
     let object = match opened(alloc, body) {
@@ -150,8 +168,12 @@ pub(crate) fn reviewer_body(alloc: Global, body: &[u8]) -> Result<u16, Rule>
 
 /// The answers that the object of a body gives, or the rule of the first condition on it that doesn't hold.
 fn answers_said(alloc: Global, object: &Value, prompts: &Prompts) -> Result<Answers, Rule>
-    ensures ok { IfOk result (λ answers. (first_broken (map (with_fault rule_of) (answers_body_conditions (view object.now) prompts.now)) ≡ None) × (answers_body_of (view object.now) prompts.now ≡ Some answers)) }
-    ensures err { IfErr result (λ rule. (rule ≡ Rule.Unavailable) ⊎ (first_broken (map (with_fault rule_of) (answers_body_conditions (view object.now) prompts.now)) ≡ Some rule)) }
+    ensures ok { IfOk result
+        (λ answers. (first_broken (map (with_fault rule_of) (answers_body_conditions (view object.now) prompts.now))
+        ≡ None) × (answers_body_of (view object.now) prompts.now ≡ Some answers)) }
+    ensures err { IfErr result (λ rule. (rule ≡ Rule.Unavailable)
+        ⊎ (first_broken (map (with_fault rule_of) (answers_body_conditions (view object.now) prompts.now))
+        ≡ Some rule)) }
 {
     renamed_conditions::<BodyFault, Rule>();
     match read_answers(alloc, object, prompts) {
@@ -163,8 +185,10 @@ fn answers_said(alloc: Global, object: &Value, prompts: &Prompts) -> Result<Answ
 /// The answers that a body gives to the tests of these prompts, or the rule of the first condition on it that doesn't
 /// hold.
 pub(crate) fn answers_body(alloc: Global, body: &[u8], prompts: &Prompts) -> Result<Answers, Rule>
-    ensures ok { IfOk result (λ answers. (first_broken (answers_conditions prompts.now body.now) ≡ None) × (answers_at prompts.now body.now ≡ Some answers)) }
-    ensures err { IfErr result (λ rule. (rule ≡ Rule.Unavailable) ⊎ (first_broken (answers_conditions prompts.now body.now) ≡ Some rule)) }
+    ensures ok { IfOk result (λ answers. (first_broken (answers_conditions prompts.now body.now) ≡ None)
+        × (answers_at prompts.now body.now ≡ Some answers)) }
+    ensures err { IfErr result (λ rule. (rule ≡ Rule.Unavailable)
+        ⊎ (first_broken (answers_conditions prompts.now body.now) ≡ Some rule)) }
 {
     joined_conditions::<Rule>();
     let object = match opened(alloc, body) {
@@ -178,8 +202,12 @@ pub(crate) fn answers_body(alloc: Global, body: &[u8], prompts: &Prompts) -> Res
 
 /// The object of a body, or the rule of the first condition on its envelope that doesn't hold.
 fn opened_read(alloc: Global, body: &[u8]) -> Result<Result<Value, Rule>, AllocError>
-    ensures ok { IfOk result (λ read. IfOk read (λ object. (first_broken (map (with_fault rule_of) (envelope_conditions body.now)) ≡ None) × (object_of body.now ≡ Some (view object)))) }
-    ensures err { IfOk result (λ read. IfErr read (λ rule. first_broken (map (with_fault rule_of) (envelope_conditions body.now)) ≡ Some rule)) }
+    ensures ok { IfOk result
+        (λ read. IfOk read (λ object. (first_broken (map (with_fault rule_of) (envelope_conditions body.now)) ≡ None)
+        × (object_of body.now ≡ Some (view object)))) }
+    ensures err { IfOk result
+        (λ read. IfErr read (λ rule. first_broken (map (with_fault rule_of) (envelope_conditions body.now))
+        ≡ Some rule)) }
 {
     renamed_conditions::<BodyFault, Rule>();
     match open_envelope(alloc, body) {
@@ -207,8 +235,13 @@ fn object_said(
     kind: Kind,
     object: &Value,
 ) -> Result<Result<Object, Rule>, AllocError>
-    ensures ok { IfOk result (λ read. IfOk read (λ kept. (first_broken (map (with_fault object_rule) (object_conditions kind (view object.now))) ≡ None) × (kept ≡ kept_as kind (view object.now)))) }
-    ensures err { IfOk result (λ read. IfErr read (λ rule. first_broken (map (with_fault object_rule) (object_conditions kind (view object.now))) ≡ Some rule)) }
+    ensures ok { IfOk result
+        (λ read. IfOk read (λ kept. (first_broken
+        (map (with_fault object_rule) (object_conditions kind (view object.now))) ≡ None)
+        × (kept ≡ kept_as kind (view object.now)))) }
+    ensures err { IfOk result
+        (λ read. IfErr read (λ rule. first_broken
+        (map (with_fault object_rule) (object_conditions kind (view object.now))) ≡ Some rule)) }
 {
     renamed_conditions::<RegFault, Rule>();
     match read_object(alloc, kind, object) {
@@ -225,8 +258,11 @@ pub(crate) fn object_read(
     kind: Kind,
     body: &[u8],
 ) -> Result<Result<Object, Rule>, AllocError>
-    ensures ok { IfOk result (λ read. IfOk read (λ object. (first_broken (registered_conditions kind body.now) ≡ None) × (object_in kind body.now ≡ Some object))) }
-    ensures err { IfOk result (λ read. IfErr read (λ rule. (first_broken (registered_conditions kind body.now) ≡ Some rule) × (object_in kind body.now ≡ None))) }
+    ensures ok { IfOk result (λ read. IfOk read (λ object. (first_broken (registered_conditions kind body.now) ≡ None)
+        × (object_in kind body.now ≡ Some object))) }
+    ensures err { IfOk result
+        (λ read. IfErr read (λ rule. (first_broken (registered_conditions kind body.now) ≡ Some rule)
+        × (object_in kind body.now ≡ None))) }
 {
     joined_conditions::<Rule>();
     match opened_read(alloc, body)? {
@@ -237,8 +273,11 @@ pub(crate) fn object_read(
 
 /// What the object of a certification names, or the rule of the first condition on it that doesn't hold.
 fn certify_said(object: &Value) -> Result<CertifyBody, Rule>
-    ensures ok { IfOk result (λ parts. (first_broken (map (with_fault rule_of) (certify_body_conditions (view object.now))) ≡ None) × (certify_body_of (view object.now) ≡ Some parts)) }
-    ensures err { IfErr result (λ rule. first_broken (map (with_fault rule_of) (certify_body_conditions (view object.now))) ≡ Some rule) }
+    ensures ok { IfOk result
+        (λ parts. (first_broken (map (with_fault rule_of) (certify_body_conditions (view object.now))) ≡ None)
+        × (certify_body_of (view object.now) ≡ Some parts)) }
+    ensures err { IfErr result
+        (λ rule. first_broken (map (with_fault rule_of) (certify_body_conditions (view object.now))) ≡ Some rule) }
 {
     renamed_conditions::<BodyFault, Rule>();
     match read_certify(object) {
@@ -254,8 +293,10 @@ pub(crate) fn certify_read(
     alloc: Global,
     body: &[u8],
 ) -> Result<Result<CertifyBody, Rule>, AllocError>
-    ensures ok { IfOk result (λ read. IfOk read (λ parts. (first_broken (certified_conditions body.now) ≡ None) × (certified_in body.now ≡ Some parts))) }
-    ensures err { IfOk result (λ read. IfErr read (λ rule. (first_broken (certified_conditions body.now) ≡ Some rule) × (certified_in body.now ≡ None))) }
+    ensures ok { IfOk result (λ read. IfOk read (λ parts. (first_broken (certified_conditions body.now) ≡ None)
+        × (certified_in body.now ≡ Some parts))) }
+    ensures err { IfOk result (λ read. IfErr read (λ rule. (first_broken (certified_conditions body.now) ≡ Some rule)
+        × (certified_in body.now ≡ None))) }
 {
     joined_conditions::<Rule>();
     match opened_read(alloc, body)? {

@@ -47,8 +47,10 @@ pub(crate) fn draft_cancelled(
     material: &Material,
 ) -> Result<Draft, Rule>
     requires { has_outcomes material.now ≡ true }
-    ensures reply { IfOk result (λ draft. IsReply draft.reply.items (Some (outcome_data (codes "cancelled") (set_url set)))) }
-    ensures change { IfOk result (λ draft. draft.change ≡ option_map (λ sets. change.CancelSet (cancelled_set session set sets)) (outcomes_in_material material.now)) }
+    ensures reply { IfOk result
+        (λ draft. IsReply draft.reply.items (Some (outcome_data (codes "cancelled") (set_url set)))) }
+    ensures change { IfOk result (λ draft. draft.change
+        ≡ option_map (λ sets. change.CancelSet (cancelled_set session set sets)) (outcomes_in_material material.now)) }
     ensures denied { IfErr result (λ rule. rule ≡ Rule.Unavailable) }
 {
     let Material::Outcomes(outcomes) = material else {

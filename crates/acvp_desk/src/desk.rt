@@ -56,7 +56,11 @@ impl<T: Tables> Model for Desk<T> {
 
     ghost Value = { DeskValue T };
 
-    ghost view = { λ d. record { keys = keys_of d.ring d.cache.seeds; tables = d.tables; cached = length d.cache.entries } };
+    ghost view = { λ d. record {
+      keys = keys_of d.ring d.cache.seeds;
+      tables = d.tables;
+      cached = length d.cache.entries;
+    } };
 }
 
 /// Why there is no desk.
@@ -78,12 +82,16 @@ impl<T: Tables> Desk<T> {
     pub fn new(alloc: Global, keys: Keys, tables: T) -> Result<Desk<T>, (T, NewFault)>
         ensures keys { IfOk result (λ desk. desk.keys ≡ keys) }
         ensures empty { IfOk result (λ desk. desk.cached ≡ 0) }
-        ensures looks { Looks T.stands T.is_live T.is_clean T.leaves result tables (tables_of result) }
-        ensures open { IfOk result (λ desk. T.is_clean desk.tables → T.is_live tables × T.is_live desk.tables) }
-        ensures seeded { IfOk result (λ desk. T.is_clean desk.tables → (c : Content) → IsSound c → T.stands tables c → HasSeeds keys.seed (greatest_epoch_of c.sets)) }
-        ensures looked { IfErr result (λ fault. fault.1 ≡ NewFault.Epoch → T.is_clean fault.0 → T.is_live tables × T.is_live fault.0) }
+        ensures looks { Looks T.meaning result tables (tables_of result) }
+        ensures open { IfOk result (λ desk. T.meaning.is_clean desk.tables
+            → T.meaning.is_live tables × T.meaning.is_live desk.tables) }
+        ensures seeded { IfOk result (λ desk. T.meaning.is_clean desk.tables → (c : Content) → IsSound c
+            → T.meaning.stands tables c → HasSeeds keys.seed (greatest_epoch_of c.sets)) }
+        ensures looked { IfErr result (λ fault. fault.1 ≡ NewFault.Epoch → T.meaning.is_clean fault.0
+            → T.meaning.is_live tables × T.meaning.is_live fault.0) }
         ensures store { IfErr result (λ fault. fault.1 ≡ NewFault.Store → T.faults StoreFault.Refused) }
-        ensures epoch { IfErr result (λ fault. fault.1 ≡ NewFault.Epoch → T.is_clean fault.0 → (c : Content) → IsSound c → T.stands tables c → ¬ HasSeeds keys.seed (greatest_epoch_of c.sets)) }
+        ensures epoch { IfErr result (λ fault. fault.1 ≡ NewFault.Epoch → T.meaning.is_clean fault.0 → (c : Content)
+            → IsSound c → T.meaning.stands tables c → ¬ HasSeeds keys.seed (greatest_epoch_of c.sets)) }
     {
         let mut tables = tables;
         let newest = keys.seed.newest();
@@ -109,8 +117,8 @@ impl<T: Tables> Desk<T> {
     pub fn order(&mut self, moment: u64, order: &Order) -> OrderReply
         requires { IsOrder order.now }
         ensures keys { self.new.keys ≡ self.old.keys }
-        ensures answered { Orders T.stands T.is_live T.is_clean T.leaves result self.old.tables self.new.tables order.now }
-        ensures apart { IsOrderedApart T.stands T.is_live result self.old.tables self.new.tables order.now }
+        ensures answered { Orders T.meaning result self.old.tables self.new.tables order.now }
+        ensures apart { IsOrderedApart T.meaning result self.old.tables self.new.tables order.now }
     {
         let _ = moment;
         effects_follow();
@@ -118,15 +126,18 @@ impl<T: Tables> Desk<T> {
         order_on(&mut self.tables, order)
     }
 
-    /// Answers a request at a moment, in seconds since 1970. Unless it is unavailable, what is told to an account depends
-    /// alone on the rows that it owns and on those of the sessions that it reviews, and what is left of an account's rows
-    /// on these rows alone.
+    /// Answers a request at a moment, in seconds since 1970. Unless it is unavailable, what is told to an account
+    /// depends alone on the rows that it owns and on those of the sessions that it reviews, and what is left of an
+    /// account's rows on these rows alone.
     pub fn handle(&mut self, moment: u64, request: &TypedRequest<'_>) -> Outcome
         ensures keys { self.new.keys ≡ self.old.keys }
-        ensures served { Serves T.stands T.is_live T.is_clean T.leaves (result_of result.reply result.changed) self.old.tables self.new.tables self.old.keys moment (request_value request.now) }
+        ensures served { Serves T.meaning (result_of result.reply result.changed) self.old.tables self.new.tables
+            self.old.keys moment (request_value request.now) }
         ensures denied { IfDenied result.reply (result.changed ≡ false) }
-        ensures apart { IsServedApart T.stands T.is_live T.is_clean result.reply self.old.tables self.new.tables self.old.keys moment (request_value request.now) }
-        ensures seen { IsToldBySeen T.stands T.is_live T.is_clean result.reply self.old.tables self.new.tables self.old.keys moment (request_value request.now) }
+        ensures apart { IsServedApart T.meaning result.reply self.old.tables self.new.tables self.old.keys moment
+            (request_value request.now) }
+        ensures seen { IsToldBySeen T.meaning result.reply self.old.tables self.new.tables self.old.keys moment
+            (request_value request.now) }
     {
         effects_follow();
         nobody_is_answered_alike();
@@ -138,7 +149,8 @@ impl<T: Tables> Desk<T> {
     /// What a request is answered.
     fn answered(&mut self, moment: u64, request: &TypedRequest<'_>) -> Outcome
         ensures keys { self.new.keys ≡ self.old.keys }
-        ensures served { Serves T.stands T.is_live T.is_clean T.leaves (result_of result.reply result.changed) self.old.tables self.new.tables self.old.keys moment (request_value request.now) }
+        ensures served { Serves T.meaning (result_of result.reply result.changed) self.old.tables self.new.tables
+            self.old.keys moment (request_value request.now) }
         ensures denied { IfDenied result.reply (result.changed ≡ false) }
     {
         match serve(

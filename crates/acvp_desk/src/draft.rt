@@ -4,17 +4,18 @@ ghost use Rattle.std.specs.Prelude.{◌≡◌, ◌⊎◌, ◌<◌, true, Some, N
 ghost use Rattle.acvp_mac.specs.Conditions.{first_broken};
 ghost use Rattle.acvp_token.specs.TokenText.{ring_token_text};
 ghost use Rattle.acvp_json.specs.ReplyData.{reply_data, token_data};
-ghost use Rattle.acvp_desk.specs.Answer.{change_of, end_of_moments, login_change, login_reply, own_conditions, policy_conditions, reply_of, IsOf, IsReply};
+ghost use Rattle.acvp_desk.specs.Answer.{change_of, end_of_moments, login_change, login_reply, own_conditions};
+ghost use Rattle.acvp_desk.specs.Answer.{policy_conditions, reply_of, IsOf, IsReply};
 ghost use Rattle.acvp_desk.specs.Desk.{keys_of};
 ghost use Rattle.acvp_desk.specs.Place.{is_for, is_there};
 ghost use Rattle.acvp_desk.specs.OwnConditions.{wish_conditions};
 ghost use Rattle.acvp_desk.specs.Replies.{wish_change, wish_reply};
 ghost use Rattle.acvp_desk.specs.Request.{request_value};
 ghost use Rattle.acvp_desk.specs.Login.{renewed_session};
-ghost use Rattle.acvp_desk.specs.declared.ask.Ask.TheVariants as ask;
+ghost use Rattle.acvp_desk.specs.declared.ask.Asker.TheVariants as ask;
 
 use crate::account::{draft_account, draft_algorithm};
-use crate::ask::{Ask, LoginAsk};
+use crate::ask::{Asker, LoginAsk};
 use crate::cache::Cache;
 use crate::cancel::draft_cancelled;
 use crate::find::acting;
@@ -81,7 +82,8 @@ pub(crate) fn told<'a>(
 /// The reply with the new token of an account, and the change that it tells of.
 #[tactic(auto, unfolding(acvp_json::specs::ReplyData::reply_data))]
 fn token_told(alloc: Global, ring: &KeyRing, claims: &Claims, change: Change) -> Result<Draft, Rule>
-    ensures reply { IfOk result (λ draft. IsReply draft.reply.items (Some (token_data (ring_token_text ring.now claims.now)))) }
+    ensures reply { IfOk result
+        (λ draft. IsReply draft.reply.items (Some (token_data (ring_token_text ring.now claims.now)))) }
     ensures change { IfOk result (λ draft. draft.change ≡ Some change) }
     ensures denied { IfErr result (λ rule. rule ≡ Rule.Unavailable) }
 {
@@ -151,10 +153,14 @@ fn draft_beside_sets(
     requires moment { moment < end_of_moments }
     requires there { is_there wish.now found.now.subject ≡ true }
     requires material { is_for wish.now found.now.material ≡ true }
-    ensures held { IfOk result (λ _. first_broken (wish_conditions seeds.now (request_value request.now) found.now wish.now) ≡ None) }
-    ensures reply { IfOk result (λ draft. IsReply draft.reply.items (wish_reply (keys_of ring.now seeds.now) moment account (request_value request.now) found.now wish.now)) }
-    ensures change { IfOk result (λ draft. draft.change ≡ wish_change seeds.now moment account (request_value request.now) found.now wish.now) }
-    ensures denied { IfErr result (λ rule. (rule ≡ Rule.Unavailable) ⊎ (first_broken (wish_conditions seeds.now (request_value request.now) found.now wish.now) ≡ Some rule)) }
+    ensures held { IfOk result
+        (λ _. first_broken (wish_conditions seeds.now (request_value request.now) found.now wish.now) ≡ None) }
+    ensures reply { IfOk result (λ draft. IsReply draft.reply.items
+        (wish_reply (keys_of ring.now seeds.now) moment account (request_value request.now) found.now wish.now)) }
+    ensures change { IfOk result
+        (λ draft. draft.change ≡ wish_change seeds.now moment account (request_value request.now) found.now wish.now) }
+    ensures denied { IfErr result (λ rule. (rule ≡ Rule.Unavailable)
+        ⊎ (first_broken (wish_conditions seeds.now (request_value request.now) found.now wish.now) ≡ Some rule)) }
 {
     let material = &found.material;
     match *wish {
@@ -190,11 +196,15 @@ fn draft_wish(
     requires moment { moment < end_of_moments }
     requires there { is_there wish.now found.subject ≡ true }
     requires material { is_for wish.now found.material ≡ true }
-    ensures held { IfOk result (λ _. first_broken (wish_conditions cache.old.seeds (request_value request.now) found wish.now) ≡ None) }
-    ensures reply { IfOk result (λ draft. IsReply draft.reply.items (wish_reply (keys_of ring.now cache.old.seeds) moment account (request_value request.now) found wish.now)) }
-    ensures change { IfOk result (λ draft. draft.change ≡ wish_change cache.old.seeds moment account (request_value request.now) found wish.now) }
+    ensures held { IfOk result
+        (λ _. first_broken (wish_conditions cache.old.seeds (request_value request.now) found wish.now) ≡ None) }
+    ensures reply { IfOk result (λ draft. IsReply draft.reply.items
+        (wish_reply (keys_of ring.now cache.old.seeds) moment account (request_value request.now) found wish.now)) }
+    ensures change { IfOk result (λ draft. draft.change ≡ wish_change cache.old.seeds moment account
+        (request_value request.now) found wish.now) }
     ensures seeds { cache.new.seeds ≡ cache.old.seeds }
-    ensures denied { IfErr result (λ rule. (rule ≡ Rule.Unavailable) ⊎ (first_broken (wish_conditions cache.old.seeds (request_value request.now) found wish.now) ≡ Some rule)) }
+    ensures denied { IfErr result (λ rule. (rule ≡ Rule.Unavailable)
+        ⊎ (first_broken (wish_conditions cache.old.seeds (request_value request.now) found wish.now) ≡ Some rule)) }
 {
     let Wish::Set(session, number, it) = *wish else {
         return draft_beside_sets(
@@ -234,21 +244,25 @@ pub(crate) fn draft_for(
     cache: &mut Cache,
     moment: u64,
     request: &TypedRequest<'_>,
-    ask: &Ask,
+    ask: &Asker,
     found: Found,
 ) -> Result<Draft, Rule>
     requires moment { moment < end_of_moments }
     requires held { first_broken (policy_conditions moment ask.now found) ≡ None }
     requires of { IsOf ask.now found }
-    ensures held { IfOk result (λ _. first_broken (own_conditions cache.old.seeds (request_value request.now) ask.now found) ≡ None) }
-    ensures reply { IfOk result (λ draft. IsReply draft.reply.items (reply_of (keys_of ring.now cache.old.seeds) moment (request_value request.now) ask.now found)) }
-    ensures change { IfOk result (λ draft. draft.change ≡ change_of (keys_of ring.now cache.old.seeds) moment (request_value request.now) ask.now found) }
+    ensures held { IfOk result
+        (λ _. first_broken (own_conditions cache.old.seeds (request_value request.now) ask.now found) ≡ None) }
+    ensures reply { IfOk result (λ draft. IsReply draft.reply.items
+        (reply_of (keys_of ring.now cache.old.seeds) moment (request_value request.now) ask.now found)) }
+    ensures change { IfOk result (λ draft. draft.change ≡ change_of (keys_of ring.now cache.old.seeds) moment
+        (request_value request.now) ask.now found) }
     ensures seeds { cache.new.seeds ≡ cache.old.seeds }
-    ensures denied { IfErr result (λ rule. (rule ≡ Rule.Unavailable) ⊎ (first_broken (own_conditions cache.old.seeds (request_value request.now) ask.now found) ≡ Some rule)) }
+    ensures denied { IfErr result (λ rule. (rule ≡ Rule.Unavailable)
+        ⊎ (first_broken (own_conditions cache.old.seeds (request_value request.now) ask.now found) ≡ Some rule)) }
 {
     match ask {
-        Ask::Login(login) => draft_login(alloc, ring, moment, login, &found),
-        Ask::Caller(caller) => {
+        Asker::Login(login) => draft_login(alloc, ring, moment, login, &found),
+        Asker::Caller(caller) => {
             let account = acting(&caller.token);
             draft_wish(
                 alloc,

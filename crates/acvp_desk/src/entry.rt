@@ -30,7 +30,12 @@ impl Entry {
         capability: Capability,
         epoch: u64,
     ) -> Result<Entry, AllocError>
-        ensures { IfOk result (λ e. e ≡ record { capability = capability; epoch = epoch; prompts = prompts_of seed.now number capability; standard = None }) }
+        ensures { IfOk result (λ e. e ≡ record {
+          capability = capability;
+          epoch = epoch;
+          prompts = prompts_of seed.now number capability;
+          standard = None;
+        }) }
     {
         let prompts = prompts(alloc, seed, number, &capability)?;
         Ok(Entry {

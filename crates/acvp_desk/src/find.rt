@@ -1,21 +1,28 @@
 //! The tables are looked at.
 
-ghost use Rattle.std.specs.Prelude.{◌≡◌, ◌⊎◌, ◌/◌, ℕ, List, map, ◌&&◌, ◌||◌, ◌==◌, not, nat_le, true, Some, is_some, IfOk, IfErr, IfSome, option_and_then};
+ghost use Rattle.std.specs.Prelude.{◌≡◌, ◌⊎◌, ◌/◌, ℕ, List, map, ◌&&◌, ◌||◌, ◌==◌, not, nat_le, true, Some, is_some};
+ghost use Rattle.std.specs.Prelude.{IfOk, IfErr, IfSome, option_and_then};
 ghost use Rattle.acvp_mac.specs.Conditions.{first_broken};
 ghost use Rattle.acvp_policy.specs.Conditions.{claims_of};
 ghost use Rattle.acvp_policy.specs.Decision.{account_of_claims};
 ghost use Rattle.acvp_policy.specs.Resource.{resource_of};
 ghost use Rattle.acvp_tables.specs.Content.{Content, account_at, reviewers_of, session_at, set_at};
+ghost use Rattle.acvp_tables.specs.Meaning.{narrowed};
 ghost use Rattle.acvp_tables.specs.State.{record_counts, session_record, state_of, set_record_at};
 ghost use Rattle.acvp_desk.specs.Answer.{found_of, policy_conditions, reviewer_found, who, IsOf};
 ghost use Rattle.acvp_desk.specs.Kept.{IsKept};
+ghost use Rattle.acvp_desk.specs.Private.Admitted.{IsAdmitted};
 ghost use Rattle.acvp_desk.specs.Private.Changeable.{IfChangeable};
 ghost use Rattle.acvp_desk.specs.Private.SetRows.{facts_in, rows_in, source_from};
-ghost use Rattle.acvp_desk.specs.Place.{certification_of, certification_status, listed_session, sessions_material, is_for_page, session_facts, reviewed_facts, is_within, account_material, session_material, is_for, is_for_account, is_for_session, place_of, set_numbers, set_outcomes, unfound};
-ghost use Rattle.acvp_desk.specs.Sets.{no_set_material, set_facts, set_material, submission_for, verdicts_on_set, is_for_set};
+ghost use Rattle.acvp_desk.specs.Place.{certification_of, certification_status, listed_session, sessions_material};
+ghost use Rattle.acvp_desk.specs.Place.{is_for_page, session_facts, reviewed_facts, is_within, account_material};
+ghost use Rattle.acvp_desk.specs.Place.{session_material, is_for, is_for_account, is_for_session, place_of};
+ghost use Rattle.acvp_desk.specs.Place.{set_numbers, set_outcomes, unfound};
+ghost use Rattle.acvp_desk.specs.Sets.{no_set_material, set_facts, set_material, submission_for, verdicts_on_set};
+ghost use Rattle.acvp_desk.specs.Sets.{is_for_set};
 ghost use Rattle.acvp_desk.specs.Serves.{Holds, Knows, Looks, Sees};
 
-use crate::ask::Ask;
+use crate::ask::Asker;
 use crate::found::{
     Accounts, Found, ListedSession, ListedSessions, Material, SetNumbers, SetOutcome, SetOutcomes,
     SetSource, SetVerdicts, Submission, facts_for,
@@ -38,12 +45,12 @@ use std::alloc::{AllocError, Global};
 const SETS_OF_A_SESSION: u64 = 100;
 
 /// The number of the account that acts, where there is one.
-fn who(ask: &Ask) -> Option<u16>
+fn who(ask: &Asker) -> Option<u16>
     ensures { result ≡ who ask.now }
 {
     match ask {
-        Ask::Login(login) => login.user,
-        Ask::Caller(caller) => match caller.token {
+        Asker::Login(login) => login.user,
+        Asker::Caller(caller) => match caller.token {
             Token::Verified(claims) => Some(claims.account),
             _ => None,
         },
@@ -62,9 +69,11 @@ pub(crate) fn acting(token: &Token) -> u16
 
 /// The row of an account, where one acts.
 fn account<T: Tables>(tables: &mut T, number: Option<u16>) -> Result<Option<AccountRow>, StoreFault>
-    ensures found { Knows T.stands T.is_live T.is_clean T.leaves result tables.old tables.new (λ seeds c. option_and_then (λ n. account_at n c.accounts) number) }
-    ensures open { IfOk result (λ found. IfSome found (λ _. T.is_clean tables.new → T.is_live tables.old × T.is_live tables.new)) }
-    ensures looks { Looks T.stands T.is_live T.is_clean T.leaves result tables.old tables.new }
+    ensures found { Knows T.meaning result tables.old tables.new
+        (λ seeds c. option_and_then (λ n. account_at n c.accounts) number) }
+    ensures open { IfOk result (λ found. IfSome found (λ _. T.meaning.is_clean tables.new
+        → T.meaning.is_live tables.old × T.meaning.is_live tables.new)) }
+    ensures looks { Looks T.meaning result tables.old tables.new }
 {
     match number {
         Some(number) => tables.account(number),
@@ -74,18 +83,18 @@ fn account<T: Tables>(tables: &mut T, number: Option<u16>) -> Result<Option<Acco
 
 /// Whether the account that acts reviews the session of the path, where that is asked.
 #[tactic(auto, unfolding(acvp_tables::specs::State::state_of))]
-fn reviewer<T: Tables>(tables: &mut T, ask: &Ask) -> Result<bool, StoreFault>
-    ensures found { Knows T.stands T.is_live T.is_clean T.leaves result tables.old tables.new (λ seeds c. reviewer_found ask.now (state_of c)) }
-    ensures looks { Looks T.stands T.is_live T.is_clean T.leaves result tables.old tables.new }
+fn reviewer<T: Tables>(tables: &mut T, ask: &Asker) -> Result<bool, StoreFault>
+    ensures found { Knows T.meaning result tables.old tables.new (λ seeds c. reviewer_found ask.now (state_of c)) }
+    ensures looks { Looks T.meaning result tables.old tables.new }
 {
     match ask {
-        Ask::Caller(
+        Asker::Caller(
             CallerAsk {
                 token,
                 wish: Wish::Session(session, SessionWish::Results),
             },
         ) => tables.is_reviewer(*session, acting(token)),
-        Ask::Caller(
+        Asker::Caller(
             CallerAsk {
                 token,
                 wish: Wish::Set(of, _, SetWish::Results),
@@ -110,8 +119,8 @@ fn certification<T: Tables>(
     tables: &mut T,
     certify: Option<u64>,
 ) -> Result<Option<CertificationStatus>, StoreFault>
-    ensures found { Sees T.stands T.is_live T.is_clean T.leaves result tables.old tables.new (λ seeds c. certification_of certify c.requests) }
-    ensures looks { Looks T.stands T.is_live T.is_clean T.leaves result tables.old tables.new }
+    ensures found { Sees T.meaning result tables.old tables.new (λ seeds c. certification_of certify c.requests) }
+    ensures looks { Looks T.meaning result tables.old tables.new }
 {
     let Some(number) = certify else {
         return Ok(None);
@@ -125,7 +134,13 @@ fn certification<T: Tables>(
 /// How the session of a row stands, whose last certification request stands so. It has passed where it has vector sets
 /// that aren't cancelled, and as many of them have.
 fn facts_of(row: &SessionRow, certification: Option<CertificationStatus>) -> SessionFacts
-    ensures { result ≡ (record { cancelled = row.now.cancelled; created = row.now.created; sample = row.now.sample; certification = certification; passed = nat_le 1 row.now.live && (row.now.passed == row.now.live) }) }
+    ensures { result ≡ (record {
+      cancelled = row.now.cancelled;
+      created = row.now.created;
+      sample = row.now.sample;
+      certification = certification;
+      passed = nat_le 1 row.now.live && (row.now.passed == row.now.live);
+    }) }
 {
     SessionFacts {
         cancelled: row.cancelled,
@@ -144,8 +159,9 @@ fn facts_by_row<T: Tables>(
     number: u64,
     row: Option<SessionRow>,
 ) -> Result<Option<SessionFacts>, StoreFault>
-    ensures found { Sees (λ t c. T.stands t c × (row ≡ session_at number c.sessions)) T.is_live T.is_clean T.leaves result tables.old tables.new (λ seeds c. session_facts seeds (state_of c) number) }
-    ensures looks { Looks T.stands T.is_live T.is_clean T.leaves result tables.old tables.new }
+    ensures found { Sees (narrowed T.meaning (λ c. row ≡ session_at number c.sessions)) result tables.old tables.new
+        (λ seeds c. session_facts seeds (state_of c) number) }
+    ensures looks { Looks T.meaning result tables.old tables.new }
 {
     selections_follow();
     let Some(row) = row else {
@@ -157,8 +173,8 @@ fn facts_by_row<T: Tables>(
 
 /// How the session of a number stands.
 fn session_facts<T: Tables>(tables: &mut T, number: u64) -> Result<Option<SessionFacts>, StoreFault>
-    ensures found { Sees T.stands T.is_live T.is_clean T.leaves result tables.old tables.new (λ seeds c. session_facts seeds (state_of c) number) }
-    ensures looks { Looks T.stands T.is_live T.is_clean T.leaves result tables.old tables.new }
+    ensures found { Sees T.meaning result tables.old tables.new (λ seeds c. session_facts seeds (state_of c) number) }
+    ensures looks { Looks T.meaning result tables.old tables.new }
 {
     let row = tables.session(number)?;
     facts_by_row(tables, number, row)
@@ -171,9 +187,10 @@ fn reviewed_facts<T: Tables>(
     session: u64,
     reviewer: u64,
 ) -> Result<Option<SessionFacts>, StoreFault>
-    ensures found { Sees T.stands T.is_live T.is_clean T.leaves result tables.old tables.new (λ seeds c. reviewed_facts seeds (state_of c) session reviewer) }
+    ensures found { Sees T.meaning result tables.old tables.new
+        (λ seeds c. reviewed_facts seeds (state_of c) session reviewer) }
     ensures within { IfOk result (λ found. (not (is_some found) || nat_le reviewer 9999) ≡ true) }
-    ensures looks { Looks T.stands T.is_live T.is_clean T.leaves result tables.old tables.new }
+    ensures looks { Looks T.meaning result tables.old tables.new }
 {
     numbers_tell();
     if reviewer > 9999 {
@@ -206,9 +223,10 @@ fn set_facts<T: Tables>(
     session: u64,
     number: u64,
 ) -> Result<Option<SetFacts>, StoreFault>
-    ensures found { Sees T.stands T.is_live T.is_clean T.leaves result tables.old tables.new (λ seeds c. set_facts (session_facts seeds (state_of c) session) session number (state_of c).sets) }
+    ensures found { Sees T.meaning result tables.old tables.new
+        (λ seeds c. set_facts (session_facts seeds (state_of c) session) session number (state_of c).sets) }
     ensures within { IfOk result (λ found. (not (is_some found) || ((number / 100) == session)) ≡ true) }
-    ensures looks { Looks T.stands T.is_live T.is_clean T.leaves result tables.old tables.new }
+    ensures looks { Looks T.meaning result tables.old tables.new }
 {
     selections_follow();
     numbers_name();
@@ -229,8 +247,8 @@ fn set_numbers<T: Tables>(
     tables: &mut T,
     session: u64,
 ) -> Result<SetNumbers, StoreFault>
-    ensures found { Sees T.stands T.is_live T.is_clean T.leaves result tables.old tables.new (λ seeds c. set_numbers session (state_of c)) }
-    ensures looks { Looks T.stands T.is_live T.is_clean T.leaves result tables.old tables.new }
+    ensures found { Sees T.meaning result tables.old tables.new (λ seeds c. set_numbers session (state_of c)) }
+    ensures looks { Looks T.meaning result tables.old tables.new }
 {
     selections_follow();
     let sets = tables.sets_of(session)?;
@@ -250,8 +268,8 @@ fn set_outcomes<T: Tables>(
     tables: &mut T,
     session: u64,
 ) -> Result<SetOutcomes, StoreFault>
-    ensures found { Sees T.stands T.is_live T.is_clean T.leaves result tables.old tables.new (λ seeds c. set_outcomes seeds session (state_of c)) }
-    ensures looks { Looks T.stands T.is_live T.is_clean T.leaves result tables.old tables.new }
+    ensures found { Sees T.meaning result tables.old tables.new (λ seeds c. set_outcomes seeds session (state_of c)) }
+    ensures looks { Looks T.meaning result tables.old tables.new }
 {
     selections_follow();
     let found = tables.sets_of(session)?;
@@ -271,8 +289,9 @@ fn set_outcomes<T: Tables>(
 /// The accounts that review a session.
 #[tactic(auto, unfolding(acvp_tables::specs::State::state_of))]
 fn reviewers<T: Tables>(tables: &mut T, session: u64) -> Result<Accounts, StoreFault>
-    ensures found { Sees T.stands T.is_live T.is_clean T.leaves result tables.old tables.new (λ seeds c. reviewers_of session (state_of c).reviewers) }
-    ensures looks { Looks T.stands T.is_live T.is_clean T.leaves result tables.old tables.new }
+    ensures found { Sees T.meaning result tables.old tables.new
+        (λ seeds c. reviewers_of session (state_of c).reviewers) }
+    ensures looks { Looks T.meaning result tables.old tables.new }
 {
     Ok(Accounts {
         numbers: tables.reviewers_of(session)?,
@@ -286,9 +305,10 @@ fn account_material<T: Tables>(
     account: u16,
     wish: AccountWish,
 ) -> Result<Material, StoreFault>
-    ensures found { Sees T.stands T.is_live T.is_clean T.leaves result tables.old tables.new (λ seeds c. account_material account (state_of c) wish) }
+    ensures found { Sees T.meaning result tables.old tables.new
+        (λ seeds c. account_material account (state_of c) wish) }
     ensures fits { IfOk result (λ material. is_for_account wish material ≡ true) }
-    ensures looks { Looks T.stands T.is_live T.is_clean T.leaves result tables.old tables.new }
+    ensures looks { Looks T.meaning result tables.old tables.new }
 {
     selections_follow();
     match wish {
@@ -304,9 +324,10 @@ fn session_material<T: Tables>(
     session: u64,
     wish: SessionWish,
 ) -> Result<Material, StoreFault>
-    ensures found { Sees T.stands T.is_live T.is_clean T.leaves result tables.old tables.new (λ seeds c. session_material seeds session (state_of c) wish) }
+    ensures found { Sees T.meaning result tables.old tables.new
+        (λ seeds c. session_material seeds session (state_of c) wish) }
     ensures fits { IfOk result (λ material. is_for_session wish material ≡ true) }
-    ensures looks { Looks T.stands T.is_live T.is_clean T.leaves result tables.old tables.new }
+    ensures looks { Looks T.meaning result tables.old tables.new }
 {
     match wish {
         SessionWish::Read => Ok(Material::Sets(set_numbers(alloc, tables, session)?)),
@@ -327,8 +348,8 @@ struct SetRows {
 
 /// The rows of the vector set and of the session of two numbers, each read once.
 fn set_rows<T: Tables>(tables: &mut T, session: u64, number: u64) -> Result<SetRows, StoreFault>
-    ensures found { Sees T.stands T.is_live T.is_clean T.leaves result tables.old tables.new (λ seeds c. rows_in session number c) }
-    ensures looks { Looks T.stands T.is_live T.is_clean T.leaves result tables.old tables.new }
+    ensures found { Sees T.meaning result tables.old tables.new (λ seeds c. rows_in session number c) }
+    ensures looks { Looks T.meaning result tables.old tables.new }
 {
     let session = tables.session(session)?;
     let set = tables.set(number)?;
@@ -342,8 +363,9 @@ fn facts_by_rows<T: Tables>(
     number: u64,
     rows: &SetRows,
 ) -> Result<Option<SetFacts>, StoreFault>
-    ensures found { Sees (λ t c. T.stands t c × (rows.now ≡ rows_in session number c)) T.is_live T.is_clean T.leaves result tables.old tables.new (λ seeds c. set_facts (session_facts seeds (state_of c) session) session number (state_of c).sets) }
-    ensures looks { Looks T.stands T.is_live T.is_clean T.leaves result tables.old tables.new }
+    ensures found { Sees (narrowed T.meaning (λ c. rows.now ≡ rows_in session number c)) result tables.old tables.new
+        (λ seeds c. set_facts (session_facts seeds (state_of c) session) session number (state_of c).sets) }
+    ensures looks { Looks T.meaning result tables.old tables.new }
 {
     selections_follow();
     match facts_by_row(tables, session, rows.session)? {
@@ -358,8 +380,8 @@ fn set_source<T: Tables>(
     number: u64,
     row: Option<SetSummary>,
 ) -> Result<Option<SetSource>, StoreFault>
-    ensures found { Sees T.stands T.is_live T.is_clean T.leaves result tables.old tables.new (λ seeds c. source_from row (set_at number c.sets)) }
-    ensures looks { Looks T.stands T.is_live T.is_clean T.leaves result tables.old tables.new }
+    ensures found { Sees T.meaning result tables.old tables.new (λ seeds c. source_from row (set_at number c.sets)) }
+    ensures looks { Looks T.meaning result tables.old tables.new }
 {
     let Some(row) = row else {
         return Ok(None);
@@ -376,8 +398,9 @@ fn set_source<T: Tables>(
 /// The verdicts on the answers to a vector set, where it has any.
 #[tactic(auto, unfolding(acvp_tables::specs::State::state_of))]
 fn set_verdicts<T: Tables>(tables: &mut T, number: u64) -> Result<Option<SetVerdicts>, StoreFault>
-    ensures found { Sees T.stands T.is_live T.is_clean T.leaves result tables.old tables.new (λ seeds c. option_and_then (verdicts_on_set seeds) (set_record_at number (state_of c).sets)) }
-    ensures looks { Looks T.stands T.is_live T.is_clean T.leaves result tables.old tables.new }
+    ensures found { Sees T.meaning result tables.old tables.new
+        (λ seeds c. option_and_then (verdicts_on_set seeds) (set_record_at number (state_of c).sets)) }
+    ensures looks { Looks T.meaning result tables.old tables.new }
 {
     selections_follow();
     match tables.verdicts(number)? {
@@ -394,8 +417,9 @@ fn submission<T: Tables>(
     number: u64,
     rows: &SetRows,
 ) -> Result<Option<Submission>, StoreFault>
-    ensures found { Sees (λ t c. T.stands t c × (rows.now ≡ rows_in session number c)) T.is_live T.is_clean T.leaves result tables.old tables.new (λ seeds c. submission_for seeds session number (state_of c).sets) }
-    ensures looks { Looks T.stands T.is_live T.is_clean T.leaves result tables.old tables.new }
+    ensures found { Sees (narrowed T.meaning (λ c. rows.now ≡ rows_in session number c)) result tables.old tables.new
+        (λ seeds c. submission_for seeds session number (state_of c).sets) }
+    ensures looks { Looks T.meaning result tables.old tables.new }
 {
     selections_follow();
     sets_are_there_once();
@@ -438,9 +462,10 @@ fn set_material<T: Tables>(
     wish: SetWish,
 ) -> Result<Material, StoreFault>
     requires { ((number / 100) == session) ≡ true }
-    ensures found { Sees (λ t c. T.stands t c × (rows.now ≡ rows_in session number c)) T.is_live T.is_clean T.leaves result tables.old tables.new (λ seeds c. set_material seeds session number (state_of c).sets wish) }
+    ensures found { Sees (narrowed T.meaning (λ c. rows.now ≡ rows_in session number c)) result tables.old tables.new
+        (λ seeds c. set_material seeds session number (state_of c).sets wish) }
     ensures fits { IfOk result (λ material. is_for_set wish material ≡ true) }
-    ensures looks { Looks T.stands T.is_live T.is_clean T.leaves result tables.old tables.new }
+    ensures looks { Looks T.meaning result tables.old tables.new }
 {
     selections_follow();
     numbers_name();
@@ -458,8 +483,9 @@ fn set_material<T: Tables>(
 
 /// What a list shows of a session.
 fn listed_session<T: Tables>(tables: &mut T, row: &SessionRow) -> Result<ListedSession, StoreFault>
-    ensures found { Sees T.stands T.is_live T.is_clean T.leaves result tables.old tables.new (λ seeds c. listed_session c.requests (session_record row.now)) }
-    ensures looks { Looks T.stands T.is_live T.is_clean T.leaves result tables.old tables.new }
+    ensures found { Sees T.meaning result tables.old tables.new
+        (λ seeds c. listed_session c.requests (session_record row.now)) }
+    ensures looks { Looks T.meaning result tables.old tables.new }
 {
     let certification = certification(tables, row.certify)?;
     Ok(ListedSession {
@@ -477,8 +503,9 @@ fn listed_sessions<T: Tables>(
     tables: &mut T,
     rows: &[SessionRow],
 ) -> Result<ListedSessions, StoreFault>
-    ensures found { Sees T.stands T.is_live T.is_clean T.leaves result tables.old tables.new (λ seeds c. map (listed_session c.requests) (map session_record rows.now)) }
-    ensures looks { Looks T.stands T.is_live T.is_clean T.leaves result tables.old tables.new }
+    ensures found { Sees T.meaning result tables.old tables.new
+        (λ seeds c. map (listed_session c.requests) (map session_record rows.now)) }
+    ensures looks { Looks T.meaning result tables.old tables.new }
 {
     let mut sessions = Vec::with_capacity(alloc, rows.len())?;
     for row in rows {
@@ -493,8 +520,9 @@ fn listed_sessions<T: Tables>(
 /// How many sessions an account has.
 #[tactic(auto, unfolding(acvp_tables::specs::State::state_of))]
 fn session_count<T: Tables>(tables: &mut T, account: u16) -> Result<u64, StoreFault>
-    ensures found { Sees T.stands T.is_live T.is_clean T.leaves result tables.old tables.new (λ seeds c. (record_counts account (state_of c)).sessions) }
-    ensures looks { Looks T.stands T.is_live T.is_clean T.leaves result tables.old tables.new }
+    ensures found { Sees T.meaning result tables.old tables.new
+        (λ seeds c. (record_counts account (state_of c)).sessions) }
+    ensures looks { Looks T.meaning result tables.old tables.new }
 {
     selections_follow();
     tables.count(account, Counted::Sessions)
@@ -508,9 +536,10 @@ fn sessions_material<T: Tables>(
     account: u16,
     page: Option<Page>,
 ) -> Result<Material, StoreFault>
-    ensures found { Sees T.stands T.is_live T.is_clean T.leaves result tables.old tables.new (λ seeds c. sessions_material account (state_of c) page) }
+    ensures found { Sees T.meaning result tables.old tables.new
+        (λ seeds c. sessions_material account (state_of c) page) }
     ensures fits { IfOk result (λ material. is_for_page page material ≡ true) }
-    ensures looks { Looks T.stands T.is_live T.is_clean T.leaves result tables.old tables.new }
+    ensures looks { Looks T.meaning result tables.old tables.new }
 {
     selections_follow();
     let Some(page) = page else {
@@ -538,11 +567,20 @@ fn set_place<T: Tables>(
     number: u64,
     wish: SetWish,
 ) -> Result<Place, StoreFault>
-    ensures found { Sees T.stands T.is_live T.is_clean T.leaves result tables.old tables.new (λ seeds c. record { subject = Subject.Set (record { session = session; set = number; found = set_facts (session_facts seeds (state_of c) session) session number (state_of c).sets }); material = set_material seeds session number (state_of c).sets wish }) }
-    ensures names { IfOk result (λ place. resource_of place.subject ≡ resource_of (unfound (Wish.Set session number wish))) }
+    ensures found { Sees T.meaning result tables.old tables.new
+        (λ seeds c. record {
+          subject = Subject.Set (record {
+            session = session;
+            set = number;
+            found = set_facts (session_facts seeds (state_of c) session) session number (state_of c).sets;
+          });
+          material = set_material seeds session number (state_of c).sets wish;
+        }) }
+    ensures names { IfOk result
+        (λ place. resource_of place.subject ≡ resource_of (unfound (Wish.Set session number wish))) }
     ensures within { IfOk result (λ place. is_within (Wish.Set session number wish) place.subject ≡ true) }
     ensures fits { IfOk result (λ place. is_for_set wish place.material ≡ true) }
-    ensures looks { Looks T.stands T.is_live T.is_clean T.leaves result tables.old tables.new }
+    ensures looks { Looks T.meaning result tables.old tables.new }
 {
     numbers_name();
     if number / SETS_OF_A_SESSION != session {
@@ -576,11 +614,12 @@ fn look_at<T: Tables>(
     body: &[u8],
     wish: &Wish,
 ) -> Result<Place, StoreFault>
-    ensures found { Sees T.stands T.is_live T.is_clean T.leaves result tables.old tables.new (λ seeds c. place_of seeds account body.now (state_of c) wish.now) }
+    ensures found { Sees T.meaning result tables.old tables.new
+        (λ seeds c. place_of seeds account body.now (state_of c) wish.now) }
     ensures names { IfOk result (λ place. resource_of place.subject ≡ resource_of (unfound wish.now)) }
     ensures within { IfOk result (λ place. is_within wish.now place.subject ≡ true) }
     ensures fits { IfOk result (λ place. is_for wish.now place.material ≡ true) }
-    ensures looks { Looks T.stands T.is_live T.is_clean T.leaves result tables.old tables.new }
+    ensures looks { Looks T.meaning result tables.old tables.new }
 {
     match *wish {
         Wish::Account(it) => Ok(Place {
@@ -649,13 +688,21 @@ pub(crate) fn find<T: Tables>(
     tables: &mut T,
     moment: u64,
     body: &[u8],
-    ask: &Ask,
+    ask: &Asker,
 ) -> Result<Found, Rule>
-    ensures found { Knows T.stands T.is_live T.is_clean T.leaves result tables.old tables.new (λ seeds c. found_of seeds body.now ask.now (state_of c)) }
+    ensures found { Knows T.meaning result tables.old tables.new
+        (λ seeds c. found_of seeds body.now ask.now (state_of c)) }
     ensures of { IfOk result (λ found. IsOf ask.now found) }
-    ensures open { IfOk result (λ found. IfChangeable ask.now found (T.is_clean tables.new → T.is_live tables.old)) }
-    ensures refused { IfErr result (λ rule. (rule ≡ Rule.Unavailable) ⊎ ((T.is_clean tables.new → T.is_live tables.old → T.is_live tables.new) × (T.is_clean tables.new → (seeds : List (List ℕ)) (c : Content) → IsKept seeds c → Holds T.stands T.is_live tables.old c → first_broken (policy_conditions moment ask.now (found_of seeds body.now ask.now (state_of c))) ≡ Some rule))) }
-    ensures looks { Looks T.stands T.is_live T.is_clean T.leaves result tables.old tables.new }
+    ensures admitted { IfOk result (IsAdmitted moment ask.now) }
+    ensures open { IfOk result
+        (λ found. IfChangeable ask.now found (T.meaning.is_clean tables.new → T.meaning.is_live tables.old)) }
+    ensures refused { IfErr result (λ rule. (rule ≡ Rule.Unavailable)
+        ⊎ ((T.meaning.is_clean tables.new → T.meaning.is_live tables.old → T.meaning.is_live tables.new)
+        × (T.meaning.is_clean tables.new → (seeds : List (List ℕ)) (c : Content) → IsKept seeds c
+        → Holds T.meaning tables.old c
+        → first_broken (policy_conditions moment ask.now (found_of seeds body.now ask.now (state_of c)))
+        ≡ Some rule))) }
+    ensures looks { Looks T.meaning result tables.old tables.new }
 {
     let Ok(account) = account(tables, who(ask)) else {
         return Err(Rule::Unavailable);
@@ -667,7 +714,7 @@ pub(crate) fn find<T: Tables>(
     if let Err(rule) = admit(ask.action(), &facts_for(moment, ask, &caller)) {
         return Err(rule);
     }
-    let Ask::Caller(asked) = ask else {
+    let Asker::Caller(asked) = ask else {
         return Ok(caller);
     };
     match look_at(alloc, tables, acting(&asked.token), body, &asked.wish) {

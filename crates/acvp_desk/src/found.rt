@@ -5,7 +5,7 @@ ghost use Rattle.acvp_desk.specs.Answer.{facts_from, standing_of, unfound_of};
 ghost use Rattle.acvp_desk.specs.Login.{step_of, login_facts};
 ghost use Rattle.acvp_desk.specs.Place.{unfound};
 
-use crate::ask::{Ask, LoginAsk};
+use crate::ask::{Asker, LoginAsk};
 use crate::own_rows::registry_subject;
 use crate::wish::Wish;
 use acvp_answers::{Disposition, Verdict};
@@ -15,7 +15,8 @@ use acvp_policy::{
     CertificationStatus, Facts, LoginFacts, ReviewerSubject, SessionSubject, SetSubject, Standing,
     Subject, Token, UserFacts,
 };
-use acvp_tables::{AccountRow, Counts, ObjectRow, RequestSummary};
+use acvp_registry::Counts;
+use acvp_tables::{AccountRow, ObjectRow, RequestSummary};
 use std::marker::Model;
 
 /// The numbers of vector sets, in their order.
@@ -263,12 +264,12 @@ fn unfound(wish: &Wish) -> Subject
 
 impl Found {
     /// Before anything is looked at that the path names.
-    pub fn nothing(ask: &Ask, account: Option<AccountRow>, reviewer: bool) -> Found
+    pub fn nothing(ask: &Asker, account: Option<AccountRow>, reviewer: bool) -> Found
         ensures { result ≡ unfound_of ask.now account reviewer }
     {
         let subject = match ask {
-            Ask::Login(_) => Subject::Account,
-            Ask::Caller(caller) => unfound(&caller.wish),
+            Asker::Login(_) => Subject::Account,
+            Asker::Caller(caller) => unfound(&caller.wish),
         };
         Found {
             account,
@@ -316,18 +317,18 @@ fn standing_of(account: &Option<AccountRow>) -> Standing
 }
 
 /// What the policy is asked about.
-pub(crate) fn facts_for(moment: u64, ask: &Ask, found: &Found) -> Facts
+pub(crate) fn facts_for(moment: u64, ask: &Asker, found: &Found) -> Facts
     ensures { result ≡ facts_from moment ask.now found.now }
 {
     match ask {
-        Ask::Login(login) => Facts {
+        Asker::Login(login) => Facts {
             moment,
             token: Token::Missing,
             standing: Standing::Absent,
             reviewer: false,
             subject: Subject::Login(login_facts(moment, login, &found.account)),
         },
-        Ask::Caller(caller) => Facts {
+        Asker::Caller(caller) => Facts {
             moment,
             token: caller.token,
             standing: standing_of(&found.account),

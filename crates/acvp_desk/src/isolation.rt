@@ -20,7 +20,8 @@ use acvp_tables::{
 /// What an order leaves of the rows that an account owns depends on the order and on these rows alone, whichever
 /// account it is; of every account but the one that the order is of it leaves them as they were.
 pub fn orders_are_apart()
-    ensures { (u : ℕ) (it : Order) (state : State) → IsWellNumbered state → own u (order_effect it state) ≡ own_after_order it u (own u state) }
+    ensures { (u : ℕ) (it : Order) (state : State) → IsWellNumbered state
+        → own u (order_effect it state) ≡ own_after_order it u (own u state) }
 {
     changes_are_of_one_account();
     numbers_name();
@@ -29,15 +30,19 @@ pub fn orders_are_apart()
 
 /// A request that names no account has the same answer whatever the records hold, and changes nothing.
 pub fn nobody_is_answered_alike()
-    ensures answer { (keys : Keys) (moment : ℕ) (r : RequestValue) (one other : State) → who_of keys moment r ≡ None → answer keys moment r one ≡ answer keys moment r other }
-    ensures change { (keys : Keys) (moment : ℕ) (r : RequestValue) (state : State) → who_of keys moment r ≡ None → accepted_change keys moment r state ≡ None }
-    ensures effect { (keys : Keys) (moment : ℕ) (r : RequestValue) (state : State) → who_of keys moment r ≡ None → effect keys moment r state ≡ state }
+    ensures answer { (keys : Keys) (moment : ℕ) (r : RequestValue) (one other : State) → who_of keys moment r ≡ None
+        → answer keys moment r one ≡ answer keys moment r other }
+    ensures change { (keys : Keys) (moment : ℕ) (r : RequestValue) (state : State) → who_of keys moment r ≡ None
+        → accepted_change keys moment r state ≡ None }
+    ensures effect { (keys : Keys) (moment : ℕ) (r : RequestValue) (state : State) → who_of keys moment r ≡ None
+        → effect keys moment r state ≡ state }
 {}
 
 /// What a request leaves of the rows that an account owns depends on the request and on these rows alone, whichever
 /// account it is; of every account but the one that the request is of it leaves them as they were.
 pub fn requests_are_apart()
-    ensures { (v : ℕ) (keys : Keys) (moment : ℕ) (r : RequestValue) (state : State) → IsWellNumbered state → own v (effect keys moment r state) ≡ own_after_request keys moment r v (own v state) }
+    ensures { (v : ℕ) (keys : Keys) (moment : ℕ) (r : RequestValue) (state : State) → IsWellNumbered state
+        → own v (effect keys moment r state) ≡ own_after_request keys moment r v (own v state) }
 {
     caller_rules_agree();
     callers_own_the_session();
@@ -50,10 +55,12 @@ pub fn requests_are_apart()
 
 /// A change that a request makes is of the account that the request is of; and who is added as a reviewer is asked for.
 pub fn changes_are_of_who_asks()
-    ensures account { (keys : Keys) (moment : ℕ) (r : RequestValue) (state : State) (u : ℕ) (it : Change) → IsWellNumbered state → who_of keys moment r ≡ Some u
+    ensures account { (keys : Keys) (moment : ℕ) (r : RequestValue) (state : State) (u : ℕ) (it : Change)
+        → IsWellNumbered state → who_of keys moment r ≡ Some u
         → accepted_change keys moment r state ≡ Some it → account_of_change it ≡ u }
     ensures reviewer { (keys : Keys) (moment : ℕ) (r : RequestValue) (state : State) (s a : ℕ)
-        → accepted_change keys moment r state ≡ Some (change.AddReviewer (record { session = s; account = a })) → reviewer_asked r ≡ Some a }
+        → accepted_change keys moment r state ≡ Some (change.AddReviewer (record { session = s; account = a }))
+        → reviewer_asked r ≡ Some a }
 {
     granted_resources();
     grants_name_the_account();
@@ -64,9 +71,11 @@ pub fn changes_are_of_who_asks()
 /// An account is answered alike in all records in which it sees the same. It sees the same where the rows are the same
 /// that it owns, and those of the sessions that it reviews.
 pub fn seen_rows_answer()
-    ensures alike { (u : ℕ) (keys : Keys) (moment : ℕ) (r : RequestValue) (one other : State) → IsWellNumbered one → IsWellNumbered other → who_of keys moment r ≡ Some u
+    ensures alike { (u : ℕ) (keys : Keys) (moment : ℕ) (r : RequestValue) (one other : State) → IsWellNumbered one
+        → IsWellNumbered other → who_of keys moment r ≡ Some u
         → SeesTheSame u one other → answer keys moment r one ≡ answer keys moment r other }
-    ensures seen { (u : ℕ) (one other : State) → IsWellNumbered one → IsWellNumbered other → seen u one ≡ seen u other → SeesTheSame u one other }
+    ensures seen { (u : ℕ) (one other : State) → IsWellNumbered one → IsWellNumbered other → seen u one ≡ seen u other
+        → SeesTheSame u one other }
 {
     caller_rules_agree();
     callers_own_the_session();

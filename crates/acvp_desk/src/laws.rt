@@ -25,7 +25,8 @@ use acvp_tables::{
 
 /// What a request or an order makes of what is kept is what it makes of the records of it.
 pub fn effects_follow()
-    ensures request { (keys : Keys) (moment : ℕ) (r : RequestValue) (c : Content) → state_of (content_effect keys moment r c) ≡ effect keys moment r (state_of c) }
+    ensures request { (keys : Keys) (moment : ℕ) (r : RequestValue) (c : Content)
+        → state_of (content_effect keys moment r c) ≡ effect keys moment r (state_of c) }
     ensures order { (it : Order) (c : Content) → state_of (content_order_effect it c) ≡ order_effect it (state_of c) }
 {
     state_follows();
@@ -34,8 +35,10 @@ pub fn effects_follow()
 /// What holds of the records at all times holds without a row, after a request, and after an order.
 pub fn records_are_kept()
     ensures start { (seeds : List (List ℕ)) → IsKept seeds no_rows }
-    ensures request { (keys : Keys) (moment : ℕ) (r : RequestValue) (c : Content) → IsKept keys.seed c → IsKept keys.seed (content_effect keys moment r c) }
-    ensures order { (seeds : List (List ℕ)) (it : Order) (c : Content) → IsOrder it → HasSecret it → IsKept seeds c → IsKept seeds (content_order_effect it c) }
+    ensures request { (keys : Keys) (moment : ℕ) (r : RequestValue) (c : Content) → IsKept keys.seed c
+        → IsKept keys.seed (content_effect keys moment r c) }
+    ensures order { (seeds : List (List ℕ)) (it : Order) (c : Content) → IsOrder it → HasSecret it → IsKept seeds c
+        → IsKept seeds (content_order_effect it c) }
 {
     records_begin_well();
     state_follows();
@@ -51,23 +54,30 @@ pub fn records_are_kept()
 
 /// The reply to a request that is accepted shows an object, where what is kept is right and there is a seed.
 pub fn accepted_requests_are_told()
-    ensures { (keys : Keys) (moment : ℕ) (r : RequestValue) (c : Content) → IsKept keys.seed c → 1 ≤ length keys.seed → IfOk (answer keys moment r (state_of c)) (λ object. is_some object ≡ true) }
+    ensures { (keys : Keys) (moment : ℕ) (r : RequestValue) (c : Content) → IsKept keys.seed c → 1 ≤ length keys.seed
+        → IfOk (answer keys moment r (state_of c)) (λ object. is_some object ≡ true) }
 {
     selections_follow();
 }
 
 /// No answer is that the server is unavailable: that is said for want of memory or of the store alone.
 pub fn no_answer_is_unavailable()
-    ensures { (keys : Keys) (moment : ℕ) (r : RequestValue) (state : State) → answer keys moment r state ≡ Err rule.Unavailable → ⊥ }
+    ensures { (keys : Keys) (moment : ℕ) (r : RequestValue) (state : State)
+        → answer keys moment r state ≡ Err rule.Unavailable → ⊥ }
 {}
 
 /// The list that is told to who adds or removes a reviewer of a session is that of its reviewers after the change.
 pub fn reviewers_are_told()
-    ensures added { (session account : ℕ) (rows : List ReviewerRow) → is_account_number account ≡ true → with_account account (reviewers_of session rows) ≡ reviewers_of session (reviewers_after (change.AddReviewer (record { session = session; account = account })) rows) }
-    ensures removed { (session account : ℕ) (rows : List ReviewerRow) → without_account account (reviewers_of session rows) ≡ reviewers_of session (reviewers_after (change.RemoveReviewer (record { session = session; account = account })) rows) }
+    ensures added { (session account : ℕ) (rows : List ReviewerRow) → is_account_number account ≡ true
+        → with_account account (reviewers_of session rows) ≡ reviewers_of session
+        (reviewers_after (change.AddReviewer (record { session = session; account = account })) rows) }
+    ensures removed { (session account : ℕ) (rows : List ReviewerRow)
+        → without_account account (reviewers_of session rows) ≡ reviewers_of session
+        (reviewers_after (change.RemoveReviewer (record { session = session; account = account })) rows) }
 {}
 
 /// The bytes of the body that names a rule.
 pub fn errors_are_named()
-    ensures { (rule : Rule) → error_body rule ≡ codes "[{\"acvVersion\":\"1.0\"},{\"error\":\"" ++ rule_word rule ++ codes "\"}]" }
+    ensures { (rule : Rule) → error_body rule
+        ≡ codes "[{\"acvVersion\":\"1.0\"},{\"error\":\"" ++ rule_word rule ++ codes "\"}]" }
 {}

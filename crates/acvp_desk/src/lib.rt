@@ -17,7 +17,9 @@ pub use laws::{
     records_are_kept, reviewers_are_told,
 };
 pub use order::{Order, OrderReply, order_on};
-pub use request::{Numbers, TokenField, TypedRequest};
+pub use page::page_of;
+pub use request::{Ask, TokenField, TypedRequest};
+pub use wish::{AccountWish, Registry, RegistryWish, SessionWish, SetWish, Wish};
 
 mod account;
 mod ask;

@@ -63,7 +63,8 @@ fn told_sessions(
     total: u64,
     listed: &[ListedSession],
 ) -> Result<Draft, Rule>
-    ensures reply { IfOk result (λ draft. IsReply draft.reply.items (Some (page_data session_row_data (codes "/acvp/v1/testSessions") page total (map listed_shown listed.now)))) }
+    ensures reply { IfOk result (λ draft. IsReply draft.reply.items
+        (Some (page_data session_row_data (codes "/acvp/v1/testSessions") page total (map listed_shown listed.now)))) }
     ensures change { IfOk result (λ draft. draft.change ≡ None) }
     ensures denied { IfErr result (λ rule. rule ≡ Rule.Unavailable) }
 {
@@ -86,7 +87,8 @@ pub(crate) fn draft_sessions(
     ensures held { IfOk result (λ _. first_broken (page_conditions page) ≡ None) }
     ensures reply { IfOk result (λ draft. IsReply draft.reply.items (sessions_reply page material.now)) }
     ensures change { IfOk result (λ draft. draft.change ≡ None) }
-    ensures denied { IfErr result (λ rule. (rule ≡ Rule.Unavailable) ⊎ (first_broken (page_conditions page) ≡ Some rule)) }
+    ensures denied { IfErr result (λ rule. (rule ≡ Rule.Unavailable)
+        ⊎ (first_broken (page_conditions page) ≡ Some rule)) }
 {
     let Some(page) = page else {
         return Err(Rule::BadPage);

@@ -9,7 +9,8 @@ ghost use Rattle.acvp_tables.specs.State.{first_of_session};
 ghost use Rattle.acvp_tables.specs.declared.change.Change.TheVariants as change;
 ghost use Rattle.acvp_desk.specs.Answer.{end_of_moments, IsReply};
 ghost use Rattle.acvp_desk.specs.Bodies.{body_conditions, registration_rule};
-ghost use Rattle.acvp_desk.specs.NewSessions.{sessions_in_material, has_number_left, new_session_in, newest_epoch, session_made_data};
+ghost use Rattle.acvp_desk.specs.NewSessions.{sessions_in_material, has_number_left, new_session_in, newest_epoch};
+ghost use Rattle.acvp_desk.specs.NewSessions.{session_made_data};
 ghost use Rattle.acvp_desk.specs.Place.{has_session_count};
 
 use crate::body::registration_body;
@@ -103,10 +104,15 @@ pub(crate) fn draft_new_session(
 ) -> Result<Draft, Rule>
     requires moment { moment < end_of_moments }
     requires material { has_session_count material.now ≡ true }
-    ensures held { IfOk result (λ _. first_broken (body_conditions registration_rule registration_conditions body.now ++ (has_number_left (sessions_in_material material.now), rule.AccountFull) ∷ []) ≡ None) }
-    ensures reply { IfOk result (λ draft. IsReply draft.reply.items (option_map (session_made_data ring.now) (new_session_in seeds.now moment account body.now material.now))) }
-    ensures change { IfOk result (λ draft. draft.change ≡ option_map change.NewSession (new_session_in seeds.now moment account body.now material.now)) }
-    ensures denied { IfErr result (λ denied. (denied ≡ Rule.Unavailable) ⊎ (first_broken (body_conditions registration_rule registration_conditions body.now ++ (has_number_left (sessions_in_material material.now), rule.AccountFull) ∷ []) ≡ Some denied)) }
+    ensures held { IfOk result (λ _. first_broken (body_conditions registration_rule registration_conditions body.now
+        ++ (has_number_left (sessions_in_material material.now), rule.AccountFull) ∷ []) ≡ None) }
+    ensures reply { IfOk result (λ draft. IsReply draft.reply.items
+        (option_map (session_made_data ring.now) (new_session_in seeds.now moment account body.now material.now))) }
+    ensures change { IfOk result (λ draft. draft.change
+        ≡ option_map change.NewSession (new_session_in seeds.now moment account body.now material.now)) }
+    ensures denied { IfErr result (λ denied. (denied ≡ Rule.Unavailable)
+        ⊎ (first_broken (body_conditions registration_rule registration_conditions body.now
+        ++ (has_number_left (sessions_in_material material.now), rule.AccountFull) ∷ []) ≡ Some denied)) }
 {
     joined_conditions::<Rule>();
     let registration = match registration_body(alloc, body) {

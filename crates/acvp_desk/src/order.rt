@@ -48,7 +48,7 @@ pub enum OrderReply {
 /// Adds an account that isn't there.
 #[tactic(auto, unfolding(crate::specs::Orders::order_reply, crate::specs::Orders::order_change))]
 fn add<T: Tables>(tables: &mut T, account: u16, secret: [u8; 32]) -> OrderReply
-    ensures { Orders T.stands T.is_live T.is_clean T.leaves result tables.old tables.new (order.AddAccount account secret) }
+    ensures { Orders T.meaning result tables.old tables.new (order.AddAccount account secret) }
 {
     match tables.account(account) {
         Err(_) => OrderReply::Unavailable,
@@ -66,7 +66,7 @@ fn add<T: Tables>(tables: &mut T, account: u16, secret: [u8; 32]) -> OrderReply
 /// Disables an account that is there.
 #[tactic(auto, unfolding(crate::specs::Orders::order_reply, crate::specs::Orders::order_change))]
 fn disable<T: Tables>(tables: &mut T, account: u16) -> OrderReply
-    ensures { Orders T.stands T.is_live T.is_clean T.leaves result tables.old tables.new (order.DisableAccount account) }
+    ensures { Orders T.meaning result tables.old tables.new (order.DisableAccount account) }
 {
     match tables.account(account) {
         Err(_) => OrderReply::Unavailable,
@@ -120,8 +120,9 @@ fn registered(kind: Kind, so_many: u64) -> u64
 /// The number that an approval gives to what is registered of a kind.
 #[tactic(auto, unfolding(acvp_tables::specs::State::state_of))]
 fn registered_number<T: Tables>(tables: &mut T, account: u16, kind: Kind) -> Result<u64, StoreFault>
-    ensures found { T.is_live tables.new → IfOk result (λ number. (c : Content) → IsSound c → T.stands tables.old c → number ≡ approved_as (state_of c) account (asks.Registration kind)) }
-    ensures reads { Reads T.faults T.stands T.is_live T.is_clean T.leaves result tables.old tables.new }
+    ensures found { T.meaning.is_live tables.new → IfOk result (λ number. (c : Content) → IsSound c
+        → T.meaning.stands tables.old c → number ≡ approved_as (state_of c) account (asks.Registration kind)) }
+    ensures reads { Reads T.faults T.meaning result tables.old tables.new }
 {
     selections_follow();
     numbers_count();
@@ -132,8 +133,10 @@ fn registered_number<T: Tables>(tables: &mut T, account: u16, kind: Kind) -> Res
 /// The request of a number, as far as the operator's decision goes.
 #[tactic(auto, unfolding(acvp_tables::specs::State::state_of))]
 fn find_waiting<T: Tables>(tables: &mut T, number: u64) -> Result<Option<Waiting>, StoreFault>
-    ensures found { T.is_live tables.new → IfOk result (λ waiting. (c : Content) → IsSound c → T.stands tables.old c → waiting ≡ option_map (waiting_in (state_of c)) (request_at number c.requests)) }
-    ensures reads { Reads T.faults T.stands T.is_live T.is_clean T.leaves result tables.old tables.new }
+    ensures found { T.meaning.is_live tables.new
+        → IfOk result (λ waiting. (c : Content) → IsSound c → T.meaning.stands tables.old c
+        → waiting ≡ option_map (waiting_in (state_of c)) (request_at number c.requests)) }
+    ensures reads { Reads T.faults T.meaning result tables.old tables.new }
 {
     let Some(request) = tables.request(number)? else {
         return Ok(None);
@@ -151,7 +154,7 @@ fn find_waiting<T: Tables>(tables: &mut T, number: u64) -> Result<Option<Waiting
 
 /// Approves a request that waits.
 fn approve<T: Tables>(tables: &mut T, number: u64) -> OrderReply
-    ensures { Orders T.stands T.is_live T.is_clean T.leaves result tables.old tables.new (order.ApproveRequest number) }
+    ensures { Orders T.meaning result tables.old tables.new (order.ApproveRequest number) }
 {
     let waiting = match find_waiting(tables, number) {
         Err(_) => return OrderReply::Unavailable,
@@ -173,7 +176,7 @@ fn approve<T: Tables>(tables: &mut T, number: u64) -> OrderReply
 
 /// Rejects a request that waits.
 fn reject<T: Tables>(tables: &mut T, number: u64) -> OrderReply
-    ensures { Orders T.stands T.is_live T.is_clean T.leaves result tables.old tables.new (order.RejectRequest number) }
+    ensures { Orders T.meaning result tables.old tables.new (order.RejectRequest number) }
 {
     let request = match tables.request(number) {
         Err(_) => return OrderReply::Unavailable,
@@ -193,7 +196,7 @@ fn reject<T: Tables>(tables: &mut T, number: u64) -> OrderReply
 #[tactic(auto, unfolding(crate::specs::Orders::order_reply, crate::specs::Orders::order_change))]
 pub fn order_on<T: Tables>(tables: &mut T, order: &Order) -> OrderReply
     requires { IsOrder order.now }
-    ensures { Orders T.stands T.is_live T.is_clean T.leaves result tables.old tables.new order.now }
+    ensures { Orders T.meaning result tables.old tables.new order.now }
 {
     match *order {
         Order::AddAccount { account, secret } => add(tables, account, secret),

@@ -4,12 +4,14 @@ ghost use Rattle.std.specs.Prelude.{◌≡◌, ◌||◌, not, true, false, is_so
 ghost use Rattle.acvp_policy.specs.Conditions.{is_none_or};
 ghost use Rattle.acvp_policy.specs.Resource.{resource_of};
 ghost use Rattle.acvp_registry.specs.Object.{object_vendor};
-ghost use Rattle.acvp_tables.specs.Content.{Content, request_summary};
+ghost use Rattle.acvp_tables.specs.Content.{request_summary};
 ghost use Rattle.acvp_tables.specs.State.{state_of};
-ghost use Rattle.acvp_desk.specs.Asked.{certification_asked, certified_in, has_own_parts, has_own_vendor, object_in, registration_asked};
+ghost use Rattle.acvp_desk.specs.Asked.{certification_asked, certified_in, has_own_parts, has_own_vendor, object_in};
+ghost use Rattle.acvp_desk.specs.Asked.{registration_asked};
 ghost use Rattle.acvp_desk.specs.Kept.{IsKept};
 ghost use Rattle.acvp_desk.specs.Place.{has_objects, has_requests, is_for_registry, registry_material};
-ghost use Rattle.acvp_desk.specs.Registries.{has_row, kind_of, objects_material, own_object, own_request, registry_subject, requests_material, row_subject};
+ghost use Rattle.acvp_desk.specs.Registries.{has_row, kind_of, objects_material, own_object, own_request};
+ghost use Rattle.acvp_desk.specs.Registries.{registry_subject, requests_material, row_subject};
 ghost use Rattle.acvp_desk.specs.Serves.{Looks, Sees};
 
 use crate::body::{certify_read, object_read};
@@ -58,8 +60,9 @@ fn has_object<T: Tables>(
     account: u16,
     number: u64,
 ) -> Result<bool, StoreFault>
-    ensures found { Sees T.stands T.is_live T.is_clean T.leaves result tables.old tables.new (λ seeds c. is_some (own_object kind account number c.objects)) }
-    ensures looks { Looks T.stands T.is_live T.is_clean T.leaves result tables.old tables.new }
+    ensures found { Sees T.meaning result tables.old tables.new
+        (λ seeds c. is_some (own_object kind account number c.objects)) }
+    ensures looks { Looks T.meaning result tables.old tables.new }
 {
     numbers_name();
     if !is_of_account(number, account) {
@@ -79,8 +82,8 @@ fn own_object<T: Tables>(
     account: u16,
     number: u64,
 ) -> Result<Option<ObjectRow>, StoreFault>
-    ensures found { Sees T.stands T.is_live T.is_clean T.leaves result tables.old tables.new (λ seeds c. own_object kind account number c.objects) }
-    ensures looks { Looks T.stands T.is_live T.is_clean T.leaves result tables.old tables.new }
+    ensures found { Sees T.meaning result tables.old tables.new (λ seeds c. own_object kind account number c.objects) }
+    ensures looks { Looks T.meaning result tables.old tables.new }
 {
     numbers_name();
     if !is_of_account(number, account) {
@@ -99,8 +102,9 @@ fn own_request<T: Tables>(
     account: u16,
     number: u64,
 ) -> Result<Option<RequestSummary>, StoreFault>
-    ensures found { Sees T.stands T.is_live T.is_clean T.leaves result tables.old tables.new (λ seeds c. option_map request_summary (own_request account number c.requests)) }
-    ensures looks { Looks T.stands T.is_live T.is_clean T.leaves result tables.old tables.new }
+    ensures found { Sees T.meaning result tables.old tables.new
+        (λ seeds c. option_map request_summary (own_request account number c.requests)) }
+    ensures looks { Looks T.meaning result tables.old tables.new }
 {
     numbers_name();
     if !is_of_account(number, account) {
@@ -119,8 +123,8 @@ pub(crate) fn has_row<T: Tables>(
     account: u16,
     wish: RegistryWish,
 ) -> Result<bool, StoreFault>
-    ensures found { Sees T.stands T.is_live T.is_clean T.leaves result tables.old tables.new (λ seeds c. has_row account (state_of c) wish) }
-    ensures looks { Looks T.stands T.is_live T.is_clean T.leaves result tables.old tables.new }
+    ensures found { Sees T.meaning result tables.old tables.new (λ seeds c. has_row account (state_of c) wish) }
+    ensures looks { Looks T.meaning result tables.old tables.new }
 {
     match wish {
         RegistryWish::Read(registry, number) => {
@@ -140,9 +144,10 @@ fn objects_material<T: Tables>(
     account: u16,
     page: Option<Page>,
 ) -> Result<Material, StoreFault>
-    ensures found { Sees T.stands T.is_live T.is_clean T.leaves result tables.old tables.new (λ seeds c. objects_material (kind_of registry) account c.objects page) }
+    ensures found { Sees T.meaning result tables.old tables.new
+        (λ seeds c. objects_material (kind_of registry) account c.objects page) }
     ensures fits { IfOk result (λ material. (not (is_some page) || has_objects material) ≡ true) }
-    ensures looks { Looks T.stands T.is_live T.is_clean T.leaves result tables.old tables.new }
+    ensures looks { Looks T.meaning result tables.old tables.new }
 {
     let Some(page) = page else {
         return Ok(Material::Nothing);
@@ -159,9 +164,9 @@ fn requests_material<T: Tables>(
     account: u16,
     page: Option<Page>,
 ) -> Result<Material, StoreFault>
-    ensures found { Sees T.stands T.is_live T.is_clean T.leaves result tables.old tables.new (λ seeds c. requests_material account c.requests page) }
+    ensures found { Sees T.meaning result tables.old tables.new (λ seeds c. requests_material account c.requests page) }
     ensures fits { IfOk result (λ material. (not (is_some page) || has_requests material) ≡ true) }
-    ensures looks { Looks T.stands T.is_live T.is_clean T.leaves result tables.old tables.new }
+    ensures looks { Looks T.meaning result tables.old tables.new }
 {
     let Some(page) = page else {
         return Ok(Material::Nothing);
@@ -179,8 +184,9 @@ fn has_own_vendor<T: Tables>(
     account: u16,
     object: &Object,
 ) -> Result<bool, StoreFault>
-    ensures found { Sees T.stands T.is_live T.is_clean T.leaves result tables.old tables.new (λ seeds c. has_own_vendor account c.objects object.now) }
-    ensures looks { Looks T.stands T.is_live T.is_clean T.leaves result tables.old tables.new }
+    ensures found { Sees T.meaning result tables.old tables.new
+        (λ seeds c. has_own_vendor account c.objects object.now) }
+    ensures looks { Looks T.meaning result tables.old tables.new }
 {
     match object.vendor() {
         Some(vendor) => has_object(tables, Kind::Vendor, account, vendor),
@@ -194,8 +200,8 @@ fn has_own_parts<T: Tables>(
     account: u16,
     body: CertifyBody,
 ) -> Result<bool, StoreFault>
-    ensures found { Sees T.stands T.is_live T.is_clean T.leaves result tables.old tables.new (λ seeds c. has_own_parts account c.objects body) }
-    ensures looks { Looks T.stands T.is_live T.is_clean T.leaves result tables.old tables.new }
+    ensures found { Sees T.meaning result tables.old tables.new (λ seeds c. has_own_parts account c.objects body) }
+    ensures looks { Looks T.meaning result tables.old tables.new }
 {
     let has_module = has_object(tables, Kind::Module, account, body.module)?;
     let has_environment = has_object(tables, Kind::Environment, account, body.environment)?;
@@ -210,8 +216,9 @@ fn registration_named<T: Tables>(
     account: u16,
     body: &[u8],
 ) -> Result<bool, StoreFault>
-    ensures found { Sees T.stands T.is_live T.is_clean T.leaves result tables.old tables.new (λ seeds c. is_none_or (object_in kind body.now) (has_own_vendor account c.objects)) }
-    ensures looks { Looks T.stands T.is_live T.is_clean T.leaves result tables.old tables.new }
+    ensures found { Sees T.meaning result tables.old tables.new
+        (λ seeds c. is_none_or (object_in kind body.now) (has_own_vendor account c.objects)) }
+    ensures looks { Looks T.meaning result tables.old tables.new }
 {
     match object_read(alloc, kind, body)? {
         Ok(object) => has_own_vendor(tables, account, &object),
@@ -226,8 +233,9 @@ fn certification_named<T: Tables>(
     account: u16,
     body: &[u8],
 ) -> Result<bool, StoreFault>
-    ensures found { Sees T.stands T.is_live T.is_clean T.leaves result tables.old tables.new (λ seeds c. is_none_or (certified_in body.now) (has_own_parts account c.objects)) }
-    ensures looks { Looks T.stands T.is_live T.is_clean T.leaves result tables.old tables.new }
+    ensures found { Sees T.meaning result tables.old tables.new
+        (λ seeds c. is_none_or (certified_in body.now) (has_own_parts account c.objects)) }
+    ensures looks { Looks T.meaning result tables.old tables.new }
 {
     match certify_read(alloc, body)? {
         Ok(parts) => has_own_parts(tables, account, parts),
@@ -244,8 +252,9 @@ fn registration_asked<T: Tables>(
     account: u16,
     body: &[u8],
 ) -> Result<Asked, StoreFault>
-    ensures found { Sees T.stands T.is_live T.is_clean T.leaves result tables.old tables.new (λ seeds c. registration_asked kind account body.now (state_of c)) }
-    ensures looks { Looks T.stands T.is_live T.is_clean T.leaves result tables.old tables.new }
+    ensures found { Sees T.meaning result tables.old tables.new
+        (λ seeds c. registration_asked kind account body.now (state_of c)) }
+    ensures looks { Looks T.meaning result tables.old tables.new }
 {
     let named = registration_named(alloc, tables, kind, account, body)?;
     let requests = tables.count(account, Counted::Requests)?;
@@ -260,8 +269,9 @@ pub(crate) fn certification_asked<T: Tables>(
     account: u16,
     body: &[u8],
 ) -> Result<Asked, StoreFault>
-    ensures found { Sees T.stands T.is_live T.is_clean T.leaves result tables.old tables.new (λ seeds c. certification_asked account body.now (state_of c)) }
-    ensures looks { Looks T.stands T.is_live T.is_clean T.leaves result tables.old tables.new }
+    ensures found { Sees T.meaning result tables.old tables.new
+        (λ seeds c. certification_asked account body.now (state_of c)) }
+    ensures looks { Looks T.meaning result tables.old tables.new }
 {
     let named = certification_named(alloc, tables, account, body)?;
     let requests = tables.count(account, Counted::Requests)?;
@@ -279,9 +289,10 @@ pub(crate) fn registry_material<T: Tables>(
     body: &[u8],
     wish: RegistryWish,
 ) -> Result<Material, StoreFault>
-    ensures found { Sees T.stands T.is_live T.is_clean T.leaves result tables.old tables.new (λ seeds c. registry_material account body.now (state_of c) wish) }
+    ensures found { Sees T.meaning result tables.old tables.new
+        (λ seeds c. registry_material account body.now (state_of c) wish) }
     ensures fits { IfOk result (λ material. is_for_registry wish material ≡ true) }
-    ensures looks { Looks T.stands T.is_live T.is_clean T.leaves result tables.old tables.new }
+    ensures looks { Looks T.meaning result tables.old tables.new }
 {
     match wish {
         RegistryWish::Read(registry, number) => Ok(Material::Object(own_object(

@@ -100,14 +100,15 @@ fn page_of_one(part: &[u8]) -> Option<Page>
 
 /// The page that two pairs ask for.
 fn page_of_both(first: &[u8], second: &[u8]) -> Option<Page>
-    ensures { result ≡ option_and_then page_by (and_others (pair_of first.now) (and_others (pair_of second.now) (Some []))) }
+    ensures { result ≡ option_and_then page_by
+        (and_others (pair_of first.now) (and_others (pair_of second.now) (Some []))) }
 {
     page_by_both(pair_of(first)?, pair_of(second)?)
 }
 
 /// The page that a query asks for. Of three pairs two have the same name.
 #[tactic(auto, unfolding(crate::specs::Pages::page_of))]
-pub(crate) fn page_of(query: &[u8]) -> Option<Page>
+pub fn page_of(query: &[u8]) -> Option<Page>
     ensures { result ≡ page_of query.now }
 {
     if query.is_empty() {

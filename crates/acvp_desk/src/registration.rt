@@ -5,7 +5,9 @@ ghost use Rattle.acvp_json.specs.Registry.{request_data};
 ghost use Rattle.acvp_mac.specs.Conditions.{first_broken};
 ghost use Rattle.acvp_registry.specs.declared.kind.Kind.TheVariants as of_kind;
 ghost use Rattle.acvp_desk.specs.Answer.{IsReply};
-ghost use Rattle.acvp_desk.specs.Asked.{asked_conditions, asked_in, asked_reply, certification_change, certification_conditions_on, next_request, registration_change, registration_conditions_on, request_waiting};
+ghost use Rattle.acvp_desk.specs.Asked.{asked_conditions, asked_in, asked_reply, certification_change};
+ghost use Rattle.acvp_desk.specs.Asked.{certification_conditions_on, next_request, registration_change};
+ghost use Rattle.acvp_desk.specs.Asked.{registration_conditions_on, request_waiting};
 ghost use Rattle.acvp_desk.specs.Place.{is_asked};
 
 use crate::body::{certify_read, object_read};
@@ -33,7 +35,8 @@ fn found_asked(material: &Material) -> Asked
 /// The number of the account's next request, or the rule of the first condition beside those on the body that doesn't
 /// hold.
 pub(crate) fn next_request(account: u16, asked: Asked) -> Result<u64, Rule>
-    ensures ok { IfOk result (λ number. (first_broken (asked_conditions (Some asked)) ≡ None) × (number ≡ next_request account asked)) }
+    ensures ok { IfOk result (λ number. (first_broken (asked_conditions (Some asked)) ≡ None)
+        × (number ≡ next_request account asked)) }
     ensures err { IfErr result (λ rule. first_broken (asked_conditions (Some asked)) ≡ Some rule) }
 {
     if !asked.named {
@@ -48,7 +51,8 @@ pub(crate) fn next_request(account: u16, asked: Asked) -> Result<u64, Rule>
 /// What is told of a request that waits for the operator's decision.
 #[tactic(auto, unfolding(acvp_json::specs::ReplyData::reply_data))]
 fn told_waiting(alloc: Global, number: u64, kind: Kind, change: Change) -> Result<Draft, Rule>
-    ensures reply { IfOk result (λ draft. IsReply draft.reply.items (Some (request_data (request_waiting kind number)))) }
+    ensures reply { IfOk result
+        (λ draft. IsReply draft.reply.items (Some (request_data (request_waiting kind number)))) }
     ensures change { IfOk result (λ draft. draft.change ≡ Some change) }
     ensures denied { IfErr result (λ rule. rule ≡ Rule.Unavailable) }
 {
@@ -70,10 +74,14 @@ pub(crate) fn draft_registration(
     material: &Material,
 ) -> Result<Draft, Rule>
     requires { is_asked material.now ≡ true }
-    ensures held { IfOk result (λ _. first_broken (registration_conditions_on kind body.now (asked_in material.now)) ≡ None) }
-    ensures reply { IfOk result (λ draft. IsReply draft.reply.items (asked_reply kind account (asked_in material.now))) }
-    ensures change { IfOk result (λ draft. draft.change ≡ registration_change kind account body.now (asked_in material.now)) }
-    ensures denied { IfErr result (λ rule. (rule ≡ Rule.Unavailable) ⊎ (first_broken (registration_conditions_on kind body.now (asked_in material.now)) ≡ Some rule)) }
+    ensures held { IfOk result (λ _. first_broken (registration_conditions_on kind body.now (asked_in material.now))
+        ≡ None) }
+    ensures reply { IfOk result
+        (λ draft. IsReply draft.reply.items (asked_reply kind account (asked_in material.now))) }
+    ensures change { IfOk result
+        (λ draft. draft.change ≡ registration_change kind account body.now (asked_in material.now)) }
+    ensures denied { IfErr result (λ rule. (rule ≡ Rule.Unavailable)
+        ⊎ (first_broken (registration_conditions_on kind body.now (asked_in material.now)) ≡ Some rule)) }
 {
     joined_conditions::<Rule>();
     let object = match object_read(alloc, kind, body) {
@@ -102,10 +110,14 @@ pub(crate) fn draft_certification(
     material: &Material,
 ) -> Result<Draft, Rule>
     requires { is_asked material.now ≡ true }
-    ensures held { IfOk result (λ _. first_broken (certification_conditions_on body.now (asked_in material.now)) ≡ None) }
-    ensures reply { IfOk result (λ draft. IsReply draft.reply.items (asked_reply of_kind.Certification account (asked_in material.now))) }
-    ensures change { IfOk result (λ draft. draft.change ≡ certification_change account session body.now (asked_in material.now)) }
-    ensures denied { IfErr result (λ rule. (rule ≡ Rule.Unavailable) ⊎ (first_broken (certification_conditions_on body.now (asked_in material.now)) ≡ Some rule)) }
+    ensures held { IfOk result (λ _. first_broken (certification_conditions_on body.now (asked_in material.now))
+        ≡ None) }
+    ensures reply { IfOk result
+        (λ draft. IsReply draft.reply.items (asked_reply of_kind.Certification account (asked_in material.now))) }
+    ensures change { IfOk result
+        (λ draft. draft.change ≡ certification_change account session body.now (asked_in material.now)) }
+    ensures denied { IfErr result (λ rule. (rule ≡ Rule.Unavailable)
+        ⊎ (first_broken (certification_conditions_on body.now (asked_in material.now)) ≡ Some rule)) }
 {
     joined_conditions::<Rule>();
     let parts = match certify_read(alloc, body) {

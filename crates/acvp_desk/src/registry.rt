@@ -9,7 +9,8 @@ ghost use Rattle.acvp_registry.specs.declared.kind.Kind.TheVariants.{Certificati
 ghost use Rattle.acvp_desk.specs.Answer.{IsReply};
 ghost use Rattle.acvp_desk.specs.OwnConditions.{page_conditions, registry_conditions};
 ghost use Rattle.acvp_desk.specs.Place.{is_for_registry};
-ghost use Rattle.acvp_desk.specs.Registries.{kind_asked, kind_of, object_reply, object_shown, objects_reply, request_reply, request_shown, requests_reply, status_shown};
+ghost use Rattle.acvp_desk.specs.Registries.{kind_asked, kind_of, object_reply, object_shown, objects_reply};
+ghost use Rattle.acvp_desk.specs.Registries.{request_reply, request_shown, requests_reply, status_shown};
 ghost use Rattle.acvp_desk.specs.Replies.{registry_change, registry_reply};
 
 use crate::draft::{Draft, told};
@@ -121,7 +122,8 @@ fn told_objects(
     total: u64,
     rows: &[ObjectRow],
 ) -> Result<Draft, Rule>
-    ensures reply { IfOk result (λ draft. IsReply draft.reply.items (Some (page_data object_shown (list_path kind) page total rows.now))) }
+    ensures reply { IfOk result
+        (λ draft. IsReply draft.reply.items (Some (page_data object_shown (list_path kind) page total rows.now))) }
     ensures change { IfOk result (λ draft. draft.change ≡ None) }
     ensures denied { IfErr result (λ rule. rule ≡ Rule.Unavailable) }
 {
@@ -145,7 +147,8 @@ fn told_requests(
     total: u64,
     rows: &[RequestSummary],
 ) -> Result<Draft, Rule>
-    ensures reply { IfOk result (λ draft. IsReply draft.reply.items (Some (page_data request_data (list_path Certification) page total (map request_shown rows.now)))) }
+    ensures reply { IfOk result (λ draft. IsReply draft.reply.items
+        (Some (page_data request_data (list_path Certification) page total (map request_shown rows.now)))) }
     ensures change { IfOk result (λ draft. draft.change ≡ None) }
     ensures denied { IfErr result (λ rule. rule ≡ Rule.Unavailable) }
 {
@@ -170,7 +173,8 @@ fn draft_objects(
     ensures held { IfOk result (λ _. first_broken (page_conditions page) ≡ None) }
     ensures reply { IfOk result (λ draft. IsReply draft.reply.items (objects_reply kind page material.now)) }
     ensures change { IfOk result (λ draft. draft.change ≡ None) }
-    ensures denied { IfErr result (λ rule. (rule ≡ Rule.Unavailable) ⊎ (first_broken (page_conditions page) ≡ Some rule)) }
+    ensures denied { IfErr result (λ rule. (rule ≡ Rule.Unavailable)
+        ⊎ (first_broken (page_conditions page) ≡ Some rule)) }
 {
     let Some(page) = page else {
         return Err(Rule::BadPage);
@@ -186,7 +190,8 @@ fn draft_requests(alloc: Global, page: Option<Page>, material: &Material) -> Res
     ensures held { IfOk result (λ _. first_broken (page_conditions page) ≡ None) }
     ensures reply { IfOk result (λ draft. IsReply draft.reply.items (requests_reply page material.now)) }
     ensures change { IfOk result (λ draft. draft.change ≡ None) }
-    ensures denied { IfErr result (λ rule. (rule ≡ Rule.Unavailable) ⊎ (first_broken (page_conditions page) ≡ Some rule)) }
+    ensures denied { IfErr result (λ rule. (rule ≡ Rule.Unavailable)
+        ⊎ (first_broken (page_conditions page) ≡ Some rule)) }
 {
     let Some(page) = page else {
         return Err(Rule::BadPage);
@@ -210,7 +215,8 @@ pub(crate) fn draft_registry(
     ensures held { IfOk result (λ _. first_broken (registry_conditions body.now material.now wish) ≡ None) }
     ensures reply { IfOk result (λ draft. IsReply draft.reply.items (registry_reply account material.now wish)) }
     ensures change { IfOk result (λ draft. draft.change ≡ registry_change account body.now material.now wish) }
-    ensures denied { IfErr result (λ rule. (rule ≡ Rule.Unavailable) ⊎ (first_broken (registry_conditions body.now material.now wish) ≡ Some rule)) }
+    ensures denied { IfErr result (λ rule. (rule ≡ Rule.Unavailable)
+        ⊎ (first_broken (registry_conditions body.now material.now wish) ≡ Some rule)) }
 {
     match wish {
         RegistryWish::Read(_, _) => draft_object(alloc, material),

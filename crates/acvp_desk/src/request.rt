@@ -1,12 +1,15 @@
 //! Requests, as their bytes were read.
 
-use acvp_policy::Action;
+use crate::wish::Wish;
 
-/// The numbers of a request's path, in their order; 0 where it has none.
+/// What a path, its method and its query ask.
 #[derive(Clone, Copy, Debug, PartialEq, Eq)]
-pub struct Numbers {
-    pub first: u64,
-    pub second: u64,
+pub enum Ask {
+    /// A token, by what the body says.
+    Login,
+
+    /// What is asked by a caller with a token.
+    Caller(Wish),
 }
 
 /// What the `Authorization` field of a request holds (RFC 6750, section 2.1).
@@ -25,11 +28,7 @@ pub enum TokenField<'a> {
 /// A request that a path and a method of the table were found for.
 #[derive(Clone, Copy)]
 pub struct TypedRequest<'a> {
-    pub action: Action,
-    pub numbers: Numbers,
+    pub ask: Ask,
     pub token: TokenField<'a>,
-
-    /// What stands behind the path's question mark.
-    pub query: &'a [u8],
     pub body: &'a [u8],
 }

@@ -1,6 +1,7 @@
 //! What is given to who adds or removes a reviewer of a test session.
 
-ghost use Rattle.std.specs.Prelude.{◌≡◌, ◌⊎◌, ◌++◌, ◌≤◌, ℕ, List, [], ◌∷◌, filter, nat_lt, true, Some, None, IfOk, IfErr, option_map};
+ghost use Rattle.std.specs.Prelude.{◌≡◌, ◌⊎◌, ◌++◌, ◌≤◌, ℕ, List, [], ◌∷◌, filter, nat_lt, true, Some, None, IfOk};
+ghost use Rattle.std.specs.Prelude.{IfErr, option_map};
 ghost use Rattle.acvp_json.specs.Account.{reviewers_data};
 ghost use Rattle.acvp_json.specs.ReviewerBody.{reviewer_body_conditions};
 ghost use Rattle.acvp_mac.specs.Conditions.{first_broken};
@@ -100,10 +101,17 @@ pub(crate) fn draft_added(
     material: &Material,
 ) -> Result<Draft, Rule>
     requires { has_reviewers material.now ≡ true }
-    ensures held { IfOk result (λ _. first_broken (body_conditions rule_of reviewer_body_conditions body.now ++ (has_room (reviewers_in_material material.now) (reviewer_at body.now), rule.ReviewersFull) ∷ []) ≡ None) }
-    ensures reply { IfOk result (λ draft. IsReply draft.reply.items (added_reply (reviewers_in_material material.now) (reviewer_at body.now))) }
-    ensures change { IfOk result (λ draft. draft.change ≡ option_map (λ a. change.AddReviewer (record { session = session; account = a })) (reviewer_at body.now)) }
-    ensures denied { IfErr result (λ denied. (denied ≡ Rule.Unavailable) ⊎ (first_broken (body_conditions rule_of reviewer_body_conditions body.now ++ (has_room (reviewers_in_material material.now) (reviewer_at body.now), rule.ReviewersFull) ∷ []) ≡ Some denied)) }
+    ensures held { IfOk result
+        (λ _. first_broken (body_conditions rule_of reviewer_body_conditions body.now
+        ++ (has_room (reviewers_in_material material.now) (reviewer_at body.now), rule.ReviewersFull) ∷ []) ≡ None) }
+    ensures reply { IfOk result
+        (λ draft. IsReply draft.reply.items (added_reply (reviewers_in_material material.now) (reviewer_at body.now))) }
+    ensures change { IfOk result (λ draft. draft.change
+        ≡ option_map (λ a. change.AddReviewer (record { session = session; account = a })) (reviewer_at body.now)) }
+    ensures denied { IfErr result (λ denied. (denied ≡ Rule.Unavailable)
+        ⊎ (first_broken (body_conditions rule_of reviewer_body_conditions body.now
+        ++ (has_room (reviewers_in_material material.now) (reviewer_at body.now), rule.ReviewersFull) ∷ [])
+        ≡ Some denied)) }
 {
     joined_conditions::<Rule>();
     let account = match reviewer_body(alloc, body) {
@@ -137,8 +145,11 @@ pub(crate) fn draft_removed(
 ) -> Result<Draft, Rule>
     requires account { reviewer ≤ 9999 }
     requires material { has_reviewers material.now ≡ true }
-    ensures reply { IfOk result (λ draft. IsReply draft.reply.items (option_map (λ accounts. reviewers_data (without_account reviewer accounts)) (reviewers_in_material material.now))) }
-    ensures change { IfOk result (λ draft. draft.change ≡ Some (change.RemoveReviewer (record { session = session; account = reviewer }))) }
+    ensures reply { IfOk result
+        (λ draft. IsReply draft.reply.items (option_map (λ accounts. reviewers_data (without_account reviewer accounts))
+        (reviewers_in_material material.now))) }
+    ensures change { IfOk result
+        (λ draft. draft.change ≡ Some (change.RemoveReviewer (record { session = session; account = reviewer }))) }
     ensures denied { IfErr result (λ denied. denied ≡ Rule.Unavailable) }
 {
     let Ok(accounts) = without_account(alloc, found_reviewers(material), reviewer) else {

@@ -2,19 +2,21 @@
 
 ghost use Rattle.std.specs.Prelude.{◌≡◌, ◌<◌, ◌⊎◌, None, Some, IfOk, IfErr};
 ghost use Rattle.acvp_mac.specs.Conditions.{first_broken};
-ghost use Rattle.acvp_desk.specs.Answer.{change_of, end_of_moments, later_conditions, reply_of, IsOf, IsReply, CoversAny};
+ghost use Rattle.acvp_desk.specs.Answer.{change_of, end_of_moments, later_conditions, reply_of, IsOf, IsReply};
+ghost use Rattle.acvp_desk.specs.Answer.{CoversAny};
 ghost use Rattle.acvp_desk.specs.Desk.{keys_of};
+ghost use Rattle.acvp_desk.specs.Private.Admitted.{IsAdmitted};
 ghost use Rattle.acvp_desk.specs.Request.{request_value};
 ghost use Rattle.acvp_desk.specs.Serves.{Serves};
 
-use crate::ask::{Ask, ask_for};
+use crate::ask::{Asker, asker_for};
 use crate::cache::Cache;
 use crate::draft::{Draft, draft_for};
 use crate::find::find;
 use crate::found::{Found, facts_for};
 use crate::laws::records_are_kept;
 use crate::request::TypedRequest;
-use acvp_policy::{Grant, Rule, decide, granted_resources, release};
+use acvp_policy::{Grant, Rule, decide_admitted, granted_resources, release};
 use acvp_tables::Tables;
 use acvp_token::KeyRing;
 use std::alloc::Global;
@@ -25,27 +27,34 @@ struct Allowed {
     draft: Draft,
 }
 
-/// Decides, and then drafts: the one place that holds a grant while something can fail.
+/// Decides what the rules on the caller have let through, and then drafts: the one place that holds a grant while
+/// something can fail.
 fn plan(
     alloc: Global,
     ring: &KeyRing,
     cache: &mut Cache,
     moment: u64,
     request: &TypedRequest<'_>,
-    ask: &Ask,
+    ask: &Asker,
     found: Found,
 ) -> Result<Allowed, Rule>
     requires moment { moment < end_of_moments }
     requires of { IsOf ask.now found }
-    ensures held { IfOk result (λ _. first_broken (later_conditions cache.old.seeds moment (request_value request.now) ask.now found) ≡ None) }
-    ensures reply { IfOk result (λ allowed. IsReply allowed.draft.reply.items (reply_of (keys_of ring.now cache.old.seeds) moment (request_value request.now) ask.now found)) }
-    ensures change { IfOk result (λ allowed. allowed.draft.change ≡ change_of (keys_of ring.now cache.old.seeds) moment (request_value request.now) ask.now found) }
+    requires admitted { IsAdmitted moment ask.now found }
+    ensures held { IfOk result
+        (λ _. first_broken (later_conditions cache.old.seeds moment (request_value request.now) ask.now found) ≡ None) }
+    ensures reply { IfOk result (λ allowed. IsReply allowed.draft.reply.items
+        (reply_of (keys_of ring.now cache.old.seeds) moment (request_value request.now) ask.now found)) }
+    ensures change { IfOk result (λ allowed. allowed.draft.change ≡ change_of (keys_of ring.now cache.old.seeds) moment
+        (request_value request.now) ask.now found) }
     ensures seeds { cache.new.seeds ≡ cache.old.seeds }
     ensures covers { IfOk result (λ allowed. CoversAny allowed.grant allowed.draft.change) }
-    ensures denied { IfErr result (λ rule. (rule ≡ Rule.Unavailable) ⊎ (first_broken (later_conditions cache.old.seeds moment (request_value request.now) ask.now found) ≡ Some rule)) }
+    ensures denied { IfErr result (λ rule. (rule ≡ Rule.Unavailable)
+        ⊎ (first_broken (later_conditions cache.old.seeds moment (request_value request.now) ask.now found)
+        ≡ Some rule)) }
 {
     granted_resources();
-    let grant = match decide(ask.action(), &facts_for(moment, ask, &found)) {
+    let grant = match decide_admitted(ask.action(), &facts_for(moment, ask, &found)) {
         Ok(grant) => grant,
         Err(rule) => return Err(rule),
     };
@@ -74,11 +83,12 @@ pub(crate) fn serve<T: Tables>(
     moment: u64,
     request: &TypedRequest<'_>,
 ) -> Result<Served, Rule>
-    ensures served { Serves T.stands T.is_live T.is_clean T.leaves result tables.old tables.new (keys_of ring.now cache.old.seeds) moment (request_value request.now) }
+    ensures served { Serves T.meaning result tables.old tables.new (keys_of ring.now cache.old.seeds) moment
+        (request_value request.now) }
     ensures seeds { cache.new.seeds ≡ cache.old.seeds }
 {
     records_are_kept();
-    let ask = match ask_for(alloc, ring, moment, request) {
+    let ask = match asker_for(alloc, ring, moment, request) {
         Ok(ask) => ask,
         Err(rule) => return Err(rule),
     };

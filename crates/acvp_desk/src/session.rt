@@ -7,7 +7,8 @@ ghost use Rattle.acvp_desk.specs.Place.{is_for_session, has_sets};
 ghost use Rattle.acvp_mac.specs.Conditions.{first_broken};
 ghost use Rattle.acvp_desk.specs.OwnConditions.{session_conditions};
 ghost use Rattle.acvp_desk.specs.Request.{request_value};
-ghost use Rattle.acvp_desk.specs.Replies.{disposition_at, facts_reply, result_shown, results_reply, session_reply, session_shown, session_status, session_change, sets_in_material};
+ghost use Rattle.acvp_desk.specs.Replies.{disposition_at, facts_reply, result_shown, results_reply, session_reply};
+ghost use Rattle.acvp_desk.specs.Replies.{session_shown, session_status, session_change, sets_in_material};
 ghost use Rattle.acvp_desk.specs.declared.wish.SessionWish.TheVariants as on_session;
 
 use crate::ask::END_OF_MOMENTS;
@@ -56,7 +57,8 @@ fn session_shown(number: u64, facts: &SessionFacts) -> Result<Session, Rule>
 /// What is given to who reads a session.
 #[tactic(auto, unfolding(acvp_json::specs::ReplyData::reply_data))]
 fn draft_read(alloc: Global, number: u64, facts: &SessionFacts, sets: &[u64]) -> Result<Draft, Rule>
-    ensures reply { IfOk result (λ draft. IsReply draft.reply.items (facts_reply number (Some facts.now) (Some sets.now))) }
+    ensures reply { IfOk result
+        (λ draft. IsReply draft.reply.items (facts_reply number (Some facts.now) (Some sets.now))) }
     ensures change { IfOk result (λ draft. draft.change ≡ None) }
     ensures denied { IfErr result (λ rule. rule ≡ Rule.Unavailable) }
 {
@@ -143,7 +145,8 @@ fn draft_results(
     facts: &SessionFacts,
     outcomes: &[SetOutcome],
 ) -> Result<Draft, Rule>
-    ensures reply { IfOk result (λ draft. IsReply draft.reply.items (results_reply moment (Some facts.now) (Some outcomes.now))) }
+    ensures reply { IfOk result
+        (λ draft. IsReply draft.reply.items (results_reply moment (Some facts.now) (Some outcomes.now))) }
     ensures change { IfOk result (λ draft. draft.change ≡ None) }
     ensures denied { IfErr result (λ rule. rule ≡ Rule.Unavailable) }
 {
@@ -172,10 +175,13 @@ pub(crate) fn draft_session(
 ) -> Result<Draft, Rule>
     requires there { is_some (session_found found.now.subject) ≡ true }
     requires material { is_for_session it found.now.material ≡ true }
-    ensures held { IfOk result (λ _. first_broken (session_conditions (request_value request.now) found.now it) ≡ None) }
-    ensures reply { IfOk result (λ draft. IsReply draft.reply.items (session_reply moment number (request_value request.now) found.now it)) }
+    ensures held { IfOk result (λ _. first_broken (session_conditions (request_value request.now) found.now it)
+        ≡ None) }
+    ensures reply { IfOk result
+        (λ draft. IsReply draft.reply.items (session_reply moment number (request_value request.now) found.now it)) }
     ensures change { IfOk result (λ draft. draft.change ≡ session_change number (request_value request.now) it) }
-    ensures denied { IfErr result (λ rule. (rule ≡ Rule.Unavailable) ⊎ (first_broken (session_conditions (request_value request.now) found.now it) ≡ Some rule)) }
+    ensures denied { IfErr result (λ rule. (rule ≡ Rule.Unavailable)
+        ⊎ (first_broken (session_conditions (request_value request.now) found.now it) ≡ Some rule)) }
 {
     match it {
         SessionWish::Read => {

@@ -74,7 +74,8 @@ fn told_results(
     disposition: Option<Disposition>,
     verdicts: &[Verdict],
 ) -> Result<Draft, Rule>
-    ensures reply { IfOk result (λ draft. IsReply draft.reply.items (Some (set_results_reply moment number facts.now disposition verdicts.now))) }
+    ensures reply { IfOk result (λ draft. IsReply draft.reply.items
+        (Some (set_results_reply moment number facts.now disposition verdicts.now))) }
     ensures change { IfOk result (λ draft. draft.change ≡ None) }
     ensures denied { IfErr result (λ rule. rule ≡ Rule.Unavailable) }
 {
@@ -101,7 +102,8 @@ fn told_of(
     entry: &mut Entry,
 ) -> Result<Draft, Rule>
     requires { HasItsStandard entry.old }
-    ensures reply { IfOk result (λ draft. IsReply draft.reply.items (prompts_reply moment number facts.now it entry.old.prompts)) }
+    ensures reply { IfOk result
+        (λ draft. IsReply draft.reply.items (prompts_reply moment number facts.now it entry.old.prompts)) }
     ensures change { IfOk result (λ draft. draft.change ≡ None) }
     ensures denied { IfErr result (λ rule. rule ≡ Rule.Unavailable) }
     ensures stays { StaysTrue entry.old entry.new }
@@ -146,7 +148,8 @@ fn draft_made(
     it: SetWish,
     source: SetSource,
 ) -> Result<Draft, Rule>
-    ensures reply { IfOk result (λ draft. IsReply draft.reply.items (source_reply cache.old.seeds moment number facts.now it (Some source))) }
+    ensures reply { IfOk result
+        (λ draft. IsReply draft.reply.items (source_reply cache.old.seeds moment number facts.now it (Some source))) }
     ensures change { IfOk result (λ draft. draft.change ≡ None) }
     ensures seeds { cache.new.seeds ≡ cache.old.seeds }
     ensures denied { IfErr result (λ rule. rule ≡ Rule.Unavailable) }
@@ -178,10 +181,12 @@ pub(crate) fn draft_set(
     requires there { is_some (set_found subject.now) ≡ true }
     requires material { is_for_set it material ≡ true }
     ensures held { IfOk result (λ _. first_broken (set_conditions cache.old.seeds number body.now material) ≡ None) }
-    ensures reply { IfOk result (λ draft. IsReply draft.reply.items (set_reply cache.old.seeds moment number it (set_found subject.now) material)) }
+    ensures reply { IfOk result (λ draft. IsReply draft.reply.items
+        (set_reply cache.old.seeds moment number it (set_found subject.now) material)) }
     ensures change { IfOk result (λ draft. draft.change ≡ set_change cache.old.seeds session number body.now material) }
     ensures seeds { cache.new.seeds ≡ cache.old.seeds }
-    ensures denied { IfErr result (λ rule. (rule ≡ Rule.Unavailable) ⊎ (first_broken (set_conditions cache.old.seeds number body.now material) ≡ Some rule)) }
+    ensures denied { IfErr result (λ rule. (rule ≡ Rule.Unavailable)
+        ⊎ (first_broken (set_conditions cache.old.seeds number body.now material) ≡ Some rule)) }
 {
     let facts = found_facts(subject);
     match material {

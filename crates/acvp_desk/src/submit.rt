@@ -38,7 +38,8 @@ fn graded(alloc: Global, body: &[u8], entry: &mut Entry) -> Result<Graded, Rule>
     requires { HasItsStandard entry.old }
     ensures held { IfOk result (λ _. first_broken (answers_conditions entry.old.prompts body.now) ≡ None) }
     ensures graded { IfOk result (λ graded. graded_at body.now entry.old.prompts ≡ Some graded) }
-    ensures denied { IfErr result (λ rule. (rule ≡ Rule.Unavailable) ⊎ (first_broken (answers_conditions entry.old.prompts body.now) ≡ Some rule)) }
+    ensures denied { IfErr result (λ rule. (rule ≡ Rule.Unavailable)
+        ⊎ (first_broken (answers_conditions entry.old.prompts body.now) ≡ Some rule)) }
     ensures stays { StaysTrue entry.old entry.new }
 {
     let answers = match answers_body(alloc, body, entry.prompts()) {
@@ -76,10 +77,13 @@ fn graded_by(
     body: &[u8],
     source: SetSource,
 ) -> Result<Graded, Rule>
-    ensures held { IfOk result (λ _. first_broken (prompted_conditions body.now (prompts_from cache.old.seeds number source)) ≡ None) }
-    ensures graded { IfOk result (λ graded. option_and_then (graded_at body.now) (prompts_from cache.old.seeds number source) ≡ Some graded) }
+    ensures held { IfOk result
+        (λ _. first_broken (prompted_conditions body.now (prompts_from cache.old.seeds number source)) ≡ None) }
+    ensures graded { IfOk result
+        (λ graded. option_and_then (graded_at body.now) (prompts_from cache.old.seeds number source) ≡ Some graded) }
     ensures seeds { cache.new.seeds ≡ cache.old.seeds }
-    ensures denied { IfErr result (λ rule. (rule ≡ Rule.Unavailable) ⊎ (first_broken (prompted_conditions body.now (prompts_from cache.old.seeds number source)) ≡ Some rule)) }
+    ensures denied { IfErr result (λ rule. (rule ≡ Rule.Unavailable)
+        ⊎ (first_broken (prompted_conditions body.now (prompts_from cache.old.seeds number source)) ≡ Some rule)) }
 {
     let SetSource { capability, epoch } = source;
     if epoch > cache.seeds().newest() {
@@ -104,11 +108,17 @@ pub(crate) fn draft_answers(
     body: &[u8],
     submission: Submission,
 ) -> Result<Draft, Rule>
-    ensures held { IfOk result (λ _. first_broken (prompted_conditions body.now (prompts_from cache.old.seeds number submission.source)) ≡ None) }
-    ensures reply { IfOk result (λ draft. IsReply draft.reply.items (Some (outcome_data (codes "received") (results_url number)))) }
-    ensures change { IfOk result (λ draft. draft.change ≡ submission_change cache.old.seeds session number body.now submission) }
+    ensures held { IfOk result
+        (λ _. first_broken (prompted_conditions body.now (prompts_from cache.old.seeds number submission.source))
+        ≡ None) }
+    ensures reply { IfOk result
+        (λ draft. IsReply draft.reply.items (Some (outcome_data (codes "received") (results_url number)))) }
+    ensures change { IfOk result
+        (λ draft. draft.change ≡ submission_change cache.old.seeds session number body.now submission) }
     ensures seeds { cache.new.seeds ≡ cache.old.seeds }
-    ensures denied { IfErr result (λ rule. (rule ≡ Rule.Unavailable) ⊎ (first_broken (prompted_conditions body.now (prompts_from cache.old.seeds number submission.source)) ≡ Some rule)) }
+    ensures denied { IfErr result (λ rule. (rule ≡ Rule.Unavailable)
+        ⊎ (first_broken (prompted_conditions body.now (prompts_from cache.old.seeds number submission.source))
+        ≡ Some rule)) }
 {
     let Submission { source, others } = submission;
     let graded = match graded_by(alloc, cache, number, body, source) {

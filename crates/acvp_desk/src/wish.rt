@@ -2,27 +2,22 @@
 
 ghost use Rattle.std.specs.Prelude.{◌≡◌};
 ghost use Rattle.acvp_desk.specs.Registries.{kind_of, list_action, new_action, read_action, action_on_registry};
-ghost use Rattle.acvp_desk.specs.Pages.{page_of};
-ghost use Rattle.acvp_desk.specs.Wish.{wish_of, action_of_wish};
-ghost use Rattle.acvp_desk.specs.declared.wish.RegistryWish.TheVariants as on_registry;
-ghost use Rattle.acvp_desk.specs.declared.wish.Wish.TheVariants as wish;
+ghost use Rattle.acvp_desk.specs.Wish.{action_of_wish};
 
-use crate::page::page_of;
-use crate::request::Numbers;
 use acvp_json::Page;
 use acvp_policy::{Action, Token};
 use acvp_registry::Kind;
 
 /// What is asked of the account that acts, or of what every account sees.
-#[derive(Clone, Copy)]
-pub(crate) enum AccountWish {
+#[derive(Clone, Copy, Debug, PartialEq, Eq)]
+pub enum AccountWish {
     Read,
     ListAlgorithms,
 }
 
 /// What is asked of a test session.
-#[derive(Clone, Copy)]
-pub(crate) enum SessionWish {
+#[derive(Clone, Copy, Debug, PartialEq, Eq)]
+pub enum SessionWish {
     Read,
     Cancel,
     Results,
@@ -32,8 +27,8 @@ pub(crate) enum SessionWish {
 }
 
 /// What is asked of a vector set.
-#[derive(Clone, Copy)]
-pub(crate) enum SetWish {
+#[derive(Clone, Copy, Debug, PartialEq, Eq)]
+pub enum SetWish {
     Read,
     Expected,
     Results,
@@ -46,8 +41,8 @@ pub(crate) enum SetWish {
 }
 
 /// A registry of the account that acts. What it holds is of one kind.
-#[derive(Clone, Copy)]
-pub(crate) enum Registry {
+#[derive(Clone, Copy, Debug, PartialEq, Eq)]
+pub enum Registry {
     Vendors,
     Modules,
 
@@ -56,8 +51,8 @@ pub(crate) enum Registry {
 }
 
 /// What is asked of the registries and requests of the account that acts.
-#[derive(Clone, Copy)]
-pub(crate) enum RegistryWish {
+#[derive(Clone, Copy, Debug, PartialEq, Eq)]
+pub enum RegistryWish {
     /// What a registry holds under a number.
     Read(Registry, u64),
 
@@ -75,8 +70,8 @@ pub(crate) enum RegistryWish {
 }
 
 /// What is asked, by what the path names.
-#[derive(Clone, Copy)]
-pub(crate) enum Wish {
+#[derive(Clone, Copy, Debug, PartialEq, Eq)]
+pub enum Wish {
     Account(AccountWish),
 
     /// The algorithm of a number.
@@ -202,65 +197,5 @@ impl Wish {
             Wish::Certify(_) => Action::Certify,
             Wish::Registry(it) => it.action(),
         }
-    }
-}
-
-/// That what a registry holds is listed, by the page that a query asks for.
-fn list_of(registry: Registry, query: &[u8]) -> Wish
-    ensures { result ≡ wish.Registry (on_registry.List registry (page_of query.now)) }
-{
-    Wish::Registry(RegistryWish::List(registry, page_of(query)))
-}
-
-/// That an object is registered.
-fn new_in(registry: Registry) -> Wish
-    ensures { result ≡ wish.Registry (on_registry.New registry) }
-{
-    Wish::Registry(RegistryWish::New(registry))
-}
-
-/// What a registry holds under the number of a path.
-fn row_of(registry: Registry, numbers: Numbers) -> Wish
-    ensures { result ≡ wish.Registry (on_registry.Read registry numbers.first) }
-{
-    Wish::Registry(RegistryWish::Read(registry, numbers.first))
-}
-
-/// What a path, its method and its query ask.
-pub(crate) fn wish_of(action: Action, numbers: Numbers, query: &[u8]) -> Option<Wish>
-    ensures { result ≡ wish_of action numbers query.now }
-{
-    match action {
-        Action::ReadAccount => Some(Wish::Account(AccountWish::Read)),
-        Action::ListAlgorithms => Some(Wish::Account(AccountWish::ListAlgorithms)),
-        Action::ReadAlgorithm => Some(Wish::Algorithm(numbers.first)),
-        Action::ReadSession => Some(Wish::Session(numbers.first, SessionWish::Read)),
-        Action::CancelSession => Some(Wish::Session(numbers.first, SessionWish::Cancel)),
-        Action::SessionResults => Some(Wish::Session(numbers.first, SessionWish::Results)),
-        Action::ListSets => Some(Wish::Session(numbers.first, SessionWish::ListSets)),
-        Action::ListReviewers => Some(Wish::Session(numbers.first, SessionWish::ListReviewers)),
-        Action::AddReviewer => Some(Wish::Session(numbers.first, SessionWish::AddReviewer)),
-        Action::RemoveReviewer => Some(Wish::Reviewer(numbers.first, numbers.second)),
-        Action::NewSession => Some(Wish::NewSession),
-        Action::ReadSet => Some(Wish::Set(numbers.first, numbers.second, SetWish::Read)),
-        Action::Expected => Some(Wish::Set(numbers.first, numbers.second, SetWish::Expected)),
-        Action::SetResults => Some(Wish::Set(numbers.first, numbers.second, SetWish::Results)),
-        Action::CancelSet => Some(Wish::CancelSet(numbers.first, numbers.second)),
-        Action::Submit => Some(Wish::Set(numbers.first, numbers.second, SetWish::Submit)),
-        Action::Resubmit => Some(Wish::Set(numbers.first, numbers.second, SetWish::Resubmit)),
-        Action::ListSessions => Some(Wish::ListSessions(page_of(query))),
-        Action::Certify => Some(Wish::Certify(numbers.first)),
-        Action::ListVendors => Some(list_of(Registry::Vendors, query)),
-        Action::NewVendor => Some(new_in(Registry::Vendors)),
-        Action::ReadVendor => Some(row_of(Registry::Vendors, numbers)),
-        Action::ListModules => Some(list_of(Registry::Modules, query)),
-        Action::NewModule => Some(new_in(Registry::Modules)),
-        Action::ReadModule => Some(row_of(Registry::Modules, numbers)),
-        Action::ListEnvironments => Some(list_of(Registry::Environments, query)),
-        Action::NewEnvironment => Some(new_in(Registry::Environments)),
-        Action::ReadEnvironment => Some(row_of(Registry::Environments, numbers)),
-        Action::ListRequests => Some(Wish::Registry(RegistryWish::ListRequests(page_of(query)))),
-        Action::ReadRequest => Some(Wish::Registry(RegistryWish::ReadRequest(numbers.first))),
-        Action::Login => None,
     }
 }

@@ -1,4 +1,4 @@
 pub mod WordLemmas
 pub mod LengthLemmas
 pub mod ChoiceLemmas
-pub mod FillingLemmas
+pub mod GroupLemmas

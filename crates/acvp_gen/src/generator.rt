@@ -49,7 +49,7 @@ impl Generator {
         self.words.next_word()
     }
 
-    /// Fills the bytes with a value that begins at the next word.
+    /// Fills the bytes with a value that begins at the next word. The rest of its last word is dropped.
     pub fn fill(&mut self, bytes: &mut [u8])
         requires place { self.old.place < 2 ^ 32 }
         requires size { length bytes.old ≤ 65536 }

@@ -3,7 +3,8 @@
 ghost use Rattle.std.specs.Prelude.{◌≡◌, ◌≤◌, ◌+◌, ◌++◌, length, IfOk};
 ghost use Rattle.std.specs.List.Sorted.{IsStrictlyIncreasing};
 ghost use Rattle.acvp_gen.specs.Private.Candidates.{candidates};
-ghost use Rattle.acvp_gen.specs.Choice.{ends_and_edges, drawn, message_edges, message_lengths, key_lengths, mac_lengths, message_draws, key_draws};
+ghost use Rattle.acvp_gen.specs.Choice.{ends_and_edges, drawn, message_edges, message_lengths, key_lengths};
+ghost use Rattle.acvp_gen.specs.Choice.{mac_lengths, message_draws, key_draws};
 ghost use Rattle.acvp_gen.specs.Private.Generator.{moved};
 
 use crate::generator::Generator;

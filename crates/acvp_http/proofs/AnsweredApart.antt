@@ -2,6 +2,7 @@
 use Rattle.std.proofs.Common.{◌≡◌, inl, inr, ℕ, List, true, false, Option, None, Some, Result, refl, sym, ap, subst, ◌∙◌}
 use Rattle.acvp_policy.specs.declared.rule.Rule.{Rule}
 use Rattle.acvp_tables.specs.Content.{Content}
+use Rattle.acvp_tables.specs.Meaning.{Meaning}
 use Rattle.acvp_tables.specs.State.{State, own, state_of, IsSound, IsWellNumbered}
 use Rattle.acvp_tables.specs.declared.change.Change.{Change}
 use Rattle.acvp_desk.specs.Answer.{accepted_change, answer, content_after, content_effect, effect}
@@ -69,9 +70,9 @@ module _ (follow : (keys : Keys) (m : ℕ) (r : RequestValue) (c : Content) → 
   }
 
 -- so the tables are taken on by each request
-module _ {T : Type 0} (stands : T → Content → Type 0) (is_live is_clean : T → Type 0) (law : RequestIsolation) (keys : Keys) (m : ℕ) (bytes reply : List ℕ) (old new : T) where
-  pub taken_apart : RequestTaken stands is_live is_clean keys m bytes reply old new
-      → GoesBy stands is_live is_clean keys (λ c next. IsTakenApart keys m bytes c next reply) old new
+module _ {T : Type 0} (meaning : Meaning T) (law : RequestIsolation) (keys : Keys) (m : ℕ) (bytes reply : List ℕ) (old new : T) where
+  pub taken_apart : RequestTaken meaning keys m bytes reply old new
+      → GoesBy meaning keys (λ c next. IsTakenApart keys m bytes c next reply) old new
   taken_apart (true, goes) = λ clean c kept h. let (next, takes, after, kept_after) = goes clean c kept h in (next, inl takes, after, kept_after)
   taken_apart (false, goes) = λ clean c kept h.
       let (next, takes, after, kept_after) = goes clean c kept h in (next, inr (takes, law keys m bytes c next reply kept.sound takes), after, kept_after)

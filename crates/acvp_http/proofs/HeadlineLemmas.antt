@@ -6,7 +6,7 @@ use Rattle.acvp_tables.specs.Content.{Content, request_at}
 use Rattle.acvp_tables.specs.State.{State, state_of}
 use Rattle.acvp_tables.specs.declared.rows.RequestRow.{RequestRow}
 use Rattle.acvp_tables.specs.declared.change.OrderChange.{OrderChange}
-use Rattle.acvp_desk.specs.Answer.{answer, accepted_change, ask_of, conditions, content_effect, effect, reply_to}
+use Rattle.acvp_desk.specs.Answer.{answer, accepted_change, asker_of, conditions, content_effect, effect, reply_to}
 use Rattle.acvp_desk.specs.Conditions.{first_broken, unless}
 use Rattle.acvp_desk.specs.Data.{Data}
 use Rattle.acvp_desk.specs.Orders.{order_reply, order_change, order_effect, content_order_effect, has_account, on_request, approved_reply, if_initial, is_initial}
@@ -78,11 +78,11 @@ module _ (follow_request : (keys : Keys) (m : ℕ) (r : RequestValue) (c : Conte
   decided m bytes reply r date c next (Err rule) is asks dated left told =
       inl (
         ap state_of (left ∙ denied_stays m r c rule is),
-        inr (r, rule, date, asks, unless_err (first_broken (conditions keys m r (state_of c))) (reply_to keys m r (ask_of keys m r) (state_of c)) rule is, dated, told),
+        inr (r, rule, date, asks, unless_err (first_broken (conditions keys m r (state_of c))) (reply_to keys m r (asker_of keys m r) (state_of c)) rule is, dated, told),
       )
   decided m bytes reply r date c next (Ok None) is asks dated left told = absurd told
   decided m bytes reply r date c next (Ok (Some shown)) is asks dated left told =
-      let held = unless_ok (first_broken (conditions keys m r (state_of c))) (reply_to keys m r (ask_of keys m r) (state_of c)) (Some shown) is in
+      let held = unless_ok (first_broken (conditions keys m r (state_of c))) (reply_to keys m r (asker_of keys m r) (state_of c)) (Some shown) is in
       inr (r, shown, date, asks, held.0, held.1, dated, told, ap state_of left ∙ follow_request keys m r c)
 
   ordered_by : (m : ℕ) (o : Order) (reply : OrderReply) (c next : Content) (b : Bool) → is_done reply ≡ b → reply ≡ order_reply o (state_of c)

@@ -1,35 +1,35 @@
 -- What an input asks is what the front of it asks that its request needs.
-use Rattle.std.proofs.Common.{◌≡◌, ◌<◌, ◌≤◌, ◌⊎◌, ⊎_elim, inl, inr, ℕ, zero, suc, ◌+◌, ◌-◌, ◌==◌, ◌||◌, min, not, codes, List, [], ◌∷◌, ◌++◌, length, take, drop, Bool, true, false, if◌then◌else◌, Option, None, Some, IfSome, Result, refl, sym, ap, ◌∙◌, arith, subst, below_more, take-take, length-append, append_assoc}
+use Rattle.std.proofs.Common.{◌≡◌, ◌<◌, ◌≤◌, ⊎_elim, inl, inr, ℕ, zero, suc, ◌+◌, ◌-◌, min, List, [], ◌∷◌, ◌++◌, length, take, drop, Bool, true, false, Option, None, Some, IfSome, Result, Ok, Err, refl, sym, ap, ◌∙◌, arith, subst, below_more, take-take, take_all, length-append, append-nil, append_assoc}
 use Rattle.std.specs.Prelude.{nat_lt, nat_le, MatchBool}
 use Rattle.std.specs.Io.KnownBytes.{Consumes}
 use Rattle.std.proofs.Math.Seq.{take-append_seam, take-append-add, take-length}
-use Rattle.std.proofs.lemmas.Bool.{le-leb, leb-true, lt-ltb, le-ltb}
+use Rattle.std.proofs.lemmas.Bool.{lt-ltb, le-ltb}
 use Rattle.std.proofs.lemmas.Bool.Decides.{nat_tests}
 use Rattle.std.proofs.lemmas.List.{length-take, drop-take, take-append-le}
-use Rattle.httparse.specs.Grammar.{RequestHead, ReadsRequest}
-use Rattle.httparse.proofs.GrammarLemmas.{request_unique}
 use Rattle.acvp_desk.specs.Answer.{end_of_moments}
-use Rattle.acvp_desk.specs.Conditions.{Condition, first_broken, judged}
 use Rattle.acvp_desk.specs.declared.keys.Keys.{Keys}
 use Rattle.acvp_policy.specs.declared.rule.Rule.{Rule}
-use Rattle.acvp_policy.specs.declared.rule.Rule.TheVariants.{BadHead, HeadTooLarge, Truncated, TransferCoding, LengthMissing, BadLength, BodyTooLarge, HostMissing, ClockOutOfRange}
+use Rattle.acvp_policy.specs.declared.rule.Rule.TheVariants.{Truncated, ClockOutOfRange}
 use Rattle.acvp_tables.specs.Content.{Content}
-use Rattle.acvp_http.specs.Asks.{ParsedRequest, refused, Asks, AsksBlock, AskedBy, AskedOf, IsBlockEnd, HasNoEmptyLine, asked_path, body_length, body_limit, ends_empty, fields_of, head_limit, hosts_fit, is_nil, lengths_agree, line_count, needs_length, values_of, window}
+use Rattle.acvp_tables.specs.Meaning.{Meaning}
+use Rattle.acvp_http.specs.Asks.{FramedHead, ParsedRequest, ReadsBlock, refused, Asks, AsksBlock, AskedBy, IsBlockEnd, HasNoEmptyLine, asked_path, ends_empty, head_limit, headless, window}
 use Rattle.acvp_http.specs.Connection.{AnswersInput, TakesWithin}
 use Rattle.acvp_http.specs.Event.{request, replied}
-use Rattle.acvp_http.specs.Needed.{IsNeeded, IsNeededAt, IsWithinNeeded, NeedsBody, needed_size, told_by}
+use Rattle.acvp_http.specs.Needed.{IsNeeded, IsNeededAt, IsWithinNeeded, NeedsBody, needed_size}
+use Rattle.acvp_http.specs.Paths.{Names}
+use Rattle.acvp_http.specs.Target.{path_of}
+use Rattle.acvp_http.specs.declared.path.Path.{Path}
+use Rattle.acvp_http.specs.declared.head.Head.{Head}
+use Rattle.acvp_http.specs.Private.Head.{IsParsed, ParsesInput}
 use Rattle.acvp_http.specs.Private.Receiving.{IsHeadBegun, IsHeadTaken, IsBodyTaken, TakesFew, TakesOfHead}
 use Rattle.acvp_http.specs.Reply.{refusal, IsDateOf}
 use Rattle.acvp_http.specs.Serve.{IsRefused, RefusesAtOnce, RequestTaken, ShowsRequest, Takes}
 use Rattle.acvp_http.specs.Source.{InputStream, Gives}
-use Rattle.acvp_http.proofs.AsksLemmas.{end_or_none, end_unique}
+use Rattle.acvp_http.proofs.AsksLemmas.{end_or_none, end_unique, read_unique}
+use Rattle.acvp_http.proofs.RequestLemmas.{block_length}
 use Rattle.acvp_http.proofs.KnownLemmas.{consumes_consumes, consumes_nothing}
 
--- ---- the framing
-
--- conditions that don't look at what follows, and then that the body is there
-abbrev sized : List (Condition Rule) → ℕ → ℕ → Result ℕ Rule
-sized conditions size available = judged (conditions ++ (nat_le size available, Truncated) ∷ []) size
+-- ---- the block
 
 -- a front that long has as much of the body as the whole has
 as_much : (size : ℕ) (rest : List ℕ) → nat_le size (length (take size rest)) ≡ nat_le size (length rest)
@@ -37,72 +37,31 @@ as_much size rest =
     let some : length (take size rest) ≡ min size (length rest) = length-take size rest in
     grind (arith, nat_tests)
 
-asked_there : (head : RequestHead) (size : ℕ) (rest : List ℕ) (parsed : ParsedRequest) (b : Bool)
-    → AskedBy head (take size rest) (judged ((b, Truncated) ∷ []) size) parsed → AskedBy head rest (judged ((b, Truncated) ∷ []) size) parsed
-asked_there head size rest parsed true (named, names, is) =
-    (named, names, is ∙ ap (λ body. asked_path head body named) (take-take size size rest (omega arith)))
-asked_there head size rest parsed false is = is
+asked_there : (f : FramedHead) (rest : List ℕ) (parsed : ParsedRequest) (there : Bool)
+    → MatchBool there
+    ((named : Option Path) × Names (path_of f.head.target) named × (parsed ≡ asked_path f.head (take f.size (take f.size rest)) named))
+    (parsed ≡ refused Truncated)
+    → MatchBool there
+    ((named : Option Path) × Names (path_of f.head.target) named × (parsed ≡ asked_path f.head (take f.size rest) named))
+    (parsed ≡ refused Truncated)
+asked_there f rest parsed true (named, names, is) =
+    (named, names, is ∙ ap (λ body. asked_path f.head body named) (take-take f.size f.size rest (omega arith)))
+asked_there f rest parsed false is = is
 
--- the size that the conditions tell needs no more of the rest, since they let no body pass that is longer than the
--- limit
-asked_sized : (head : RequestHead) (conditions : List (Condition Rule)) (size limit : ℕ) (rest : List ℕ) (parsed : ParsedRequest)
-    → (first_broken conditions ≡ None → size ≤ limit)
-    → AskedBy head (take (needed_size (sized conditions size limit)) rest)
-    (sized conditions size (length (take (needed_size (sized conditions size limit)) rest))) parsed
-    → AskedBy head rest (sized conditions size (length rest)) parsed
-asked_sized head [] size limit rest parsed low asked =
-    let fits : nat_le size limit ≡ true = le-leb size limit (low refl) in
-    let front : AskedBy head (take size rest) (judged ((nat_le size (length (take size rest)), Truncated) ∷ []) size) parsed = rw fits at asked in
-    let same : AskedBy head (take size rest) (judged ((nat_le size (length rest), Truncated) ∷ []) size) parsed =
-    subst (λ (b : Bool). AskedBy head (take size rest) (judged ((b, Truncated) ∷ []) size) parsed) (as_much size rest) front in
-    asked_there head size rest parsed (nat_le size (length rest)) same
-asked_sized head ((true, fault) ∷ conditions) size limit rest parsed low asked = asked_sized head conditions size limit rest parsed low asked
-asked_sized head ((false, fault) ∷ conditions) size limit rest parsed low asked = asked
-
--- the conditions on the framing that don't look at what follows
-abbrev five : Bool → Bool → Bool → Bool → Bool → List (Condition Rule)
-five coding told agree fits hosts =
-    (coding, TransferCoding) ∷ (told, LengthMissing) ∷ (agree, BadLength) ∷ (fits, BodyTooLarge) ∷ (hosts, HostMissing) ∷ []
-
-fourth : (a b c d e : Bool) → first_broken (five a b c d e) ≡ None → d ≡ true
-fourth a b c true e none = refl
-fourth false b c false e none = absurd (cc)
-fourth true false c false e none = absurd (cc)
-fourth true true false false e none = absurd (cc)
-fourth true true true false e none = absurd (cc)
-
-asked_of : (head : RequestHead) (rest : List ℕ) (parsed : ParsedRequest) → AskedOf head (take (told_by head) rest) parsed → AskedOf head rest parsed
-asked_of head rest parsed asked =
-    let lengths = values_of (codes "content-length") (fields_of head) in
-    let coding = is_nil (values_of (codes "transfer-encoding") (fields_of head)) in
-    let told = not (needs_length head.method) || not (is_nil lengths) in
-    let fits = nat_le (body_length lengths) body_limit in
-    let hosts = hosts_fit head.minor (length (values_of (codes "host") (fields_of head))) in
-    asked_sized head (five coding told (lengths_agree lengths) fits hosts) (body_length lengths) body_limit rest parsed
-    (λ none. leb-true (body_length lengths) body_limit (fourth coding told (lengths_agree lengths) fits hosts none)) asked
-
--- ---- the block
-
-asks_block_by : (block rest : List ℕ) (size : ℕ) (parsed : ParsedRequest) (long : Bool)
-    → MatchBool long (size ≡ 0)
-    (((size ≡ 0) × ((head : RequestHead) → ReadsRequest block head [] → ⊥))
-    ⊎ ((head : RequestHead) × ReadsRequest block head [] × (size ≡ told_by head)))
-    → MatchBool long (parsed ≡ refused HeadTooLarge)
-    (((parsed ≡ refused BadHead) × ((head : RequestHead) → ReadsRequest block head [] → ⊥))
-    ⊎ ((head : RequestHead) × ReadsRequest block head [] × AskedOf head (take size rest) parsed))
-    → MatchBool long (parsed ≡ refused HeadTooLarge)
-    (((parsed ≡ refused BadHead) × ((head : RequestHead) → ReadsRequest block head [] → ⊥))
-    ⊎ ((head : RequestHead) × ReadsRequest block head [] × AskedOf head rest parsed))
-asks_block_by block rest size parsed true needs asks = asks
-asks_block_by block rest size parsed false needs asks =
-    ⊎_elim (λ bad. inl bad)
-    (λ q. ⊎_elim (λ none. absurd (none.1 q.0 q.1))
-    (λ p. let is : size ≡ told_by q.0 = p.2 ∙ ap told_by (request_unique block p.0 q.0 [] [] p.1 q.1).0 in
-    inr (q.0, q.1, asked_of q.0 rest parsed (subst (λ (n : ℕ). AskedOf q.0 (take n rest) parsed) is q.2))) needs) asks
+-- what is asked with as much of the rest as is needed is asked with all of it
+asked_of : (rest : List ℕ) (read : Result FramedHead Rule) (parsed : ParsedRequest) → AskedBy (take (needed_size read) rest) read parsed → AskedBy rest read parsed
+asked_of rest (Err rule) parsed asked = asked
+asked_of rest (Ok f) parsed asked =
+    asked_there f rest parsed (nat_le f.size (length rest))
+    (subst (λ (there : Bool). MatchBool there
+    ((named : Option Path) × Names (path_of f.head.target) named × (parsed ≡ asked_path f.head (take f.size (take f.size rest)) named))
+    (parsed ≡ refused Truncated)) (as_much f.size rest) asked)
 
 asks_block : (block rest : List ℕ) (size : ℕ) (parsed : ParsedRequest) → NeedsBody block size → AsksBlock block (take size rest) parsed
     → AsksBlock block rest parsed
-asks_block block rest size parsed needs asks = asks_block_by block rest size parsed (nat_lt 64 (line_count block - 2)) needs asks
+asks_block block rest size parsed needs (read, reads, asked) =
+    let is : size ≡ needed_size read = needs.2 ∙ ap needed_size (read_unique block needs.0 read needs.1 reads) in
+    (read, reads, asked_of rest read parsed (subst (λ (n : ℕ). AskedBy (take n rest) read parsed) is asked))
 
 -- ---- the input
 
@@ -150,7 +109,7 @@ window_twice input = take-take 16384 16384 input (omega arith)
 
 asks_window : (input : List ℕ) (parsed : ParsedRequest) → HasNoEmptyLine (window input) → Asks (window input) parsed → Asks input parsed
 asks_window input parsed none asks =
-    ⊎_elim (λ q. inl (none, subst (λ (w : List ℕ). parsed ≡ refused (if length w == head_limit then HeadTooLarge else Truncated)) (window_twice input) q.1))
+    ⊎_elim (λ q. inl (none, subst (λ (w : List ℕ). parsed ≡ refused (headless w)) (window_twice input) q.1))
     (λ q. absurd (end_or_none (window input) q.0 none (subst (λ (w : List ℕ). IsBlockEnd w q.0) (window_twice input) q.1))) asks
 
 pub asks_needed : (input front : List ℕ) (parsed : ParsedRequest) → IsNeeded input front → Asks front parsed → Asks input parsed
@@ -223,6 +182,51 @@ received input left after text part bytes size consumed more is taken ends needs
   needed_whole input left after text part size consumed more taken ends needs body,
 )
 
+-- ---- what was parsed of it
+
+window_all : (text : List ℕ) → length text ≤ head_limit → window text ≡ text
+unfolding window
+window_all text few = take_all 16384 text few
+
+-- there is no empty line in what was taken
+pub asks_headless : (left : Option (List ℕ)) (text : List ℕ) → IsHeadTaken left text → ends_empty text ≡ false → Asks text (refused (headless text))
+asks_headless left text taken none =
+    let all : ends_empty (take (length text) text) ≡ false = ap ends_empty (take-length text) ∙ none in
+    let is : window text ≡ text = window_all text taken.few in
+    let lacks : HasNoEmptyLine text = λ k low. below_more (λ k. ends_empty (take k text) ≡ false) (length text) taken.first all k (omega arith) in
+    inl (subst HasNoEmptyLine (sym is) lacks, ap (λ w. refused (headless w)) (sym is))
+
+-- the block is refused, whatever follows it
+pub asks_refused : (left : Option (List ℕ)) (text : List ℕ) (rule : Rule) → IsHeadTaken left text → ends_empty text ≡ true → ReadsBlock text (Err rule)
+    → Asks text (refused rule)
+asks_refused left text rule taken ends reads =
+    let end : IsBlockEnd (window text) (length text) =
+    subst (λ (l : List ℕ). IsBlockEnd (window l) (length text)) (append-nil text) (block_ends text [] left taken ends) in
+    inr (length text, end, (Err rule, subst (λ (b : List ℕ). ReadsBlock b (Err rule)) (sym (take-length text)) reads, refl))
+
+-- so nothing more is needed of it
+pub received_refused : (input left : Option (List ℕ)) (text : List ℕ) (rule : Rule) → Consumes input left text → IsHeadTaken left text → ends_empty text ≡ true
+    → ReadsBlock text (Err rule) → IfSome input (λ whole. IsNeeded whole text)
+received_refused input left text rule consumed taken ends reads =
+    (received input left left text [] text 0 consumed (consumes_nothing left) (sym (append-nil text)) taken ends (Err rule, reads, refl)
+    (record { few = omega arith; whole = λ below. absurd (omega arith) })).1
+
+pub needs_parsed : (text : List ℕ) (parsed : Head) → IsParsed text parsed → NeedsBody text parsed.size
+needs_parsed text parsed p = (Ok (record { head = p.head; size = parsed.size }), (p.few, p.at.reads, p.size), refl)
+
+-- the head was parsed out of the block, and its body was taken behind it
+pub parses_whole : (left : Option (List ℕ)) (text part bytes : List ℕ) (parsed : Head) → bytes ≡ text ++ part → IsHeadTaken left text → ends_empty text ≡ true
+    → IsParsed text parsed → ParsesInput bytes (Ok parsed)
+parses_whole left text part bytes parsed is taken ends p =
+    let long : parsed.spans.len ≡ length text = block_length text parsed p in
+    let ends_there : IsBlockEnd (window bytes) (length text) =
+    subst (λ (l : List ℕ). IsBlockEnd (window l) (length text)) (sym is) (block_ends text part left taken ends) in
+    let block : take (length text) bytes ≡ text = ap (λ l. take (length text) l) is ∙ take-append_seam text part in
+    let p' : IsParsed (take (length text) bytes) parsed = subst (λ (b : List ℕ). IsParsed b parsed) (sym block) p in (
+      subst (λ (n : ℕ). IsBlockEnd (window bytes) n) (sym long) ends_there,
+      subst (λ (n : ℕ). IsParsed (take n bytes) parsed) (sym long) p',
+    )
+
 -- ---- what is taken where the bytes aren't whole
 
 begins : (n : ℕ) (part ys : List ℕ) → length part ≤ n → (rest : List ℕ) × (take n (part ++ ys) ≡ part ++ rest)
@@ -254,23 +258,9 @@ head_within a b (part, taken, begun) = (part, taken, go a.held b.held taken)
     go (Some xs) None took = absurd took
     go (Some xs) (Some ys) took = subst (λ (l : List ℕ). IsWithinNeeded l part) (sym took) (head_begins part ys begun)
 
-size_by : (block : List ℕ) (n m : ℕ) (long : Bool)
-    → MatchBool long (n ≡ 0)
-    (((n ≡ 0) × ((head : RequestHead) → ReadsRequest block head [] → ⊥))
-    ⊎ ((head : RequestHead) × ReadsRequest block head [] × (n ≡ told_by head)))
-    → MatchBool long (m ≡ 0)
-    (((m ≡ 0) × ((head : RequestHead) → ReadsRequest block head [] → ⊥))
-    ⊎ ((head : RequestHead) × ReadsRequest block head [] × (m ≡ told_by head)))
-    → n ≡ m
-size_by block n m true is other = is ∙ sym other
-size_by block n m false is other =
-    ⊎_elim (λ p. ⊎_elim (λ q. p.0 ∙ sym q.0) (λ q. absurd (p.1 q.0 q.1)) other)
-    (λ p. ⊎_elim (λ q. absurd (q.1 p.0 p.1))
-    (λ q. p.2 ∙ ap told_by (request_unique block p.0 q.0 [] [] p.1 q.1).0 ∙ sym q.2) other) is
-
 -- no block needs bodies of two sizes
 size_unique : (block : List ℕ) (n m : ℕ) → NeedsBody block n → NeedsBody block m → n ≡ m
-size_unique block n m is other = size_by block n m (nat_lt 64 (line_count block - 2)) is other
+size_unique block n m is other = is.2 ∙ ap needed_size (read_unique block is.0 other.0 is.1 other.1) ∙ sym other.2
 
 body_begins : (text part ys : List ℕ) (size : ℕ) (left : Option (List ℕ)) → IsHeadTaken left text → ends_empty text ≡ true → NeedsBody text size
     → length part ≤ size → IsWithinNeeded (text ++ (part ++ ys)) (text ++ part)
@@ -303,7 +293,7 @@ body_within a b c text size consumed taken ends needs (part, more, few) =
 
 -- ---- what is served
 
-module _ {T : Type 0} (stands : T → Content → Type 0) (is_live is_clean : T → Type 0) (keys : Keys) (m : ℕ) (input front reply : List ℕ) where
+module _ {T : Type 0} (meaning : Meaning T) (keys : Keys) (m : ℕ) (input front reply : List ℕ) where
   abbrev IsNeededBy : Bool → Type 0
   IsNeededBy b = MatchBool b (IsNeeded input front) (front ≡ [])
 
@@ -332,8 +322,8 @@ module _ {T : Type 0} (stands : T → Content → Type 0) (is_live is_clean : T 
   ]
 
   -- what is served of the front is served of the whole
-  pub taken_needed : (old new : T) → IsNeededAt m input front → RequestTaken stands is_live is_clean keys m front reply old new
-      → RequestTaken stands is_live is_clean keys m input reply old new
+  pub taken_needed : (old new : T) → IsNeededAt m input front → RequestTaken meaning keys m front reply old new
+      → RequestTaken meaning keys m input reply old new
   taken_needed old new needed (unavailable, goes) = (
     unavailable,
     λ clean c kept h.
@@ -343,30 +333,30 @@ module _ {T : Type 0} (stands : T → Content → Type 0) (is_live is_clean : T 
 
 -- ---- what a connection is answered
 
-module _ {T : Type 0} (stands : T → Content → Type 0) (is_live is_clean : T → Type 0) (keys : Keys) (m : ℕ) (reply : List ℕ) (old new : T) where
+module _ {T : Type 0} (meaning : Meaning T) (keys : Keys) (m : ℕ) (reply : List ℕ) (old new : T) where
   abbrev IsAnsweredBy : Option (List ℕ) → List ℕ → Type 0
-  IsAnsweredBy held front = IfSome held (λ bytes. IsNeededAt m bytes front × RequestTaken stands is_live is_clean keys m bytes reply old new)
+  IsAnsweredBy held front = IfSome held (λ bytes. IsNeededAt m bytes front × RequestTaken meaning keys m bytes reply old new)
 
-  late_by : (held : Option (List ℕ)) → end_of_moments ≤ m → RequestTaken stands is_live is_clean keys m [] reply old new → IsAnsweredBy held []
+  late_by : (held : Option (List ℕ)) → end_of_moments ≤ m → RequestTaken meaning keys m [] reply old new → IsAnsweredBy held []
   late_by None late taken = tt
   late_by (Some bytes) late taken =
       let needed : IsNeededAt m bytes [] = rw (le-ltb m end_of_moments late) refl in
-      (needed, taken_needed stands is_live is_clean keys m bytes [] reply old new needed taken)
+      (needed, taken_needed meaning keys m bytes [] reply old new needed taken)
 
   -- at a moment that isn't served nothing is needed
-  pub answers_late : (input : InputStream) → end_of_moments ≤ m → RequestTaken stands is_live is_clean keys m [] reply old new
-      → ShowsRequest stands is_live m [] reply old new → AnswersInput stands is_live is_clean keys m input input reply old new
+  pub answers_late : (input : InputStream) → end_of_moments ≤ m → RequestTaken meaning keys m [] reply old new
+      → ShowsRequest meaning m [] reply old new → AnswersInput meaning keys m input input reply old new
   answers_late input late taken shows = inl ([], consumes_nothing input.held, taken, late_by input.held late taken, shows)
 
   early_by : (held : Option (List ℕ)) (front : List ℕ) → m < end_of_moments → IfSome held (λ bytes. IsNeeded bytes front)
-      → RequestTaken stands is_live is_clean keys m front reply old new → IsAnsweredBy held front
+      → RequestTaken meaning keys m front reply old new → IsAnsweredBy held front
   early_by None front early needed taken = tt
   early_by (Some bytes) front early needed taken =
       let needed_then : IsNeededAt m bytes front = rw (lt-ltb m end_of_moments early) needed in
-      (needed_then, taken_needed stands is_live is_clean keys m bytes front reply old new needed_then taken)
+      (needed_then, taken_needed meaning keys m bytes front reply old new needed_then taken)
 
   pub answers_early : (input left : InputStream) (front : List ℕ) → m < end_of_moments → Gives input left front
-      → IfSome input.held (λ bytes. IsNeeded bytes front) → RequestTaken stands is_live is_clean keys m front reply old new
-      → ShowsRequest stands is_live m front reply old new → AnswersInput stands is_live is_clean keys m input left reply old new
+      → IfSome input.held (λ bytes. IsNeeded bytes front) → RequestTaken meaning keys m front reply old new
+      → ShowsRequest meaning m front reply old new → AnswersInput meaning keys m input left reply old new
   answers_early input left front early consumed needed taken shows =
       inl (front, consumed, taken, early_by input.held front early needed taken, shows)

@@ -6,9 +6,9 @@ use Rattle.matchit.specs.Router.{RouteOf}
 use Rattle.acvp_policy.specs.declared.rule.Rule.{Rule}
 use Rattle.acvp_http.specs.declared.path.Path.{Path}
 use Rattle.acvp_http.specs.declared.path.Path.TheVariants.{Login, Account, Algorithms, Algorithm, Sessions, Session, SessionResults, Sets, Set, SetResults, Expected, Reviewers, Reviewer, Vendors, Vendor, Modules, Module, Environments, Environment, Requests, Request}
-use Rattle.acvp_http.specs.declared.path.Route.{Route}
-use Rattle.acvp_http.specs.declared.routes.Pattern.{Pattern}
+use Rattle.acvp_desk.specs.declared.request.Ask.{Ask}
 use Rattle.acvp_http.specs.Paths.{Fits, written, IsPath, Names, Finds, method_on}
+use Rattle.acvp_http.specs.Target.{path_of, query_of}
 use Rattle.acvp_http.specs.Private.Rows.{pattern_of, rows}
 use Rattle.acvp_http.proofs.TableLemmas.{finds}
 use Rattle.acvp_http.proofs.NumberLemmas.{last-one, inner-one, both-last-one, both-inner-one}
@@ -43,7 +43,7 @@ pub IsPath-one : (text : List ℕ) (a b : Path) → IsPath text a → IsPath tex
 IsPath-one text a b is other =
     let same : written a ≡ written b = sym is.1 ∙ other.1 in
     let found : Some (pattern_of a) ≡ Some (pattern_of b) =
-    sym (finds a is.0) ∙ (ap (λ w. option_map (λ (route : RouteOf Pattern). route.value) (first rows w)) same ∙ finds b other.0) in
+    sym (finds a is.0) ∙ (ap (λ w. option_map (λ (route : RouteOf Path). route.value) (first rows w)) same ∙ finds b other.0) in
     let pattern : pattern_of a ≡ pattern_of b = cc in
     written-one a b is.0 other.0 pattern same
 
@@ -55,5 +55,6 @@ Names-one text (Some a) None is none = absurd (none a is)
 Names-one text (Some a) (Some b) is other = ap Some (IsPath-one text a b is other)
 
 -- a method finds one thing
-pub Finds-one : (method text : List ℕ) (a b : Result Route Rule) → Finds method text a → Finds method text b → a ≡ b
-Finds-one method text a b x y = x.2 ∙ (ap (λ named. method_on method named) (Names-one text x.0 y.0 x.1 y.1) ∙ sym y.2)
+pub Finds-one : (method target : List ℕ) (a b : Result Ask Rule) → Finds method target a → Finds method target b → a ≡ b
+Finds-one method target a b x y =
+    x.2 ∙ (ap (λ named. method_on method (query_of target) named) (Names-one (path_of target) x.0 y.0 x.1 y.1) ∙ sym y.2)

@@ -2,7 +2,7 @@
 use Rattle.std.proofs.Common.{ℕ, ◌≤◌, List, [], ◌∷◌, length, subst}
 use Rattle.std.specs.List.{All}
 use Rattle.std.proofs.lemmas.List.Elements.{All-nil, All-cons}
-use Rattle.acvp_tables.specs.Content.{Content}
+use Rattle.acvp_tables.specs.Meaning.{Meaning}
 use Rattle.acvp_desk.specs.declared.keys.Keys.{Keys}
 use Rattle.acvp_http.specs.Event.{Answer, Turn}
 use Rattle.acvp_http.specs.Headline.{Headline, HeadlineLeft}
@@ -23,12 +23,12 @@ all_can [] text script = All-nil (λ (turn : Turn). CanHappen turn.event)
 all_can (turn ∷ turns) text (front, rest, is, written, script) =
     All-cons (λ (turn : Turn). CanHappen turn.event) turn turns (can_happen turn.event front written) (all_can turns rest script)
 
-module _ {T : Type 0} (stands : T → Content → Type 0) (is_live is_clean : T → Type 0)
-    (makes : (keys : Keys) (turns : List Turn) (answers : List Answer) (old new : T) → GoesThrough stands is_live is_clean keys turns answers old new
-    → GoesByTurns stands is_live is_clean keys turns answers old new)
+module _ {T : Type 0} (meaning : Meaning T)
+    (makes : (keys : Keys) (turns : List Turn) (answers : List Answer) (old new : T) → GoesThrough meaning keys turns answers old new
+    → GoesByTurns meaning keys turns answers old new)
     (headline : Headline) (left : HeadlineLeft) (isolation : Isolation) (keys : Keys) (seeded : 1 ≤ length keys.seed) where
-  promised : (turns : List Turn) (answers : List Answer) (text : List ℕ) (old new : T) → IsScript (events_of turns) text → GoesThrough stands is_live is_clean keys turns answers old new
-      → GoesAsPromised stands is_live is_clean keys turns answers old new
+  promised : (turns : List Turn) (answers : List Answer) (text : List ℕ) (old new : T) → IsScript (events_of turns) text → GoesThrough meaning keys turns answers old new
+      → GoesAsPromised meaning keys turns answers old new
   promised turns answers text old new script through = λ clean c kept h.
       let (next, runs, stands-next, kept-next) = makes keys turns answers old new through clean c kept h in (
         next,
@@ -43,6 +43,6 @@ module _ {T : Type 0} (stands : T → Content → Type 0) (is_live is_clean : T 
       )
 
   pub runs_script : (tables last : T) (input rest : InputStream) (old new : OutputStream) (result : Result ℕ ScriptFault)
-      → RunsTurns stands is_live is_clean keys tables last input rest old new result → RunsScript stands is_live is_clean keys tables last input rest old new result
+      → RunsTurns meaning keys tables last input rest old new result → RunsScript meaning keys tables last input rest old new result
   runs_script tables last input rest old new result (turns, answers, text, through, script, stops, writes, few) =
       (turns, answers, text, promised turns answers text tables last script through, through, script, stops, writes, few)

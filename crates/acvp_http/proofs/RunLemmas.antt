@@ -4,21 +4,22 @@ use Rattle.std.proofs.lemmas.Bool.{le-leb}
 use Rattle.std.proofs.lemmas.List.{append-nil}
 use Rattle.std.specs.Io.KnownBytes.{Appends, Consumes}
 use Rattle.hex.proofs.HexLemmas.{decode_of-ok}
-use Rattle.acvp_tables.specs.Content.{Content}
+use Rattle.acvp_tables.specs.Meaning.{Meaning}
 use Rattle.acvp_tables.specs.State.{is_account_number}
 use Rattle.acvp_desk.specs.declared.keys.Keys.{Keys}
 use Rattle.acvp_desk.specs.declared.order.Order.TheVariants.{AddAccount, DisableAccount, ApproveRequest, RejectRequest}
-use Rattle.acvp_http.specs.declared.script.ScriptFault.{ScriptFault}
-use Rattle.acvp_http.specs.declared.script.ScriptFault.TheVariants.{Read, Write, Syntax, Limit, Memory}
+use Rattle.acvp_http.specs.declared.source.ReadFault.{ReadFault}
+use Rattle.acvp_http.specs.declared.source.ReadFault.TheVariants.{Failed, TooOften}
+use Rattle.acvp_http.specs.declared.script.ScriptFault.TheVariants.{Write}
 use Rattle.acvp_http.specs.Event.{Event, request, order, Answer, Turn}
 use Rattle.acvp_http.specs.Event.{CanHappen}
 use Rattle.acvp_http.specs.Script.{IsScript, IsWritten, IsAccountNumber, HasNoEvent, answer_text, output_of}
 use Rattle.acvp_http.specs.Serve.{GoesByTurn, GoesByTurns, GoesThrough, ShowsEvent}
-use Rattle.acvp_http.specs.Private.Reading.{TakesPart, StopsReading}
+use Rattle.acvp_http.specs.Private.Reading.{TakesPart, StopsReading, stopped_by}
 use Rattle.acvp_http.specs.Source.{InputStream, OutputStream, Gives, Gets, GetsFront}
 use Rattle.acvp_http.specs.Run.{events_of, most_reads, BeginsWith, TakesInPart, StopsAfter, WritesAnswers, RunsTurns}
 use Rattle.acvp_http.proofs.KnownLemmas.{consumes_consumes, consumes_nothing}
-use Rattle.acvp_http.proofs.WritingLemmas.{appends_appends}
+use Rattle.acvp_http.proofs.WrittenTextLemmas.{appends_appends}
 
 -- a script, and one event more
 pub script_more : (events : List Event) (text front : List ℕ) (e : Event) → IsScript events text → IsWritten e front
@@ -49,22 +50,24 @@ appends_nothing None = tt
 appends_nothing (Some xs) = sym (append-nil xs)
 
 -- a turn of a desk with the same keys
-pub under : {T : Type 0} (stands : T → Content → Type 0) (is_live is_clean : T → Type 0) (now keys : Keys) (old new : T) (turn : Turn) (answer : Answer) → now ≡ keys
-    → GoesByTurn stands is_live is_clean now turn answer old new → GoesByTurn stands is_live is_clean keys turn answer old new
-under stands is_live is_clean now keys old new turn answer same takes = subst (λ (k : Keys). GoesByTurn stands is_live is_clean k turn answer old new) same takes
+pub under : {T : Type 0} (meaning : Meaning T) (now keys : Keys) (old new : T) (turn : Turn) (answer : Answer) → now ≡ keys
+    → GoesByTurn meaning now turn answer old new → GoesByTurn meaning keys turn answer old new
+under meaning now keys old new turn answer same takes = subst (λ (k : Keys). GoesByTurn meaning k turn answer old new) same takes
 
 -- tables that go through turns, and by one more
-module _ {T : Type 0} (stands : T → Content → Type 0) (is_live is_clean : T → Type 0) (keys : Keys) where
+module _ {T : Type 0} (meaning : Meaning T) (keys : Keys) where
+  open meaning use {stands, is_live, is_clean}
+
   through_more : (turns : List Turn) (answers : List Answer) (start mid now : T) (turn : Turn) (answer : Answer)
-      → GoesThrough stands is_live is_clean keys turns answers start mid → (is_clean now → is_clean mid) → ShowsEvent stands is_live turn.event answer mid now
-      → GoesByTurn stands is_live is_clean keys turn answer mid now
-      → GoesThrough stands is_live is_clean keys (turns ++ turn ∷ []) (answers ++ answer ∷ []) start now
+      → GoesThrough meaning keys turns answers start mid → (is_clean now → is_clean mid) → ShowsEvent meaning turn.event answer mid now
+      → GoesByTurn meaning keys turn answer mid now
+      → GoesThrough meaning keys (turns ++ turn ∷ []) (answers ++ answer ∷ []) start now
   through_more [] [] start mid now turn answer through was_clean shows takes =
       let same : mid ≡ start = through in (
         now,
         subst (λ (t : T). is_clean now → is_clean t) same was_clean,
-        subst (λ (t : T). ShowsEvent stands is_live turn.event answer t now) same shows,
-        subst (λ (t : T). GoesByTurn stands is_live is_clean keys turn answer t now) same takes,
+        subst (λ (t : T). ShowsEvent meaning turn.event answer t now) same shows,
+        subst (λ (t : T). GoesByTurn meaning keys turn answer t now) same takes,
         refl,
       )
   through_more [] (a ∷ answers) start mid now turn answer through was_clean shows takes = absurd through
@@ -73,15 +76,15 @@ module _ {T : Type 0} (stands : T → Content → Type 0) (is_live is_clean : T 
       (next, up, shown, first, through_more turns answers next mid now turn answer through was_clean shows takes)
 
   -- a disk that has told no lie at the end had told none at the start
-  through_clean : (turns : List Turn) (answers : List Answer) (old new : T) → GoesThrough stands is_live is_clean keys turns answers old new → is_clean new → is_clean old
+  through_clean : (turns : List Turn) (answers : List Answer) (old new : T) → GoesThrough meaning keys turns answers old new → is_clean new → is_clean old
   through_clean [] [] old new through clean = subst (λ (t : T). is_clean t) through clean
   through_clean [] (a ∷ answers) old new through clean = absurd through
   through_clean (t ∷ turns) [] old new through clean = absurd through
   through_clean (t ∷ turns) (a ∷ answers) old new (mid, up, shown, first, through) clean = up (through_clean turns answers mid new through clean)
 
   -- and then the tables go by all turns
-  pub make_a_run : (turns : List Turn) (answers : List Answer) (old new : T) → GoesThrough stands is_live is_clean keys turns answers old new
-      → GoesByTurns stands is_live is_clean keys turns answers old new
+  pub make_a_run : (turns : List Turn) (answers : List Answer) (old new : T) → GoesThrough meaning keys turns answers old new
+      → GoesByTurns meaning keys turns answers old new
   make_a_run [] [] old new through = λ clean c kept h. (c, refl, subst (λ (t : T). is_live t → stands t c) (sym through) h, kept)
   make_a_run [] (a ∷ answers) old new through = absurd through
   make_a_run (t ∷ turns) [] old new through = absurd through
@@ -91,12 +94,14 @@ module _ {T : Type 0} (stands : T → Content → Type 0) (is_live is_clean : T 
       (next, (c', taken, ran), stands-next, kept-next)
 
 -- what a run over tables has done after so many turns
-module _ {T : Type 0} (stands : T → Content → Type 0) (is_live is_clean : T → Type 0) (keys : Keys) (start : T) where
+module _ {T : Type 0} (meaning : Meaning T) (keys : Keys) (start : T) where
+  open meaning use {is_clean}
+
   pub record Ran (now : T) (input left : InputStream) (old new : OutputStream) (count : ℕ) : Type 0 where
     pub turns : List Turn
     pub answers : List Answer
     pub text : List ℕ
-    pub runs : GoesThrough stands is_live is_clean keys turns answers start now
+    pub runs : GoesThrough meaning keys turns answers start now
     pub script : IsScript (events_of turns) text
     pub size : length turns ≡ count
     pub consumed : Gives input left text
@@ -118,7 +123,7 @@ module _ {T : Type 0} (stands : T → Content → Type 0) (is_live is_clean : T 
   module _ (mid now : T) (input left left' : InputStream) (old new new' : OutputStream) (turn : Turn) (answer : Answer) (front : List ℕ) where
     -- one turn more
     pub ran_more : (count : ℕ) → Ran mid input left old new count → (is_clean now → is_clean mid) → IsWritten turn.event front
-        → Gives left left' front → ShowsEvent stands is_live turn.event answer mid now → GoesByTurn stands is_live is_clean keys turn answer mid now
+        → Gives left left' front → ShowsEvent meaning turn.event answer mid now → GoesByTurn meaning keys turn answer mid now
         → Gets new new' (answer_text answer)
         → Ran now input left' old new' (count + 1)
     ran_more count ran was_clean written consumed shows takes appended =
@@ -126,7 +131,7 @@ module _ {T : Type 0} (stands : T → Content → Type 0) (is_live is_clean : T 
           turns = ran.turns ++ turn ∷ [];
           answers = ran.answers ++ answer ∷ [];
           text = ran.text ++ front;
-          runs = through_more stands is_live is_clean keys ran.turns ran.answers start mid now turn answer ran.runs was_clean shows takes;
+          runs = through_more meaning keys ran.turns ran.answers start mid now turn answer ran.runs was_clean shows takes;
           script = rw (events_more ran.turns turn)
               (script_more (events_of ran.turns) ran.text front turn.event ran.script written);
           size = omega (arith, length-append ran.turns (turn ∷ []), ran.size);
@@ -136,27 +141,25 @@ module _ {T : Type 0} (stands : T → Content → Type 0) (is_live is_clean : T 
         }
 
     -- the writer fails in a turn's answer
-    pub ran_writes : (count : ℕ) (fault : ScriptFault) → Ran mid input left old new count → count < 100000 → (is_clean now → is_clean mid)
-        → IsWritten turn.event front → Gives left left' front → ShowsEvent stands is_live turn.event answer mid now
-        → GoesByTurn stands is_live is_clean keys turn answer mid now → fault ≡ Write
-        → GetsFront new new' (answer_text answer) → RunsTurns stands is_live is_clean keys start now input left' old new' (Err fault)
-    ran_writes count fault ran few was_clean written consumed shows takes is (begun, rest, parts, appended) =
-        let result : RunsTurns stands is_live is_clean keys start now input left' old new' (Err Write) = (
-          ran.turns ++ turn ∷ [],
-          ran.answers ++ answer ∷ [],
-          ran.text ++ front,
-          through_more stands is_live is_clean keys ran.turns ran.answers start mid now turn answer ran.runs was_clean shows takes,
-          rw (events_more ran.turns turn) (script_more (events_of ran.turns) ran.text front turn.event ran.script written),
-          consumes_consumes input.held left.held left'.held ran.text front ran.consumed consumed,
-          (
-            ran.answers,
-            answer,
-            refl,
-            (begun, rest, parts, appends_appends old.contents new.contents new'.contents (output_of ran.answers) begun ran.appended appended),
-          ),
-          omega (arith, length-append ran.turns (turn ∷ []), ran.size),
-        ) in
-        rw is result
+    pub ran_writes : (count : ℕ) → Ran mid input left old new count → count < 100000 → (is_clean now → is_clean mid)
+        → IsWritten turn.event front → Gives left left' front → ShowsEvent meaning turn.event answer mid now
+        → GoesByTurn meaning keys turn answer mid now
+        → GetsFront new new' (answer_text answer) → RunsTurns meaning keys start now input left' old new' (Err Write)
+    ran_writes count ran few was_clean written consumed shows takes (begun, rest, parts, appended) = (
+      ran.turns ++ turn ∷ [],
+      ran.answers ++ answer ∷ [],
+      ran.text ++ front,
+      through_more meaning keys ran.turns ran.answers start mid now turn answer ran.runs was_clean shows takes,
+      rw (events_more ran.turns turn) (script_more (events_of ran.turns) ran.text front turn.event ran.script written),
+      consumes_consumes input.held left.held left'.held ran.text front ran.consumed consumed,
+      (
+        ran.answers,
+        answer,
+        refl,
+        (begun, rest, parts, appends_appends old.contents new.contents new'.contents (output_of ran.answers) begun ran.appended appended),
+      ),
+      omega (arith, length-append ran.turns (turn ∷ []), ran.size),
+    )
 
 -- what was taken behind the turns holds no whole event
 pub in_part : (input left left' : InputStream) (text : List ℕ) → Gives input left text → TakesPart left left' HasNoEvent
@@ -164,16 +167,13 @@ pub in_part : (input left left' : InputStream) (text : List ℕ) → Gives input
 in_part input left left' text consumed (part, taken, none) = (part, none, consumes_consumes input.held left.held left'.held text part consumed taken)
 
 -- the byte behind the last turn isn't read: a read has failed, or there were too many
-pub stopped_at_last : (fault : ScriptFault) (limit : ℕ) (input left : InputStream) (old new : OutputStream) (turns : List Turn)
-    (answers : List Answer) (text : List ℕ) → StopsReading fault left limit → limit ≡ min (input.reads + most_reads) (2 ^ 64 - 1)
+pub stopped_at_last : (read : ReadFault) (limit : ℕ) (input left : InputStream) (old new : OutputStream) (turns : List Turn)
+    (answers : List Answer) (text : List ℕ) → StopsReading read left limit → limit ≡ min (input.reads + most_reads) (2 ^ 64 - 1)
     → TakesInPart input left text → Gets old new (output_of answers)
-    → StopsAfter input left turns text (Err fault) × WritesAnswers old new answers (Err fault)
-stopped_at_last Read limit input left old new turns answers text stops at part appended = (part, appended)
-stopped_at_last Write limit input left old new turns answers text stops at part appended = absurd stops
-stopped_at_last Syntax limit input left old new turns answers text stops at part appended = absurd stops
-stopped_at_last Limit limit input left old new turns answers text stops at part appended =
+    → StopsAfter input left turns text (Err (stopped_by read)) × WritesAnswers old new answers (Err (stopped_by read))
+stopped_at_last Failed limit input left old new turns answers text stops at part appended = (part, appended)
+stopped_at_last TooOften limit input left old new turns answers text stops at part appended =
     ((part, inr (subst (λ (n : ℕ). n ≤ left.reads) at stops.1)), appended)
-stopped_at_last Memory limit input left old new turns answers text stops at part appended = absurd stops
 
 -- one byte more stands behind the script
 pub goes_on : (input left left' : Option (List ℕ)) (text : List ℕ) (byte : ℕ) → Consumes input left text

@@ -6,6 +6,7 @@ use Rattle.std.proofs.lemmas.Bool.{lt-ltb, le-ltb}
 use Rattle.acvp_policy.specs.declared.rule.Rule.{Rule}
 use Rattle.acvp_policy.specs.declared.rule.Rule.TheVariants as rule
 use Rattle.acvp_tables.specs.Content.{Content}
+use Rattle.acvp_tables.specs.Meaning.{Meaning}
 use Rattle.acvp_tables.specs.State.{state_of}
 use Rattle.acvp_desk.specs.Answer.{end_of_moments, answer, accepted_change, content_effect, spare, Gives}
 use Rattle.acvp_desk.specs.Data.{Data}
@@ -35,25 +36,27 @@ unfolding RefusesAtOnce
 refused_early m bytes parsed date reply early asks dated is =
     let in_time : nat_lt m end_of_moments ≡ true = lt-ltb m end_of_moments early in rw in_time (parsed, date, asks, dated, is)
 
-module _ {T : Type 0} (stands : T → Content → Type 0) (is_live is_clean : T → Type 0) (leaves : T → Content → Content → Type 0) (keys : Keys) (m : ℕ) (bytes : List ℕ) where
+module _ {T : Type 0} (meaning : Meaning T) (keys : Keys) (m : ℕ) (bytes : List ℕ) where
+  open meaning use {stands, is_live, is_clean, leaves}
+
   -- what is shown of a request, without what a crash finds
-  form_of : (reply : List ℕ) (old new : T) → ShowsReply stands is_live is_clean leaves m reply old new → IsShown stands is_live (λ rule. ⊤) m reply old new
+  form_of : (reply : List ℕ) (old new : T) → ShowsReply meaning m reply old new → IsShown meaning (λ rule. ⊤) m reply old new
   form_of reply old new (date, dated, inl given) = (date, dated, inl given)
   form_of reply old new (date, dated, inr (told, is, keeps, left)) = (date, dated, inr (told, is, keeps, tt))
 
   pub shows_request : (reply : List ℕ) (old new : T)
-      → (RefusesAtOnce m bytes reply × (new ≡ old)) ⊎ ((r : RequestValue) × AsksTheDesk m bytes r × ShowsReply stands is_live is_clean leaves m reply old new)
-      → ShowsRequest stands is_live m bytes reply old new
+      → (RefusesAtOnce m bytes reply × (new ≡ old)) ⊎ ((r : RequestValue) × AsksTheDesk m bytes r × ShowsReply meaning m reply old new)
+      → ShowsRequest meaning m bytes reply old new
   shows_request reply old new (inl at_once) = inl at_once
   shows_request reply old new (inr (r, asks, shows)) = inr (r, asks, form_of reply old new shows)
 
   -- nobody was looked at
-  pub taken_at_once : (t : T) (reply : List ℕ) → RefusesAtOnce m bytes reply → RequestTaken stands is_live is_clean keys m bytes reply t t
+  pub taken_at_once : (t : T) (reply : List ℕ) → RefusesAtOnce m bytes reply → RequestTaken meaning keys m bytes reply t t
   taken_at_once t reply refuses = (false, λ clean c kept h. (c, inl (refl, refuses), h, kept))
 
   -- and a crash finds what there was
   pub left_at_once : (rests : (t : T) (c d : Content) → is_live t → stands t c → leaves t c d) (t : T) (reply : List ℕ) → RefusesAtOnce m bytes reply
-      → LeavesRequest stands is_live is_clean leaves keys m bytes reply t t
+      → LeavesRequest meaning keys m bytes reply t t
   left_at_once rests t reply refuses = λ clean live c kept h. inl (c, inl (refl, refuses), λ d. rests t c d live h)
 
   module _ (r : RequestValue) (asks : AsksTheDesk m bytes r) (date : List ℕ) (dated : IsDateOf m date) (old new : T) (changed : Bool) where
@@ -66,8 +69,8 @@ module _ {T : Type 0} (stands : T → Content → Type 0) (is_live is_clean : T 
         (date, dated, same, said)
 
     -- the desk has denied it
-    pub taken_denied : (told : Rule) (reply : List ℕ) → desk.Serves stands is_live is_clean leaves (result_of (Denied told) changed) old new keys m r
-        → reply ≡ refusal (Some date) told → RequestTaken stands is_live is_clean keys m bytes reply old new
+    pub taken_denied : (told : Rule) (reply : List ℕ) → desk.Serves meaning (result_of (Denied told) changed) old new keys m r
+        → reply ≡ refusal (Some date) told → RequestTaken meaning keys m bytes reply old new
     taken_denied told reply serves shown = elim (is_unavailable told) [
       | inl is ↦ (
         true,
@@ -88,17 +91,17 @@ module _ {T : Type 0} (stands : T → Content → Type 0) (is_live is_clean : T 
     shown_as (Ok (Some shown)) buffer reply gives is = rw (← gives.1) is
 
     -- what is shown of a denial, and that what was live is unless it is unavailable
-    pub shown_denied : (told : Rule) (reply : List ℕ) → desk.Serves stands is_live is_clean leaves (result_of (Denied told) changed) old new keys m r
-        → reply ≡ refusal (Some date) told → ShowsReply stands is_live is_clean leaves m reply old new
+    pub shown_denied : (told : Rule) (reply : List ℕ) → desk.Serves meaning (result_of (Denied told) changed) old new keys m r
+        → reply ≡ refusal (Some date) told → ShowsReply meaning m reply old new
     shown_denied told reply serves shown = (date, dated, inr (told, shown, serves.same, serves.kept))
 
-    pub live_denied : (told : Rule) (reply : List ℕ) → desk.Serves stands is_live is_clean leaves (result_of (Denied told) changed) old new keys m r
+    pub live_denied : (told : Rule) (reply : List ℕ) → desk.Serves meaning (result_of (Denied told) changed) old new keys m r
         → reply ≡ refusal (Some date) told → (reply ≡ refusal None rule.Unavailable) ⊎ (is_clean new → is_live old → is_live new)
     live_denied told reply serves shown = elim serves.live [ inl is ↦ inl (shown ∙ ap (λ x. refusal (Some date) x) is) | inr live ↦ inr live ]
 
     -- the desk has given a reply
-    pub taken_given : (buffer : Vec ℕ Global) (reply : List ℕ) → desk.Serves stands is_live is_clean leaves (result_of (Given buffer) changed) old new keys m r
-        → reply ≡ framed 200 (Some date) [] (drop spare buffer.items) → RequestTaken stands is_live is_clean keys m bytes reply old new
+    pub taken_given : (buffer : Vec ℕ Global) (reply : List ℕ) → desk.Serves meaning (result_of (Given buffer) changed) old new keys m r
+        → reply ≡ framed 200 (Some date) [] (drop spare buffer.items) → RequestTaken meaning keys m bytes reply old new
     taken_given buffer reply serves is = (
       false,
       λ clean c kept h.
@@ -112,8 +115,8 @@ module _ {T : Type 0} (stands : T → Content → Type 0) (is_live is_clean : T 
 
     -- what a crash finds after a denial
     pub left_denied : (rests : (t : T) (c d : Content) → is_live t → stands t c → leaves t c d) (told : Rule) (reply : List ℕ)
-        → desk.Serves stands is_live is_clean leaves (result_of (Denied told) changed) old new keys m r → reply ≡ refusal (Some date) told
-        → LeavesRequest stands is_live is_clean leaves keys m bytes reply old new
+        → desk.Serves meaning (result_of (Denied told) changed) old new keys m r → reply ≡ refusal (Some date) told
+        → LeavesRequest meaning keys m bytes reply old new
     left_denied rests told reply serves shown = λ clean live c kept h. elim (is_unavailable told) [
       | inl is ↦ inr (r, asks, shown ∙ ap (λ x. refusal (Some date) x) is, serves.unsettled clean live c kept h)
       | inr other ↦
@@ -126,8 +129,8 @@ module _ {T : Type 0} (stands : T → Content → Type 0) (is_live is_clean : T 
     ]
 
     -- and after a reply that was given
-    pub left_given : (buffer : Vec ℕ Global) (reply : List ℕ) → desk.Serves stands is_live is_clean leaves (result_of (Given buffer) changed) old new keys m r
-        → reply ≡ framed 200 (Some date) [] (drop spare buffer.items) → LeavesRequest stands is_live is_clean leaves keys m bytes reply old new
+    pub left_given : (buffer : Vec ℕ Global) (reply : List ℕ) → desk.Serves meaning (result_of (Given buffer) changed) old new keys m r
+        → reply ≡ framed 200 (Some date) [] (drop spare buffer.items) → LeavesRequest meaning keys m bytes reply old new
     left_given buffer reply serves is = λ clean live c kept h.
         let (gives, stands_after, kept_after, told) = serves.given clean c kept (λ _. h) in
         inl (

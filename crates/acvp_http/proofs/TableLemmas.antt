@@ -9,46 +9,44 @@ use Rattle.matchit.specs.Seek.{first}
 use Rattle.matchit.specs.Router.{RouteOf}
 use Rattle.acvp_http.specs.declared.path.Path.{Path}
 use Rattle.acvp_http.specs.declared.path.Path.TheVariants.{Login, Account, Algorithms, Algorithm, Sessions, Session, SessionResults, Sets, Set, SetResults, Expected, Reviewers, Reviewer, Vendors, Vendor, Modules, Module, Environments, Environment, Requests, Request}
-use Rattle.acvp_http.specs.declared.routes.Pattern.{Pattern}
-use Rattle.acvp_http.specs.declared.routes.Pattern.TheVariants.{Login as LoginPattern, Account as AccountPattern, Algorithms as AlgorithmsPattern, Algorithm as AlgorithmPattern, Sessions as SessionsPattern, Session as SessionPattern, SessionResults as SessionResultsPattern, Sets as SetsPattern, Set as SetPattern, SetResults as SetResultsPattern, Expected as ExpectedPattern, Reviewers as ReviewersPattern, Reviewer as ReviewerPattern, Vendors as VendorsPattern, Vendor as VendorPattern, Modules as ModulesPattern, Module as ModulePattern, Environments as EnvironmentsPattern, Environment as EnvironmentPattern, Requests as RequestsPattern, Request as RequestPattern}
 use Rattle.acvp_http.specs.Paths.{Fits, written, IsPath, Names}
 use Rattle.acvp_http.specs.Private.Rows.{pattern_of, HasPattern, rows, general_routes, session_routes, registry_routes}
 use Rattle.acvp_http.proofs.WalkLemmas.{AreSmall, is_plain, is_ascii, reach, filled, filled-ascii, found-filled, none_small, one_small, two_small}
 
 -- the tokens of a pattern
-abbrev tokens : Pattern → List ℕ
-tokens LoginPattern = codes "/acvp/v1/login"
-tokens AccountPattern = codes "/acvp/v1/account"
-tokens AlgorithmsPattern = codes "/acvp/v1/algorithms"
-tokens AlgorithmPattern = codes "/acvp/v1/algorithms/" ++ 256 ∷ []
-tokens SessionsPattern = codes "/acvp/v1/testSessions"
-tokens SessionPattern = codes "/acvp/v1/testSessions/" ++ 256 ∷ []
-tokens SessionResultsPattern = codes "/acvp/v1/testSessions/" ++ 256 ∷ [] ++ codes "/results"
-tokens SetsPattern = codes "/acvp/v1/testSessions/" ++ 256 ∷ [] ++ codes "/vectorSets"
-tokens SetPattern = codes "/acvp/v1/testSessions/" ++ 256 ∷ [] ++ codes "/vectorSets/" ++ 256 ∷ []
-tokens SetResultsPattern = codes "/acvp/v1/testSessions/" ++ 256 ∷ [] ++ codes "/vectorSets/" ++ 256 ∷ [] ++ codes "/results"
-tokens ExpectedPattern = codes "/acvp/v1/testSessions/" ++ 256 ∷ [] ++ codes "/vectorSets/" ++ 256 ∷ [] ++ codes "/expected"
-tokens ReviewersPattern = codes "/acvp/v1/testSessions/" ++ 256 ∷ [] ++ codes "/reviewers"
-tokens ReviewerPattern = codes "/acvp/v1/testSessions/" ++ 256 ∷ [] ++ codes "/reviewers/" ++ 256 ∷ []
-tokens VendorsPattern = codes "/acvp/v1/vendors"
-tokens VendorPattern = codes "/acvp/v1/vendors/" ++ 256 ∷ []
-tokens ModulesPattern = codes "/acvp/v1/modules"
-tokens ModulePattern = codes "/acvp/v1/modules/" ++ 256 ∷ []
-tokens EnvironmentsPattern = codes "/acvp/v1/oes"
-tokens EnvironmentPattern = codes "/acvp/v1/oes/" ++ 256 ∷ []
-tokens RequestsPattern = codes "/acvp/v1/requests"
-tokens RequestPattern = codes "/acvp/v1/requests/" ++ 256 ∷ []
+abbrev tokens : Path → List ℕ
+tokens Login = codes "/acvp/v1/login"
+tokens Account = codes "/acvp/v1/account"
+tokens Algorithms = codes "/acvp/v1/algorithms"
+tokens (Algorithm n) = codes "/acvp/v1/algorithms/" ++ 256 ∷ []
+tokens Sessions = codes "/acvp/v1/testSessions"
+tokens (Session n) = codes "/acvp/v1/testSessions/" ++ 256 ∷ []
+tokens (SessionResults n) = codes "/acvp/v1/testSessions/" ++ 256 ∷ [] ++ codes "/results"
+tokens (Sets n) = codes "/acvp/v1/testSessions/" ++ 256 ∷ [] ++ codes "/vectorSets"
+tokens (Set n m) = codes "/acvp/v1/testSessions/" ++ 256 ∷ [] ++ codes "/vectorSets/" ++ 256 ∷ []
+tokens (SetResults n m) = codes "/acvp/v1/testSessions/" ++ 256 ∷ [] ++ codes "/vectorSets/" ++ 256 ∷ [] ++ codes "/results"
+tokens (Expected n m) = codes "/acvp/v1/testSessions/" ++ 256 ∷ [] ++ codes "/vectorSets/" ++ 256 ∷ [] ++ codes "/expected"
+tokens (Reviewers n) = codes "/acvp/v1/testSessions/" ++ 256 ∷ [] ++ codes "/reviewers"
+tokens (Reviewer n m) = codes "/acvp/v1/testSessions/" ++ 256 ∷ [] ++ codes "/reviewers/" ++ 256 ∷ []
+tokens Vendors = codes "/acvp/v1/vendors"
+tokens (Vendor n) = codes "/acvp/v1/vendors/" ++ 256 ∷ []
+tokens Modules = codes "/acvp/v1/modules"
+tokens (Module n) = codes "/acvp/v1/modules/" ++ 256 ∷ []
+tokens Environments = codes "/acvp/v1/oes"
+tokens (Environment n) = codes "/acvp/v1/oes/" ++ 256 ∷ []
+tokens Requests = codes "/acvp/v1/requests"
+tokens (Request n) = codes "/acvp/v1/requests/" ++ 256 ∷ []
 
-tests : (pattern : Pattern) → (is_plain (tokens pattern) rows ≡ true) × (option_map (λ (route : RouteOf Pattern). route.value) (reach (tokens pattern) rows) ≡ Some pattern) × (is_ascii (tokens pattern) ≡ true)
+tests : (pattern : Path) → (is_plain (tokens pattern) rows ≡ true) × (option_map (λ (route : RouteOf Path). route.value) (reach (tokens pattern) rows) ≡ Some (pattern_of pattern)) × (is_ascii (tokens pattern) ≡ true)
 unfolding rows general_routes session_routes registry_routes scan
-tests LoginPattern = (refl, refl, refl)
+tests Login = (refl, refl, refl)
 tests pattern = (refl, refl, refl)
 
 -- a path is written as its pattern's tokens with its numbers filled in
 record IsFilled (path : Path) : Type 0 where
   numbers : List ℕ
   small : AreSmall numbers
-  same : written path ≡ filled (tokens (pattern_of path)) numbers
+  same : written path ≡ filled (tokens path) numbers
 
 fills : (path : Path) → Fits path → IsFilled path
 fills Login fits = record { numbers = []; small = none_small; same = refl }
@@ -74,17 +72,17 @@ fills Requests fits = record { numbers = []; small = none_small; same = refl }
 fills (Request n) fits = record { numbers = n ∷ []; small = one_small n fits; same = ap (λ w. codes "/acvp/v1/requests/" ++ w) (sym (append-nil (decimal n))) }
 
 -- what the router has for a path
-pub finds : (path : Path) → Fits path → option_map (λ (route : RouteOf Pattern). route.value) (first rows (written path)) ≡ Some (pattern_of path)
+pub finds : (path : Path) → Fits path → option_map (λ (route : RouteOf Path). route.value) (first rows (written path)) ≡ Some (pattern_of path)
 finds path fits =
     let f = fills path fits in
-    let t = tests (pattern_of path) in
-    found-filled (λ (route : RouteOf Pattern). route.value) (tokens (pattern_of path)) f.numbers rows (written path) (pattern_of path) f.small f.same t.0 t.1
+    let t = tests path in
+    found-filled (λ (route : RouteOf Path). route.value) (tokens path) f.numbers rows (written path) (pattern_of path) f.small f.same t.0 t.1
 
 -- a path is text
 pub written-utf8 : (path : Path) → Fits path → IsUtf8 (written path)
 written-utf8 path fits =
     let f = fills path fits in
-    rw f.same (IsUtf8-from_ascii _ (filled-ascii (tokens (pattern_of path)) f.numbers f.small (tests (pattern_of path)).2))
+    rw f.same (IsUtf8-from_ascii _ (filled-ascii (tokens path) f.numbers f.small (tests path).2))
 
 -- a path has its pattern
 pub HasPattern-written : (path : Path) → Fits path → HasPattern (pattern_of path) (written path)
@@ -111,13 +109,13 @@ HasPattern-written Requests fits = refl
 HasPattern-written (Request n) fits = (n, (fits, refl))
 
 -- the pattern that the router has for a path
-pub has-row : (path : Path) (text utf8 : List ℕ) (router : RowsOf (RouteOf Pattern)) (r : Option Pattern) → router ≡ rows → utf8 ≡ text → r ≡ option_map (λ (route : RouteOf Pattern). route.value) (first router utf8) → IsPath text path → r ≡ Some (pattern_of path)
+pub has-row : (path : Path) (text utf8 : List ℕ) (router : RowsOf (RouteOf Path)) (r : Option Path) → router ≡ rows → utf8 ≡ text → r ≡ option_map (λ (route : RouteOf Path). route.value) (first router utf8) → IsPath text path → r ≡ Some (pattern_of path)
 has-row path text utf8 router r kept same found is =
     let at : utf8 ≡ written path = same ∙ is.1 in
     found ∙ (rw (kept, at) (finds path is.0))
 
 -- what is read by the pattern that the router has is the path
-pub path-is : (text : List ℕ) (pattern : Pattern) (r : Option Path) → (r ≡ None → HasPattern pattern text → ⊥) → IfSome r (IsPath text) → ((path : Path) → IsPath text path → Some pattern ≡ Some (pattern_of path)) →
+pub path-is : (text : List ℕ) (pattern : Path) (r : Option Path) → (r ≡ None → HasPattern pattern text → ⊥) → IfSome r (IsPath text) → ((path : Path) → IsPath text path → Some pattern ≡ Some (pattern_of path)) →
     Names text r
 path-is text pattern None none some row = λ path is.
     let same : pattern ≡ pattern_of path = (let both : Some pattern ≡ Some (pattern_of path) = row path is in cc) in

@@ -1,6 +1,7 @@
 -- Lemmas on one turn that is an order, for any tables.
 use Rattle.std.proofs.Common.{ℕ, Bool, true, false, refl}
 use Rattle.acvp_tables.specs.Content.{Content}
+use Rattle.acvp_tables.specs.Meaning.{Meaning}
 use Rattle.acvp_desk.specs.Kept.{IsKept}
 use Rattle.acvp_desk.specs.Orders.{Answers, Orders, content_order_effect}
 use Rattle.acvp_desk.specs.declared.keys.Keys.{Keys}
@@ -10,13 +11,15 @@ use Rattle.acvp_desk.specs.declared.order.OrderReply.TheVariants.{Done, Taken, U
 use Rattle.acvp_http.specs.Event.{order, ordered}
 use Rattle.acvp_http.specs.Serve.{GoesByTurn}
 
-module _ {T : Type 0} (stands : T → Content → Type 0) (is_live is_clean : T → Type 0) (leaves : T → Content → Content → Type 0)
+module _ {T : Type 0} (meaning : Meaning T)
     (keys : Keys) (m : ℕ) (o : Order) (old new : T)
     (stay : (c : Content) → IsKept keys.seed c → IsKept keys.seed (content_order_effect o c)) where
-  abbrev pub Turned : OrderReply → Type 0
-  Turned reply = (unavailable : Bool) × GoesByTurn stands is_live is_clean keys (record { event = order m o; unavailable = unavailable }) (ordered reply) old new
+  open meaning use {is_live, is_clean}
 
-  answered : {reply : OrderReply} → (is_clean new → is_live old × is_live new) → Answers stands is_live is_clean leaves reply old new o → Turned reply
+  abbrev pub Turned : OrderReply → Type 0
+  Turned reply = (unavailable : Bool) × GoesByTurn meaning keys (record { event = order m o; unavailable = unavailable }) (ordered reply) old new
+
+  answered : {reply : OrderReply} → (is_clean new → is_live old × is_live new) → Answers meaning reply old new o → Turned reply
   answered lasting said = (
     false,
     λ clean c kept h.
@@ -26,7 +29,7 @@ module _ {T : Type 0} (stands : T → Content → Type 0) (is_live is_clean : T 
   )
 
   -- an order that is answered is a turn
-  pub order_taken : (reply : OrderReply) → Orders stands is_live is_clean leaves reply old new o → Turned reply
+  pub order_taken : (reply : OrderReply) → Orders meaning reply old new o → Turned reply
   order_taken (Done approved) carried = answered carried.live carried.answered
   order_taken Taken carried = answered carried.live carried.answered
   order_taken Unknown carried = answered carried.live carried.answered

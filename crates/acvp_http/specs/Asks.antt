@@ -1,5 +1,7 @@
 -- What the bytes of an input ask for: a request of the desk, or why they are refused before anyone is looked at.
-use Rattle.std.specs.Prelude.{◌≡◌, ◌≤◌, ◌<◌, ◌⊎◌, ℕ, ◌+◌, ◌-◌, List, [], ◌∷◌, length, take, drop, reverse, map, filter, count_by, position, codes, Bool, true, false, not, ◌||◌, ◌==◌, nat_le, nat_lt, if◌then◌else◌, MatchBool, Option, Some, None, unwrap_or, Result, Ok, Err}
+use Rattle.std.specs.Prelude.{◌≡◌, ◌≤◌, ◌<◌, ◌⊎◌, ℕ, ◌-◌, List, [], ◌∷◌, length, take, drop, reverse, map, filter}
+use Rattle.std.specs.Prelude.{count_by, codes, Bool, true, false, not, ◌||◌, ◌==◌, nat_le, nat_lt}
+use Rattle.std.specs.Prelude.{if◌then◌else◌, MatchBool, Option, Some, None, unwrap_or, Result, Ok, Err}
 use Rattle.std.specs.List.{starts_with, ends_with, list_all}
 use Rattle.std.specs.Str.{bytes_eq, str_eq_ignore_ascii_case}
 use Rattle.httparse.specs.Grammar.{RequestHead, ReadsRequest}
@@ -7,11 +9,13 @@ use Rattle.httparse.specs.Spans.{name_and_value}
 use Rattle.acvp_desk.specs.Conditions.{Condition, judged}
 use Rattle.acvp_desk.specs.Number.{digits_number_of}
 use Rattle.acvp_desk.specs.Request.{RequestValue, TokenValue, missing, doubled, bearer}
-use Rattle.acvp_http.specs.Paths.{Names, route_on}
-use Rattle.acvp_http.specs.declared.path.Route.{Route}
+use Rattle.acvp_desk.specs.declared.request.Ask.{Ask}
+use Rattle.acvp_http.specs.Paths.{Names, asked_on}
+use Rattle.acvp_http.specs.Target.{path_of, query_of}
 use Rattle.acvp_http.specs.declared.path.Path.{Path}
 use Rattle.acvp_policy.specs.declared.rule.Rule.{Rule}
-use Rattle.acvp_policy.specs.declared.rule.Rule.TheVariants.{BadHead, HeadTooLarge, Truncated, LengthMissing, BadLength, BodyTooLarge, TransferCoding, HostMissing, NoRoute}
+use Rattle.acvp_policy.specs.declared.rule.Rule.TheVariants.{BadHead, HeadTooLarge, Truncated, LengthMissing, BadLength}
+use Rattle.acvp_policy.specs.declared.rule.Rule.TheVariants.{BodyTooLarge, TransferCoding, HostMissing, NoRoute}
 
 -- what the bytes of an input are read as: the rule that refuses them, a path that the method isn't one of, or a request
 pub data ParsedRequest : Type 0 where
@@ -87,23 +91,42 @@ body_length values = unwrap_or (first_number values) 0
 abbrev pub body_limit : ℕ
 body_limit = 2097152
 
--- the conditions on the framing, in their order (RFC 9112, sections 3.2 and 6), where so many bytes follow the head
-abbrev pub framing_conditions : List ℕ → ℕ → List (List ℕ × List ℕ) → ℕ → List (Condition Rule)
-framing_conditions method minor fields available =
+-- the conditions on the framing that a head tells, in their order (RFC 9112, sections 3.2 and 6)
+abbrev pub framing_conditions : List ℕ → ℕ → List (List ℕ × List ℕ) → List (Condition Rule)
+framing_conditions method minor fields =
     (is_nil (values_of (codes "transfer-encoding") fields), TransferCoding)
     ∷ (not (needs_length method) || not (is_nil (values_of (codes "content-length") fields)), LengthMissing)
     ∷ (lengths_agree (values_of (codes "content-length") fields), BadLength)
     ∷ (nat_le (body_length (values_of (codes "content-length") fields)) body_limit, BodyTooLarge)
     ∷ (hosts_fit minor (length (values_of (codes "host") fields)), HostMissing)
-    ∷ (nat_le (body_length (values_of (codes "content-length") fields)) available, Truncated)
     ∷ []
 
 -- how long the body is, or the rule that the framing breaks
-abbrev pub body_size : List ℕ → ℕ → List (List ℕ × List ℕ) → ℕ → Result ℕ Rule
-body_size method minor fields available =
-    judged (framing_conditions method minor fields available) (body_length (values_of (codes "content-length") fields))
+abbrev pub body_size : List ℕ → ℕ → List (List ℕ × List ℕ) → Result ℕ Rule
+body_size method minor fields =
+    judged (framing_conditions method minor fields) (body_length (values_of (codes "content-length") fields))
 
--- ---- the token and the target
+-- a head, and how long the body behind it is
+pub record FramedHead : Type 0 where
+  pub head : RequestHead
+  pub size : ℕ
+
+-- the size of the body that a head tells
+abbrev pub told_size : RequestHead → Result ℕ Rule
+told_size head = body_size head.method head.minor (fields_of head)
+
+-- the head of a block with the size of its body, or the rule that refuses the block, whatever follows it
+abbrev pub ReadsBlock : List ℕ → Result FramedHead Rule → Type 0
+ReadsBlock block (Err rule) =
+    MatchBool (nat_lt 64 (line_count block - 2))
+    (rule ≡ HeadTooLarge)
+    (((rule ≡ BadHead) × ((head : RequestHead) → ReadsRequest block head [] → ⊥))
+    ⊎ ((head : RequestHead) × ReadsRequest block head [] × (told_size head ≡ Err rule)))
+ReadsBlock block (Ok framed) =
+    (nat_lt 64 (line_count block - 2) ≡ false) × ReadsRequest block framed.head []
+    × (told_size framed.head ≡ Ok framed.size)
+
+-- ---- the token
 
 -- the bytes from the first that is no space
 abbrev pub skip_spaces : List ℕ → List ℕ
@@ -116,7 +139,8 @@ without_spaces bytes = reverse (skip_spaces (reverse (skip_spaces bytes)))
 
 -- the token of a value that begins with the scheme (RFC 6750, section 2.1), whose name is read in any case
 abbrev pub bearer_of : List ℕ → TokenValue
-bearer_of value = if str_eq_ignore_ascii_case (take 7 value) (codes "Bearer ") then bearer (without_spaces (drop 7 value))
+bearer_of value =
+    if str_eq_ignore_ascii_case (take 7 value) (codes "Bearer ") then bearer (without_spaces (drop 7 value))
     else missing
 
 abbrev pub token_in : List (List ℕ) → TokenValue
@@ -128,51 +152,31 @@ token_in (value ∷ other ∷ values) = doubled
 abbrev pub token_of : List (List ℕ × List ℕ) → TokenValue
 token_of fields = token_in (values_of (codes "authorization") fields)
 
--- where the first question mark of a target stands, or its end
-abbrev pub path_length : List ℕ → ℕ
-path_length target = unwrap_or (position (λ b. b == 63) target) (length target)
-
--- the path stands before it, and the query behind it (RFC 3986, section 3)
-abbrev pub path_of : List ℕ → List ℕ
-path_of target = take (path_length target) target
-
-abbrev pub query_of : List ℕ → List ℕ
-query_of target = drop (path_length target + 1) target
-
 -- ---- the request
 
--- a head with a body asks a route
-abbrev pub asked_route : RequestHead → List ℕ → Path → Option Route → ParsedRequest
-asked_route head body path None = wrong_method path
-asked_route head body path (Some route) = typed (record {
-  action = route.action;
-  numbers = route.numbers;
-  token = token_of (fields_of head);
-  query = query_of head.target;
-  body = body;
-})
+-- a head with a body asks what its method asks on the path
+abbrev pub asked_by : RequestHead → List ℕ → Path → Option Ask → ParsedRequest
+asked_by head body path None = wrong_method path
+asked_by head body path (Some asked) = typed (record { ask = asked; token = token_of (fields_of head); body = body })
 
 -- and a path
 abbrev pub asked_path : RequestHead → List ℕ → Option Path → ParsedRequest
 asked_path head body None = refused NoRoute
-asked_path head body (Some path) = asked_route head body path (route_on head.method path)
+asked_path head body (Some path) = asked_by head body path (asked_on head.method (query_of head.target) path)
 
--- what a head asks, where rest follows it and its body has this size
-abbrev pub AskedBy : RequestHead → List ℕ → Result ℕ Rule → ParsedRequest → Type 0
-AskedBy head rest (Err rule) parsed = parsed ≡ refused rule
-AskedBy head rest (Ok size) parsed =
-    (named : Option Path) × Names (path_of head.target) named × (parsed ≡ asked_path head (take size rest) named)
-
-abbrev pub AskedOf : RequestHead → List ℕ → ParsedRequest → Type 0
-AskedOf head rest parsed = AskedBy head rest (body_size head.method head.minor (fields_of head) (length rest)) parsed
+-- what is asked where rest follows the head: its body must be there, and then its path
+abbrev pub AskedBy : List ℕ → Result FramedHead Rule → ParsedRequest → Type 0
+AskedBy rest (Err rule) parsed = parsed ≡ refused rule
+AskedBy rest (Ok framed) parsed =
+    MatchBool (nat_le framed.size (length rest))
+    ((named : Option Path) × Names (path_of framed.head.target) named
+    × (parsed ≡ asked_path framed.head (take framed.size rest) named))
+    (parsed ≡ refused Truncated)
 
 -- what a block asks, where rest follows it
 abbrev pub AsksBlock : List ℕ → List ℕ → ParsedRequest → Type 0
 AsksBlock block rest parsed =
-    MatchBool (nat_lt 64 (line_count block - 2))
-    (parsed ≡ refused HeadTooLarge)
-    (((parsed ≡ refused BadHead) × ((head : RequestHead) → ReadsRequest block head [] → ⊥))
-    ⊎ ((head : RequestHead) × ReadsRequest block head [] × AskedOf head rest parsed))
+    (read : Result FramedHead Rule) × ReadsBlock block read × AskedBy rest read parsed
 
 -- the most bytes of a head
 abbrev pub head_limit : ℕ
@@ -182,9 +186,12 @@ head_limit = 16384
 unfoldable pub window : List ℕ → List ℕ
 window bytes = take head_limit bytes
 
+-- why a window without an empty line is refused
+abbrev pub headless : List ℕ → Rule
+headless window = if length window == head_limit then HeadTooLarge else Truncated
+
 -- what an input asks
 abbrev pub Asks : List ℕ → ParsedRequest → Type 0
 Asks bytes parsed =
-    (HasNoEmptyLine (window bytes)
-    × (parsed ≡ refused (if length (window bytes) == head_limit then HeadTooLarge else Truncated)))
+    (HasNoEmptyLine (window bytes) × (parsed ≡ refused (headless (window bytes))))
     ⊎ ((n : ℕ) × IsBlockEnd (window bytes) n × AsksBlock (take n bytes) (drop n bytes) parsed)

@@ -1,7 +1,7 @@
 -- One request of a connection: what is taken of its input, what is written, and what becomes of the records.
 use Rattle.std.specs.Prelude.{◌≡◌, ◌<◌, ◌⊎◌, ℕ, List, [], Bool, true, false, None, IfSome, Result, Ok, Err}
 use Rattle.acvp_policy.specs.declared.rule.Rule.TheVariants.{Unavailable}
-use Rattle.acvp_tables.specs.Content.{Content}
+use Rattle.acvp_tables.specs.Meaning.{Meaning}
 use Rattle.acvp_desk.specs.Answer.{end_of_moments}
 use Rattle.acvp_desk.specs.declared.keys.Keys.{Keys}
 use Rattle.acvp_http.specs.declared.connection.ServeFault.{ServeFault}
@@ -17,7 +17,8 @@ most_turns = 2200000
 
 -- Some of a known input may be taken, and nothing behind what its request needs.
 abbrev pub TakesWithin : InputStream → InputStream → Type 0
-TakesWithin input left = (part : List ℕ) × Gives input left part × IfSome input.held (λ bytes. IsWithinNeeded bytes part)
+TakesWithin input left =
+    (part : List ℕ) × Gives input left part × IfSome input.held (λ bytes. IsWithinNeeded bytes part)
 
 -- The request of a moment that is served wasn't handled: the records are as they were, nothing is written, and some of
 -- what it needs may be taken.
@@ -25,15 +26,16 @@ abbrev pub IsUnhandled : {T : Type 0} → ℕ → InputStream → InputStream �
 IsUnhandled moment input left written out old new =
     (moment < end_of_moments) × (new ≡ old) × Gets written out [] × TakesWithin input left
 
-module _ {T : Type 0} (stands : T → Content → Type 0) (is_live is_clean : T → Type 0) where
+module _ {T : Type 0} (meaning : Meaning T) where
   -- What was taken is what the request of the known input needs, and nothing behind it. The reply, and what becomes of
   -- the records, are those of the whole input as a request, or it is unavailable. The reply has its form, whatever the
   -- tables stand for.
   abbrev pub AnswersNeeded : Keys → ℕ → InputStream → InputStream → List ℕ → T → T → Type 0
   AnswersNeeded keys moment input left reply old new =
-      (front : List ℕ) × Gives input left front × RequestTaken stands is_live is_clean keys moment front reply old new
-      × IfSome input.held (λ bytes. IsNeededAt moment bytes front × RequestTaken stands is_live is_clean keys moment bytes reply old new)
-      × ShowsRequest stands is_live moment front reply old new
+      (front : List ℕ) × Gives input left front × RequestTaken meaning keys moment front reply old new
+      × IfSome input.held (λ bytes. IsNeededAt moment bytes front
+      × RequestTaken meaning keys moment bytes reply old new)
+      × ShowsRequest meaning moment front reply old new
 
   -- Or memory for what it needs was refused: the records stay, and some of it may be taken.
   abbrev pub AnswersNothing : ℕ → InputStream → InputStream → List ℕ → T → T → Type 0

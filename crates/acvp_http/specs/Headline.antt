@@ -3,7 +3,7 @@ use Rattle.std.specs.Prelude.{◌≡◌, ◌⊎◌, ℕ, List, [], ◌∷◌, �
 use Rattle.acvp_policy.specs.declared.rule.Rule.{Rule}
 use Rattle.acvp_tables.specs.Content.{Content}
 use Rattle.acvp_tables.specs.State.{State, state_of}
-use Rattle.acvp_desk.specs.Answer.{ask_of, conditions, effect, reply_to}
+use Rattle.acvp_desk.specs.Answer.{asker_of, conditions, effect, reply_to}
 use Rattle.acvp_desk.specs.Conditions.{first_broken}
 use Rattle.acvp_desk.specs.Data.{Data}
 use Rattle.acvp_desk.specs.Orders.{order_reply, order_effect}
@@ -31,7 +31,8 @@ abbrev pub IsDenied : Keys → Event → State → Answer → Type 0
 IsDenied keys (request moment bytes) state (replied reply) =
     RefusesAtOnce moment bytes reply
     ⊎ ((r : RequestValue) × (rule : Rule) × (date : List ℕ) × AsksTheDesk moment bytes r
-    × (first_broken (conditions keys moment r state) ≡ Some rule) × IsDateOf moment date × (reply ≡ refusal (Some date) rule))
+    × (first_broken (conditions keys moment r state) ≡ Some rule) × IsDateOf moment date
+    × (reply ≡ refusal (Some date) rule))
 IsDenied keys (request moment bytes) state (ordered reply) = ⊥
 IsDenied keys (order moment o) state (replied reply) = ⊥
 IsDenied keys (order moment o) state (ordered reply) = (reply ≡ order_reply o state) × (is_done reply ≡ false)
@@ -41,7 +42,8 @@ IsDenied keys (order moment o) state (ordered reply) = (reply ≡ order_reply o 
 abbrev pub IsAccepted : Keys → Event → State → State → Answer → Type 0
 IsAccepted keys (request moment bytes) state next (replied reply) =
     (r : RequestValue) × (shown : Data) × (date : List ℕ) × AsksTheDesk moment bytes r
-    × (first_broken (conditions keys moment r state) ≡ None) × (reply_to keys moment r (ask_of keys moment r) state ≡ Some shown)
+    × (first_broken (conditions keys moment r state) ≡ None)
+    × (reply_to keys moment r (asker_of keys moment r) state ≡ Some shown)
     × IsDateOf moment date × (reply ≡ framed 200 (Some date) [] (body_of shown)) × (next ≡ effect keys moment r state)
 IsAccepted keys (request moment bytes) state next (ordered reply) = ⊥
 IsAccepted keys (order moment o) state next (replied reply) = ⊥
@@ -49,16 +51,16 @@ IsAccepted keys (order moment o) state next (ordered reply) =
     (reply ≡ order_reply o state) × (is_done reply ≡ true) × (next ≡ order_effect o state)
 
 -- the event is unavailable
-abbrev pub IsPutOff : Event → Answer → Type 0
-IsPutOff (request moment bytes) (replied reply) = IsUnavailableRequest moment bytes reply
-IsPutOff (request moment bytes) (ordered reply) = ⊥
-IsPutOff (order moment o) (replied reply) = ⊥
-IsPutOff (order moment o) (ordered reply) = reply ≡ Unavailable
+abbrev pub IsToldUnavailable : Event → Answer → Type 0
+IsToldUnavailable (request moment bytes) (replied reply) = IsUnavailableRequest moment bytes reply
+IsToldUnavailable (request moment bytes) (ordered reply) = ⊥
+IsToldUnavailable (order moment o) (replied reply) = ⊥
+IsToldUnavailable (order moment o) (ordered reply) = reply ≡ Unavailable
 
 -- the answer to a turn over this state, which stays unless the event is accepted
 abbrev pub IsAnswered : Keys → Turn → State → State → Answer → Type 0
 IsAnswered keys turn state next answer = MatchBool turn.unavailable
-    ((next ≡ state) × IsPutOff turn.event answer)
+    ((next ≡ state) × IsToldUnavailable turn.event answer)
     (((next ≡ state) × IsDenied keys turn.event state answer) ⊎ IsAccepted keys turn.event state next answer)
 
 -- ---- a run
@@ -72,13 +74,15 @@ IsNotAccepted keys turn state = (turn.unavailable ≡ true) ⊎ ((answer : Answe
 abbrev pub LeftBy : Keys → List Turn → State → State → Type 0
 LeftBy keys [] state now = now ≡ state
 LeftBy keys (turn ∷ turns) state now =
-    ((next : State) × (answer : Answer) × (turn.unavailable ≡ false) × IsAccepted keys turn.event state next answer × LeftBy keys turns next now)
+    ((next : State) × (answer : Answer) × (turn.unavailable ≡ false) × IsAccepted keys turn.event state next answer
+    × LeftBy keys turns next now)
     ⊎ (IsNotAccepted keys turn state × LeftBy keys turns state now)
 
 -- the answer to this turn is among those of the run, in its place, and is given over the state that the accepted turns
 -- before it left
 abbrev pub AnswersTurn : Keys → List Turn → Turn → State → List Answer → Type 0
-AnswersTurn keys earlier turn state answers = (told : List Answer) × (answer : Answer) × (after : List Answer) × (now : State) × (next : State)
+AnswersTurn keys earlier turn state answers =
+    (told : List Answer) × (answer : Answer) × (after : List Answer) × (now : State) × (next : State)
     × (answers ≡ told ++ answer ∷ after) × (length told ≡ length earlier) × LeftBy keys earlier state now
     × IsAnswered keys turn now next answer
 
@@ -89,5 +93,6 @@ Headline = (keys : Keys) (earlier later : List Turn) (turn : Turn) (old new : Co
 
 -- And what a run leaves is what its accepted events left.
 abbrev pub HeadlineLeft : Type 0
-HeadlineLeft = (keys : Keys) (turns : List Turn) (old new : Content) (answers : List Answer) → Runs keys turns old new answers
+HeadlineLeft =
+    (keys : Keys) (turns : List Turn) (old new : Content) (answers : List Answer) → Runs keys turns old new answers
     → LeftBy keys turns (state_of old) (state_of new)

@@ -1,5 +1,6 @@
 -- Whose an event is, and what an account is told in a run and in the run of some accounts alone.
-use Rattle.std.specs.Prelude.{◌≡◌, ◌⊎◌, ℕ, ◌≤◌, ◌==◌, List, [], ◌∷◌, Bool, true, false, not, ◌&&◌, ◌||◌, nat_lt, MatchBool, length, Option, Some, None, ⊤}
+use Rattle.std.specs.Prelude.{◌≡◌, ◌⊎◌, ℕ, ◌≤◌, ◌==◌, List, [], ◌∷◌, Bool, true, false, not, ◌&&◌, ◌||◌, nat_lt}
+use Rattle.std.specs.Prelude.{MatchBool, length, Option, Some, None, ⊤}
 use Rattle.std.specs.List.{All}
 use Rattle.acvp_tables.specs.Content.{Content, is_reviewer}
 use Rattle.acvp_tables.specs.State.{State, own, owner_of, state_of, IsSound}
@@ -24,7 +25,8 @@ whose keys moment (typed r) = who_of keys moment r
 -- the operator's
 abbrev pub IsOf : Keys → Event → Option ℕ → Type 0
 IsOf keys (request moment bytes) who =
-    MatchBool (nat_lt moment end_of_moments) ((parsed : ParsedRequest) × Asks bytes parsed × (who ≡ whose keys moment parsed)) (who ≡ None)
+    MatchBool (nat_lt moment end_of_moments) ((parsed : ParsedRequest) × Asks bytes parsed
+    × (who ≡ whose keys moment parsed)) (who ≡ None)
 IsOf keys (order moment o) who = who ≡ None
 
 -- ---- one request
@@ -32,12 +34,14 @@ IsOf keys (order moment o) who = who ≡ None
 -- The bytes of a request were answered so over these records, and left the others. The account that they are of is told
 -- the same over all records in which it sees the same, and nobody what all records give. Of the account's own rows is
 -- left what these alone tell, and those of every other stay as they were; and nobody changes anything.
-pub record IsAnsweredApart (keys : Keys) (moment : ℕ) (bytes : List ℕ) (old new : Content) (reply : List ℕ) : Type 0 where
+pub record IsAnsweredApart (keys : Keys) (moment : ℕ) (bytes : List ℕ) (old new : Content)
+    (reply : List ℕ) : Type 0 where
   pub who : Option ℕ
   pub of : IsOf keys (request moment bytes) who
   pub told : (other : Content) → IsSound other → SeesAlike who (state_of old) (state_of other)
       → (after : Content) × ServesRequest keys moment bytes other after reply
-  pub left : (v : ℕ) (other after : Content) (said : List ℕ) → IsSound other → own v (state_of old) ≡ own v (state_of other)
+  pub left : (v : ℕ) (other after : Content) (said : List ℕ) → IsSound other
+      → own v (state_of old) ≡ own v (state_of other)
       → ServesRequest keys moment bytes other after said → own v (state_of new) ≡ own v (state_of after)
   pub others : (v : ℕ) → is_who who v ≡ false → own v (state_of new) ≡ own v (state_of old)
   pub nobody : who ≡ None → new ≡ old
@@ -72,7 +76,8 @@ is_theirs these turn who = not turn.unavailable && (is_order turn.event || is_am
 abbrev pub Only : Keys → (ℕ → Bool) → List Turn → List Turn → Type 0
 Only keys these [] chosen = chosen ≡ []
 Only keys these (turn ∷ turns) chosen = (who : Option ℕ) × IsOf keys turn.event who
-    × MatchBool (is_theirs these turn who) ((rest : List Turn) × (chosen ≡ turn ∷ rest) × Only keys these turns rest) (Only keys these turns chosen)
+    × MatchBool (is_theirs these turn who) ((rest : List Turn) × (chosen ≡ turn ∷ rest) × Only keys these turns rest)
+    (Only keys these turns chosen)
 
 -- ---- what an account is told
 
@@ -86,13 +91,15 @@ Told keys u [] [] told = told ≡ []
 Told keys u [] (answer ∷ answers) told = ⊥
 Told keys u (turn ∷ turns) [] told = ⊥
 Told keys u (turn ∷ turns) (answer ∷ answers) told = (who : Option ℕ) × IsOf keys turn.event who
-    × MatchBool (is_told u turn who) ((rest : List Answer) × (told ≡ answer ∷ rest) × Told keys u turns answers rest) (Told keys u turns answers told)
+    × MatchBool (is_told u turn who) ((rest : List Answer) × (told ≡ answer ∷ rest) × Told keys u turns answers rest)
+    (Told keys u turns answers told)
 
 -- ---- who can let an account see something
 
 -- a request that asks to add u as a reviewer is of one of these accounts
 abbrev pub AsksWithin : Keys → ℕ → (ℕ → Bool) → Event → Type 0
-AsksWithin keys u these (request moment bytes) = (r : RequestValue) (w : ℕ) → AsksTheDesk moment bytes r → reviewer_asked r ≡ Some u → who_of keys moment r ≡ Some w
+AsksWithin keys u these (request moment bytes) =
+    (r : RequestValue) (w : ℕ) → AsksTheDesk moment bytes r → reviewer_asked r ≡ Some u → who_of keys moment r ≡ Some w
     → these w ≡ true
 AsksWithin keys u these (order moment o) = ⊤
 
@@ -105,7 +112,8 @@ pub record LetsSee (keys : Keys) (u : ℕ) (these : ℕ → Bool) (state : State
 
 -- u is told in the run what it is told in the run of the operator's and these accounts' turns alone, from the same
 -- records: there is such a run, and in each that is one it is told the same
-pub record IsToldAlone (keys : Keys) (u : ℕ) (these : ℕ → Bool) (turns : List Turn) (old : Content) (answers : List Answer) : Type 0 where
+pub record IsToldAlone (keys : Keys) (u : ℕ) (these : ℕ → Bool) (turns : List Turn) (old : Content)
+    (answers : List Answer) : Type 0 where
   pub chosen : List Turn
   pub left : Content
   pub others : List Answer
@@ -114,13 +122,15 @@ pub record IsToldAlone (keys : Keys) (u : ℕ) (these : ℕ → Bool) (turns : L
   pub runs : Runs keys chosen old left others
   pub here : Told keys u turns answers told
   pub alone : Told keys u chosen others told
-  pub every : (only_theirs : List Turn) (after : Content) (said heard : List Answer) → Only keys these turns only_theirs → Runs keys only_theirs old after said
+  pub every : (only_theirs : List Turn) (after : Content) (said heard : List Answer) → Only keys these turns only_theirs
+      → Runs keys only_theirs old after said
       → Told keys u only_theirs said heard → Told keys u turns answers heard
 
 -- What an account is told in a run is what it is told where only those act that let it see something.
 abbrev pub Isolation : Type 0
 Isolation = (keys : Keys) (u : ℕ) (these : ℕ → Bool) (turns : List Turn) (old new : Content) (answers : List Answer)
-    → 1 ≤ length keys.seed → IsKept keys.seed old → All (λ turn. CanHappen turn.event) turns → LetsSee keys u these (state_of old) turns
+    → 1 ≤ length keys.seed → IsKept keys.seed old → All (λ turn. CanHappen turn.event) turns
+    → LetsSee keys u these (state_of old) turns
     → Runs keys turns old new answers → IsToldAlone keys u these turns old answers
 
 -- no other account has u as a reviewer, and none asks in a turn to add it as one
@@ -131,5 +141,6 @@ pub record IsUnnamed (keys : Keys) (u : ℕ) (state : State) (turns : List Turn)
 -- So an account that no other names a reviewer is told what it is told where the operator and it alone act.
 abbrev pub IsolationAlone : Type 0
 IsolationAlone = (keys : Keys) (u : ℕ) (turns : List Turn) (old new : Content) (answers : List Answer)
-    → 1 ≤ length keys.seed → IsKept keys.seed old → All (λ turn. CanHappen turn.event) turns → IsUnnamed keys u (state_of old) turns
+    → 1 ≤ length keys.seed → IsKept keys.seed old → All (λ turn. CanHappen turn.event) turns
+    → IsUnnamed keys u (state_of old) turns
     → Runs keys turns old new answers → IsToldAlone keys u (λ w. w == u) turns old answers

@@ -1,7 +1,9 @@
+pub mod Target
 pub mod Paths
 pub mod Reply
 pub mod Event
 pub mod Serve
+pub mod Handled
 pub mod Script
 pub mod Asks
 pub mod Source

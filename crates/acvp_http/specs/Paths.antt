@@ -1,15 +1,27 @@
 -- The paths of the protocol, and the methods of each.
-use Rattle.std.specs.Prelude.{◌≡◌, ◌<◌, ◌^◌, ◌++◌, ℕ, List, [], ◌∷◌, codes, decimal, find, Option, Some, None, option_map, Result, Ok, Err}
+use Rattle.std.specs.Prelude.{◌≡◌, ◌<◌, ◌^◌, ◌++◌, ℕ, List, [], ◌∷◌, codes, decimal, find, Option, Some, None}
+use Rattle.std.specs.Prelude.{option_map, Result, Ok, Err}
 use Rattle.std.specs.List.{join_by}
 use Rattle.std.specs.Str.{bytes_eq}
-use Rattle.acvp_policy.specs.declared.action.Action.{Action}
-use Rattle.acvp_policy.specs.declared.action.Action.TheVariants as action
 use Rattle.acvp_policy.specs.declared.rule.Rule.{Rule}
 use Rattle.acvp_policy.specs.declared.rule.Rule.TheVariants.{NoRoute, NoMethod}
-use Rattle.acvp_desk.specs.declared.request.Numbers.{Numbers}
+use Rattle.acvp_desk.specs.Pages.{page_of}
+use Rattle.acvp_desk.specs.declared.request.Ask.{Ask}
+use Rattle.acvp_desk.specs.declared.request.Ask.TheVariants as ask
+use Rattle.acvp_desk.specs.declared.wish.Wish.TheVariants as wish
+use Rattle.acvp_desk.specs.declared.wish.AccountWish.TheVariants as on_account
+use Rattle.acvp_desk.specs.declared.wish.SessionWish.TheVariants as on_session
+use Rattle.acvp_desk.specs.declared.wish.SetWish.TheVariants as on_set
+use Rattle.acvp_desk.specs.declared.wish.Registry.{Registry}
+use Rattle.acvp_desk.specs.declared.wish.Registry.TheVariants as registry
+use Rattle.acvp_desk.specs.declared.wish.RegistryWish.{RegistryWish}
+use Rattle.acvp_desk.specs.declared.wish.RegistryWish.TheVariants as its
+use Rattle.acvp_http.specs.Target.{path_of, query_of}
 use Rattle.acvp_http.specs.declared.path.Path.{Path}
-use Rattle.acvp_http.specs.declared.path.Path.TheVariants.{Login, Account, Algorithms, Algorithm, Sessions, Session, SessionResults, Sets, Set, SetResults, Expected, Reviewers, Reviewer, Vendors, Vendor, Modules, Module, Environments, Environment, Requests, Request}
-use Rattle.acvp_http.specs.declared.path.Route.{Route}
+use Rattle.acvp_http.specs.declared.path.Path.TheVariants.{Login, Account, Algorithms, Algorithm, Sessions, Session}
+use Rattle.acvp_http.specs.declared.path.Path.TheVariants.{SessionResults, Sets, Set, SetResults, Expected, Reviewers}
+use Rattle.acvp_http.specs.declared.path.Path.TheVariants.{Reviewer, Vendors, Vendor, Modules, Module, Environments}
+use Rattle.acvp_http.specs.declared.path.Path.TheVariants.{Environment, Requests, Request}
 
 -- what a path is written as: its numbers stand in plain decimal
 abbrev pub written : Path → List ℕ
@@ -70,80 +82,75 @@ abbrev pub Names : List ℕ → Option Path → Type 0
 Names text None = (path : Path) → IsPath text path → ⊥
 Names text (Some path) = IsPath text path
 
--- the methods of a path, each with what it asks
-abbrev pub methods_of : Path → List (List ℕ × Action)
-methods_of Login = (codes "POST", action.Login) ∷ []
-methods_of Account = (codes "GET", action.ReadAccount) ∷ []
-methods_of Algorithms = (codes "GET", action.ListAlgorithms) ∷ []
-methods_of (Algorithm n) = (codes "GET", action.ReadAlgorithm) ∷ []
-methods_of Sessions = (codes "GET", action.ListSessions) ∷ (codes "POST", action.NewSession) ∷ []
-methods_of (Session s) =
-    (codes "GET", action.ReadSession)
-    ∷ (codes "PUT", action.Certify)
-    ∷ (codes "DELETE", action.CancelSession) ∷ []
-methods_of (SessionResults s) = (codes "GET", action.SessionResults) ∷ []
-methods_of (Sets s) = (codes "GET", action.ListSets) ∷ []
-methods_of (Set s v) = (codes "GET", action.ReadSet) ∷ (codes "DELETE", action.CancelSet) ∷ []
-methods_of (SetResults s v) =
-    (codes "GET", action.SetResults)
-    ∷ (codes "POST", action.Submit)
-    ∷ (codes "PUT", action.Resubmit) ∷ []
-methods_of (Expected s v) = (codes "GET", action.Expected) ∷ []
-methods_of (Reviewers s) = (codes "GET", action.ListReviewers) ∷ (codes "POST", action.AddReviewer) ∷ []
-methods_of (Reviewer s n) = (codes "DELETE", action.RemoveReviewer) ∷ []
-methods_of Vendors = (codes "GET", action.ListVendors) ∷ (codes "POST", action.NewVendor) ∷ []
-methods_of (Vendor n) = (codes "GET", action.ReadVendor) ∷ []
-methods_of Modules = (codes "GET", action.ListModules) ∷ (codes "POST", action.NewModule) ∷ []
-methods_of (Module n) = (codes "GET", action.ReadModule) ∷ []
-methods_of Environments = (codes "GET", action.ListEnvironments) ∷ (codes "POST", action.NewEnvironment) ∷ []
-methods_of (Environment n) = (codes "GET", action.ReadEnvironment) ∷ []
-methods_of Requests = (codes "GET", action.ListRequests) ∷ []
-methods_of (Request n) = (codes "GET", action.ReadRequest) ∷ []
+-- that something is asked of the registries and requests of the account that acts
+abbrev pub on_registry : RegistryWish → Ask
+on_registry it = ask.Caller (wish.Registry it)
 
--- these numbers, the first before the second
-abbrev pub numbered : ℕ → ℕ → Numbers
-numbered first second = record { first = first; second = second }
+-- what a registry holds is listed, and objects are registered in it
+abbrev pub registry_methods : Registry → List ℕ → List (List ℕ × Ask)
+registry_methods of query =
+    (codes "GET", on_registry (its.List of (page_of query)))
+    ∷ (codes "POST", on_registry (its.New of)) ∷ []
 
--- the numbers of a path; 0 where it has none
-abbrev pub numbers_of : Path → Numbers
-numbers_of (Algorithm n) = numbered n 0
-numbers_of (Session s) = numbered s 0
-numbers_of (SessionResults s) = numbered s 0
-numbers_of (Sets s) = numbered s 0
-numbers_of (Set s v) = numbered s v
-numbers_of (SetResults s v) = numbered s v
-numbers_of (Expected s v) = numbered s v
-numbers_of (Reviewers s) = numbered s 0
-numbers_of (Reviewer s n) = numbered s n
-numbers_of (Vendor n) = numbered n 0
-numbers_of (Module n) = numbered n 0
-numbers_of (Environment n) = numbered n 0
-numbers_of (Request n) = numbered n 0
-numbers_of _ = numbered 0 0
+-- the methods of a path, each with what it asks beside a query
+abbrev pub methods_of : Path → List ℕ → List (List ℕ × Ask)
+methods_of Login query = (codes "POST", ask.Login) ∷ []
+methods_of Account query = (codes "GET", ask.Caller (wish.Account on_account.Read)) ∷ []
+methods_of Algorithms query = (codes "GET", ask.Caller (wish.Account on_account.ListAlgorithms)) ∷ []
+methods_of (Algorithm n) query = (codes "GET", ask.Caller (wish.Algorithm n)) ∷ []
+methods_of Sessions query =
+    (codes "GET", ask.Caller (wish.ListSessions (page_of query)))
+    ∷ (codes "POST", ask.Caller wish.NewSession) ∷ []
+methods_of (Session s) query =
+    (codes "GET", ask.Caller (wish.Session s on_session.Read))
+    ∷ (codes "PUT", ask.Caller (wish.Certify s))
+    ∷ (codes "DELETE", ask.Caller (wish.Session s on_session.Cancel)) ∷ []
+methods_of (SessionResults s) query = (codes "GET", ask.Caller (wish.Session s on_session.Results)) ∷ []
+methods_of (Sets s) query = (codes "GET", ask.Caller (wish.Session s on_session.ListSets)) ∷ []
+methods_of (Set s v) query =
+    (codes "GET", ask.Caller (wish.Set s v on_set.Read))
+    ∷ (codes "DELETE", ask.Caller (wish.CancelSet s v)) ∷ []
+methods_of (SetResults s v) query =
+    (codes "GET", ask.Caller (wish.Set s v on_set.Results))
+    ∷ (codes "POST", ask.Caller (wish.Set s v on_set.Submit))
+    ∷ (codes "PUT", ask.Caller (wish.Set s v on_set.Resubmit)) ∷ []
+methods_of (Expected s v) query = (codes "GET", ask.Caller (wish.Set s v on_set.Expected)) ∷ []
+methods_of (Reviewers s) query =
+    (codes "GET", ask.Caller (wish.Session s on_session.ListReviewers))
+    ∷ (codes "POST", ask.Caller (wish.Session s on_session.AddReviewer)) ∷ []
+methods_of (Reviewer s n) query = (codes "DELETE", ask.Caller (wish.Reviewer s n)) ∷ []
+methods_of Vendors query = registry_methods registry.Vendors query
+methods_of (Vendor n) query = (codes "GET", on_registry (its.Read registry.Vendors n)) ∷ []
+methods_of Modules query = registry_methods registry.Modules query
+methods_of (Module n) query = (codes "GET", on_registry (its.Read registry.Modules n)) ∷ []
+methods_of Environments query = registry_methods registry.Environments query
+methods_of (Environment n) query = (codes "GET", on_registry (its.Read registry.Environments n)) ∷ []
+methods_of Requests query = (codes "GET", on_registry (its.ListRequests (page_of query))) ∷ []
+methods_of (Request n) query = (codes "GET", on_registry (its.ReadRequest n)) ∷ []
 
 -- what a method out of these asks, where it is one
-abbrev pub chosen : List ℕ → List (List ℕ × Action) → Option Action
+abbrev pub chosen : List ℕ → List (List ℕ × Ask) → Option Ask
 chosen method methods = option_map (λ m. m.1) (find (λ m. bytes_eq method m.0) methods)
 
 -- what a method asks on a path, where it is one of its methods
-abbrev pub route_on : List ℕ → Path → Option Route
-route_on method path =
-    option_map (λ a. record { action = a; numbers = numbers_of path }) (chosen method (methods_of path))
+abbrev pub asked_on : List ℕ → List ℕ → Path → Option Ask
+asked_on method query path = chosen method (methods_of path query)
 
--- the methods of a path, as the `Allow` field lists them (RFC 9110, section 10.2.1)
+-- the methods of a path, as the `Allow` field lists them (RFC 9110, section 10.2.1); no query changes them
 abbrev pub allowed_on : Path → List ℕ
-allowed_on path = join_by (λ m. m.0) (codes ", ") (methods_of path)
+allowed_on path = join_by (λ m. m.0) (codes ", ") (methods_of path [])
 
 -- what was found, or the rule
-abbrev pub some_or : Option Route → Rule → Result Route Rule
+abbrev pub some_or : Option Ask → Rule → Result Ask Rule
 some_or None rule = Err rule
-some_or (Some route) rule = Ok route
+some_or (Some asked) rule = Ok asked
 
 -- a method on a path of the table, or on none
-abbrev pub method_on : List ℕ → Option Path → Result Route Rule
-method_on method None = Err NoRoute
-method_on method (Some path) = some_or (route_on method path) NoMethod
+abbrev pub method_on : List ℕ → List ℕ → Option Path → Result Ask Rule
+method_on method query None = Err NoRoute
+method_on method query (Some path) = some_or (asked_on method query path) NoMethod
 
--- what a method finds on these bytes: the route, or the rule that it breaks
-abbrev pub Finds : List ℕ → List ℕ → Result Route Rule → Type 0
-Finds method text found = (named : Option Path) × Names text named × (found ≡ method_on method named)
+-- what a method finds on a target: what it asks, or the rule that it breaks
+abbrev pub Finds : List ℕ → List ℕ → Result Ask Rule → Type 0
+Finds method target found =
+    (named : Option Path) × Names (path_of target) named × (found ≡ method_on method (query_of target) named)

@@ -5,5 +5,6 @@ pub mod Receiving
 pub mod Writing
 pub mod Head
 pub mod ReplyBytes
+pub mod Methods
 pub mod Rows
 pub mod Spaces

@@ -1,6 +1,7 @@
 -- What is promised of a run: the headline and isolation, of one run.
 use Rattle.std.specs.Prelude.{◌≡◌, ℕ, List, ◌∷◌, ◌++◌, Bool}
 use Rattle.acvp_tables.specs.Content.{Content}
+use Rattle.acvp_tables.specs.Meaning.{Meaning}
 use Rattle.acvp_tables.specs.State.{state_of}
 use Rattle.acvp_desk.specs.declared.keys.Keys.{Keys}
 use Rattle.acvp_http.specs.Event.{Answer, Turn}
@@ -13,11 +14,14 @@ use Rattle.acvp_http.specs.Serve.{GoesBy, Runs}
 -- those act that let it see something.
 pub record IsPromised (keys : Keys) (turns : List Turn) (answers : List Answer) (old new : Content) : Type 0 where
   pub runs : Runs keys turns old new answers
-  pub told : (earlier later : List Turn) (turn : Turn) → turns ≡ earlier ++ turn ∷ later → AnswersTurn keys earlier turn (state_of old) answers
+  pub told : (earlier later : List Turn) (turn : Turn) → turns ≡ earlier ++ turn ∷ later
+      → AnswersTurn keys earlier turn (state_of old) answers
   pub left : LeftBy keys turns (state_of old) (state_of new)
-  pub isolated : (u : ℕ) (these : ℕ → Bool) → LetsSee keys u these (state_of old) turns → IsToldAlone keys u these turns old answers
+  pub isolated : (u : ℕ) (these : ℕ → Bool) → LetsSee keys u these (state_of old) turns
+      → IsToldAlone keys u these turns old answers
 
-module _ {T : Type 0} (stands : T → Content → Type 0) (is_live is_clean : T → Type 0) where
+module _ {T : Type 0} (meaning : Meaning T) where
   -- so much is promised of the turns that the tables went through, for every content that they stood for
   abbrev pub GoesAsPromised : Keys → List Turn → List Answer → T → T → Type 0
-  GoesAsPromised keys turns answers old new = GoesBy stands is_live is_clean keys (λ c next. IsPromised keys turns answers c next) old new
+  GoesAsPromised keys turns answers old new =
+      GoesBy meaning keys (λ c next. IsPromised keys turns answers c next) old new

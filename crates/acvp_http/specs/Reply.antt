@@ -7,7 +7,8 @@ use Rattle.acvp_desk.specs.Errors.{error_body}
 use Rattle.acvp_http.specs.Paths.{allowed_on}
 use Rattle.acvp_http.specs.declared.path.Path.{Path}
 use Rattle.acvp_policy.specs.declared.rule.Rule.{Rule}
-use Rattle.acvp_policy.specs.declared.rule.Rule.TheVariants.{NoMethod, TokenMissing, TokenMalformed, TokenSignature, TokenClaims, TokenExpired, ClockOutOfRange, Unavailable}
+use Rattle.acvp_policy.specs.declared.rule.Rule.TheVariants.{NoMethod, TokenMissing, TokenMalformed, TokenSignature}
+use Rattle.acvp_policy.specs.declared.rule.Rule.TheVariants.{TokenClaims, TokenExpired, ClockOutOfRange, Unavailable}
 use Rattle.acvp_policy.specs.Rule.{rule_status}
 
 -- the phrase that stands beside a status code
@@ -58,7 +59,8 @@ refusal date rule = framed (rule_status rule) (date_shown date rule) (rule_line 
 
 -- where a path hasn't the method: the reply names those that it has
 abbrev pub method_refusal : List ℕ → Path → List ℕ
-method_refusal date path = framed (rule_status NoMethod) (Some date) (line (codes "Allow: " ++ allowed_on path)) (error_body NoMethod)
+method_refusal date path =
+    framed (rule_status NoMethod) (Some date) (line (codes "Allow: " ++ allowed_on path)) (error_body NoMethod)
 
 -- the text is the date and time of the moment as IMF-fixdate (RFC 9110, section 5.6.7)
 abbrev pub IsDateOf : ℕ → List ℕ → Type 0

@@ -1,8 +1,9 @@
 -- The run of a script: what it makes of the records and of the input, and what it writes.
-use Rattle.std.specs.Prelude.{◌≡◌, ◌≢◌, ◌⊎◌, ◌≤◌, ◌<◌, ℕ, List, [], ◌∷◌, ◌++◌, length, map, Bool, true, false, Option, None, Some, Result, Ok, Err, ⊤}
+use Rattle.std.specs.Prelude.{◌≡◌, ◌≢◌, ◌⊎◌, ◌≤◌, ◌<◌, ℕ, List, [], ◌∷◌, ◌++◌, length, map, Bool, true, false, Option}
+use Rattle.std.specs.Prelude.{None, Some, Result, Ok, Err, ⊤}
 use Rattle.std.specs.Io.KnownBytes.{IsAtEnd}
 use Rattle.acvp_desk.specs.declared.keys.Keys.{Keys}
-use Rattle.acvp_tables.specs.Content.{Content}
+use Rattle.acvp_tables.specs.Meaning.{Meaning}
 use Rattle.acvp_http.specs.declared.script.ScriptFault.{ScriptFault}
 use Rattle.acvp_http.specs.declared.script.ScriptFault.TheVariants.{Read, Write, Syntax, Limit, Memory}
 use Rattle.acvp_http.specs.Event.{Event, Answer, Turn}
@@ -35,7 +36,8 @@ most_reads = 1000000000
 -- too many.
 abbrev pub ReachesLimit : InputStream → InputStream → List Turn → List ℕ → Type 0
 ReachesLimit input left turns text =
-    ((length turns ≡ most_events) × BeginsWith input.held text (λ rest. rest ≢ [])) ⊎ ReadsTooOften most_reads input left
+    ((length turns ≡ most_events) × BeginsWith input.held text (λ rest. rest ≢ []))
+    ⊎ ReadsTooOften most_reads input left
 
 -- How much of the input was taken by a run whose turns have this script, what comes after the script, and how many
 -- turns there are: after 100000 events nothing is read as an event.
@@ -64,22 +66,24 @@ WritesAnswers old new answers (Err Syntax) = Gets old new (output_of answers)
 WritesAnswers old new answers (Err Limit) = Gets old new (output_of answers)
 WritesAnswers old new answers (Err Memory) = Gets old new (output_of answers)
 
-module _ {T : Type 0} (stands : T → Content → Type 0) (is_live is_clean : T → Type 0) where
+module _ {T : Type 0} (meaning : Meaning T) where
   -- The input begins with the script of some turns, which the tables went through and whose answers are written; `left`
   -- is what was not taken of it.
-  abbrev pub RunsTurns : Keys → T → T → InputStream → InputStream → OutputStream → OutputStream → Result ℕ ScriptFault → Type 0
+  abbrev pub RunsTurns : Keys → T → T → InputStream → InputStream → OutputStream → OutputStream → Result ℕ ScriptFault
+      → Type 0
   RunsTurns keys tables last input left old new result =
       (turns : List Turn) × (answers : List Answer) × (text : List ℕ)
-      × GoesThrough stands is_live is_clean keys turns answers tables last × IsScript (events_of turns) text
+      × GoesThrough meaning keys turns answers tables last × IsScript (events_of turns) text
       × StopsAfter input left turns text result × WritesAnswers old new answers result
       × (length turns ≤ most_events)
 
   -- The same, and the promise of the server of these turns and answers.
-  abbrev pub RunsScript : Keys → T → T → InputStream → InputStream → OutputStream → OutputStream → Result ℕ ScriptFault → Type 0
+  abbrev pub RunsScript : Keys → T → T → InputStream → InputStream → OutputStream → OutputStream → Result ℕ ScriptFault
+      → Type 0
   RunsScript keys tables last input left old new result =
       (turns : List Turn) × (answers : List Answer) × (text : List ℕ)
-      × GoesAsPromised stands is_live is_clean keys turns answers tables last
-      × GoesThrough stands is_live is_clean keys turns answers tables last × IsScript (events_of turns) text
+      × GoesAsPromised meaning keys turns answers tables last
+      × GoesThrough meaning keys turns answers tables last × IsScript (events_of turns) text
       × StopsAfter input left turns text result × WritesAnswers old new answers result
       × (length turns ≤ most_events)
 

@@ -1,8 +1,10 @@
 -- What an event does to the records, and what it is answered.
-use Rattle.std.specs.Prelude.{◌≡◌, ◌<◌, ◌⊎◌, ℕ, List, [], ◌∷◌, Bool, nat_lt, MatchBool, Option, Some, None, Result, Ok, Err, ⊤}
+use Rattle.std.specs.Prelude.{◌≡◌, ◌<◌, ◌⊎◌, ℕ, List, [], ◌∷◌, Bool, nat_lt, MatchBool, Option, Some, None, Result, Ok}
+use Rattle.std.specs.Prelude.{Err, ⊤}
 use Rattle.acvp_policy.specs.declared.rule.Rule.{Rule}
 use Rattle.acvp_policy.specs.declared.rule.Rule.TheVariants.{ClockOutOfRange, Unavailable as UnavailableRule}
 use Rattle.acvp_tables.specs.Content.{Content}
+use Rattle.acvp_tables.specs.Meaning.{Meaning}
 use Rattle.acvp_tables.specs.State.{state_of}
 use Rattle.acvp_desk.specs.Answer.{end_of_moments, answer, content_effect}
 use Rattle.acvp_desk.specs.Data.{Data}
@@ -29,7 +31,8 @@ IsRefused date (typed r) reply = ⊥
 unfoldable pub RefusesAtOnce : ℕ → List ℕ → List ℕ → Type 0
 RefusesAtOnce moment bytes reply =
     MatchBool (nat_lt moment end_of_moments)
-    ((parsed : ParsedRequest) × (date : List ℕ) × Asks bytes parsed × IsDateOf moment date × IsRefused date parsed reply)
+    ((parsed : ParsedRequest) × (date : List ℕ) × Asks bytes parsed × IsDateOf moment date
+    × IsRefused date parsed reply)
     (reply ≡ refusal None ClockOutOfRange)
 
 -- these bytes are a request of the desk at a moment that is served
@@ -71,7 +74,8 @@ Serves keys (order moment o) old new (ordered reply) = (new ≡ content_order_ef
 
 -- the event is unavailable: it changes nothing, and says so
 abbrev pub IsUnavailableEvent : Event → Content → Content → Answer → Type 0
-IsUnavailableEvent (request moment bytes) old new (replied reply) = (new ≡ old) × IsUnavailableRequest moment bytes reply
+IsUnavailableEvent (request moment bytes) old new (replied reply) =
+    (new ≡ old) × IsUnavailableRequest moment bytes reply
 IsUnavailableEvent (request moment bytes) old new (ordered reply) = ⊥
 IsUnavailableEvent (order moment o) old new (replied reply) = ⊥
 IsUnavailableEvent (order moment o) old new (ordered reply) = (new ≡ old) × (reply ≡ Unavailable)
@@ -93,7 +97,9 @@ Runs keys (turn ∷ turns) old new (answer ∷ answers) =
 
 -- ---- the tables
 
-module _ {T : Type 0} (stands : T → Content → Type 0) (is_live : T → Type 0) where
+module _ {T : Type 0} (meaning : Meaning T) where
+  open meaning use {stands, is_live}
+
   -- they stand for what they stood for
   abbrev pub Keeps : T → T → Type 0
   Keeps old new = is_live new → (c : Content) → stands old c → stands new c
@@ -118,13 +124,15 @@ module _ {T : Type 0} (stands : T → Content → Type 0) (is_live : T → Type 
   ShowsEvent (order moment o) (replied reply) old new = ⊥
   ShowsEvent (order moment o) (ordered reply) old new = ByReply reply ⊤ (Keeps old new) (Keeps old new)
 
-module _ {T : Type 0} (stands : T → Content → Type 0) (is_live is_clean : T → Type 0) where
+module _ {T : Type 0} (meaning : Meaning T) where
+  open meaning use {is_clean}
+
   -- While the disk tells no lie, the tables went by something: for every content that they stood for before, if they
   -- were open, and that holds what holds at all times, they stand for the content after it, if they are open, and it
   -- holds it too. So a fault that shuts them ends nothing: what is answered behind it is told over the same content.
   abbrev pub GoesBy : Keys → (Content → Content → Type 0) → T → T → Type 0
-  GoesBy keys Step old new = is_clean new → (c : Content) → IsKept keys.seed c → Holds stands is_live old c
-      → (next : Content) × Step c next × Holds stands is_live new next × IsKept keys.seed next
+  GoesBy keys Step old new = is_clean new → (c : Content) → IsKept keys.seed c → Holds meaning old c
+      → (next : Content) × Step c next × Holds meaning new next × IsKept keys.seed next
 
   -- they went by one turn
   abbrev pub GoesByTurn : Keys → Turn → Answer → T → T → Type 0
@@ -141,24 +149,30 @@ module _ {T : Type 0} (stands : T → Content → Type 0) (is_live is_clean : T 
   GoesThrough keys [] (answer ∷ answers) old new = ⊥
   GoesThrough keys (turn ∷ turns) [] old new = ⊥
   GoesThrough keys (turn ∷ turns) (answer ∷ answers) old new =
-      (mid : T) × (is_clean mid → is_clean old) × ShowsEvent stands is_live turn.event answer old mid
+      (mid : T) × (is_clean mid → is_clean old) × ShowsEvent meaning turn.event answer old mid
       × GoesByTurn keys turn answer old mid × GoesThrough keys turns answers mid new
 
   -- a request is served, or it is unavailable
   abbrev pub RequestTaken : Keys → ℕ → List ℕ → List ℕ → T → T → Type 0
   RequestTaken keys moment bytes reply old new =
-      (unavailable : Bool) × GoesByTurn keys (record { event = request moment bytes; unavailable = unavailable }) (replied reply) old new
+      (unavailable : Bool) × GoesByTurn keys (record { event = request moment bytes; unavailable = unavailable })
+      (replied reply) old new
 
-module _ {T : Type 0} (stands : T → Content → Type 0) (is_live is_clean : T → Type 0) (leaves : T → Content → Content → Type 0) where
+module _ {T : Type 0} (meaning : Meaning T) where
+  open meaning use {stands, is_live, is_clean, leaves}
+
   -- after a denial a crash finds what it found before, unless it is unavailable
   abbrev pub ShowsReply : ℕ → List ℕ → T → T → Type 0
   ShowsReply moment reply old new =
-      IsShown stands is_live (λ rule. (rule ≡ UnavailableRule) ⊎ (is_clean new → (c d : Content) → leaves old c d → leaves new c d))
+      IsShown meaning (λ rule. (rule ≡ UnavailableRule)
+      ⊎ (is_clean new → (c d : Content) → leaves old c d → leaves new c d))
       moment reply old new
 
   -- What a crash finds after the bytes of a request, while the disk tells no lie, of tables that were live: the records
   -- after it alone where it was answered; where it was unavailable, those before it, or those with its effect.
   abbrev pub LeavesRequest : Keys → ℕ → List ℕ → List ℕ → T → T → Type 0
-  LeavesRequest keys moment bytes reply old new = is_clean new → is_live old → (c : Content) → IsKept keys.seed c → stands old c
+  LeavesRequest keys moment bytes reply old new =
+      is_clean new → is_live old → (c : Content) → IsKept keys.seed c → stands old c
       → ((next : Content) × ServesRequest keys moment bytes c next reply × ((d : Content) → leaves new next d))
-      ⊎ ((r : RequestValue) × AsksTheDesk moment bytes r × (reply ≡ refusal None UnavailableRule) × leaves new c (content_effect keys moment r c))
+      ⊎ ((r : RequestValue) × AsksTheDesk moment bytes r × (reply ≡ refusal None UnavailableRule)
+      × leaves new c (content_effect keys moment r c))

@@ -1,5 +1,6 @@
 -- Readers and writers that remember whether they have failed.
-use Rattle.std.specs.Prelude.{◌≡◌, ℕ, ◌+◌, ◌-◌, ◌^◌, ◌≤◌, min, List, ◌++◌, Option, Bool, Result, true, false, Ok, Err, not, ◌&&◌, ◌==◌, nat_lt, length}
+use Rattle.std.specs.Prelude.{◌≡◌, ℕ, ◌+◌, ◌-◌, ◌^◌, ◌≤◌, min, List, ◌++◌, Option, Bool, Result, true, false, Ok, Err}
+use Rattle.std.specs.Prelude.{not, ◌&&◌, ◌==◌, nat_lt, length}
 use Rattle.std.specs.Io.KnownBytes.{Appends, Consumes}
 use Rattle.std.specs.IoError.{error_kind}
 use Rattle.std.specs.declared.io.Error.{Error}

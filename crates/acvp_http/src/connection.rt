@@ -4,14 +4,13 @@ ghost use Rattle.acvp_desk.specs.Answer.{end_of_moments};
 ghost use Rattle.acvp_http.specs.Connection.{AnswersInput, ServesOne, TakesWithin, is_read_end, is_write_end};
 ghost use Rattle.acvp_http.specs.Private.Receiving.{StopsConnection};
 
-use crate::receiving::receive;
+use crate::receiving::{ReceiveFault, Received, receive};
 use crate::reply::Reply;
 use crate::routes::Routes;
-use crate::script::ScriptFault;
-use crate::serve::handle_bytes;
-use crate::source::{Sink, Source};
+use crate::serve::{answer, date_of};
+use crate::source::{ReadFault, Sink, Source, WriteFault};
 use crate::writing::write_all;
-use acvp_desk::{Desk, END_OF_MOMENTS};
+use acvp_desk::Desk;
 use acvp_policy::Rule;
 use acvp_tables::Tables;
 use std::alloc::Global;
@@ -40,25 +39,24 @@ fn answer_input<T: Tables, S: Source>(
 ) -> Result<Reply, ServeFault>
     requires { (S.stream reader.old).failed ≡ false }
     ensures keys { desk.new.keys ≡ desk.old.keys }
-    ensures was_live { T.is_live desk.new.tables → T.is_live desk.old.tables }
-    ensures was_clean { T.is_clean desk.new.tables → T.is_clean desk.old.tables }
+    ensures was_live { T.meaning.is_live desk.new.tables → T.meaning.is_live desk.old.tables }
+    ensures was_clean { T.meaning.is_clean desk.new.tables → T.meaning.is_clean desk.old.tables }
     ensures answered { MatchResult result
         (λ reply. ((S.stream reader.new).failed ≡ false)
-        × AnswersInput T.stands T.is_live T.is_clean desk.old.keys moment (S.stream reader.old) (S.stream reader.new) reply desk.old.tables desk.new.tables)
+        × AnswersInput T.meaning desk.old.keys moment (S.stream reader.old)
+        (S.stream reader.new) reply desk.old.tables desk.new.tables)
         (λ fault. StopsConnection fault (S.stream reader.old) (S.stream reader.new)
         × (moment < end_of_moments) × (desk.new ≡ desk.old) × TakesWithin (S.stream reader.old) (S.stream reader.new)) }
 {
-    if moment >= END_OF_MOMENTS {
-        return Ok(handle_bytes(routes, desk, moment, b""));
-    }
+    let Some(date) = date_of(moment) else {
+        return Ok(Reply::refusal(None, Rule::ClockOutOfRange));
+    };
     let limit = reader.reads().saturating_add(MOST_TURNS);
     match receive(alloc, reader, limit) {
-        Ok(bytes) => Ok(handle_bytes(routes, desk, moment, &bytes)),
-        Err(ScriptFault::Memory) => Ok(Reply::refusal(None, Rule::Unavailable)),
-        Err(ScriptFault::Read) => Err(ServeFault::Read),
-        Err(ScriptFault::Limit) => Err(ServeFault::Turns),
-        Err(ScriptFault::Syntax) => unreachable!(),
-        Err(ScriptFault::Write) => unreachable!(),
+        Ok(Received { bytes, head }) => Ok(answer(routes, desk, moment, &date, &bytes, head)),
+        Err(ReceiveFault::Memory) => Ok(Reply::refusal(None, Rule::Unavailable)),
+        Err(ReceiveFault::Read(ReadFault::Failed)) => Err(ServeFault::Read),
+        Err(ReceiveFault::Read(ReadFault::TooOften)) => Err(ServeFault::Turns),
     }
 }
 
@@ -75,9 +73,10 @@ pub fn serve_one<T: Tables, S: Source, K: Sink>(
     requires reader_clear { (S.stream reader.old).failed ≡ false }
     requires writer_clear { (K.stream writer.old).failed ≡ false }
     ensures keys { desk.new.keys ≡ desk.old.keys }
-    ensures was_live { T.is_live desk.new.tables → T.is_live desk.old.tables }
-    ensures was_clean { T.is_clean desk.new.tables → T.is_clean desk.old.tables }
-    ensures serves { ServesOne T.stands T.is_live T.is_clean desk.old.keys moment (S.stream reader.old) (S.stream reader.new) (K.stream writer.old)
+    ensures was_live { T.meaning.is_live desk.new.tables → T.meaning.is_live desk.old.tables }
+    ensures was_clean { T.meaning.is_clean desk.new.tables → T.meaning.is_clean desk.old.tables }
+    ensures serves { ServesOne T.meaning desk.old.keys moment (S.stream reader.old) (S.stream reader.new)
+        (K.stream writer.old)
         (K.stream writer.new) desk.old.tables desk.new.tables result }
     ensures read_fault { (S.stream reader.new).failed ≡ is_read_end result }
     ensures write_fault { (K.stream writer.new).failed ≡ is_write_end result }
@@ -85,6 +84,6 @@ pub fn serve_one<T: Tables, S: Source, K: Sink>(
     let reply = answer_input(alloc, routes, desk, reader, moment)?;
     match write_all(writer, reply.bytes()) {
         Ok(()) => Ok(()),
-        Err(_) => Err(ServeFault::Write),
+        Err(WriteFault) => Err(ServeFault::Write),
     }
 }

@@ -1,9 +1,11 @@
 //! The framing of a request: which fields say where its body ends (RFC 9112, section 6).
-ghost use Rattle.std.specs.Prelude.{◌≡◌, ◌≤◌, ◌<◌, ◌∷◌, ◌++◌, [], ℕ, All, length, map, take, drop, true, false, not, ◌||◌, Some, None, codes, nat_le, if◌then◌else◌, IfOk};
+ghost use Rattle.std.specs.Prelude.{◌≡◌, ◌≤◌, ◌<◌, ◌∷◌, ◌++◌, [], ℕ, All, length, map, take, drop, true, false, not};
+ghost use Rattle.std.specs.Prelude.{◌||◌, Some, None, codes, nat_le, if◌then◌else◌};
 ghost use Rattle.std.specs.List.{list_all};
 ghost use Rattle.std.specs.Str.{str_eq_ignore_ascii_case, bytes_eq};
 ghost use Rattle.httparse.specs.Spans.{span_bytes, header_bytes, IsWithin, IsHeaderWithin};
-ghost use Rattle.acvp_http.specs.Asks.{values_of, same_number, first_number, lengths_agree, needs_length, hosts_fit, body_length, is_nil, framing_conditions, body_limit, body_size};
+ghost use Rattle.acvp_http.specs.Asks.{values_of, same_number, first_number, lengths_agree, needs_length, hosts_fit};
+ghost use Rattle.acvp_http.specs.Asks.{body_length, is_nil, framing_conditions, body_limit, body_size};
 ghost use Rattle.acvp_desk.specs.Conditions.{judged};
 ghost use Rattle.acvp_desk.specs.Number.{digits_number_of};
 
@@ -154,38 +156,29 @@ fn check(holds: bool, rule: Rule) -> Result<(), Rule>
 /// The most bytes that a body may have.
 pub const BODY_BYTES: u64 = 2097152;
 
-/// The body's size, or the rule that the framing breaks, where so many bytes follow the head.
+/// How long the body is that a head tells, or the rule that its framing breaks.
 pub(crate) fn body_size(
     block: &[u8],
     method: &[u8],
     minor: u8,
     headers: &[HeaderSpan],
-    available: usize,
 ) -> Result<usize, Rule>
     requires within { All (IsHeaderWithin (length block.now)) headers.now }
     requires few { length headers.now ≤ 64 }
-    ensures value { result ≡ body_size method.now minor (map (header_bytes block.now) headers.now) available }
-    ensures fits { IfOk result (λ size. size ≤ available) }
+    ensures { result ≡ body_size method.now minor (map (header_bytes block.now) headers.now) }
 {
     let codings = field_values_of(block, headers, b"transfer-encoding");
     check(codings.is_empty(), Rule::TransferCoding)?;
-    told_size(block, method, minor, headers, available)
+    told_size(block, method, minor, headers)
 }
 
 /// The same where there is no transfer coding.
-fn told_size(
-    block: &[u8],
-    method: &[u8],
-    minor: u8,
-    headers: &[HeaderSpan],
-    available: usize,
-) -> Result<usize, Rule>
+fn told_size(block: &[u8], method: &[u8], minor: u8, headers: &[HeaderSpan]) -> Result<usize, Rule>
     requires within { All (IsHeaderWithin (length block.now)) headers.now }
     requires few { length headers.now ≤ 64 }
-    ensures value { let fields = map (header_bytes block.now) headers.now in
-        result ≡ judged (drop 1 (framing_conditions method.now minor fields available))
+    ensures { let fields = map (header_bytes block.now) headers.now in
+        result ≡ judged (drop 1 (framing_conditions method.now minor fields))
         (body_length (values_of (codes "content-length") fields)) }
-    ensures fits { IfOk result (λ size. size ≤ available) }
 {
     let lengths = field_values_of(block, headers, b"content-length");
     let hosts = field_values_of(block, headers, b"host");
@@ -193,20 +186,16 @@ fn told_size(
     let Some(size) = agreed_length(block, lengths.as_slice()) else {
         return Err(Rule::BadLength);
     };
-    fitting_size(size, minor, hosts.len(), available)
+    fitting_size(size, minor, hosts.len())
 }
 
-/// The body's size, where its length was told: it may be so long, the version may have so many Host fields, and so many
-/// bytes follow the head.
-fn fitting_size(size: u64, minor: u8, hosts: usize, available: usize) -> Result<usize, Rule>
-    ensures value { result ≡ judged ((nat_le size body_limit, Rule.BodyTooLarge)
+/// The body's size, where its length was told: it may be so long, and the version may have so many Host fields.
+fn fitting_size(size: u64, minor: u8, hosts: usize) -> Result<usize, Rule>
+    ensures { result ≡ judged ((nat_le size body_limit, Rule.BodyTooLarge)
         ∷ (hosts_fit minor hosts, Rule.HostMissing)
-        ∷ (nat_le size available, Rule.Truncated)
         ∷ []) size }
-    ensures fits { IfOk result (λ size. size ≤ available) }
 {
     check(size <= BODY_BYTES, Rule::BodyTooLarge)?;
     check(hosts_fit(minor, hosts), Rule::HostMissing)?;
-    check(size as usize <= available, Rule::Truncated)?;
     Ok(size as usize)
 }

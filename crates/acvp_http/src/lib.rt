@@ -23,7 +23,6 @@ mod writing;
 pub use connection::{ServeFault, serve_one};
 pub use framing::BODY_BYTES;
 pub use head::HEAD_BYTES;
-pub use path::Route;
 pub use promise::{headline, isolation, request_isolation};
 pub use reply::Reply;
 pub use request::asks_one_thing;

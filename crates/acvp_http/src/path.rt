@@ -1,18 +1,14 @@
 //! The paths of the protocol, and what a method on one asks.
-ghost use Rattle.std.specs.Prelude.{◌≡◌, ◌≤◌, ◌∷◌, [], codes, length};
-ghost use Rattle.acvp_http.specs.Paths.{chosen, methods_of, numbers_of, route_on, allowed_on};
+ghost use Rattle.std.specs.Prelude.{◌≡◌, ◌≤◌, ◌+◌, ◌∷◌, [], codes, length, Some, None, if◌then◌else◌};
+ghost use Rattle.acvp_desk.specs.declared.request.Ask.TheVariants as ask;
+ghost use Rattle.acvp_desk.specs.declared.wish.RegistryWish.TheVariants as its;
+ghost use Rattle.acvp_http.specs.Paths.{allowed_on, asked_on, chosen, methods_of, on_registry, registry_methods};
+ghost use Rattle.acvp_http.specs.Private.Methods.{joined, listed, offered};
 
-use acvp_desk::Numbers;
-use acvp_policy::Action;
+use crate::text::ShortText;
+use acvp_desk::{AccountWish, Ask, Registry, RegistryWish, SessionWish, SetWish, Wish, page_of};
 
-/// What a method on a path asks, with the numbers of the path.
-#[derive(Clone, Copy, Debug, PartialEq, Eq)]
-pub struct Route {
-    pub action: Action,
-    pub numbers: Numbers,
-}
-
-/// A path of the table, with its numbers.
+/// A path of the table, with its numbers. The router keeps each with 0 for them.
 #[derive(Clone, Copy)]
 pub(crate) enum Path {
     Login,
@@ -38,150 +34,177 @@ pub(crate) enum Path {
     Request(u64),
 }
 
-pub(crate) const GET: &[u8] = b"GET";
+const GET: &[u8] = b"GET";
 
-pub(crate) const POST: &[u8] = b"POST";
+const POST: &[u8] = b"POST";
 
-pub(crate) const PUT: &[u8] = b"PUT";
+const PUT: &[u8] = b"PUT";
 
-pub(crate) const DELETE: &[u8] = b"DELETE";
+const DELETE: &[u8] = b"DELETE";
 
-/// What a method asks, where this is the only one.
-fn only(method: &[u8], name: &[u8], action: Action) -> Option<Action>
-    ensures { result ≡ chosen method.now ((name.now, action) ∷ []) }
-{
-    if method == name { Some(action) } else { None }
+/// What each method asks on a path, where the path has it.
+#[derive(Clone, Copy)]
+struct Methods {
+    get: Option<Ask>,
+    post: Option<Ask>,
+    put: Option<Ask>,
+    delete: Option<Ask>,
 }
 
-/// What a method asks, where there are two.
-fn either(
-    method: &[u8],
-    first: &[u8],
-    action: Action,
-    second: &[u8],
-    other: Action,
-) -> Option<Action>
-    ensures { result ≡ chosen method.now ((first.now, action) ∷ (second.now, other) ∷ []) }
+/// A path that has no method.
+const NONE: Methods = Methods {
+    get: None,
+    post: None,
+    put: None,
+    delete: None,
+};
+
+/// A path that can be read.
+fn get(wish: Wish) -> Methods
+    ensures { result ≡ record { get = Some (ask.Caller wish); post = None; put = None; delete = None } }
 {
-    if method == first {
-        Some(action)
-    } else {
-        only(method, second, other)
+    Methods {
+        get: Some(Ask::Caller(wish)),
+        ..NONE
     }
 }
 
-/// What a method asks, where GET is the only one.
-fn get(method: &[u8], action: Action) -> Option<Action>
-    ensures { result ≡ chosen method.now ((codes "GET", action) ∷ []) }
+/// A path that can be read, and at which something new can be asked for.
+fn get_or_post(read: Wish, new: Wish) -> Methods
+    ensures { result ≡ record {
+      get = Some (ask.Caller read);
+      post = Some (ask.Caller new);
+      put = None;
+      delete = None;
+    } }
 {
-    only(method, GET, action)
+    Methods {
+        get: Some(Ask::Caller(read)),
+        post: Some(Ask::Caller(new)),
+        ..NONE
+    }
 }
 
-/// What a method asks, where there are GET and POST.
-fn get_or_post(method: &[u8], get: Action, post: Action) -> Option<Action>
-    ensures { result ≡ chosen method.now ((codes "GET", get) ∷ (codes "POST", post) ∷ []) }
+/// A registry, whose objects are listed by the page that a query asks for.
+fn registry(of: Registry, query: &[u8]) -> Methods
+    ensures { listed result ≡ registry_methods of query.now }
 {
-    either(method, GET, get, POST, post)
+    let list = RegistryWish::List(of, page_of(query));
+    get_or_post(Wish::Registry(list), Wish::Registry(RegistryWish::New(of)))
+}
+
+/// What a registry holds under a number.
+fn object(of: Registry, number: u64) -> Methods
+    ensures { listed result ≡ (codes "GET", on_registry (its.Read of number)) ∷ [] }
+{
+    get(Wish::Registry(RegistryWish::Read(of, number)))
+}
+
+/// What this method asks, where it is the one of this name.
+fn only(method: &[u8], name: &[u8], ask: Option<Ask>) -> Option<Ask>
+    ensures { result ≡ chosen method.now (offered name.now ask) }
+{
+    if method == name { ask } else { None }
+}
+
+impl Methods {
+    /// What this method asks, where the path has it.
+    fn asked(self, method: &[u8]) -> Option<Ask>
+        ensures { result ≡ chosen method.now (listed self) }
+    {
+        only(method, GET, self.get)
+            .or(only(method, POST, self.post))
+            .or(only(method, PUT, self.put))
+            .or(only(method, DELETE, self.delete))
+    }
 }
 
 impl Path {
-    /// What the method asks on this path, where it is one of its methods.
-    fn action(self, method: &[u8]) -> Option<Action>
-        ensures { result ≡ chosen method.now (methods_of self) }
+    /// What each method asks on this path, beside a query.
+    fn methods(self, query: &[u8]) -> Methods
+        ensures { listed result ≡ methods_of self query.now }
     {
         match self {
-            Path::Login => only(method, POST, Action::Login),
-            Path::Account => get(method, Action::ReadAccount),
-            Path::Algorithms => get(method, Action::ListAlgorithms),
-            Path::Algorithm(_) => get(method, Action::ReadAlgorithm),
-            Path::Sessions => get_or_post(method, Action::ListSessions, Action::NewSession),
-            Path::Session(_) if method == GET => Some(Action::ReadSession),
-            Path::Session(_) => either(method, PUT, Action::Certify, DELETE, Action::CancelSession),
-            Path::SessionResults(_) => get(method, Action::SessionResults),
-            Path::Sets(_) => get(method, Action::ListSets),
-            Path::Set(_, _) => either(method, GET, Action::ReadSet, DELETE, Action::CancelSet),
-            Path::SetResults(_, _) if method == GET => Some(Action::SetResults),
-            Path::SetResults(_, _) => either(method, POST, Action::Submit, PUT, Action::Resubmit),
-            Path::Expected(_, _) => get(method, Action::Expected),
-            Path::Reviewers(_) => get_or_post(method, Action::ListReviewers, Action::AddReviewer),
-            Path::Reviewer(_, _) => only(method, DELETE, Action::RemoveReviewer),
-            Path::Vendors => get_or_post(method, Action::ListVendors, Action::NewVendor),
-            Path::Vendor(_) => get(method, Action::ReadVendor),
-            Path::Modules => get_or_post(method, Action::ListModules, Action::NewModule),
-            Path::Module(_) => get(method, Action::ReadModule),
-            Path::Environments => get_or_post(
-                method,
-                Action::ListEnvironments,
-                Action::NewEnvironment,
+            Path::Login => Methods {
+                post: Some(Ask::Login),
+                ..NONE
+            },
+            Path::Account => get(Wish::Account(AccountWish::Read)),
+            Path::Algorithms => get(Wish::Account(AccountWish::ListAlgorithms)),
+            Path::Algorithm(number) => get(Wish::Algorithm(number)),
+            Path::Sessions => get_or_post(Wish::ListSessions(page_of(query)), Wish::NewSession),
+            Path::Session(session) => Methods {
+                get: Some(Ask::Caller(Wish::Session(session, SessionWish::Read))),
+                put: Some(Ask::Caller(Wish::Certify(session))),
+                delete: Some(Ask::Caller(Wish::Session(session, SessionWish::Cancel))),
+                ..NONE
+            },
+            Path::SessionResults(session) => get(Wish::Session(session, SessionWish::Results)),
+            Path::Sets(session) => get(Wish::Session(session, SessionWish::ListSets)),
+            Path::Set(session, set) => Methods {
+                get: Some(Ask::Caller(Wish::Set(session, set, SetWish::Read))),
+                delete: Some(Ask::Caller(Wish::CancelSet(session, set))),
+                ..NONE
+            },
+            Path::SetResults(session, set) => Methods {
+                get: Some(Ask::Caller(Wish::Set(session, set, SetWish::Results))),
+                post: Some(Ask::Caller(Wish::Set(session, set, SetWish::Submit))),
+                put: Some(Ask::Caller(Wish::Set(session, set, SetWish::Resubmit))),
+                ..NONE
+            },
+            Path::Expected(session, set) => get(Wish::Set(session, set, SetWish::Expected)),
+            Path::Reviewers(session) => get_or_post(
+                Wish::Session(session, SessionWish::ListReviewers),
+                Wish::Session(session, SessionWish::AddReviewer),
             ),
-            Path::Environment(_) => get(method, Action::ReadEnvironment),
-            Path::Requests => get(method, Action::ListRequests),
-            Path::Request(_) => get(method, Action::ReadRequest),
+            Path::Reviewer(session, account) => Methods {
+                delete: Some(Ask::Caller(Wish::Reviewer(session, account))),
+                ..NONE
+            },
+            Path::Vendors => registry(Registry::Vendors, query),
+            Path::Vendor(number) => object(Registry::Vendors, number),
+            Path::Modules => registry(Registry::Modules, query),
+            Path::Module(number) => object(Registry::Modules, number),
+            Path::Environments => registry(Registry::Environments, query),
+            Path::Environment(number) => object(Registry::Environments, number),
+            Path::Requests => get(Wish::Registry(RegistryWish::ListRequests(page_of(query)))),
+            Path::Request(number) => get(Wish::Registry(RegistryWish::ReadRequest(number))),
         }
     }
 
-    /// The numbers of this path.
-    fn numbers(self) -> Numbers
-        ensures { result ≡ numbers_of self }
+    /// What the method asks on this path beside a query, where it is one of the path's methods.
+    pub(crate) fn asked(self, method: &[u8], query: &[u8]) -> Option<Ask>
+        ensures { result ≡ asked_on method.now query.now self }
     {
-        let (first, second) = match self {
-            Path::Session(first)
-            | Path::SessionResults(first)
-            | Path::Sets(first)
-            | Path::Reviewers(first) => (first, 0),
-            Path::Set(first, second)
-            | Path::SetResults(first, second)
-            | Path::Expected(first, second)
-            | Path::Reviewer(first, second) => (first, second),
-            Path::Algorithm(first)
-            | Path::Vendor(first)
-            | Path::Module(first)
-            | Path::Environment(first)
-            | Path::Request(first) => (first, 0),
-            Path::Login | Path::Account | Path::Algorithms | Path::Sessions => (0, 0),
-            Path::Vendors | Path::Modules | Path::Environments | Path::Requests => (0, 0),
-        };
-        Numbers { first, second }
-    }
-
-    /// What the method asks on this path with its numbers, where it is one of its methods.
-    pub(crate) fn route(self, method: &[u8]) -> Option<Route>
-        ensures { result ≡ route_on method.now self }
-    {
-        let action = self.action(method)?;
-        Some(Route {
-            action,
-            numbers: self.numbers(),
-        })
+        self.methods(query).asked(method)
     }
 
     /// The methods of this path, as the `Allow` field lists them (RFC 9110, section 10.2.1).
-    pub(crate) fn allowed(self) -> &'static str
-        ensures value { result.now ≡ allowed_on self }
-        ensures len { length result.now ≤ 32 }
+    pub(crate) fn allowed(self) -> ShortText
+        ensures value { result ≡ allowed_on self }
+        ensures len { length result ≤ 32 }
     {
-        match self {
-            Path::Login => "POST",
-            Path::Account
-            | Path::Algorithms
-            | Path::Algorithm(_)
-            | Path::SessionResults(_)
-            | Path::Sets(_)
-            | Path::Expected(_, _)
-            | Path::Vendor(_)
-            | Path::Module(_)
-            | Path::Environment(_)
-            | Path::Requests
-            | Path::Request(_) => "GET",
-            Path::Sessions
-            | Path::Reviewers(_)
-            | Path::Vendors
-            | Path::Modules
-            | Path::Environments => "GET, POST",
-            Path::Session(_) => "GET, PUT, DELETE",
-            Path::Set(_, _) => "GET, DELETE",
-            Path::SetResults(_, _) => "GET, POST, PUT",
-            Path::Reviewer(_, _) => "DELETE",
-        }
+        let methods = self.methods(b"");
+        let mut text = ShortText::new();
+        push_if(&mut text, GET, methods.get.is_some());
+        push_if(&mut text, POST, methods.post.is_some());
+        push_if(&mut text, PUT, methods.put.is_some());
+        push_if(&mut text, DELETE, methods.delete.is_some());
+        text
     }
+}
+
+/// Writes a method's name behind those that are there, where the path has it.
+fn push_if(text: &mut ShortText, name: &[u8], is_there: bool)
+    requires short { length text.old + length name.now + 2 ≤ 512 }
+    ensures bytes { text.new ≡ (if is_there then joined text.old name.now else text.old) }
+    ensures len { length text.new ≤ length text.old + length name.now + 2 }
+{
+    if !is_there {
+        return;
+    }
+    if text.len() > 0 {
+        text.push(b", ");
+    }
+    text.push(name);
 }

@@ -1,14 +1,16 @@
 //! The events of a script, one after another, out of a reader.
-ghost use Rattle.std.specs.Prelude.{◌≡◌, ◌≤◌, ◌<◌, ◌++◌, ◌∷◌, [], ℕ, List, false, length, take, IfNone, MatchResult, MatchOption, vec_len};
+ghost use Rattle.std.specs.Prelude.{◌≡◌, ◌≤◌, ◌<◌, ◌++◌, ◌∷◌, [], ℕ, List, false, length, take, IfNone, MatchResult};
+ghost use Rattle.std.specs.Prelude.{MatchOption, vec_len};
 ghost use Rattle.std.specs.Option.{option_to_list};
 ghost use Rattle.std.specs.Io.KnownBytes.{IsAtEnd};
 ghost use Rattle.acvp_http.specs.Private.Lines.{Lacks};
-ghost use Rattle.acvp_http.specs.Private.Reading.{TakesPart, StopsReading, StopsLine, StopsFilling, HasNoBody, StopsBody, StopsEvent, event_of};
+ghost use Rattle.acvp_http.specs.Private.Reading.{TakesPart, StopsReading, StopsLine, StopsFilling, HasNoBody};
+ghost use Rattle.acvp_http.specs.Private.Reading.{StopsBody, StopsEvent, event_of};
 ghost use Rattle.acvp_http.specs.Script.{IsWritten, HasNoEvent};
 ghost use Rattle.acvp_http.specs.Source.{Gives};
 
 use crate::script::{Line, ScriptFault, read_line};
-use crate::source::{Source, is_interrupted};
+use crate::source::{ReadFault, Source, is_interrupted};
 use acvp_desk::Order;
 use std::alloc::Global;
 
@@ -18,7 +20,7 @@ const LONGEST_LINE: usize = 101;
 
 /// Reads some bytes, which are none only at the end or where there is no room. A read that is interrupted is tried
 /// again, until the reader was read as often as it may be.
-fn read_some<S: Source>(reader: &mut S, limit: u64, buf: &mut [u8]) -> Result<usize, ScriptFault>
+fn read_some<S: Source>(reader: &mut S, limit: u64, buf: &mut [u8]) -> Result<usize, ReadFault>
     requires { (S.stream reader.old).failed ≡ false }
     ensures { MatchResult result
         (λ count. (count ≤ length buf.new) × ((S.stream reader.new).failed ≡ false)
@@ -32,16 +34,16 @@ fn read_some<S: Source>(reader: &mut S, limit: u64, buf: &mut [u8]) -> Result<us
             Ok(count) => return Ok(count),
             Err(error) => {
                 if !is_interrupted(&error) {
-                    return Err(ScriptFault::Read);
+                    return Err(ReadFault::Failed);
                 }
             }
         }
     }
-    Err(ScriptFault::Limit)
+    Err(ReadFault::TooOften)
 }
 
 /// The next byte, or `None` at the end.
-pub(crate) fn read_byte<S: Source>(reader: &mut S, limit: u64) -> Result<Option<u8>, ScriptFault>
+pub(crate) fn read_byte<S: Source>(reader: &mut S, limit: u64) -> Result<Option<u8>, ReadFault>
     requires { (S.stream reader.old).failed ≡ false }
     ensures { MatchResult result
         (λ byte. ((S.stream reader.new).failed ≡ false)

@@ -1,45 +1,66 @@
 //! The bytes of one request, out of a reader: no more of them than the request needs.
 ghost use Rattle.std.specs.Prelude.{◌≡◌, ◌≤◌, ◌++◌, ℕ, List, false, length, IfSome, MatchResult};
-ghost use Rattle.acvp_http.specs.Needed.{IsNeeded, NeedsBody};
+ghost use Rattle.acvp_http.specs.Needed.{IsNeeded};
+ghost use Rattle.acvp_http.specs.Private.Head.{ParsesInput};
 ghost use Rattle.acvp_http.specs.Source.{Gives};
 ghost use Rattle.acvp_http.specs.Connection.{TakesWithin};
-ghost use Rattle.acvp_http.specs.Private.Receiving.{TakesFew, TakesOfHead, StopsReceiving, TakesByte, IsHeadTaken, IsBodyTaken};
+ghost use Rattle.acvp_http.specs.declared.receiving.ReceiveFault.TheVariants.{Read};
+ghost use Rattle.acvp_http.specs.Private.Receiving.{TakesFew, TakesOfHead, StopsReceiving, TakesByte, IsHeadTaken};
+ghost use Rattle.acvp_http.specs.Private.Receiving.{IsBodyTaken};
 
-use crate::framing::{BODY_BYTES, body_size};
-use crate::head::{HEAD_BYTES, ends_with_empty_line, line_count, whole_head};
+use crate::head::{HEAD_BYTES, Head, ends_with_empty_line, headless, parse_block};
 use crate::reading::read_byte;
-use crate::request::MOST_FIELDS;
-use crate::script::ScriptFault;
-use crate::source::Source;
-use httparse::spans::EMPTY_HEADER_SPAN;
+use crate::source::{ReadFault, Source};
+use acvp_policy::Rule;
 use std::alloc::Global;
+
+/// Why a request isn't received.
+#[derive(Clone, Copy)]
+pub(crate) enum ReceiveFault {
+    Read(ReadFault),
+
+    /// Memory for its bytes was refused.
+    Memory,
+}
+
+impl From<ReadFault> for ReceiveFault {
+    ghost from_gives = { λ read fault. fault ≡ Read read };
+
+    fn from(read: ReadFault) -> ReceiveFault {
+        ReceiveFault::Read(read)
+    }
+}
 
 /// Takes one more byte, and says whether there was one.
 fn take_byte<S: Source>(
     reader: &mut S,
     limit: u64,
     bytes: &mut Vec<u8>,
-) -> Result<bool, ScriptFault>
+) -> Result<bool, ReceiveFault>
     requires { (S.stream reader.old).failed ≡ false }
     ensures { MatchResult result
-        (λ more. ((S.stream reader.new).failed ≡ false) × TakesByte more (S.stream reader.old) (S.stream reader.new) bytes.old.items bytes.new.items)
-        (λ fault. StopsReceiving fault (S.stream reader.new) limit × TakesFew 1 (S.stream reader.old) (S.stream reader.new)) }
+        (λ more. ((S.stream reader.new).failed ≡ false)
+        × TakesByte more (S.stream reader.old) (S.stream reader.new) bytes.old.items bytes.new.items)
+        (λ fault. StopsReceiving fault (S.stream reader.new) limit
+        × TakesFew 1 (S.stream reader.old) (S.stream reader.new)) }
 {
     match read_byte(reader, limit)? {
         None => Ok(false),
         Some(byte) => match bytes.push(byte) {
             Ok(()) => Ok(true),
-            Err(_) => Err(ScriptFault::Memory),
+            Err(_) => Err(ReceiveFault::Memory),
         },
     }
 }
 
 /// The block of a head with its empty line; or as many bytes as a head may have, or as there are, without one.
-fn read_head<S: Source>(alloc: Global, reader: &mut S, limit: u64) -> Result<Vec<u8>, ScriptFault>
+fn read_head<S: Source>(alloc: Global, reader: &mut S, limit: u64) -> Result<Vec<u8>, ReceiveFault>
     requires { (S.stream reader.old).failed ≡ false }
     ensures { MatchResult result
-        (λ bytes. ((S.stream reader.new).failed ≡ false) × Gives (S.stream reader.old) (S.stream reader.new) bytes.items × IsHeadTaken (S.stream reader.new).held bytes.items)
-        (λ fault. StopsReceiving fault (S.stream reader.new) limit × TakesOfHead (S.stream reader.old) (S.stream reader.new)) }
+        (λ bytes. ((S.stream reader.new).failed ≡ false) × Gives (S.stream reader.old) (S.stream reader.new) bytes.items
+        × IsHeadTaken (S.stream reader.new).held bytes.items)
+        (λ fault. StopsReceiving fault (S.stream reader.new) limit
+        × TakesOfHead (S.stream reader.old) (S.stream reader.new)) }
 {
     let mut bytes = Vec::new(alloc);
     for _ in 0..HEAD_BYTES {
@@ -59,12 +80,13 @@ fn read_body<S: Source>(
     limit: u64,
     wanted: usize,
     bytes: &mut Vec<u8>,
-) -> Result<(), ScriptFault>
+) -> Result<(), ReceiveFault>
     requires { (S.stream reader.old).failed ≡ false }
     ensures { MatchResult result
         (λ _. ((S.stream reader.new).failed ≡ false) × ((part : List ℕ) × (bytes.new.items ≡ bytes.old.items ++ part)
         × Gives (S.stream reader.old) (S.stream reader.new) part × IsBodyTaken wanted (S.stream reader.new).held part))
-        (λ fault. StopsReceiving fault (S.stream reader.new) limit × TakesFew wanted (S.stream reader.old) (S.stream reader.new)) }
+        (λ fault. StopsReceiving fault (S.stream reader.new) limit
+        × TakesFew wanted (S.stream reader.old) (S.stream reader.new)) }
 {
     for _ in 0..wanted {
         if !take_byte(reader, limit, bytes)? {
@@ -74,47 +96,44 @@ fn read_body<S: Source>(
     Ok(())
 }
 
-/// How long a body is needed behind this block.
-fn needed_size(block: &[u8]) -> usize
-    ensures { NeedsBody block.now result }
-{
-    if line_count(block) > MOST_FIELDS + 2 {
-        return 0;
-    }
-    let mut headers = [EMPTY_HEADER_SPAN; MOST_FIELDS];
-    let Some(spans) = whole_head(block, &mut headers) else {
-        return 0;
-    };
-    let fields = &headers[..spans.headers];
-    match body_size(
-        block,
-        spans.method.of(block),
-        spans.version,
-        fields,
-        BODY_BYTES as usize,
-    ) {
-        Ok(size) => size,
-        Err(_) => 0,
-    }
+/// The front of an input that its request needs, and its head, or the rule that refuses it.
+#[derive(Drop)]
+pub(crate) struct Received {
+    pub bytes: Vec<u8>,
+    pub head: Result<Head, Rule>,
 }
 
-/// The front of what is read that its request needs.
+/// The front of what is read that its request needs, with the head that was parsed to know how much that is.
 pub(crate) fn receive<S: Source>(
     alloc: Global,
     reader: &mut S,
     limit: u64,
-) -> Result<Vec<u8>, ScriptFault>
+) -> Result<Received, ReceiveFault>
     requires { (S.stream reader.old).failed ≡ false }
     ensures { MatchResult result
-        (λ bytes. ((S.stream reader.new).failed ≡ false) × Gives (S.stream reader.old) (S.stream reader.new) bytes.items
-        × IfSome (S.stream reader.old).held (λ input. IsNeeded input bytes.items))
-        (λ fault. StopsReceiving fault (S.stream reader.new) limit × TakesWithin (S.stream reader.old) (S.stream reader.new)) }
+        (λ received. ((S.stream reader.new).failed ≡ false)
+        × Gives (S.stream reader.old) (S.stream reader.new) received.bytes.items
+        × IfSome (S.stream reader.old).held (λ input. IsNeeded input received.bytes.items)
+        × ParsesInput received.bytes.items received.head)
+        (λ fault. StopsReceiving fault (S.stream reader.new) limit
+        × TakesWithin (S.stream reader.old) (S.stream reader.new)) }
 {
     let mut bytes = read_head(alloc, reader, limit)?;
     if !ends_with_empty_line(&bytes) {
-        return Ok(bytes);
+        let head = Err(headless(&bytes));
+        return Ok(Received { bytes, head });
     }
-    let wanted = needed_size(&bytes);
-    read_body(reader, limit, wanted, &mut bytes)?;
-    Ok(bytes)
+    match parse_block(&bytes) {
+        Err(rule) => Ok(Received {
+            bytes,
+            head: Err(rule),
+        }),
+        Ok(head) => {
+            read_body(reader, limit, head.size, &mut bytes)?;
+            Ok(Received {
+                bytes,
+                head: Ok(head),
+            })
+        }
+    }
 }

@@ -1,14 +1,16 @@
 //! The reply to a request: its head and its body.
-ghost use Rattle.std.specs.Prelude.{◌≡◌, ◌≤◌, ◌<◌, ◌++◌, ◌+◌, ℕ, List, [], codes, length, drop, decimal, unwrap_or, Some, None, option_map, option_copied};
+ghost use Rattle.std.specs.Prelude.{◌≡◌, ◌≤◌, ◌<◌, ◌++◌, ◌+◌, ℕ, List, [], codes, length, drop, decimal, unwrap_or};
+ghost use Rattle.std.specs.Prelude.{Some, None, option_map, option_copied};
 ghost use Rattle.http.specs.StatusCode.{reason_phrase};
 ghost use Rattle.acvp_policy.specs.Rule.{rule_status, rule_word};
 ghost use Rattle.acvp_desk.specs.Answer.{spare};
 ghost use Rattle.acvp_desk.specs.Errors.{error_body};
 ghost use Rattle.acvp_http.specs.Paths.{allowed_on};
-ghost use Rattle.acvp_http.specs.Reply.{phrase_of, line, date_line, rule_line, head_text, framed, date_shown, refusal, method_refusal};
+ghost use Rattle.acvp_http.specs.Reply.{phrase_of, line, date_line, rule_line, head_text, framed, date_shown, refusal};
+ghost use Rattle.acvp_http.specs.Reply.{method_refusal};
 
 use crate::path::Path;
-use crate::text::Text;
+use crate::text::ShortText;
 use acvp_desk::{SPARE_BYTES, errors_are_named};
 use acvp_policy::Rule;
 use http::StatusCode;
@@ -21,18 +23,18 @@ fn phrase(status: u16) -> &'static str
 {
     match StatusCode::from_u16(status) {
         Ok(status) => status.canonical_reason().unwrap_or(""),
-        Err(_) => unreachable!(),
+        Err(_) => "",
     }
 }
 
 /// The first line, with its end.
-fn status_line(status: u16) -> Text
+fn status_line(status: u16) -> ShortText
     requires code { (100 ≤ status) × (status < 1000) }
     requires short { length (phrase_of status) ≤ 31 }
     ensures value { result ≡ line (codes "HTTP/1.1 " ++ decimal status ++ codes " " ++ phrase_of status) }
     ensures len { length result ≤ 63 }
 {
-    let mut text = Text::new();
+    let mut text = ShortText::new();
     text.push(b"HTTP/1.1 ");
     text.push_number(u64::from(status));
     text.push(b" ");
@@ -42,7 +44,7 @@ fn status_line(status: u16) -> Text
 }
 
 /// The `Date` line, where there is a date.
-fn push_date(text: &mut Text, date: Option<&[u8; 29]>)
+fn push_date(text: &mut ShortText, date: Option<&[u8; 29]>)
     requires { length text.old ≤ 80 }
     ensures bytes { text.new ≡ text.old ++ date_line (option_copied date.entry) }
     ensures len { length text.new ≤ length text.old + 37 }
@@ -55,7 +57,7 @@ fn push_date(text: &mut Text, date: Option<&[u8; 29]>)
 }
 
 /// The head of a reply whose body has this length.
-fn head(status: u16, date: Option<&[u8; 29]>, extra_fields: &[u8], body_length: u64) -> Text
+fn head(status: u16, date: Option<&[u8; 29]>, extra_fields: &[u8], body_length: u64) -> ShortText
     requires code { (100 ≤ status) × (status < 1000) }
     requires short { length (phrase_of status) ≤ 31 }
     requires extra_fields { length extra_fields.now ≤ 64 }
@@ -88,13 +90,13 @@ fn extra_fields(rule: Rule) -> &'static [u8]
 }
 
 /// The `Allow` line of a path.
-fn allow_line(path: Path) -> Text
+fn allow_line(path: Path) -> ShortText
     ensures value { result ≡ line (codes "Allow: " ++ allowed_on path) }
     ensures len { length result ≤ 64 }
 {
-    let mut text = Text::new();
+    let mut text = ShortText::new();
     text.push(b"Allow: ");
-    text.push(path.allowed().as_bytes());
+    text.push(path.allowed().as_slice());
     text.push(b"\r\n");
     text
 }
@@ -110,12 +112,12 @@ fn date_shown(date: Option<&[u8; 29]>, rule: Rule) -> Option<&[u8; 29]>
 }
 
 /// The body of a refusal.
-fn error_body(rule: Rule) -> Text
+fn error_body(rule: Rule) -> ShortText
     ensures value { result ≡ error_body rule }
     ensures len { length result ≤ 64 }
 {
     errors_are_named();
-    let mut body = Text::new();
+    let mut body = ShortText::new();
     body.push(b"[{\"acvVersion\":\"1.0\"},{\"error\":\"");
     body.push(rule.word().as_bytes());
     body.push(b"\"}]");
@@ -124,7 +126,7 @@ fn error_body(rule: Rule) -> Text
 
 #[derive(Drop)]
 enum Bytes {
-    Short(Text),
+    Short(ShortText),
 
     /// The bytes of a buffer from this place on.
     Long { buffer: Vec<u8>, start: usize },
@@ -149,7 +151,7 @@ impl Model for Reply {
 
 /// The reply that names a rule, with this date and these fields.
 #[tactic(auto, unfolding(crate::specs::Reply::framed))]
-fn refusal_text(date: Option<&[u8; 29]>, rule: Rule, fields: &[u8]) -> Text
+fn refusal_text(date: Option<&[u8; 29]>, rule: Rule, fields: &[u8]) -> ShortText
     requires { length fields.now ≤ 64 }
     ensures { result ≡ framed (rule_status rule) (option_copied date.entry) fields.now (error_body rule) }
 {

@@ -1,49 +1,26 @@
 //! The table of paths: which path the bytes of a request name.
-ghost use Rattle.std.specs.Prelude.{Result, ◌≡◌, ◌≢◌, ◌<◌, ℕ, List, MatchOption, OnOk, None, IfSome, option_map, slice_index, length, position, ◌==◌};
+ghost use Rattle.std.specs.Prelude.{Result, ◌≡◌, ◌≢◌, ◌<◌, ℕ, List, MatchOption, OnOk, None, IfSome, option_map};
+ghost use Rattle.std.specs.Prelude.{slice_index, length, position, ◌==◌};
 ghost use Rattle.matchit.specs.Seek.{first};
 ghost use Rattle.acvp_policy.specs.declared.rule.Rule.{Rule};
+ghost use Rattle.acvp_desk.specs.declared.request.Ask.{Ask};
 ghost use Rattle.acvp_http.specs.Paths.{Fits, written, IsPath, Names, Finds};
-ghost use Rattle.acvp_http.specs.declared.path.Route.{Route};
-ghost use Rattle.acvp_http.specs.Private.Rows.{IsLeading, IsLast, IsInner, AreLast, AreInner, HasPattern, added_all, general_routes, session_routes, registry_routes};
+ghost use Rattle.acvp_http.specs.Private.Rows.{IsLeading, IsLast, IsInner, AreLast, AreInner, HasPattern, added_all};
+ghost use Rattle.acvp_http.specs.Private.Rows.{general_routes, session_routes, registry_routes};
 
-use crate::path::{Path, Route};
-use acvp_desk::plain_number;
+use crate::path::Path;
+use crate::target::path_and_query;
+use acvp_desk::{Ask, plain_number};
 use acvp_policy::Rule;
 use matchit::{InsertError, Router};
 use std::alloc::{AllocError, Global};
 use std::marker::Model;
 use std::str;
 
-/// The pattern of a path: the path without its numbers.
-#[derive(Clone, Copy)]
-pub(crate) enum Pattern {
-    Login,
-    Account,
-    Algorithms,
-    Algorithm,
-    Sessions,
-    Session,
-    SessionResults,
-    Sets,
-    Set,
-    SetResults,
-    Expected,
-    Reviewers,
-    Reviewer,
-    Vendors,
-    Vendor,
-    Modules,
-    Module,
-    Environments,
-    Environment,
-    Requests,
-    Request,
-}
-
 /// The table of paths. It is made once and never changes.
 #[derive(Drop)]
 pub struct Routes {
-    router: Router<Pattern>,
+    router: Router<Path>,
 }
 
 impl Model for Routes {
@@ -58,67 +35,67 @@ impl Model for Routes {
 }
 
 /// Adds the routes that need no other.
-fn add_general_routes(router: &mut Router<Pattern>) -> Result<(), InsertError>
+fn add_general_routes(router: &mut Router<Path>) -> Result<(), InsertError>
     ensures { OnOk result (router.new ≡ added_all general_routes router.old) }
 {
-    router.insert("/acvp/v1/login", Pattern::Login)?;
-    router.insert("/acvp/v1/account", Pattern::Account)?;
-    router.insert("/acvp/v1/algorithms", Pattern::Algorithms)?;
-    router.insert("/acvp/v1/algorithms/{number}", Pattern::Algorithm)?;
+    router.insert("/acvp/v1/login", Path::Login)?;
+    router.insert("/acvp/v1/account", Path::Account)?;
+    router.insert("/acvp/v1/algorithms", Path::Algorithms)?;
+    router.insert("/acvp/v1/algorithms/{number}", Path::Algorithm(0))?;
     Ok(())
 }
 
 /// Adds the routes of test sessions.
-fn add_session_routes(router: &mut Router<Pattern>) -> Result<(), InsertError>
+fn add_session_routes(router: &mut Router<Path>) -> Result<(), InsertError>
     ensures { OnOk result (router.new ≡ added_all session_routes router.old) }
 {
-    router.insert("/acvp/v1/testSessions", Pattern::Sessions)?;
-    router.insert("/acvp/v1/testSessions/{session}", Pattern::Session)?;
+    router.insert("/acvp/v1/testSessions", Path::Sessions)?;
+    router.insert("/acvp/v1/testSessions/{session}", Path::Session(0))?;
     router.insert(
         "/acvp/v1/testSessions/{session}/results",
-        Pattern::SessionResults,
+        Path::SessionResults(0),
     )?;
-    router.insert("/acvp/v1/testSessions/{session}/vectorSets", Pattern::Sets)?;
+    router.insert("/acvp/v1/testSessions/{session}/vectorSets", Path::Sets(0))?;
     router.insert(
         "/acvp/v1/testSessions/{session}/vectorSets/{set}",
-        Pattern::Set,
+        Path::Set(0, 0),
     )?;
     router.insert(
         "/acvp/v1/testSessions/{session}/vectorSets/{set}/results",
-        Pattern::SetResults,
+        Path::SetResults(0, 0),
     )?;
     router.insert(
         "/acvp/v1/testSessions/{session}/vectorSets/{set}/expected",
-        Pattern::Expected,
+        Path::Expected(0, 0),
     )?;
     router.insert(
         "/acvp/v1/testSessions/{session}/reviewers",
-        Pattern::Reviewers,
+        Path::Reviewers(0),
     )?;
     router.insert(
         "/acvp/v1/testSessions/{session}/reviewers/{number}",
-        Pattern::Reviewer,
+        Path::Reviewer(0, 0),
     )?;
     Ok(())
 }
 
 /// Adds the routes of what is registered.
-fn add_registry_routes(router: &mut Router<Pattern>) -> Result<(), InsertError>
+fn add_registry_routes(router: &mut Router<Path>) -> Result<(), InsertError>
     ensures { OnOk result (router.new ≡ added_all registry_routes router.old) }
 {
-    router.insert("/acvp/v1/vendors", Pattern::Vendors)?;
-    router.insert("/acvp/v1/vendors/{number}", Pattern::Vendor)?;
-    router.insert("/acvp/v1/modules", Pattern::Modules)?;
-    router.insert("/acvp/v1/modules/{number}", Pattern::Module)?;
-    router.insert("/acvp/v1/oes", Pattern::Environments)?;
-    router.insert("/acvp/v1/oes/{number}", Pattern::Environment)?;
-    router.insert("/acvp/v1/requests", Pattern::Requests)?;
-    router.insert("/acvp/v1/requests/{number}", Pattern::Request)?;
+    router.insert("/acvp/v1/vendors", Path::Vendors)?;
+    router.insert("/acvp/v1/vendors/{number}", Path::Vendor(0))?;
+    router.insert("/acvp/v1/modules", Path::Modules)?;
+    router.insert("/acvp/v1/modules/{number}", Path::Module(0))?;
+    router.insert("/acvp/v1/oes", Path::Environments)?;
+    router.insert("/acvp/v1/oes/{number}", Path::Environment(0))?;
+    router.insert("/acvp/v1/requests", Path::Requests)?;
+    router.insert("/acvp/v1/requests/{number}", Path::Request(0))?;
     Ok(())
 }
 
 /// Adds all the routes.
-fn add_all(router: &mut Router<Pattern>) -> Result<(), InsertError>
+fn add_all(router: &mut Router<Path>) -> Result<(), InsertError>
     ensures { OnOk result (router.new
         ≡ added_all registry_routes (added_all session_routes (added_all general_routes router.old))) }
 {
@@ -128,7 +105,7 @@ fn add_all(router: &mut Router<Pattern>) -> Result<(), InsertError>
 }
 
 /// What the router has for a path.
-fn look_up(router: &Router<Pattern>, path: &str) -> Option<Pattern>
+fn look_up(router: &Router<Path>, path: &str) -> Option<Path>
     ensures { result ≡ option_map (λ route. route.value) (first router.now path.now) }
 {
     let Ok(found) = router.at(path) else {
@@ -210,44 +187,44 @@ const SESSION: &[u8] = b"/acvp/v1/testSessions/";
 const SET: &[u8] = b"/vectorSets/";
 
 /// The path of this pattern that a text is.
-fn read(pattern: Pattern, text: &[u8]) -> Option<Path>
+fn read(pattern: Path, text: &[u8]) -> Option<Path>
     ensures none { result ≡ None → HasPattern pattern text.now → ⊥ }
     ensures some { IfSome result (IsPath text.now) }
 {
     match pattern {
-        Pattern::Login => whole(text, b"/acvp/v1/login", Path::Login),
-        Pattern::Account => whole(text, b"/acvp/v1/account", Path::Account),
-        Pattern::Algorithms => whole(text, b"/acvp/v1/algorithms", Path::Algorithms),
-        Pattern::Algorithm => Some(Path::Algorithm(last(text, b"/acvp/v1/algorithms/")?)),
-        Pattern::Sessions => whole(text, b"/acvp/v1/testSessions", Path::Sessions),
-        Pattern::Session => Some(Path::Session(last(text, SESSION)?)),
-        Pattern::SessionResults => Some(Path::SessionResults(inner(text, SESSION, b"/results")?)),
-        Pattern::Sets => Some(Path::Sets(inner(text, SESSION, b"/vectorSets")?)),
-        Pattern::Set => {
+        Path::Login => whole(text, b"/acvp/v1/login", Path::Login),
+        Path::Account => whole(text, b"/acvp/v1/account", Path::Account),
+        Path::Algorithms => whole(text, b"/acvp/v1/algorithms", Path::Algorithms),
+        Path::Algorithm(_) => Some(Path::Algorithm(last(text, b"/acvp/v1/algorithms/")?)),
+        Path::Sessions => whole(text, b"/acvp/v1/testSessions", Path::Sessions),
+        Path::Session(_) => Some(Path::Session(last(text, SESSION)?)),
+        Path::SessionResults(_) => Some(Path::SessionResults(inner(text, SESSION, b"/results")?)),
+        Path::Sets(_) => Some(Path::Sets(inner(text, SESSION, b"/vectorSets")?)),
+        Path::Set(_, _) => {
             let (session, set) = both_last(text, SESSION, SET)?;
             Some(Path::Set(session, set))
         },
-        Pattern::SetResults => {
+        Path::SetResults(_, _) => {
             let (session, set) = both_inner(text, SESSION, SET, b"/results")?;
             Some(Path::SetResults(session, set))
         },
-        Pattern::Expected => {
+        Path::Expected(_, _) => {
             let (session, set) = both_inner(text, SESSION, SET, b"/expected")?;
             Some(Path::Expected(session, set))
         },
-        Pattern::Reviewers => Some(Path::Reviewers(inner(text, SESSION, b"/reviewers")?)),
-        Pattern::Reviewer => {
+        Path::Reviewers(_) => Some(Path::Reviewers(inner(text, SESSION, b"/reviewers")?)),
+        Path::Reviewer(_, _) => {
             let (session, number) = both_last(text, SESSION, b"/reviewers/")?;
             Some(Path::Reviewer(session, number))
         },
-        Pattern::Vendors => whole(text, b"/acvp/v1/vendors", Path::Vendors),
-        Pattern::Vendor => Some(Path::Vendor(last(text, b"/acvp/v1/vendors/")?)),
-        Pattern::Modules => whole(text, b"/acvp/v1/modules", Path::Modules),
-        Pattern::Module => Some(Path::Module(last(text, b"/acvp/v1/modules/")?)),
-        Pattern::Environments => whole(text, b"/acvp/v1/oes", Path::Environments),
-        Pattern::Environment => Some(Path::Environment(last(text, b"/acvp/v1/oes/")?)),
-        Pattern::Requests => whole(text, b"/acvp/v1/requests", Path::Requests),
-        Pattern::Request => Some(Path::Request(last(text, b"/acvp/v1/requests/")?)),
+        Path::Vendors => whole(text, b"/acvp/v1/vendors", Path::Vendors),
+        Path::Vendor(_) => Some(Path::Vendor(last(text, b"/acvp/v1/vendors/")?)),
+        Path::Modules => whole(text, b"/acvp/v1/modules", Path::Modules),
+        Path::Module(_) => Some(Path::Module(last(text, b"/acvp/v1/modules/")?)),
+        Path::Environments => whole(text, b"/acvp/v1/oes", Path::Environments),
+        Path::Environment(_) => Some(Path::Environment(last(text, b"/acvp/v1/oes/")?)),
+        Path::Requests => whole(text, b"/acvp/v1/requests", Path::Requests),
+        Path::Request(_) => Some(Path::Request(last(text, b"/acvp/v1/requests/")?)),
     }
 }
 
@@ -273,23 +250,24 @@ impl Routes {
         read(pattern, text)
     }
 
-    /// The route of a method on a path: `NoRoute` where there is no such path, and `NoMethod` where the path has no
-    /// such method.
-    pub fn find(&self, method: &[u8], path: &[u8]) -> Result<Route, Rule>
-        ensures { Finds method.now path.now result }
+    /// What a method asks on a target: `NoRoute` where its path isn't of the table, and `NoMethod` where the path has
+    /// no such method.
+    pub fn find(&self, method: &[u8], target: &[u8]) -> Result<Ask, Rule>
+        ensures { Finds method.now target.now result }
     {
+        let (path, query) = path_and_query(target);
         let Some(path) = self.path(path) else {
             return Err(Rule::NoRoute);
         };
-        match path.route(method) {
-            Some(route) => Ok(route),
+        match path.asked(method, query) {
+            Some(ask) => Ok(ask),
             None => Err(Rule::NoMethod),
         }
     }
 }
 
-/// The definition of what a method on a text finds gives one answer.
+/// The definition of what a method on a target finds gives one answer.
 pub fn finds_one_thing()
-    ensures { (method text : List ℕ) (first second : Result Route Rule) → Finds method text first
-        → Finds method text second → first ≡ second }
+    ensures { (method target : List ℕ) (first second : Result Ask Rule) → Finds method target first
+        → Finds method target second → first ≡ second }
 {}

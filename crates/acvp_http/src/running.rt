@@ -13,8 +13,8 @@ use crate::reading::{ScriptEvent, next_event, read_byte};
 use crate::routes::Routes;
 use crate::script::ScriptFault;
 use crate::serve::handle_bytes;
-use crate::source::{Sink, Source};
-use crate::writing::{write_order, write_reply};
+use crate::source::{Sink, Source, WriteFault};
+use crate::writing::{write_order, write_replied};
 use acvp_desk::{Desk, records_are_kept};
 use acvp_tables::Tables;
 use std::alloc::Global;
@@ -29,21 +29,22 @@ fn take_turn<T: Tables, K: Sink>(
     desk: &mut Desk<T>,
     event: &ScriptEvent,
     writer: &mut K,
-) -> Result<(), ScriptFault>
+) -> Result<(), WriteFault>
     requires clear { (K.stream writer.old).failed ≡ false }
     requires event { CanHappen (event_of event.now) }
     ensures keys { desk.new.keys ≡ desk.old.keys }
-    ensures was_live { T.is_live desk.new.tables → T.is_live desk.old.tables }
-    ensures was_clean { T.is_clean desk.new.tables → T.is_clean desk.old.tables }
+    ensures was_live { T.meaning.is_live desk.new.tables → T.meaning.is_live desk.old.tables }
+    ensures was_clean { T.meaning.is_clean desk.new.tables → T.meaning.is_clean desk.old.tables }
     ensures turn { (unavailable : Bool) × (answer : Answer)
-        × ShowsEvent T.stands T.is_live (event_of event.now) answer desk.old.tables desk.new.tables
-        × GoesByTurn T.stands T.is_live T.is_clean desk.old.keys (record { event = event_of event.now; unavailable = unavailable }) answer desk.old.tables desk.new.tables
+        × ShowsEvent T.meaning (event_of event.now) answer desk.old.tables desk.new.tables
+        × GoesByTurn T.meaning desk.old.keys
+        (record { event = event_of event.now; unavailable = unavailable }) answer desk.old.tables desk.new.tables
         × WritesText (K.stream writer.old) (K.stream writer.new) (answer_text answer) result }
 {
     match event {
         ScriptEvent::Request { moment, bytes } => {
             let reply = handle_bytes(routes, desk, *moment, bytes);
-            write_reply(writer, reply.bytes())
+            write_replied(writer, reply.bytes())
         }
         ScriptEvent::Order { moment, order } => {
             records_are_kept();
@@ -56,8 +57,9 @@ fn take_turn<T: Tables, K: Sink>(
 /// Tables that went through turns, one by one, went by all of them: for every content that they stood for, the answers
 /// are those of the run, and they stand for the content after it.
 pub fn turns_make_a_run<T: Tables>()
-    ensures { (keys : Keys) (turns : List Turn) (answers : List Answer) (old new : T) → GoesThrough T.stands T.is_live T.is_clean keys turns answers old new
-        → GoesByTurns T.stands T.is_live T.is_clean keys turns answers old new }
+    ensures { (keys : Keys) (turns : List Turn) (answers : List Answer) (old new : T)
+        → GoesThrough T.meaning keys turns answers old new
+        → GoesByTurns T.meaning keys turns answers old new }
 {}
 
 /// Runs a script, turn by turn.
@@ -71,9 +73,10 @@ fn run_turns<T: Tables, S: Source, K: Sink>(
     requires reader_clear { (S.stream reader.old).failed ≡ false }
     requires writer_clear { (K.stream writer.old).failed ≡ false }
     ensures keys { desk.new.keys ≡ desk.old.keys }
-    ensures was_live { T.is_live desk.new.tables → T.is_live desk.old.tables }
-    ensures was_clean { T.is_clean desk.new.tables → T.is_clean desk.old.tables }
-    ensures run { RunsTurns T.stands T.is_live T.is_clean desk.old.keys desk.old.tables desk.new.tables (S.stream reader.old) (S.stream reader.new)
+    ensures was_live { T.meaning.is_live desk.new.tables → T.meaning.is_live desk.old.tables }
+    ensures was_clean { T.meaning.is_clean desk.new.tables → T.meaning.is_clean desk.old.tables }
+    ensures run { RunsTurns T.meaning desk.old.keys desk.old.tables desk.new.tables (S.stream reader.old)
+        (S.stream reader.new)
         (K.stream writer.old) (K.stream writer.new) result }
     ensures read_fault { (S.stream reader.new).failed ≡ is_read_answer result }
     ensures write_fault { (K.stream writer.new).failed ≡ is_write_answer result }
@@ -106,9 +109,10 @@ pub fn run<T: Tables, S: Source, K: Sink>(
     requires reader_clear { (S.stream reader.old).failed ≡ false }
     requires writer_clear { (K.stream writer.old).failed ≡ false }
     ensures keys { desk.new.keys ≡ desk.old.keys }
-    ensures was_live { T.is_live desk.new.tables → T.is_live desk.old.tables }
-    ensures was_clean { T.is_clean desk.new.tables → T.is_clean desk.old.tables }
-    ensures run { RunsScript T.stands T.is_live T.is_clean desk.old.keys desk.old.tables desk.new.tables (S.stream reader.old) (S.stream reader.new)
+    ensures was_live { T.meaning.is_live desk.new.tables → T.meaning.is_live desk.old.tables }
+    ensures was_clean { T.meaning.is_clean desk.new.tables → T.meaning.is_clean desk.old.tables }
+    ensures run { RunsScript T.meaning desk.old.keys desk.old.tables desk.new.tables (S.stream reader.old)
+        (S.stream reader.new)
         (K.stream writer.old) (K.stream writer.new) result }
     ensures read_fault { (S.stream reader.new).failed ≡ is_read_answer result }
     ensures write_fault { (K.stream writer.new).failed ≡ is_write_answer result }

@@ -1,11 +1,14 @@
 //! The lines of a script.
 ghost use Rattle.std.specs.Prelude.{◌≡◌, ◌≢◌, ◌++◌, ◌∷◌, ◌≤◌, ℕ, List, MatchOption, decimal};
 ghost use Rattle.acvp_http.specs.Script.{IsAccountNumber, IsSecretText};
-ghost use Rattle.acvp_http.specs.Private.Lines.{Lacks, IsMoment, IsRequestTail, IsAddTail, IsDisableTail, IsDecisionTail, IsLine, command_word};
+ghost use Rattle.acvp_http.specs.Private.Lines.{Lacks, IsMoment, IsRequestTail, IsAddTail, IsDisableTail};
+ghost use Rattle.acvp_http.specs.Private.Lines.{IsDecisionTail, IsLine, command_word};
 ghost use Rattle.acvp_http.specs.declared.script.Line.{Line};
 ghost use Rattle.acvp_http.specs.declared.script.Command.{Command};
-ghost use Rattle.acvp_http.specs.declared.script.ScriptFault.TheVariants.{Memory};
+ghost use Rattle.acvp_http.specs.Private.Reading.{stopped_by};
+ghost use Rattle.acvp_http.specs.declared.script.ScriptFault.TheVariants.{Memory, Write};
 
+use crate::source::{ReadFault, WriteFault};
 use acvp_desk::{Order, plain_number};
 use std::alloc::AllocError;
 
@@ -44,6 +47,25 @@ impl From<AllocError> for ScriptFault {
 
     fn from(_: AllocError) -> ScriptFault {
         ScriptFault::Memory
+    }
+}
+
+impl From<ReadFault> for ScriptFault {
+    ghost from_gives = { λ read fault. fault ≡ stopped_by read };
+
+    fn from(read: ReadFault) -> ScriptFault {
+        match read {
+            ReadFault::Failed => ScriptFault::Read,
+            ReadFault::TooOften => ScriptFault::Limit,
+        }
+    }
+}
+
+impl From<WriteFault> for ScriptFault {
+    ghost from_gives = { λ _ fault. fault ≡ Write };
+
+    fn from(_: WriteFault) -> ScriptFault {
+        ScriptFault::Write
     }
 }
 

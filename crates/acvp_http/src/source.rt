@@ -3,7 +3,8 @@ ghost use Rattle.std.specs.Prelude.{◌≡◌, ◌||◌, false};
 ghost use Rattle.std.specs.Io.{ReadsAtMost, WritesAtMost};
 ghost use Rattle.std.specs.Io.KnownBytes.{ReadConsumes, WriteAppends};
 ghost use Rattle.std.specs.IoError.{error_kind};
-ghost use Rattle.acvp_http.specs.Source.{InputStream, OutputStream, is_interruption, is_read_fault, is_write_fault, flagged_inner, flagged_failed, flagged_reads, one_more};
+ghost use Rattle.acvp_http.specs.Source.{InputStream, OutputStream, is_interruption, is_read_fault, is_write_fault};
+ghost use Rattle.acvp_http.specs.Source.{flagged_inner, flagged_failed, flagged_reads, one_more};
 
 use std::io::{self, ErrorKind, Read, Write};
 
@@ -35,6 +36,20 @@ pub trait Sink {
         ensures bytes { WriteAppends (stream self.old).contents (stream self.new).contents result buf.now }
         ensures flag { (stream self.new).failed ≡ ((stream self.old).failed || is_write_fault result buf.now) };
 }
+
+/// Why no byte more is read.
+#[derive(Clone, Copy)]
+pub(crate) enum ReadFault {
+    /// A read has failed.
+    Failed,
+
+    /// The reader was read as often as it may be.
+    TooOften,
+}
+
+/// That a write has failed.
+#[derive(Clone, Copy)]
+pub(crate) struct WriteFault;
 
 /// A reader or a writer of `std`, whether it has failed, and how often it was read.
 #[derive(Drop)]
@@ -101,7 +116,11 @@ fn is_write_failure(answer: &io::Result<usize>, buf: &[u8]) -> bool
 }
 
 impl<R: Read> Source for Flagged<R> {
-    ghost stream = { λ reader. record { held = R.remaining reader.inner; failed = reader.failed; reads = reader.reads } };
+    ghost stream = { λ reader. record {
+      held = R.remaining reader.inner;
+      failed = reader.failed;
+      reads = reader.reads;
+    } };
 
     fn read(&mut self, buf: &mut [u8]) -> io::Result<usize> {
         let Flagged {

@@ -1,6 +1,6 @@
 //! The target of a request: its path and its query.
 ghost use Rattle.std.specs.Prelude.{◌≡◌, ◌==◌, position};
-ghost use Rattle.acvp_http.specs.Asks.{path_of, query_of};
+ghost use Rattle.acvp_http.specs.Target.{path_of, query_of};
 
 /// Where the first question mark is.
 fn question_mark(target: &[u8]) -> Option<usize>

@@ -5,12 +5,12 @@ use std::marker::Model;
 
 /// At most 512 bytes.
 #[derive(Drop)]
-pub struct Text {
+pub struct ShortText {
     bytes: [u8; 512],
     len: usize,
 }
 
-impl Model for Text {
+impl Model for ShortText {
     ghost use Rattle.std.specs.Prelude.{List, ℕ, take, ◌≤◌};
 
     ghost Value = { List ℕ };
@@ -20,11 +20,11 @@ impl Model for Text {
     ghost invariant = { λ t. t.len ≤ 512 };
 }
 
-impl Text {
-    pub fn new() -> Text
+impl ShortText {
+    pub fn new() -> ShortText
         ensures { result ≡ [] }
     {
-        Text {
+        ShortText {
             bytes: [0; 512],
             len: 0,
         }

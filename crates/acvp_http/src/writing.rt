@@ -4,28 +4,27 @@ ghost use Rattle.acvp_http.specs.Event.{replied, ordered};
 ghost use Rattle.acvp_http.specs.Script.{answer_text};
 ghost use Rattle.acvp_http.specs.Private.Writing.{WritesText};
 
-use crate::script::ScriptFault;
-use crate::source::Sink;
-use crate::text::Text;
+use crate::source::{Sink, WriteFault};
+use crate::text::ShortText;
 use acvp_desk::OrderReply;
 
 /// Writes all of the bytes.
-pub(crate) fn write_all<K: Sink>(writer: &mut K, bytes: &[u8]) -> Result<(), ScriptFault>
+pub(crate) fn write_all<K: Sink>(writer: &mut K, bytes: &[u8]) -> Result<(), WriteFault>
     requires { (K.stream writer.old).failed ≡ false }
     ensures { WritesText (K.stream writer.old) (K.stream writer.new) bytes.now result }
 {
     let mut written = 0;
     while written < bytes.len() {
         match writer.write(&bytes[written..]) {
-            Ok(0) => return Err(ScriptFault::Write),
+            Ok(0) => return Err(WriteFault),
             Ok(count) => written += count,
-            Err(_) => return Err(ScriptFault::Write),
+            Err(_) => return Err(WriteFault),
         }
     }
     Ok(())
 }
 
-fn write_both<K: Sink>(writer: &mut K, first: &[u8], second: &[u8]) -> Result<(), ScriptFault>
+fn write_both<K: Sink>(writer: &mut K, first: &[u8], second: &[u8]) -> Result<(), WriteFault>
     requires { (K.stream writer.old).failed ≡ false }
     ensures { WritesText (K.stream writer.old) (K.stream writer.new)
         (first.now ++ second.now) result }
@@ -35,10 +34,10 @@ fn write_both<K: Sink>(writer: &mut K, first: &[u8], second: &[u8]) -> Result<()
 }
 
 /// The line in front of a reply of this length.
-fn reply_line(size: u64) -> Text
+fn reply_line(size: u64) -> ShortText
     ensures { result ≡ codes "reply " ++ decimal size ++ codes "\n" }
 {
-    let mut line = Text::new();
+    let mut line = ShortText::new();
     line.push(b"reply ");
     line.push_number(size);
     line.push(b"\n");
@@ -46,7 +45,7 @@ fn reply_line(size: u64) -> Text
 }
 
 /// Writes a reply to a request.
-pub(crate) fn write_reply<K: Sink>(writer: &mut K, reply: &[u8]) -> Result<(), ScriptFault>
+pub(crate) fn write_replied<K: Sink>(writer: &mut K, reply: &[u8]) -> Result<(), WriteFault>
     requires { (K.stream writer.old).failed ≡ false }
     ensures { WritesText (K.stream writer.old) (K.stream writer.new)
         (answer_text (replied reply.now)) result }
@@ -69,7 +68,7 @@ fn order_text(reply: OrderReply) -> &'static [u8]
 }
 
 /// Writes the reply to an order.
-pub(crate) fn write_order<K: Sink>(writer: &mut K, reply: OrderReply) -> Result<(), ScriptFault>
+pub(crate) fn write_order<K: Sink>(writer: &mut K, reply: OrderReply) -> Result<(), WriteFault>
     requires { (K.stream writer.old).failed ≡ false }
     ensures { WritesText (K.stream writer.old) (K.stream writer.new)
         (answer_text (ordered reply)) result }

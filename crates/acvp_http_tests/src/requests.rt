@@ -3,9 +3,9 @@ use crate::cases::asked::{error_body, framed, joined, push, refused, replied};
 use crate::cases::server::{adds_seven, answer_in_bytes, desk_over, keys, paths};
 use crate::cases::steps::named;
 use crate::over_both_forms::{Deed, over_both};
-use acvp_desk::{Desk, Numbers};
-use acvp_http::{Route, Routes};
-use acvp_policy::{Action, Rule};
+use acvp_desk::{Ask, Desk, SetWish, Wish};
+use acvp_http::Routes;
+use acvp_policy::Rule;
 use acvp_tables::Tables;
 use std::alloc::Global;
 use std::process::Abort;
@@ -141,19 +141,13 @@ fn heads_and_framings_get_their_rules(rt: HostRuntime) {
 }
 
 /// What is found of a GET on a path.
-fn found(routes: &Routes, path: &[u8]) -> Result<Route, Rule> {
+fn found(routes: &Routes, path: &[u8]) -> Result<Ask, Rule> {
     routes.find(b"GET", path)
 }
 
 #[test]
 fn numbers_of_a_path_have_up_to_nineteen_digits(rt: HostRuntime) {
-    let wanted = Route {
-        action: Action::ReadSet,
-        numbers: Numbers {
-            first: 0,
-            second: 9999999999999999999,
-        },
-    };
+    let wanted = Ask::Caller(Wish::Set(0, 9999999999999999999, SetWish::Read));
     let path = b"/acvp/v1/testSessions/0/vectorSets/9999999999999999999";
     assert_eq!(rt; found(&paths(&rt, rt.alloc()), path), Ok(wanted));
 }

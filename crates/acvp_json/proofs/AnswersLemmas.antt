@@ -20,7 +20,7 @@ use Rattle.acvp_json.specs.declared.fault.BodyFault.{BodyFault}
 use Rattle.acvp_json.specs.declared.fault.BodyFault.TheVariants.{UnknownTest, DuplicateTest, BodyField, Memory}
 use Rattle.acvp_json.specs.AnswersBody.{is_for_set, answers_body_conditions, answers_body_of, answers_from, group_for, texts_given, given_conditions, all_given_conditions, answer_given, placed}
 use Rattle.acvp_json.specs.Elements.{each, joined}
-use Rattle.acvp_json.specs.Submission.{GivenValue, SubmissionValue, submission_of}
+use Rattle.acvp_json.specs.SubmittedAnswers.{GivenValue, SubmissionValue, submission_of}
 use Rattle.acvp_json.specs.Private.AnswersReading.{after_given, after_all, and_then_all}
 use Rattle.acvp_caps.specs.Conditions.{Condition, first_broken, judged, unless}
 use Rattle.acvp_caps.proofs.ConditionLemmas.{after, front}

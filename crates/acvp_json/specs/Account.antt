@@ -1,7 +1,7 @@
 -- The objects of an account, and of a session's reviewers.
 use Rattle.std.specs.Prelude.{ℕ, List, codes}
 use Rattle.serde_json.specs.Data.{Data, object, no_members, member}
-use Rattle.acvp_json.specs.declared.account.Counts.{Counts}
+use Rattle.acvp_registry.specs.declared.counts.Counts.{Counts}
 use Rattle.acvp_json.specs.Values.{count, array_of}
 
 -- an account's number, and how many rows it has of each kind

@@ -1,5 +1,6 @@
 -- The body of answers to a vector set's tests.
-use Rattle.std.specs.Prelude.{ℕ, ◌==◌, ◌&&◌, not, List, [], ◌∷◌, ◌++◌, find, codes, Bool, true, is_some, Option, Some, None, option_map, option_and_then}
+use Rattle.std.specs.Prelude.{ℕ, ◌==◌, ◌&&◌, not, List, [], ◌∷◌, ◌++◌, find, codes, Bool, true, is_some, Option, Some}
+use Rattle.std.specs.Prelude.{None, option_map, option_and_then}
 use Rattle.std.specs.BTreeMap.{insert_entry}
 use Rattle.std.specs.List.{list_any, filter_map}
 use Rattle.std.specs.Ordering.{nat_cmp}
@@ -14,7 +15,7 @@ use Rattle.acvp_json.specs.declared.fault.BodyFault.{BodyFault}
 use Rattle.acvp_json.specs.declared.fault.BodyFault.TheVariants.{BodyField, UnknownTest, DuplicateTest, SetMismatch}
 use Rattle.acvp_json.specs.Elements.{joined}
 use Rattle.acvp_json.specs.Members.{is_text}
-use Rattle.acvp_json.specs.Submission.{GivenValue, SubmissionValue, submission_of}
+use Rattle.acvp_json.specs.SubmittedAnswers.{GivenValue, SubmissionValue, submission_of}
 
 -- a text that isn't told, or this one
 abbrev pub is_text_or_absent : List ℕ → Option (List ℕ) → Bool

@@ -18,7 +18,7 @@ pub mod AlgorithmData
 pub mod Expected
 pub mod Elements
 pub mod KeptAnswers
-pub mod Submission
+pub mod SubmittedAnswers
 pub mod AnswersBody
 pub mod Private
 pub use Rattle.acvp_answers.specs.Answer

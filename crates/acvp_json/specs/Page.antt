@@ -1,5 +1,6 @@
 -- A page of a list: its rows, and the links to other pages.
-use Rattle.std.specs.Prelude.{ℕ, ◌+◌, ◌-◌, ◌*◌, ◌/◌, ◌==◌, nat_lt, List, ◌++◌, codes, decimal, if◌then◌else◌, is_some, Option, None, Some}
+use Rattle.std.specs.Prelude.{ℕ, ◌+◌, ◌-◌, ◌*◌, ◌/◌, ◌==◌, nat_lt, List, ◌++◌, codes, decimal, if◌then◌else◌, is_some}
+use Rattle.std.specs.Prelude.{Option, None, Some}
 use Rattle.serde_json.specs.Data.{Data, null, boolean, string, object, no_members, member}
 use Rattle.acvp_json.specs.declared.page.Page.{Page}
 use Rattle.acvp_json.specs.Values.{count, array_of}

@@ -35,7 +35,8 @@ approved_data approved url =
 
 -- the object of a request in its state: what it was approved as is shown where it is approved and that is known
 abbrev pub request_in : Status → Option ℕ → PendingRequest → Data
-request_in Approved (Some number) request = approved_data (approved_url request.kind number) (request_url request.number)
+request_in Approved (Some number) request =
+    approved_data (approved_url request.kind number) (request_url request.number)
 request_in Approved None request = outcome_data (status_word Approved) (request_url request.number)
 request_in Initial approved request = outcome_data (status_word Initial) (request_url request.number)
 request_in Rejected approved request = outcome_data (status_word Rejected) (request_url request.number)

@@ -2,13 +2,19 @@
 use Rattle.std.specs.Prelude.{ℕ, List, codes}
 use Rattle.serde_json.specs.Data.{Data, string, object, no_members, member}
 use Rattle.acvp_json.specs.declared.reply_object.ReplyObject.{ReplyObject}
-use Rattle.acvp_json.specs.declared.reply_object.ReplyObject.TheVariants.{Login, ReadAccount, ListAlgorithms, ReadAlgorithm, ListSessions, NewSession, ReadSession, CancelSession, SessionResults, ListSets, ReadSet, CancelSet, SetResults, Received, Expected, ReadObject, ListObjects, Request, ListRequests, Reviewers}
+use Rattle.acvp_json.specs.declared.reply_object.ReplyObject.TheVariants.{Login, ReadAccount, ListAlgorithms}
+use Rattle.acvp_json.specs.declared.reply_object.ReplyObject.TheVariants.{ReadAlgorithm, ListSessions, NewSession}
+use Rattle.acvp_json.specs.declared.reply_object.ReplyObject.TheVariants.{ReadSession, CancelSession, SessionResults}
+use Rattle.acvp_json.specs.declared.reply_object.ReplyObject.TheVariants.{ListSets, ReadSet, CancelSet, SetResults}
+use Rattle.acvp_json.specs.declared.reply_object.ReplyObject.TheVariants.{Received, Expected, ReadObject, ListObjects}
+use Rattle.acvp_json.specs.declared.reply_object.ReplyObject.TheVariants.{Request, ListRequests, Reviewers}
 use Rattle.acvp_json.specs.Account.{account_data, reviewers_data}
 use Rattle.acvp_json.specs.AlgorithmData.{algorithm_data, algorithms_data}
 use Rattle.acvp_json.specs.Expected.{expected_data}
 use Rattle.acvp_json.specs.Page.{page_data}
 use Rattle.acvp_json.specs.Registry.{registered_data, request_data}
-use Rattle.acvp_json.specs.Session.{session_row_data, session_data, new_session_data, outcome_data, sets_data, session_results_data}
+use Rattle.acvp_json.specs.Session.{session_row_data, session_data, new_session_data, outcome_data, sets_data}
+use Rattle.acvp_json.specs.Session.{session_results_data}
 use Rattle.acvp_json.specs.SetResults.{set_results_data}
 use Rattle.acvp_json.specs.Urls.{list_path, session_url, set_url, results_url}
 use Rattle.acvp_json.specs.VectorSet.{vector_set_data}

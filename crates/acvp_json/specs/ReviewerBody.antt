@@ -1,5 +1,6 @@
 -- The body that names an account as a reviewer.
-use Rattle.std.specs.Prelude.{ℕ, ◌&&◌, nat_le, List, [], ◌∷◌, codes, is_some, if◌then◌else◌, Option, None, Some, option_and_then}
+use Rattle.std.specs.Prelude.{ℕ, ◌&&◌, nat_le, List, [], ◌∷◌, codes, is_some, if◌then◌else◌, Option, None, Some}
+use Rattle.std.specs.Prelude.{option_and_then}
 use Rattle.serde_json.specs.Data.{Data}
 use Rattle.acvp_caps.specs.Conditions.{Condition}
 use Rattle.acvp_json.specs.declared.fault.BodyFault.{BodyFault}

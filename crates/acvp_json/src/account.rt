@@ -6,18 +6,9 @@ ghost use Rattle.acvp_json.specs.Values.{count};
 
 use crate::array::{Shows, array};
 use crate::object::object;
+use acvp_registry::Counts;
 use serde_json::Value;
 use std::alloc::{AllocError, Global};
-
-/// How many rows an account has of each kind.
-#[derive(Clone, Copy)]
-pub struct Counts {
-    pub modules: u64,
-    pub environments: u64,
-    pub requests: u64,
-    pub sessions: u64,
-    pub vendors: u64,
-}
 
 /// An account's number, and how many rows it has of each kind.
 pub(crate) fn account_value(

@@ -3,14 +3,15 @@ ghost use Rattle.std.specs.Prelude.{◌≡◌, Some, map, option_map};
 ghost use Rattle.serde_json.specs.View.{view};
 ghost use Rattle.acvp_answers.specs.Answer.{shown_texts};
 ghost use Rattle.acvp_caps.specs.Conditions.{IsJudged, judged};
-ghost use Rattle.acvp_json.specs.AnswersBody.{is_text_or_absent, is_for_set, has_test, group_for, one_text, texts_by_form, answers_body_conditions, answers_body_of};
+ghost use Rattle.acvp_json.specs.AnswersBody.{is_text_or_absent, is_for_set, has_test, group_for, one_text};
+ghost use Rattle.acvp_json.specs.AnswersBody.{texts_by_form, answers_body_conditions, answers_body_of};
 ghost use Rattle.acvp_json.specs.Elements.{joined};
 ghost use Rattle.acvp_json.specs.Private.AnswersReading.{after_given, after_all, LeadsTo};
 ghost use Rattle.acvp_json.specs.Private.Borrowed.{texts};
 ghost use Rattle.acvp_json.specs.Private.Readings.{IsRead};
 
 use crate::fault::BodyFault;
-use crate::submission::{Given, Submission, submission_in};
+use crate::submission::{Given, SubmittedAnswers, submission_in};
 use crate::text::copied;
 use acvp_answers::Answers;
 use acvp_gen::{Group, GroupForm, Prompts};
@@ -28,7 +29,7 @@ fn is_text_or_absent(text: Option<&str>, wanted: &str) -> bool
 }
 
 /// Whether a body is for this vector set, and names no other algorithm or revision.
-fn is_for_set(submission: &Submission<'_>, prompts: &Prompts) -> bool
+fn is_for_set(submission: &SubmittedAnswers<'_>, prompts: &Prompts) -> bool
     ensures { result ≡ is_for_set submission.now prompts.now }
 {
     submission.vs == prompts.vs()

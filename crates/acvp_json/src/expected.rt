@@ -2,7 +2,8 @@
 ghost use Rattle.std.specs.Prelude.{◌≡◌, IfOk, map, string_bytes};
 ghost use Rattle.serde_json.specs.View.{view};
 ghost use Rattle.acvp_json.specs.Values.{array_of};
-ghost use Rattle.acvp_json.specs.Expected.{texts_at, first_text, digest_data, expected_digest, expected_checkpoints, expected_mac, expected_answer, expected_test, expected_group, expected_data};
+ghost use Rattle.acvp_json.specs.Expected.{texts_at, first_text, digest_data, expected_digest, expected_checkpoints};
+ghost use Rattle.acvp_json.specs.Expected.{expected_mac, expected_answer, expected_test, expected_group, expected_data};
 
 use crate::array::{Shows, array};
 use crate::object::object;
@@ -128,7 +129,8 @@ impl Shows<Group> for ExpectedGroups<'_> {
     }
 }
 
-/// The standard's answers to the tests of a vector set.
+/// The standard's answers to the tests of a vector set, as they are handed in. A test that they lack has the empty
+/// text, or no checkpoints, so that any answers can be shown.
 pub(crate) fn expected_value(
     alloc: Global,
     prompts: &Prompts,

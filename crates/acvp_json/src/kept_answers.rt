@@ -4,7 +4,9 @@ ghost use Rattle.serde_json.specs.Data.{string};
 ghost use Rattle.serde_json.specs.View.{view};
 ghost use Rattle.serde_json.specs.Written.{has_float};
 ghost use Rattle.acvp_answers.specs.Answer.{Answer, AreAscending, shown_texts};
-ghost use Rattle.acvp_json.specs.KeptAnswers.{texts_data, answer_data, answers_data, kept_text, texts_of, pair_of, answer_of, is_above, answers_of, is_compact, kept_answers, kept_answers_conditions, IsKeptAs};
+ghost use Rattle.acvp_json.specs.KeptAnswers.{texts_data, answer_data, answers_data, kept_text, texts_of, pair_of};
+ghost use Rattle.acvp_json.specs.KeptAnswers.{answer_of, is_above, answers_of, is_compact, kept_answers};
+ghost use Rattle.acvp_json.specs.KeptAnswers.{kept_answers_conditions, IsKeptAs};
 ghost use Rattle.acvp_caps.specs.Conditions.{IsJudged, judged};
 ghost use Rattle.acvp_json.specs.Private.Readings.{IsRead};
 
@@ -157,7 +159,7 @@ fn kept_answers(alloc: Global, text: &str) -> Result<Answers, BodyFault>
 }
 
 /// Reads answers from the text that `answers_to_text` gives for them. The faults are BodyNotJson where the text isn't
-/// JSON or holds a number kept as a float, BodyField for any other text, and Memory.
+/// JSON or holds a number kept as a float, as one from 2^64 on is, BodyField for any other text, and Memory.
 pub fn answers_from_text(alloc: Global, text: &str) -> Result<Answers, BodyFault>
     ensures answer { IsJudged BodyFault.Memory (λ answers. Some answers)
         (judged (kept_answers_conditions text.now) (kept_answers text.now)) result }

@@ -25,7 +25,6 @@ mod time;
 mod urls;
 mod vector_set;
 
-pub use account::Counts;
 pub use answers_body::read_answers;
 pub use certify_body::{CertifyBody, read_certify};
 pub use envelope::open_envelope;

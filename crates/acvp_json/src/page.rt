@@ -1,7 +1,8 @@
 //! A page of a list: its rows, and the links to other pages.
 ghost use Rattle.std.specs.Prelude.{◌≡◌, IfOk, string_bytes};
 ghost use Rattle.serde_json.specs.View.{view};
-ghost use Rattle.acvp_json.specs.Page.{next_offset, prev_offset, last_offset, page_url, link_data, links_data, page_data};
+ghost use Rattle.acvp_json.specs.Page.{next_offset, prev_offset, last_offset, page_url, link_data, links_data};
+ghost use Rattle.acvp_json.specs.Page.{page_data};
 
 use crate::array::{Shows, array};
 use crate::object::object;
@@ -9,7 +10,7 @@ use serde_json::Value;
 use std::alloc::{AllocError, Global};
 
 /// Which rows of a list are shown: without the first `offset`, at most `limit`.
-#[derive(Clone, Copy)]
+#[derive(Clone, Copy, Debug, PartialEq, Eq)]
 pub struct Page {
     pub offset: u64,
 

@@ -42,7 +42,7 @@ fn status_word(status: Status) -> &'static str
     }
 }
 
-/// Requests in their states.
+/// Requests in their states. A number that stands beside another status than approved isn't shown.
 pub(crate) struct Requests;
 
 impl Shows<PendingRequest> for Requests {

@@ -4,7 +4,7 @@ ghost use Rattle.serde_json.specs.View.{view};
 ghost use Rattle.acvp_json.specs.Written.{body_of, enveloped};
 ghost use Rattle.acvp_json.specs.ReplyData.{token_data, reply_data};
 
-use crate::account::{Counts, account_value, reviewers_value};
+use crate::account::{account_value, reviewers_value};
 use crate::algorithms::{Algorithms, algorithms_value};
 use crate::array::Shows;
 use crate::expected::expected_value;
@@ -22,7 +22,7 @@ use crate::vector_set::vector_set_value;
 use acvp_answers::{Answers, Disposition, Verdict};
 use acvp_caps::Algorithm;
 use acvp_gen::Prompts;
-use acvp_registry::{Kind, PendingRequest};
+use acvp_registry::{Counts, Kind, PendingRequest};
 use serde_json::Value;
 use std::alloc::{AllocError, Global};
 

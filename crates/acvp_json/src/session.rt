@@ -2,7 +2,8 @@
 ghost use Rattle.std.specs.Prelude.{◌≡◌, ◌+◌, IfOk, codes, string_bytes};
 ghost use Rattle.serde_json.specs.Data.{string};
 ghost use Rattle.serde_json.specs.View.{view};
-ghost use Rattle.acvp_json.specs.Session.{session_word, set_urls, session_row_data, session_data, new_session_data, outcome_data, sets_data, set_result_data, session_results_data};
+ghost use Rattle.acvp_json.specs.Session.{session_word, set_urls, session_row_data, session_data, new_session_data};
+ghost use Rattle.acvp_json.specs.Session.{outcome_data, sets_data, set_result_data, session_results_data};
 ghost use Rattle.acvp_json.specs.Urls.{set_url};
 
 use crate::array::{Shows, array};

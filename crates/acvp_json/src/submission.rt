@@ -3,7 +3,7 @@ ghost use Rattle.std.specs.Prelude.{◌≡◌, map, option_map, codes};
 ghost use Rattle.serde_json.specs.View.{view, items_view};
 ghost use Rattle.acvp_json.specs.Elements.{each};
 ghost use Rattle.acvp_json.specs.Members.{text_at};
-ghost use Rattle.acvp_json.specs.Submission.{each_in, optional_checkpoints, given_of, group_of, submission_of};
+ghost use Rattle.acvp_json.specs.SubmittedAnswers.{each_in, optional_checkpoints, given_of, group_of, submission_of};
 ghost use Rattle.acvp_json.specs.Private.Borrowed.{bytes_of};
 ghost use Rattle.acvp_json.specs.Private.Readings.{IsRead};
 
@@ -30,7 +30,7 @@ pub(crate) struct Given<'a> {
 
 impl<'a> Model for Given<'a> {
     ghost use Rattle.std.specs.Prelude.{option_map};
-    ghost use Rattle.acvp_json.specs.Submission.{GivenValue};
+    ghost use Rattle.acvp_json.specs.SubmittedAnswers.{GivenValue};
     ghost use Rattle.acvp_json.specs.Private.Borrowed.{texts, bytes_of};
 
     ghost Value = { GivenValue };
@@ -46,16 +46,16 @@ impl<'a> Model for Given<'a> {
 
 /// A body of answers: the vector set's number, what it tests where that is told, and the answers, by groups.
 #[derive(Drop)]
-pub(crate) struct Submission<'a> {
+pub(crate) struct SubmittedAnswers<'a> {
     pub(crate) vs: u64,
     pub(crate) algorithm: Option<&'a str>,
     pub(crate) revision: Option<&'a str>,
     pub(crate) groups: Vec<Vec<Given<'a>>>,
 }
 
-impl<'a> Model for Submission<'a> {
+impl<'a> Model for SubmittedAnswers<'a> {
     ghost use Rattle.std.specs.Prelude.{map};
-    ghost use Rattle.acvp_json.specs.Submission.{SubmissionValue};
+    ghost use Rattle.acvp_json.specs.SubmittedAnswers.{SubmissionValue};
     ghost use Rattle.acvp_json.specs.Private.Borrowed.{texts};
 
     ghost Value = { SubmissionValue };
@@ -124,7 +124,8 @@ fn tests_in<'a>(
     group: u64,
     member: Option<&'a Value>,
 ) -> Result<Vec<Given<'a>>, BodyFault>
-    ensures { IsRead result (λ tests. tests.items) (each_in (given_of group) (option_map (λ v. view v.now) member.entry)) }
+    ensures { IsRead result (λ tests. tests.items)
+        (each_in (given_of group) (option_map (λ v. view v.now) member.entry)) }
 {
     let Some(items) = elements(member) else {
         return Err(BodyFault::BodyField);
@@ -165,7 +166,7 @@ fn groups_in<'a>(alloc: Global, member: Option<&'a Value>) -> Result<Vec<Vec<Giv
 pub(crate) fn submission_in<'a>(
     alloc: Global,
     object: &'a Value,
-) -> Result<Submission<'a>, BodyFault>
+) -> Result<SubmittedAnswers<'a>, BodyFault>
     ensures { IsRead result (λ submission. submission) (submission_of (view object.now)) }
 {
     let (Some(vs), Some(algorithm), Some(revision)) = (
@@ -175,7 +176,7 @@ pub(crate) fn submission_in<'a>(
     ) else {
         return Err(BodyFault::BodyField);
     };
-    Ok(Submission {
+    Ok(SubmittedAnswers {
         vs,
         algorithm,
         revision,

@@ -12,7 +12,8 @@ use std::marker::Model;
 /// How long a test session lives, in seconds: thirty days.
 const LIFETIME: u64 = 2592000;
 
-/// The civil date and time of a moment in UTC.
+/// The civil date and time of a moment in UTC: the start of 1970 and so many seconds. The instants of `jiff` end a day
+/// before the year 9999 does.
 fn civil_time(moment: u64) -> DateTime
     requires { moment < 253402300800 }
     ensures { IsCivilTimeOf moment result }

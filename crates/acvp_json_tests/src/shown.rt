@@ -18,9 +18,9 @@ use crate::registered::text_of;
 use acvp_answers::{Disposition, Verdict};
 use acvp_caps::Algorithm;
 use acvp_json::{
-    Counts, Created, Page, Registered, ReplyObject, Session, SessionStatus, SetResult, write_reply,
+    Created, Page, Registered, ReplyObject, Session, SessionStatus, SetResult, write_reply,
 };
-use acvp_registry::{Kind, Object, PendingRequest, Status, read_object};
+use acvp_registry::{Counts, Kind, Object, PendingRequest, Status, read_object};
 use serde_json::Value;
 use std::alloc::{AllocError, Global};
 use std::process::Abort;

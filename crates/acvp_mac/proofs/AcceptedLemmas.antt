@@ -1,7 +1,7 @@
 -- The accepted step is the only one of its kind, so it is a value.
 use Rattle.std.proofs.Common.{◌≡◌, ◌≢◌, ℕ, zero, suc, ◌+◌, ◌≤◌, Bool, true, false, cond, ◌||◌, ◌&&◌, nat_eq, Option, None, Some, List, ◌⊎◌, inl, inr, refl, ap, arith}
 use Rattle.std.proofs.lemmas.Bool.Decides.{nat_tests}
-use Rattle.acvp_mac.specs.Codes.{step_of, IsUnused, IsAcceptable, IsAccepted, greatest_where, is_unused, is_acceptable, accepted}
+use Rattle.acvp_mac.specs.Codes.{step_of, IsUnused, IsAcceptable, IsAcceptedStep, greatest_where, is_unused, is_acceptable, accepted}
 
 unused-test : (last : Option ℕ) (s : ℕ) → IsUnused last s → is_unused last s ≡ true
 unused-test None s h = refl
@@ -89,7 +89,7 @@ some-greatest test (suc n) s le pass above =
 
 -- what is accepted is one value
 pub accepted-unique : (secret : List ℕ) (last : Option ℕ) (moment code : ℕ) (r : Option ℕ) →
-    IsAccepted secret last moment code r → r ≡ accepted secret last moment code
+    IsAcceptedStep secret last moment code r → r ≡ accepted secret last moment code
 unfolding accepted
 accepted-unique secret last moment code None none =
     none-greatest (is_acceptable secret last moment code) (step_of moment)

@@ -1,5 +1,7 @@
 -- One-time codes of a time step (RFC 4226 and RFC 6238), and which step a code stands for.
-use Rattle.std.specs.Prelude.{◌≡◌, ℕ, zero, suc, ◌+◌, ◌/◌, ◌%◌, ◌^◌, ◌<◌, ◌≤◌, ◌⊎◌, Bool, true, ◌==◌, nat_lt, ◌&&◌, ◌||◌, if◌then◌else◌, Option, None, Some, MatchOption, IfSome, List, take, drop, slice_index}
+use Rattle.std.specs.Prelude.{◌≡◌, ℕ, zero, suc, ◌+◌, ◌/◌, ◌%◌, ◌^◌, ◌<◌, ◌≤◌, ◌⊎◌, Bool, true, ◌==◌, nat_lt, ◌&&◌}
+use Rattle.std.specs.Prelude.{◌||◌, if◌then◌else◌, Option, None, Some, MatchOption, IfSome, List, take, drop}
+use Rattle.std.specs.Prelude.{slice_index}
 use Rattle.std.specs.Int.{w32, w64, from_be_bytes, to_be_bytes}
 use Rattle.acvp_mac.specs.declared.HashName.TheVariants.{Sha256}
 use Rattle.acvp_mac.specs.Hmac.{hmac_of}
@@ -38,8 +40,8 @@ pub record IsLastAcceptable (secret : List ℕ) (last : Option ℕ) (moment code
   pub greatest : (t : ℕ) → IsAcceptable secret last moment code t → t ≤ s
 
 -- the step that is accepted is the greatest of all acceptable ones, and none where there is none
-abbrev pub IsAccepted : List ℕ → Option ℕ → ℕ → ℕ → Option ℕ → Type 0
-IsAccepted secret last moment code accepted =
+abbrev pub IsAcceptedStep : List ℕ → Option ℕ → ℕ → ℕ → Option ℕ → Type 0
+IsAcceptedStep secret last moment code accepted =
     MatchOption accepted ((s : ℕ) → ¬ IsAcceptable secret last moment code s)
     (IsLastAcceptable secret last moment code)
 

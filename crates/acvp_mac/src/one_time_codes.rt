@@ -2,7 +2,7 @@
 
 ghost use Rattle.std.specs.Prelude.{◌≡◌, ◌<◌, ◌↔◌, IsTrue};
 ghost use Rattle.acvp_mac.specs.Codes as codes;
-ghost use Rattle.acvp_mac.specs.Codes.{IsAccepted, accepted, code_of};
+ghost use Rattle.acvp_mac.specs.Codes.{IsAcceptedStep, accepted, code_of};
 
 use crate::{HashName, hmac};
 
@@ -39,7 +39,7 @@ pub fn totp(secret: &[u8], step: u64) -> u32
 /// The step that a code stands for at a moment: the current step or the one before it, above the
 /// last one that was used.
 pub fn accepted_step(secret: &[u8], last: Option<u64>, moment: u64, code: u32) -> Option<u64>
-    ensures greatest { IsAccepted secret.now last moment code result }
+    ensures greatest { IsAcceptedStep secret.now last moment code result }
     ensures value { result ≡ accepted secret.now last moment code }
 {
     let current = step_of(moment);

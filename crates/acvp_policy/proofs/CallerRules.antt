@@ -3,7 +3,7 @@ use Rattle.std.proofs.Common.{◌≡◌, ℕ, ◌≤◌, nat_le, Bool, true, fal
 use Rattle.std.proofs.Common.{Option, Some, None, Result, Ok, Err, refl, sym, arith}
 use Rattle.std.proofs.lemmas.Bool.Decides.{nat_tests}
 use Rattle.std.specs.Option.{option_or}
-use Rattle.std.specs.Prelude.{IfErr}
+use Rattle.std.specs.Prelude.{IfErr, IfOk}
 use Rattle.std.specs.List.{list_all}
 use Rattle.acvp_token.specs.Conditions.{Condition, first_broken, judged}
 use Rattle.acvp_token.proofs.ConditionLemmas.{first_broken-append}
@@ -18,7 +18,7 @@ use Rattle.acvp_policy.specs.Scope.{scope_of}
 use Rattle.acvp_policy.specs.Policy.{policy, claims_conditions, resource_conditions}
 use Rattle.acvp_policy.specs.Decision.{decision, granted}
 use Rattle.acvp_policy.specs.Callers.{AgreeOnCaller, IsCallerRule}
-use Rattle.acvp_policy.proofs.Refusals.{refused-is, refused-front}
+use Rattle.acvp_policy.proofs.Refusals.{holds-is, refused-is, refused-front}
 
 -- a condition of a rule that isn't on the caller
 abbrev pub is_late : Condition Rule → Bool
@@ -113,3 +113,10 @@ pub caller-judged : (a : Action) (caller : Facts) (result : Result (Unit {0}) Ru
     IfErr result (λ rule. (found : Facts) → AgreeOnCaller caller found → decision a found ≡ Err rule)
 caller-judged a caller (Ok x) is = tt
 caller-judged a caller (Err rule) is = λ found same. caller-refused a caller found rule same (sym is)
+
+-- what the rules on a caller let through they let through, whatever is found at the path
+pub caller-admitted : (a : Action) (caller : Facts) (result : Result (Unit {0}) Rule) → result ≡ judged {X = Unit {0}} (claims_conditions (scope_of a) caller) tt →
+    IfOk result (λ _. (found : Facts) → AgreeOnCaller caller found → first_broken (claims_conditions (scope_of a) found) ≡ None)
+caller-admitted a caller (Ok x) is = λ found same.
+    rw (← claims_conditions-agree (scope_of a) caller found same) (holds-is (first_broken (claims_conditions (scope_of a) caller)) x (sym is))
+caller-admitted a caller (Err rule) is = tt

@@ -1,6 +1,6 @@
 -- What is judged by two lists of conditions, joined.
 use Rattle.std.proofs.Common.{◌≡◌, List, ◌++◌, Option, Some, None, Ok, Err, refl}
-use Rattle.acvp_token.specs.Conditions.{Condition, unless, judged}
+use Rattle.acvp_token.specs.Conditions.{Condition, first_broken, unless, judged}
 use Rattle.acvp_token.proofs.ConditionLemmas.{first_broken-append}
 
 -- a refusal is by the fault that there is
@@ -19,11 +19,11 @@ refused-front xs ys x y fault h = rw (first_broken-append xs ys, refused-is _ x 
 
 -- what the second list refuses, after the first has let through, both do
 pub refused-behind : {F X Y : Type 0} (xs ys : List (Condition F)) (x : X) (y : Y) (fault : F) →
-    judged xs x ≡ Ok x → judged ys x ≡ Err fault → judged (xs ++ ys) y ≡ Err fault
+    first_broken xs ≡ None → judged ys x ≡ Err fault → judged (xs ++ ys) y ≡ Err fault
 refused-behind xs ys x y fault h k =
-    rw (first_broken-append xs ys, holds-is _ x h, refused-is _ x fault k) refl
+    rw (first_broken-append xs ys, h, refused-is _ x fault k) refl
 
 -- what both lists let through, they let through together
 pub let-through : {F X Y : Type 0} (xs ys : List (Condition F)) (x : X) (y : Y) →
-    judged xs x ≡ Ok x → judged ys x ≡ Ok x → judged (xs ++ ys) y ≡ Ok y
-let-through xs ys x y h k = rw (first_broken-append xs ys, holds-is _ x h, holds-is _ x k) refl
+    first_broken xs ≡ None → judged ys x ≡ Ok x → judged (xs ++ ys) y ≡ Ok y
+let-through xs ys x y h k = rw (first_broken-append xs ys, h, holds-is _ x k) refl

@@ -248,5 +248,8 @@ code_accepted f =
     (is_some_and (login_of f.subject) (λ l. is_some_and l.user (λ u. u.enabled && is_some u.step)), rule.LoginRefused)
 
 abbrev pub renewal_allowed : Facts → Condition Rule
-renewal_allowed f =
-    (is_some_and (login_of f.subject) (λ l. is_some_and l.user (λ u. may_renew u.account l.renewal)), rule.RenewalRefused)
+renewal_allowed f = (
+  is_some_and (login_of f.subject)
+      (λ l. is_some_and l.user (λ u. may_renew u.account l.renewal)),
+  rule.RenewalRefused,
+)

@@ -29,8 +29,10 @@ acting_account (Some l) f = account_of_user l.user
 abbrev pub account_of : Facts → ℕ
 account_of f = acting_account (login_of f.subject) f
 
+-- the grant that is given where no condition is broken
 unfoldable pub granted : Action → Facts → Granted
 granted action f = record { action = action; account = account_of f; resource = resource_of f.subject }
 
+-- the rule of the first broken condition of the action's list, or else the grant
 unfoldable pub decision : Action → Facts → Result Granted Rule
 decision action f = judged (policy action f) (granted action f)

@@ -8,6 +8,7 @@ use Rattle.acvp_policy.specs.declared.facts.Token.TheVariants.{Verified}
 use Rattle.acvp_policy.specs.declared.resource.Resource.{Resource}
 use Rattle.acvp_policy.specs.declared.resource.Resource.TheVariants as resource
 
+-- a resource is of each kind
 abbrev pub IsAccount : Resource → Type 0
 IsAccount r = r ≡ resource.Account
 

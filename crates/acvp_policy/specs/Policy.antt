@@ -12,7 +12,8 @@ use Rattle.acvp_policy.specs.Conditions.{token_there, token_shaped, token_signed
 use Rattle.acvp_policy.specs.Conditions.{account_enabled, without_session, with_session, this_session, is_reviewer}
 use Rattle.acvp_policy.specs.Conditions.{account_there, algorithm_there, session_there, set_there, reviewer_there}
 use Rattle.acvp_policy.specs.Conditions.{vendor_there, module_there, environment_there, request_there}
-use Rattle.acvp_policy.specs.Conditions.{session_live, session_lasts, session_thawed, is_sample, is_no_sample, has_passed}
+use Rattle.acvp_policy.specs.Conditions.{session_live, session_lasts, session_thawed, is_sample, is_no_sample}
+use Rattle.acvp_policy.specs.Conditions.{has_passed}
 use Rattle.acvp_policy.specs.Conditions.{set_live, set_lasts, is_unanswered, is_answered}
 use Rattle.acvp_policy.specs.Conditions.{code_accepted, renewal_allowed}
 

@@ -4,6 +4,7 @@ use Rattle.acvp_policy.specs.declared.action.Action.TheVariants as action
 use Rattle.acvp_policy.specs.declared.action.Scope.{Scope}
 use Rattle.acvp_policy.specs.declared.action.Scope.TheVariants as scope
 
+-- one scope for each of the 31 actions
 abbrev pub scope_of : Action → Scope
 scope_of action.Login = scope.Login
 scope_of action.ReadAccount = scope.AccountRead

@@ -56,7 +56,8 @@ pub fn resource_allows(action: Action, facts: &Facts) -> Result<(), Rule>
     }
 }
 
-/// Whether what the path names is there, and is of the kind that the action is about.
+/// Whether what the path names is there, and is of the kind that the action is about. The account of an account's own
+/// actions is there, so of these it is broken by facts about something else alone.
 fn resource_found(found: bool) -> Result<(), Rule>
     ensures { result ≡ judged ((found, Rule.NoResource) ∷ []) tt }
 {
@@ -77,7 +78,8 @@ fn login_allowed(facts: &Facts) -> Result<(), Rule>
     check(renews(user.account, login.renewal), Rule::RenewalRefused)
 }
 
-/// Whether the account may have the claims of the token that it hands in, if any.
+/// Whether the account may have the claims of the token that it hands in, if any. Of its session the number alone is
+/// looked at, and not whether it is there.
 fn renews(account: u16, renewal: Renewal) -> bool
     ensures { result ≡ may_renew account renewal }
 {

@@ -1,7 +1,7 @@
 //! Decisions and the grants that they give.
 
-ghost use Rattle.std.specs.Prelude.{◌≡◌, ◌↔◌, ◌⊎◌, ℕ, IsTrue, IfOk, IfErr, Err};
-ghost use Rattle.acvp_token.specs.Conditions.{judged};
+ghost use Rattle.std.specs.Prelude.{◌≡◌, ◌↔◌, ◌⊎◌, ℕ, IsTrue, IfOk, IfErr, None, Err};
+ghost use Rattle.acvp_token.specs.Conditions.{first_broken, judged};
 ghost use Rattle.acvp_token.specs.SessionNumber.{account_of_session};
 ghost use Rattle.acvp_policy.specs.Callers.{AgreeOnCaller};
 ghost use Rattle.acvp_policy.specs.Decision.{account_of, decision, granted};
@@ -19,8 +19,8 @@ use crate::resource::Resource;
 use crate::rule::Rule;
 use std::marker::Model;
 
-/// Leave for an account to take an action on a resource. Only `decide` gives one. It can't be copied, and it
-/// must be spent: by `release`, or by the change that it stands for.
+/// Leave for an account to take an action on a resource. Only `decide` and `decide_admitted` give one. It can't be
+/// copied, and it must be spent: by `release`, or by the change that it stands for.
 pub struct Grant {
     action: Action,
     account: u16,
@@ -39,18 +39,31 @@ impl Model for Grant {
 /// a refusal is what `decide` gives.
 pub fn admit(action: Action, facts: &Facts) -> Result<(), Rule>
     ensures judged { result ≡ judged (claims_conditions (scope_of action) facts.now) tt }
-    ensures refused { IfErr result (λ rule. (found : Facts) → AgreeOnCaller facts.now found → decision action found ≡ Err rule) }
+    ensures refused { IfErr result (λ rule. (found : Facts) → AgreeOnCaller facts.now found
+        → decision action found ≡ Err rule) }
+    ensures admitted { IfOk result (λ _. (found : Facts) → AgreeOnCaller facts.now found
+        → first_broken (claims_conditions (scope_of action) found) ≡ None) }
 {
     let scope = action.scope();
     claims_allow(scope, facts)
 }
 
-/// Decides whether an action may be taken: the first rule that is broken, or a grant.
+/// Decides whether an action may be taken: the first rule that is broken, or a grant. It asks nothing of its callers,
+/// and answers on any facts.
 pub fn decide(action: Action, facts: &Facts) -> Result<Grant, Rule>
     ensures decision { result ≡ decision action facts.now }
     ensures grant { IfOk result (λ g. g ≡ granted action facts.now) }
 {
     claims_allow(action.scope(), facts)?;
+    decide_admitted(action, facts)
+}
+
+/// Decides on the same where `admit` has let the caller through, whose rules aren't looked at again.
+pub fn decide_admitted(action: Action, facts: &Facts) -> Result<Grant, Rule>
+    requires { first_broken (claims_conditions (scope_of action) facts.now) ≡ None }
+    ensures decision { result ≡ decision action facts.now }
+    ensures grant { IfOk result (λ g. g ≡ granted action facts.now) }
+{
     resource_allows(action, facts)?;
     Ok(Grant {
         action,

@@ -26,7 +26,8 @@ pub fn caller_rules_agree()
 /// A caller that no rule on callers refuses asks of a session of its own account, or is a reviewer of it who reads
 /// results.
 pub fn callers_own_the_session()
-    ensures { (action : Action) (facts : Facts) (session : ℕ) → first_broken (claims_conditions (scope_of action) facts) ≡ None
+    ensures { (action : Action) (facts : Facts) (session : ℕ) → first_broken (claims_conditions (scope_of action) facts)
+        ≡ None
         → IsOfItsKind action (resource_of facts.subject) → IsOfSession session (resource_of facts.subject)
         → (account_of_session session ≡ account_of facts) ⊎ IsReview action facts }
 {}

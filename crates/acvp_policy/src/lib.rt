@@ -7,7 +7,7 @@ pub use facts::{
     CertificationStatus, Facts, LoginFacts, Renewal, ReviewerSubject, RowSubject, SessionFacts,
     SessionSubject, SetFacts, SetSubject, Standing, Subject, Token, UserFacts,
 };
-pub use grant::{Grant, admit, allows, decide, granted_resources, release};
+pub use grant::{Grant, admit, allows, decide, decide_admitted, granted_resources, release};
 pub use isolation::{caller_rules_agree, callers_own_the_session};
 pub use resource::Resource;
 pub use rule::Rule;

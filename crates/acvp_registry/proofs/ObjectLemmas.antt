@@ -14,7 +14,7 @@ use Rattle.acvp_registry.specs.declared.fault.RegFault.{RegFault}
 use Rattle.acvp_registry.specs.declared.fault.RegFault.TheVariants.{Field, NoReference}
 use Rattle.acvp_registry.specs.declared.kind.Kind.{Kind}
 use Rattle.acvp_registry.specs.Object.{KeptObject, object_text, is_fit, has_fields, is_readable, is_short, names_vendor, object_fault, put_url, with_url_data}
-use Rattle.acvp_registry.specs.Private.Invariant.{IsKept}
+use Rattle.acvp_registry.specs.Private.Invariant.{IsKeptText}
 use Rattle.acvp_registry.specs.Url.{url_of}
 use Rattle.acvp_registry.proofs.JsonLemmas.{body_json-read}
 
@@ -101,7 +101,7 @@ is_few d s readable text h = rw (text (plain_of d readable)) at (few_of (length 
 -- an object that is made of a value and the text that was written for it
 pub kept : (kind : Kind) (d e : Data) (s : String Global) → e ≡ d → object_fault kind d ≡ None → is_readable d ≡ true
     → (has_float d ≡ false → string_bytes s ≡ compact_text d) → (depth d ≤ 127 → read (string_bytes s) ≡ Some d)
-    → IsKept (record { kind = kind; value = e }) (string_bytes s)
+    → IsKeptText (record { kind = kind; value = e }) (string_bytes s)
 unfolding object_text
 kept kind d e s same fault readable text reads = rw same record {
   fit = fault;

@@ -1,5 +1,6 @@
 -- Numbers in decimal digits.
-use Rattle.std.specs.Prelude.{ℕ, List, Bool, Option, Some, None, length, nat_le, ◌&&◌, if◌then◌else◌, decimal, option_and_then}
+use Rattle.std.specs.Prelude.{ℕ, List, Bool, Option, Some, None, length, nat_le, ◌&&◌, if◌then◌else◌, decimal}
+use Rattle.std.specs.Prelude.{option_and_then}
 use Rattle.std.specs.Str.{all_ascii_digits, bytes_eq}
 use Rattle.std.specs.Str.Parse.{digits_value}
 

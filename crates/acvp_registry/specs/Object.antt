@@ -1,5 +1,6 @@
 -- What is kept of a vendor, a module or an operational environment, and which JSON values are kept.
-use Rattle.std.specs.Prelude.{ℕ, List, [], ◌∷◌, length, codes, Bool, true, false, not, ◌&&◌, nat_le, find, is_some, Option, Some, None, option_map, option_and_then, unwrap_or}
+use Rattle.std.specs.Prelude.{ℕ, List, [], ◌∷◌, length, codes, Bool, true, false, not, ◌&&◌, nat_le, find, is_some}
+use Rattle.std.specs.Prelude.{Option, Some, None, option_map, option_and_then, unwrap_or}
 use Rattle.serde_json.specs.Data.{Data, null, boolean, number, string, array, object, put, depth}
 use Rattle.serde_json.specs.Written.{has_float, compact_text}
 use Rattle.acvp_registry.specs.declared.fault.RegFault.{RegFault}

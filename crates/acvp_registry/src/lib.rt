@@ -1,6 +1,7 @@
 //! Vendors, modules and operational environments: their kinds, the URLs that name them, and what is kept of them.
 #![tactic(auto)]
 
+mod counts;
 mod depth;
 mod fault;
 mod floats;
@@ -11,6 +12,7 @@ mod object;
 mod request;
 mod url;
 
+pub use counts::Counts;
 pub use fault::RegFault;
 pub use floats::has_float;
 pub use json::body_value;

@@ -4,7 +4,8 @@ ghost use Rattle.acvp_registry.specs.Number.{digits_number_of, plain_number_of};
 
 const LONGEST: usize = 19;
 
-/// The number that 1 to 19 decimal digits write, leading zeros among them.
+/// The number that 1 to 19 decimal digits write, leading zeros among them, as a one-time code and a Content-Length may
+/// have.
 pub fn digits_number(text: &[u8]) -> Option<u64>
     ensures value { result ≡ digits_number_of text.now }
     ensures size { IfSome result (λ number. number < 10 ^ length text.now) }
@@ -22,7 +23,8 @@ pub fn digits_number(text: &[u8]) -> Option<u64>
     Some(number)
 }
 
-/// The number that 1 to 19 decimal digits without leading zeros write, a lone `0` being one.
+/// The number that 1 to 19 decimal digits without leading zeros write, a lone `0` being one: that of a URL, of a path,
+/// of a script and of a login's user.
 pub fn plain_number(text: &[u8]) -> Option<u64>
     ensures written { MatchOption result ((n : ℕ) → n < 10 ^ 19 → text.now ≢ decimal n) (λ n. (n < 10 ^ 19)
         × (text.now ≡ decimal n)) }

@@ -3,7 +3,9 @@ ghost use Rattle.std.specs.Prelude.{◌≡◌, ◌⊎◌, IfOk, IfErr, MatchResu
 ghost use Rattle.serde_json.specs.View.{view};
 ghost use Rattle.serde_json.specs.Written.{has_float};
 ghost use Rattle.acvp_registry.specs.Json.{body_json};
-ghost use Rattle.acvp_registry.specs.Object.{object_text, object_name, object_vendor, vendor_of, is_registered, has_name, has_vendor_url, has_fields, is_readable, names_vendor, object_fault, put_url, with_url_data};
+ghost use Rattle.acvp_registry.specs.Object.{object_text, object_name, object_vendor, vendor_of, is_registered};
+ghost use Rattle.acvp_registry.specs.Object.{has_name, has_vendor_url, has_fields, is_readable, names_vendor};
+ghost use Rattle.acvp_registry.specs.Object.{object_fault, put_url, with_url_data};
 
 use crate::depth::is_within;
 use crate::fault::RegFault;
@@ -41,11 +43,11 @@ impl Model for Object {
 
     ghost coded = { kept_code };
 
-    ghost use Rattle.acvp_registry.specs.Private.Invariant.{IsKept};
+    ghost use Rattle.acvp_registry.specs.Private.Invariant.{IsKeptText};
 
     ghost view = { λ o. record { kind = o.kind; value = data_of o.value } };
 
-    ghost invariant = { λ o. IsKept (record { kind = o.kind; value = data_of o.value }) (string_bytes o.text) };
+    ghost invariant = { λ o. IsKeptText (record { kind = o.kind; value = data_of o.value }) (string_bytes o.text) };
 }
 
 impl Clone for Object {
@@ -143,7 +145,7 @@ fn has_fields(kind: Kind, value: &Value) -> bool
     is_registered(kind) && has_name(value) && has_vendor_url(kind, value)
 }
 
-/// Whether it has no float and nests no deeper than texts are read.
+/// Whether it has no float and nests no deeper than texts are read: else it has no compact text that reads back as it.
 fn is_readable(value: &Value) -> bool
     ensures { result ≡ is_readable (view value.now) }
 {

@@ -1,6 +1,6 @@
 //! The URLs of vendors, modules and operational environments.
 ghost use Rattle.std.specs.Prelude.{◌≡◌, ◌++◌, ℕ, IfOk, MatchOption, decimal, option_map, string_bytes};
-ghost use Rattle.acvp_registry.specs.Url.{place_of, IsUrl, url_number_of, url_of};
+ghost use Rattle.acvp_registry.specs.Url.{url_front, IsUrl, url_number_of, url_of};
 
 use crate::kind::Kind;
 use crate::number::plain_number;
@@ -8,7 +8,7 @@ use std::alloc::{AllocError, Global};
 
 /// What stands before the number in the URLs of a kind. Certifications have no URL of their own.
 fn place(kind: Kind) -> Option<&'static str>
-    ensures { option_map (λ place. place.now) result ≡ place_of kind }
+    ensures { option_map (λ place. place.now) result ≡ url_front kind }
 {
     match kind {
         Kind::Vendor => Some("/acvp/v1/vendors/"),

@@ -280,10 +280,15 @@ fn with_options<'a>(alloc: Global, which: &Subcommand) -> Result<Command<'a>, Al
     Ok(command)
 }
 
+/// What `--version` prints behind the program's name: the schema of its tables, and the kit that it is proved with, as
+/// the last line of the README has it.
+const VERSION: &str = "of schema 3, proved with rattle-kit-13f logic dac8208d650f15bf";
+
 /// The program's command line, with its subcommands.
 pub(crate) fn command<'a>(alloc: Global) -> Result<Command<'a>, AllocError> {
     let mut command = Command::new(alloc, "acvp_server")
         .about("A validation server for SHA-2 and HMAC")
+        .version(VERSION)
         .after_help("Example: acvp_server init --db laboratory.db")
         .subcommand_required(true);
     for which in &SUBCOMMANDS {

@@ -22,10 +22,10 @@ use Rattle.acvp_store.specs.Values.{whole}
 use Rattle.acvp_store.specs.Schema.{Layout, schema_of}
 use Rattle.acvp_store.specs.Rows.{session_tree, session_row, HoldsSessions, session_shown}
 use Rattle.acvp_store.proofs.Owned.{last_number, in_range, range_drops, rising_dropped, session_numbers, session_selection}
-use Rattle.acvp_store.proofs.Paging.{paged, capped_page}
+use Rattle.acvp_store.proofs.OrderedPages.{paged, capped_page}
 use Rattle.acvp_store.proofs.PageTexts.{within, page_sessions, sessions_is, sessions_plain, sessions_unlisted, session_columns}
 use Rattle.acvp_store.proofs.Parts.{both_true}
-use Rattle.acvp_store.proofs.Selecting.{truth_back}
+use Rattle.acvp_store.proofs.SelectedRows.{truth_back}
 
 -- a column of whole numbers is tested against the ends of a range
 pub test_from : (m n : ℕ) → is_true (binary (Compare Ge Binary) (whole m) (whole n)) ≡ nat_le n m

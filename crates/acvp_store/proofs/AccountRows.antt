@@ -21,12 +21,12 @@ use Rattle.acvp_tables.specs.declared.rows.AccountRow.{AccountRow}
 use Rattle.acvp_tables.specs.declared.change.NewAccount.{NewAccount}
 use Rattle.acvp_store.specs.Values.{whole, flag}
 use Rattle.acvp_store.specs.Schema.{Layout, schema_of, account_table}
-use Rattle.acvp_store.specs.Kept.{IsKept}
+use Rattle.acvp_store.specs.Kept.{AreKept}
 use Rattle.acvp_store.specs.Alters.{Alters}
 use Rattle.acvp_store.specs.Rows.{account_tree, account_key, account_row, HoldsAccounts, account_shown}
 use Rattle.acvp_store.proofs.Keyed.{keyed}
 use Rattle.acvp_store.proofs.Parts.{and_true, cast_null, cast_whole, cast_flag, cast_option}
-use Rattle.acvp_store.proofs.Selecting.{test_equals, selected}
+use Rattle.acvp_store.proofs.SelectedRows.{test_equals, selected}
 use Rattle.acvp_store.proofs.Effects.{insert_effect, update_effect}
 use Rattle.acvp_store.proofs.Texts.{find_account, account_query, account_is, account_plain, account_unlisted, add_account, add_account_terms, set_step, step_query, disable_account, disable_query}
 
@@ -36,7 +36,7 @@ tests : (n : ℕ) (a : AccountRow) → list_all (holds ((whole n ∷ []) ∷ acc
 tests n a = rw test_equals (and_true _)
 
 pub account_rows : (layout : Layout) (n : ℕ) (old new : State) (rows : List Row) → old.now.schema ≡ schema_of layout → Shown find_account (whole n ∷ []) old new rows
-    → (list : List AccountRow) (kept : IsKept account_key account_row (old.now.trees account_tree) list) → IsPermutation (map account_shown (keyed account_key n kept.ordered)) rows
+    → (list : List AccountRow) (kept : AreKept account_key account_row (old.now.trees account_tree) list) → IsPermutation (map account_shown (keyed account_key n kept.ordered)) rows
 account_rows layout n old new rows schema h list kept =
     selected (whole n ∷ []) account_row (λ a. a.number == n) account_query.filter (tests n) account_tree account_query.project account_shown (λ a. refl) (overlay old.now.trees []) kept.ordered rows kept.rows_are
     ((reads_as find_account (whole n ∷ []) old new (schema_of layout) schema _ (account_is layout) (account_plain layout) (account_unlisted layout) rows h).answer Null)

@@ -10,7 +10,7 @@ use Rattle.acvp_caps.specs.Json.{number_at, text_at}
 use Rattle.acvp_registry.specs.declared.kind.Kind.{Kind}
 use Rattle.acvp_registry.specs.declared.kind.Kind.TheVariants.{Module, Environment}
 use Rattle.acvp_registry.specs.Json.{body_json}
-use Rattle.acvp_registry.specs.Url.{IsUrl, place_of}
+use Rattle.acvp_registry.specs.Url.{IsUrl, url_front}
 use Rattle.acvp_registry.proofs.JsonLemmas.{body_json-read}
 use Rattle.acvp_tables.specs.declared.rows.RequestBody.TheVariants as body
 use Rattle.acvp_tables.specs.declared.rows.Certification.{Certification}
@@ -43,7 +43,7 @@ environment_at c = refl
 session_at : (c : Certification) → number_at (codes "session") (certification_data c) ≡ Some c.session
 session_at c = refl
 
-same_number : (kind : Kind) (place : List ℕ) (m n : ℕ) → place_of kind ≡ Some place → n < 2 ^ 64 → IsUrl kind m (place ++ decimal n) → m ≡ n
+same_number : (kind : Kind) (place : List ℕ) (m n : ℕ) → url_front kind ≡ Some place → n < 2 ^ 64 → IsUrl kind m (place ++ decimal n) → m ≡ n
 same_number kind place m n at small is =
     let same : is.0 ≡ place = let both : Some is.0 ≡ Some place = sym is.1 ∙ at in cc in
     let url : place ++ decimal n ≡ place ++ decimal m = is.3 ∙ ap (λ front. front ++ decimal m) same in

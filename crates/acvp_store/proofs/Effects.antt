@@ -26,14 +26,14 @@ use Rattle.sqlite_schema.specs.declared.schema.Reference.{Reference}
 use Rattle.sqlite_trees.proofs.ListLemmas.{all_both}
 use Rattle.acvp_store.specs.Values.{whole}
 use Rattle.acvp_store.specs.Schema.{Layout, schema_of, table_by_number}
-use Rattle.acvp_store.specs.Kept.{IsKept}
+use Rattle.acvp_store.specs.Kept.{AreKept}
 use Rattle.acvp_store.specs.Alters.{Alters, SparesOthers}
 use Rattle.acvp_store.proofs.Idle.{applied}
 use Rattle.acvp_store.proofs.Keyed.{changing}
 use Rattle.acvp_store.proofs.Parts.{went, same_value}
-use Rattle.acvp_store.proofs.Selecting.{selected}
-use Rattle.acvp_store.proofs.Inserting.{inserts}
-use Rattle.acvp_store.proofs.Updating.{edit_for, updates}
+use Rattle.acvp_store.proofs.SelectedRows.{selected}
+use Rattle.acvp_store.proofs.InsertedRow.{inserts}
+use Rattle.acvp_store.proofs.UpdatedRow.{edit_for, updates}
 use Rattle.acvp_store.proofs.Texts.{simple}
 
 abbrev pub mode : Mode
@@ -59,7 +59,7 @@ module _ (layout : Layout) {A : Type 0} (key : A → ℕ) (stored : A → Row) (
     (shows : (a : A) → eval_all project (params ∷ stored a ∷ []) ≡ renewed a) where
   updated : (limit : Option ℕ) (trees : Trees) (tally : Tally) (after : Database)
       → OnRows (task_of layout limit table params) mode None (Update at (record { lets = []; body = simple table.tree terms project })) trees (Ok (tally, after))
-      → Alters layout table.tree (IsKept key stored) (map (changing key n f)) (record { schema = schema_of layout; trees = trees }) after
+      → Alters layout table.tree (AreKept key stored) (map (changing key n f)) (record { schema = schema_of layout; trees = trees }) after
   updated limit trees tally after does =
       let done = went does in
       let now = concluded (task_of layout limit table params) done.0 tally after done.2 in
@@ -69,7 +69,7 @@ module _ (layout : Layout) {A : Type 0} (key : A → ℕ) (stored : A → Row) (
       let next : written.0 ≡ after.trees = sym (ap (λ (d : Database). d.trees) now ∙ trees_are) in
       record {
         schema = ap (λ (d : Database). d.schema) now;
-        kept = λ list kept. subst (λ (t : Trees). IsKept key stored (t table.tree) (map (changing key n f) list)) next
+        kept = λ list kept. subst (λ (t : Trees). AreKept key stored (t table.tree) (map (changing key n f) list)) next
             (updates layout key stored rowid_is table n f keeps renewed ids casts trees written.0 list kept found.0
             (selected params stored (λ a. key a == n) terms tests table.tree project renewed shows (overlay trees []) kept.ordered found.0 (seen trees ∙ kept.rows_are) (found.1.answer Null)) written.1);
         others = subst (SparesOthers layout table.tree trees) next (applied layout trees written.0 (edit_for table trees found.0) written.1).tables;
@@ -77,7 +77,7 @@ module _ (layout : Layout) {A : Type 0} (key : A → ℕ) (stored : A → Row) (
 
   pub update_effect : (old : State) (text : List ℕ) → old.now.schema ≡ schema_of layout → (tally : Tally) (after : Database)
       → Does old.step_limit (mode_of old) params old.now text None (Update at (record { lets = []; body = simple table.tree terms project })) (Ok (tally, after))
-      → Alters layout table.tree (IsKept key stored) (map (changing key n f)) old.now after
+      → Alters layout table.tree (AreKept key stored) (map (changing key n f)) old.now after
   update_effect old text schema tally after does =
       let q = Update at (record { lets = []; body = simple table.tree terms project }) in
       let it = subst (λ s. Does old.step_limit (mode_of old) params (record old.now { schema = s }) text None q (Ok (tally, after))) schema does in
@@ -94,7 +94,7 @@ module _ (layout : Layout) {A : Type 0} (key : A → ℕ) (stored : A → Row) (
   table = table_by_number name tree columns references
 
   inserted : (limit : Option ℕ) (trees : Trees) (tally : Tally) (after : Database) → OnRows (task_of layout limit table params) mode None (Insert at (Values terms width)) trees (Ok (tally, after))
-      → Alters layout tree (IsKept key stored) (λ list. list ++ new ∷ []) (record { schema = schema_of layout; trees = trees }) after
+      → Alters layout tree (AreKept key stored) (λ list. list ++ new ∷ []) (record { schema = schema_of layout; trees = trees }) after
   inserted limit trees tally after does =
       let done = went does in
       let now = concluded (task_of layout limit table params) done.0 tally after done.2 in
@@ -106,13 +106,13 @@ module _ (layout : Layout) {A : Type 0} (key : A → ℕ) (stored : A → Row) (
       let next : written.0 ≡ after.trees = sym (ap (λ (d : Database). d.trees) now ∙ trees_are) in
       record {
         schema = ap (λ (d : Database). d.schema) now;
-        kept = λ list kept. subst (λ (t : Trees). IsKept key stored (t tree) (list ++ new ∷ [])) next (inserts layout key stored rowid_is table new given casts trees written.0 low wrote list kept);
+        kept = λ list kept. subst (λ (t : Trees). AreKept key stored (t tree) (list ++ new ∷ [])) next (inserts layout key stored rowid_is table new given casts trees written.0 low wrote list kept);
         others = subst (SparesOthers layout tree trees) next (applied layout trees written.0 (edit_of trees table [] Chosen 0 (given ∷ [])) wrote).tables;
       }
 
   pub insert_effect : (old : State) (text : List ℕ) → old.now.schema ≡ schema_of layout → (tally : Tally) (after : Database)
       → Does old.step_limit (mode_of old) params old.now text None (Insert at (Values terms width)) (Ok (tally, after))
-      → Alters layout tree (IsKept key stored) (λ list. list ++ new ∷ []) old.now after
+      → Alters layout tree (AreKept key stored) (λ list. list ++ new ∷ []) old.now after
   insert_effect old text schema tally after does =
       let q = Insert at (Values terms width) in
       let it = subst (λ s. Does old.step_limit (mode_of old) params (record old.now { schema = s }) text None q (Ok (tally, after))) schema does in

@@ -25,7 +25,7 @@ use Rattle.acvp_store.specs.Schema.{Layout, schema_of}
 use Rattle.acvp_store.specs.Stands.{Entry, entry_row, HoldsEntries}
 use Rattle.acvp_store.proofs.Idle.{applied}
 use Rattle.acvp_store.proofs.Parts.{and_true}
-use Rattle.acvp_store.proofs.Selecting.{above_is, below_is, itself_is, test_differs}
+use Rattle.acvp_store.proofs.SelectedRows.{above_is, below_is, itself_is, test_differs}
 
 module _ {A : Type 0} (columns : A → Row) where
   abbrev stored : Entry A → Row

@@ -30,11 +30,11 @@ use Rattle.acvp_tables.specs.declared.rows.SetRow.{SetRow}
 use Rattle.acvp_tables.proofs.EpochLemmas.{merged, merged_more}
 use Rattle.acvp_store.specs.Values.{whole}
 use Rattle.acvp_store.specs.Schema.{Layout, schema_of}
-use Rattle.acvp_store.specs.Kept.{IsKept}
+use Rattle.acvp_store.specs.Kept.{AreKept}
 use Rattle.acvp_store.specs.Stands.{SetColumns, set_key, set_row, set_tree, IsSet, HoldsSets}
 use Rattle.acvp_store.specs.Private.Sets.{epoch_shown}
 use Rattle.acvp_store.proofs.Keyed.{none_left}
-use Rattle.acvp_store.proofs.Selecting.{matched}
+use Rattle.acvp_store.proofs.SelectedRows.{matched}
 use Rattle.acvp_store.proofs.Places.{sets_seen}
 use Rattle.acvp_store.proofs.Texts.{find_epoch, epoch_query, epoch_is, epoch_plain, epoch_unlisted}
 
@@ -183,7 +183,7 @@ epoch_row layout db columns rows has a =
     let ordered = one_permutation o a.ordered (subst (λ k. IsPermutation k a.ordered) kept a.same) in
     a.shown ∙ ap (λ xs. page (epoch_query layout) [] (map (λ (x : Output). x.1) xs)) ordered
 
-pub epoch_rows : (layout : Layout) (old new : State) (rows : List Row) → old.now.schema ≡ schema_of layout → Shown find_epoch [] old new rows → (list : List SetColumns) → IsKept set_key set_row (old.now.trees (set_tree layout)) list → rows ≡ epoch_shown (greatest (epochs list)) ∷ []
+pub epoch_rows : (layout : Layout) (old new : State) (rows : List Row) → old.now.schema ≡ schema_of layout → Shown find_epoch [] old new rows → (list : List SetColumns) → AreKept set_key set_row (old.now.trees (set_tree layout)) list → rows ≡ epoch_shown (greatest (epochs list)) ∷ []
 epoch_rows layout old new rows schema h list kept =
     epoch_row layout (overlay old.now.trees []) kept.ordered rows (sets_seen layout old.now.trees ∙ kept.rows_are) ((reads_as find_epoch [] old new (schema_of layout) schema _ (epoch_is layout) (epoch_plain layout) (epoch_unlisted layout) rows h).answer Null)
     ∙ ap (λ e. epoch_shown e ∷ []) (greatest_same _ _ (IsPermutation-map (λ (c : SetColumns). c.epoch) kept.ordered list kept.same))
@@ -200,7 +200,7 @@ module _ {X E F G : Type 0} (table : List Row) (rows_in : X → List Row) where
   pub find_greatest : (outcome : Result X E) (found : Result (Option (Option ℕ)) F) (result : Result (Option ℕ) G) → (IsOk found → IsOk outcome) → (IsOk result → IsOk found)
       → IfOk found (λ b. IfOk outcome (λ x. (list : List (Option ℕ)) → IsPermutation (map epoch_shown list) (rows_in x) → b ≡ slice_get list 0))
       → IfOk result (λ e. IfOk found (λ b. b ≡ Some e))
-      → IfOk outcome (λ x. (list : List SetColumns) → IsKept set_key set_row table list → rows_in x ≡ epoch_shown (greatest (epochs list)) ∷ [])
+      → IfOk outcome (λ x. (list : List SetColumns) → AreKept set_key set_row table list → rows_in x ≡ epoch_shown (greatest (epochs list)) ∷ [])
       → IfOk result (λ e. (sets : List SetRow) → HoldsSets table sets → e ≡ greatest_epoch_of sets)
   find_greatest outcome found (Err g) ok_found ok_result one tells rows = tt
   find_greatest outcome (Err f) (Ok e) ok_found ok_result one tells rows = absurd (let impossible = ok_result refl in cc)

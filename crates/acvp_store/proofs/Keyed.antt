@@ -14,7 +14,7 @@ use Rattle.sqlite_trees.proofs.ListLemmas.{IsPermutation-filter}
 use Rattle.sqlite_value.specs.Order.{value_cmp}
 use Rattle.sqlite_value.proofs.OrderLemmas.{value_cmp-Int}
 use Rattle.acvp_store.specs.Values.{whole}
-use Rattle.acvp_store.specs.Kept.{IsKept}
+use Rattle.acvp_store.specs.Kept.{AreKept}
 
 pub same_whole : (m n : ℕ) → is_eq (value_cmp (whole m) (whole n)) ≡ (m == n)
 same_whole m n = ap is_eq (value_cmp-Int (pos m) (pos n)) ∙ grind (arith, nat_tests)
@@ -233,7 +233,7 @@ module _ {A : Type 0} (key : A → ℕ) (stored : A → Row) (rowid_is : (a : A)
 
   -- ---- what a table keeps
 
-  pub kept_with : (rows next : List Row) (list : List A) (new : A) (kept : IsKept key stored rows list) → keyed key (key new) kept.ordered ≡ [] → next ≡ map stored (with_row key new kept.ordered) → key new < 2 ^ 63 → IsKept key stored next (list ++ new ∷ [])
+  pub kept_with : (rows next : List Row) (list : List A) (new : A) (kept : AreKept key stored rows list) → keyed key (key new) kept.ordered ≡ [] → next ≡ map stored (with_row key new kept.ordered) → key new < 2 ^ 63 → AreKept key stored next (list ++ new ∷ [])
   kept_with rows next list new kept free is low = record {
     ordered = with_row key new kept.ordered;
     rows_are = is;
@@ -242,7 +242,7 @@ module _ {A : Type 0} (key : A → ℕ) (stored : A → Row) (rowid_is : (a : A)
     same = same_with key new kept.ordered list kept.same;
   }
 
-  pub kept_changed : (n : ℕ) (f : A → A) → ((a : A) → key (f a) ≡ key a) → (rows next : List Row) (list : List A) (kept : IsKept key stored rows list) → next ≡ map stored (map (changing key n f) kept.ordered) → IsKept key stored next (map (changing key n f) list)
+  pub kept_changed : (n : ℕ) (f : A → A) → ((a : A) → key (f a) ≡ key a) → (rows next : List Row) (list : List A) (kept : AreKept key stored rows list) → next ≡ map stored (map (changing key n f) kept.ordered) → AreKept key stored next (map (changing key n f) list)
   kept_changed n f keeps rows next list kept is = record {
     ordered = map (changing key n f) kept.ordered;
     rows_are = is;

@@ -24,13 +24,13 @@ use Rattle.acvp_store.specs.Schema.{Layout, schema_of}
 use Rattle.acvp_store.specs.Stands.{Entry, entry_row, HoldsObjects, object_columns, object_tree, IsKeepable, FitColumns}
 use Rattle.acvp_store.proofs.Keyed.{none_passes}
 use Rattle.acvp_store.proofs.AccountPages.{test_range, most}
-use Rattle.acvp_store.proofs.Listing.{all_taken, all_dropped}
+use Rattle.acvp_store.proofs.RowLists.{all_taken, all_dropped}
 use Rattle.acvp_store.proofs.ObjectRows.{is_it, neither, none_fits}
 use Rattle.acvp_store.proofs.Owned.{last_number, in_range, range_drops, rising_dropped, object_numbers, object_selection}
-use Rattle.acvp_store.proofs.Paging.{paged, capped_page}
+use Rattle.acvp_store.proofs.OrderedPages.{paged, capped_page}
 use Rattle.acvp_store.proofs.PageTexts.{within, find_object, object_is, object_plain, object_unlisted, object_fields, page_objects, objects_is, objects_plain, objects_unlisted}
 use Rattle.acvp_store.proofs.Parts.{both_true}
-use Rattle.acvp_store.proofs.Selecting.{test_equals, test_none, selected}
+use Rattle.acvp_store.proofs.SelectedRows.{test_equals, test_none, selected}
 use Rattle.acvp_store.proofs.Texts.{equals}
 
 -- ---- by its kind and number

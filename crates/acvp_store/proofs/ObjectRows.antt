@@ -24,7 +24,7 @@ use Rattle.acvp_store.specs.Schema.{Layout, schema_of}
 use Rattle.acvp_store.specs.Stands.{Entry, entry_row, HoldsObjects, object_columns, object_tree, FitColumns}
 use Rattle.acvp_store.proofs.Keyed.{none_passes}
 use Rattle.acvp_store.proofs.Parts.{both_true}
-use Rattle.acvp_store.proofs.Selecting.{test_equals, test_none, selected}
+use Rattle.acvp_store.proofs.SelectedRows.{test_equals, test_none, selected}
 use Rattle.acvp_store.proofs.Texts.{find_owner, owner_query, owner_is, owner_plain, owner_unlisted}
 
 abbrev pub is_it : Kind → ℕ → ObjectRow → Bool

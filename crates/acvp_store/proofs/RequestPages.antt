@@ -24,7 +24,7 @@ use Rattle.acvp_tables.specs.declared.rows.RequestBody.TheVariants as body
 use Rattle.acvp_tables.specs.declared.rows.RequestRow.{RequestRow}
 use Rattle.acvp_tables.specs.declared.summary.RequestSummary.{RequestSummary}
 use Rattle.acvp_store.specs.Values.{whole}
-use Rattle.acvp_store.specs.Kept.{IsKept}
+use Rattle.acvp_store.specs.Kept.{AreKept}
 use Rattle.acvp_store.specs.Schema.{Layout, schema_of}
 use Rattle.acvp_store.specs.Stands.{request_tree, request_key, request_row, HoldsRequests, BodyReads, body_number, body_text, status_number}
 use Rattle.acvp_store.specs.Private.Objects.{IsOfKind}
@@ -32,12 +32,12 @@ use Rattle.acvp_store.specs.Private.Requests.{request_shown, IsReadable}
 use Rattle.acvp_store.specs.Private.Summaries.{SubjectReads, subject_number, subject_text, summary_shown}
 use Rattle.acvp_store.proofs.AccountPages.{test_range, most, page_params}
 use Rattle.acvp_store.proofs.Keyed.{keyed, keyed_same, find_is, none_fits, none_passes}
-use Rattle.acvp_store.proofs.Listing.{all_taken, all_dropped}
+use Rattle.acvp_store.proofs.RowLists.{all_taken, all_dropped}
 use Rattle.acvp_store.proofs.Owned.{last_number, in_range, range_drops, rising_dropped, request_numbers, request_selection}
-use Rattle.acvp_store.proofs.Paging.{paged, capped_page}
+use Rattle.acvp_store.proofs.OrderedPages.{paged, capped_page}
 use Rattle.acvp_store.proofs.PageTexts.{within, whole_request, find_request, request_is, request_plain, request_unlisted, request_columns, page_requests, requests_is, requests_plain, requests_unlisted}
 use Rattle.acvp_store.proofs.Parts.{and_true}
-use Rattle.acvp_store.proofs.Selecting.{test_equals, test_none, selected}
+use Rattle.acvp_store.proofs.SelectedRows.{test_equals, test_none, selected}
 use Rattle.acvp_store.proofs.Sound.{kinds_of}
 use Rattle.acvp_store.proofs.Texts.{equals}
 
@@ -82,13 +82,13 @@ summaries_read (r ∷ list) kinds reads = (subject_reads r.body kinds.0 reads.0,
 -- ---- by its number
 
 rows_by : (layout : Layout) (k : ℤ) (p : RequestRow → Bool) → ((r : RequestRow) → is_true (binary (Compare Eq Binary) (whole r.number) (Int k)) ≡ p r) → (old new : State) (rows : List Row) → old.now.schema ≡ schema_of layout → Shown find_request (Int k ∷ []) old new rows
-    → (list : List RequestRow) (kept : IsKept request_key request_row (old.now.trees request_tree) list) → IsPermutation (map request_shown (filter p kept.ordered)) rows
+    → (list : List RequestRow) (kept : AreKept request_key request_row (old.now.trees request_tree) list) → IsPermutation (map request_shown (filter p kept.ordered)) rows
 rows_by layout k p tests old new rows schema h list kept =
     selected (Int k ∷ []) request_row p (equals 0 0 ∷ []) (λ r. rw tests (and_true _)) request_tree whole_request request_shown (λ r. refl) (overlay old.now.trees []) kept.ordered rows kept.rows_are
     ((reads_as find_request (Int k ∷ []) old new (schema_of layout) schema _ (request_is layout) (request_plain layout) (request_unlisted layout) rows h).answer Null)
 
 request_rows : (layout : Layout) (n : ℕ) (k : ℤ) → (n < 2 ^ 63 → k ≡ pos n) → (2 ^ 63 ≤ n → k ≡ negsuc 0) → (old new : State) (rows : List Row) → old.now.schema ≡ schema_of layout → Shown find_request (Int k ∷ []) old new rows
-    → (list : List RequestRow) (kept : IsKept request_key request_row (old.now.trees request_tree) list) → IsPermutation (map request_shown (keyed request_key n kept.ordered)) rows
+    → (list : List RequestRow) (kept : AreKept request_key request_row (old.now.trees request_tree) list) → IsPermutation (map request_shown (keyed request_key n kept.ordered)) rows
 request_rows layout n k fits large old new rows schema h list kept = elim (small_or_large n) [
   | inl low ↦ rows_by layout k (λ r. r.number == n) (λ r. rw (fits low) (test_equals r.number n)) old new rows schema h list kept
   | inr high ↦ rw (none_fits request_key n kept.ordered high kept.fits) (rw (none_passes kept.ordered) at (rows_by layout k (λ r. false) (λ r. rw (large high) (test_none r.number)) old new rows schema h list kept))

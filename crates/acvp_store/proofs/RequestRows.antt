@@ -18,7 +18,7 @@ use Rattle.acvp_tables.specs.State.{given_number}
 use Rattle.acvp_tables.specs.declared.rows.RequestRow.{RequestRow}
 use Rattle.acvp_tables.specs.declared.rows.RequestStatus.{RequestStatus}
 use Rattle.sqlite_trees.proofs.ListLemmas.{all-append}
-use Rattle.acvp_store.specs.Kept.{IsKept}
+use Rattle.acvp_store.specs.Kept.{AreKept}
 use Rattle.acvp_store.specs.Values.{whole}
 use Rattle.acvp_store.specs.Schema.{Layout, schema_of, request_table}
 use Rattle.acvp_store.specs.Alters.{Alters}
@@ -26,13 +26,13 @@ use Rattle.acvp_store.specs.Stands.{request_tree, request_key, request_row, Hold
 use Rattle.acvp_store.specs.Private.Requests.{IsAsked}
 use Rattle.acvp_store.proofs.Effects.{insert_effect, update_effect}
 use Rattle.acvp_store.proofs.Parts.{and_true, cast_null, cast_whole, cast_option}
-use Rattle.acvp_store.proofs.Selecting.{test_equals}
+use Rattle.acvp_store.proofs.SelectedRows.{test_equals}
 use Rattle.acvp_store.proofs.Texts.{add_request, add_request_terms, decide_request, decide_query}
 
 -- ---- what is kept, with texts that read
 
 keeps_texts : (layout : Layout) (change : List RequestRow → List RequestRow) → ((list : List RequestRow) → AllByRecursion (λ (r : RequestRow). BodyReads r.body) list → AllByRecursion (λ (r : RequestRow). BodyReads r.body) (change list)) → (old new : Database)
-    → Alters layout request_tree (IsKept request_key request_row) change old new → Alters layout request_tree HoldsRequests change old new
+    → Alters layout request_tree (AreKept request_key request_row) change old new → Alters layout request_tree HoldsRequests change old new
 keeps_texts layout change keeps old new h = record {
   schema = h.schema;
   kept = λ list held. record { kept = h.kept list held.kept; texts = keeps list held.texts };

@@ -19,11 +19,11 @@ use Rattle.acvp_store.specs.Values.{whole}
 use Rattle.acvp_store.specs.Schema.{Layout, schema_of}
 use Rattle.acvp_store.specs.Stands.{request_tree, request_key, request_row, HoldsRequests}
 use Rattle.acvp_store.specs.Private.Summaries.{status_shown}
-use Rattle.acvp_store.proofs.Finding.{first_mapped}
+use Rattle.acvp_store.proofs.FoundRow.{first_mapped}
 use Rattle.acvp_store.proofs.Keyed.{keyed, keyed_same, find_is, none_fits, none_passes}
 use Rattle.acvp_store.proofs.PageTexts.{find_status, status_is, status_plain, status_unlisted, status_columns}
 use Rattle.acvp_store.proofs.Parts.{and_true}
-use Rattle.acvp_store.proofs.Selecting.{test_equals, test_none, selected}
+use Rattle.acvp_store.proofs.SelectedRows.{test_equals, test_none, selected}
 use Rattle.acvp_store.proofs.Texts.{equals}
 
 abbrev pub statuses : ℕ → List RequestRow → List RequestStatus

@@ -41,9 +41,9 @@ use Rattle.acvp_store.specs.Stands.{Entry, entry_row, HoldsEntries, HoldsReviewe
 use Rattle.acvp_store.proofs.Effects.{mode, task_of, concluded}
 use Rattle.acvp_store.proofs.Entries.{entry_for, map_last, rows_put, puts, was_free, removed, takes}
 use Rattle.acvp_store.proofs.Idle.{applied}
-use Rattle.acvp_store.proofs.Inserting.{not_false}
+use Rattle.acvp_store.proofs.InsertedRow.{not_false}
 use Rattle.acvp_store.proofs.Parts.{went, same_value, cast_null, cast_whole, both_true}
-use Rattle.acvp_store.proofs.Selecting.{test_equals, test_none, selected}
+use Rattle.acvp_store.proofs.SelectedRows.{test_equals, test_none, selected}
 use Rattle.acvp_store.proofs.Keyed.{none_passes}
 use Rattle.acvp_store.proofs.Places.{reviewers_at, of_reviewers, reviewers_seen}
 use Rattle.acvp_store.proofs.Texts.{reviewer_place, find_reviewer, reviewer_query, reviewer_is, reviewer_plain, reviewer_unlisted, add_reviewer, add_reviewer_terms, remove_reviewer, remove_query}

@@ -19,12 +19,12 @@ use Rattle.acvp_store.specs.Private.Columns.{account_columns, capability_column,
 use Rattle.acvp_store.specs.Private.Sets.{ShortColumns, short_columns, is_live_row, IsJudged, IsSummary, IsSummaryOf}
 use Rattle.acvp_store.specs.Private.Shown.{is_of, is_under}
 use Rattle.acvp_store.specs.Private.SetTexts.{IsOfCapability, TellsCapability}
-use Rattle.acvp_store.proofs.Meeting.{test_from, test_until, test_other, rows_under, selected_in_order}
+use Rattle.acvp_store.proofs.QueryRows.{test_from, test_until, test_other, rows_under, selected_in_order}
 use Rattle.acvp_store.proofs.PageTexts.{find_object, object_fields, object_is, object_plain, object_unlisted, find_request, whole_request, request_is, request_plain, request_unlisted, find_status, status_columns as status_terms, status_is, status_plain, status_unlisted}
 use Rattle.acvp_store.proofs.Parts.{both_true}
 use Rattle.acvp_store.proofs.Places.{sets_seen}
 use Rattle.acvp_store.proofs.SessionSets.{three_true}
-use Rattle.acvp_store.proofs.Selecting.{null_flag, selected}
+use Rattle.acvp_store.proofs.SelectedRows.{null_flag, selected}
 use Rattle.acvp_store.proofs.Texts.{equals, find_capability, capability_is, capability_plain, capability_unlisted, find_account, account_query, account_is, account_plain, account_unlisted, find_session, session_query, session_is, session_plain, session_unlisted, short_terms, find_set, set_is, set_plain, set_unlisted, find_sets, sets_query, sets_is, sets_plain, sets_unlisted}
 use Rattle.acvp_store.proofs.Versions.{map_same, test_whole}
 

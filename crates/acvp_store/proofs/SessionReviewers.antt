@@ -24,8 +24,8 @@ use Rattle.acvp_store.specs.Values.{whole}
 use Rattle.acvp_store.specs.Schema.{Layout, schema_of}
 use Rattle.acvp_store.specs.Stands.{Entry, entry_row, HoldsReviewers, reviewer_columns, reviewer_tree}
 use Rattle.acvp_store.proofs.Parts.{and_true}
-use Rattle.acvp_store.proofs.Ranging.{ranged}
-use Rattle.acvp_store.proofs.Selecting.{test_equals, test_none}
+use Rattle.acvp_store.proofs.OrderedColumn.{ranged}
+use Rattle.acvp_store.proofs.SelectedRows.{test_equals, test_none}
 use Rattle.acvp_store.proofs.Keyed.{none_left, none_passes}
 use Rattle.acvp_store.proofs.ReviewerRows.{small_or_large}
 use Rattle.acvp_store.proofs.Places.{reviewers_seen}

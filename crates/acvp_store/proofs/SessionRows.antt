@@ -16,11 +16,11 @@ use Rattle.acvp_tables.specs.declared.rows.SessionRow.{SessionRow}
 use Rattle.acvp_tables.specs.declared.change.NewSession.{NewSession}
 use Rattle.acvp_store.specs.Values.{whole}
 use Rattle.acvp_store.specs.Schema.{Layout, schema_of}
-use Rattle.acvp_store.specs.Kept.{IsKept}
+use Rattle.acvp_store.specs.Kept.{AreKept}
 use Rattle.acvp_store.specs.Rows.{session_tree, session_key, session_row, HoldsSessions, session_shown}
 use Rattle.acvp_store.proofs.Keyed.{keyed, none_fits, none_passes}
 use Rattle.acvp_store.proofs.Parts.{and_true}
-use Rattle.acvp_store.proofs.Selecting.{test_equals, test_none, selected}
+use Rattle.acvp_store.proofs.SelectedRows.{test_equals, test_none, selected}
 use Rattle.acvp_store.proofs.Texts.{find_session, session_query, session_is, session_plain, session_unlisted}
 use Rattle.std.specs.Prelude.{drop}
 use Rattle.sqlite.specs.Values.{or_null}
@@ -44,14 +44,14 @@ use Rattle.acvp_store.proofs.Effects.{insert_effect, update_effect}
 
 -- the rows that pass, where the parameter's test is p
 rows_by : (layout : Layout) (k : ℤ) (p : SessionRow → Bool) → ((s : SessionRow) → is_true (binary (Compare Eq Binary) (whole s.number) (Int k)) ≡ p s) → (old new : State) (rows : List Row) → old.now.schema ≡ schema_of layout → Shown find_session (Int k ∷ []) old new rows
-    → (list : List SessionRow) (kept : IsKept session_key session_row (old.now.trees session_tree) list) → IsPermutation (map session_shown (filter p kept.ordered)) rows
+    → (list : List SessionRow) (kept : AreKept session_key session_row (old.now.trees session_tree) list) → IsPermutation (map session_shown (filter p kept.ordered)) rows
 rows_by layout k p tests old new rows schema h list kept =
     selected (Int k ∷ []) session_row p session_query.filter (λ s. rw tests (and_true _)) session_tree session_query.project session_shown (λ s. refl) (overlay old.now.trees []) kept.ordered rows kept.rows_are
     ((reads_as find_session (Int k ∷ []) old new (schema_of layout) schema _ (session_is layout) (session_plain layout) (session_unlisted layout) rows h).answer Null)
 
 -- the number as it is asked for: itself, or one that no column has
 pub session_rows : (layout : Layout) (n : ℕ) (k : ℤ) → (n < 2 ^ 63 → k ≡ pos n) → (2 ^ 63 ≤ n → k ≡ negsuc 0) → (old new : State) (rows : List Row) → old.now.schema ≡ schema_of layout → Shown find_session (Int k ∷ []) old new rows
-    → (list : List SessionRow) (kept : IsKept session_key session_row (old.now.trees session_tree) list) → IsPermutation (map session_shown (keyed session_key n kept.ordered)) rows
+    → (list : List SessionRow) (kept : AreKept session_key session_row (old.now.trees session_tree) list) → IsPermutation (map session_shown (keyed session_key n kept.ordered)) rows
 session_rows layout n k fits large old new rows schema h list kept = elim (small_or_large n) [
   | inl low ↦ rows_by layout k (λ s. s.number == n) (λ s. rw (fits low) (test_equals s.number n)) old new rows schema h list kept
   | inr high ↦ rw (none_fits session_key n kept.ordered high kept.fits) (rw (none_passes kept.ordered) at (rows_by layout k (λ s. false) (λ s. rw (large high) (test_none s.number)) old new rows schema h list kept))

@@ -28,12 +28,12 @@ use Rattle.acvp_tables.proofs.Numbers.{keyed, sets_numbered}
 use Rattle.acvp_tables.proofs.Selections.{sets_follow}
 use Rattle.acvp_store.specs.Values.{whole, flag}
 use Rattle.acvp_store.specs.Schema.{Layout, schema_of}
-use Rattle.acvp_store.specs.Kept.{IsKept}
+use Rattle.acvp_store.specs.Kept.{AreKept}
 use Rattle.acvp_store.specs.Stands.{SetColumns, set_key, set_row, set_tree, IsSet, HoldsSets}
 use Rattle.acvp_store.specs.Private.Sets.{ShortColumns, short_shown, short_of, IsSummary}
 use Rattle.acvp_store.proofs.Parts.{and_true}
-use Rattle.acvp_store.proofs.Ranging.{ranged}
-use Rattle.acvp_store.proofs.Selecting.{truth_back, test_differs, test_at_least, test_at_most}
+use Rattle.acvp_store.proofs.OrderedColumn.{ranged}
+use Rattle.acvp_store.proofs.SelectedRows.{truth_back, test_differs, test_at_least, test_at_most}
 use Rattle.acvp_store.proofs.SetRows.{set_shown, short_shows, summary_is}
 use Rattle.acvp_store.proofs.Places.{sets_seen}
 use Rattle.acvp_store.proofs.Texts.{find_sets, sets_query, sets_is, sets_plain, sets_unlisted}
@@ -59,7 +59,7 @@ pub three_true : (a b c d e f : Bool) → a ≡ d → b ≡ e → c ≡ f → (a
 three_true a b c d e f p q r = rw (p, q, r, and_true f) refl
 
 pub live_rows : (layout : Layout) (s : ℕ) (old new : State) (rows : List Row) → old.now.schema ≡ schema_of layout → Shown find_sets (whole (s * 100) ∷ whole (s * 100 + 99) ∷ []) old new rows
-    → (columns : List SetColumns) → IsKept set_key set_row (old.now.trees (set_tree layout)) columns → Rising (filter (is_live_set s) columns) → rows ≡ map set_shown (filter (is_live_set s) columns)
+    → (columns : List SetColumns) → AreKept set_key set_row (old.now.trees (set_tree layout)) columns → Rising (filter (is_live_set s) columns) → rows ≡ map set_shown (filter (is_live_set s) columns)
 live_rows layout s old new rows schema h columns kept rise =
     let params = whole (s * 100) ∷ whole (s * 100 + 99) ∷ [] in
     ranged params set_row (is_live_set s) (sets_query layout).filter (λ c. three_true _ _ _ _ _ _ (test_at_least c.number (s * 100)) (test_at_most c.number (s * 100 + 99)) (test_off c.cancelled)) (λ c. c) set_key set_shown
@@ -175,7 +175,7 @@ module _ {X L M E F G : Type 0} (s : ℕ) (table : List Row) (rows_in : X → Li
   pub find_live : (outcome : Result X E) (found : Result L F) (result : Result M G) → (IsOk found → IsOk outcome) → (IsOk result → IsOk found)
       → IfOk found (λ l. IfOk outcome (λ x. (list : List ShortColumns) → rows_in x ≡ map short_shown list → listed l ≡ list))
       → IfOk result (λ m. IfOk found (λ l. AllZip IsSummary (listed l) (told m)))
-      → IfOk outcome (λ x. (columns : List SetColumns) → IsKept set_key set_row table columns → Rising (filter (is_live_set s) columns) → rows_in x ≡ map set_shown (filter (is_live_set s) columns))
+      → IfOk outcome (λ x. (columns : List SetColumns) → AreKept set_key set_row table columns → Rising (filter (is_live_set s) columns) → rows_in x ≡ map set_shown (filter (is_live_set s) columns))
       → IfOk result (λ m. (c : Content) → IsSound c → HoldsSets table c.sets → told m ≡ map set_summary (live_sets s c.sets))
   find_live outcome found (Err g) ok_found ok_result lists tells rows = tt
   find_live outcome (Err f) (Ok m) ok_found ok_result lists tells rows = absurd (let impossible = ok_result refl in cc)

@@ -41,13 +41,13 @@ use Rattle.acvp_store.specs.Values.{whole, flag}
 use Rattle.acvp_store.specs.Schema.{Layout, schema_of, set_table}
 use Rattle.acvp_store.specs.Alters.{Alters}
 use Rattle.acvp_store.specs.Connection.{UnderStore, Both}
-use Rattle.acvp_store.specs.Kept.{IsKept}
+use Rattle.acvp_store.specs.Kept.{AreKept}
 use Rattle.acvp_store.specs.Stands.{SetColumns, set_key, set_row, set_tree, disposition_number, IsGradedAs, IsSet, HoldsSets}
 use Rattle.acvp_store.specs.Private.Sets.{ShortColumns, short_shown, short_of, IsDispositionOf, IsGiven, IsSummary, IsSummaryOf, new_set, AddsSets}
 use Rattle.acvp_store.specs.Private.SetTexts.{text_shown, TellsCapability, AreVerdictsOf}
 use Rattle.acvp_store.proofs.Keyed.{none_passes, keyed, changing, keyed_same, find_is, none_fits}
 use Rattle.acvp_store.proofs.Parts.{and_true, cast_null, cast_whole, cast_flag, cast_option, cast_text_option}
-use Rattle.acvp_store.proofs.Selecting.{null_flag, test_equals, test_none, selected}
+use Rattle.acvp_store.proofs.SelectedRows.{null_flag, test_equals, test_none, selected}
 use Rattle.acvp_store.proofs.Effects.{insert_effect, update_effect, spares_then}
 use Rattle.acvp_store.proofs.Places.{sets_at, sets_seen}
 use Rattle.acvp_store.proofs.Texts.{set_place, simple, equals, short_terms, find_set, set_is, set_plain, set_unlisted, find_capability, capability_is, capability_plain, capability_unlisted, find_verdicts, verdicts_is, verdicts_plain, verdicts_unlisted, cancel_set, cancel_set_query, grade_set, grade_query, add_set, add_set_terms}
@@ -78,13 +78,13 @@ not_given c text number v n none (Some d) is =
 module _ (layout : Layout) (text : List ℕ) (names : List (List ℕ)) (project : List Term) (show : SetColumns → Row) (shows : (k : ℤ) (c : SetColumns) → eval_all project ((Int k ∷ []) ∷ set_row c ∷ []) ≡ show c)
     (is : command_of (understood (schema_of layout) text) ≡ Select (record { lets = []; body = simple (set_tree layout) (equals 0 0 ∷ []) project }) names) (plain : IsPlain (understood (schema_of layout) text)) (unlisted : reads_listing (schema_of layout) text ≡ false) where
   rows_by : (k : ℤ) (p : SetColumns → Bool) → ((c : SetColumns) → is_true (binary (Compare Eq Binary) (whole c.number) (Int k)) ≡ p c) → (old new : State) (rows : List Row) → old.now.schema ≡ schema_of layout → Shown text (Int k ∷ []) old new rows
-      → (list : List SetColumns) (kept : IsKept set_key set_row (old.now.trees (set_tree layout)) list) → IsPermutation (map show (filter p kept.ordered)) rows
+      → (list : List SetColumns) (kept : AreKept set_key set_row (old.now.trees (set_tree layout)) list) → IsPermutation (map show (filter p kept.ordered)) rows
   rows_by k p tests old new rows schema h list kept =
       selected (Int k ∷ []) set_row p (equals 0 0 ∷ []) (λ c. rw tests (and_true _)) (set_tree layout) project show (shows k) (overlay old.now.trees []) kept.ordered rows (sets_seen layout old.now.trees ∙ kept.rows_are)
       ((reads_as text (Int k ∷ []) old new (schema_of layout) schema _ is plain unlisted rows h).answer Null)
 
   pub rows_at : (n : ℕ) (k : ℤ) → (n < 2 ^ 63 → k ≡ pos n) → (2 ^ 63 ≤ n → k ≡ negsuc 0) → (old new : State) (rows : List Row) → old.now.schema ≡ schema_of layout → Shown text (Int k ∷ []) old new rows
-      → (list : List SetColumns) (kept : IsKept set_key set_row (old.now.trees (set_tree layout)) list) → IsPermutation (map show (keyed set_key n kept.ordered)) rows
+      → (list : List SetColumns) (kept : AreKept set_key set_row (old.now.trees (set_tree layout)) list) → IsPermutation (map show (keyed set_key n kept.ordered)) rows
   rows_at n k fits large old new rows schema h list kept = elim (small_or_large n) [
     | inl low ↦ rows_by k (λ c. c.number == n) (λ c. rw (fits low) (test_equals c.number n)) old new rows schema h list kept
     | inr high ↦ rw (none_fits set_key n kept.ordered high kept.fits) (rw (none_passes kept.ordered) at (rows_by k (λ c. false) (λ c. rw (large high) (test_none c.number)) old new rows schema h list kept))
@@ -94,15 +94,15 @@ module _ (layout : Layout) (text : List ℕ) (names : List (List ℕ)) (project 
       small_or_large n = search arith
 
 pub set_rows : (layout : Layout) (n : ℕ) (k : ℤ) → (n < 2 ^ 63 → k ≡ pos n) → (2 ^ 63 ≤ n → k ≡ negsuc 0) → (old new : State) (rows : List Row) → old.now.schema ≡ schema_of layout → Shown find_set (Int k ∷ []) old new rows
-    → (list : List SetColumns) (kept : IsKept set_key set_row (old.now.trees (set_tree layout)) list) → IsPermutation (map set_shown (keyed set_key n kept.ordered)) rows
+    → (list : List SetColumns) (kept : AreKept set_key set_row (old.now.trees (set_tree layout)) list) → IsPermutation (map set_shown (keyed set_key n kept.ordered)) rows
 set_rows layout = rows_at layout find_set _ short_terms set_shown (λ k. short_shows (Int k ∷ [])) (set_is layout) (set_plain layout) (set_unlisted layout)
 
 pub capability_rows : (layout : Layout) (n : ℕ) (k : ℤ) → (n < 2 ^ 63 → k ≡ pos n) → (2 ^ 63 ≤ n → k ≡ negsuc 0) → (old new : State) (rows : List Row) → old.now.schema ≡ schema_of layout → Shown find_capability (Int k ∷ []) old new rows
-    → (list : List SetColumns) (kept : IsKept set_key set_row (old.now.trees (set_tree layout)) list) → IsPermutation (map (λ c. text_shown (Some c.capability)) (keyed set_key n kept.ordered)) rows
+    → (list : List SetColumns) (kept : AreKept set_key set_row (old.now.trees (set_tree layout)) list) → IsPermutation (map (λ c. text_shown (Some c.capability)) (keyed set_key n kept.ordered)) rows
 capability_rows layout = rows_at layout find_capability _ (col 1 3 ∷ []) (λ c. text_shown (Some c.capability)) (λ k c. refl) (capability_is layout) (capability_plain layout) (capability_unlisted layout)
 
 pub verdict_rows : (layout : Layout) (n : ℕ) (k : ℤ) → (n < 2 ^ 63 → k ≡ pos n) → (2 ^ 63 ≤ n → k ≡ negsuc 0) → (old new : State) (rows : List Row) → old.now.schema ≡ schema_of layout → Shown find_verdicts (Int k ∷ []) old new rows
-    → (list : List SetColumns) (kept : IsKept set_key set_row (old.now.trees (set_tree layout)) list) → IsPermutation (map (λ c. text_shown c.verdicts) (keyed set_key n kept.ordered)) rows
+    → (list : List SetColumns) (kept : AreKept set_key set_row (old.now.trees (set_tree layout)) list) → IsPermutation (map (λ c. text_shown c.verdicts) (keyed set_key n kept.ordered)) rows
 verdict_rows layout = rows_at layout find_verdicts _ (col 1 6 ∷ []) (λ c. text_shown c.verdicts) (λ k c. refl) (verdicts_is layout) (verdicts_plain layout) (verdicts_unlisted layout)
 
 -- ---- what they tell
@@ -161,7 +161,7 @@ module _ {B Y : Type 0} (of : SetColumns → B) (Tells : Option B → Y → Type
     pub find_told : (outcome : Result X E) (found : Result (Option B) F) (result : Result Z G) → (IsOk found → IsOk outcome) → (IsOk result → IsOk found)
         → IfOk found (λ b. IfOk outcome (λ x. (list : List B) → IsPermutation (map shown list) (rows_in x) → b ≡ slice_get list 0))
         → IfOk result (λ z. IfOk found (λ b. Tells b (view z)))
-        → IfOk outcome (λ x. (list : List SetColumns) (kept : IsKept set_key set_row table list) → IsPermutation (map (λ c. shown (of c)) (keyed set_key n kept.ordered)) (rows_in x))
+        → IfOk outcome (λ x. (list : List SetColumns) (kept : AreKept set_key set_row table list) → IsPermutation (map (λ c. shown (of c)) (keyed set_key n kept.ordered)) (rows_in x))
         → IfOk result (λ z. (sets : List SetRow) → HoldsSets table sets → view z ≡ pick (set_at n sets))
     find_told outcome found (Err g) ok_found ok_result one tells rows = tt
     find_told outcome (Err f) (Ok z) ok_found ok_result one tells rows = absurd (let impossible = ok_result refl in cc)

@@ -16,7 +16,7 @@ use Rattle.sqlite_schema.specs.declared.command.Command.{Command}
 use Rattle.sqlite_schema.specs.declared.schema.Schema.{Schema}
 use Rattle.acvp_store.specs.Schema.{Layout, Created, schema_of}
 use Rattle.acvp_store.specs.Connection.{IsReady, Stays, IsWritten, Kept, IsInside, Under, UnderStore, Both}
-use Rattle.acvp_store.proofs.Reading.{clean_before}
+use Rattle.acvp_store.proofs.QueryLeaves.{clean_before}
 
 inside_kept : (sql : List ℕ) (params : Row) (old new : State) (r : Result ℕ Error) → ExecutesInside 0 sql params old new r → Kept old new
 inside_kept sql params old new (Ok count) h = record { was_open = λ _. h.1.was_open; committed = λ _. h.1.committed_is }

@@ -27,7 +27,7 @@ use Rattle.acvp_store.specs.Schema.{Migrated, schema_of, SchemaVersion, schema_a
 use Rattle.acvp_store.proofs.Keyed.{same_whole}
 use Rattle.acvp_store.proofs.Parts.{both_true}
 use Rattle.acvp_store.proofs.ReviewerRows.{any_passes}
-use Rattle.acvp_store.proofs.Selecting.{truth_back, selected}
+use Rattle.acvp_store.proofs.SelectedRows.{truth_back, selected}
 use Rattle.acvp_store.proofs.Texts.{find_version, find_version_query, find_version_is, find_version_plain, find_version_unlisted, find_old_sets, old_sets_query, FindsOldSets, old_sets_are, old_sets_were}
 
 -- a column of any type is tested against a text, and against a whole number

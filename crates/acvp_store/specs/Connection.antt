@@ -61,7 +61,8 @@ pub record IsRead {X E : Type 0} (result : Result X E) (old new : State) : Type 
   pub left : LeavesNoMore old new
 
 -- a change that is made whole or not at all
-pub record IsWritten {X E : Type 0} (result : Result X E) (old new : State) (Change : Database → Database → Type 0) : Type 0 where
+pub record IsWritten {X E : Type 0} (result : Result X E) (old new : State)
+    (Change : Database → Database → Type 0) : Type 0 where
   pub was_open : IsTrue new.is_open → IsTrue old.is_open
   pub was_clean : HasCleanDisk new → HasCleanDisk old
   pub live : OnOk result (HasCleanDisk new → IsTrue old.is_open → IsTrue new.is_open)
@@ -80,9 +81,11 @@ pub record Kept (old new : State) : Type 0 where
   pub committed : IsTrue new.is_open → new.committed ≡ old.committed
 
 -- a part of a transaction, which commits nothing
-pub record IsInside {X E : Type 0} (result : Result X E) (old new : State) (Change : Database → Database → Type 0) : Type 0 where
+pub record IsInside {X E : Type 0} (result : Result X E) (old new : State)
+    (Change : Database → Database → Type 0) : Type 0 where
   pub kept : IsTrue new.is_open → Kept old new
-  pub ok : OnOk result (IsTrue old.is_open → IsTrue old.in_transaction → HasCleanDisk new → IsTrue new.is_open × IsTrue new.in_transaction × Change old.now new.now)
+  pub ok : OnOk result (IsTrue old.is_open → IsTrue old.in_transaction → HasCleanDisk new
+      → IsTrue new.is_open × IsTrue new.in_transaction × Change old.now new.now)
   pub survives : Survives old new (λ _. ⊥)
 
 -- ---- changes

@@ -5,7 +5,8 @@ use Rattle.sqlite.specs.State.{State}
 use Rattle.sqlite_trees.specs.Tree.{Trees}
 use Rattle.acvp_tables.specs.Content.{Content}
 use Rattle.acvp_store.specs.Version.{HasVersion}
-use Rattle.acvp_store.specs.Schema.{Layout, Migrated, SchemaVersion, First, Second, Third, schema_at, schema_of, version_number}
+use Rattle.acvp_store.specs.Schema.{Layout, Migrated, SchemaVersion, First, Second, Third, schema_at, schema_of}
+use Rattle.acvp_store.specs.Schema.{version_number}
 use Rattle.acvp_store.specs.Stands.{StandsAt, Stands, HasNoOldSetsAt}
 
 -- the tables are those of the version, `meta` says so, and nothing is left in a table that they have no longer

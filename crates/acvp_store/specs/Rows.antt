@@ -7,7 +7,7 @@ use Rattle.sqlite_value.specs.Order.{Row}
 use Rattle.acvp_tables.specs.declared.rows.AccountRow.{AccountRow}
 use Rattle.acvp_tables.specs.declared.rows.SessionRow.{SessionRow}
 use Rattle.acvp_store.specs.Values.{whole, flag}
-use Rattle.acvp_store.specs.Kept.{IsKept}
+use Rattle.acvp_store.specs.Kept.{AreKept}
 
 -- ---- accounts
 
@@ -21,7 +21,7 @@ abbrev pub account_row : AccountRow → Row
 account_row a = whole a.number ∷ Null ∷ Blob a.secret ∷ flag a.enabled ∷ or_null whole a.last_step ∷ []
 
 abbrev pub HoldsAccounts : List Row → List AccountRow → Type 0
-HoldsAccounts = IsKept account_key account_row
+HoldsAccounts = AreKept account_key account_row
 
 -- its columns, as a query shows them
 abbrev pub account_shown : AccountRow → Row
@@ -40,7 +40,7 @@ session_row s = whole s.number ∷ Null ∷ whole s.account ∷ flag s.sample �
     ∷ or_null whole s.certify ∷ whole s.live ∷ whole s.passed ∷ []
 
 abbrev pub HoldsSessions : List Row → List SessionRow → Type 0
-HoldsSessions = IsKept session_key session_row
+HoldsSessions = AreKept session_key session_row
 
 abbrev pub session_shown : SessionRow → Row
 session_shown s = whole s.number ∷ whole s.account ∷ flag s.sample ∷ whole s.created ∷ flag s.cancelled

@@ -16,11 +16,25 @@ use Rattle.sqlite_value.specs.Keys.{plain}
 
 -- a column of a STRICT table, by its name, its type, and whether NULL is refused
 abbrev pub column_of : List ℕ → Kind → Bool → Column
-column_of name kind not_null = record { name = name; kind = kind; is_strict = true; not_null = not_null; default = Null; collation = Binary }
+column_of name kind not_null = record {
+  name = name;
+  kind = kind;
+  is_strict = true;
+  not_null = not_null;
+  default = Null;
+  collation = Binary;
+}
 
 -- the column at a place, from 1 on, refers to the key of a table
 abbrev pub refers : ℕ → List ℕ → Reference
-refers place parent = record { columns = place ∷ []; parent = parent; parent_columns = []; on_delete = NoAction; on_update = NoAction; is_deferred = false }
+refers place parent = record {
+  columns = place ∷ [];
+  parent = parent;
+  parent_columns = [];
+  on_delete = NoAction;
+  on_update = NoAction;
+  is_deferred = false;
+}
 
 -- a table whose first column is its INTEGER PRIMARY KEY
 abbrev pub table_by_number : List ℕ → ℕ → List Column → List Reference → Table
@@ -58,7 +72,14 @@ table_by_columns name tree key columns references = record {
 
 -- the index of such a table, whose own tree is the third
 abbrev pub index_by_columns : List ℕ → ℕ → ℕ → List ℕ → Index
-index_by_columns name tree table columns = record { name = name; tree = tree; table = table; columns = columns; order = plain; is_unique = true }
+index_by_columns name tree table columns = record {
+  name = name;
+  tree = tree;
+  table = table;
+  columns = columns;
+  order = plain;
+  is_unique = true;
+}
 
 -- ---- the tables, each in the tree that is given
 
@@ -68,41 +89,51 @@ meta_table tree = table_by_columns (codes "meta") tree (1 ∷ [])
 
 abbrev pub account_table : ℕ → Table
 account_table tree = table_by_number (codes "account") tree
-    (column_of (codes "account") Integer false ∷ column_of (codes "secret") Blob true ∷ column_of (codes "enabled") Integer true
+    (column_of (codes "account") Integer false ∷ column_of (codes "secret") Blob true
+    ∷ column_of (codes "enabled") Integer true
     ∷ column_of (codes "last_step") Integer false ∷ []) []
 
 abbrev pub session_table : ℕ → Table
 session_table tree = table_by_number (codes "session") tree
-    (column_of (codes "session") Integer false ∷ column_of (codes "account") Integer true ∷ column_of (codes "sample") Integer true
-    ∷ column_of (codes "created") Integer true ∷ column_of (codes "cancelled") Integer true ∷ column_of (codes "certify") Integer false
+    (column_of (codes "session") Integer false ∷ column_of (codes "account") Integer true
+    ∷ column_of (codes "sample") Integer true
+    ∷ column_of (codes "created") Integer true ∷ column_of (codes "cancelled") Integer true
+    ∷ column_of (codes "certify") Integer false
     ∷ column_of (codes "live") Integer true ∷ column_of (codes "passed") Integer true ∷ [])
     (refers 2 (codes "account") ∷ refers 6 (codes "request") ∷ [])
 
 abbrev pub set_table : ℕ → Table
 set_table tree = table_by_number (codes "vset2") tree
-    (column_of (codes "vs") Integer false ∷ column_of (codes "session") Integer true ∷ column_of (codes "capability") Text true
-    ∷ column_of (codes "cancelled") Integer true ∷ column_of (codes "answers") Text false ∷ column_of (codes "verdicts") Text false
+    (column_of (codes "vs") Integer false ∷ column_of (codes "session") Integer true
+    ∷ column_of (codes "capability") Text true
+    ∷ column_of (codes "cancelled") Integer true ∷ column_of (codes "answers") Text false
+    ∷ column_of (codes "verdicts") Text false
     ∷ column_of (codes "disposition") Integer false ∷ column_of (codes "epoch") Integer true ∷ [])
     (refers 2 (codes "session") ∷ [])
 
 -- the table of sets before schema 2
 abbrev pub old_set_table : ℕ → Table
 old_set_table tree = table_by_number (codes "vset") tree
-    (column_of (codes "vs") Integer false ∷ column_of (codes "session") Integer true ∷ column_of (codes "capability") Text true
-    ∷ column_of (codes "cancelled") Integer true ∷ column_of (codes "answers") Text false ∷ column_of (codes "verdicts") Text false
+    (column_of (codes "vs") Integer false ∷ column_of (codes "session") Integer true
+    ∷ column_of (codes "capability") Text true
+    ∷ column_of (codes "cancelled") Integer true ∷ column_of (codes "answers") Text false
+    ∷ column_of (codes "verdicts") Text false
     ∷ column_of (codes "disposition") Integer false ∷ [])
     (refers 2 (codes "session") ∷ [])
 
 abbrev pub object_table : ℕ → Table
 object_table tree = table_by_columns (codes "object") tree (1 ∷ 2 ∷ [])
-    (column_of (codes "kind") Integer true ∷ column_of (codes "number") Integer true ∷ column_of (codes "account") Integer true
+    (column_of (codes "kind") Integer true ∷ column_of (codes "number") Integer true
+    ∷ column_of (codes "account") Integer true
     ∷ column_of (codes "body") Text true ∷ [])
     (refers 3 (codes "account") ∷ [])
 
 abbrev pub request_table : ℕ → Table
 request_table tree = table_by_number (codes "request") tree
-    (column_of (codes "request") Integer false ∷ column_of (codes "account") Integer true ∷ column_of (codes "kind") Integer true
-    ∷ column_of (codes "body") Text true ∷ column_of (codes "status") Integer true ∷ column_of (codes "approved") Integer false ∷ [])
+    (column_of (codes "request") Integer false ∷ column_of (codes "account") Integer true
+    ∷ column_of (codes "kind") Integer true
+    ∷ column_of (codes "body") Text true ∷ column_of (codes "status") Integer true
+    ∷ column_of (codes "approved") Integer false ∷ [])
     (refers 2 (codes "account") ∷ [])
 
 abbrev pub reviewer_table : ℕ → Table
@@ -138,7 +169,8 @@ reviewer_index Migrated = index_by_columns (codes "sqlite_autoindex_reviewer_1")
 -- the tables of schema 3, and the indexes that their keys make
 abbrev pub schema_of : Layout → Schema
 schema_of layout = record {
-  tables = meta_table 0 ∷ account_table 2 ∷ session_table 3 ∷ fourth_table layout ∷ object_table 5 ∷ request_table 7 ∷ last_tables layout;
+  tables = meta_table 0 ∷ account_table 2 ∷ session_table 3 ∷ fourth_table layout ∷ object_table 5 ∷ request_table 7
+      ∷ last_tables layout;
   indexes = index_by_columns (codes "sqlite_autoindex_meta_1") 1 0 (1 ∷ [])
       ∷ index_by_columns (codes "sqlite_autoindex_object_1") 6 5 (1 ∷ 2 ∷ [])
       ∷ reviewer_index layout ∷ [];
@@ -173,7 +205,8 @@ later_sets Migrated = set_table 8 ∷ []
 -- the tables of schema 2: those of schema 3 without the reviewers, in one of the same two ways
 abbrev pub second_schema : Layout → Schema
 second_schema layout = record {
-  tables = meta_table 0 ∷ account_table 2 ∷ session_table 3 ∷ fourth_table layout ∷ object_table 5 ∷ request_table 7 ∷ later_sets layout;
+  tables = meta_table 0 ∷ account_table 2 ∷ session_table 3 ∷ fourth_table layout ∷ object_table 5 ∷ request_table 7
+      ∷ later_sets layout;
   indexes = first_indexes;
   views = [];
 }

@@ -1,5 +1,6 @@
 -- Which rows of the tables stand for a content.
-use Rattle.std.specs.Prelude.{◌≡◌, ◌<◌, ◌<ℤ◌, ◌^◌, ⊤, ℕ, ℤ, Bool, List, [], ◌∷◌, map, codes, Option, Some, None, Ok, unwrap_or}
+use Rattle.std.specs.Prelude.{◌≡◌, ◌<◌, ◌<ℤ◌, ◌^◌, ⊤, ℕ, ℤ, Bool, List, [], ◌∷◌, map, codes, Option, Some, None, Ok}
+use Rattle.std.specs.Prelude.{unwrap_or}
 use Rattle.std.specs.List.{AllZip, AllByRecursion}
 use Rattle.std.specs.List.Sorted.{IsPermutation}
 use Rattle.serde_json.specs.Data.{Data, number, unsigned, string, object, member, no_members}
@@ -31,7 +32,7 @@ use Rattle.acvp_tables.specs.declared.rows.RequestStatus.TheVariants as status
 use Rattle.acvp_tables.specs.declared.rows.Certification.{Certification}
 use Rattle.acvp_tables.specs.declared.rows.ReviewerRow.{ReviewerRow}
 use Rattle.acvp_store.specs.Values.{whole, flag}
-use Rattle.acvp_store.specs.Kept.{IsKept}
+use Rattle.acvp_store.specs.Kept.{AreKept}
 use Rattle.acvp_store.specs.Version.{HasVersion}
 use Rattle.acvp_store.specs.Schema.{Layout, Created, Migrated, SchemaVersion, First, Second, Third, version_number}
 use Rattle.acvp_store.specs.Rows.{account_tree, HoldsAccounts, session_tree, HoldsSessions}
@@ -72,7 +73,8 @@ disposition_number Unreceived = None
 abbrev pub IsGradedAs : SetColumns → Option GradedValue → Type 0
 IsGradedAs c None = (c.answers ≡ None) × (c.verdicts ≡ None) × (c.disposition ≡ None)
 IsGradedAs c (Some g) = (c.answers ≡ Some (kept_text g.answers)) × (c.verdicts ≡ Some (verdicts_text g.verdicts))
-    × (n : ℕ) × (c.disposition ≡ Some n) × (disposition_number g.disposition ≡ Some n) × (kept_answers (kept_text g.answers) ≡ Some g.answers)
+    × (n : ℕ) × (c.disposition ≡ Some n) × (disposition_number g.disposition ≡ Some n)
+    × (kept_answers (kept_text g.answers) ≡ Some g.answers)
     × (g.disposition ≡ disposition_of g.verdicts)
 
 -- the columns are those of the set: the text of the capability reads as it
@@ -86,12 +88,13 @@ pub record IsSet (c : SetColumns) (row : SetRow) : Type 0 where
 
 pub record HoldsSets (rows : List Row) (sets : List SetRow) : Type 0 where
   pub columns : List SetColumns
-  pub kept : IsKept set_key set_row rows columns
+  pub kept : AreKept set_key set_row rows columns
   pub same : AllZip IsSet columns sets
 
 -- The earlier table of sets keeps no epoch.
 abbrev pub old_set_columns : SetColumns → Row
-old_set_columns c = Null ∷ whole c.session ∷ Text c.capability ∷ flag c.cancelled ∷ or_null Text c.answers ∷ or_null Text c.verdicts
+old_set_columns c =
+    Null ∷ whole c.session ∷ Text c.capability ∷ flag c.cancelled ∷ or_null Text c.answers ∷ or_null Text c.verdicts
     ∷ or_null whole c.disposition ∷ []
 
 abbrev pub old_set_row : SetColumns → Row
@@ -103,7 +106,7 @@ of_first_epoch c = record c { epoch = 0 }
 
 pub record HoldsOldSets (rows : List Row) (sets : List SetRow) : Type 0 where
   pub columns : List SetColumns
-  pub kept : IsKept set_key old_set_row rows columns
+  pub kept : AreKept set_key old_set_row rows columns
   pub same : AllZip IsSet (map of_first_epoch columns) sets
 
 -- ---- tables under a key of two columns: each row has a number in its tree that the database chose
@@ -126,7 +129,8 @@ abbrev pub object_tree : ℕ
 object_tree = 5
 
 abbrev pub object_columns : ObjectRow → Row
-object_columns o = whole (kind_number o.object.kind) ∷ whole o.number ∷ whole o.account ∷ Text (object_text o.object) ∷ []
+object_columns o =
+    whole (kind_number o.object.kind) ∷ whole o.number ∷ whole o.account ∷ Text (object_text o.object) ∷ []
 
 abbrev pub HoldsObjects : List Row → List ObjectRow → Type 0
 HoldsObjects = HoldsEntries object_columns
@@ -171,7 +175,8 @@ body_text (body.Certification c) = compact_text (certification_data c)
 -- the text reads as the body, and the numbers of what a certification names fit 64 bits
 abbrev pub BodyReads : RequestBody → Type 0
 BodyReads (body.Registration o) = body_json (object_text o) ≡ Some o.value
-BodyReads (body.Certification c) = (body_json (compact_text (certification_data c)) ≡ Some (certification_data c)) × (c.«module» < 2 ^ 64) × (c.environment < 2 ^ 64)
+BodyReads (body.Certification c) = (body_json (compact_text (certification_data c)) ≡ Some (certification_data c))
+    × (c.«module» < 2 ^ 64) × (c.environment < 2 ^ 64)
 
 abbrev pub status_number : RequestStatus → ℕ
 status_number status.Initial = 0
@@ -189,7 +194,7 @@ abbrev pub request_key : RequestRow → ℕ
 request_key r = r.number
 
 pub record HoldsRequests (rows : List Row) (requests : List RequestRow) : Type 0 where
-  pub kept : IsKept request_key request_row rows requests
+  pub kept : AreKept request_key request_row rows requests
   pub texts : AllByRecursion (λ (r : RequestRow). BodyReads r.body) requests
 
 -- ---- the whole

@@ -5,6 +5,7 @@ use Rattle.sqlite.specs.State.{HasCleanDisk}
 use Rattle.sqlite_trees.specs.declared.store.Store.{Ghosts}
 use Rattle.sqlite_trees.specs.Tree.{Trees}
 use Rattle.acvp_tables.specs.Content.{Content, no_rows}
+use Rattle.acvp_tables.specs.Meaning.{Meaning}
 use Rattle.acvp_tables.specs.declared.tables.StoreFault.{StoreFault}
 use Rattle.acvp_store.specs.Connection.{IsStore}
 use Rattle.acvp_store.specs.Schema.{Layout, Created, Migrated, schema_of, SchemaVersion, Third, schema_at}
@@ -37,7 +38,8 @@ IsStoreOf db c = (layout : Layout) × IsStoreAt (Third layout) db c
 
 -- each content stands in the tables of its version, as in the earlier trees, or in those of schema 3
 abbrev pub IsOldOrMigrated : Trees → Trees → Type 0
-IsOldOrMigrated old db = (version : SchemaVersion) (c : Content) → IsStoreAt version old c → IsStoreAt version db c ⊎ IsStoreOf db c
+IsOldOrMigrated old db =
+    (version : SchemaVersion) (c : Content) → IsStoreAt version old c → IsStoreAt version db c ⊎ IsStoreOf db c
 
 module _ {S : Type 0} (g : Ghosts S) where
   -- the tables are the store's, and their rows stand for the content
@@ -56,3 +58,7 @@ module _ {S : Type 0} (g : Ghosts S) where
   -- while the disk tells no lie, whatever an open finds after a crash is a store's database with one of the two
   abbrev pub leaves : Held S → Content → Content → Type 0
   leaves t c d = HasCleanDisk (state g t) → (db : Trees) → (state g t).may_leave db → IsStoreOf db c ⊎ IsStoreOf db d
+
+  -- what a state of the store means
+  abbrev pub meaning_of : Meaning (Held S)
+  meaning_of = record { stands = stands; is_live = IsLive; is_clean = is_clean; leaves = leaves }

@@ -49,8 +49,13 @@ pub(crate) fn find_account<S: Alter>(
     number: u16,
 ) -> Result<Option<AccountRow>, StoreFault>
     requires { ServesStore (state S.Store conn.old) }
-    ensures found { IsTrue (state S.Store conn.new).is_open → IfOk result (λ found. (accounts : List Account) → HoldsAccounts ((state S.Store conn.old).now.trees account_tree) accounts → found ≡ account_at number accounts) }
-    ensures judged { IsTrue (state S.Store conn.new).is_open → IfOk result (λ _. AreMet (is_under number) account_columns account_shown (λ a. (a.number < 2 ^ 16) × (length a.secret ≡ 32)) ((state S.Store conn.old).now.trees account_tree)) }
+    ensures found { IsTrue (state S.Store conn.new).is_open
+        → IfOk result (λ found. (accounts : List Account)
+        → HoldsAccounts ((state S.Store conn.old).now.trees account_tree) accounts
+        → found ≡ account_at number accounts) }
+    ensures judged { IsTrue (state S.Store conn.new).is_open
+        → IfOk result (λ _. AreMet (is_under number) account_columns account_shown
+        (λ a. (a.number < 2 ^ 16) × (length a.secret ≡ 32)) ((state S.Store conn.old).now.trees account_tree)) }
     ensures read { IsRead result (state S.Store conn.old) (state S.Store conn.new) }
 {
     answered(conn.query_all(
@@ -66,7 +71,8 @@ impl Work for NewAccount {
     ghost use Rattle.acvp_store.specs.Connection.{UnderStore};
     ghost use Rattle.acvp_store.specs.Rows.{account_tree, HoldsAccounts};
 
-    ghost change = { λ a. UnderStore (λ layout. Alters layout account_tree HoldsAccounts (λ accounts. accounts ++ new_account a ∷ [])) };
+    ghost change = { λ a. UnderStore
+        (λ layout. Alters layout account_tree HoldsAccounts (λ accounts. accounts ++ new_account a ∷ [])) };
 
     fn run<S: Alter>(&self, tx: &mut Transaction<'_, S>) -> Result<(), StoreFault> {
         done(tx.execute(
@@ -82,7 +88,8 @@ impl Work for UsedStep {
     ghost use Rattle.acvp_store.specs.Connection.{UnderStore};
     ghost use Rattle.acvp_store.specs.Rows.{account_tree, HoldsAccounts};
 
-    ghost change = { λ u. UnderStore (λ layout. Alters layout account_tree HoldsAccounts (changed (is_account u.account) (with_step u.step))) };
+    ghost change = { λ u. UnderStore
+        (λ layout. Alters layout account_tree HoldsAccounts (changed (is_account u.account) (with_step u.step))) };
 
     fn run<S: Alter>(&self, tx: &mut Transaction<'_, S>) -> Result<(), StoreFault> {
         let step = fitting(self.step)?;
@@ -105,7 +112,8 @@ impl Work for DisabledAccount {
     ghost use Rattle.acvp_store.specs.Connection.{UnderStore};
     ghost use Rattle.acvp_store.specs.Rows.{account_tree, HoldsAccounts};
 
-    ghost change = { λ d. UnderStore (λ layout. Alters layout account_tree HoldsAccounts (changed (is_account d.account) disabled)) };
+    ghost change = { λ d. UnderStore
+        (λ layout. Alters layout account_tree HoldsAccounts (changed (is_account d.account) disabled)) };
 
     fn run<S: Alter>(&self, tx: &mut Transaction<'_, S>) -> Result<(), StoreFault> {
         done(tx.execute(

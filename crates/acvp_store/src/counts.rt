@@ -15,14 +15,16 @@ use crate::fault::fault_of;
 use crate::objects::kind_number;
 use crate::pages::page_of;
 use crate::shown::field;
-use acvp_registry::Kind;
-use acvp_tables::{Counted, Counts, StoreFault};
+use acvp_registry::{Counts, Kind};
+use acvp_tables::{Counted, StoreFault};
 use sqlite::{Alter, Connection, Error, Row, params};
 
 /// How many rows an account has, by the query for their greatest number.
 fn counted(account: u16, outcome: Result<Vec<Row>, Error>) -> Result<u64, StoreFault>
-    ensures found { IfOk result (λ found. IfOk outcome (λ rows. (n : ℕ) → rows.items ≡ greatest (account * 1000000) n → found ≡ n)) }
-    ensures refused { IfErr result (λ fault. fault ≡ StoreFault.Refused → IsRefusedOf (λ rows. (n : ℕ) → rows.items ≢ greatest (account * 1000000) n) outcome) }
+    ensures found { IfOk result (λ found. IfOk outcome (λ rows. (n : ℕ) → rows.items ≡ greatest (account * 1000000) n
+        → found ≡ n)) }
+    ensures refused { IfErr result (λ fault. fault ≡ StoreFault.Refused
+        → IsRefusedOf (λ rows. (n : ℕ) → rows.items ≢ greatest (account * 1000000) n) outcome) }
     ensures ok { IsOk result → IsOk outcome }
 {
     match outcome {
@@ -37,7 +39,8 @@ fn counted(account: u16, outcome: Result<Vec<Row>, Error>) -> Result<u64, StoreF
 /// How many numbers an account has given up to that in a row.
 fn given_since(account: u16, row: &Row) -> Result<u64, StoreFault>
     ensures given { IfOk result (λ n. column row.now 0 ≡ whole (account * 1000000 + n)) }
-    ensures refused { IfErr result (λ fault. fault ≡ StoreFault.Refused → 0 < length row.now → (n : ℕ) → column row.now 0 ≢ whole (account * 1000000 + n)) }
+    ensures refused { IfErr result (λ fault. fault ≡ StoreFault.Refused → 0 < length row.now → (n : ℕ)
+        → column row.now 0 ≢ whole (account * 1000000 + n)) }
 {
     let number: u64 = field(row, 0)?;
     match number.checked_sub(u64::from(account) * 1000000) {
@@ -49,7 +52,10 @@ fn given_since(account: u16, row: &Row) -> Result<u64, StoreFault>
 /// How many test sessions an account has.
 fn count_sessions<S: Alter>(conn: &mut Connection<S>, account: u16) -> Result<u64, StoreFault>
     requires { ServesStore (state S.Store conn.old) }
-    ensures found { IsTrue (state S.Store conn.new).is_open → IfOk result (λ found. (c : Content) → IsSound c → HoldsSessions ((state S.Store conn.old).now.trees session_tree) c.sessions → found ≡ length (sessions_of account c.sessions)) }
+    ensures found { IsTrue (state S.Store conn.new).is_open
+        → IfOk result (λ found. (c : Content) → IsSound c
+        → HoldsSessions ((state S.Store conn.old).now.trees session_tree) c.sessions
+        → found ≡ length (sessions_of account c.sessions)) }
     ensures read { IsRead result (state S.Store conn.old) (state S.Store conn.new) }
 {
     let at = page_of(account, 0, 0);
@@ -69,7 +75,10 @@ fn count_objects<S: Alter>(
     account: u16,
 ) -> Result<u64, StoreFault>
     requires { ServesStore (state S.Store conn.old) }
-    ensures found { IsTrue (state S.Store conn.new).is_open → IfOk result (λ found. (c : Content) → IsSound c → HoldsObjects ((state S.Store conn.old).now.trees object_tree) c.objects → found ≡ length (objects_of kind account c.objects)) }
+    ensures found { IsTrue (state S.Store conn.new).is_open
+        → IfOk result (λ found. (c : Content) → IsSound c
+        → HoldsObjects ((state S.Store conn.old).now.trees object_tree) c.objects
+        → found ≡ length (objects_of kind account c.objects)) }
     ensures read { IsRead result (state S.Store conn.old) (state S.Store conn.new) }
 {
     let at = page_of(account, 0, 0);
@@ -85,7 +94,10 @@ fn count_objects<S: Alter>(
 /// How many requests an account has.
 fn count_requests<S: Alter>(conn: &mut Connection<S>, account: u16) -> Result<u64, StoreFault>
     requires { ServesStore (state S.Store conn.old) }
-    ensures found { IsTrue (state S.Store conn.new).is_open → IfOk result (λ found. (c : Content) → IsSound c → HoldsRequests ((state S.Store conn.old).now.trees request_tree) c.requests → found ≡ length (requests_of account c.requests)) }
+    ensures found { IsTrue (state S.Store conn.new).is_open
+        → IfOk result (λ found. (c : Content) → IsSound c
+        → HoldsRequests ((state S.Store conn.old).now.trees request_tree) c.requests
+        → found ≡ length (requests_of account c.requests)) }
     ensures read { IsRead result (state S.Store conn.old) (state S.Store conn.new) }
 {
     let at = page_of(account, 0, 0);
@@ -105,7 +117,11 @@ pub(crate) fn find_count<S: Alter>(
     of: Counted,
 ) -> Result<u64, StoreFault>
     requires { ServesStore (state S.Store conn.old) }
-    ensures found { IsTrue (state S.Store conn.new).is_open → IfOk result (λ found. (c : Content) → IsSound c → HoldsSessions ((state S.Store conn.old).now.trees session_tree) c.sessions → HoldsObjects ((state S.Store conn.old).now.trees object_tree) c.objects → HoldsRequests ((state S.Store conn.old).now.trees request_tree) c.requests → found ≡ count_of of account c) }
+    ensures found { IsTrue (state S.Store conn.new).is_open
+        → IfOk result (λ found. (c : Content) → IsSound c
+        → HoldsSessions ((state S.Store conn.old).now.trees session_tree) c.sessions
+        → HoldsObjects ((state S.Store conn.old).now.trees object_tree) c.objects
+        → HoldsRequests ((state S.Store conn.old).now.trees request_tree) c.requests → found ≡ count_of of account c) }
     ensures read { IsRead result (state S.Store conn.old) (state S.Store conn.new) }
 {
     match of {
@@ -121,7 +137,11 @@ pub(crate) fn find_counts<S: Alter>(
     account: u16,
 ) -> Result<Counts, StoreFault>
     requires { ServesStore (state S.Store conn.old) }
-    ensures found { IsTrue (state S.Store conn.new).is_open → IfOk result (λ found. (c : Content) → IsSound c → HoldsSessions ((state S.Store conn.old).now.trees session_tree) c.sessions → HoldsObjects ((state S.Store conn.old).now.trees object_tree) c.objects → HoldsRequests ((state S.Store conn.old).now.trees request_tree) c.requests → found ≡ counts_of account c) }
+    ensures found { IsTrue (state S.Store conn.new).is_open
+        → IfOk result (λ found. (c : Content) → IsSound c
+        → HoldsSessions ((state S.Store conn.old).now.trees session_tree) c.sessions
+        → HoldsObjects ((state S.Store conn.old).now.trees object_tree) c.objects
+        → HoldsRequests ((state S.Store conn.old).now.trees request_tree) c.requests → found ≡ counts_of account c) }
     ensures read { IsRead result (state S.Store conn.old) (state S.Store conn.new) }
 {
     let sessions = count_sessions(conn, account)?;

@@ -3,7 +3,8 @@ ghost use Rattle.std.specs.Prelude.{◌≡◌};
 ghost use Rattle.sqlite.specs.Held.{state};
 ghost use Rattle.acvp_store.specs.Connection.{IsReady, IsInside, IsWritten, Under, UnderStore};
 ghost use Rattle.acvp_store.specs.Migrated.{Turns};
-ghost use Rattle.acvp_store.specs.Schema.{Migrated, schema_of, First, Second, Created, first_schema, second_schema, schema_at};
+ghost use Rattle.acvp_store.specs.Schema.{Migrated, schema_of, First, Second, Created, first_schema, second_schema};
+ghost use Rattle.acvp_store.specs.Schema.{schema_at};
 ghost use Rattle.acvp_store.specs.Private.Migration.{version_of, CopiesSets, EmptiesOldSets, RaisesVersion};
 
 use crate::fault::done;
@@ -74,7 +75,8 @@ impl Work for VersionRaised {
 /// Moves schema 1 to schema 3.
 fn turn_first<S: Alter>(connection: &mut Connection<S>) -> Result<(), StoreFault>
     requires { IsReady (state S.Store connection.old) }
-    ensures { IsWritten result (state S.Store connection.old) (state S.Store connection.new) (Under first_schema (Turns First)) }
+    ensures { IsWritten result (state S.Store connection.old) (state S.Store connection.new)
+        (Under first_schema (Turns First)) }
 {
     let named = Then {
         first: OldSetsDeleted,
@@ -97,7 +99,8 @@ fn turn_first<S: Alter>(connection: &mut Connection<S>) -> Result<(), StoreFault
 /// Moves schema 2 to schema 3, as it is made in a new database.
 fn turn_second<S: Alter>(connection: &mut Connection<S>) -> Result<(), StoreFault>
     requires { IsReady (state S.Store connection.old) }
-    ensures { IsWritten result (state S.Store connection.old) (state S.Store connection.new) (Under (second_schema Created) (Turns (Second Created))) }
+    ensures { IsWritten result (state S.Store connection.old) (state S.Store connection.new)
+        (Under (second_schema Created) (Turns (Second Created))) }
 {
     let work = Then {
         first: StoreTable::Reviewer,
@@ -109,7 +112,8 @@ fn turn_second<S: Alter>(connection: &mut Connection<S>) -> Result<(), StoreFaul
 /// Moves schema 2 to schema 3, where the table of sets of schema 1 stands beside the later one.
 fn turn_second_beside<S: Alter>(connection: &mut Connection<S>) -> Result<(), StoreFault>
     requires { IsReady (state S.Store connection.old) }
-    ensures { IsWritten result (state S.Store connection.old) (state S.Store connection.new) (Under (second_schema Migrated) (Turns (Second Migrated))) }
+    ensures { IsWritten result (state S.Store connection.old) (state S.Store connection.new)
+        (Under (second_schema Migrated) (Turns (Second Migrated))) }
 {
     let work = Then {
         first: StoreTable::LaterReviewer,
@@ -124,7 +128,8 @@ pub(crate) fn turn<S: Alter>(
     from: Earlier,
 ) -> Result<(), StoreFault>
     requires { IsReady (state S.Store connection.old) }
-    ensures { IsWritten result (state S.Store connection.old) (state S.Store connection.new) (Under (schema_at (version_of from)) (Turns (version_of from))) }
+    ensures { IsWritten result (state S.Store connection.old) (state S.Store connection.new)
+        (Under (schema_at (version_of from)) (Turns (version_of from))) }
 {
     match from {
         Earlier::First => turn_first(connection),

@@ -76,7 +76,10 @@ pub(crate) fn find_owner<S: Alter>(
     number: u64,
 ) -> Result<Option<u16>, StoreFault>
     requires { ServesStore (state S.Store conn.old) }
-    ensures found { IsTrue (state S.Store conn.new).is_open → IfOk result (λ found. (objects : List Registration) → HoldsObjects ((state S.Store conn.old).now.trees object_tree) objects → FitColumns objects → found ≡ option_map (λ row. row.account) (object_at kind number objects)) }
+    ensures found { IsTrue (state S.Store conn.new).is_open
+        → IfOk result (λ found. (objects : List Registration)
+        → HoldsObjects ((state S.Store conn.old).now.trees object_tree) objects → FitColumns objects
+        → found ≡ option_map (λ row. row.account) (object_at kind number objects)) }
     ensures read { IsRead result (state S.Store conn.old) (state S.Store conn.new) }
 {
     answered(conn.query_all(
@@ -87,9 +90,12 @@ pub(crate) fn find_owner<S: Alter>(
 
 /// The object of a kind's number and a text. It is Refused where the text isn't that of such an object.
 pub(crate) fn kept_object(kind: u32, text: String) -> Result<Object, StoreFault>
-    ensures known { IfOk result (λ found. (o : KeptObject) → body_json (object_text o) ≡ Some o.value → kind ≡ kind_number o.kind → string_bytes text ≡ object_text o → found ≡ o) }
-    ensures judged { IfOk result (λ found. (kind ≡ kind_number found.kind) × (string_bytes text ≡ object_text found) × IsObject found) }
-    ensures refused { IfErr result (λ fault. fault ≡ StoreFault.Refused → (o : KeptObject) → IsObject o → body_json (object_text o) ≡ Some o.value → kind ≡ kind_number o.kind → string_bytes text ≢ object_text o) }
+    ensures known { IfOk result (λ found. (o : KeptObject) → body_json (object_text o) ≡ Some o.value
+        → kind ≡ kind_number o.kind → string_bytes text ≡ object_text o → found ≡ o) }
+    ensures judged { IfOk result (λ found. (kind ≡ kind_number found.kind) × (string_bytes text ≡ object_text found)
+        × IsObject found) }
+    ensures refused { IfErr result (λ fault. fault ≡ StoreFault.Refused → (o : KeptObject) → IsObject o
+        → body_json (object_text o) ≡ Some o.value → kind ≡ kind_number o.kind → string_bytes text ≢ object_text o) }
 {
     let alloc = *text.allocator();
     let kind = registered_kind(kind)?;
@@ -141,8 +147,13 @@ pub(crate) fn find_object<S: Alter>(
     number: u64,
 ) -> Result<Option<ObjectRow>, StoreFault>
     requires { ServesStore (state S.Store conn.old) }
-    ensures found { IsTrue (state S.Store conn.new).is_open → IfOk result (λ found. (c : Content) → IsSound c → HoldsObjects ((state S.Store conn.old).now.trees object_tree) c.objects → FitColumns c.objects → found ≡ object_at kind number c.objects) }
-    ensures judged { IsTrue (state S.Store conn.new).is_open → number < 2 ^ 63 → IfOk result (λ _. AreMet (is_of (kind_number kind) number) columns_of_object object_columns (λ o. (o.account < 2 ^ 16) × IsObject o.object) ((state S.Store conn.old).now.trees object_tree)) }
+    ensures found { IsTrue (state S.Store conn.new).is_open
+        → IfOk result (λ found. (c : Content) → IsSound c
+        → HoldsObjects ((state S.Store conn.old).now.trees object_tree) c.objects → FitColumns c.objects
+        → found ≡ object_at kind number c.objects) }
+    ensures judged { IsTrue (state S.Store conn.new).is_open → number < 2 ^ 63
+        → IfOk result (λ _. AreMet (is_of (kind_number kind) number) columns_of_object object_columns
+        (λ o. (o.account < 2 ^ 16) × IsObject o.object) ((state S.Store conn.old).now.trees object_tree)) }
     ensures read { IsRead result (state S.Store conn.old) (state S.Store conn.new) }
 {
     only(conn.query_all(
@@ -161,7 +172,10 @@ pub(crate) fn page_objects<S: Alter>(
     limit: u64,
 ) -> Result<Vec<ObjectRow>, StoreFault>
     requires { ServesStore (state S.Store conn.old) }
-    ensures found { IsTrue (state S.Store conn.new).is_open → IfOk result (λ found. (c : Content) → IsSound c → HoldsObjects ((state S.Store conn.old).now.trees object_tree) c.objects → FitColumns c.objects → found.items ≡ page offset limit (objects_of kind account c.objects)) }
+    ensures found { IsTrue (state S.Store conn.new).is_open
+        → IfOk result (λ found. (c : Content) → IsSound c
+        → HoldsObjects ((state S.Store conn.old).now.trees object_tree) c.objects → FitColumns c.objects
+        → found.items ≡ page offset limit (objects_of kind account c.objects)) }
     ensures read { IsRead result (state S.Store conn.old) (state S.Store conn.new) }
 {
     let at = page_of(account, offset, limit);

@@ -1,5 +1,6 @@
 //! The rows of an account, and lists of rows that a query answers.
-ghost use Rattle.std.specs.Prelude.{◌≡◌, ◌*◌, ◌+◌, pos, min, map, slice_get, option_to_list, IfOk, IfErr, IsOk, Ok, List, IsPermutation};
+ghost use Rattle.std.specs.Prelude.{◌≡◌, ◌*◌, ◌+◌, pos, min, map, slice_get, option_to_list, IfOk, IfErr, IsOk, Ok};
+ghost use Rattle.std.specs.Prelude.{List, IsPermutation};
 ghost use Rattle.std.specs.List.{AllZip, AllByRecursion};
 ghost use Rattle.sqlite_value.specs.Order.{Row as Columns};
 ghost use Rattle.acvp_store.specs.Private.Pages.{IsRowOf};
@@ -71,14 +72,16 @@ pub(crate) trait Member {
     fn from_row(row: &Row) -> Result<Self, StoreFault>
         ensures known { IfOk result (IsRowOf reads listed_as row.now) }
         ensures judged { IfOk result (λ x. BeginsWith (listed_as x) row.now × judged_so x) }
-        ensures refused { IfErr result (λ fault. fault ≡ StoreFault.Refused → IsOfNone (λ x. reads x × fits x) listed_as row.now) };
+        ensures refused { IfErr result (λ fault. fault ≡ StoreFault.Refused
+            → IsOfNone (λ x. reads x × fits x) listed_as row.now) };
 }
 
 /// What each row is of.
 fn each<T: Member + Drop>(alloc: Global, rows: &[Row]) -> Result<Vec<T>, StoreFault>
     ensures known { IfOk result (λ found. AllZip (IsRowOf T.Member.reads T.Member.listed_as) rows.now found.items) }
     ensures judged { IfOk result (λ found. AreShown T.Member.judged_so T.Member.listed_as rows.now found.items) }
-    ensures refused { IfErr result (λ fault. fault ≡ StoreFault.Refused → HasOneOfNone (λ x. T.Member.reads x × T.Member.fits x) T.Member.listed_as rows.now) }
+    ensures refused { IfErr result (λ fault. fault ≡ StoreFault.Refused
+        → HasOneOfNone (λ x. T.Member.reads x × T.Member.fits x) T.Member.listed_as rows.now) }
 {
     let mut found = Vec::new(alloc);
     for row in rows {
@@ -96,9 +99,13 @@ pub(crate) fn listed<T: Member + Drop>(
     alloc: Global,
     outcome: Result<Vec<Row>, Error>,
 ) -> Result<Vec<T>, StoreFault>
-    ensures found { IfOk result (λ found. IfOk outcome (λ rows. (list : List T) → AllByRecursion T.Member.reads list → rows.items ≡ map T.Member.listed_as list → found.items ≡ list)) }
-    ensures judged { IfOk result (λ found. IfOk outcome (λ rows. AreShown T.Member.judged_so T.Member.listed_as rows.items found.items)) }
-    ensures refused { IfErr result (λ fault. fault ≡ StoreFault.Refused → IsRefusedOf (λ rows. HasOneOfNone (λ x. T.Member.reads x × T.Member.fits x) T.Member.listed_as rows.items) outcome) }
+    ensures found { IfOk result (λ found. IfOk outcome (λ rows. (list : List T) → AllByRecursion T.Member.reads list
+        → rows.items ≡ map T.Member.listed_as list → found.items ≡ list)) }
+    ensures judged { IfOk result
+        (λ found. IfOk outcome (λ rows. AreShown T.Member.judged_so T.Member.listed_as rows.items found.items)) }
+    ensures refused { IfErr result (λ fault. fault ≡ StoreFault.Refused
+        → IsRefusedOf (λ rows. HasOneOfNone (λ x. T.Member.reads x × T.Member.fits x) T.Member.listed_as rows.items)
+        outcome) }
     ensures ok { IsOk result → IsOk outcome }
 {
     match outcome {
@@ -109,9 +116,12 @@ pub(crate) fn listed<T: Member + Drop>(
 
 /// What the one row is of, where there is one. More are Refused.
 fn single<T: Member + Drop>(rows: &[Row]) -> Result<Option<T>, StoreFault>
-    ensures found { IfOk result (λ found. (list : List T) → AllByRecursion T.Member.reads list → IsPermutation (map T.Member.listed_as list) rows.now → found ≡ slice_get list 0) }
-    ensures judged { IfOk result (λ found. AreShown T.Member.judged_so T.Member.listed_as rows.now (option_to_list found)) }
-    ensures refused { IfErr result (λ fault. fault ≡ StoreFault.Refused → HasNoOne (λ x. T.Member.reads x × T.Member.fits x) T.Member.listed_as rows.now) }
+    ensures found { IfOk result (λ found. (list : List T) → AllByRecursion T.Member.reads list
+        → IsPermutation (map T.Member.listed_as list) rows.now → found ≡ slice_get list 0) }
+    ensures judged { IfOk result
+        (λ found. AreShown T.Member.judged_so T.Member.listed_as rows.now (option_to_list found)) }
+    ensures refused { IfErr result (λ fault. fault ≡ StoreFault.Refused
+        → HasNoOne (λ x. T.Member.reads x × T.Member.fits x) T.Member.listed_as rows.now) }
 {
     if rows.len() > 1 {
         return Err(StoreFault::Refused);
@@ -129,9 +139,14 @@ fn single<T: Member + Drop>(rows: &[Row]) -> Result<Option<T>, StoreFault>
 pub(crate) fn only<T: Member + Drop>(
     outcome: Result<Vec<Row>, Error>,
 ) -> Result<Option<T>, StoreFault>
-    ensures found { IfOk result (λ found. IfOk outcome (λ rows. (list : List T) → AllByRecursion T.Member.reads list → IsPermutation (map T.Member.listed_as list) rows.items → found ≡ slice_get list 0)) }
-    ensures judged { IfOk result (λ found. IfOk outcome (λ rows. AreShown T.Member.judged_so T.Member.listed_as rows.items (option_to_list found))) }
-    ensures refused { IfErr result (λ fault. fault ≡ StoreFault.Refused → IsRefusedOf (λ rows. HasNoOne (λ x. T.Member.reads x × T.Member.fits x) T.Member.listed_as rows.items) outcome) }
+    ensures found { IfOk result (λ found. IfOk outcome (λ rows. (list : List T) → AllByRecursion T.Member.reads list
+        → IsPermutation (map T.Member.listed_as list) rows.items → found ≡ slice_get list 0)) }
+    ensures judged { IfOk result
+        (λ found. IfOk outcome (λ rows. AreShown T.Member.judged_so T.Member.listed_as rows.items
+        (option_to_list found))) }
+    ensures refused { IfErr result (λ fault. fault ≡ StoreFault.Refused
+        → IsRefusedOf (λ rows. HasNoOne (λ x. T.Member.reads x × T.Member.fits x) T.Member.listed_as rows.items)
+        outcome) }
     ensures ok { IsOk result → IsOk outcome }
 {
     match outcome {

@@ -1,5 +1,6 @@
 //! The table of requests.
-ghost use Rattle.std.specs.Prelude.{⊤, ◌≡◌, ◌≢◌, ◌<◌, ◌^◌, ◌++◌, ◌∷◌, [], pos, List, map, IsTrue, Err, IsOk, IfErr, IfOk, string_bytes, option_map, unwrap_or};
+ghost use Rattle.std.specs.Prelude.{⊤, ◌≡◌, ◌≢◌, ◌<◌, ◌^◌, ◌++◌, ◌∷◌, [], pos, List, map, IsTrue, Err, IsOk, IfErr};
+ghost use Rattle.std.specs.Prelude.{IfOk, string_bytes, option_map, unwrap_or};
 ghost use Rattle.serde_json.specs.View.{view};
 ghost use Rattle.sqlite.specs.Held.{state};
 ghost use Rattle.acvp_tables.specs.Changes.{changed, is_request, with_status, new_request, new_certification};
@@ -8,12 +9,14 @@ ghost use Rattle.acvp_tables.specs.declared.rows.RequestBody.TheVariants as body
 ghost use Rattle.acvp_tables.specs.declared.rows.RequestRow.{RequestRow as Request};
 ghost use Rattle.acvp_store.specs.Alters.{Alters};
 ghost use Rattle.acvp_store.specs.Connection.{ServesStore, IsRead, IsInside, UnderStore};
-ghost use Rattle.acvp_store.specs.Stands.{request_tree, HoldsRequests, BodyReads, certification_data, body_number, body_text, status_number};
+ghost use Rattle.acvp_store.specs.Stands.{request_tree, HoldsRequests, BodyReads, certification_data, body_number};
+ghost use Rattle.acvp_store.specs.Stands.{body_text, status_number};
 ghost use Rattle.acvp_registry.specs.Url.{url_of};
 ghost use Rattle.acvp_tables.specs.Content.{Content, page, request_at, requests_of, request_summary};
 ghost use Rattle.acvp_tables.specs.State.{IsSound, given_number};
 ghost use Rattle.acvp_store.specs.Private.Columns.{request_columns, status_columns};
-ghost use Rattle.acvp_store.specs.Private.Requests.{FitsBody, IsAsked, IsJudgedBody, IsJudgedRequest, IsReadable, request_shown};
+ghost use Rattle.acvp_store.specs.Private.Requests.{FitsBody, IsAsked, IsJudgedBody, IsJudgedRequest, IsReadable};
+ghost use Rattle.acvp_store.specs.Private.Requests.{request_shown};
 ghost use Rattle.acvp_store.specs.Private.Summaries.{status_shown};
 ghost use Rattle.acvp_store.specs.Private.Shown.{AreMet, is_under};
 
@@ -41,7 +44,9 @@ fn insert_request<S: Alter>(
     body: &str,
 ) -> Result<(), StoreFault>
     ensures same_reference { tx.new.conn.ghost_name ≡ tx.old.conn.ghost_name }
-    ensures inside { (row : Request) → IsAsked row number account kind body.now → IsInside result (state S.Store tx.old.conn.now) (state S.Store tx.new.conn.now) (UnderStore (λ layout. Alters layout request_tree HoldsRequests (λ rows. rows ++ row ∷ []))) }
+    ensures inside { (row : Request) → IsAsked row number account kind body.now
+        → IsInside result (state S.Store tx.old.conn.now) (state S.Store tx.new.conn.now)
+        (UnderStore (λ layout. Alters layout request_tree HoldsRequests (λ rows. rows ++ row ∷ []))) }
 {
     let number = fitting(number)?;
     done(tx.execute(
@@ -57,7 +62,8 @@ impl Work for NewRequest {
     ghost use Rattle.acvp_store.specs.Connection.{UnderStore};
     ghost use Rattle.acvp_store.specs.Stands.{request_tree, HoldsRequests};
 
-    ghost change = { λ r. UnderStore (λ layout. Alters layout request_tree HoldsRequests (λ rows. rows ++ new_request r ∷ [])) };
+    ghost change = { λ r. UnderStore
+        (λ layout. Alters layout request_tree HoldsRequests (λ rows. rows ++ new_request r ∷ [])) };
 
     fn run<S: Alter>(&self, tx: &mut Transaction<'_, S>) -> Result<(), StoreFault> {
         insert_request(
@@ -112,7 +118,8 @@ impl Work for CertificationAsked {
     ghost use Rattle.acvp_store.specs.Connection.{UnderStore};
     ghost use Rattle.acvp_store.specs.Stands.{request_tree, HoldsRequests};
 
-    ghost change = { λ c. UnderStore (λ layout. Alters layout request_tree HoldsRequests (λ rows. rows ++ new_certification c.request ∷ [])) };
+    ghost change = { λ c. UnderStore
+        (λ layout. Alters layout request_tree HoldsRequests (λ rows. rows ++ new_certification c.request ∷ [])) };
 
     fn run<S: Alter>(&self, tx: &mut Transaction<'_, S>) -> Result<(), StoreFault> {
         let body = certification_text(self.alloc, self.request.certification)?;
@@ -160,7 +167,8 @@ impl Work for DecidedRequest {
     ghost use Rattle.acvp_store.specs.Connection.{UnderStore};
     ghost use Rattle.acvp_store.specs.Stands.{request_tree, HoldsRequests};
 
-    ghost change = { λ r. UnderStore (λ layout. Alters layout request_tree HoldsRequests (changed (is_request r.number) (with_status r.status))) };
+    ghost change = { λ r. UnderStore
+        (λ layout. Alters layout request_tree HoldsRequests (changed (is_request r.number) (with_status r.status))) };
 
     fn run<S: Alter>(&self, tx: &mut Transaction<'_, S>) -> Result<(), StoreFault> {
         let number = fitting(self.number)?;
@@ -174,9 +182,12 @@ impl Work for DecidedRequest {
 
 /// The body of a kind's number and a text. It is Refused where the text isn't that of such a body.
 fn kept_body(kind: u32, text: String) -> Result<RequestBody, StoreFault>
-    ensures known { IfOk result (λ found. (b : Body) → IsReadable b → kind ≡ body_number b → string_bytes text ≡ body_text b → found ≡ b) }
-    ensures judged { IfOk result (λ found. (kind ≡ body_number found) × (string_bytes text ≡ body_text found) × IsJudgedBody found) }
-    ensures refused { IfErr result (λ fault. fault ≡ StoreFault.Refused → (b : Body) → IsReadable b → FitsBody b → kind ≡ body_number b → string_bytes text ≢ body_text b) }
+    ensures known { IfOk result (λ found. (b : Body) → IsReadable b → kind ≡ body_number b
+        → string_bytes text ≡ body_text b → found ≡ b) }
+    ensures judged { IfOk result (λ found. (kind ≡ body_number found) × (string_bytes text ≡ body_text found)
+        × IsJudgedBody found) }
+    ensures refused { IfErr result (λ fault. fault ≡ StoreFault.Refused → (b : Body) → IsReadable b → FitsBody b
+        → kind ≡ body_number b → string_bytes text ≢ body_text b) }
 {
     if kind == 4 {
         Ok(RequestBody::Certification(certification(text)?))
@@ -239,8 +250,13 @@ pub(crate) fn find_request<S: Alter>(
     number: u64,
 ) -> Result<Option<RequestSummary>, StoreFault>
     requires { ServesStore (state S.Store conn.old) }
-    ensures found { IsTrue (state S.Store conn.new).is_open → IfOk result (λ found. (c : Content) → IsSound c → HoldsRequests ((state S.Store conn.old).now.trees request_tree) c.requests → found ≡ option_map request_summary (request_at number c.requests)) }
-    ensures judged { IsTrue (state S.Store conn.new).is_open → number < 2 ^ 63 → IfOk result (λ _. AreMet (is_under number) request_columns request_shown IsJudgedRequest ((state S.Store conn.old).now.trees request_tree)) }
+    ensures found { IsTrue (state S.Store conn.new).is_open
+        → IfOk result (λ found. (c : Content) → IsSound c
+        → HoldsRequests ((state S.Store conn.old).now.trees request_tree) c.requests
+        → found ≡ option_map request_summary (request_at number c.requests)) }
+    ensures judged { IsTrue (state S.Store conn.new).is_open → number < 2 ^ 63
+        → IfOk result (λ _. AreMet (is_under number) request_columns request_shown IsJudgedRequest
+        ((state S.Store conn.old).now.trees request_tree)) }
     ensures read { IsRead result (state S.Store conn.old) (state S.Store conn.new) }
 {
     summarized(only(conn.query_all(
@@ -255,8 +271,13 @@ pub(crate) fn find_status<S: Alter>(
     number: u64,
 ) -> Result<Option<RequestStatus>, StoreFault>
     requires { ServesStore (state S.Store conn.old) }
-    ensures found { IsTrue (state S.Store conn.new).is_open → IfOk result (λ found. (requests : List Request) → HoldsRequests ((state S.Store conn.old).now.trees request_tree) requests → found ≡ option_map (λ row. row.status) (request_at number requests)) }
-    ensures judged { IsTrue (state S.Store conn.new).is_open → number < 2 ^ 63 → IfOk result (λ _. AreMet (is_under number) status_columns status_shown (λ _. ⊤) ((state S.Store conn.old).now.trees request_tree)) }
+    ensures found { IsTrue (state S.Store conn.new).is_open
+        → IfOk result (λ found. (requests : List Request)
+        → HoldsRequests ((state S.Store conn.old).now.trees request_tree) requests
+        → found ≡ option_map (λ row. row.status) (request_at number requests)) }
+    ensures judged { IsTrue (state S.Store conn.new).is_open → number < 2 ^ 63
+        → IfOk result (λ _. AreMet (is_under number) status_columns status_shown (λ _. ⊤)
+        ((state S.Store conn.old).now.trees request_tree)) }
     ensures read { IsRead result (state S.Store conn.old) (state S.Store conn.new) }
 {
     answered(conn.query_all(
@@ -274,7 +295,10 @@ pub(crate) fn page_requests<S: Alter>(
     limit: u64,
 ) -> Result<Vec<RequestSummary>, StoreFault>
     requires { ServesStore (state S.Store conn.old) }
-    ensures found { IsTrue (state S.Store conn.new).is_open → IfOk result (λ found. (c : Content) → IsSound c → HoldsRequests ((state S.Store conn.old).now.trees request_tree) c.requests → found.items ≡ page offset limit (map request_summary (requests_of account c.requests))) }
+    ensures found { IsTrue (state S.Store conn.new).is_open
+        → IfOk result (λ found. (c : Content) → IsSound c
+        → HoldsRequests ((state S.Store conn.old).now.trees request_tree) c.requests
+        → found.items ≡ page offset limit (map request_summary (requests_of account c.requests))) }
     ensures read { IsRead result (state S.Store conn.old) (state S.Store conn.new) }
 {
     let at = page_of(account, offset, limit);

@@ -35,7 +35,10 @@ pub(crate) fn find_reviewer<S: Alter>(
     account: u16,
 ) -> Result<bool, StoreFault>
     requires { ServesStore (state S.Store conn.old) }
-    ensures found { IsTrue (state S.Store conn.new).is_open → IfOk result (λ found. InStore (state S.Store conn.old).now (λ layout. (reviewers : List Reviewer) → HoldsReviewers ((state S.Store conn.old).now.trees (reviewer_tree layout)) reviewers → found ≡ is_reviewer session account reviewers)) }
+    ensures found { IsTrue (state S.Store conn.new).is_open
+        → IfOk result (λ found. InStore (state S.Store conn.old).now (λ layout. (reviewers : List Reviewer)
+        → HoldsReviewers ((state S.Store conn.old).now.trees (reviewer_tree layout)) reviewers
+        → found ≡ is_reviewer session account reviewers)) }
     ensures read { IsRead result (state S.Store conn.old) (state S.Store conn.new) }
 {
     any(conn.query_all(
@@ -51,7 +54,10 @@ pub(crate) fn find_reviewers<S: Alter>(
     session: u64,
 ) -> Result<Vec<u16>, StoreFault>
     requires { ServesStore (state S.Store conn.old) }
-    ensures found { IsTrue (state S.Store conn.new).is_open → IfOk result (λ found. InStore (state S.Store conn.old).now (λ layout. (c : Content) → IsSound c → HoldsReviewers ((state S.Store conn.old).now.trees (reviewer_tree layout)) c.reviewers → found.items ≡ reviewers_of session c.reviewers)) }
+    ensures found { IsTrue (state S.Store conn.new).is_open
+        → IfOk result (λ found. InStore (state S.Store conn.old).now (λ layout. (c : Content) → IsSound c
+        → HoldsReviewers ((state S.Store conn.old).now.trees (reviewer_tree layout)) c.reviewers
+        → found.items ≡ reviewers_of session c.reviewers)) }
     ensures read { IsRead result (state S.Store conn.old) (state S.Store conn.new) }
 {
     listed(
@@ -75,7 +81,8 @@ impl Work for ReviewerAdded {
     ghost use Rattle.acvp_store.specs.Connection.{UnderStore};
     ghost use Rattle.acvp_store.specs.Stands.{reviewer_tree, HoldsReviewers};
 
-    ghost change = { λ r. UnderStore (λ layout. Alters layout (reviewer_tree layout) HoldsReviewers (with_reviewer r.reviewer)) };
+    ghost change = { λ r. UnderStore
+        (λ layout. Alters layout (reviewer_tree layout) HoldsReviewers (with_reviewer r.reviewer)) };
 
     fn run<S: Alter>(&self, tx: &mut Transaction<'_, S>) -> Result<(), StoreFault> {
         let session = fitting(self.reviewer.session)?;
@@ -99,7 +106,8 @@ impl Work for ReviewerRemoved {
     ghost use Rattle.acvp_store.specs.Connection.{UnderStore};
     ghost use Rattle.acvp_store.specs.Stands.{reviewer_tree, HoldsReviewers};
 
-    ghost change = { λ r. UnderStore (λ layout. Alters layout (reviewer_tree layout) HoldsReviewers (filter (λ row. not (is_pair r.reviewer row)))) };
+    ghost change = { λ r. UnderStore (λ layout. Alters layout (reviewer_tree layout) HoldsReviewers
+        (filter (λ row. not (is_pair r.reviewer row)))) };
 
     fn run<S: Alter>(&self, tx: &mut Transaction<'_, S>) -> Result<(), StoreFault> {
         let session = fitting(self.reviewer.session)?;

@@ -1,7 +1,8 @@
 //! The table of test sessions.
 ghost use Rattle.std.specs.Prelude.{◌≡◌, ◌<◌, ◌^◌, ◌++◌, ◌∷◌, [], IsTrue, IfOk, List};
 ghost use Rattle.sqlite.specs.Held.{state};
-ghost use Rattle.acvp_tables.specs.Changes.{changed, is_session, cancelled_session, with_counts, with_passed, with_certify, new_session};
+ghost use Rattle.acvp_tables.specs.Changes.{changed, is_session, cancelled_session, with_counts, with_passed};
+ghost use Rattle.acvp_tables.specs.Changes.{with_certify, new_session};
 ghost use Rattle.acvp_tables.specs.Content.{Content, session_at, sessions_of, page};
 ghost use Rattle.acvp_tables.specs.State.{IsSound};
 ghost use Rattle.acvp_tables.specs.declared.rows.SessionRow.{SessionRow as Session};
@@ -75,8 +76,13 @@ pub(crate) fn find_session<S: Alter>(
     number: u64,
 ) -> Result<Option<SessionRow>, StoreFault>
     requires { ServesStore (state S.Store conn.old) }
-    ensures found { IsTrue (state S.Store conn.new).is_open → IfOk result (λ found. (sessions : List Session) → HoldsSessions ((state S.Store conn.old).now.trees session_tree) sessions → found ≡ session_at number sessions) }
-    ensures judged { IsTrue (state S.Store conn.new).is_open → number < 2 ^ 63 → IfOk result (λ _. AreMet (is_under number) session_columns session_shown (λ s. s.account < 2 ^ 16) ((state S.Store conn.old).now.trees session_tree)) }
+    ensures found { IsTrue (state S.Store conn.new).is_open
+        → IfOk result (λ found. (sessions : List Session)
+        → HoldsSessions ((state S.Store conn.old).now.trees session_tree) sessions
+        → found ≡ session_at number sessions) }
+    ensures judged { IsTrue (state S.Store conn.new).is_open → number < 2 ^ 63
+        → IfOk result (λ _. AreMet (is_under number) session_columns session_shown (λ s. s.account < 2 ^ 16)
+        ((state S.Store conn.old).now.trees session_tree)) }
     ensures read { IsRead result (state S.Store conn.old) (state S.Store conn.new) }
 {
     answered(conn.query_all(
@@ -94,7 +100,10 @@ pub(crate) fn page_sessions<S: Alter>(
     limit: u64,
 ) -> Result<Vec<SessionRow>, StoreFault>
     requires { ServesStore (state S.Store conn.old) }
-    ensures found { IsTrue (state S.Store conn.new).is_open → IfOk result (λ found. (c : Content) → IsSound c → HoldsSessions ((state S.Store conn.old).now.trees session_tree) c.sessions → found.items ≡ page offset limit (sessions_of account c.sessions)) }
+    ensures found { IsTrue (state S.Store conn.new).is_open
+        → IfOk result (λ found. (c : Content) → IsSound c
+        → HoldsSessions ((state S.Store conn.old).now.trees session_tree) c.sessions
+        → found.items ≡ page offset limit (sessions_of account c.sessions)) }
     ensures read { IsRead result (state S.Store conn.old) (state S.Store conn.new) }
 {
     let at = page_of(account, offset, limit);
@@ -119,7 +128,8 @@ impl Work for CancelledSession {
     ghost use Rattle.acvp_store.specs.Connection.{UnderStore};
     ghost use Rattle.acvp_store.specs.Rows.{session_tree, HoldsSessions};
 
-    ghost change = { λ s. UnderStore (λ layout. Alters layout session_tree HoldsSessions (changed (is_session s.number) cancelled_session)) };
+    ghost change = { λ s. UnderStore
+        (λ layout. Alters layout session_tree HoldsSessions (changed (is_session s.number) cancelled_session)) };
 
     fn run<S: Alter>(&self, tx: &mut Transaction<'_, S>) -> Result<(), StoreFault> {
         let number = fitting(self.number)?;
@@ -144,7 +154,8 @@ impl Work for CountedSession {
     ghost use Rattle.acvp_store.specs.Connection.{UnderStore};
     ghost use Rattle.acvp_store.specs.Rows.{session_tree, HoldsSessions};
 
-    ghost change = { λ s. UnderStore (λ layout. Alters layout session_tree HoldsSessions (changed (is_session s.number) (with_counts s.live s.passed))) };
+    ghost change = { λ s. UnderStore (λ layout. Alters layout session_tree HoldsSessions
+        (changed (is_session s.number) (with_counts s.live s.passed))) };
 
     fn run<S: Alter>(&self, tx: &mut Transaction<'_, S>) -> Result<(), StoreFault> {
         let number = fitting(self.number)?;
@@ -170,7 +181,8 @@ impl Work for PassedSession {
     ghost use Rattle.acvp_store.specs.Connection.{UnderStore};
     ghost use Rattle.acvp_store.specs.Rows.{session_tree, HoldsSessions};
 
-    ghost change = { λ s. UnderStore (λ layout. Alters layout session_tree HoldsSessions (changed (is_session s.number) (with_passed s.passed))) };
+    ghost change = { λ s. UnderStore
+        (λ layout. Alters layout session_tree HoldsSessions (changed (is_session s.number) (with_passed s.passed))) };
 
     fn run<S: Alter>(&self, tx: &mut Transaction<'_, S>) -> Result<(), StoreFault> {
         let number = fitting(self.number)?;
@@ -195,7 +207,8 @@ impl Work for CertifiedSession {
     ghost use Rattle.acvp_store.specs.Connection.{UnderStore};
     ghost use Rattle.acvp_store.specs.Rows.{session_tree, HoldsSessions};
 
-    ghost change = { λ s. UnderStore (λ layout. Alters layout session_tree HoldsSessions (changed (is_session s.number) (with_certify s.request))) };
+    ghost change = { λ s. UnderStore
+        (λ layout. Alters layout session_tree HoldsSessions (changed (is_session s.number) (with_certify s.request))) };
 
     fn run<S: Alter>(&self, tx: &mut Transaction<'_, S>) -> Result<(), StoreFault> {
         let number = fitting(self.number)?;
@@ -220,7 +233,8 @@ impl<'a> Work for SessionBegun<'a> {
     ghost use Rattle.acvp_store.specs.Connection.{UnderStore};
     ghost use Rattle.acvp_store.specs.Rows.{session_tree, HoldsSessions};
 
-    ghost change = { λ s. UnderStore (λ layout. Alters layout session_tree HoldsSessions (λ rows. rows ++ new_session s.session.now ∷ [])) };
+    ghost change = { λ s. UnderStore
+        (λ layout. Alters layout session_tree HoldsSessions (λ rows. rows ++ new_session s.session.now ∷ [])) };
 
     fn run<S: Alter>(&self, tx: &mut Transaction<'_, S>) -> Result<(), StoreFault> {
         let session = self.session;

@@ -1,5 +1,6 @@
 //! The texts in the rows of vector sets: the capability, and the verdicts on the last answers.
-ghost use Rattle.std.specs.Prelude.{◌≡◌, ◌≢◌, ◌<◌, ◌^◌, Some, IsTrue, IfErr, IsSomeAnd, MatchResult, IfOk, IsOk, List, option_map, option_and_then};
+ghost use Rattle.std.specs.Prelude.{◌≡◌, ◌≢◌, ◌<◌, ◌^◌, Some, IsTrue, IfErr, IsSomeAnd, MatchResult, IfOk, IsOk, List};
+ghost use Rattle.std.specs.Prelude.{option_map, option_and_then};
 ghost use Rattle.sqlite.specs.Held.{state};
 ghost use Rattle.acvp_answers.specs.VerdictText.{verdicts_text};
 ghost use Rattle.acvp_answers.specs.declared.verdict.Verdict.{Verdict as Letters};
@@ -8,7 +9,8 @@ ghost use Rattle.acvp_tables.specs.declared.rows.SetRow.{SetRow as Set};
 ghost use Rattle.acvp_store.specs.Connection.{ServesStore, InStore, IsRead};
 ghost use Rattle.acvp_store.specs.Stands.{HoldsSets, set_tree};
 ghost use Rattle.acvp_store.specs.Private.Columns.{capability_column};
-ghost use Rattle.acvp_store.specs.Private.SetTexts.{IsCapabilityOf, IsOfCapability, AreVerdictsOf, TellsCapability, TellsVerdicts, text_shown};
+ghost use Rattle.acvp_store.specs.Private.SetTexts.{IsCapabilityOf, IsOfCapability, AreVerdictsOf, TellsCapability};
+ghost use Rattle.acvp_store.specs.Private.SetTexts.{TellsVerdicts, text_shown};
 ghost use Rattle.acvp_store.specs.Private.Shown.{AreMet, is_under};
 
 use crate::shown::{Shown, answered, field, key};
@@ -72,7 +74,9 @@ fn capability_in(
     found: Result<Option<TextColumn>, StoreFault>,
 ) -> Result<Option<Capability>, StoreFault>
     ensures told { IfOk result (λ told. IfOk found (λ column. TellsCapability column told)) }
-    ensures refused { IfErr result (λ fault. fault ≡ StoreFault.Refused → MatchResult found (λ column. IsSomeAnd column (λ text. ¬ IsOfCapability text)) (λ fault. fault ≡ StoreFault.Refused)) }
+    ensures refused { IfErr result (λ fault. fault ≡ StoreFault.Refused
+        → MatchResult found (λ column. IsSomeAnd column (λ text. ¬ IsOfCapability text))
+        (λ fault. fault ≡ StoreFault.Refused)) }
     ensures ok { IsOk result → IsOk found }
 {
     match found {
@@ -92,8 +96,14 @@ pub(crate) fn find_capability<S: Alter>(
     number: u64,
 ) -> Result<Option<Capability>, StoreFault>
     requires { ServesStore (state S.Store conn.old) }
-    ensures found { IsTrue (state S.Store conn.new).is_open → IfOk result (λ found. InStore (state S.Store conn.old).now (λ layout. (sets : List Set) → HoldsSets ((state S.Store conn.old).now.trees (set_tree layout)) sets → found ≡ option_map (λ row. row.capability) (set_at number sets))) }
-    ensures judged { IsTrue (state S.Store conn.new).is_open → number < 2 ^ 63 → IfOk result (λ _. InStore (state S.Store conn.old).now (λ layout. AreMet (is_under number) capability_column text_shown IsOfCapability ((state S.Store conn.old).now.trees (set_tree layout)))) }
+    ensures found { IsTrue (state S.Store conn.new).is_open
+        → IfOk result (λ found. InStore (state S.Store conn.old).now (λ layout. (sets : List Set)
+        → HoldsSets ((state S.Store conn.old).now.trees (set_tree layout)) sets
+        → found ≡ option_map (λ row. row.capability) (set_at number sets))) }
+    ensures judged { IsTrue (state S.Store conn.new).is_open → number < 2 ^ 63
+        → IfOk result (λ _. InStore (state S.Store conn.old).now
+        (λ layout. AreMet (is_under number) capability_column text_shown IsOfCapability
+        ((state S.Store conn.old).now.trees (set_tree layout)))) }
     ensures read { IsRead result (state S.Store conn.old) (state S.Store conn.new) }
 {
     capability_in(
@@ -108,7 +118,8 @@ pub(crate) fn find_capability<S: Alter>(
 /// The verdicts of a column; none where it is NULL. It is Refused where the text is that of none.
 fn verdicts_of(alloc: Global, column: &TextColumn) -> Result<Option<Vec<Verdict>>, StoreFault>
     ensures told { IfOk result (λ told. AreVerdictsOf column.now (option_map (λ v. v.items) told)) }
-    ensures refused { IfErr result (λ fault. fault ≡ StoreFault.Refused → (verdicts : List Letters) → column.now ≢ Some (verdicts_text verdicts)) }
+    ensures refused { IfErr result (λ fault. fault ≡ StoreFault.Refused → (verdicts : List Letters)
+        → column.now ≢ Some (verdicts_text verdicts)) }
 {
     let Some(text) = &column.text else {
         return Ok(None);
@@ -126,7 +137,9 @@ fn verdicts_in(
     found: Result<Option<TextColumn>, StoreFault>,
 ) -> Result<Option<Vec<Verdict>>, StoreFault>
     ensures told { IfOk result (λ told. IfOk found (λ column. TellsVerdicts column (option_map (λ v. v.items) told))) }
-    ensures refused { IfErr result (λ fault. fault ≡ StoreFault.Refused → MatchResult found (λ column. IsSomeAnd column (λ text. (verdicts : List Letters) → text ≢ Some (verdicts_text verdicts))) (λ fault. fault ≡ StoreFault.Refused)) }
+    ensures refused { IfErr result (λ fault. fault ≡ StoreFault.Refused
+        → MatchResult found (λ column. IsSomeAnd column (λ text. (verdicts : List Letters)
+        → text ≢ Some (verdicts_text verdicts))) (λ fault. fault ≡ StoreFault.Refused)) }
     ensures ok { IsOk result → IsOk found }
 {
     match found {
@@ -143,7 +156,10 @@ pub(crate) fn find_verdicts<S: Alter>(
     number: u64,
 ) -> Result<Option<Vec<Verdict>>, StoreFault>
     requires { ServesStore (state S.Store conn.old) }
-    ensures found { IsTrue (state S.Store conn.new).is_open → IfOk result (λ found. InStore (state S.Store conn.old).now (λ layout. (sets : List Set) → HoldsSets ((state S.Store conn.old).now.trees (set_tree layout)) sets → option_map (λ v. v.items) found ≡ option_and_then set_verdicts (set_at number sets))) }
+    ensures found { IsTrue (state S.Store conn.new).is_open
+        → IfOk result (λ found. InStore (state S.Store conn.old).now (λ layout. (sets : List Set)
+        → HoldsSets ((state S.Store conn.old).now.trees (set_tree layout)) sets
+        → option_map (λ v. v.items) found ≡ option_and_then set_verdicts (set_at number sets))) }
     ensures read { IsRead result (state S.Store conn.old) (state S.Store conn.new) }
 {
     verdicts_in(

@@ -1,5 +1,6 @@
 //! The table of vector sets.
-ghost use Rattle.std.specs.Prelude.{◌≡◌, ◌<◌, ◌^◌, ◌∷◌, [], None, Option, IsTrue, IfErr, IsSomeAnd, MatchResult, IfOk, IfSome, IsOk, List, Some, map, option_map};
+ghost use Rattle.std.specs.Prelude.{◌≡◌, ◌<◌, ◌^◌, ◌∷◌, [], None, Option, IsTrue, IfErr, IsSomeAnd, MatchResult, IfOk};
+ghost use Rattle.std.specs.Prelude.{IfSome, IsOk, List, Some, map, option_map};
 ghost use Rattle.std.specs.List.{AllZip};
 ghost use Rattle.sqlite.specs.Held.{state};
 ghost use Rattle.acvp_tables.specs.Content.{Content, set_at, set_summary, live_sets, greatest_epoch_of};
@@ -10,7 +11,9 @@ ghost use Rattle.acvp_tables.specs.Changes.{changed, is_set, cancelled_set, with
 ghost use Rattle.acvp_store.specs.Alters.{Alters};
 ghost use Rattle.acvp_store.specs.Connection.{ServesStore, InStore, IsRead, IsInside, UnderStore};
 ghost use Rattle.acvp_store.specs.Stands.{HoldsSets, disposition_number, set_tree};
-ghost use Rattle.acvp_store.specs.Private.Sets.{HasUnjudged, IsDispositionOf, IsGiven, IsJudged, IsSummary, IsSummaryOf, is_live_row, new_set, short_columns, short_shown, AddsSets};
+ghost use Rattle.acvp_store.specs.Private.Sets.{HasUnjudged, IsDispositionOf, IsGiven, IsJudged, IsSummary};
+ghost use Rattle.acvp_store.specs.Private.Sets.{IsSummaryOf, is_live_row, new_set, short_columns, short_shown};
+ghost use Rattle.acvp_store.specs.Private.Sets.{AddsSets};
 ghost use Rattle.acvp_store.specs.Private.Shown.{AreMet, is_under};
 
 use crate::fault::done;
@@ -44,7 +47,15 @@ impl Model for ShortSet {
 
     ghost Value = { ShortColumns };
 
-    ghost view = { λ s. record { number = s.number; session = s.session; cancelled = s.cancelled; unanswered = s.unanswered; verdicts = option_map string_bytes s.verdicts; disposition = s.disposition; epoch = s.epoch } };
+    ghost view = { λ s. record {
+      number = s.number;
+      session = s.session;
+      cancelled = s.cancelled;
+      unanswered = s.unanswered;
+      verdicts = option_map string_bytes s.verdicts;
+      disposition = s.disposition;
+      epoch = s.epoch;
+    } };
 }
 
 impl Shown for ShortSet {
@@ -109,10 +120,12 @@ fn kept_disposition(disposition: Disposition) -> Option<u32>
     }
 }
 
-/// The disposition that verdicts give, where its number is this one. It is Refused where they are none, or give another.
+/// The disposition that verdicts give, where its number is this one. It is Refused where they are none, or give
+/// another.
 fn given_disposition(alloc: Global, verdicts: &str, number: u64) -> Result<Disposition, StoreFault>
     ensures given { IfOk result (IsGiven verdicts.now number) }
-    ensures refused { IfErr result (λ fault. fault ≡ StoreFault.Refused → (d : Kept) → ¬ IsGiven verdicts.now number d) }
+    ensures refused { IfErr result (λ fault. fault ≡ StoreFault.Refused → (d : Kept)
+        → ¬ IsGiven verdicts.now number d) }
 {
     let verdicts = match verdicts_from_text(alloc, verdicts) {
         Ok(verdicts) => verdicts,
@@ -130,7 +143,8 @@ fn given_disposition(alloc: Global, verdicts: &str, number: u64) -> Result<Dispo
 /// disposition is there without the others, or where the disposition isn't that of the verdicts.
 fn judged_disposition(alloc: Global, set: &ShortSet) -> Result<Option<Disposition>, StoreFault>
     ensures judged { IfOk result (IsDispositionOf set.now) }
-    ensures refused { IfErr result (λ fault. fault ≡ StoreFault.Refused → (d : Option Kept) → ¬ IsDispositionOf set.now d) }
+    ensures refused { IfErr result (λ fault. fault ≡ StoreFault.Refused → (d : Option Kept)
+        → ¬ IsDispositionOf set.now d) }
 {
     match (&set.verdicts, set.disposition) {
         (None, None) if set.unanswered => Ok(None),
@@ -163,7 +177,9 @@ fn summarized(
     found: Result<Option<ShortSet>, StoreFault>,
 ) -> Result<Option<SetSummary>, StoreFault>
     ensures told { IfOk result (λ told. IfOk found (λ set. IsSummaryOf set told)) }
-    ensures refused { IfErr result (λ fault. fault ≡ StoreFault.Refused → MatchResult found (λ set. IsSomeAnd set (λ columns. ¬ IsJudged columns)) (λ fault. fault ≡ StoreFault.Refused)) }
+    ensures refused { IfErr result (λ fault. fault ≡ StoreFault.Refused
+        → MatchResult found (λ set. IsSomeAnd set (λ columns. ¬ IsJudged columns))
+        (λ fault. fault ≡ StoreFault.Refused)) }
     ensures ok { IsOk result → IsOk found }
 {
     match found {
@@ -183,8 +199,14 @@ pub(crate) fn find_set<S: Alter>(
     number: u64,
 ) -> Result<Option<SetSummary>, StoreFault>
     requires { ServesStore (state S.Store conn.old) }
-    ensures found { IsTrue (state S.Store conn.new).is_open → IfOk result (λ found. InStore (state S.Store conn.old).now (λ layout. (sets : List Set) → HoldsSets ((state S.Store conn.old).now.trees (set_tree layout)) sets → found ≡ option_map set_summary (set_at number sets))) }
-    ensures judged { IsTrue (state S.Store conn.new).is_open → number < 2 ^ 63 → IfOk result (λ _. InStore (state S.Store conn.old).now (λ layout. AreMet (is_under number) short_columns short_shown IsJudged ((state S.Store conn.old).now.trees (set_tree layout)))) }
+    ensures found { IsTrue (state S.Store conn.new).is_open
+        → IfOk result (λ found. InStore (state S.Store conn.old).now (λ layout. (sets : List Set)
+        → HoldsSets ((state S.Store conn.old).now.trees (set_tree layout)) sets
+        → found ≡ option_map set_summary (set_at number sets))) }
+    ensures judged { IsTrue (state S.Store conn.new).is_open → number < 2 ^ 63
+        → IfOk result (λ _. InStore (state S.Store conn.old).now
+        (λ layout. AreMet (is_under number) short_columns short_shown IsJudged
+        ((state S.Store conn.old).now.trees (set_tree layout)))) }
     ensures read { IsRead result (state S.Store conn.old) (state S.Store conn.new) }
 {
     summarized(
@@ -217,7 +239,8 @@ fn summaries_in(
     found: Result<Vec<ShortSet>, StoreFault>,
 ) -> Result<Vec<SetSummary>, StoreFault>
     ensures told { IfOk result (λ told. IfOk found (λ sets. AllZip IsSummary sets.items told.items)) }
-    ensures refused { IfErr result (λ fault. fault ≡ StoreFault.Refused → MatchResult found (λ sets. HasUnjudged sets.items) (λ fault. fault ≡ StoreFault.Refused)) }
+    ensures refused { IfErr result (λ fault. fault ≡ StoreFault.Refused
+        → MatchResult found (λ sets. HasUnjudged sets.items) (λ fault. fault ≡ StoreFault.Refused)) }
     ensures ok { IsOk result → IsOk found }
 {
     match found {
@@ -234,8 +257,14 @@ pub(crate) fn find_sets<S: Alter>(
     session: u64,
 ) -> Result<Vec<SetSummary>, StoreFault>
     requires { ServesStore (state S.Store conn.old) }
-    ensures found { IsTrue (state S.Store conn.new).is_open → IfOk result (λ found. InStore (state S.Store conn.old).now (λ layout. (c : Content) → IsSound c → HoldsSets ((state S.Store conn.old).now.trees (set_tree layout)) c.sets → found.items ≡ map set_summary (live_sets session c.sets))) }
-    ensures judged { IsTrue (state S.Store conn.new).is_open → IfOk result (λ _. InStore (state S.Store conn.old).now (λ layout. AreMet (is_live_row session) short_columns short_shown IsJudged ((state S.Store conn.old).now.trees (set_tree layout)))) }
+    ensures found { IsTrue (state S.Store conn.new).is_open
+        → IfOk result (λ found. InStore (state S.Store conn.old).now (λ layout. (c : Content) → IsSound c
+        → HoldsSets ((state S.Store conn.old).now.trees (set_tree layout)) c.sets
+        → found.items ≡ map set_summary (live_sets session c.sets))) }
+    ensures judged { IsTrue (state S.Store conn.new).is_open
+        → IfOk result (λ _. InStore (state S.Store conn.old).now
+        (λ layout. AreMet (is_live_row session) short_columns short_shown IsJudged
+        ((state S.Store conn.old).now.trees (set_tree layout)))) }
     ensures read { IsRead result (state S.Store conn.old) (state S.Store conn.new) }
 {
     if 92233720368547757 < session {
@@ -286,7 +315,9 @@ fn epoch_in(found: Result<Option<Option<u64>>, StoreFault>) -> Result<Option<u64
 /// The greatest epoch of all vector sets; none where there is no set.
 pub(crate) fn find_epoch<S: Alter>(conn: &mut Connection<S>) -> Result<Option<u64>, StoreFault>
     requires { ServesStore (state S.Store conn.old) }
-    ensures found { IsTrue (state S.Store conn.new).is_open → IfOk result (λ found. InStore (state S.Store conn.old).now (λ layout. (sets : List Set) → HoldsSets ((state S.Store conn.old).now.trees (set_tree layout)) sets → found ≡ greatest_epoch_of sets)) }
+    ensures found { IsTrue (state S.Store conn.new).is_open
+        → IfOk result (λ found. InStore (state S.Store conn.old).now (λ layout. (sets : List Set)
+        → HoldsSets ((state S.Store conn.old).now.trees (set_tree layout)) sets → found ≡ greatest_epoch_of sets)) }
     ensures read { IsRead result (state S.Store conn.old) (state S.Store conn.new) }
 {
     epoch_in(answered(conn.query_all("SELECT MAX(epoch) FROM vset2", &[])))
@@ -304,7 +335,8 @@ impl Work for SetCancelled {
     ghost use Rattle.acvp_store.specs.Connection.{UnderStore};
     ghost use Rattle.acvp_store.specs.Stands.{set_tree, HoldsSets};
 
-    ghost change = { λ s. UnderStore (λ layout. Alters layout (set_tree layout) HoldsSets (changed (is_set s.number) cancelled_set)) };
+    ghost change = { λ s. UnderStore
+        (λ layout. Alters layout (set_tree layout) HoldsSets (changed (is_set s.number) cancelled_set)) };
 
     fn run<S: Alter>(&self, tx: &mut Transaction<'_, S>) -> Result<(), StoreFault> {
         let number = fitting(self.number)?;
@@ -329,7 +361,8 @@ impl<'a> Work for GradedSet<'a> {
     ghost use Rattle.acvp_store.specs.Connection.{UnderStore};
     ghost use Rattle.acvp_store.specs.Stands.{set_tree, HoldsSets};
 
-    ghost change = { λ s. UnderStore (λ layout. Alters layout (set_tree layout) HoldsSets (changed (is_set s.number) (with_graded s.graded.now))) };
+    ghost change = { λ s. UnderStore
+        (λ layout. Alters layout (set_tree layout) HoldsSets (changed (is_set s.number) (with_graded s.graded.now))) };
 
     fn run<S: Alter>(&self, tx: &mut Transaction<'_, S>) -> Result<(), StoreFault> {
         let number = fitting(self.number)?;
@@ -355,7 +388,8 @@ fn insert_set<S: Alter>(
     epoch: u64,
 ) -> Result<(), StoreFault>
     ensures same_reference { tx.new.conn.ghost_name ≡ tx.old.conn.ghost_name }
-    ensures inside { IsInside result (state S.Store tx.old.conn.now) (state S.Store tx.new.conn.now) (UnderStore (λ layout. AddsSets layout (new_set number session capability.now epoch ∷ []))) }
+    ensures inside { IsInside result (state S.Store tx.old.conn.now) (state S.Store tx.new.conn.now)
+        (UnderStore (λ layout. AddsSets layout (new_set number session capability.now epoch ∷ []))) }
 {
     let number = fitting(number)?;
     let session = fitting(session)?;
@@ -379,7 +413,9 @@ impl<'a> Work for SetsBegun<'a> {
     ghost use Rattle.acvp_store.specs.Connection.{UnderStore};
     ghost use Rattle.acvp_store.specs.Private.Sets.{AddsSets};
 
-    ghost change = { λ s. UnderStore (λ layout. AddsSets layout (new_sets s.session.now.number s.session.now.epoch 1 s.session.now.registration.capabilities)) };
+    ghost change = { λ s. UnderStore
+        (λ layout. AddsSets layout
+        (new_sets s.session.now.number s.session.now.epoch 1 s.session.now.registration.capabilities)) };
 
     fn run<S: Alter>(&self, tx: &mut Transaction<'_, S>) -> Result<(), StoreFault> {
         let session = self.session;

@@ -1,5 +1,6 @@
 //! Rows as queries show them.
-ghost use Rattle.std.specs.Prelude.{◌≡◌, ◌≢◌, ◌<◌, ◌≤◌, ◌^◌, ℕ, Bool, pos, negsuc, length, IfOk, IfErr, IsOk, Ok, List, map, slice_get, option_to_list, IsPermutation};
+ghost use Rattle.std.specs.Prelude.{◌≡◌, ◌≢◌, ◌<◌, ◌≤◌, ◌^◌, ℕ, Bool, pos, negsuc, length, IfOk, IfErr, IsOk, Ok, List};
+ghost use Rattle.std.specs.Prelude.{map, slice_get, option_to_list, IsPermutation};
 ghost use Rattle.sqlite_value.specs.Order.{Row as Columns, column};
 ghost use Rattle.acvp_store.specs.Values.{flag, whole};
 ghost use Rattle.acvp_store.specs.Private.Shown.{BeginsWith, AreShown, IsOfNone, HasNoOne, IsRefusedOf};
@@ -31,7 +32,8 @@ pub(crate) trait Shown {
 pub(crate) fn field<T: FromSql>(row: &Row, at: usize) -> Result<T, StoreFault>
     ensures value { IfOk result (λ x. T.FromSql.reads_as (column row.now at) x) }
     ensures within { IfOk result (λ _. at < length row.now) }
-    ensures refused { IfErr result (λ fault. fault ≡ StoreFault.Refused → at < length row.now → ¬ T.FromSql.is_readable (column row.now at)) }
+    ensures refused { IfErr result (λ fault. fault ≡ StoreFault.Refused → at < length row.now
+        → ¬ T.FromSql.is_readable (column row.now at)) }
 {
     match row.get(at) {
         Ok(value) => Ok(value),
@@ -43,7 +45,8 @@ pub(crate) fn field<T: FromSql>(row: &Row, at: usize) -> Result<T, StoreFault>
 pub(crate) fn truth(row: &Row, at: usize) -> Result<bool, StoreFault>
     ensures value { IfOk result (λ b. column row.now at ≡ flag b) }
     ensures within { IfOk result (λ _. at < length row.now) }
-    ensures refused { IfErr result (λ fault. fault ≡ StoreFault.Refused → at < length row.now → (b : Bool) → column row.now at ≢ flag b) }
+    ensures refused { IfErr result (λ fault. fault ≡ StoreFault.Refused → at < length row.now → (b : Bool)
+        → column row.now at ≢ flag b) }
 {
     let value: u32 = field(row, at)?;
     match value {
@@ -57,7 +60,8 @@ pub(crate) fn truth(row: &Row, at: usize) -> Result<bool, StoreFault>
 pub(crate) fn account_number(row: &Row, at: usize) -> Result<u16, StoreFault>
     ensures value { IfOk result (λ n. column row.now at ≡ whole n) }
     ensures within { IfOk result (λ _. at < length row.now) }
-    ensures refused { IfErr result (λ fault. fault ≡ StoreFault.Refused → at < length row.now → (n : ℕ) → n < 2 ^ 16 → column row.now at ≢ whole n) }
+    ensures refused { IfErr result (λ fault. fault ≡ StoreFault.Refused → at < length row.now → (n : ℕ) → n < 2 ^ 16
+        → column row.now at ≢ whole n) }
 {
     let number: u32 = field(row, at)?;
     match u16::try_from(number) {
@@ -91,9 +95,11 @@ pub(crate) fn fitting(number: u64) -> Result<i64, StoreFault>
 
 /// The one row, where there is one. More are Refused.
 pub(crate) fn one<T: Shown + Drop>(rows: &[Row]) -> Result<Option<T>, StoreFault>
-    ensures found { IfOk result (λ found. (list : List T) → IsPermutation (map T.Shown.shown list) rows.now → found ≡ slice_get list 0) }
+    ensures found { IfOk result (λ found. (list : List T) → IsPermutation (map T.Shown.shown list) rows.now
+        → found ≡ slice_get list 0) }
     ensures judged { IfOk result (λ found. AreShown T.Shown.judged_so T.Shown.shown rows.now (option_to_list found)) }
-    ensures refused { IfErr result (λ fault. fault ≡ StoreFault.Refused → HasNoOne T.Shown.fits T.Shown.shown rows.now) }
+    ensures refused { IfErr result (λ fault. fault ≡ StoreFault.Refused
+        → HasNoOne T.Shown.fits T.Shown.shown rows.now) }
 {
     if rows.len() > 1 {
         return Err(StoreFault::Refused);
@@ -111,9 +117,12 @@ pub(crate) fn one<T: Shown + Drop>(rows: &[Row]) -> Result<Option<T>, StoreFault
 pub(crate) fn answered<T: Shown + Drop>(
     outcome: Result<Vec<Row>, Error>,
 ) -> Result<Option<T>, StoreFault>
-    ensures found { IfOk result (λ found. IfOk outcome (λ rows. (list : List T) → IsPermutation (map T.Shown.shown list) rows.items → found ≡ slice_get list 0)) }
-    ensures judged { IfOk result (λ found. IfOk outcome (λ rows. AreShown T.Shown.judged_so T.Shown.shown rows.items (option_to_list found))) }
-    ensures refused { IfErr result (λ fault. fault ≡ StoreFault.Refused → IsRefusedOf (λ rows. HasNoOne T.Shown.fits T.Shown.shown rows.items) outcome) }
+    ensures found { IfOk result (λ found. IfOk outcome (λ rows. (list : List T)
+        → IsPermutation (map T.Shown.shown list) rows.items → found ≡ slice_get list 0)) }
+    ensures judged { IfOk result
+        (λ found. IfOk outcome (λ rows. AreShown T.Shown.judged_so T.Shown.shown rows.items (option_to_list found))) }
+    ensures refused { IfErr result (λ fault. fault ≡ StoreFault.Refused
+        → IsRefusedOf (λ rows. HasNoOne T.Shown.fits T.Shown.shown rows.items) outcome) }
     ensures ok { IsOk result → IsOk outcome }
 {
     match outcome {

@@ -9,14 +9,15 @@ ghost use Rattle.acvp_store.specs.Version.{HasVersion};
 ghost use Rattle.acvp_tables.specs.Calls.{Changes};
 ghost use Rattle.acvp_tables.specs.Content.{Content, no_rows};
 ghost use Rattle.acvp_tables.specs.Changes.{after, after_order};
-ghost use Rattle.acvp_tables.specs.State.{IsSound};
 ghost use Rattle.acvp_tables.specs.declared.change.Change.TheVariants as change;
 ghost use Rattle.acvp_tables.specs.declared.change.OrderChange.TheVariants as order;
-ghost use Rattle.acvp_store.specs.Connection.{IsSettled, IsReady, IsHandedBack, ServesStore, IsWritten, LeavesNoMore, LeavesSo, Under};
+ghost use Rattle.acvp_store.specs.Connection.{IsSettled, IsReady, IsHandedBack, ServesStore, IsWritten, LeavesNoMore};
+ghost use Rattle.acvp_store.specs.Connection.{LeavesSo, Under};
 ghost use Rattle.acvp_store.specs.Migrated.{IsKnown, IsMigrated, IsAfterMigration, IsOf};
 ghost use Rattle.acvp_store.specs.Schema.{Created, Migrated, no_schema, schema_of, SchemaVersion, schema_at};
 ghost use Rattle.acvp_store.specs.Private.Migration.{version_of, IsEarlierOf};
-ghost use Rattle.acvp_store.specs.Store.{may_fail, Begins, BecomesMigrated, IsStoreAt, IsStoreOf, IsOldOrMigrated, stands, IsLive, is_clean, leaves};
+ghost use Rattle.acvp_store.specs.Store.{may_fail, Begins, BecomesMigrated, IsStoreAt, IsStoreOf, IsOldOrMigrated};
+ghost use Rattle.acvp_store.specs.Store.{meaning_of, stands, IsLive};
 
 use crate::accounts::{DisabledAccount, find_account};
 use crate::counts::{find_count, find_counts};
@@ -40,11 +41,11 @@ use crate::work::{Then, commit};
 use acvp_answers::Verdict;
 use acvp_caps::Capability;
 use acvp_policy::{Grant, release};
-use acvp_registry::Kind;
+use acvp_registry::{Counts, Kind};
 use acvp_tables::{
-    AccountRow, Approval, CancelledSet, Change, Counted, Counts, KeptAnswers, NewAccount,
-    NewCertification, NewRequest, NewSession, ObjectRow, OrderChange, RequestStatus,
-    RequestSummary, ReviewerRow, SessionRow, SetSummary, StoreFault, Tables, UsedStep,
+    AccountRow, Approval, CancelledSet, Change, Counted, KeptAnswers, NewAccount, NewCertification,
+    NewRequest, NewSession, ObjectRow, OrderChange, RequestStatus, RequestSummary, ReviewerRow,
+    SessionRow, SetSummary, StoreFault, Tables, UsedStep,
 };
 use sqlite::{Alter, Connection, MemStore};
 use std::alloc::Global;
@@ -120,11 +121,14 @@ pub fn create<S: Alter>(
     alloc: Global,
     mut connection: Connection<S>,
 ) -> Result<SqlTables<S>, (Connection<S>, StoreFault)>
-    ensures tables { IfOk result (λ t. IsTrue (state S.Store t).is_open → (state S.Store t).now.schema ≡ schema_of Created) }
+    ensures tables { IfOk result (λ t. IsTrue (state S.Store t).is_open
+        → (state S.Store t).now.schema ≡ schema_of Created) }
     ensures begins { IfOk result (λ t. IsTrue (state S.Store t).is_open → stands S.Store t no_rows) }
     ensures fresh { IfOk result (λ t. (state S.Store connection).now.schema ≡ no_schema) }
-    ensures live { IfOk result (λ t. HasCleanDisk (state S.Store t) → IsTrue (state S.Store connection).is_open → IsLive S.Store t) }
-    ensures unchanged { IfErr result (λ e. IsTrue (state S.Store e.0).is_open → IsHandedBack (state S.Store connection) (state S.Store e.0)) }
+    ensures live { IfOk result (λ t. HasCleanDisk (state S.Store t) → IsTrue (state S.Store connection).is_open
+        → IsLive S.Store t) }
+    ensures unchanged { IfErr result (λ e. IsTrue (state S.Store e.0).is_open
+        → IsHandedBack (state S.Store connection) (state S.Store e.0)) }
     ensures limit { IfOk result (λ t. (state S.Store t).step_limit ≡ (state S.Store connection).step_limit) }
 {
     if !connection.is_autocommit() {
@@ -154,7 +158,8 @@ fn created_in_memory(alloc: Global) -> Result<Connection<MemStore>, StoreFault>
 /// names no version.
 fn make_migrated_tables<S: Alter>(connection: &mut Connection<S>) -> Result<(), StoreFault>
     requires { IsReady (state S.Store connection.old) }
-    ensures { IsWritten result (state S.Store connection.old) (state S.Store connection.new) (Under no_schema BecomesMigrated) }
+    ensures { IsWritten result (state S.Store connection.old) (state S.Store connection.new)
+        (Under no_schema BecomesMigrated) }
 {
     let last = Then {
         first: StoreTable::LaterSet,
@@ -200,7 +205,8 @@ fn migrated_in_memory(alloc: Global) -> Result<Connection<MemStore>, StoreFault>
 /// Whether the tables of a database are the store's, as `create` makes them.
 fn is_created<S: Alter>(alloc: Global, connection: &Connection<S>) -> Result<bool, StoreFault>
     ensures same { IfOk result (λ has. IsTrue has ↔ ((state S.Store connection.now).now.schema ≡ schema_of Created)) }
-    ensures sound { IfOk result (λ has. IsTrue (state S.Store connection.now).is_open → IsDatabase (state S.Store connection.now).now) }
+    ensures sound { IfOk result (λ has. IsTrue (state S.Store connection.now).is_open
+        → IsDatabase (state S.Store connection.now).now) }
 {
     let ours = created_in_memory(alloc)?;
     match same_schema(alloc, connection.schema(), ours.schema()) {
@@ -226,13 +232,20 @@ fn adopt_named<S: Alter>(
     mut connection: Connection<S>,
 ) -> Result<SqlTables<S>, (Connection<S>, AdoptFault)>
     requires { ServesStore (state S.Store connection) }
-    ensures named { IfOk result (λ t. IsTrue (state S.Store t).is_open → IsTrue (state S.Store connection).is_open × HasVersion 3 (state S.Store connection).now.trees × ((state S.Store t).now ≡ (state S.Store connection).now)) }
-    ensures live { IfOk result (λ t. HasCleanDisk (state S.Store t) → HasCleanDisk (state S.Store connection) × IsTrue (state S.Store connection).is_open × IsLive S.Store t) }
-    ensures schema { IfErr result (λ e. e.1 ≡ AdoptFault.Schema → IsTrue (state S.Store e.0).is_open → IsTrue (state S.Store connection).is_open × ¬ HasVersion 3 (state S.Store connection).now.trees) }
-    ensures open { IfErr result (λ e. e.1 ≡ AdoptFault.Schema → HasCleanDisk (state S.Store e.0) → IsTrue (state S.Store connection).is_open → IsTrue (state S.Store e.0).is_open) }
-    ensures unchanged { IfErr result (λ e. IsTrue (state S.Store e.0).is_open → IsHandedBack (state S.Store connection) (state S.Store e.0)) }
+    ensures named { IfOk result (λ t. IsTrue (state S.Store t).is_open → IsTrue (state S.Store connection).is_open
+        × HasVersion 3 (state S.Store connection).now.trees
+        × ((state S.Store t).now ≡ (state S.Store connection).now)) }
+    ensures live { IfOk result (λ t. HasCleanDisk (state S.Store t) → HasCleanDisk (state S.Store connection)
+        × IsTrue (state S.Store connection).is_open × IsLive S.Store t) }
+    ensures schema { IfErr result (λ e. e.1 ≡ AdoptFault.Schema → IsTrue (state S.Store e.0).is_open
+        → IsTrue (state S.Store connection).is_open × ¬ HasVersion 3 (state S.Store connection).now.trees) }
+    ensures open { IfErr result (λ e. e.1 ≡ AdoptFault.Schema → HasCleanDisk (state S.Store e.0)
+        → IsTrue (state S.Store connection).is_open → IsTrue (state S.Store e.0).is_open) }
+    ensures unchanged { IfErr result (λ e. IsTrue (state S.Store e.0).is_open
+        → IsHandedBack (state S.Store connection) (state S.Store e.0)) }
     ensures limit { IfOk result (λ t. (state S.Store t).step_limit ≡ (state S.Store connection).step_limit) }
-    ensures left { MatchResult result (λ t. LeavesNoMore (state S.Store connection) (state S.Store t)) (λ e. LeavesNoMore (state S.Store connection) (state S.Store e.0)) }
+    ensures left { MatchResult result (λ t. LeavesNoMore (state S.Store connection) (state S.Store t))
+        (λ e. LeavesNoMore (state S.Store connection) (state S.Store e.0)) }
     ensures was_clean { IfErr result (λ e. HasCleanDisk (state S.Store e.0) → HasCleanDisk (state S.Store connection)) }
 {
     match has_version(&mut connection, 3) {
@@ -248,14 +261,21 @@ fn adopt_migrated<S: Alter>(
     alloc: Global,
     mut connection: Connection<S>,
 ) -> Result<SqlTables<S>, (Connection<S>, AdoptFault)>
-    requires { IsTrue (state S.Store connection).is_open → IsSettled (state S.Store connection) × ((state S.Store connection).now.schema ≡ schema_of Migrated) × IsDatabase (state S.Store connection).now }
-    ensures adopted { IfOk result (λ t. IsTrue (state S.Store t).is_open → IsAdopted (state S.Store connection) (state S.Store t)) }
-    ensures live { IfOk result (λ t. HasCleanDisk (state S.Store t) → IsTrue (state S.Store connection).is_open × IsLive S.Store t) }
-    ensures schema { IfErr result (λ e. e.1 ≡ AdoptFault.Schema → IsTrue (state S.Store e.0).is_open → ¬ IsOurs (state S.Store connection).now) }
-    ensures open { IfErr result (λ e. e.1 ≡ AdoptFault.Schema → HasCleanDisk (state S.Store e.0) → IsTrue (state S.Store connection).is_open → IsTrue (state S.Store e.0).is_open) }
-    ensures unchanged { IfErr result (λ e. IsTrue (state S.Store e.0).is_open → IsHandedBack (state S.Store connection) (state S.Store e.0)) }
+    requires { IsTrue (state S.Store connection).is_open → IsSettled (state S.Store connection)
+        × ((state S.Store connection).now.schema ≡ schema_of Migrated) × IsDatabase (state S.Store connection).now }
+    ensures adopted { IfOk result (λ t. IsTrue (state S.Store t).is_open
+        → IsAdopted (state S.Store connection) (state S.Store t)) }
+    ensures live { IfOk result (λ t. HasCleanDisk (state S.Store t) → IsTrue (state S.Store connection).is_open
+        × IsLive S.Store t) }
+    ensures schema { IfErr result (λ e. e.1 ≡ AdoptFault.Schema → IsTrue (state S.Store e.0).is_open
+        → ¬ IsOurs (state S.Store connection).now) }
+    ensures open { IfErr result (λ e. e.1 ≡ AdoptFault.Schema → HasCleanDisk (state S.Store e.0)
+        → IsTrue (state S.Store connection).is_open → IsTrue (state S.Store e.0).is_open) }
+    ensures unchanged { IfErr result (λ e. IsTrue (state S.Store e.0).is_open
+        → IsHandedBack (state S.Store connection) (state S.Store e.0)) }
     ensures limit { IfOk result (λ t. (state S.Store t).step_limit ≡ (state S.Store connection).step_limit) }
-    ensures left { MatchResult result (λ t. LeavesNoMore (state S.Store connection) (state S.Store t)) (λ e. LeavesNoMore (state S.Store connection) (state S.Store e.0)) }
+    ensures left { MatchResult result (λ t. LeavesNoMore (state S.Store connection) (state S.Store t))
+        (λ e. LeavesNoMore (state S.Store connection) (state S.Store e.0)) }
 {
     match has_old_sets(&mut connection) {
         Ok(false) => adopt_named(alloc, connection),
@@ -272,15 +292,23 @@ pub fn adopt<S: Alter>(
     alloc: Global,
     connection: Connection<S>,
 ) -> Result<SqlTables<S>, (Connection<S>, AdoptFault)>
-    ensures adopted { IfOk result (λ t. IsTrue (state S.Store t).is_open → IsAdopted (state S.Store connection) (state S.Store t)) }
-    ensures found { IfOk result (λ t. IsTrue (state S.Store t).is_open → (c : Content) → IsStoreOf (state S.Store connection).now.trees c → stands S.Store t c) }
-    ensures live { IfOk result (λ t. HasCleanDisk (state S.Store t) → IsTrue (state S.Store connection).is_open × IsLive S.Store t) }
-    ensures schema { IfErr result (λ e. e.1 ≡ AdoptFault.Schema → IsTrue (state S.Store e.0).is_open → ¬ IsOurs (state S.Store connection).now) }
-    ensures open { IfErr result (λ e. e.1 ≡ AdoptFault.Schema → HasCleanDisk (state S.Store e.0) → IsTrue (state S.Store connection).is_open → IsTrue (state S.Store e.0).is_open) }
-    ensures recognized { IfErr result (λ e. e.1 ≡ AdoptFault.Schema → IsTrue (state S.Store e.0).is_open → (c : Content) → ¬ IsStoreOf (state S.Store connection).now.trees c) }
-    ensures unchanged { IfErr result (λ e. IsTrue (state S.Store e.0).is_open → IsHandedBack (state S.Store connection) (state S.Store e.0)) }
+    ensures adopted { IfOk result (λ t. IsTrue (state S.Store t).is_open
+        → IsAdopted (state S.Store connection) (state S.Store t)) }
+    ensures found { IfOk result (λ t. IsTrue (state S.Store t).is_open → (c : Content)
+        → IsStoreOf (state S.Store connection).now.trees c → stands S.Store t c) }
+    ensures live { IfOk result (λ t. HasCleanDisk (state S.Store t) → IsTrue (state S.Store connection).is_open
+        × IsLive S.Store t) }
+    ensures schema { IfErr result (λ e. e.1 ≡ AdoptFault.Schema → IsTrue (state S.Store e.0).is_open
+        → ¬ IsOurs (state S.Store connection).now) }
+    ensures open { IfErr result (λ e. e.1 ≡ AdoptFault.Schema → HasCleanDisk (state S.Store e.0)
+        → IsTrue (state S.Store connection).is_open → IsTrue (state S.Store e.0).is_open) }
+    ensures recognized { IfErr result (λ e. e.1 ≡ AdoptFault.Schema → IsTrue (state S.Store e.0).is_open → (c : Content)
+        → ¬ IsStoreOf (state S.Store connection).now.trees c) }
+    ensures unchanged { IfErr result (λ e. IsTrue (state S.Store e.0).is_open
+        → IsHandedBack (state S.Store connection) (state S.Store e.0)) }
     ensures limit { IfOk result (λ t. (state S.Store t).step_limit ≡ (state S.Store connection).step_limit) }
-    ensures left { MatchResult result (λ t. LeavesNoMore (state S.Store connection) (state S.Store t)) (λ e. LeavesNoMore (state S.Store connection) (state S.Store e.0)) }
+    ensures left { MatchResult result (λ t. LeavesNoMore (state S.Store connection) (state S.Store t))
+        (λ e. LeavesNoMore (state S.Store connection) (state S.Store e.0)) }
 {
     if !connection.is_autocommit() {
         return Err((connection, AdoptFault::Refused));
@@ -303,7 +331,8 @@ fn earlier_of<S: Alter>(
     connection: &Connection<S>,
 ) -> Result<Option<Earlier>, StoreFault>
     ensures earlier { IfOk result (IsEarlierOf (state S.Store connection.now).now.schema) }
-    ensures sound { IfOk result (λ from. IsTrue (state S.Store connection.now).is_open → IsDatabase (state S.Store connection.now).now) }
+    ensures sound { IfOk result (λ from. IsTrue (state S.Store connection.now).is_open
+        → IsDatabase (state S.Store connection.now).now) }
 {
     let created = created_in_memory(alloc)?;
     let migrated = migrated_in_memory(alloc)?;
@@ -326,14 +355,24 @@ fn migrate_from<S: Alter>(
     mut connection: Connection<S>,
     from: Earlier,
 ) -> Result<SqlTables<S>, (Connection<S>, AdoptFault)>
-    requires { IsTrue (state S.Store connection).is_open → IsSettled (state S.Store connection) × ((state S.Store connection).now.schema ≡ schema_at (version_of from)) × IsDatabase (state S.Store connection).now }
-    ensures migrated { IfOk result (λ t. IsTrue (state S.Store t).is_open → IsMigrated (state S.Store connection) (state S.Store t)) }
-    ensures live { IfOk result (λ t. HasCleanDisk (state S.Store t) → IsTrue (state S.Store connection).is_open × IsLive S.Store t) }
-    ensures schema { IfErr result (λ e. e.1 ≡ AdoptFault.Schema → IsTrue (state S.Store e.0).is_open → ¬ IsOf (version_of from) (state S.Store connection).now) }
-    ensures open { IfErr result (λ e. e.1 ≡ AdoptFault.Schema → HasCleanDisk (state S.Store e.0) → IsTrue (state S.Store connection).is_open → IsTrue (state S.Store e.0).is_open) }
-    ensures unchanged { IfErr result (λ e. IsTrue (state S.Store e.0).is_open → IsHandedBack (state S.Store connection) (state S.Store e.0)) }
+    requires { IsTrue (state S.Store connection).is_open → IsSettled (state S.Store connection)
+        × ((state S.Store connection).now.schema ≡ schema_at (version_of from))
+        × IsDatabase (state S.Store connection).now }
+    ensures migrated { IfOk result (λ t. IsTrue (state S.Store t).is_open
+        → IsMigrated (state S.Store connection) (state S.Store t)) }
+    ensures live { IfOk result (λ t. HasCleanDisk (state S.Store t) → IsTrue (state S.Store connection).is_open
+        × IsLive S.Store t) }
+    ensures schema { IfErr result (λ e. e.1 ≡ AdoptFault.Schema → IsTrue (state S.Store e.0).is_open
+        → ¬ IsOf (version_of from) (state S.Store connection).now) }
+    ensures open { IfErr result (λ e. e.1 ≡ AdoptFault.Schema → HasCleanDisk (state S.Store e.0)
+        → IsTrue (state S.Store connection).is_open → IsTrue (state S.Store e.0).is_open) }
+    ensures unchanged { IfErr result (λ e. IsTrue (state S.Store e.0).is_open
+        → IsHandedBack (state S.Store connection) (state S.Store e.0)) }
     ensures limit { IfOk result (λ t. (state S.Store t).step_limit ≡ (state S.Store connection).step_limit) }
-    ensures left { IfErr result (λ e. LeavesSo (state S.Store connection) (state S.Store e.0) (λ db. (db ≡ (state S.Store connection).committed.trees) ⊎ IsAfterMigration (state S.Store connection).now db)) }
+    ensures left { IfErr result
+        (λ e. LeavesSo (state S.Store connection) (state S.Store e.0)
+        (λ db. (db ≡ (state S.Store connection).committed.trees)
+        ⊎ IsAfterMigration (state S.Store connection).now db)) }
 {
     match is_earlier(&mut connection, from) {
         Ok(true) => {}
@@ -354,17 +393,29 @@ pub fn migrate<S: Alter>(
     alloc: Global,
     connection: Connection<S>,
 ) -> Result<SqlTables<S>, (Connection<S>, AdoptFault)>
-    ensures migrated { IfOk result (λ t. IsTrue (state S.Store t).is_open → IsMigrated (state S.Store connection) (state S.Store t)) }
-    ensures live { IfOk result (λ t. HasCleanDisk (state S.Store t) → IsTrue (state S.Store connection).is_open × IsLive S.Store t) }
-    ensures found { IfOk result (λ t. IsTrue (state S.Store t).is_open → (version : SchemaVersion) (c : Content) → IsStoreAt version (state S.Store connection).now.trees c → stands S.Store t c) }
-    ensures schema { IfErr result (λ e. e.1 ≡ AdoptFault.Schema → IsTrue (state S.Store e.0).is_open → ¬ IsKnown (state S.Store connection).now) }
-    ensures open { IfErr result (λ e. e.1 ≡ AdoptFault.Schema → HasCleanDisk (state S.Store e.0) → IsTrue (state S.Store connection).is_open → IsTrue (state S.Store e.0).is_open) }
-    ensures recognized { IfErr result (λ e. e.1 ≡ AdoptFault.Schema → IsTrue (state S.Store e.0).is_open → (version : SchemaVersion) (c : Content) → ¬ IsStoreAt version (state S.Store connection).now.trees c) }
-    ensures unchanged { IfErr result (λ e. IsTrue (state S.Store e.0).is_open → IsHandedBack (state S.Store connection) (state S.Store e.0)) }
+    ensures migrated { IfOk result (λ t. IsTrue (state S.Store t).is_open
+        → IsMigrated (state S.Store connection) (state S.Store t)) }
+    ensures live { IfOk result (λ t. HasCleanDisk (state S.Store t) → IsTrue (state S.Store connection).is_open
+        × IsLive S.Store t) }
+    ensures found { IfOk result (λ t. IsTrue (state S.Store t).is_open → (version : SchemaVersion) (c : Content)
+        → IsStoreAt version (state S.Store connection).now.trees c → stands S.Store t c) }
+    ensures schema { IfErr result (λ e. e.1 ≡ AdoptFault.Schema → IsTrue (state S.Store e.0).is_open
+        → ¬ IsKnown (state S.Store connection).now) }
+    ensures open { IfErr result (λ e. e.1 ≡ AdoptFault.Schema → HasCleanDisk (state S.Store e.0)
+        → IsTrue (state S.Store connection).is_open → IsTrue (state S.Store e.0).is_open) }
+    ensures recognized { IfErr result (λ e. e.1 ≡ AdoptFault.Schema → IsTrue (state S.Store e.0).is_open
+        → (version : SchemaVersion) (c : Content) → ¬ IsStoreAt version (state S.Store connection).now.trees c) }
+    ensures unchanged { IfErr result (λ e. IsTrue (state S.Store e.0).is_open
+        → IsHandedBack (state S.Store connection) (state S.Store e.0)) }
     ensures limit { IfOk result (λ t. (state S.Store t).step_limit ≡ (state S.Store connection).step_limit) }
-    ensures settled { IfOk result (λ t. LeavesSo (state S.Store connection) (state S.Store t) (λ db. db ≡ (state S.Store t).now.trees)) }
-    ensures left { IfErr result (λ e. LeavesSo (state S.Store connection) (state S.Store e.0) (λ db. (db ≡ (state S.Store connection).committed.trees) ⊎ IsAfterMigration (state S.Store connection).now db)) }
-    ensures crash { IfErr result (λ e. LeavesSo (state S.Store connection) (state S.Store e.0) (IsOldOrMigrated (state S.Store connection).committed.trees)) }
+    ensures settled { IfOk result
+        (λ t. LeavesSo (state S.Store connection) (state S.Store t) (λ db. db ≡ (state S.Store t).now.trees)) }
+    ensures left { IfErr result
+        (λ e. LeavesSo (state S.Store connection) (state S.Store e.0)
+        (λ db. (db ≡ (state S.Store connection).committed.trees)
+        ⊎ IsAfterMigration (state S.Store connection).now db)) }
+    ensures crash { IfErr result (λ e. LeavesSo (state S.Store connection) (state S.Store e.0)
+        (IsOldOrMigrated (state S.Store connection).committed.trees)) }
 {
     if !connection.is_autocommit() {
         return Err((connection, AdoptFault::Refused));
@@ -387,35 +438,37 @@ impl<S: Alter> SqlTables<S> {
 
     /// Adds an account.
     pub(crate) fn add_account(&mut self, account: &NewAccount) -> Result<(), StoreFault>
-        ensures { Changes IsSound may_fail (stands S.Store) (IsLive S.Store) (is_clean S.Store) (leaves S.Store) result self.old self.new (after_order (order.AddAccount account.now)) }
+        ensures { Changes may_fail (meaning_of S.Store) result self.old self.new
+            (after_order (order.AddAccount account.now)) }
     {
         commit(&mut self.connection, account)
     }
 
     /// Disables the account of a number.
     pub(crate) fn disable_account(&mut self, account: u16) -> Result<(), StoreFault>
-        ensures { Changes IsSound may_fail (stands S.Store) (IsLive S.Store) (is_clean S.Store) (leaves S.Store) result self.old self.new (after_order (order.DisableAccount account)) }
+        ensures { Changes may_fail (meaning_of S.Store) result self.old self.new
+            (after_order (order.DisableAccount account)) }
     {
         commit(&mut self.connection, &DisabledAccount { account })
     }
 
     /// Notes the time step of a one-time code that an account has used.
     pub(crate) fn use_step(&mut self, used: &UsedStep) -> Result<(), StoreFault>
-        ensures { Changes IsSound may_fail (stands S.Store) (IsLive S.Store) (is_clean S.Store) (leaves S.Store) result self.old self.new (after (change.UseStep used.now)) }
+        ensures { Changes may_fail (meaning_of S.Store) result self.old self.new (after (change.UseStep used.now)) }
     {
         commit(&mut self.connection, used)
     }
 
     /// Cancels the test session of a number.
     pub(crate) fn cancel_session(&mut self, number: u64) -> Result<(), StoreFault>
-        ensures { Changes IsSound may_fail (stands S.Store) (IsLive S.Store) (is_clean S.Store) (leaves S.Store) result self.old self.new (after (change.CancelSession number)) }
+        ensures { Changes may_fail (meaning_of S.Store) result self.old self.new (after (change.CancelSession number)) }
     {
         commit(&mut self.connection, &CancelledSession { number })
     }
 
     /// Cancels a vector set, and notes how many its session has without it.
     pub(crate) fn cancel_set(&mut self, set: &CancelledSet) -> Result<(), StoreFault>
-        ensures { Changes IsSound may_fail (stands S.Store) (IsLive S.Store) (is_clean S.Store) (leaves S.Store) result self.old self.new (after (change.CancelSet set.now)) }
+        ensures { Changes may_fail (meaning_of S.Store) result self.old self.new (after (change.CancelSet set.now)) }
     {
         let cancelled = SetCancelled { number: set.set };
         let counted = CountedSession {
@@ -434,7 +487,7 @@ impl<S: Alter> SqlTables<S> {
 
     /// Keeps answers to a vector set, and notes how many sets of its session have passed with them.
     pub(crate) fn keep_answers(&mut self, kept: &KeptAnswers) -> Result<(), StoreFault>
-        ensures { Changes IsSound may_fail (stands S.Store) (IsLive S.Store) (is_clean S.Store) (leaves S.Store) result self.old self.new (after (change.KeepAnswers kept.now)) }
+        ensures { Changes may_fail (meaning_of S.Store) result self.old self.new (after (change.KeepAnswers kept.now)) }
     {
         let graded = GradedSet {
             alloc: self.alloc,
@@ -456,7 +509,8 @@ impl<S: Alter> SqlTables<S> {
 
     /// Begins a test session with its vector sets.
     pub(crate) fn new_session(&mut self, session: &NewSession) -> Result<(), StoreFault>
-        ensures { Changes IsSound may_fail (stands S.Store) (IsLive S.Store) (is_clean S.Store) (leaves S.Store) result self.old self.new (after (change.NewSession session.now)) }
+        ensures { Changes may_fail (meaning_of S.Store) result self.old self.new
+            (after (change.NewSession session.now)) }
     {
         let begun = SessionBegun { session };
         let sets = SetsBegun {
@@ -474,14 +528,15 @@ impl<S: Alter> SqlTables<S> {
 
     /// Takes a request for the registration of an object.
     pub(crate) fn new_request(&mut self, request: &NewRequest) -> Result<(), StoreFault>
-        ensures { Changes IsSound may_fail (stands S.Store) (IsLive S.Store) (is_clean S.Store) (leaves S.Store) result self.old self.new (after (change.NewRequest request.now)) }
+        ensures { Changes may_fail (meaning_of S.Store) result self.old self.new
+            (after (change.NewRequest request.now)) }
     {
         commit(&mut self.connection, request)
     }
 
     /// Takes a request for the certification of a test session, and notes it with the session.
     pub(crate) fn certify(&mut self, request: &NewCertification) -> Result<(), StoreFault>
-        ensures { Changes IsSound may_fail (stands S.Store) (IsLive S.Store) (is_clean S.Store) (leaves S.Store) result self.old self.new (after (change.Certify request.now)) }
+        ensures { Changes may_fail (meaning_of S.Store) result self.old self.new (after (change.Certify request.now)) }
     {
         let asked = CertificationAsked {
             alloc: self.alloc,
@@ -502,7 +557,8 @@ impl<S: Alter> SqlTables<S> {
 
     /// Lets an account read a test session's results. Where it may already, nothing changes.
     pub(crate) fn add_reviewer(&mut self, reviewer: &ReviewerRow) -> Result<(), StoreFault>
-        ensures { Changes IsSound may_fail (stands S.Store) (IsLive S.Store) (is_clean S.Store) (leaves S.Store) result self.old self.new (after (change.AddReviewer reviewer.now)) }
+        ensures { Changes may_fail (meaning_of S.Store) result self.old self.new
+            (after (change.AddReviewer reviewer.now)) }
     {
         match find_reviewer(&mut self.connection, reviewer.session, reviewer.account) {
             Ok(true) => Ok(()),
@@ -518,7 +574,8 @@ impl<S: Alter> SqlTables<S> {
 
     /// Lets an account read a test session's results no more.
     pub(crate) fn remove_reviewer(&mut self, reviewer: &ReviewerRow) -> Result<(), StoreFault>
-        ensures { Changes IsSound may_fail (stands S.Store) (IsLive S.Store) (is_clean S.Store) (leaves S.Store) result self.old self.new (after (change.RemoveReviewer reviewer.now)) }
+        ensures { Changes may_fail (meaning_of S.Store) result self.old self.new
+            (after (change.RemoveReviewer reviewer.now)) }
     {
         commit(
             &mut self.connection,
@@ -530,7 +587,7 @@ impl<S: Alter> SqlTables<S> {
 
     /// Rejects the request of a number.
     pub(crate) fn reject(&mut self, number: u64) -> Result<(), StoreFault>
-        ensures { Changes IsSound may_fail (stands S.Store) (IsLive S.Store) (is_clean S.Store) (leaves S.Store) result self.old self.new (after_order (order.Reject number)) }
+        ensures { Changes may_fail (meaning_of S.Store) result self.old self.new (after_order (order.Reject number)) }
     {
         commit(
             &mut self.connection,
@@ -543,7 +600,8 @@ impl<S: Alter> SqlTables<S> {
 
     /// Approves a request, and registers what it asks to register.
     pub(crate) fn approve(&mut self, approval: &Approval) -> Result<(), StoreFault>
-        ensures { Changes IsSound may_fail (stands S.Store) (IsLive S.Store) (is_clean S.Store) (leaves S.Store) result self.old self.new (after_order (order.Approve approval.now)) }
+        ensures { Changes may_fail (meaning_of S.Store) result self.old self.new
+            (after_order (order.Approve approval.now)) }
     {
         let registered = Registered {
             request: approval.request,
@@ -566,23 +624,21 @@ impl<S: Alter> SqlTables<S> {
 impl<S: Alter> Tables for SqlTables<S> {
     ghost use Rattle.std.proofs.Common.{◌∙◌, sym, ap, inl};
     ghost use Rattle.sqlite.specs.Effect.{Database};
-    ghost use Rattle.acvp_store.specs.Store.{may_fail, stands, IsLive, is_clean, leaves};
+    ghost use Rattle.acvp_store.specs.Store.{may_fail, meaning_of};
     ghost use Rattle.acvp_store.specs.Private.Clean.{open_is_clean};
     ghost use Rattle.acvp_store.specs.Private.Found.{store_of};
 
     ghost faults = { may_fail };
 
-    ghost stands = { stands S.Store };
-
-    ghost is_live = { IsLive S.Store };
-
-    ghost is_clean = { is_clean S.Store };
-
-    ghost leaves = { leaves S.Store };
+    ghost meaning = { meaning_of S.Store };
 
     ghost clean = { λ t live. open_is_clean (S.Store.shut_if_dirty t.store) live.is_open };
 
-    ghost rests = { λ t c d live h clean db may. inl (store_of h.0 (record { schema = t.schema; trees = (S.Store.view t.store).trees }) db h.1 (sym (S.Store.settled t.store db live.is_open may ∙ ap (λ (x : Database). x.trees) (sym live.store.ready.settled))) live.store.sound c h.2) };
+    ghost rests = { λ t c d live h clean db may.
+        let now : Database = record { schema = t.schema; trees = (S.Store.view t.store).trees } in
+        let settled = S.Store.settled t.store db live.is_open may in
+        inl (store_of h.0 now db h.1 (sym (settled ∙ ap (λ (x : Database). x.trees) (sym live.store.ready.settled)))
+        live.store.sound c h.2) };
 
     fn account(&mut self, number: u16) -> Result<Option<AccountRow>, StoreFault> {
         find_account(&mut self.connection, number)

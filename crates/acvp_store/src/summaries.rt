@@ -1,5 +1,6 @@
 //! Requests without the objects that they ask to register, as queries show them.
-ghost use Rattle.std.specs.Prelude.{◌≡◌, ◌≢◌, ◌<◌, None, Some, IfErr, IfOk, MatchOption, ℕ, List, option_map, string_bytes};
+ghost use Rattle.std.specs.Prelude.{◌≡◌, ◌≢◌, ◌<◌, None, Some, IfErr, IfOk, MatchOption, ℕ, List, option_map};
+ghost use Rattle.std.specs.Prelude.{string_bytes};
 ghost use Rattle.serde_json.specs.Written.{compact_text};
 ghost use Rattle.acvp_caps.specs.Json.{text_at};
 ghost use Rattle.serde_json.specs.View.{view};
@@ -13,7 +14,8 @@ ghost use Rattle.acvp_tables.specs.declared.rows.RequestBody.TheVariants as body
 ghost use Rattle.acvp_tables.specs.declared.summary.RequestSubject.{RequestSubject as Subject};
 ghost use Rattle.acvp_registry.specs.declared.kind.Kind.{Kind as ObjectKind};
 ghost use Rattle.acvp_store.specs.Stands.{BodyReads, certification_data, status_number};
-ghost use Rattle.acvp_store.specs.Private.Summaries.{subject_number, subject_text, FitsCertification, FitsSubject, SubjectReads};
+ghost use Rattle.acvp_store.specs.Private.Summaries.{subject_number, subject_text, FitsCertification, FitsSubject};
+ghost use Rattle.acvp_store.specs.Private.Summaries.{SubjectReads};
 
 use crate::pages::Member;
 use crate::requests::certification_text;
@@ -29,7 +31,8 @@ use std::alloc::Global;
 pub(crate) fn registered_kind(number: u32) -> Result<Kind, StoreFault>
     ensures known { IfOk result (λ found. (kind : ObjectKind) → number ≡ kind_number kind → found ≡ kind) }
     ensures judged { IfOk result (λ found. (number ≡ kind_number found) × (number < 4)) }
-    ensures refused { IfErr result (λ fault. (fault ≡ StoreFault.Refused) × ((kind : ObjectKind) → kind_number kind < 4 → number ≢ kind_number kind)) }
+    ensures refused { IfErr result (λ fault. (fault ≡ StoreFault.Refused)
+        × ((kind : ObjectKind) → kind_number kind < 4 → number ≢ kind_number kind)) }
 {
     match number {
         1 => Ok(Kind::Vendor),
@@ -53,7 +56,8 @@ pub(crate) fn kept_value(alloc: Global, text: &str) -> Result<Value, StoreFault>
 
 /// The number of what a URL at a name is of; none where there is no such URL.
 fn linked(value: &Value, name: &str, kind: Kind) -> Option<u64>
-    ensures { (url : List ℕ) → text_at name.now (view value.now) ≡ Some url → MatchOption result ((number : ℕ) → ¬ IsUrl kind number url) (λ number. IsUrl kind number url) }
+    ensures { (url : List ℕ) → text_at name.now (view value.now) ≡ Some url
+        → MatchOption result ((number : ℕ) → ¬ IsUrl kind number url) (λ number. IsUrl kind number url) }
 {
     let url = text_at(value, name)?;
     url_number(kind, url)
@@ -61,9 +65,12 @@ fn linked(value: &Value, name: &str, kind: Kind) -> Option<u64>
 
 /// The certification of a text. It is Refused where the text isn't that of one.
 pub(crate) fn certification(text: String) -> Result<Certification, StoreFault>
-    ensures known { IfOk result (λ found. (c : Certified) → BodyReads (body.Certification c) → string_bytes text ≡ compact_text (certification_data c) → found ≡ c) }
+    ensures known { IfOk result (λ found. (c : Certified) → BodyReads (body.Certification c)
+        → string_bytes text ≡ compact_text (certification_data c) → found ≡ c) }
     ensures judged { IfOk result (λ found. string_bytes text ≡ compact_text (certification_data found)) }
-    ensures refused { IfErr result (λ fault. fault ≡ StoreFault.Refused → (c : Certified) → BodyReads (body.Certification c) → FitsCertification c → string_bytes text ≢ compact_text (certification_data c)) }
+    ensures refused { IfErr result (λ fault. fault ≡ StoreFault.Refused → (c : Certified)
+        → BodyReads (body.Certification c) → FitsCertification c
+        → string_bytes text ≢ compact_text (certification_data c)) }
 {
     let alloc = *text.allocator();
     let value = kept_value(alloc, text.as_str())?;
@@ -91,9 +98,12 @@ pub(crate) fn certification(text: String) -> Result<Certification, StoreFault>
 
 /// What is asked for, by the number of its kind and the text of a certification.
 fn subject(number: u32, text: Option<String>) -> Result<RequestSubject, StoreFault>
-    ensures known { IfOk result (λ found. (s : Subject) → SubjectReads s → number ≡ subject_number s → option_map string_bytes text ≡ subject_text s → found ≡ s) }
-    ensures judged { IfOk result (λ found. (number ≡ subject_number found) × (option_map string_bytes text ≡ subject_text found)) }
-    ensures refused { IfErr result (λ fault. fault ≡ StoreFault.Refused → (s : Subject) → SubjectReads s → FitsSubject s → number ≡ subject_number s → option_map string_bytes text ≢ subject_text s) }
+    ensures known { IfOk result (λ found. (s : Subject) → SubjectReads s → number ≡ subject_number s
+        → option_map string_bytes text ≡ subject_text s → found ≡ s) }
+    ensures judged { IfOk result (λ found. (number ≡ subject_number found)
+        × (option_map string_bytes text ≡ subject_text found)) }
+    ensures refused { IfErr result (λ fault. fault ≡ StoreFault.Refused → (s : Subject) → SubjectReads s → FitsSubject s
+        → number ≡ subject_number s → option_map string_bytes text ≢ subject_text s) }
 {
     match text {
         Some(text) if number == 4 => Ok(RequestSubject::Certification(certification(text)?)),
@@ -104,7 +114,8 @@ fn subject(number: u32, text: Option<String>) -> Result<RequestSubject, StoreFau
 
 /// What was decided, by its number and what it gave.
 pub(crate) fn status(number: u32, given: Option<u64>) -> Result<RequestStatus, StoreFault>
-    ensures known { IfOk result (λ found. (s : Decided) → number ≡ status_number s → given ≡ given_number s → found ≡ s) }
+    ensures known { IfOk result (λ found. (s : Decided) → number ≡ status_number s → given ≡ given_number s
+        → found ≡ s) }
     ensures judged { IfOk result (λ found. (number ≡ status_number found) × (given ≡ given_number found)) }
     ensures refused { IfErr result (λ fault. (s : Decided) → number ≡ status_number s → given ≢ given_number s) }
 {

@@ -18,8 +18,10 @@ pub(crate) fn has_version<S: Alter>(
     conn: &mut Connection<S>,
     version: u32,
 ) -> Result<bool, StoreFault>
-    requires { IsTrue (state S.Store conn.old).is_open → IsSettled (state S.Store conn.old) × IsKnownSchema (state S.Store conn.old).now.schema }
-    ensures found { IsTrue (state S.Store conn.new).is_open → IfOk result (λ found. found ≡ list_any (is_version_row version) ((state S.Store conn.old).now.trees 0)) }
+    requires { IsTrue (state S.Store conn.old).is_open → IsSettled (state S.Store conn.old)
+        × IsKnownSchema (state S.Store conn.old).now.schema }
+    ensures found { IsTrue (state S.Store conn.new).is_open
+        → IfOk result (λ found. found ≡ list_any (is_version_row version) ((state S.Store conn.old).now.trees 0)) }
     ensures read { IsRead result (state S.Store conn.old) (state S.Store conn.new) }
 {
     any(conn.query_all(
@@ -30,8 +32,10 @@ pub(crate) fn has_version<S: Alter>(
 
 /// Whether the table of sets of schema 1, which stands beside the later one, has a row.
 pub(crate) fn has_old_sets<S: Alter>(conn: &mut Connection<S>) -> Result<bool, StoreFault>
-    requires { IsTrue (state S.Store conn.old).is_open → IsSettled (state S.Store conn.old) × HasOldTable (state S.Store conn.old).now.schema }
-    ensures found { IsTrue (state S.Store conn.new).is_open → IfOk result (λ found. found ≡ nat_lt 0 (length ((state S.Store conn.old).now.trees 4))) }
+    requires { IsTrue (state S.Store conn.old).is_open → IsSettled (state S.Store conn.old)
+        × HasOldTable (state S.Store conn.old).now.schema }
+    ensures found { IsTrue (state S.Store conn.new).is_open
+        → IfOk result (λ found. found ≡ nat_lt 0 (length ((state S.Store conn.old).now.trees 4))) }
     ensures read { IsRead result (state S.Store conn.old) (state S.Store conn.new) }
 {
     any(conn.query_all("SELECT vs FROM vset", &[]))
@@ -43,8 +47,12 @@ pub(crate) fn is_earlier<S: Alter>(
     conn: &mut Connection<S>,
     from: Earlier,
 ) -> Result<bool, StoreFault>
-    requires { IsTrue (state S.Store conn.old).is_open → IsSettled (state S.Store conn.old) × ((state S.Store conn.old).now.schema ≡ schema_at (version_of from)) }
-    ensures found { IsTrue (state S.Store conn.new).is_open → IfOk result (λ found. IsTrue found ↔ (HasVersion (version_number (version_of from)) (state S.Store conn.old).now.trees × HasNoOldSetsAt (version_of from) (state S.Store conn.old).now.trees)) }
+    requires { IsTrue (state S.Store conn.old).is_open → IsSettled (state S.Store conn.old)
+        × ((state S.Store conn.old).now.schema ≡ schema_at (version_of from)) }
+    ensures found { IsTrue (state S.Store conn.new).is_open
+        → IfOk result (λ found. IsTrue found
+        ↔ (HasVersion (version_number (version_of from)) (state S.Store conn.old).now.trees
+        × HasNoOldSetsAt (version_of from) (state S.Store conn.old).now.trees)) }
     ensures read { IsRead result (state S.Store conn.old) (state S.Store conn.new) }
 {
     match from {
@@ -56,8 +64,10 @@ pub(crate) fn is_earlier<S: Alter>(
 
 /// The same of schema 2 where the table of sets of schema 1 stands beside the later one.
 fn is_second_beside<S: Alter>(conn: &mut Connection<S>) -> Result<bool, StoreFault>
-    requires { IsTrue (state S.Store conn.old).is_open → IsSettled (state S.Store conn.old) × ((state S.Store conn.old).now.schema ≡ second_schema Migrated) }
-    ensures found { IsTrue (state S.Store conn.new).is_open → IfOk result (λ found. IsTrue found ↔ (HasVersion 2 (state S.Store conn.old).now.trees × ((state S.Store conn.old).now.trees 4 ≡ []))) }
+    requires { IsTrue (state S.Store conn.old).is_open → IsSettled (state S.Store conn.old)
+        × ((state S.Store conn.old).now.schema ≡ second_schema Migrated) }
+    ensures found { IsTrue (state S.Store conn.new).is_open → IfOk result (λ found. IsTrue found
+        ↔ (HasVersion 2 (state S.Store conn.old).now.trees × ((state S.Store conn.old).now.trees 4 ≡ []))) }
     ensures read { IsRead result (state S.Store conn.old) (state S.Store conn.new) }
 {
     match has_version(conn, 2) {

@@ -15,7 +15,8 @@ pub(crate) trait Work {
 
     fn run<S: Alter>(&self, tx: &mut Transaction<'_, S>) -> Result<(), StoreFault>
         ensures same_reference { tx.new.conn.ghost_name ≡ tx.old.conn.ghost_name }
-        ensures inside { IsInside result (state S.Store tx.old.conn.now) (state S.Store tx.new.conn.now) (change self.now) };
+        ensures inside { IsInside result (state S.Store tx.old.conn.now) (state S.Store tx.new.conn.now)
+            (change self.now) };
 }
 
 /// One work, and then another.

@@ -18,5 +18,5 @@ pub mod Bounds
 pub mod MadeLemmas
 pub mod OnceLemmas
 pub mod EpochLemmas
-pub mod Certifying
+pub mod CertifiedSession
 pub mod AddedReviewers

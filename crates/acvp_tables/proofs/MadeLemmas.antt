@@ -7,7 +7,7 @@ use Rattle.acvp_tables.specs.State.{IsSound}
 
 -- a change that is made of a sound content, or not at all
 pub made : {X E : Type 0} (faults : E → Type 0) (result : Result X E) (old new : Content) (change : Content → Content) → (IsSound old → OnOk result (new ≡ change old)) → OnErr result (new ≡ old) → IfErr result faults
-    → Changes {T = Content} {C = Content} IsSound faults (λ t c. c ≡ t) (λ _. Unit {0}) (λ _. Unit {0}) (λ t c d. (t ≡ c) ⊎ (t ≡ d)) result old new change
+    → Changes {T = Content} faults (record { stands = λ t c. c ≡ t; is_live = λ _. Unit {0}; is_clean = λ _. Unit {0}; leaves = λ t c d. (t ≡ c) ⊎ (t ≡ d) }) result old new change
 made faults (Ok x) old new change ok err fault = record {
   fault = tt;
   was_live = λ live. live;

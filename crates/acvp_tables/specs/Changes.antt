@@ -1,5 +1,6 @@
 -- What each change makes of each table.
-use Rattle.std.specs.Prelude.{ℕ, ◌+◌, ◌*◌, List, [], ◌∷◌, ◌++◌, length, map, filter, Bool, true, false, ◌==◌, ◌&&◌, not, if◌then◌else◌, Option, Some, None}
+use Rattle.std.specs.Prelude.{ℕ, ◌+◌, ◌*◌, List, [], ◌∷◌, ◌++◌, length, map, filter, Bool, true, false, ◌==◌, ◌&&◌, not}
+use Rattle.std.specs.Prelude.{if◌then◌else◌, Option, Some, None}
 use Rattle.acvp_caps.specs.Capability.{CapabilityValue}
 use Rattle.acvp_tables.specs.Graded.{GradedValue}
 use Rattle.acvp_tables.specs.Content.{Content, is_reviewer, request_at}
@@ -101,8 +102,14 @@ cancelled_set row = record row { cancelled = true }
 -- a session's sets, one for each capability, of the numbers from its i-th on
 abbrev pub new_sets : ℕ → ℕ → ℕ → List CapabilityValue → List SetRow
 new_sets session epoch i [] = []
-new_sets session epoch i (capability ∷ rest) =
-    record { number = session * 100 + i; session = session; capability = capability; epoch = epoch; cancelled = false; graded = None }
+new_sets session epoch i (capability ∷ rest) = record {
+  number = session * 100 + i;
+  session = session;
+  capability = capability;
+  epoch = epoch;
+  cancelled = false;
+  graded = None;
+}
     ∷ new_sets session epoch (i + 1) rest
 
 abbrev pub sets_after : Change → List SetRow → List SetRow
@@ -120,10 +127,20 @@ abbrev pub with_status : RequestStatus → RequestRow → RequestRow
 with_status s row = record row { status = s }
 
 abbrev pub new_request : NewRequest → RequestRow
-new_request r = record { number = r.number; account = r.account; body = body.Registration r.object; status = status.Initial }
+new_request r = record {
+  number = r.number;
+  account = r.account;
+  body = body.Registration r.object;
+  status = status.Initial;
+}
 
 abbrev pub new_certification : NewCertification → RequestRow
-new_certification c = record { number = c.number; account = c.account; body = body.Certification c.certification; status = status.Initial }
+new_certification c = record {
+  number = c.number;
+  account = c.account;
+  body = body.Certification c.certification;
+  status = status.Initial;
+}
 
 abbrev pub requests_after : Change → List RequestRow → List RequestRow
 requests_after (change.NewRequest r) rows = rows ++ new_request r ∷ []
@@ -138,7 +155,8 @@ requests_ordered _ rows = rows
 -- what is registered where a request is approved: its object, of its account, under this number. A certification
 -- registers nothing
 abbrev pub new_objects : ℕ → RequestBody → ℕ → List ObjectRow
-new_objects account (body.Registration object) number = record { number = number; account = account; object = object } ∷ []
+new_objects account (body.Registration object) number =
+    record { number = number; account = account; object = object } ∷ []
 new_objects account (body.Certification c) number = []
 
 abbrev pub approved_objects : Option RequestRow → ℕ → List ObjectRow

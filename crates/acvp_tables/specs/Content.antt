@@ -1,5 +1,6 @@
 -- What is kept: for each table a list of its rows. And what each read selects of it.
-use Rattle.std.specs.Prelude.{ℕ, List, [], ◌∷◌, length, filter, find, take, drop, Bool, ◌==◌, ◌&&◌, not, nat_le, if◌then◌else◌, Option, Some, None, option_map}
+use Rattle.std.specs.Prelude.{ℕ, List, [], ◌∷◌, length, filter, find, take, drop, Bool, ◌==◌, ◌&&◌, not, nat_le}
+use Rattle.std.specs.Prelude.{if◌then◌else◌, Option, Some, None, option_map}
 use Rattle.std.specs.List.{list_any, range_with_len}
 use Rattle.acvp_answers.specs.declared.verdict.Verdict.{Verdict}
 use Rattle.acvp_registry.specs.declared.kind.Kind.{Kind}
@@ -19,7 +20,7 @@ use Rattle.acvp_tables.specs.declared.summary.RequestSubject.{RequestSubject}
 use Rattle.acvp_tables.specs.declared.summary.RequestSubject.TheVariants as subject
 use Rattle.acvp_tables.specs.declared.summary.Counted.{Counted}
 use Rattle.acvp_tables.specs.declared.summary.Counted.TheVariants as counted
-use Rattle.acvp_tables.specs.declared.summary.Counts.{Counts}
+use Rattle.acvp_registry.specs.declared.counts.Counts.{Counts}
 
 pub record Content : Type 0 where
   pub accounts : List AccountRow
@@ -45,7 +46,13 @@ abbrev pub is_kind : Kind → Kind → Bool
 is_kind kind other = kind_number kind == kind_number other
 
 abbrev pub set_summary : SetRow → SetSummary
-set_summary row = record { number = row.number; session = row.session; epoch = row.epoch; cancelled = row.cancelled; disposition = option_map (λ (g : GradedValue). g.disposition) row.graded }
+set_summary row = record {
+  number = row.number;
+  session = row.session;
+  epoch = row.epoch;
+  cancelled = row.cancelled;
+  disposition = option_map (λ (g : GradedValue). g.disposition) row.graded;
+}
 
 abbrev pub set_verdicts : SetRow → Option (List Verdict)
 set_verdicts row = option_map (λ (g : GradedValue). g.verdicts) row.graded
@@ -55,7 +62,12 @@ subject_of (body.Registration object) = subject.Registration object.kind
 subject_of (body.Certification c) = subject.Certification c
 
 abbrev pub request_summary : RequestRow → RequestSummary
-request_summary row = record { number = row.number; account = row.account; subject = subject_of row.body; status = row.status }
+request_summary row = record {
+  number = row.number;
+  account = row.account;
+  subject = subject_of row.body;
+  status = row.status;
+}
 
 -- ---- rows by their numbers
 

@@ -1,5 +1,6 @@
 pub mod Graded
 pub mod Content
+pub mod Meaning
 pub mod Calls
 pub mod Changes
 pub mod State

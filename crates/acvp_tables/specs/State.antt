@@ -1,6 +1,7 @@
 -- The records without what is derived of them: no verdict, no disposition, no counter. What each account owns of them,
 -- and what it may see. And when they are well numbered.
-use Rattle.std.specs.Prelude.{◌≡◌, ℕ, ◌+◌, ◌*◌, ◌/◌, ◌≤◌, List, length, map, filter, find, Bool, true, false, ◌==◌, ◌&&◌, ◌||◌, not, nat_le, nat_lt, Option, Some, None, option_map, is_some}
+use Rattle.std.specs.Prelude.{◌≡◌, ℕ, ◌+◌, ◌*◌, ◌/◌, ◌≤◌, List, length, map, filter, find, Bool, true, false, ◌==◌}
+use Rattle.std.specs.Prelude.{◌&&◌, ◌||◌, not, nat_le, nat_lt, Option, Some, None, option_map, is_some}
 use Rattle.std.specs.List.{list_all, list_any, range_with_len}
 use Rattle.acvp_answers.specs.Answer.{Answer}
 use Rattle.acvp_caps.specs.Capability.{CapabilityValue}
@@ -19,7 +20,7 @@ use Rattle.acvp_tables.specs.declared.rows.RequestBody.TheVariants as body
 use Rattle.acvp_tables.specs.declared.rows.RequestStatus.{RequestStatus}
 use Rattle.acvp_tables.specs.declared.rows.RequestStatus.TheVariants as status
 use Rattle.acvp_tables.specs.declared.rows.ReviewerRow.{ReviewerRow}
-use Rattle.acvp_tables.specs.declared.summary.Counts.{Counts}
+use Rattle.acvp_registry.specs.declared.counts.Counts.{Counts}
 
 pub record SessionRecord : Type 0 where
   pub number : ℕ
@@ -46,10 +47,24 @@ pub record State : Type 0 where
   pub reviewers : List ReviewerRow
 
 abbrev pub session_record : SessionRow → SessionRecord
-session_record row = record { number = row.number; account = row.account; sample = row.sample; created = row.created; cancelled = row.cancelled; certify = row.certify }
+session_record row = record {
+  number = row.number;
+  account = row.account;
+  sample = row.sample;
+  created = row.created;
+  cancelled = row.cancelled;
+  certify = row.certify;
+}
 
 abbrev pub set_record : SetRow → SetRecord
-set_record row = record { number = row.number; session = row.session; capability = row.capability; epoch = row.epoch; cancelled = row.cancelled; answers = option_map (λ (g : GradedValue). g.answers) row.graded }
+set_record row = record {
+  number = row.number;
+  session = row.session;
+  capability = row.capability;
+  epoch = row.epoch;
+  cancelled = row.cancelled;
+  answers = option_map (λ (g : GradedValue). g.answers) row.graded;
+}
 
 unfoldable pub state_of : Content → State
 state_of c = record {
@@ -227,7 +242,8 @@ pub record IsWellNumberedFor (u : ℕ) (mine : State) : Type 0 where
   pub objects : (kind : Kind) → IsNumbered (λ row. row.number) (first_of_account u) (objects_in kind mine.objects)
   -- no more objects of a kind than approved requests for them; each object is that of one, and each one's object is
   -- there
-  pub asked_for : (kind : Kind) → length (objects_in kind mine.objects) ≤ length (filter (has_registered kind) mine.requests)
+  pub asked_for : (kind : Kind)
+      → length (objects_in kind mine.objects) ≤ length (filter (has_registered kind) mine.requests)
   pub registered : list_all (λ object. list_any (has_registered_as object) mine.requests) mine.objects ≡ true
   pub given : list_all (has_all_given mine.objects) mine.requests ≡ true
   -- of each session 1 to 20 sets, whose numbers rise from the session's first without gaps
@@ -236,7 +252,9 @@ pub record IsWellNumberedFor (u : ℕ) (mine : State) : Type 0 where
   pub some_sets : list_all (λ row. list_any (λ set. set.session == row.number) mine.sets) mine.sessions ≡ true
   -- what rows refer to is there
   pub set_sessions : list_all (λ set. is_some (session_record_at set.session mine.sessions)) mine.sets ≡ true
-  pub certified : list_all (λ row. of_all (λ n. list_any (λ request. (request.number == n) && certifies row.number request.body) mine.requests) row.certify) mine.sessions ≡ true
+  pub certified : list_all
+      (λ row. of_all (λ n. list_any (λ request. (request.number == n)
+      && certifies row.number request.body) mine.requests) row.certify) mine.sessions ≡ true
   pub asked : list_all (λ request. is_sound_body mine request.body) mine.requests ≡ true
   pub kept : list_all (λ row. is_sound_object mine.objects row.object) mine.objects ≡ true
   -- a session was created at a moment that is served

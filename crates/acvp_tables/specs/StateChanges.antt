@@ -2,7 +2,8 @@
 use Rattle.std.specs.Prelude.{ℕ, List, [], ◌∷◌, ◌++◌, map, Bool, true, ◌==◌, Some}
 use Rattle.acvp_answers.specs.Answer.{Answer}
 use Rattle.acvp_tables.specs.State.{State, SessionRecord, SetRecord, session_record, set_record}
-use Rattle.acvp_tables.specs.Changes.{changed, new_session, new_sets, accounts_after, accounts_ordered, requests_after, requests_ordered, objects_ordered, reviewers_after}
+use Rattle.acvp_tables.specs.Changes.{changed, new_session, new_sets, accounts_after, accounts_ordered, requests_after}
+use Rattle.acvp_tables.specs.Changes.{requests_ordered, objects_ordered, reviewers_after}
 use Rattle.acvp_tables.specs.declared.change.Change.{Change}
 use Rattle.acvp_tables.specs.declared.change.Change.TheVariants as change
 use Rattle.acvp_tables.specs.declared.change.OrderChange.{OrderChange}
@@ -21,7 +22,8 @@ certified_record request row = record row { certify = Some request }
 abbrev pub session_records_after : Change → List SessionRecord → List SessionRecord
 session_records_after (change.NewSession s) rows = rows ++ session_record (new_session s) ∷ []
 session_records_after (change.CancelSession n) rows = changed (is_session_record n) cancelled_session_record rows
-session_records_after (change.Certify c) rows = changed (is_session_record c.certification.session) (certified_record c.number) rows
+session_records_after (change.Certify c) rows =
+    changed (is_session_record c.certification.session) (certified_record c.number) rows
 session_records_after _ rows = rows
 
 -- ---- vector sets
@@ -36,7 +38,8 @@ abbrev pub cancelled_set_record : SetRecord → SetRecord
 cancelled_set_record row = record row { cancelled = true }
 
 abbrev pub set_records_after : Change → List SetRecord → List SetRecord
-set_records_after (change.NewSession s) rows = rows ++ map set_record (new_sets s.number s.epoch 1 s.registration.capabilities)
+set_records_after (change.NewSession s) rows =
+    rows ++ map set_record (new_sets s.number s.epoch 1 s.registration.capabilities)
 set_records_after (change.KeepAnswers k) rows = changed (is_set_record k.set) (answered_record k.graded.answers) rows
 set_records_after (change.CancelSet x) rows = changed (is_set_record x.set) cancelled_set_record rows
 set_records_after _ rows = rows

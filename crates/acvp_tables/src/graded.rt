@@ -43,7 +43,11 @@ impl Clone for Graded {
 impl Graded {
     /// Answers and the verdicts on them.
     pub fn new(answers: Answers, verdicts: Vec<Verdict>) -> Graded
-        ensures { result ≡ record { answers = answers; verdicts = verdicts.items; disposition = disposition_of verdicts.items } }
+        ensures { result ≡ record {
+          answers = answers;
+          verdicts = verdicts.items;
+          disposition = disposition_of verdicts.items;
+        } }
     {
         let disposition = disposition(&verdicts);
         Graded {

@@ -44,12 +44,12 @@ use crate::list::walks::{
 use crate::rows::{
     AccountRow, ObjectRow, RequestRow, RequestStatus, ReviewerRow, SessionRow, SetRow,
 };
-use crate::summary::{Counted, Counts, RequestSummary, SetSummary};
+use crate::summary::{Counted, RequestSummary, SetSummary};
 use crate::tables::{StoreFault, Tables};
 use acvp_answers::Verdict;
 use acvp_caps::Capability;
 use acvp_policy::{Grant, release};
-use acvp_registry::Kind;
+use acvp_registry::{Counts, Kind};
 use std::alloc::{AllocError, Global};
 use std::marker::Model;
 
@@ -170,7 +170,8 @@ impl ListTables {
     #[tactic(auto, unfolding(crate::specs::Changes::after))]
     fn keep_answers(&mut self, kept: &KeptAnswers) -> Result<(), StoreFault>
         ensures memory { IfErr result (λ fault. fault ≡ Memory) }
-        ensures ok { length (filter (is_set kept.now.set) self.old.sets) ≤ 1 → OnOk result (self.new ≡ after (change.KeepAnswers kept.now) self.old) }
+        ensures ok { length (filter (is_set kept.now.set) self.old.sets) ≤ 1
+            → OnOk result (self.new ≡ after (change.KeepAnswers kept.now) self.old) }
         ensures err { OnErr result (self.new ≡ self.old) }
     {
         let graded = kept.graded.clone()?;
@@ -261,13 +262,12 @@ impl ListTables {
 impl Tables for ListTables {
     ghost faults = { λ fault. fault ≡ Memory };
 
-    ghost stands = { λ t c. c ≡ t };
-
-    ghost is_live = { λ _. Unit {0} };
-
-    ghost is_clean = { λ _. Unit {0} };
-
-    ghost leaves = { λ t c d. (t ≡ c) ⊎ (t ≡ d) };
+    ghost meaning = { record {
+      stands = λ t c. c ≡ t;
+      is_live = λ _. Unit {0};
+      is_clean = λ _. Unit {0};
+      leaves = λ t c d. (t ≡ c) ⊎ (t ≡ d);
+    } };
 
     ghost clean = { λ t live. live };
 

@@ -35,7 +35,7 @@ use Rattle.acvp_token.specs.declared.Claims.{Claims}
 use Rattle.acvp_token.specs.ClaimsJson.{claims_data, claims_text}
 use Rattle.acvp_token.specs.Keys.{Keys, one_key, Ring, key_at, last_place, IsKeyRing, signing_key, is_kid_of}
 use Rattle.acvp_token.specs.Keys.{named_key}
-use Rattle.acvp_token.specs.TokenText.{encoded, issued_header, signature_of, token_of, token_at, token_text}
+use Rattle.acvp_token.specs.TokenText.{encoded, issued_header, signature_of, token_of, token_text_at, token_text}
 use Rattle.acvp_token.specs.TokenText.{ring_token_text}
 use Rattle.acvp_token.specs.Private.ClaimsWriting.{IsClaimsWritten}
 use Rattle.acvp_token.specs.Reads.{IsJson, IsHeader, GivesClaims, ReadsBy, Reads, ReadsUnder}
@@ -262,7 +262,7 @@ encoded-length bytes n h =
 
 -- an issued token is short
 issued-short : (place : ℕ) (key : List ℕ) (c : Claims) → place < 16 → length (claims_text c) ≤ 120 →
-    length (token_at place key c) ≤ 1024
+    length (token_text_at place key c) ≤ 1024
 issued-short place key c within h =
     let signature = signature_of key (issued_header place) (claims_text c) in
     let first = encoded-length (issued_header place) 38 (header-short place within) in
@@ -281,9 +281,9 @@ record IsClaimsJson (c : Claims) : Type 0 where
 
 -- an issued token reads as its claims where their text does, under any keys of which its header names the one that
 -- signed it
-reads-token_at : (keys : Keys) (place : ℕ) (key : List ℕ) (c : Claims) → place < 16 →
-    keys (header_data place) ≡ Some key → IsClaimsJson c → ReadsBy keys (token_at place key c) c
-reads-token_at keys place key c within names claims =
+reads-token_text_at : (keys : Keys) (place : ℕ) (key : List ℕ) (c : Claims) → place < 16 →
+    keys (header_data place) ≡ Some key → IsClaimsJson c → ReadsBy keys (token_text_at place key c) c
+reads-token_text_at keys place key c within names claims =
     record {
       header = issued_header place;
       payload = claims_text c;
@@ -313,7 +313,7 @@ reads-token_at keys place key c within names claims =
 
 reads-token_text : (key : List ℕ) (c : Claims) → IsClaimsJson c → Reads key (token_text key c) c
 unfolding token_text
-reads-token_text key c claims = reads-token_at (one_key key) 0 key c (omega arith) refl claims
+reads-token_text key c claims = reads-token_text_at (one_key key) 0 key c (omega arith) refl claims
 
 -- the last key of a ring is there
 signing_key-is : (ring : Ring) → IsKeyRing ring → key_at ring (last_place ring) ≡ Some (signing_key ring)
@@ -332,7 +332,7 @@ reads-ring_token_text : (ring later : Ring) (c : Claims) → IsKeyRing ring → 
     ReadsUnder later (ring_token_text ring c) c
 unfolding ring_token_text
 reads-ring_token_text ring later c is is_later stands claims =
-    reads-token_at (named_key later) (last_place ring) (signing_key ring) c (omega (arith, is.least, is.most))
+    reads-token_text_at (named_key later) (last_place ring) (signing_key ring) c (omega (arith, is.least, is.most))
     (later-names ring later is is_later stands) claims
 
 -- ---- the text of the claims, as it is written
@@ -368,7 +368,7 @@ issued-at : (r : Result (String Global) AllocError) (place : ℕ) (key payload :
     IsClaimsWritten payload c →
     IfOk r (λ t. string_bytes t
     ≡ token_of (issued_header place) payload (signature_of key (issued_header place) payload)) →
-    IfOk r (λ t. string_bytes t ≡ token_at place key c)
+    IfOk r (λ t. string_bytes t ≡ token_text_at place key c)
 issued-at (Err e) place key payload c written text = tt
 issued-at (Ok t) place key payload c written text = rw (text, written.value) refl
 
@@ -606,5 +606,5 @@ pub token_text-reads_under : (key : List ℕ) (later : Ring) (c : Claims) → Is
     ReadsUnder later (token_text key c) c
 unfolding token_text
 token_text-reads_under key later c is_later stands least greatest s i e =
-    reads-token_at (named_key later) 0 key c (omega arith)
+    reads-token_text_at (named_key later) 0 key c (omega arith)
     (header-names-key later 0 (omega arith) is_later.most ∙ stands) (any-claims-json c least greatest s i e)

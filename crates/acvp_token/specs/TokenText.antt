@@ -30,14 +30,14 @@ issued_header zero = codes "{\"alg\":\"HS256\",\"typ\":\"JWT\"}"
 issued_header (suc n) = codes "{\"alg\":\"HS256\",\"kid\":\"" ++ decimal (suc n) ++ codes "\",\"typ\":\"JWT\"}"
 
 -- the token that is issued for these claims under the key at a place
-abbrev pub token_at : ℕ → List ℕ → Claims → List ℕ
-token_at place key claims =
+abbrev pub token_text_at : ℕ → List ℕ → Claims → List ℕ
+token_text_at place key claims =
     token_of (issued_header place) (claims_text claims) (signature_of key (issued_header place) (claims_text claims))
 
 -- the token that is issued for these claims under the one key
 unfoldable pub token_text : List ℕ → Claims → List ℕ
-token_text key claims = token_at 0 key claims
+token_text key claims = token_text_at 0 key claims
 
 -- the token that is issued for these claims under a ring, by its last key
 unfoldable pub ring_token_text : Ring → Claims → List ℕ
-ring_token_text ring claims = token_at (last_place ring) (signing_key ring) claims
+ring_token_text ring claims = token_text_at (last_place ring) (signing_key ring) claims

@@ -107,7 +107,7 @@ fn whole_number_in(value: &Value, name: &str) -> Option<u64>
     value.get(name).and_then(Value::as_u64)
 }
 
-/// The session, if there is one; nothing where the member is no whole number.
+/// The session, if there is one; nothing where the member is no whole number, as a float or null, which are there.
 fn session_of(value: &Value) -> Option<Option<u64>>
     ensures { MatchOption result (IsNoSession (view value.now)) (IsSession (view value.now)) }
 {

@@ -12,7 +12,8 @@ use std::marker::Model;
 const ENTRY_LIMIT: usize = 16;
 
 /// The keys of tokens in the order of their making. The last one signs, and a token names its key by the key's place,
-/// from 0 on. A place without a key is that of a retired one: no token that names it is good.
+/// from 0 on. A place without a key is that of a retired one: no token that names it is good. A ring can't be cloned or
+/// printed, so that no key is copied or shown by accident.
 #[derive(Drop)]
 pub struct KeyRing {
     entries: [Option<[u8; 32]>; ENTRY_LIMIT],
@@ -105,13 +106,13 @@ fn named_place(header: &Value) -> Option<usize>
 {
     match header.get("kid") {
         None => Some(0),
-        Some(Value::String(text)) => place_of(text.as_str().as_bytes()),
+        Some(Value::String(text)) => key_place(text.as_str().as_bytes()),
         Some(_) => None,
     }
 }
 
 /// The place of which this is the plain decimal.
-fn place_of(text: &[u8]) -> Option<usize>
+fn key_place(text: &[u8]) -> Option<usize>
     ensures { MatchOption result (IsNoPlaceText text.now) (IsPlaceText text.now) }
 {
     if text.len() == 1 && text[0] >= b'0' && text[0] <= b'9' {

@@ -6,7 +6,8 @@ ghost use Rattle.acvp_token.specs.Faults.{IsReading, IsReadingUnder, IsVerdict, 
 ghost use Rattle.acvp_token.specs.Keys.{Ring};
 ghost use Rattle.acvp_token.specs.Private.Opening.{IsSignedReading};
 ghost use Rattle.acvp_token.specs.Reads.{Reads, ReadsUnder};
-ghost use Rattle.acvp_token.specs.Verdict.{IsUnlessMemory, lasting_at, reading_of, reading_under, verdict_of, verdict_under};
+ghost use Rattle.acvp_token.specs.Verdict.{IsUnlessMemory, lasting_at, reading_of, reading_under, verdict_of};
+ghost use Rattle.acvp_token.specs.Verdict.{verdict_under};
 
 use crate::claims_json::read_claims;
 use crate::opening::{OpenToken, open_token};

@@ -7,4 +7,8 @@ use Rattle.acvp_desk.specs.Registries.{kind_asked}
 use Rattle.acvp_desk.specs.declared.order.Waiting.{Waiting}
 
 abbrev pub waiting_in : State → RequestRow → Waiting
-waiting_in state row = record { initial = is_initial row.status; kind = kind_asked (subject_of row.body); approved = approved_number state row }
+waiting_in state row = record {
+  initial = is_initial row.status;
+  kind = kind_asked (subject_of row.body);
+  approved = approved_number state row;
+}

@@ -2,6 +2,8 @@
 use Rattle.std.specs.Prelude.{◌≡◌, ◌≢◌, ◌≤◌, ◌<◌, ℕ, List, [], ◌∷◌, ◌++◌, length, true, false, IfSome}
 use Rattle.acvp_http.specs.declared.script.ScriptFault.{ScriptFault}
 use Rattle.acvp_http.specs.declared.script.ScriptFault.TheVariants.{Read, Write, Syntax, Limit, Memory}
+use Rattle.acvp_http.specs.declared.source.ReadFault.{ReadFault}
+use Rattle.acvp_http.specs.declared.source.ReadFault.TheVariants.{Failed, TooOften}
 use Rattle.acvp_http.specs.declared.reading.ScriptEvent.{ScriptEvent}
 use Rattle.acvp_http.specs.declared.reading.ScriptEvent.TheVariants as script
 use Rattle.acvp_http.specs.Event.{Event, request, order}
@@ -14,12 +16,22 @@ abbrev pub TakesPart : InputStream → InputStream → (List ℕ → Type 0) →
 TakesPart old new Is = (part : List ℕ) × Gives old new part × Is part
 
 -- a read has failed, or there were as many as there may be
-abbrev pub StopsReading : ScriptFault → InputStream → ℕ → Type 0
-StopsReading Read new limit = new.failed ≡ true
-StopsReading Limit new limit = (new.failed ≡ false) × (limit ≤ new.reads)
-StopsReading Write new limit = ⊥
-StopsReading Syntax new limit = ⊥
-StopsReading Memory new limit = ⊥
+abbrev pub StopsReading : ReadFault → InputStream → ℕ → Type 0
+StopsReading Failed new limit = new.failed ≡ true
+StopsReading TooOften new limit = (new.failed ≡ false) × (limit ≤ new.reads)
+
+-- the fault of a script whose reader stops so
+abbrev pub stopped_by : ReadFault → ScriptFault
+stopped_by Failed = Read
+stopped_by TooOften = Limit
+
+-- the fault of a script is that its reader stops
+abbrev pub StopsScript : ScriptFault → InputStream → ℕ → Type 0
+StopsScript Read new limit = new.failed ≡ true
+StopsScript Limit new limit = (new.failed ≡ false) × (limit ≤ new.reads)
+StopsScript Write new limit = ⊥
+StopsScript Syntax new limit = ⊥
+StopsScript Memory new limit = ⊥
 
 -- there is input, and no line stands whole at its front
 abbrev pub HasNoLine : List ℕ → Type 0
@@ -30,12 +42,12 @@ HasNoLine input =
 -- the same, or the known input has no line at its front
 abbrev pub StopsLine : InputStream → ScriptFault → InputStream → ℕ → Type 0
 StopsLine old Syntax new limit = (new.failed ≡ false) × IfSome old.held HasNoLine
-StopsLine old fault new limit = StopsReading fault new limit
+StopsLine old fault new limit = StopsScript fault new limit
 
 -- a read has failed or there were too many, or the known input is shorter than this
 abbrev pub StopsFilling : ℕ → InputStream → ScriptFault → InputStream → ℕ → Type 0
 StopsFilling size old Syntax new limit = (new.failed ≡ false) × IfSome old.held (λ input. length input < size)
-StopsFilling size old fault new limit = StopsReading fault new limit
+StopsFilling size old fault new limit = StopsScript fault new limit
 
 -- as many bytes and a line feed don't stand at the front of the input
 abbrev pub HasNoBody : ℕ → List ℕ → Type 0
@@ -45,7 +57,7 @@ HasNoBody size input = (bytes rest : List ℕ) → length bytes ≡ size → inp
 abbrev pub StopsBody : ℕ → InputStream → ScriptFault → InputStream → ℕ → Type 0
 StopsBody size old Syntax new limit = (new.failed ≡ false) × IfSome old.held (HasNoBody size)
 StopsBody size old Memory new limit = new.failed ≡ false
-StopsBody size old fault new limit = StopsReading fault new limit
+StopsBody size old fault new limit = StopsScript fault new limit
 
 -- the event that was read
 abbrev pub event_of : ScriptEvent → Event
@@ -56,4 +68,4 @@ event_of (script.Order moment ordered) = order moment ordered
 abbrev pub StopsEvent : InputStream → ScriptFault → InputStream → ℕ → Type 0
 StopsEvent old Syntax new limit = (new.failed ≡ false) × IfSome old.held LeavesGrammar
 StopsEvent old Memory new limit = new.failed ≡ false
-StopsEvent old fault new limit = StopsReading fault new limit
+StopsEvent old fault new limit = StopsScript fault new limit

@@ -1,8 +1,8 @@
 -- What reads of a request do, and why they stop.
 use Rattle.std.specs.Prelude.{◌≡◌, ◌<◌, ◌≤◌, ℕ, List, [], ◌∷◌, ◌++◌, length, take, Bool, true, false, Option, MatchBool}
 use Rattle.std.specs.Io.KnownBytes.{IsAtEnd}
-use Rattle.acvp_http.specs.declared.script.ScriptFault.{ScriptFault}
-use Rattle.acvp_http.specs.declared.script.ScriptFault.TheVariants.{Memory}
+use Rattle.acvp_http.specs.declared.receiving.ReceiveFault.{ReceiveFault}
+use Rattle.acvp_http.specs.declared.receiving.ReceiveFault.TheVariants.{Memory, Read}
 use Rattle.acvp_http.specs.declared.connection.ServeFault.{ServeFault}
 use Rattle.acvp_http.specs.declared.connection.ServeFault.TheVariants.{Turns, Read as Unread, Write as Unwritten}
 use Rattle.acvp_http.specs.Asks.{ends_empty, head_limit}
@@ -23,9 +23,9 @@ abbrev pub TakesOfHead : InputStream → InputStream → Type 0
 TakesOfHead old new = (part : List ℕ) × Gives old new part × IsHeadBegun part
 
 -- a read has failed or there were too many, or memory was refused
-abbrev pub StopsReceiving : ScriptFault → InputStream → ℕ → Type 0
+abbrev pub StopsReceiving : ReceiveFault → InputStream → ℕ → Type 0
 StopsReceiving Memory new limit = new.failed ≡ false
-StopsReceiving fault new limit = StopsReading fault new limit
+StopsReceiving (Read fault) new limit = StopsReading fault new limit
 
 -- one more byte was taken, or there was none
 abbrev pub TakesByte : Bool → InputStream → InputStream → List ℕ → List ℕ → Type 0

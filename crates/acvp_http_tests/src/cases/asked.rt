@@ -1,7 +1,7 @@
 //! Requests and replies in bytes, as the protocol writes them.
 
-use crate::cases::steps::{Asked, cut, line_of, rule_of};
-use acvp_desk::{Numbers, TokenField};
+use crate::cases::steps::{Asked, Numbers, cut, line_of, rule_of};
+use acvp_desk::TokenField;
 use std::alloc::Global;
 use std::process::Abort;
 
@@ -100,20 +100,33 @@ fn push_token(rt: &impl Abort, bytes: &mut Vec<u8>, token: &TokenField<'_>) {
     }
 }
 
+/// The method and the target of a request.
+pub(crate) fn target_of<'a>(
+    rt: &impl Abort,
+    alloc: Global,
+    asked: &Asked<'a>,
+) -> (&'a [u8], Vec<u8>) {
+    let (method, path) = cut(asked.path);
+    let mut target = Vec::new(alloc);
+    push(rt, &mut target, b"/acvp/v1");
+    push_path(rt, alloc, &mut target, path, asked.numbers);
+    push_query(rt, &mut target, asked.query);
+    (method.as_bytes(), target)
+}
+
 /// A request in bytes.
 pub(crate) fn request_bytes(rt: &impl Abort, alloc: Global, asked: &Asked<'_>) -> Vec<u8> {
-    let (method, path) = cut(asked.path);
+    let (method, target) = target_of(rt, alloc, asked);
     let mut bytes = Vec::new(alloc);
-    push(rt, &mut bytes, method.as_bytes());
-    push(rt, &mut bytes, b" /acvp/v1");
-    push_path(rt, alloc, &mut bytes, path, asked.request.numbers);
-    push_query(rt, &mut bytes, asked.request.query);
+    push(rt, &mut bytes, method);
+    push(rt, &mut bytes, b" ");
+    push(rt, &mut bytes, &target);
     push(rt, &mut bytes, b" HTTP/1.1\r\nHost: localhost\r\n");
-    push_token(rt, &mut bytes, &asked.request.token);
+    push_token(rt, &mut bytes, &asked.token);
     push(rt, &mut bytes, b"Content-Length: ");
-    push_number(rt, alloc, &mut bytes, asked.request.body.len() as u64);
+    push_number(rt, alloc, &mut bytes, asked.body.len() as u64);
     push(rt, &mut bytes, b"\r\n\r\n");
-    push(rt, &mut bytes, asked.request.body);
+    push(rt, &mut bytes, asked.body);
     bytes
 }
 

@@ -3,10 +3,10 @@
 ghost use Rattle.acvp_desk.specs.Orders.{IsOrder};
 
 use crate::cases::SECRET;
-use crate::cases::asked::{body_in, framed, refused, request_bytes};
+use crate::cases::asked::{body_in, framed, refused, request_bytes, target_of};
 use crate::cases::steps::{
-    Answer, Asked, action_of, actions_in, asked_in, cut, number, of_action, reply_of, rule_of,
-    with_answer, with_body,
+    Answer, Asked, actions_in, asked_in, cut, number, path_of, reply_of, rule_of, with_answer,
+    with_body, with_path,
 };
 use acvp_desk::{
     Desk, DeskReply, KeyRing, Keys, NewFault, Order, OrderReply, Outcome, Seeds, TypedRequest,
@@ -85,11 +85,27 @@ enum Heard {
     Reply(Reply),
 }
 
+/// A request for the desk, by what its method and its target ask.
+fn typed<'a>(
+    rt: &impl Abort,
+    alloc: Global,
+    routes: &Routes,
+    asked: &Asked<'a>,
+) -> TypedRequest<'a> {
+    let (method, target) = target_of(rt, alloc, asked);
+    TypedRequest {
+        ask: routes.find(method, &target).ok().expect(rt, "a path"),
+        token: asked.token,
+        body: asked.body,
+    }
+}
+
 /// What a server answers to what is asked.
 fn hear<T: Tables>(rt: &impl Abort, server: &mut Server<T>, asked: &Asked<'_>) -> Heard {
     match server.door {
         Door::Desk => {
-            let outcome = outcome_of(&mut server.desk, asked.moment, &asked.request);
+            let request = typed(rt, server.alloc, &server.routes, asked);
+            let outcome = outcome_of(&mut server.desk, asked.moment, &request);
             Heard::Outcome(outcome)
         }
         Door::Bytes => {
@@ -229,8 +245,7 @@ pub(crate) fn shows<'a, T: Tables>(
 fn asks_each<T: Tables>(rt: &impl Abort, server: &mut Server<T>, line: &str) {
     let first = asked_in(rt, line);
     for name in actions_in(rt, line).split(',') {
-        let (action, path) = action_of(rt, name);
-        asks(rt, server, &of_action(first, action, path));
+        asks(rt, server, &with_path(first, path_of(rt, name)));
     }
 }
 

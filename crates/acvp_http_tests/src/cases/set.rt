@@ -88,7 +88,7 @@ pub(crate) const OF_SIXTY_FIVE: &str = "
 /// Reads the vector sets of a session, from that of a line to this one.
 fn reads<T: Tables>(rt: &impl Abort, server: &mut Server<T>, line: &str, last: u64) {
     let first = asked_in(rt, line);
-    for set in first.request.numbers.second..=last {
+    for set in first.numbers.second..=last {
         asks(rt, server, &on_set(first, set));
     }
 }

@@ -16,44 +16,9 @@
 //! or `disables 7 done`, and `caches 2`, how many vector sets the cache holds.
 
 use crate::cases::ALL_TEXTS;
-use acvp_desk::{Kind, Numbers, OrderReply, TokenField, TypedRequest};
-use acvp_policy::{Action, Rule};
+use acvp_desk::{Kind, OrderReply, TokenField};
+use acvp_policy::Rule;
 use std::process::Abort;
-
-/// The actions, in the order of their paths.
-const ACTIONS: [Action; 31] = [
-    Action::Login,
-    Action::ReadAccount,
-    Action::ListAlgorithms,
-    Action::ReadAlgorithm,
-    Action::ListSessions,
-    Action::NewSession,
-    Action::ReadSession,
-    Action::Certify,
-    Action::CancelSession,
-    Action::SessionResults,
-    Action::ListSets,
-    Action::ReadSet,
-    Action::CancelSet,
-    Action::SetResults,
-    Action::Submit,
-    Action::Resubmit,
-    Action::Expected,
-    Action::ListVendors,
-    Action::NewVendor,
-    Action::ReadVendor,
-    Action::ListModules,
-    Action::NewModule,
-    Action::ReadModule,
-    Action::ListEnvironments,
-    Action::NewEnvironment,
-    Action::ReadEnvironment,
-    Action::ListRequests,
-    Action::ReadRequest,
-    Action::ListReviewers,
-    Action::AddReviewer,
-    Action::RemoveReviewer,
-];
 
 /// The method and the path of each action, with a mark for each number.
 const PATHS: &str = "\
@@ -191,10 +156,10 @@ pub(crate) fn line_of<'a>(table: &'a str, word: &str) -> Option<(usize, &'a str)
     None
 }
 
-/// An action by its name, with its method and path.
-pub(crate) fn action_of(rt: &impl Abort, name: &str) -> (Action, &'static str) {
-    let (place, path) = line_of(PATHS, name).expect(rt, "an action");
-    (*ACTIONS.get(place).expect(rt, "an action"), path)
+/// The method and the path of an action.
+pub(crate) fn path_of(rt: &impl Abort, name: &str) -> &'static str {
+    let (_, path) = line_of(PATHS, name).expect(rt, "an action");
+    path
 }
 
 /// A rule by its word, with its status.
@@ -251,65 +216,51 @@ pub(crate) enum Answer<'a> {
     Denied(&'a str),
 }
 
-/// A request at a moment, its method and path, and what it must be answered.
+/// The numbers of a path, or 0.
+#[derive(Clone, Copy)]
+pub(crate) struct Numbers {
+    pub first: u64,
+    pub second: u64,
+}
+
+/// A request at a moment, and what it must be answered.
 #[derive(Clone, Copy)]
 pub(crate) struct Asked<'a> {
     pub moment: u64,
+
+    /// Its method and its path, with a mark for each number.
     pub path: &'a str,
-    pub request: TypedRequest<'a>,
+    pub numbers: Numbers,
+    pub query: &'a [u8],
+    pub token: TokenField<'a>,
+    pub body: &'a [u8],
     pub answer: Answer<'a>,
 }
 
-/// The same of another action, with its method and path.
-pub(crate) fn of_action<'a>(asked: Asked<'a>, action: Action, path: &'a str) -> Asked<'a> {
-    Asked {
-        moment: asked.moment,
-        path,
-        request: TypedRequest {
-            action,
-            ..asked.request
-        },
-        answer: asked.answer,
-    }
+/// The same with another method and path.
+pub(crate) fn with_path<'a>(asked: Asked<'a>, path: &'a str) -> Asked<'a> {
+    Asked { path, ..asked }
 }
 
 /// The same on another vector set.
 pub(crate) fn on_set<'a>(asked: Asked<'a>, set: u64) -> Asked<'a> {
     Asked {
-        moment: asked.moment,
-        path: asked.path,
-        request: TypedRequest {
-            numbers: Numbers {
-                first: asked.request.numbers.first,
-                second: set,
-            },
-            ..asked.request
+        numbers: Numbers {
+            first: asked.numbers.first,
+            second: set,
         },
-        answer: asked.answer,
+        ..asked
     }
 }
 
 /// The same with another body.
 pub(crate) fn with_body<'a>(asked: Asked<'a>, body: &'a [u8]) -> Asked<'a> {
-    Asked {
-        moment: asked.moment,
-        path: asked.path,
-        request: TypedRequest {
-            body,
-            ..asked.request
-        },
-        answer: asked.answer,
-    }
+    Asked { body, ..asked }
 }
 
 /// The same with another answer.
 pub(crate) fn with_answer<'a>(asked: Asked<'a>, answer: Answer<'a>) -> Asked<'a> {
-    Asked {
-        moment: asked.moment,
-        path: asked.path,
-        request: asked.request,
-        answer,
-    }
+    Asked { answer, ..asked }
 }
 
 /// A token's field.
@@ -344,23 +295,6 @@ fn answer_of<'a>(rt: &impl Abort, text: &'a str) -> Answer<'a> {
     }
 }
 
-/// A request of an action on numbers, by what stands behind them in a line.
-fn request_of<'a>(
-    rt: &impl Abort,
-    action: Action,
-    numbers: Numbers,
-    words: (&'a str, &'a str, &'a str),
-) -> TypedRequest<'a> {
-    let (token, query, body) = words;
-    TypedRequest {
-        action,
-        numbers,
-        token: token_of(rt, token),
-        query: text_of(rt, query).as_bytes(),
-        body: text_of(rt, body).as_bytes(),
-    }
-}
-
 /// The actions of a line that asks, joined by commas.
 pub(crate) fn actions_in<'a>(rt: &impl Abort, line: &'a str) -> &'a str {
     let (_, rest) = cut(line);
@@ -381,15 +315,16 @@ pub(crate) fn asked_in<'a>(rt: &impl Abort, line: &'a str) -> Asked<'a> {
         Some((name, _)) => name,
         None => actions,
     };
-    let (action, path) = action_of(rt, name);
-    let numbers = Numbers {
-        first: number(rt, first),
-        second: number(rt, second),
-    };
     Asked {
         moment: number(rt, moment),
-        path,
-        request: request_of(rt, action, numbers, (token, query, body)),
+        path: path_of(rt, name),
+        numbers: Numbers {
+            first: number(rt, first),
+            second: number(rt, second),
+        },
+        query: text_of(rt, query).as_bytes(),
+        token: token_of(rt, token),
+        body: text_of(rt, body).as_bytes(),
         answer: answer_of(rt, answer),
     }
 }

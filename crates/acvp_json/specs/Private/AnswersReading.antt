@@ -7,7 +7,7 @@ use Rattle.acvp_answers.specs.Answer.{Answer}
 use Rattle.acvp_json.specs.declared.fault.BodyFault.{BodyFault}
 use Rattle.acvp_json.specs.declared.fault.BodyFault.TheVariants.{Memory}
 use Rattle.acvp_json.specs.AnswersBody.{given_conditions, answer_given, placed}
-use Rattle.acvp_json.specs.Submission.{GivenValue}
+use Rattle.acvp_json.specs.SubmittedAnswers.{GivenValue}
 use Rattle.acvp_caps.specs.Conditions.{judged}
 
 -- the answers after one that is given, or the fault of the first condition that it breaks

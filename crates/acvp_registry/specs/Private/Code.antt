@@ -1,9 +1,11 @@
 -- How the logic stores a JSON value and a kept object: as the list of their parts, the outer before the inner.
-use Rattle.std.specs.Prelude.{◌≡◌, ◌⊎◌, ◌==◌, ℕ, zero, suc, ℤ, Float, List, [], ◌∷◌, drop, Bool, true, false, cond, refl}
+use Rattle.std.specs.Prelude.{◌≡◌, ◌⊎◌, ◌==◌, ℕ, zero, suc, ℤ, Float, List, [], ◌∷◌, drop, Bool, true, false, cond}
+use Rattle.std.specs.Prelude.{refl}
 use Rattle.std.proofs.Common.{◌∙◌, ap, inl, inr}
 use Rattle.std.specs.Coded.{Coded, code_by, coded×, coded⊎, coded_ℕ, coded_ℤ, coded_list}
 use base.Stored.{coded_float}
-use Rattle.serde_json.specs.Data.{Num, unsigned, negative, float, Data, null, boolean, number, string, array, object, Items, no_items, item, Members, no_members, member}
+use Rattle.serde_json.specs.Data.{Num, unsigned, negative, float, Data, null, boolean, number, string, array, object}
+use Rattle.serde_json.specs.Data.{Items, no_items, item, Members, no_members, member}
 use Rattle.acvp_registry.specs.declared.kind.Kind.{Kind}
 use Rattle.acvp_registry.specs.declared.kind.Kind.TheVariants.{Vendor, Module, Environment, Certification}
 use Rattle.acvp_registry.specs.Object.{KeptObject}
@@ -97,7 +99,8 @@ mark_back members_end = refl
 mark_back (member_mark k) = refl
 
 abbrev mark_code : Coded Mark
-mark_code = code_by (ℕ × (List ℕ × Num)) (coded× coded_ℕ (coded× (coded_list coded_ℕ) num_code)) mark_to mark_from mark_back
+mark_code =
+    code_by (ℕ × (List ℕ × Num)) (coded× coded_ℕ (coded× (coded_list coded_ℕ) num_code)) mark_to mark_from mark_back
 
 -- ---- a value as a list of marks
 

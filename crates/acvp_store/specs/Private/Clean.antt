@@ -8,6 +8,7 @@ abbrev Holds : Bool → Type 0
 Holds true = ⊤
 Holds false = ⊥
 
-pub open_is_clean : {is_clean is_open : Bool} → (is_clean ≡ false → is_open ≡ false) → IsTrue is_open → doubt is_clean ≡ 0
+pub open_is_clean : {is_clean is_open : Bool} → (is_clean ≡ false → is_open ≡ false) → IsTrue is_open
+    → doubt is_clean ≡ 0
 open_is_clean {is_clean = true} law h = no_doubt true refl
 open_is_clean {is_clean = false} law h = absurd (subst Holds (sym h ∙ law refl) tt)

@@ -6,7 +6,8 @@ abbrev pub account_columns : Row → Row
 account_columns row = column row 0 ∷ column row 2 ∷ column row 3 ∷ column row 4 ∷ []
 
 abbrev pub session_columns : Row → Row
-session_columns row = column row 0 ∷ column row 2 ∷ column row 3 ∷ column row 4 ∷ column row 5 ∷ column row 6 ∷ column row 7 ∷ column row 8 ∷ []
+session_columns row = column row 0 ∷ column row 2 ∷ column row 3 ∷ column row 4 ∷ column row 5 ∷ column row 6
+    ∷ column row 7 ∷ column row 8 ∷ []
 
 abbrev pub request_columns : Row → Row
 request_columns row = column row 0 ∷ column row 2 ∷ column row 3 ∷ column row 4 ∷ column row 5 ∷ column row 6 ∷ []

@@ -4,11 +4,14 @@ use Rattle.sqlite.specs.Change.{created, next_tree, KeepsRows}
 use Rattle.sqlite.specs.Effect.{Database}
 use Rattle.sqlite.specs.Schema.{Schema}
 use Rattle.sqlite.specs.Table.{Table}
-use Rattle.acvp_store.specs.Schema.{no_schema, Created, schema_of, meta_table, account_table, session_table, set_table, old_set_table, object_table, request_table, reviewer_table}
+use Rattle.acvp_store.specs.Schema.{no_schema, Created, schema_of, meta_table, account_table, session_table, set_table}
+use Rattle.acvp_store.specs.Schema.{old_set_table, object_table, request_table, reviewer_table}
 use Rattle.acvp_store.specs.Version.{HasVersion}
 use Rattle.acvp_store.specs.Alters.{SparesOthers}
 use Rattle.acvp_store.specs.declared.setup.StoreTable.{StoreTable}
-use Rattle.acvp_store.specs.declared.setup.StoreTable.TheVariants.{Meta, Account, Session, Set, Object, Request, Reviewer, OldSet, LaterObject, LaterRequest, LaterSet, LaterReviewer}
+use Rattle.acvp_store.specs.declared.setup.StoreTable.TheVariants.{Meta, Account, Session, Set, Object, Request}
+use Rattle.acvp_store.specs.declared.setup.StoreTable.TheVariants.{Reviewer, OldSet, LaterObject, LaterRequest}
+use Rattle.acvp_store.specs.declared.setup.StoreTable.TheVariants.{LaterSet, LaterReviewer}
 
 abbrev pub text_of : StoreTable → List ℕ
 text_of Meta = codes "CREATE TABLE meta (name TEXT PRIMARY KEY NOT NULL, value INTEGER NOT NULL) STRICT"

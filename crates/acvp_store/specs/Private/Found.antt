@@ -10,5 +10,7 @@ use Rattle.acvp_store.specs.Stands.{Stands}
 use Rattle.acvp_store.specs.Store.{IsStoreOf}
 
 -- the trees of a database of the store's schema that stands for the content
-pub store_of : (layout : Layout) (d : Database) (db : Trees) → d.schema ≡ schema_of layout → d.trees ≡ db → IsDatabase d → (c : Content) → Stands layout d.trees c → IsStoreOf db c
-store_of layout d db schema trees sound c st = (layout, record { sound = subst₂ IsSound schema trees sound; stands = subst (λ t. Stands layout t c) trees st })
+pub store_of : (layout : Layout) (d : Database) (db : Trees) → d.schema ≡ schema_of layout → d.trees ≡ db → IsDatabase d
+    → (c : Content) → Stands layout d.trees c → IsStoreOf db c
+store_of layout d db schema trees sound c st =
+    (layout, record { sound = subst₂ IsSound schema trees sound; stands = subst (λ t. Stands layout t c) trees st })

@@ -4,7 +4,8 @@ use Rattle.sqlite.specs.Effect.{Database}
 use Rattle.sqlite_schema.specs.declared.schema.Schema.{Schema}
 use Rattle.acvp_tables.specs.declared.rows.SetRow.{SetRow}
 use Rattle.acvp_store.specs.Alters.{SparesOthers}
-use Rattle.acvp_store.specs.Schema.{Layout, Created, Migrated, schema_of, SchemaVersion, First, Second, schema_at, second_schema}
+use Rattle.acvp_store.specs.Schema.{Layout, Created, Migrated, schema_of, SchemaVersion, First, Second, schema_at}
+use Rattle.acvp_store.specs.Schema.{second_schema}
 use Rattle.acvp_store.specs.Stands.{HoldsSets, HoldsOldSets}
 use Rattle.acvp_store.specs.Version.{HasVersion}
 use Rattle.acvp_store.specs.declared.migration.Earlier.{Earlier}
@@ -17,7 +18,11 @@ version_of earlier.SecondBeside = Second Migrated
 
 -- the first tables and indexes of a schema, so many
 abbrev pub front : ℕ → ℕ → Schema → Schema
-front tables indexes schema = record { tables = take tables schema.tables; indexes = take indexes schema.indexes; views = schema.views }
+front tables indexes schema = record {
+  tables = take tables schema.tables;
+  indexes = take indexes schema.indexes;
+  views = schema.views;
+}
 
 -- whose tables a schema is of the earlier ones
 abbrev pub IsEarlierOf : Schema → Option Earlier → Type 0

@@ -26,6 +26,8 @@ IsObject o = (kind_number o.kind < 4) × (object_fault o.kind o.value ≡ None)
 pub record Registers (layout : Layout) (request number : ℕ) (old new : Database) : Type 0 where
   pub schema : new.schema ≡ schema_of layout
   pub fits : number < 2 ^ 63
-  pub kept : (requests : List RequestRow) (objects : List ObjectRow) → AllByRecursion (λ (r : RequestRow). IsOfKind r.body) requests → HoldsRequests (old.trees request_tree) requests → HoldsObjects (old.trees object_tree) objects
+  pub kept : (requests : List RequestRow) (objects : List ObjectRow)
+      → AllByRecursion (λ (r : RequestRow). IsOfKind r.body) requests → HoldsRequests (old.trees request_tree) requests
+      → HoldsObjects (old.trees object_tree) objects
       → HoldsObjects (new.trees object_tree) (objects ++ approved_objects (request_at request requests) number)
   pub others : SparesOthers layout object_tree old.trees new.trees

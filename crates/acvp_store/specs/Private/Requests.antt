@@ -22,7 +22,8 @@ pub record IsAsked (row : RequestRow) (number account kind : ℕ) (body : List �
 
 -- a request, as a query shows it
 abbrev pub request_shown : RequestRow → Row
-request_shown r = whole r.number ∷ whole r.account ∷ whole (body_number r.body) ∷ Text (body_text r.body) ∷ status_shown r.status
+request_shown r =
+    whole r.number ∷ whole r.account ∷ whole (body_number r.body) ∷ Text (body_text r.body) ∷ status_shown r.status
 
 -- a vendor, a module or an environment, or a certification; and the text reads as it
 abbrev pub IsReadable : RequestBody → Type 0

@@ -1,5 +1,6 @@
 -- A vector set without its texts, as its columns keep it.
-use Rattle.std.specs.Prelude.{◌≡◌, ℕ, ◌+◌, ◌*◌, Bool, ◌&&◌, true, false, is_none, slice_get, List, [], ◌∷◌, ◌++◌, Option, Some, None, ⊤}
+use Rattle.std.specs.Prelude.{◌≡◌, ℕ, ◌+◌, ◌*◌, Bool, ◌&&◌, true, false, is_none, slice_get, List, [], ◌∷◌, ◌++◌}
+use Rattle.std.specs.Prelude.{Option, Some, None, ⊤}
 use Rattle.sqlite.specs.Values.{or_null}
 use Rattle.sqlite_sql.specs.Ops.{is_null}
 use Rattle.sqlite_value.specs.declared.value.Value.TheVariants.{Text}
@@ -29,20 +30,32 @@ pub record ShortColumns : Type 0 where
   pub epoch : ℕ
 
 abbrev pub short_shown : ShortColumns → Row
-short_shown s = whole s.number ∷ whole s.session ∷ flag s.cancelled ∷ flag s.unanswered ∷ or_null Text s.verdicts ∷ or_null whole s.disposition ∷ whole s.epoch ∷ []
+short_shown s = whole s.number ∷ whole s.session ∷ flag s.cancelled ∷ flag s.unanswered ∷ or_null Text s.verdicts
+    ∷ or_null whole s.disposition ∷ whole s.epoch ∷ []
 
 abbrev pub short_of : SetColumns → ShortColumns
-short_of c = record { number = c.number; session = c.session; cancelled = c.cancelled; unanswered = is_none c.answers; verdicts = c.verdicts; disposition = c.disposition; epoch = c.epoch }
+short_of c = record {
+  number = c.number;
+  session = c.session;
+  cancelled = c.cancelled;
+  unanswered = is_none c.answers;
+  verdicts = c.verdicts;
+  disposition = c.disposition;
+  epoch = c.epoch;
+}
 
 -- verdicts' letters give the disposition, which is kept as the number
 abbrev pub IsGiven : List ℕ → ℕ → Disposition → Type 0
-IsGiven text number d = (verdicts : List Verdict) × (text ≡ verdicts_text verdicts) × (d ≡ disposition_of verdicts) × (disposition_number d ≡ Some number)
+IsGiven text number d = (verdicts : List Verdict) × (text ≡ verdicts_text verdicts) × (d ≡ disposition_of verdicts)
+    × (disposition_number d ≡ Some number)
 
 -- The columns that are no more than there are together: answers, the letters of verdicts, and the number of the
 -- disposition that these verdicts give; or none of them.
 abbrev pub IsDispositionOf : ShortColumns → Option Disposition → Type 0
 IsDispositionOf c None = (c.unanswered ≡ true) × (c.verdicts ≡ None) × (c.disposition ≡ None)
-IsDispositionOf c (Some d) = (c.unanswered ≡ false) × (verdicts : List Verdict) × (c.verdicts ≡ Some (verdicts_text verdicts)) × (d ≡ disposition_of verdicts) × (c.disposition ≡ disposition_number d)
+IsDispositionOf c (Some d) = (c.unanswered ≡ false) × (verdicts : List Verdict)
+    × (c.verdicts ≡ Some (verdicts_text verdicts)) × (d ≡ disposition_of verdicts)
+    × (c.disposition ≡ disposition_number d)
 
 pub record IsSummary (c : ShortColumns) (s : SetSummary) : Type 0 where
   pub number : s.number ≡ c.number
@@ -64,11 +77,13 @@ pub record HasUnjudged (sets : List ShortColumns) : Type 0 where
 
 -- the columns that are read of a row
 abbrev pub short_columns : Row → Row
-short_columns row = column row 0 ∷ column row 2 ∷ column row 4 ∷ flag (is_null (column row 5)) ∷ column row 6 ∷ column row 7 ∷ column row 8 ∷ []
+short_columns row = column row 0 ∷ column row 2 ∷ column row 4 ∷ flag (is_null (column row 5)) ∷ column row 6
+    ∷ column row 7 ∷ column row 8 ∷ []
 
 -- the row has one of the numbers of a session's sets, and isn't cancelled
 abbrev pub is_live_row : ℕ → Row → Bool
-is_live_row session row = is_at_least (session * 100) (column row 0) && (is_at_most (session * 100 + 99) (column row 0) && is_other 1 (column row 4))
+is_live_row session row = is_at_least (session * 100) (column row 0)
+    && (is_at_most (session * 100 + 99) (column row 0) && is_other 1 (column row 4))
 
 abbrev pub IsSummaryOf : Option ShortColumns → Option SetSummary → Type 0
 IsSummaryOf None None = ⊤
@@ -84,7 +99,14 @@ epoch_shown epoch = or_null whole epoch ∷ []
 
 -- a set without answers
 abbrev pub new_set : ℕ → ℕ → CapabilityValue → ℕ → SetRow
-new_set number session capability epoch = record { number = number; session = session; capability = capability; epoch = epoch; cancelled = false; graded = None }
+new_set number session capability epoch = record {
+  number = number;
+  session = session;
+  capability = capability;
+  epoch = epoch;
+  cancelled = false;
+  graded = None;
+}
 
 abbrev pub AddsSets : Layout → List SetRow → Database → Database → Type 0
 AddsSets layout news = Alters layout (set_tree layout) HoldsSets (λ rows. rows ++ news)

@@ -1,5 +1,6 @@
 -- What is read of a row, as a query shows it; and which rows a query meets.
-use Rattle.std.specs.Prelude.{◌≡◌, ◌≢◌, ◌<◌, ◌⊎◌, ⊤, ℕ, List, take, length, slice_get, Bool, not, ◌&&◌, Option, Some, None, Result, Ok, Err, IsUtf8}
+use Rattle.std.specs.Prelude.{◌≡◌, ◌≢◌, ◌<◌, ◌⊎◌, ⊤, ℕ, List, take, length, slice_get, Bool, not, ◌&&◌, Option, Some}
+use Rattle.std.specs.Prelude.{None, Result, Ok, Err, IsUtf8}
 use Rattle.std.specs.List.{AllZip, AllByRecursion, filter}
 use Rattle.std.specs.Ordering.{is_le, is_ge}
 use Rattle.sqlite.specs.declared.error.Error.{Error}
@@ -22,7 +23,8 @@ AreShown Good shown = AllZip (λ row x. BeginsWith (shown x) row × Good x)
 -- Of the rows of a table, whatever they are, each that a query meets shows such a member: these columns of it are the
 -- member's.
 abbrev pub AreMet : {T : Type 0} → (Row → Bool) → (Row → Row) → (T → Row) → (T → Type 0) → List Row → Type 0
-AreMet {T = T} meets columns shown Good rows = AllByRecursion (λ row. (x : T) × (columns row ≡ shown x) × Good x) (filter meets rows)
+AreMet {T = T} meets columns shown Good rows = AllByRecursion (λ row. (x : T) × (columns row ≡ shown x) × Good x)
+    (filter meets rows)
 
 -- a row is that of no member that fits the program's types
 abbrev pub IsOfNone : {T : Type 0} → (T → Type 0) → (T → Row) → Row → Type 0

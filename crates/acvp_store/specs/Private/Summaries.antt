@@ -34,7 +34,8 @@ abbrev pub status_shown : RequestStatus → Row
 status_shown s = whole (status_number s) ∷ or_null whole (given_number s) ∷ []
 
 abbrev pub summary_shown : RequestSummary → Row
-summary_shown s = whole s.number ∷ whole s.account ∷ whole (subject_number s.subject) ∷ or_null Text (subject_text s.subject) ∷ status_shown s.status
+summary_shown s = whole s.number ∷ whole s.account ∷ whole (subject_number s.subject)
+    ∷ or_null Text (subject_text s.subject) ∷ status_shown s.status
 
 -- the numbers of its URLs have 19 digits at most
 abbrev pub FitsCertification : Certification → Type 0

@@ -8,8 +8,7 @@ use crate::list::requests::RequestsOf;
 use crate::list::sessions::SessionsOf;
 use crate::list::walks::count;
 use crate::rows::{ObjectRow, RequestRow, SessionRow};
-use crate::summary::Counts;
-use acvp_registry::Kind;
+use acvp_registry::{Counts, Kind};
 
 /// How many rows of each kind an account has.
 pub(crate) fn counts_in(

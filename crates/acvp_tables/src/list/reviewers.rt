@@ -47,7 +47,8 @@ pub(crate) fn reviewers_of(
     rows: &[ReviewerRow],
     session: u64,
 ) -> Result<Vec<u16>, AllocError>
-    ensures { IfOk result (λ numbers. numbers.items ≡ ascending [] (map (λ row. row.account) (filter (λ row. row.session == session) rows.now))) }
+    ensures { IfOk result (λ numbers. numbers.items
+        ≡ ascending [] (map (λ row. row.account) (filter (λ row. row.session == session) rows.now))) }
 {
     let mut numbers = Vec::new(alloc);
     for row in rows {

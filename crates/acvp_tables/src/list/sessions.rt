@@ -1,6 +1,7 @@
 //! Test sessions as a list.
 ghost use Rattle.std.specs.Prelude.{◌≡◌, ◌==◌};
-ghost use Rattle.acvp_tables.specs.Changes.{is_session, cancelled_session, with_certify, with_passed, with_counts, new_session};
+ghost use Rattle.acvp_tables.specs.Changes.{is_session, cancelled_session, with_certify, with_passed, with_counts};
+ghost use Rattle.acvp_tables.specs.Changes.{new_session};
 
 use crate::change::NewSession;
 use crate::list::walks::{Edit, Show, Test};

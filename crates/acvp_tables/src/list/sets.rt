@@ -6,7 +6,7 @@ ghost use Rattle.acvp_tables.specs.Changes.{changed, is_set, cancelled_set, new_
 
 use crate::change::NewSession;
 use crate::graded::Graded;
-use crate::list::walks::{Edit, Show, Test, place_of};
+use crate::list::walks::{Edit, Show, Test, position_of};
 use crate::rows::SetRow;
 use crate::summary::SetSummary;
 use acvp_answers::Verdict;
@@ -110,7 +110,8 @@ impl Edit<SetRow> for CancelSet {
 /// The rows of a new session's sets.
 pub(crate) fn new_sets(alloc: Global, session: &NewSession) -> Result<Vec<SetRow>, AllocError>
     requires { owner_of session.now.number ≡ session.now.account }
-    ensures { IfOk result (λ rows. rows.items ≡ new_sets session.now.number session.now.epoch 1 session.now.registration.capabilities) }
+    ensures { IfOk result (λ rows. rows.items
+        ≡ new_sets session.now.number session.now.epoch 1 session.now.registration.capabilities) }
 {
     let mut rows = Vec::new(alloc);
     let mut number = session.number * 100;
@@ -131,9 +132,10 @@ pub(crate) fn new_sets(alloc: Global, session: &NewSession) -> Result<Vec<SetRow
 
 /// Keeps answers in the set of a number, in the place of those that were kept.
 pub(crate) fn keep(rows: &mut [SetRow], number: u64, graded: Graded)
-    ensures { length (filter (is_set number) rows.old) ≤ 1 → rows.new ≡ changed (is_set number) (with_graded graded) rows.old }
+    ensures { length (filter (is_set number) rows.old) ≤ 1
+        → rows.new ≡ changed (is_set number) (with_graded graded) rows.old }
 {
-    if let Some(place) = place_of(rows, &SetIs { number }) {
+    if let Some(place) = position_of(rows, &SetIs { number }) {
         rows[place].graded = Some(graded);
     }
 }

@@ -1,5 +1,7 @@
 //! Walks over lists of rows: what passes a test is found, counted, shown or edited.
-ghost use Rattle.std.specs.Prelude.{◌≡◌, ◌++◌, ◌∷◌, [], ℕ, Bool, IfErr, IfOk, OnOk, OnErr, MatchOption, true, false, ◌<◌, filter, find, if◌then◌else◌, length, map, option_map, slice_index_or, vec_capacity, vec_len};
+ghost use Rattle.std.specs.Prelude.{◌≡◌, ◌++◌, ◌∷◌, [], ℕ, Bool, IfErr, IfOk, OnOk, OnErr, MatchOption, true, false};
+ghost use Rattle.std.specs.Prelude.{◌<◌, filter, find, if◌then◌else◌, length, map, option_map, slice_index_or};
+ghost use Rattle.std.specs.Prelude.{vec_capacity, vec_len};
 ghost use Rattle.std.specs.List.{list_any};
 ghost use Rattle.acvp_tables.specs.Content.{page};
 ghost use Rattle.acvp_tables.specs.Changes.{changed};
@@ -71,7 +73,7 @@ pub(crate) fn any<R, T: Test<R>>(rows: &[R], test: &T) -> bool
 }
 
 /// The place of a row that passes, from 0 on.
-pub(crate) fn place_of<R, T: Test<R>>(rows: &[R], test: &T) -> Option<usize>
+pub(crate) fn position_of<R, T: Test<R>>(rows: &[R], test: &T) -> Option<usize>
     ensures { MatchOption result
         (list_any (T.passes test.now) rows.now ≡ false)
         (λ i. (i < length rows.now) × ((d : R) → T.passes test.now (slice_index_or rows.now i d) ≡ true)) }
@@ -141,7 +143,8 @@ pub(crate) fn page<R, Out: Drop, T: Test<R>, S: Show<R, Out>>(
     offset: u64,
     limit: u64,
 ) -> Result<Vec<Out>, AllocError>
-    ensures { IfOk result (λ found. found.items ≡ page offset limit (map (S.shown show.now) (filter (T.passes test.now) rows.now))) }
+    ensures { IfOk result (λ found. found.items
+        ≡ page offset limit (map (S.shown show.now) (filter (T.passes test.now) rows.now))) }
 {
     let mut found = Vec::new(alloc);
     let mut to_skip = offset;

@@ -1,7 +1,7 @@
 use Rattle.std.proofs.Common.{◌≡◌, true, false, refl, sym, ◌∙◌, inr}
 use Rattle.std.specs.List.{list_all}
 use Rattle.acvp_caps.specs.Items.{is_byte_oriented, item_within}
-use Rattle.acvp_caps.proofs.ReadingLemmas.{lengths-outcome, are-lengths}
+use Rattle.acvp_caps.proofs.DomainItemLemmas.{lengths-outcome, are-lengths}
 use Rattle.acvp_caps.proofs.domain.judged_domain.Goals as goal
 
 pub returns-then-not-are_within-clause-read : goal.returns-then-not-are_within-clause-read

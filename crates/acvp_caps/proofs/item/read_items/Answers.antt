@@ -2,7 +2,7 @@ use Rattle.std.proofs.Common.{refl, sym, ◌∙◌, ap, inr, take, rules}
 use Rattle.std.specs.Prelude.{is_some, map}
 use Rattle.serde_json.specs.View.{view}
 use Rattle.acvp_caps.specs.Registered.{is_item, item_of}
-use Rattle.acvp_caps.proofs.ReadingLemmas.{list_all-fails, kept-more, all-more, formed-items}
+use Rattle.acvp_caps.proofs.DomainItemLemmas.{list_all-fails, kept-more, all-more, formed-items}
 use Rattle.acvp_caps.proofs.item.read_items.Goals as goal
 
 pub returns-in_default-clause-err : goal.returns-in_default-clause-err

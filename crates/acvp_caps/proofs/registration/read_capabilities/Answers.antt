@@ -2,7 +2,7 @@ use Rattle.std.proofs.Common.{inl, inr, rules}
 use Rattle.std.proofs.lemmas.Result.{err_from_is_err_and}
 use Rattle.serde_json.specs.View.{view}
 use Rattle.acvp_caps.specs.Registered.{capability_at, capability_conditions}
-use Rattle.acvp_caps.proofs.ReadingLemmas.{kept-more}
+use Rattle.acvp_caps.proofs.DomainItemLemmas.{kept-more}
 use Rattle.acvp_mac.proofs.ConditionLemmas.{holds-more, first-fault}
 use Rattle.acvp_caps.proofs.registration.read_capabilities.Goals as goal
 

@@ -1,6 +1,6 @@
 use Rattle.std.proofs.Common.{sym, ◌∙◌}
 use Rattle.acvp_json.specs.ReplyData.{reply_data}
-use Rattle.acvp_desk.proofs.Allowing.{each_algorithm}
+use Rattle.acvp_desk.proofs.Allowed.{each_algorithm}
 use Rattle.acvp_desk.proofs.account.draft_algorithm.Goals as goal
 
 pub unreachable-requires : goal.unreachable-requires

@@ -5,8 +5,8 @@ use Rattle.acvp_json.specs.Envelope.{envelope_conditions, object_of}
 use Rattle.acvp_mac.specs.Conditions.{first_broken, with_fault}
 use Rattle.acvp_desk.specs.Asked.{certified_conditions, certified_in}
 use Rattle.acvp_desk.specs.Bodies.{object_conditions, rule_of}
-use Rattle.acvp_desk.proofs.Asking.{broken_later, not_read}
-use Rattle.acvp_desk.proofs.Judging.{front_broken}
+use Rattle.acvp_desk.proofs.NextRequest.{broken_later, not_read}
+use Rattle.acvp_desk.proofs.FirstBroken.{front_broken}
 use Rattle.acvp_desk.proofs.body.certify_read.Goals as goal
 
 pub returns-in-Ok-clause-err : goal.returns-in-Ok-clause-err

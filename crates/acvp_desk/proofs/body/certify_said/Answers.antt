@@ -3,7 +3,7 @@ use Rattle.std.specs.Prelude.{option_map}
 use Rattle.acvp_json.specs.CertifyBody.{certify_body_conditions, certify_body_of}
 use Rattle.acvp_json.specs.View.{view}
 use Rattle.acvp_desk.specs.Bodies.{rule_of}
-use Rattle.acvp_desk.proofs.Judging.{broken}
+use Rattle.acvp_desk.proofs.FirstBroken.{broken}
 use Rattle.acvp_desk.proofs.body.certify_said.Goals as goal
 
 pub returns-in-Err-clause-err : goal.returns-in-Err-clause-err

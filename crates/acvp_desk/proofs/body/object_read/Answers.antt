@@ -4,8 +4,8 @@ use Rattle.acvp_mac.specs.Conditions.{with_fault}
 use Rattle.acvp_registry.specs.Object.{object_conditions}
 use Rattle.acvp_desk.specs.Asked.{kept_as, object_in, registered_conditions}
 use Rattle.acvp_desk.specs.Bodies.{object_conditions as conditions_on, object_rule, rule_of}
-use Rattle.acvp_desk.proofs.Asking.{not_read}
-use Rattle.acvp_desk.proofs.Judging.{front_broken}
+use Rattle.acvp_desk.proofs.NextRequest.{not_read}
+use Rattle.acvp_desk.proofs.FirstBroken.{front_broken}
 use Rattle.acvp_desk.proofs.body.object_read.Goals as goal
 
 pub returns-in-Err-clause-err : goal.returns-in-Err-clause-err

@@ -4,7 +4,7 @@ use Rattle.acvp_caps.specs.Registered.{registration_conditions}
 use Rattle.acvp_mac.specs.Conditions.{with_fault}
 use Rattle.acvp_policy.specs.declared.rule.Rule.TheVariants as rule
 use Rattle.acvp_desk.specs.Bodies.{object_conditions, registration_rule, rule_of}
-use Rattle.acvp_desk.proofs.Judging.{denied_first}
+use Rattle.acvp_desk.proofs.FirstBroken.{denied_first}
 use Rattle.acvp_desk.proofs.body.registration_body.Goals as goal
 
 pub returns-in-Err-clause-err : goal.returns-in-Err-clause-err

@@ -1,4 +1,4 @@
-use Rattle.acvp_desk.proofs.Allowing.{named_there}
+use Rattle.acvp_desk.proofs.Allowed.{named_there}
 use Rattle.acvp_desk.proofs.draft.draft_for.Goals as goal
 
 pub draft_wish-requires-clause-there : goal.draft_wish-requires-clause-there

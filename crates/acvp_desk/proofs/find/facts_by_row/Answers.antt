@@ -1,6 +1,6 @@
 use Rattle.std.proofs.Common.{sym, ◌∙◌}
 use Rattle.acvp_tables.specs.State.{state_of}
-use Rattle.acvp_desk.proofs.Finding.{session_stands}
+use Rattle.acvp_desk.proofs.FoundRows.{session_stands}
 use Rattle.acvp_desk.proofs.find.facts_by_row.Goals as goal
 
 pub returns-clause-found : goal.returns-clause-found

@@ -1,7 +1,7 @@
 use Rattle.std.proofs.Common.{inr}
 use Rattle.acvp_tables.specs.State.{state_of}
-use Rattle.acvp_desk.proofs.Finding.{account_is, refused_caller, login_found, caller_found}
-use Rattle.acvp_desk.proofs.Looking.{row_is_there, login_changes, caller_changes}
+use Rattle.acvp_desk.proofs.FoundRows.{account_is, refused_caller, login_admitted, caller_admitted, login_found, caller_found}
+use Rattle.acvp_desk.proofs.AdmittedCaller.{row_is_there, login_changes, caller_changes}
 use Rattle.acvp_desk.proofs.find.find.Goals as goal
 
 pub returns-in-Err-clause-refused : goal.returns-in-Err-clause-refused
@@ -51,3 +51,12 @@ returns-in-Ok-look_at-clause-open g c =
     (λ clean. (row_is_there c.args.moment c.args.ask.now c.in-Caller.asked c.action.result c.facts_for.result c.nothing-caller.result c.in-Ok.account c.in-Ok-reviewer.reviewer c.admit.result _
     c.in-Caller.is c.action.ensures c.facts_for.ensures c.nothing-caller.ensures c.admit.ensures.judged c.in_default-admit.is c.in-Ok.ensures.open
     (c.in-Ok-reviewer.ensures.looks.was_clean (c.in-Ok-look_at.ensures.looks.was_clean clean))).0)
+
+pub returns-in_default-ask-clause-admitted : goal.returns-in_default-ask-clause-admitted
+returns-in_default-ask-clause-admitted g c =
+    login_admitted c.args.moment c.args.ask.now c.in_default-ask.field-0 c.nothing-caller.result c.in_default-ask.is
+
+pub returns-in-Ok-look_at-clause-admitted : goal.returns-in-Ok-look_at-clause-admitted
+returns-in-Ok-look_at-clause-admitted g c =
+    caller_admitted c.args.moment c.args.ask.now c.in-Caller.asked c.action.result c.facts_for.result c.nothing-caller.result c.in-Ok.account c.in-Ok-reviewer.reviewer c.in-Ok-look_at.field-0
+    c.in-Caller.is c.action.ensures c.facts_for.ensures c.nothing-caller.ensures c.in-Ok-look_at.ensures.names (rw c.in_default-admit.is at c.admit.ensures.admitted)

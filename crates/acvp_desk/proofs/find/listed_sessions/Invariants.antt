@@ -9,6 +9,6 @@ use Rattle.acvp_desk.proofs.find.listed_sessions.Given as goal
 
 abbrev pub invariant-loop-row : goal.invariant-loop-row
 invariant-loop-row g l =
-    Looks g.T.Tables.stands g.T.Tables.is_live g.T.Tables.is_clean g.T.Tables.leaves {X = List ListedSession} {E = StoreFault} (Ok l.sessions.items) l.fn.tables l.tables
-    × Sees g.T.Tables.stands g.T.Tables.is_live g.T.Tables.is_clean g.T.Tables.leaves {E = StoreFault} (Ok l.sessions.items) l.fn.tables l.tables
+    Looks g.T.Tables.meaning {X = List ListedSession} {E = StoreFault} (Ok l.sessions.items) l.fn.tables l.tables
+    × Sees g.T.Tables.meaning {E = StoreFault} (Ok l.sessions.items) l.fn.tables l.tables
     (λ seeds c. map (λ row. listed_session c.requests (session_record row)) (take l.row-index l.fn.rows))

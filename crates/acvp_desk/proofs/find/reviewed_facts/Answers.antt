@@ -1,5 +1,5 @@
 use Rattle.acvp_tables.specs.State.{state_of}
-use Rattle.acvp_desk.proofs.Reviewing.{none_reviews}
+use Rattle.acvp_desk.proofs.NextReviewer.{none_reviews}
 use Rattle.acvp_desk.proofs.find.reviewed_facts.Goals as goal
 
 pub returns-then-reviewer-gt9999-clause-found : goal.returns-then-reviewer-gt9999-clause-found

@@ -1,5 +1,5 @@
 use Rattle.std.proofs.Common.{◌∙◌}
-use Rattle.acvp_desk.proofs.Walking.{sessions_there}
+use Rattle.acvp_desk.proofs.WalkedRows.{sessions_there}
 use Rattle.acvp_desk.proofs.find.sessions_material.Goals as goal
 
 pub returns-clause-found : goal.returns-clause-found

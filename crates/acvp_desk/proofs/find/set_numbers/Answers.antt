@@ -1,5 +1,5 @@
 use Rattle.std.proofs.Common.{arith, ◌∙◌}
-use Rattle.acvp_desk.proofs.Finding.{numbers_of_sets}
+use Rattle.acvp_desk.proofs.FoundRows.{numbers_of_sets}
 use Rattle.acvp_desk.proofs.find.set_numbers.Goals as goal
 
 pub returns-clause-found : goal.returns-clause-found

@@ -1,5 +1,5 @@
 use Rattle.std.proofs.Common.{arith, ◌∙◌}
-use Rattle.acvp_desk.proofs.Finding.{outcomes_of_sets}
+use Rattle.acvp_desk.proofs.FoundRows.{outcomes_of_sets}
 use Rattle.acvp_desk.proofs.find.set_outcomes.Goals as goal
 
 pub returns-clause-found : goal.returns-clause-found

@@ -3,7 +3,7 @@ use Rattle.std.proofs.lemmas.Bool.Decides.{nat_tests}
 use Rattle.acvp_tables.specs.Content.{set_at}
 use Rattle.acvp_desk.specs.declared.find.SetRows.{SetRows}
 use Rattle.acvp_desk.proofs.SetLemmas.{no_row}
-use Rattle.acvp_desk.proofs.Submitting.{no_set_is, set_is, set_is_off}
+use Rattle.acvp_desk.proofs.KeptAnswers.{no_set_is, set_is, set_is_off}
 use Rattle.acvp_desk.proofs.find.submission.Goals as goal
 use Rattle.acvp_desk.proofs.find.submission.Goals.{then-set-session-via-then-set-session, then-set-session-via-else-set-session+then-set}
 

@@ -1,4 +1,4 @@
-use Rattle.acvp_desk.proofs.Adding.{asked_for}
+use Rattle.acvp_desk.proofs.AddedReviewer.{asked_for}
 use Rattle.acvp_desk.proofs.ChangesOwn.{of_account}
 use Rattle.acvp_desk.proofs.isolation.changes_are_of_who_asks.Goals as goal
 

@@ -1,4 +1,4 @@
-use Rattle.acvp_desk.proofs.Keeping.{request_follows, order_follows}
+use Rattle.acvp_desk.proofs.KeptRecords.{request_follows, order_follows}
 use Rattle.acvp_desk.proofs.laws.effects_follow.Goals as goal
 
 pub returns : goal.returns

@@ -1,4 +1,4 @@
-use Rattle.acvp_desk.proofs.Naming.{named}
+use Rattle.acvp_desk.proofs.ErrorBodies.{named}
 use Rattle.acvp_desk.proofs.laws.errors_are_named.Goals as goal
 
 pub returns : goal.returns

@@ -1,5 +1,5 @@
 use Rattle.std.proofs.Common.{arith}
-use Rattle.acvp_desk.proofs.Keeping.{request_kept, order_kept}
+use Rattle.acvp_desk.proofs.KeptRecords.{request_kept, order_kept}
 use Rattle.acvp_desk.proofs.laws.records_are_kept.Goals as goal
 
 pub returns : goal.returns

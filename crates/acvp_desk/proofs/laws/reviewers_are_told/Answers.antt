@@ -1,4 +1,4 @@
-use Rattle.acvp_desk.proofs.Telling.{added_is_told, removed_is_told}
+use Rattle.acvp_desk.proofs.ToldReviewers.{added_is_told, removed_is_told}
 use Rattle.acvp_desk.proofs.laws.reviewers_are_told.Goals as goal
 
 pub returns : goal.returns

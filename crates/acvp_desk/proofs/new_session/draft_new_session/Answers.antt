@@ -3,7 +3,7 @@ use Rattle.acvp_caps.specs.Registered.{registration_conditions}
 use Rattle.acvp_policy.specs.declared.rule.Rule.TheVariants as rule
 use Rattle.acvp_desk.specs.Bodies.{body_conditions, registration_rule}
 use Rattle.acvp_desk.specs.NewSessions.{sessions_in_material, has_number_left}
-use Rattle.acvp_desk.proofs.Judging.{denied_first}
+use Rattle.acvp_desk.proofs.FirstBroken.{denied_first}
 use Rattle.acvp_desk.proofs.new_session.draft_new_session.Goals as goal
 
 pub returns-in-Err-clause-denied : goal.returns-in-Err-clause-denied

@@ -1,5 +1,5 @@
 use Rattle.std.proofs.Common.{[], ◌∷◌, ◌++◌, ◌+◌, ◌*◌, refl, sym, ap, ◌∙◌, arith}
-use Rattle.acvp_desk.proofs.Registering.{one_more}
+use Rattle.acvp_desk.proofs.NextSession.{one_more}
 use Rattle.acvp_desk.proofs.new_session.numbers_of.Goals as goal
 
 pub loop-place-preserved : goal.loop-place-preserved

@@ -2,12 +2,12 @@ use Rattle.std.proofs.Common.{None, sym, ◌∙◌}
 use Rattle.acvp_tables.specs.declared.change.OrderChange.TheVariants.{AddAccount as add_account}
 use Rattle.acvp_desk.specs.declared.order.Order.TheVariants as order
 use Rattle.acvp_desk.specs.declared.order.OrderReply.TheVariants.{Taken}
-use Rattle.acvp_desk.proofs.Ordering.{taken, added, left_alone, carried_out, failed}
+use Rattle.acvp_desk.proofs.OrderExits.{taken, added, left_alone, carried_out, failed}
 use Rattle.acvp_desk.proofs.order.add.Goals as goal
 
 pub returns-in-Ok-Some : goal.returns-in-Ok-Some
 returns-in-Ok-Some g c =
-    let alone = left_alone g.T.Tables.faults g.T.Tables.stands g.T.Tables.is_live g.T.Tables.is_clean g.T.Tables.leaves
+    let alone = left_alone g.T.Tables.faults g.T.Tables.meaning
     (order.AddAccount c.args.account c.args.secret) c.in-Ok-Some.field-0 c.args.tables.now c.account.new.self Taken
     c.in-Ok-Some.ensures.reads
     (λ live content sound h. taken c.args.account c.args.secret c.in-Ok-Some.field-0-0 content
@@ -17,7 +17,7 @@ returns-in-Ok-Some g c =
 
 pub returns-in-Ok : goal.returns-in-Ok
 returns-in-Ok g c =
-    carried_out g.T.Tables.faults g.T.Tables.stands g.T.Tables.is_live g.T.Tables.is_clean g.T.Tables.leaves
+    carried_out g.T.Tables.faults g.T.Tables.meaning
     (order.AddAccount c.args.account c.args.secret) c.in-Ok-None.field-0 c.args.tables.now c.account.new.self c.order.new.self
     (add_account (record { account = c.args.account; secret = c.args.secret })) c.in-Ok-None.ensures.reads None
     (λ live content sound h. added c.args.account c.args.secret content
@@ -25,7 +25,7 @@ returns-in-Ok g c =
 
 pub returns-in-Err-order : goal.returns-in-Err-order
 returns-in-Err-order g c =
-    failed g.T.Tables.faults g.T.Tables.stands g.T.Tables.is_live g.T.Tables.is_clean g.T.Tables.leaves
+    failed g.T.Tables.faults g.T.Tables.meaning
     (order.AddAccount c.args.account c.args.secret) c.in-Ok-None.field-0 c.args.tables.now c.account.new.self c.order.new.self
     (add_account (record { account = c.args.account; secret = c.args.secret })) c.in-Ok-None.ensures.reads None
     (λ live content sound h. added c.args.account c.args.secret content

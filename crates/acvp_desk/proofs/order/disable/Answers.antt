@@ -2,12 +2,12 @@ use Rattle.std.proofs.Common.{None, sym, ◌∙◌}
 use Rattle.acvp_tables.specs.declared.change.OrderChange.TheVariants.{DisableAccount as disable_account}
 use Rattle.acvp_desk.specs.declared.order.Order.TheVariants as order
 use Rattle.acvp_desk.specs.declared.order.OrderReply.TheVariants.{Unknown}
-use Rattle.acvp_desk.proofs.Ordering.{unknown, disabled, left_alone, carried_out, failed}
+use Rattle.acvp_desk.proofs.OrderExits.{unknown, disabled, left_alone, carried_out, failed}
 use Rattle.acvp_desk.proofs.order.disable.Goals as goal
 
 pub returns-in-Ok-None : goal.returns-in-Ok-None
 returns-in-Ok-None g c =
-    let alone = left_alone g.T.Tables.faults g.T.Tables.stands g.T.Tables.is_live g.T.Tables.is_clean g.T.Tables.leaves
+    let alone = left_alone g.T.Tables.faults g.T.Tables.meaning
     (order.DisableAccount c.args.account) c.in-Ok-None.field-0 c.args.tables.now c.account.new.self Unknown
     c.in-Ok-None.ensures.reads
     (λ live content sound h. unknown c.args.account content
@@ -17,7 +17,7 @@ returns-in-Ok-None g c =
 
 pub returns-in-Ok : goal.returns-in-Ok
 returns-in-Ok g c =
-    carried_out g.T.Tables.faults g.T.Tables.stands g.T.Tables.is_live g.T.Tables.is_clean g.T.Tables.leaves
+    carried_out g.T.Tables.faults g.T.Tables.meaning
     (order.DisableAccount c.args.account) c.in-Ok-Some.field-0 c.args.tables.now c.account.new.self c.order.new.self
     (disable_account c.args.account) c.in-Ok-Some.ensures.reads None
     (λ live content sound h. disabled c.args.account c.in-Ok-Some.field-0-0 content
@@ -25,7 +25,7 @@ returns-in-Ok g c =
 
 pub returns-in-Err-order : goal.returns-in-Err-order
 returns-in-Err-order g c =
-    failed g.T.Tables.faults g.T.Tables.stands g.T.Tables.is_live g.T.Tables.is_clean g.T.Tables.leaves
+    failed g.T.Tables.faults g.T.Tables.meaning
     (order.DisableAccount c.args.account) c.in-Ok-Some.field-0 c.args.tables.now c.account.new.self c.order.new.self
     (disable_account c.args.account) c.in-Ok-Some.ensures.reads None
     (λ live content sound h. disabled c.args.account c.in-Ok-Some.field-0-0 content

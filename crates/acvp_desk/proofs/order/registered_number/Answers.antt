@@ -1,6 +1,6 @@
 use Rattle.std.proofs.Common.{◌≤◌, ◌+◌, ap, ◌∙◌}
 use Rattle.acvp_tables.specs.State.{first_of_account, state_of}
-use Rattle.acvp_desk.proofs.Approving.{few_of_kind, registered_as}
+use Rattle.acvp_desk.proofs.DecidedRequest.{few_of_kind, registered_as}
 use Rattle.acvp_desk.proofs.order.registered_number.Goals as goal
 
 pub returns-clause-found : goal.returns-clause-found

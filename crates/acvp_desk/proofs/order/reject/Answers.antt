@@ -2,13 +2,13 @@ use Rattle.std.proofs.Common.{None, true, false, sym, ◌∙◌}
 use Rattle.acvp_tables.specs.declared.change.OrderChange.TheVariants.{Reject}
 use Rattle.acvp_desk.specs.declared.order.Order.TheVariants as order
 use Rattle.acvp_desk.specs.declared.order.OrderReply.TheVariants.{Unknown, NotInitial}
-use Rattle.acvp_desk.proofs.Ordering.{none_rejected, rejected_by, left_alone, carried_out, failed}
+use Rattle.acvp_desk.proofs.OrderExits.{none_rejected, rejected_by, left_alone, carried_out, failed}
 use Rattle.acvp_desk.proofs.order.reject.Goals as goal
 
 pub returns-in-Ok-None : goal.returns-in-Ok-None
 returns-in-Ok-None g c =
     let reads = c.in-Ok-None.ensures.reads in
-    let alone = left_alone g.T.Tables.faults g.T.Tables.stands g.T.Tables.is_live g.T.Tables.is_clean g.T.Tables.leaves
+    let alone = left_alone g.T.Tables.faults g.T.Tables.meaning
     (order.RejectRequest c.args.number) c.in-Ok-None.field-0 c.args.tables.now c.request.new.self Unknown reads
     (λ live content sound h. none_rejected c.args.number content (sym c.in-Ok-None.field-0-is ∙ c.in-Ok-None.ensures.found live content sound h)) in
     record { was_live = reads.was_live; was_clean = reads.was_clean; answered = alone.0; settled = alone.1; same = reads.same; live = reads.live; kept = reads.kept; shut = λ clean off. reads.kept clean }
@@ -16,7 +16,7 @@ returns-in-Ok-None g c =
 pub returns-then-not-is_initial : goal.returns-then-not-is_initial
 returns-then-not-is_initial g c =
     let reads = c.in-Ok-Some.ensures.reads in
-    let alone = left_alone g.T.Tables.faults g.T.Tables.stands g.T.Tables.is_live g.T.Tables.is_clean g.T.Tables.leaves
+    let alone = left_alone g.T.Tables.faults g.T.Tables.meaning
     (order.RejectRequest c.args.number) c.in-Ok-Some.field-0 c.args.tables.now c.request.new.self NotInitial reads
     (λ live content sound h. rejected_by c.args.number c.in-Ok-Some.request false content
     (sym c.in-Ok-Some.field-0-is ∙ c.in-Ok-Some.ensures.found live content sound h) (sym c.if-not-is_initial.ensures)) in
@@ -24,7 +24,7 @@ returns-then-not-is_initial g c =
 
 pub returns-in-Ok : goal.returns-in-Ok
 returns-in-Ok g c =
-    carried_out g.T.Tables.faults g.T.Tables.stands g.T.Tables.is_live g.T.Tables.is_clean g.T.Tables.leaves
+    carried_out g.T.Tables.faults g.T.Tables.meaning
     (order.RejectRequest c.args.number) c.in-Ok-Some.field-0 c.args.tables.now c.request.new.self c.order.new.self
     (Reject c.args.number) c.in-Ok-Some.ensures.reads None
     (λ live content sound h. rejected_by c.args.number c.in-Ok-Some.request true content
@@ -32,7 +32,7 @@ returns-in-Ok g c =
 
 pub returns-in-Err-order : goal.returns-in-Err-order
 returns-in-Err-order g c =
-    failed g.T.Tables.faults g.T.Tables.stands g.T.Tables.is_live g.T.Tables.is_clean g.T.Tables.leaves
+    failed g.T.Tables.faults g.T.Tables.meaning
     (order.RejectRequest c.args.number) c.in-Ok-Some.field-0 c.args.tables.now c.request.new.self c.order.new.self
     (Reject c.args.number) c.in-Ok-Some.ensures.reads None
     (λ live content sound h. rejected_by c.args.number c.in-Ok-Some.request true content

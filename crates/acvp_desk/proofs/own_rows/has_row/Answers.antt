@@ -3,7 +3,7 @@ use Rattle.std.specs.Prelude.{is_some}
 use Rattle.acvp_tables.specs.Content.{request_summary}
 use Rattle.acvp_tables.specs.State.{state_of}
 use Rattle.acvp_desk.specs.Registries.{own_request}
-use Rattle.acvp_desk.proofs.Finding.{mapped_there}
+use Rattle.acvp_desk.proofs.FoundRows.{mapped_there}
 use Rattle.acvp_desk.proofs.own_rows.has_row.Goals as goal
 
 pub returns-in-Read-clause-found : goal.returns-in-Read-clause-found

@@ -1,4 +1,4 @@
-use Rattle.acvp_desk.proofs.Paging.{by_one, by_both, by_more}
+use Rattle.acvp_desk.proofs.QueryPage.{by_one, by_both, by_more}
 use Rattle.acvp_desk.proofs.page.page_of.Goals as goal
 
 pub returns-in_default : goal.returns-in_default

@@ -1,6 +1,6 @@
 use Rattle.std.proofs.Common.{Some, inr, ◌∙◌}
 use Rattle.acvp_desk.specs.Asked.{asked_conditions, asked_in, registered_conditions}
-use Rattle.acvp_desk.proofs.Judging.{front_broken, front_held}
+use Rattle.acvp_desk.proofs.FirstBroken.{front_broken, front_held}
 use Rattle.acvp_desk.proofs.registration.draft_registration.Goals as goal
 
 pub returns-in-Ok-Err-clause-denied : goal.returns-in-Ok-Err-clause-denied

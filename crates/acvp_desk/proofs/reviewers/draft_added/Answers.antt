@@ -4,7 +4,7 @@ use Rattle.acvp_policy.specs.declared.rule.Rule.TheVariants as rule
 use Rattle.acvp_desk.specs.Bodies.{body_conditions, rule_of}
 use Rattle.acvp_desk.specs.Place.{reviewers_in_material}
 use Rattle.acvp_desk.specs.Reviewers.{has_room, reviewer_at}
-use Rattle.acvp_desk.proofs.Judging.{denied_first}
+use Rattle.acvp_desk.proofs.FirstBroken.{denied_first}
 use Rattle.acvp_desk.proofs.reviewers.draft_added.Goals as goal
 
 pub returns-in-Err-clause-denied : goal.returns-in-Err-clause-denied

@@ -3,8 +3,8 @@ use Rattle.acvp_policy.specs.declared.rule.Rule.TheVariants as rule
 use Rattle.acvp_desk.specs.Answer.{own_conditions, policy_conditions}
 use Rattle.acvp_desk.specs.Desk.{keys_of}
 use Rattle.acvp_desk.specs.Request.{request_value}
-use Rattle.acvp_desk.proofs.Deciding.{denied_by, let_through, covered_by}
-use Rattle.acvp_desk.proofs.Judging.{front_broken, all_hold, denied_later}
+use Rattle.acvp_desk.proofs.Decision.{denied_by, let_through, covered_by}
+use Rattle.acvp_desk.proofs.FirstBroken.{front_broken, all_hold, denied_later}
 use Rattle.acvp_desk.proofs.serve.plan.Goals as goal
 
 pub returns-in-Err-clause-denied : goal.returns-in-Err-clause-denied

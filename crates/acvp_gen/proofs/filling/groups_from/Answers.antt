@@ -1,7 +1,7 @@
 use Rattle.std.proofs.Common.{◌≡◌, ◌∙◌, arith}
 use Rattle.std.proofs.lemmas.Grind.{common_steps}
 use Rattle.acvp_gen.specs.Private.Filling.{groups_from}
-use Rattle.acvp_gen.proofs.FillingLemmas.{same_groups}
+use Rattle.acvp_gen.proofs.GroupLemmas.{same_groups}
 use Rattle.acvp_gen.proofs.filling.groups_from.Goals as goal
 
 pub returns : goal.returns

@@ -1,7 +1,7 @@
 use Rattle.std.specs.Prelude.{All}
 use Rattle.acvp_caps.specs.Capability.{AreDomainsOf}
 use Rattle.acvp_gen.proofs.ChoiceLemmas.{IsShapeOf, fit_shapes}
-use Rattle.acvp_gen.proofs.FillingLemmas.{are_groups}
+use Rattle.acvp_gen.proofs.GroupLemmas.{are_groups}
 use Rattle.acvp_gen.proofs.generation.prompts.Goals as goal
 
 -- what holds of the groups follows from their definition

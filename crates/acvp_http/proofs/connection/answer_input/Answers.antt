@@ -1,30 +1,28 @@
-use Rattle.std.proofs.Common.{inl, inr}
+use Rattle.std.proofs.Common.{[]}
+use Rattle.acvp_http.proofs.HandledLemmas.{handled_at_once, shows_handled}
 use Rattle.acvp_http.proofs.NeededLemmas.{answers_late, answers_early}
-use Rattle.acvp_http.proofs.ServeLemmas.{shows_request}
+use Rattle.acvp_http.proofs.ServeLemmas.{refused_late}
 use Rattle.acvp_http.proofs.connection.answer_input.Goals as goal
 
-pub returns-then-moment-ge-END_OF_MOMENTS-clause-answered : goal.returns-then-moment-ge-END_OF_MOMENTS-clause-answered
-returns-then-moment-ge-END_OF_MOMENTS-clause-answered g c = (
-  c.requires,
-  answers_late g.T.Tables.stands g.T.Tables.is_live g.T.Tables.is_clean c.args.desk.now.keys c.args.moment c.handle_bytes.result c.args.desk.now.tables
-      c.handle_bytes.new.desk.tables (g.S.Source.stream c.args.reader.now) c.if-moment-ge-END_OF_MOMENTS.true c.handle_bytes.ensures.served
-      (shows_request g.T.Tables.stands g.T.Tables.is_live g.T.Tables.is_clean g.T.Tables.leaves c.args.desk.now.keys c.args.moment _ c.handle_bytes.result
-      c.args.desk.now.tables c.handle_bytes.new.desk.tables (elim c.handle_bytes.ensures.shown [
-        | inl at_once ↦ inl (at_once.0, (let same = at_once.1 in cc))
-        | inr asked ↦ inr asked
-      ])),
-)
+pub returns-in_default-clause-answered : goal.returns-in_default-clause-answered
+returns-in_default-clause-answered g c =
+    let handled = handled_at_once g.T.Tables.meaning g.met.T.Tables.rests c.args.moment [] c.args.desk.now
+    c.refusal.result (refused_late c.args.moment [] c.refusal.result c.in_default.ensures c.refusal.ensures) in (
+      c.requires,
+      answers_late g.T.Tables.meaning c.args.desk.now.keys c.args.moment c.refusal.result c.args.desk.now.tables
+          c.args.desk.now.tables (g.S.Source.stream c.args.reader.now) c.in_default.ensures handled.served
+          (shows_handled g.T.Tables.meaning g.met.T.Tables.rests c.args.moment [] c.refusal.result
+          c.args.desk.now c.args.desk.now handled),
+    )
 
 pub returns-in-Ok-clause-answered : goal.returns-in-Ok-clause-answered
 returns-in-Ok-clause-answered g c =
-    let (clear, consumed, needed) = c.in-Ok.ensures in (
+    let (clear, consumed, needed, parses) = c.in-Ok.ensures in
+    let handled = rw c.deref.ensures.value at c.answer.ensures in (
       clear,
-      answers_early g.T.Tables.stands g.T.Tables.is_live g.T.Tables.is_clean c.args.desk.now.keys c.args.moment c.handle_bytes-in-Ok.result c.args.desk.now.tables
-          c.handle_bytes-in-Ok.new.desk.tables (g.S.Source.stream c.args.reader.now) (g.S.Source.stream c.receive.new.reader) c.in-Ok.bytes.items
-          c.if-moment-ge-END_OF_MOMENTS.false consumed needed (rw c.deref.ensures.value at c.handle_bytes-in-Ok.ensures.served)
-          (shows_request g.T.Tables.stands g.T.Tables.is_live g.T.Tables.is_clean g.T.Tables.leaves c.args.desk.now.keys c.args.moment _ c.handle_bytes-in-Ok.result
-          c.args.desk.now.tables c.handle_bytes-in-Ok.new.desk.tables (elim (rw c.deref.ensures.value at c.handle_bytes-in-Ok.ensures.shown) [
-            | inl at_once ↦ inl (at_once.0, (let same = at_once.1 in cc))
-            | inr asked ↦ inr asked
-          ])),
+      answers_early g.T.Tables.meaning c.args.desk.now.keys c.args.moment c.answer.result c.args.desk.now.tables
+          c.answer.new.desk.tables (g.S.Source.stream c.args.reader.now) (g.S.Source.stream c.receive.new.reader) c.in-Ok.field-0.bytes.items
+          c.in-Some.ensures.0 consumed needed handled.served
+          (shows_handled g.T.Tables.meaning g.met.T.Tables.rests c.args.moment c.in-Ok.field-0.bytes.items c.answer.result
+          c.args.desk.now c.answer.new.desk handled),
     )

@@ -1,6 +1,6 @@
 use Rattle.std.proofs.Common.{◌∙◌, ap}
 use Rattle.std.specs.Str.{str_eq_ignore_ascii_case}
-use Rattle.acvp_http.proofs.FramingLemmas.{values_of_step, within_step, few_step}
+use Rattle.acvp_http.proofs.FieldLemmas.{values_of_step, within_step, few_step}
 use Rattle.acvp_http.proofs.framing.field_values_of.Goals as goal
 
 pub loop-header-preserved : goal.loop-header-preserved

@@ -1,6 +1,6 @@
 use Rattle.std.proofs.Common.{◌-◌, length, take}
 use Rattle.acvp_http.proofs.KnownLemmas.{consumes_consumes}
-use Rattle.acvp_http.proofs.ReadingLemmas.{filled_more, filled_low}
+use Rattle.acvp_http.proofs.ReadLineLemmas.{filled_more, filled_low}
 use Rattle.acvp_http.proofs.reading.fill.Goals as goal
 
 pub loop-filled-preserved : goal.loop-filled-preserved

@@ -1,7 +1,7 @@
 use Rattle.std.proofs.Common.{◌≡◌, ◌∷◌, ◌++◌, [], length, arith}
 use Rattle.std.proofs.lemmas.Grind.{common_steps}
 use Rattle.acvp_http.proofs.KnownLemmas.{consumes_consumes}
-use Rattle.acvp_http.proofs.ReadingLemmas.{no_body_byte, no_body_other}
+use Rattle.acvp_http.proofs.ReadLineLemmas.{no_body_byte, no_body_other}
 use Rattle.acvp_http.proofs.reading.read_request_bytes.Goals as goal
 
 pub returns-in-Some : goal.returns-in-Some

@@ -3,7 +3,7 @@ use Rattle.std.proofs.lemmas.List.{length-take, take_more_set}
 use Rattle.acvp_http.specs.Private.Lines.{Lacks}
 use Rattle.acvp_http.proofs.KnownLemmas.{consumes_consumes, consumes_no_more}
 use Rattle.acvp_http.proofs.LineLemmas.{lacks_append}
-use Rattle.acvp_http.proofs.ReadingLemmas.{no_line_ended, no_line_long}
+use Rattle.acvp_http.proofs.ReadLineLemmas.{no_line_ended, no_line_long}
 use Rattle.acvp_http.proofs.reading.read_whole_line.Goals as goal
 
 pub returns-in-None-2 : goal.returns-in-None-2

@@ -1,5 +1,5 @@
 use Rattle.std.proofs.Common.{arith, rules}
-use Rattle.acvp_http.proofs.ReceivingLemmas.{body_stops}
+use Rattle.acvp_http.proofs.HeadBytesLemmas.{body_stops}
 use Rattle.acvp_http.proofs.receiving.read_body.Goals as goal
 
 pub returns-in_err-take_byte : goal.returns-in_err-take_byte

@@ -1,6 +1,6 @@
 use Rattle.std.proofs.Common.{rules, ◌∷◌, [], arith}
 use Rattle.acvp_http.proofs.KnownLemmas.{consumes_consumes}
-use Rattle.acvp_http.proofs.ReceivingLemmas.{head_stops, byte_taken, one_longer, none_yet, head_ended}
+use Rattle.acvp_http.proofs.HeadBytesLemmas.{head_stops, byte_taken, one_longer, none_yet, head_ended}
 use Rattle.acvp_http.proofs.receiving.read_head.Goals as goal
 
 pub returns-in_err-take_byte : goal.returns-in_err-take_byte

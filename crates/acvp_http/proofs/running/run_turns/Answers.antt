@@ -1,5 +1,6 @@
 use Rattle.std.proofs.Common.{rules, arith, ap, min, ◌+◌, ◌-◌, ◌^◌, inl, refl, ◌∙◌, ◌≤◌, ◌∷◌, [], length, Err}
-use Rattle.acvp_http.specs.Private.Reading.{event_of}
+use Rattle.acvp_http.specs.Private.Reading.{event_of, stopped_by}
+use Rattle.acvp_http.specs.declared.script.ScriptFault.TheVariants.{Write}
 use Rattle.acvp_http.specs.Run.{most_reads, RunsTurns}
 use Rattle.acvp_http.proofs.GrammarLemmas.{no_event_byte, no_event_lacks}
 use Rattle.acvp_http.proofs.RunLemmas.{ran_none, ran_more, in_part, ran_writes, under, stopped_at_last, goes_on, can_happen}
@@ -12,7 +13,7 @@ loop-count-init g c = record {
   keys = refl;
   was_live = λ live. live;
   was_clean = λ clean. clean;
-  ran = ran_none g.T.Tables.stands g.T.Tables.is_live g.T.Tables.is_clean c.args.desk.now.keys c.args.desk.now.tables (g.S.Source.stream c.args.reader.now)
+  ran = ran_none g.T.Tables.meaning c.args.desk.now.keys c.args.desk.now.tables (g.S.Source.stream c.args.reader.now)
       (g.K.Sink.stream c.args.writer.now);
 }
 
@@ -20,21 +21,21 @@ pub returns-in_err-take_turn-clause-run : goal.returns-in_err-take_turn-clause-r
 returns-in_err-take_turn-clause-run g c =
     let (clear, (front, written, consumed)) = rw c.in-Some.is at c.in_ok-event.ensures in
     let (unavailable, answer, shows, takes, stopped) = c.in_err-take_turn.ensures.turn in
-    let ends : RunsTurns g.T.Tables.stands g.T.Tables.is_live g.T.Tables.is_clean c.args.desk.now.keys c.args.desk.now.tables c.take_turn.new.desk.tables
+    let ends : RunsTurns g.T.Tables.meaning c.args.desk.now.keys c.args.desk.now.tables c.take_turn.new.desk.tables
     (g.S.Source.stream c.args.reader.now) (g.S.Source.stream c.next_event.new.reader)
     (g.K.Sink.stream c.args.writer.now) (g.K.Sink.stream c.take_turn.new.writer)
-    (Err c.in_err-take_turn.field-0.0) =
-    ran_writes g.T.Tables.stands g.T.Tables.is_live g.T.Tables.is_clean c.args.desk.now.keys c.args.desk.now.tables c.loop-count.desk.tables c.take_turn.new.desk.tables
+    (Err Write) =
+    ran_writes g.T.Tables.meaning c.args.desk.now.keys c.args.desk.now.tables c.loop-count.desk.tables c.take_turn.new.desk.tables
     (g.S.Source.stream c.args.reader.now) (g.S.Source.stream c.loop-count.reader) (g.S.Source.stream c.next_event.new.reader)
     (g.K.Sink.stream c.args.writer.now) (g.K.Sink.stream c.loop-count.writer) (g.K.Sink.stream c.take_turn.new.writer)
     (record {
       event = event_of c.in-Some.event;
       unavailable = unavailable;
     }) answer front
-    c.loop-count.count c.in_err-take_turn.field-0.0
+    c.loop-count.count
     c.loop-count.invariant.ran (omega arith) c.in_err-take_turn.ensures.was_clean written consumed shows
-    (under g.T.Tables.stands g.T.Tables.is_live g.T.Tables.is_clean c.loop-count.desk.keys c.args.desk.now.keys c.loop-count.desk.tables c.take_turn.new.desk.tables _ answer
-    c.loop-count.invariant.keys takes) stopped.0 stopped.2 in
+    (under g.T.Tables.meaning c.loop-count.desk.keys c.args.desk.now.keys c.loop-count.desk.tables c.take_turn.new.desk.tables _ answer
+    c.loop-count.invariant.keys takes) stopped.1 in
     search rules
 
 pub loop-count-preserved : goal.loop-count-preserved
@@ -47,7 +48,7 @@ loop-count-preserved g c =
       keys = c.take_turn.ensures.keys ∙ c.loop-count.invariant.keys;
       was_live = λ live. c.loop-count.invariant.was_live (c.take_turn.ensures.was_live live);
       was_clean = λ clean. c.loop-count.invariant.was_clean (c.take_turn.ensures.was_clean clean);
-      ran = ran_more g.T.Tables.stands g.T.Tables.is_live g.T.Tables.is_clean c.args.desk.now.keys c.args.desk.now.tables c.loop-count.desk.tables c.take_turn.new.desk.tables
+      ran = ran_more g.T.Tables.meaning c.args.desk.now.keys c.args.desk.now.tables c.loop-count.desk.tables c.take_turn.new.desk.tables
           (g.S.Source.stream c.args.reader.now) (g.S.Source.stream c.loop-count.reader)
           (g.S.Source.stream c.next_event.new.reader) (g.K.Sink.stream c.args.writer.now)
           (g.K.Sink.stream c.loop-count.writer) (g.K.Sink.stream c.take_turn.new.writer)
@@ -55,7 +56,7 @@ loop-count-preserved g c =
             event = event_of c.in-Some.event;
             unavailable = unavailable;
           }) answer front c.loop-count.count c.loop-count.invariant.ran c.take_turn.ensures.was_clean written consumed shows
-          (under g.T.Tables.stands g.T.Tables.is_live g.T.Tables.is_clean c.loop-count.desk.keys c.args.desk.now.keys c.loop-count.desk.tables c.take_turn.new.desk.tables _ answer
+          (under g.T.Tables.meaning c.loop-count.desk.keys c.args.desk.now.keys c.loop-count.desk.tables c.take_turn.new.desk.tables _ answer
           c.loop-count.invariant.keys takes) done.1;
     }
 
@@ -90,9 +91,9 @@ take_turn-requires-clause-event g c =
 pub returns-in_err-read_byte-clause-run : goal.returns-in_err-read_byte-clause-run
 returns-in_err-read_byte-clause-run g c =
     let ran = c.loop-count.invariant.ran in
-    let ends : RunsTurns g.T.Tables.stands g.T.Tables.is_live g.T.Tables.is_clean c.args.desk.now.keys c.args.desk.now.tables c.loop-count.desk.tables
+    let ends : RunsTurns g.T.Tables.meaning c.args.desk.now.keys c.args.desk.now.tables c.loop-count.desk.tables
     (g.S.Source.stream c.args.reader.now) (g.S.Source.stream c.read_byte.new.reader)
-    (g.K.Sink.stream c.args.writer.now) (g.K.Sink.stream c.loop-count.writer) (Err c.in_err-read_byte.field-0.0) =
+    (g.K.Sink.stream c.args.writer.now) (g.K.Sink.stream c.loop-count.writer) (Err (stopped_by c.in_err-read_byte.field-0.0)) =
     let stopped = stopped_at_last c.in_err-read_byte.field-0.0 c.saturating_add-limit.result (g.S.Source.stream c.args.reader.now) (g.S.Source.stream c.read_byte.new.reader)
     (g.K.Sink.stream c.args.writer.now) (g.K.Sink.stream c.loop-count.writer) ran.turns ran.answers ran.text
     c.in_err-read_byte.ensures.0 (c.saturating_add-limit.ensures ∙ ap (λ n. min (n + most_reads) (2 ^ 64 - 1)) c.reads.ensures)

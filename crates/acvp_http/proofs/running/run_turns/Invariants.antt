@@ -7,8 +7,8 @@ invariant-loop-count g l = record {
   reader_clear : (g.S.Source.stream l.reader).failed ≡ false;
   writer_clear : (g.K.Sink.stream l.writer).failed ≡ false;
   keys : l.desk.keys ≡ l.fn.desk.keys;
-  was_live : g.T.Tables.is_live l.desk.tables → g.T.Tables.is_live l.fn.desk.tables;
-  was_clean : g.T.Tables.is_clean l.desk.tables → g.T.Tables.is_clean l.fn.desk.tables;
-  ran : Ran g.T.Tables.stands g.T.Tables.is_live g.T.Tables.is_clean l.fn.desk.keys l.fn.desk.tables l.desk.tables (g.S.Source.stream l.fn.reader)
+  was_live : g.T.Tables.meaning.is_live l.desk.tables → g.T.Tables.meaning.is_live l.fn.desk.tables;
+  was_clean : g.T.Tables.meaning.is_clean l.desk.tables → g.T.Tables.meaning.is_clean l.fn.desk.tables;
+  ran : Ran g.T.Tables.meaning l.fn.desk.keys l.fn.desk.tables l.desk.tables (g.S.Source.stream l.fn.reader)
       (g.S.Source.stream l.reader) (g.K.Sink.stream l.fn.writer) (g.K.Sink.stream l.writer) l.count;
 }

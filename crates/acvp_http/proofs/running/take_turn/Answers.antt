@@ -1,28 +1,25 @@
-use Rattle.std.proofs.Common.{inl, inr}
 use Rattle.acvp_http.specs.Event.{replied, ordered}
-use Rattle.acvp_http.proofs.ServeLemmas.{shows_request}
+use Rattle.acvp_http.proofs.HandledLemmas.{shows_handled}
 use Rattle.acvp_http.proofs.TurnLemmas.{order_taken}
 use Rattle.acvp_http.proofs.running.take_turn.Goals as goal
 
 pub returns-in-Request-clause-turn : goal.returns-in-Request-clause-turn
 returns-in-Request-clause-turn g c =
-    let (unavailable, takes) = rw c.deref.ensures.value at c.handle_bytes-reply.ensures.served in (
+    let handled = rw c.deref.ensures.value at c.handle_bytes-reply.ensures.handled in
+    let (unavailable, takes) = handled.served in (
       unavailable,
       replied c.handle_bytes-reply.result,
       rw c.in-Request.is
-          (shows_request g.T.Tables.stands g.T.Tables.is_live g.T.Tables.is_clean g.T.Tables.leaves c.args.desk.now.keys c.in-Request.moment _ c.handle_bytes-reply.result
-          c.args.desk.now.tables c.handle_bytes-reply.new.desk.tables (elim (rw c.deref.ensures.value at c.handle_bytes-reply.ensures.shown) [
-            | inl at_once ↦ inl (at_once.0, (let same = at_once.1 in cc))
-            | inr asked ↦ inr asked
-          ])),
+          (shows_handled g.T.Tables.meaning g.met.T.Tables.rests c.in-Request.moment _ c.handle_bytes-reply.result
+          c.args.desk.now c.handle_bytes-reply.new.desk handled),
       rw c.in-Request.is takes,
-      rw c.bytes.ensures at c.write_reply.ensures,
+      rw c.bytes.ensures at c.write_replied.ensures,
     )
 
 pub returns-in-Order-clause-turn : goal.returns-in-Order-clause-turn
 returns-in-Order-clause-turn g c =
     let (unavailable, takes) =
-    order_taken g.T.Tables.stands g.T.Tables.is_live g.T.Tables.is_clean g.T.Tables.leaves c.args.desk.now.keys
+    order_taken g.T.Tables.meaning c.args.desk.now.keys
     c.in-Order.moment c.in-Order.order c.args.desk.now.tables c.order-reply.new.self.tables
     (λ content kept. c.records_are_kept.ensures.order c.args.desk.now.keys.seed c.in-Order.order content
     (rw c.in-Order.is at c.requires.event).0 (rw c.in-Order.is at c.requires.event).1 kept)

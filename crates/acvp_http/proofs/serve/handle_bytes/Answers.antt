@@ -1,7 +1,21 @@
 use Rattle.acvp_http.proofs.AnsweredApart.{taken_apart}
+use Rattle.acvp_http.proofs.HandledLemmas.{handled_at_once}
+use Rattle.acvp_http.proofs.ServeLemmas.{refused_late}
 use Rattle.acvp_http.proofs.serve.handle_bytes.Goals as goal
 
-pub returns-clause-apart : goal.returns-clause-apart
-returns-clause-apart g c =
-    taken_apart g.T.Tables.stands g.T.Tables.is_live g.T.Tables.is_clean c.request_isolation.ensures c.args.desk.now.keys c.args.moment c.args.bytes.now c.answer_bytes.result
-    c.args.desk.now.tables c.answer_bytes.new.desk.tables c.answer_bytes.ensures.served
+pub returns-in-Some-clause-apart : goal.returns-in-Some-clause-apart
+returns-in-Some-clause-apart g c =
+    taken_apart g.T.Tables.meaning c.request_isolation.ensures c.args.desk.now.keys c.args.moment c.args.bytes.now c.answer.result
+    c.args.desk.now.tables c.answer.new.desk.tables c.answer.ensures.served
+
+pub returns-in-None-clause-handled : goal.returns-in-None-clause-handled
+returns-in-None-clause-handled g c =
+    handled_at_once g.T.Tables.meaning g.met.T.Tables.rests c.args.moment c.args.bytes.now c.args.desk.now
+    c.refusal.result (refused_late c.args.moment c.args.bytes.now c.refusal.result c.in-None.ensures c.refusal.ensures)
+
+pub returns-in-None-clause-apart : goal.returns-in-None-clause-apart
+returns-in-None-clause-apart g c =
+    let handled = handled_at_once g.T.Tables.meaning g.met.T.Tables.rests c.args.moment c.args.bytes.now c.args.desk.now
+    c.refusal.result (refused_late c.args.moment c.args.bytes.now c.refusal.result c.in-None.ensures c.refusal.ensures) in
+    taken_apart g.T.Tables.meaning c.request_isolation.ensures c.args.desk.now.keys c.args.moment c.args.bytes.now c.refusal.result
+    c.args.desk.now.tables c.args.desk.now.tables handled.served

@@ -1,6 +1,6 @@
-use Rattle.std.proofs.Common.{◌<◌, ◌-◌, take, drop, length, arith, refl}
+use Rattle.std.proofs.Common.{◌<◌, ◌-◌, take, drop, length, arith}
 use Rattle.std.proofs.lemmas.List.{length-take, length-drop}
-use Rattle.acvp_http.proofs.WritingLemmas.{flag_zero, flag_one, flag_err, wrote_more, stopped_after, stopped_zero}
+use Rattle.acvp_http.proofs.WrittenTextLemmas.{flag_zero, flag_one, flag_err, wrote_more, stopped_after, stopped_zero}
 use Rattle.acvp_http.proofs.writing.write_all.Goals as goal
 
 pub returns-in-Ok-eq0 : goal.returns-in-Ok-eq0
@@ -13,7 +13,6 @@ returns-in-Ok-eq0 g c =
           (drop c.loop-written.written c.args.bytes.now),
       length-drop c.loop-written.written c.args.bytes.now,
     ) in (
-      refl,
       flag_zero (g.K.Sink.stream c.loop-written.writer).failed (g.K.Sink.stream c.write.new.self).failed rest
           (rw c.in-Ok-eq0.field-0-test at c.in-Ok-eq0.ensures.flag) some,
       stopped_zero (g.K.Sink.stream c.args.writer.now) (g.K.Sink.stream c.loop-written.writer)
@@ -37,7 +36,6 @@ loop-written-preserved g c =
 
 pub returns-in-Err : goal.returns-in-Err
 returns-in-Err g c = (
-  refl,
   flag_err (g.K.Sink.stream c.loop-written.writer).failed (g.K.Sink.stream c.write.new.self).failed c.in-Err.ensures.flag,
   stopped_after (g.K.Sink.stream c.args.writer.now) (g.K.Sink.stream c.loop-written.writer)
       (g.K.Sink.stream c.write.new.self) c.args.bytes.now c.loop-written.written c.loop-written.invariant.appended

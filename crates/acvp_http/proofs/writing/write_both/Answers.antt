@@ -1,11 +1,11 @@
 use Rattle.std.proofs.Common.{rules}
-use Rattle.acvp_http.proofs.WritingLemmas.{stopped_before, writes_after}
+use Rattle.acvp_http.proofs.WrittenTextLemmas.{stopped_before, writes_after}
 use Rattle.acvp_http.proofs.writing.write_both.Goals as goal
 
 pub returns-in_err-write_all : goal.returns-in_err-write_all
 returns-in_err-write_all g c =
     let stops = stopped_before (g.K.Sink.stream c.args.writer.now) (g.K.Sink.stream c.write_all.new.writer) c.args.first.now
-    c.args.second.now c.in_err-write_all.field-0.0 c.in_err-write_all.ensures in
+    c.args.second.now c.in_err-write_all.ensures in
     search rules
 
 pub returns : goal.returns

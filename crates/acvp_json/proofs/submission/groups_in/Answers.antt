@@ -1,6 +1,6 @@
 use Rattle.std.proofs.Common.{[], ◌∷◌, map}
 use Rattle.std.proofs.lemmas.List.{map-append}
-use Rattle.acvp_json.specs.Submission.{group_of}
+use Rattle.acvp_json.specs.SubmittedAnswers.{group_of}
 use Rattle.acvp_json.proofs.AnswersLemmas.{each-more}
 use Rattle.acvp_json.proofs.submission.groups_in.Goals as goal
 

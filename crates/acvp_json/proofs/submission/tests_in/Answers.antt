@@ -1,4 +1,4 @@
-use Rattle.acvp_json.specs.Submission.{given_of}
+use Rattle.acvp_json.specs.SubmittedAnswers.{given_of}
 use Rattle.acvp_json.proofs.AnswersLemmas.{each-more}
 use Rattle.acvp_json.proofs.submission.tests_in.Goals as goal
 

@@ -1,10 +1,10 @@
 -- What either list of conditions refuses, the whole policy refuses by the same rule.
-use Rattle.std.proofs.Common.{refl, sym}
+use Rattle.std.proofs.Common.{sym}
 use Rattle.std.proofs.lemmas.Result.{err_from_is_err_and}
 use Rattle.acvp_policy.specs.Scope.{scope_of}
 use Rattle.acvp_policy.specs.Policy.{policy, claims_conditions, resource_conditions}
 use Rattle.acvp_policy.specs.Decision.{decision, granted}
-use Rattle.acvp_policy.proofs.Refusals.{refused-front, refused-behind, let-through}
+use Rattle.acvp_policy.proofs.Refusals.{refused-front}
 use Rattle.acvp_policy.proofs.grant.decide.Goals as goal
 
 pub returns-in_err-claims_allow : goal.returns-in_err-claims_allow
@@ -17,31 +17,3 @@ returns-in_err-claims_allow c =
     let refused = refused-front claims resource nothing (granted c.args.action c.args.facts.now) _
     (rw (← c.scope.ensures, ← c.claims_allow.ensures) c.in_err-claims_allow.was) in
     rw (p.1, p.2) (record { decision = sym refused; grant = tt })
-
-pub returns-in_err-resource_allows : goal.returns-in_err-resource_allows
-unfolding decision policy
-returns-in_err-resource_allows c =
-    let residual = c.from_residual-in_err-resource_allows in
-    let p = err_from_is_err_and residual.result residual.ensures.1 in
-    let nothing : Unit {0} = tt in
-    let claims = claims_conditions (scope_of c.args.action) c.args.facts.now in
-    let resource = resource_conditions c.args.action c.args.facts.now in
-    let refused = refused-behind claims resource nothing (granted c.args.action c.args.facts.now) _
-    (rw (← c.scope.ensures, ← c.claims_allow.ensures) c.in_ok-claims_allow.was)
-    (rw (← c.resource_allows.ensures) c.in_err-resource_allows.was) in
-    rw (p.1, p.2) (record { decision = sym refused; grant = tt })
-
-pub returns-clause-decision : goal.returns-clause-decision
-unfolding decision policy granted
-returns-clause-decision c =
-    let nothing : Unit {0} = tt in
-    let claims = claims_conditions (scope_of c.args.action) c.args.facts.now in
-    let resource = resource_conditions c.args.action c.args.facts.now in
-    let decided = let-through claims resource nothing (granted c.args.action c.args.facts.now)
-    (rw (← c.scope.ensures, ← c.claims_allow.ensures) c.in_ok-claims_allow.was)
-    (rw (← c.resource_allows.ensures) c.in_ok-resource_allows.was) in
-    rw (c.acting_account.ensures, c.resource.ensures) (sym decided)
-
-pub returns-clause-grant : goal.returns-clause-grant
-unfolding granted
-returns-clause-grant c = rw (c.acting_account.ensures, c.resource.ensures) refl

@@ -6,9 +6,9 @@ use Rattle.acvp_tables.specs.Content.{objects_of}
 use Rattle.acvp_tables.specs.State.{IsSound}
 use Rattle.acvp_store.specs.Stands.{object_tree, HoldsObjects}
 use Rattle.acvp_store.specs.Private.Pages.{greatest}
-use Rattle.acvp_store.proofs.Reading.{clean_if_open, read}
-use Rattle.acvp_store.proofs.Finding.{read_as}
-use Rattle.acvp_store.proofs.Counting.{objects_counted, count_found}
+use Rattle.acvp_store.proofs.QueryLeaves.{clean_if_open, read}
+use Rattle.acvp_store.proofs.FoundRow.{read_as}
+use Rattle.acvp_store.proofs.RowCounts.{objects_counted, count_found}
 use Rattle.acvp_store.proofs.PageTexts.{newest_objects, objects_newest_ask}
 use Rattle.acvp_store.proofs.counts.count_objects.Goals as goal
 

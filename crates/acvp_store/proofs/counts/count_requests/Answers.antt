@@ -6,9 +6,9 @@ use Rattle.acvp_tables.specs.Content.{requests_of}
 use Rattle.acvp_tables.specs.State.{IsSound}
 use Rattle.acvp_store.specs.Stands.{request_tree, HoldsRequests}
 use Rattle.acvp_store.specs.Private.Pages.{greatest}
-use Rattle.acvp_store.proofs.Reading.{clean_if_open, read}
-use Rattle.acvp_store.proofs.Finding.{read_as}
-use Rattle.acvp_store.proofs.Counting.{requests_counted, count_found}
+use Rattle.acvp_store.proofs.QueryLeaves.{clean_if_open, read}
+use Rattle.acvp_store.proofs.FoundRow.{read_as}
+use Rattle.acvp_store.proofs.RowCounts.{requests_counted, count_found}
 use Rattle.acvp_store.proofs.PageTexts.{newest_requests, requests_newest_ask}
 use Rattle.acvp_store.proofs.counts.count_requests.Goals as goal
 

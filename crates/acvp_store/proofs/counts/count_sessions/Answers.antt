@@ -6,9 +6,9 @@ use Rattle.acvp_tables.specs.Content.{sessions_of}
 use Rattle.acvp_tables.specs.State.{IsSound}
 use Rattle.acvp_store.specs.Rows.{session_tree, HoldsSessions}
 use Rattle.acvp_store.specs.Private.Pages.{greatest}
-use Rattle.acvp_store.proofs.Reading.{clean_if_open, read}
-use Rattle.acvp_store.proofs.Finding.{read_as}
-use Rattle.acvp_store.proofs.Counting.{sessions_counted, count_found}
+use Rattle.acvp_store.proofs.QueryLeaves.{clean_if_open, read}
+use Rattle.acvp_store.proofs.FoundRow.{read_as}
+use Rattle.acvp_store.proofs.RowCounts.{sessions_counted, count_found}
 use Rattle.acvp_store.proofs.PageTexts.{newest_sessions, sessions_newest_ask}
 use Rattle.acvp_store.proofs.counts.count_sessions.Goals as goal
 

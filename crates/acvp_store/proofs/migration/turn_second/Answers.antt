@@ -2,8 +2,8 @@ use Rattle.sqlite.specs.Held.{state}
 use Rattle.acvp_store.specs.Connection.{Under}
 use Rattle.acvp_store.specs.Migrated.{Turns}
 use Rattle.acvp_store.specs.Schema.{Created, Second, schema_at}
-use Rattle.acvp_store.proofs.Moving.{MovesSecond, second_turns}
-use Rattle.acvp_store.proofs.Standing.{written_as}
+use Rattle.acvp_store.proofs.WholeMigration.{MovesSecond, second_turns}
+use Rattle.acvp_store.proofs.KeptPromises.{written_as}
 use Rattle.acvp_store.proofs.migration.turn_second.Goals as goal
 
 pub returns : goal.returns

@@ -2,8 +2,8 @@ use Rattle.sqlite.specs.Held.{state}
 use Rattle.acvp_store.specs.Connection.{Under}
 use Rattle.acvp_store.specs.Migrated.{Turns}
 use Rattle.acvp_store.specs.Schema.{Migrated, Second, schema_at}
-use Rattle.acvp_store.proofs.Moving.{MovesSecondBeside, second_beside_turns}
-use Rattle.acvp_store.proofs.Standing.{written_as}
+use Rattle.acvp_store.proofs.WholeMigration.{MovesSecondBeside, second_beside_turns}
+use Rattle.acvp_store.proofs.KeptPromises.{written_as}
 use Rattle.acvp_store.proofs.migration.turn_second_beside.Goals as goal
 
 pub returns : goal.returns

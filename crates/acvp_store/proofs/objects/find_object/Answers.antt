@@ -9,11 +9,11 @@ use Rattle.acvp_store.proofs.ObjectRows.{is_it}
 use Rattle.acvp_tables.specs.Content.{kind_number}
 use Rattle.acvp_store.specs.Private.Columns.{columns_of_object}
 use Rattle.acvp_store.specs.Private.Shown.{is_of}
-use Rattle.acvp_store.proofs.Meeting.{met_as_found}
+use Rattle.acvp_store.proofs.QueryRows.{met_as_found}
 use Rattle.acvp_store.proofs.RowsMet.{object_met}
-use Rattle.acvp_store.proofs.Reading.{clean_if_open, read}
-use Rattle.acvp_store.proofs.Finding.{read_as}
-use Rattle.acvp_store.proofs.Listing.{one_listed}
+use Rattle.acvp_store.proofs.QueryLeaves.{clean_if_open, read}
+use Rattle.acvp_store.proofs.FoundRow.{read_as}
+use Rattle.acvp_store.proofs.RowLists.{one_listed}
 use Rattle.acvp_store.proofs.PageTexts.{find_object, object_ask}
 use Rattle.acvp_store.proofs.ObjectPages.{object_found, first_object}
 use Rattle.acvp_store.proofs.objects.find_object.Goals as goal

@@ -4,9 +4,9 @@ use Rattle.std.proofs.lemmas.Result.{IfOk-weaker}
 use Rattle.sqlite.specs.Held.{state}
 use Rattle.acvp_store.specs.Stands.{object_tree, object_columns, HoldsObjects, IsKeepable, FitColumns}
 use Rattle.acvp_tables.specs.State.{IsSound}
-use Rattle.acvp_store.proofs.Reading.{clean_if_open, read}
-use Rattle.acvp_store.proofs.Finding.{read_as}
-use Rattle.acvp_store.proofs.Listing.{all_listed}
+use Rattle.acvp_store.proofs.QueryLeaves.{clean_if_open, read}
+use Rattle.acvp_store.proofs.FoundRow.{read_as}
+use Rattle.acvp_store.proofs.RowLists.{all_listed}
 use Rattle.acvp_store.proofs.ObjectPages.{object_page}
 use Rattle.acvp_store.proofs.PageTexts.{page_objects, objects_ask}
 use Rattle.acvp_store.proofs.objects.page_objects.Goals as goal

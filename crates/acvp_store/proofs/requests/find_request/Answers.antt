@@ -11,10 +11,10 @@ use Rattle.acvp_store.specs.Private.Columns.{request_columns}
 use Rattle.acvp_store.specs.Private.Requests.{request_shown, IsReadable}
 use Rattle.acvp_store.specs.Private.Shown.{is_under}
 use Rattle.acvp_store.proofs.Keyed.{keyed}
-use Rattle.acvp_store.proofs.Reading.{clean_if_open, read}
-use Rattle.acvp_store.proofs.Finding.{read_as}
-use Rattle.acvp_store.proofs.Listing.{one_listed}
-use Rattle.acvp_store.proofs.Meeting.{met_as_found}
+use Rattle.acvp_store.proofs.QueryLeaves.{clean_if_open, read}
+use Rattle.acvp_store.proofs.FoundRow.{read_as}
+use Rattle.acvp_store.proofs.RowLists.{one_listed}
+use Rattle.acvp_store.proofs.QueryRows.{met_as_found}
 use Rattle.acvp_store.proofs.RowsMet.{request_met}
 use Rattle.acvp_store.proofs.PageTexts.{find_request, request_ask}
 use Rattle.acvp_store.proofs.RequestPages.{request_found, request_is_at, summary_told}

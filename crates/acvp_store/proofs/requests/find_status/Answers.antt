@@ -7,10 +7,10 @@ use Rattle.acvp_store.specs.Private.Summaries.{status_shown}
 use Rattle.std.specs.Prelude.{option_to_list}
 use Rattle.acvp_store.specs.Private.Columns.{status_columns}
 use Rattle.acvp_store.specs.Private.Shown.{is_under}
-use Rattle.acvp_store.proofs.Meeting.{met_as_found}
+use Rattle.acvp_store.proofs.QueryRows.{met_as_found}
 use Rattle.acvp_store.proofs.RowsMet.{status_met}
-use Rattle.acvp_store.proofs.Reading.{clean_if_open, read}
-use Rattle.acvp_store.proofs.Finding.{read_as, one_answered}
+use Rattle.acvp_store.proofs.QueryLeaves.{clean_if_open, read}
+use Rattle.acvp_store.proofs.FoundRow.{read_as, one_answered}
 use Rattle.acvp_store.proofs.PageTexts.{find_status, status_ask}
 use Rattle.acvp_store.proofs.RequestStatuses.{statuses, status_rows, status_of}
 use Rattle.acvp_store.proofs.requests.find_status.Goals as goal

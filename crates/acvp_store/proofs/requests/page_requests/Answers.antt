@@ -5,9 +5,9 @@ use Rattle.sqlite.specs.Held.{state}
 use Rattle.acvp_store.specs.Stands.{request_tree, HoldsRequests}
 use Rattle.acvp_store.specs.Private.Summaries.{SubjectReads, summary_shown}
 use Rattle.acvp_tables.specs.State.{IsSound}
-use Rattle.acvp_store.proofs.Reading.{clean_if_open, read}
-use Rattle.acvp_store.proofs.Finding.{read_as}
-use Rattle.acvp_store.proofs.Listing.{all_listed}
+use Rattle.acvp_store.proofs.QueryLeaves.{clean_if_open, read}
+use Rattle.acvp_store.proofs.FoundRow.{read_as}
+use Rattle.acvp_store.proofs.RowLists.{all_listed}
 use Rattle.acvp_store.proofs.RequestPages.{request_page}
 use Rattle.acvp_store.proofs.PageTexts.{page_requests, requests_ask}
 use Rattle.acvp_store.proofs.requests.page_requests.Goals as goal

@@ -4,8 +4,8 @@ use Rattle.std.proofs.lemmas.Result.{IfOk-weaker}
 use Rattle.sqlite.specs.Held.{state}
 use Rattle.acvp_store.specs.Stands.{reviewer_tree}
 use Rattle.acvp_store.proofs.Texts.{find_reviewer, reviewer_asks}
-use Rattle.acvp_store.proofs.Reading.{clean_if_open, read}
-use Rattle.acvp_store.proofs.Finding.{in_store, read_as}
+use Rattle.acvp_store.proofs.QueryLeaves.{clean_if_open, read}
+use Rattle.acvp_store.proofs.FoundRow.{in_store, read_as}
 use Rattle.acvp_store.proofs.ReviewerRows.{reviewer_rows, found_reviewer}
 use Rattle.acvp_store.proofs.reviewers.find_reviewer.Goals as goal
 

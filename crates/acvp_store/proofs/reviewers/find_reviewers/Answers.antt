@@ -4,9 +4,9 @@ use Rattle.std.proofs.lemmas.Result.{IfOk-weaker}
 use Rattle.sqlite.specs.Held.{state}
 use Rattle.acvp_store.specs.Stands.{reviewer_tree}
 use Rattle.acvp_store.proofs.Texts.{find_reviewers, reviewers_asks}
-use Rattle.acvp_store.proofs.Reading.{clean_if_open, read}
-use Rattle.acvp_store.proofs.Finding.{in_store, read_as}
-use Rattle.acvp_store.proofs.Listing.{listed_plainly}
+use Rattle.acvp_store.proofs.QueryLeaves.{clean_if_open, read}
+use Rattle.acvp_store.proofs.FoundRow.{in_store, read_as}
+use Rattle.acvp_store.proofs.RowLists.{listed_plainly}
 use Rattle.acvp_store.proofs.SessionReviewers.{account_shown, session_rows, find_all}
 use Rattle.acvp_store.proofs.reviewers.find_reviewers.Goals as goal
 

@@ -7,10 +7,10 @@ use Rattle.acvp_store.proofs.Texts.{find_session, session_asks}
 use Rattle.std.specs.Prelude.{option_to_list}
 use Rattle.acvp_store.specs.Private.Columns.{session_columns}
 use Rattle.acvp_store.specs.Private.Shown.{is_under}
-use Rattle.acvp_store.proofs.Meeting.{met_as_found}
+use Rattle.acvp_store.proofs.QueryRows.{met_as_found}
 use Rattle.acvp_store.proofs.RowsMet.{session_met}
-use Rattle.acvp_store.proofs.Reading.{clean_if_open, read}
-use Rattle.acvp_store.proofs.Finding.{read_as, find_one}
+use Rattle.acvp_store.proofs.QueryLeaves.{clean_if_open, read}
+use Rattle.acvp_store.proofs.FoundRow.{read_as, find_one}
 use Rattle.acvp_store.proofs.SessionRows.{session_rows}
 use Rattle.acvp_store.proofs.sessions.find_session.Goals as goal
 

@@ -11,10 +11,10 @@ use Rattle.acvp_store.specs.Stands.{set_tree}
 use Rattle.acvp_store.proofs.Texts.{find_capability, capability_asks}
 use Rattle.acvp_store.specs.Private.Columns.{capability_column}
 use Rattle.acvp_store.specs.Private.Shown.{is_under}
-use Rattle.acvp_store.proofs.Meeting.{met}
+use Rattle.acvp_store.proofs.QueryRows.{met}
 use Rattle.acvp_store.proofs.RowsMet.{capability_met, told_one}
-use Rattle.acvp_store.proofs.Reading.{clean_if_open, read}
-use Rattle.acvp_store.proofs.Finding.{in_store, read_as}
+use Rattle.acvp_store.proofs.QueryLeaves.{clean_if_open, read}
+use Rattle.acvp_store.proofs.FoundRow.{in_store, read_as}
 use Rattle.acvp_store.proofs.set_texts.find_capability.Goals as goal
 
 pub returns-clause-read : goal.returns-clause-read

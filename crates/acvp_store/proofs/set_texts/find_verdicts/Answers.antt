@@ -9,8 +9,8 @@ use Rattle.std.proofs.lemmas.Result.{IfOk-weaker}
 use Rattle.sqlite.specs.Held.{state}
 use Rattle.acvp_store.specs.Stands.{set_tree}
 use Rattle.acvp_store.proofs.Texts.{find_verdicts, verdicts_asks}
-use Rattle.acvp_store.proofs.Reading.{clean_if_open, read}
-use Rattle.acvp_store.proofs.Finding.{in_store, read_as}
+use Rattle.acvp_store.proofs.QueryLeaves.{clean_if_open, read}
+use Rattle.acvp_store.proofs.FoundRow.{in_store, read_as}
 use Rattle.acvp_store.proofs.set_texts.find_verdicts.Goals as goal
 
 pub returns-clause-read : goal.returns-clause-read

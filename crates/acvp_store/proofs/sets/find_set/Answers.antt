@@ -8,9 +8,9 @@ use Rattle.acvp_store.specs.Stands.{set_tree}
 use Rattle.acvp_store.specs.Private.Sets.{short_shown, short_columns, short_of, IsJudged, IsSummaryOf}
 use Rattle.acvp_store.specs.Private.Shown.{is_under}
 use Rattle.acvp_store.proofs.Texts.{find_set, set_asks}
-use Rattle.acvp_store.proofs.Reading.{clean_if_open, read}
-use Rattle.acvp_store.proofs.Finding.{in_store, read_as}
-use Rattle.acvp_store.proofs.Meeting.{met}
+use Rattle.acvp_store.proofs.QueryLeaves.{clean_if_open, read}
+use Rattle.acvp_store.proofs.FoundRow.{in_store, read_as}
+use Rattle.acvp_store.proofs.QueryRows.{met}
 use Rattle.acvp_store.proofs.RowsMet.{set_met, judged_one}
 use Rattle.acvp_store.proofs.SetRows.{set_rows, none_told, one_told, find_told}
 use Rattle.acvp_store.proofs.sets.find_set.Goals as goal

@@ -4,12 +4,12 @@ use Rattle.std.proofs.lemmas.Result.{IfOk-weaker}
 use Rattle.sqlite.specs.Held.{state}
 use Rattle.acvp_store.specs.Stands.{set_tree}
 use Rattle.acvp_store.proofs.Texts.{find_sets, sets_asks}
-use Rattle.acvp_store.proofs.Reading.{clean_if_open, read}
-use Rattle.acvp_store.proofs.Finding.{in_store, read_as}
+use Rattle.acvp_store.proofs.QueryLeaves.{clean_if_open, read}
+use Rattle.acvp_store.proofs.FoundRow.{in_store, read_as}
 use Rattle.acvp_store.specs.Private.Sets.{short_shown, short_columns, is_live_row, IsJudged}
-use Rattle.acvp_store.proofs.Meeting.{met}
+use Rattle.acvp_store.proofs.QueryRows.{met}
 use Rattle.acvp_store.proofs.RowsMet.{sets_met, judged_each}
-use Rattle.acvp_store.proofs.Listing.{listed_plainly}
+use Rattle.acvp_store.proofs.RowLists.{listed_plainly}
 use Rattle.acvp_store.proofs.SessionSets.{live_rows, find_live}
 use Rattle.acvp_store.proofs.sets.find_sets.Goals as goal
 

@@ -1,8 +1,8 @@
 use Rattle.std.proofs.lemmas.Result.{IfOk-weaker}
 use Rattle.sqlite.specs.Held.{state}
 use Rattle.acvp_store.proofs.Texts.{find_version, find_version_asks}
-use Rattle.acvp_store.proofs.Reading.{clean_if_open, read}
-use Rattle.acvp_store.proofs.Finding.{read_as}
+use Rattle.acvp_store.proofs.QueryLeaves.{clean_if_open, read}
+use Rattle.acvp_store.proofs.FoundRow.{read_as}
 use Rattle.acvp_store.proofs.Versions.{version_rows, found_version}
 use Rattle.acvp_store.proofs.version.has_version.Goals as goal
 

@@ -1,5 +1,5 @@
 use Rattle.acvp_tables.proofs.Selections.{session_names, request_names, object_names, set_names}
-use Rattle.acvp_tables.proofs.Certifying.{certification_names, certifications_name}
+use Rattle.acvp_tables.proofs.CertifiedSession.{certification_names, certifications_name}
 use Rattle.acvp_tables.proofs.laws.numbers_name.Goals as goal
 
 pub returns : goal.returns

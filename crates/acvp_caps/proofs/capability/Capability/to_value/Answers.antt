@@ -4,7 +4,7 @@ use Rattle.serde_json.specs.View.{view}
 use Rattle.serde_json.specs.declared.value.Value.{Value}
 use Rattle.acvp_caps.specs.Capability.{CapabilityValue}
 use Rattle.acvp_caps.specs.Private.Written.{IsCapabilityData, domain_data, hash_data, hmac_data}
-use Rattle.acvp_caps.proofs.WritingLemmas.{hash-written, hmac-written}
+use Rattle.acvp_caps.proofs.CapabilityTextLemmas.{hash-written, hmac-written}
 use Rattle.acvp_caps.proofs.capability.Capability.to_value.Goals as goal
 
 pub returns-in-MessageItems : goal.returns-in-MessageItems

@@ -6,7 +6,7 @@ use Rattle.acvp_store.specs.Connection.{UnderStore}
 use Rattle.acvp_store.specs.Rows.{account_tree, HoldsAccounts}
 use Rattle.acvp_store.specs.Schema.{Layout, schema_of}
 use Rattle.acvp_store.specs.Values.{whole}
-use Rattle.acvp_store.proofs.Reading.{clean_if_open}
+use Rattle.acvp_store.proofs.QueryLeaves.{clean_if_open}
 use Rattle.acvp_store.proofs.Together.{inside, inside_as, inside_store}
 use Rattle.acvp_store.proofs.Texts.{disable_account, disable_is, disable_plain}
 use Rattle.acvp_store.proofs.AccountRows.{disable_effect}

@@ -4,9 +4,9 @@ use Rattle.acvp_store.specs.Connection.{Under}
 use Rattle.acvp_store.specs.Schema.{Migrated, schema_of}
 use Rattle.acvp_store.specs.Private.Migration.{EmptiesOldSets}
 use Rattle.acvp_store.proofs.Texts.{delete_sets, delete_is, delete_plain}
-use Rattle.acvp_store.proofs.Reading.{clean_if_open}
+use Rattle.acvp_store.proofs.QueryLeaves.{clean_if_open}
 use Rattle.acvp_store.proofs.Together.{inside, inside_as}
-use Rattle.acvp_store.proofs.Migrating.{delete_effect}
+use Rattle.acvp_store.proofs.MigrationSteps.{delete_effect}
 use Rattle.acvp_store.proofs.migration.OldSetsDeletedWork.run.Goals as goal
 
 pub returns-clause-inside : goal.returns-clause-inside

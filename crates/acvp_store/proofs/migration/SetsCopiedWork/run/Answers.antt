@@ -4,9 +4,9 @@ use Rattle.acvp_store.specs.Connection.{Under}
 use Rattle.acvp_store.specs.Schema.{Migrated, schema_of}
 use Rattle.acvp_store.specs.Private.Migration.{CopiesSets}
 use Rattle.acvp_store.proofs.Texts.{copy_sets, copy_is, copy_plain}
-use Rattle.acvp_store.proofs.Reading.{clean_if_open}
+use Rattle.acvp_store.proofs.QueryLeaves.{clean_if_open}
 use Rattle.acvp_store.proofs.Together.{inside, inside_as}
-use Rattle.acvp_store.proofs.Migrating.{copy_effect}
+use Rattle.acvp_store.proofs.MigrationSteps.{copy_effect}
 use Rattle.acvp_store.proofs.migration.SetsCopiedWork.run.Goals as goal
 
 pub returns-clause-inside : goal.returns-clause-inside

@@ -4,9 +4,9 @@ use Rattle.acvp_store.specs.Connection.{UnderStore}
 use Rattle.acvp_store.specs.Schema.{schema_of}
 use Rattle.acvp_store.specs.Private.Migration.{RaisesVersion}
 use Rattle.acvp_store.proofs.Texts.{raise_version, raise_is, raise_plain}
-use Rattle.acvp_store.proofs.Reading.{clean_if_open}
+use Rattle.acvp_store.proofs.QueryLeaves.{clean_if_open}
 use Rattle.acvp_store.proofs.Together.{inside, inside_as, inside_store}
-use Rattle.acvp_store.proofs.Migrating.{raise_effect}
+use Rattle.acvp_store.proofs.MigrationSteps.{raise_effect}
 use Rattle.acvp_store.proofs.migration.VersionRaisedWork.run.Goals as goal
 
 pub returns-clause-inside : goal.returns-clause-inside

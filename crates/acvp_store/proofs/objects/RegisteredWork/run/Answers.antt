@@ -4,10 +4,10 @@ use Rattle.sqlite.specs.Held.{state}
 use Rattle.acvp_store.specs.Private.Objects.{Registers}
 use Rattle.acvp_store.specs.Connection.{UnderStore}
 use Rattle.acvp_store.specs.Schema.{Layout, schema_of}
-use Rattle.acvp_store.proofs.Reading.{clean_if_open}
+use Rattle.acvp_store.proofs.QueryLeaves.{clean_if_open}
 use Rattle.acvp_store.proofs.Together.{inside, inside_as, inside_store}
 use Rattle.acvp_store.proofs.Texts.{register_object, register_is, register_plain}
-use Rattle.acvp_store.proofs.Registering.{register_params, register_effect}
+use Rattle.acvp_store.proofs.RegisteredObject.{register_params, register_effect}
 use Rattle.acvp_store.proofs.objects.RegisteredWork.run.Goals as goal
 
 pub returns-clause-inside : goal.returns-clause-inside

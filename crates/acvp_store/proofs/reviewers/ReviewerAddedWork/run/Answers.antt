@@ -6,7 +6,7 @@ use Rattle.acvp_store.specs.Alters.{Alters}
 use Rattle.acvp_store.specs.Stands.{reviewer_tree, HoldsReviewers, reviewer_columns}
 use Rattle.acvp_store.specs.Connection.{UnderStore}
 use Rattle.acvp_store.specs.Schema.{Layout, schema_of}
-use Rattle.acvp_store.proofs.Reading.{clean_if_open}
+use Rattle.acvp_store.proofs.QueryLeaves.{clean_if_open}
 use Rattle.acvp_store.proofs.Together.{inside, inside_as, inside_store}
 use Rattle.acvp_store.proofs.Texts.{add_reviewer, add_reviewer_is, add_reviewer_plain}
 use Rattle.acvp_store.proofs.ReviewerRows.{add_reviewer_effect}

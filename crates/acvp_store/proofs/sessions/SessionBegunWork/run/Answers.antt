@@ -6,7 +6,7 @@ use Rattle.acvp_store.specs.Alters.{Alters}
 use Rattle.acvp_store.specs.Rows.{session_tree, HoldsSessions}
 use Rattle.acvp_store.specs.Connection.{UnderStore}
 use Rattle.acvp_store.specs.Schema.{Layout, schema_of}
-use Rattle.acvp_store.proofs.Reading.{clean_if_open}
+use Rattle.acvp_store.proofs.QueryLeaves.{clean_if_open}
 use Rattle.acvp_store.proofs.Together.{inside, inside_as, inside_store}
 use Rattle.acvp_store.proofs.Texts.{add_session, add_session_is, add_session_plain}
 use Rattle.acvp_store.proofs.SessionRows.{flag_is, add_session_params, add_session_effect}

@@ -8,7 +8,7 @@ use Rattle.acvp_store.specs.Alters.{Alters}
 use Rattle.acvp_store.specs.Stands.{set_tree, HoldsSets, disposition_number}
 use Rattle.acvp_store.specs.Connection.{UnderStore}
 use Rattle.acvp_store.specs.Schema.{Layout, schema_of}
-use Rattle.acvp_store.proofs.Reading.{clean_if_open}
+use Rattle.acvp_store.proofs.QueryLeaves.{clean_if_open}
 use Rattle.acvp_store.proofs.Together.{inside, inside_as, inside_store}
 use Rattle.acvp_store.proofs.Texts.{grade_set, grade_is, grade_plain}
 use Rattle.acvp_store.proofs.SetRows.{grade_params, grade_effect}

@@ -3,9 +3,9 @@ use Rattle.sqlite.specs.Held.{state}
 use Rattle.acvp_store.specs.Connection.{Under}
 use Rattle.acvp_store.specs.Private.Creating.{text_of, before, Makes}
 use Rattle.acvp_store.proofs.Texts.{is_making}
-use Rattle.acvp_store.proofs.Reading.{clean_if_open}
+use Rattle.acvp_store.proofs.QueryLeaves.{clean_if_open}
 use Rattle.acvp_store.proofs.Together.{inside, inside_as}
-use Rattle.acvp_store.proofs.Making.{make_effect}
+use Rattle.acvp_store.proofs.MadeTables.{make_effect}
 use Rattle.acvp_store.proofs.setup.StoreTableWork.run.Goals as goal
 
 pub returns-clause-inside : goal.returns-clause-inside

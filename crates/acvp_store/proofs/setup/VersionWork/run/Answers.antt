@@ -4,9 +4,9 @@ use Rattle.acvp_store.specs.Schema.{Created, schema_of}
 use Rattle.acvp_store.specs.Connection.{Under}
 use Rattle.acvp_store.specs.Private.Creating.{WritesVersion}
 use Rattle.acvp_store.proofs.Texts.{add_version, version_is, version_plain}
-use Rattle.acvp_store.proofs.Reading.{clean_if_open}
+use Rattle.acvp_store.proofs.QueryLeaves.{clean_if_open}
 use Rattle.acvp_store.proofs.Together.{inside, inside_as}
-use Rattle.acvp_store.proofs.Making.{version_effect}
+use Rattle.acvp_store.proofs.MadeTables.{version_effect}
 use Rattle.acvp_store.proofs.setup.VersionWork.run.Goals as goal
 
 pub returns-clause-inside : goal.returns-clause-inside

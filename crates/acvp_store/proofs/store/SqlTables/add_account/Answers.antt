@@ -3,7 +3,7 @@ use Rattle.acvp_tables.specs.Changes.{after_order, new_account}
 use Rattle.acvp_tables.specs.declared.change.OrderChange.TheVariants as order
 use Rattle.acvp_store.specs.Alters.{Alters}
 use Rattle.acvp_store.specs.Rows.{account_tree, HoldsAccounts}
-use Rattle.acvp_store.proofs.Standing.{changes, added}
+use Rattle.acvp_store.proofs.KeptPromises.{changes, added}
 use Rattle.acvp_store.proofs.store.SqlTables.add_account.Goals as goal
 
 pub returns : goal.returns

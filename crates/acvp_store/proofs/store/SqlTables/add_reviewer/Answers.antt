@@ -4,7 +4,7 @@ use Rattle.acvp_tables.specs.declared.change.Change.TheVariants as change
 use Rattle.acvp_store.specs.Schema.{Layout}
 use Rattle.acvp_store.specs.Alters.{Alters}
 use Rattle.acvp_store.specs.Stands.{reviewer_tree, HoldsReviewers}
-use Rattle.acvp_store.proofs.Standing.{reads, read_then, read_alone, serves_read, changes, reviewer_added, reviewer_there}
+use Rattle.acvp_store.proofs.KeptPromises.{reads, read_then, read_alone, serves_read, changes, reviewer_added, reviewer_there}
 use Rattle.acvp_store.proofs.store.SqlTables.add_reviewer.Goals as goal
 
 pub returns-in-Ok-true : goal.returns-in-Ok-true

@@ -5,7 +5,7 @@ use Rattle.acvp_store.specs.Schema.{Layout}
 use Rattle.acvp_store.specs.Alters.{Alters}
 use Rattle.acvp_store.specs.Stands.{request_tree, HoldsRequests}
 use Rattle.acvp_store.specs.Private.Objects.{Registers}
-use Rattle.acvp_store.proofs.Standing.{changes_both, approved}
+use Rattle.acvp_store.proofs.KeptPromises.{changes_both, approved}
 use Rattle.acvp_store.proofs.store.SqlTables.approve.Goals as goal
 
 pub returns : goal.returns

@@ -2,7 +2,7 @@ use Rattle.acvp_tables.specs.Changes.{after, changed, is_session, cancelled_sess
 use Rattle.acvp_tables.specs.declared.change.Change.TheVariants as change
 use Rattle.acvp_store.specs.Alters.{Alters}
 use Rattle.acvp_store.specs.Rows.{session_tree, HoldsSessions}
-use Rattle.acvp_store.proofs.Standing.{changes, cancelled}
+use Rattle.acvp_store.proofs.KeptPromises.{changes, cancelled}
 use Rattle.acvp_store.proofs.store.SqlTables.cancel_session.Goals as goal
 
 pub returns : goal.returns

@@ -2,7 +2,7 @@ use Rattle.acvp_tables.specs.Changes.{after_order, changed, is_account, disabled
 use Rattle.acvp_tables.specs.declared.change.OrderChange.TheVariants as order
 use Rattle.acvp_store.specs.Alters.{Alters}
 use Rattle.acvp_store.specs.Rows.{account_tree, HoldsAccounts}
-use Rattle.acvp_store.proofs.Standing.{changes, turned_off}
+use Rattle.acvp_store.proofs.KeptPromises.{changes, turned_off}
 use Rattle.acvp_store.proofs.store.SqlTables.disable_account.Goals as goal
 
 pub returns : goal.returns

@@ -4,7 +4,7 @@ use Rattle.acvp_store.specs.Schema.{Layout}
 use Rattle.acvp_store.specs.Alters.{Alters}
 use Rattle.acvp_store.specs.Rows.{session_tree, HoldsSessions}
 use Rattle.acvp_store.specs.Stands.{set_tree, HoldsSets}
-use Rattle.acvp_store.proofs.Standing.{changes_both, answers_kept}
+use Rattle.acvp_store.proofs.KeptPromises.{changes_both, answers_kept}
 use Rattle.acvp_store.proofs.store.SqlTables.keep_answers.Goals as goal
 
 pub returns : goal.returns

@@ -3,7 +3,7 @@ use Rattle.acvp_tables.specs.Changes.{after, new_request}
 use Rattle.acvp_tables.specs.declared.change.Change.TheVariants as change
 use Rattle.acvp_store.specs.Alters.{Alters}
 use Rattle.acvp_store.specs.Stands.{request_tree, HoldsRequests}
-use Rattle.acvp_store.proofs.Standing.{changes, request_made}
+use Rattle.acvp_store.proofs.KeptPromises.{changes, request_made}
 use Rattle.acvp_store.proofs.store.SqlTables.new_request.Goals as goal
 
 pub returns : goal.returns

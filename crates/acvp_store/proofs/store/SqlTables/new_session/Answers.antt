@@ -5,7 +5,7 @@ use Rattle.acvp_store.specs.Schema.{Layout}
 use Rattle.acvp_store.specs.Alters.{Alters}
 use Rattle.acvp_store.specs.Rows.{session_tree, HoldsSessions}
 use Rattle.acvp_store.specs.Private.Sets.{AddsSets}
-use Rattle.acvp_store.proofs.Standing.{changes_both, session_begun}
+use Rattle.acvp_store.proofs.KeptPromises.{changes_both, session_begun}
 use Rattle.acvp_store.proofs.store.SqlTables.new_session.Goals as goal
 
 pub returns : goal.returns

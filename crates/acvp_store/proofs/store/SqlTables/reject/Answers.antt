@@ -3,7 +3,7 @@ use Rattle.acvp_tables.specs.declared.change.OrderChange.TheVariants as order
 use Rattle.acvp_tables.specs.declared.rows.RequestStatus.TheVariants as status
 use Rattle.acvp_store.specs.Alters.{Alters}
 use Rattle.acvp_store.specs.Stands.{request_tree, HoldsRequests}
-use Rattle.acvp_store.proofs.Standing.{changes, rejected}
+use Rattle.acvp_store.proofs.KeptPromises.{changes, rejected}
 use Rattle.acvp_store.proofs.store.SqlTables.reject.Goals as goal
 
 pub returns : goal.returns

@@ -2,7 +2,7 @@ use Rattle.acvp_tables.specs.Changes.{after, changed, is_account, with_step}
 use Rattle.acvp_tables.specs.declared.change.Change.TheVariants as change
 use Rattle.acvp_store.specs.Alters.{Alters}
 use Rattle.acvp_store.specs.Rows.{account_tree, HoldsAccounts}
-use Rattle.acvp_store.proofs.Standing.{changes, stepped}
+use Rattle.acvp_store.proofs.KeptPromises.{changes, stepped}
 use Rattle.acvp_store.proofs.store.SqlTables.use_step.Goals as goal
 
 pub returns : goal.returns

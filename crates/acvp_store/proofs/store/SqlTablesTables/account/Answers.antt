@@ -1,4 +1,4 @@
-use Rattle.acvp_store.proofs.Standing.{reads}
+use Rattle.acvp_store.proofs.KeptPromises.{reads}
 use Rattle.acvp_store.proofs.store.SqlTablesTables.account.Goals as goal
 
 pub returns-clause-reads : goal.returns-clause-reads

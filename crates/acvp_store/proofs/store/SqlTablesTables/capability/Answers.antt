@@ -2,7 +2,7 @@ use Rattle.std.proofs.lemmas.Result.{IfOk-weaker}
 use Rattle.std.specs.Prelude.{option_map}
 use Rattle.acvp_tables.specs.declared.rows.SetRow.{SetRow}
 use Rattle.acvp_tables.specs.Content.{Content, set_at}
-use Rattle.acvp_store.proofs.Standing.{finds, reads}
+use Rattle.acvp_store.proofs.KeptPromises.{finds, reads}
 use Rattle.acvp_store.proofs.store.SqlTablesTables.capability.Goals as goal
 
 pub returns-clause-reads : goal.returns-clause-reads

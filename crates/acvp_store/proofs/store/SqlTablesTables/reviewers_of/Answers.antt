@@ -1,6 +1,6 @@
 use Rattle.std.proofs.lemmas.Result.{IfOk-weaker}
 use Rattle.acvp_tables.specs.Content.{Content, reviewers_of}
-use Rattle.acvp_store.proofs.Standing.{finds, reads}
+use Rattle.acvp_store.proofs.KeptPromises.{finds, reads}
 use Rattle.acvp_store.proofs.store.SqlTablesTables.reviewers_of.Goals as goal
 
 pub returns-clause-reads : goal.returns-clause-reads

@@ -1,7 +1,7 @@
 use Rattle.std.proofs.lemmas.Result.{IfOk-weaker}
 use Rattle.std.specs.Prelude.{map}
 use Rattle.acvp_tables.specs.Content.{Content, live_sets, set_summary}
-use Rattle.acvp_store.proofs.Standing.{finds, reads}
+use Rattle.acvp_store.proofs.KeptPromises.{finds, reads}
 use Rattle.acvp_store.proofs.store.SqlTablesTables.sets_of.Goals as goal
 
 pub returns-clause-reads : goal.returns-clause-reads

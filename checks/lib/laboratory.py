@@ -1,0 +1,207 @@
+"""A laboratory whose records are in a file, as the checks of the program see it: its operator's commands, what is
+served, and a client of it, in standard Python."""
+import base64
+import hashlib
+import hmac
+import json
+import os
+import socket
+import subprocess
+import sys
+import time
+
+sys.path.insert(0, os.path.join(os.path.dirname(os.path.abspath(__file__)), "..", "..", "examples"))
+from validation import Server, SocketServer, one_time_code  # noqa: E402
+
+STEP = 30
+KEY, SEED = bytes(32), bytes([17] * 32)
+checked = 0
+
+
+def expect(what, got, wanted):
+    global checked
+    if got != wanted:
+        raise SystemExit(f"{what}: {got!r} in place of {wanted!r}")
+    checked += 1
+
+
+def free_port():
+    with socket.socket() as taken:
+        taken.bind(("127.0.0.1", 0))
+        return taken.getsockname()[1]
+
+
+def request(method, path, token=None, thing=None, body=None):
+    """The bytes of a request."""
+    if thing is not None:
+        body = json.dumps([{"acvVersion": "1.0"}, thing]).encode()
+    lines = [f"{method} /acvp/v1{path} HTTP/1.1", "Host: laboratory.example"]
+    lines += [f"Authorization: Bearer {token}"] if token is not None else []
+    lines += [f"Content-Length: {len(body)}"] if body is not None else []
+    return "\r\n".join(lines + ["", ""]).encode() + (body or b"")
+
+
+def compact(value):
+    """The text of a value as JSON without white space, with its members in ascending order."""
+    return json.dumps(value, separators=(",", ":"), sort_keys=True).encode()
+
+
+def encoded(part):
+    return base64.urlsafe_b64encode(part).rstrip(b"=")
+
+
+def decoded(part):
+    return base64.urlsafe_b64decode(part + "=" * (-len(part) % 4))
+
+
+def signed(claims, key=KEY):
+    """A token with these claims, as the server issues it under its first key."""
+    text = encoded(b'{"alg":"HS256","typ":"JWT"}') + b"." + encoded(compact(claims))
+    return (text + b"." + encoded(hmac.digest(key, text, "sha256"))).decode()
+
+
+def read_all(connection):
+    """What comes until the server ends its side."""
+    return b"".join(iter(lambda: connection.recv(65536), b""))
+
+
+class BrokenOff(Exception):
+    """A reply that isn't whole."""
+
+
+def shown(reply):
+    """The status and the second object of a reply."""
+    head, end, content = reply.partition(b"\r\n\r\n")
+    if not end or len(content) != int(head.split(b"Content-Length: ")[1].split(b"\r\n")[0]):
+        raise BrokenOff(reply)
+    return int(head.split(b" ")[1]), json.loads(content)[1]
+
+
+class Piped(Server):
+    """A run of a script, which is handed one event after another."""
+
+    def ask_at(self, moment, text):
+        self.send(b"request %d %d\n%s\n" % (moment, len(text), text))
+        reply = self.process.stdout.read(int(self.line().split(" ")[1]))
+        self.line()
+        return reply
+
+
+class Served(SocketServer):
+    """A file that is served, under a clock that is set."""
+
+    def __init__(self, program, file, keys, shim):
+        super().__init__(free_port(), program, file, keys)
+        self.clock = f"{file}-clock"
+        # for the processes that are started, not for this one
+        os.environ.update({"LD_PRELOAD": shim, "CLOCK": self.clock})
+
+    def ask_at(self, moment, text):
+        with open(self.clock, "w") as file:
+            file.write(f"{moment}\n")
+        if self.process is None:
+            self.serve()
+        with socket.create_connection(("127.0.0.1", self.port)) as connection:
+            connection.sendall(text)
+            connection.shutdown(socket.SHUT_WR)
+            return read_all(connection)
+
+
+class Laboratory:
+    """A folder with the records, the keys and the secrets of the accounts."""
+
+    def __init__(self, program, folder):
+        self.program, self.folder = program, folder
+        self.db, self.keys = self.path("laboratory.db"), self.path("keys.txt")
+        self.process = self.port = None
+        self.write(self.keys, f"{KEY.hex()}\n{SEED.hex()}\n")
+
+    def path(self, name):
+        return os.path.join(self.folder, name)
+
+    @staticmethod
+    def write(path, text):
+        with open(path, "wb") as file:
+            file.write(text if isinstance(text, bytes) else text.encode())
+        return path
+
+    # ---- the operator
+
+    def run(self, *args, **more):
+        """The status, the output and the faults of a command."""
+        done = subprocess.run([self.program, *args], stdin=subprocess.DEVNULL, capture_output=True, text=True,
+                              timeout=60, **more)
+        return done.returncode, done.stdout, done.stderr
+
+    def does(self, wanted, *args):
+        expect(f"the command {args}", self.run(*args), (0, wanted + "\n", ""))
+
+    def fails(self, word, *args, what="", **more):
+        expect(f"the command {args} {what}", self.run(*args, **more), (1, "", f"fault: {word}\n"))
+
+    def secret(self, account):
+        return hashlib.sha256(b"secret of %d" % account).digest()
+
+    def add(self, account):
+        secret = self.write(self.path(f"secret-{account}"), self.secret(account).hex() + "\n")
+        self.does(f"account {account} added", "account-add", "--db", self.db, "--account", str(account), "--secret", secret)
+
+    # ---- what is served
+
+    def serve(self, count=1000000, keys=None, port=None):
+        """Serves so many connections, from the moment on that the program says so."""
+        self.port = port or free_port()
+        args = ["serve", "--db", self.db, "--keys", keys or self.keys, "--port", str(self.port), "--count", str(count)]
+        self.process = subprocess.Popen([self.program, *args], stdin=subprocess.DEVNULL, stdout=subprocess.PIPE,
+                                        stderr=subprocess.PIPE)
+        expect("the first line of serve", self.process.stdout.readline(), b"listening 127.0.0.1:%d\n" % self.port)
+
+    def served(self, count):
+        """Serving has ended by itself, after so many connections."""
+        output, faults = self.process.communicate(timeout=60)
+        expect("the end of serve", (self.process.returncode, output, faults), (0, b"served %d\n" % count, b""))
+        self.process = None
+
+    def kill(self):
+        """Ends serving at once, by the system's SIGKILL."""
+        if self.process is not None:
+            self.process.kill()
+            self.process.communicate()
+            self.process = None
+
+    # ---- a client
+
+    def connect(self):
+        return socket.create_connection(("127.0.0.1", self.port), timeout=60)
+
+    def ask(self, text):
+        with self.connect() as connection:
+            connection.sendall(text)
+            return read_all(connection)
+
+    def call(self, method, path, token=None, thing=None, body=None):
+        return shown(self.ask(request(method, path, token, thing, body)))
+
+    def must(self, method, path, token=None, thing=None):
+        status, thing = self.call(method, path, token, thing)
+        if status != 200:
+            raise SystemExit(f"{method} {path} is answered {status} {thing}")
+        return thing
+
+    def code(self, account, moment=None):
+        return one_time_code(self.secret(account), time.time() if moment is None else moment)
+
+    def login(self, account, code=None):
+        return self.call("POST", "/login", thing={"password": code or self.code(account), "user": str(account)})
+
+    def token(self, account):
+        status, thing = self.login(account)
+        expect(f"a login of account {account}", status, 200)
+        return thing["accessToken"]
+
+
+def within_a_step(seconds):
+    """Waits until so many seconds are left of the step of one-time codes."""
+    left = STEP - time.time() % STEP
+    if left < seconds:
+        time.sleep(left + 0.1)

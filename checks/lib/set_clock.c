@@ -1,0 +1,24 @@
+// Shows the number in the file CLOCK as the seconds since 1970. It is preloaded into the built program, for the checks
+// every-action, accounts-apart, each-growth-refused and damaged-rows. It takes no memory, so that each growth is one of
+// the program's own.
+#define _GNU_SOURCE
+#include <dlfcn.h>
+#include <fcntl.h>
+#include <stdlib.h>
+#include <time.h>
+#include <unistd.h>
+
+int clock_gettime(clockid_t clock, struct timespec *now) {
+    static int (*next)(clockid_t, struct timespec *);
+    if (next == NULL) next = (int (*)(clockid_t, struct timespec *))dlsym(RTLD_NEXT, "clock_gettime");
+    int result = next(clock, now);
+    const char *path = getenv("CLOCK");
+    int file = result == 0 && clock == CLOCK_REALTIME && path != NULL ? open(path, O_RDONLY) : -1;
+    if (file >= 0) {
+        char text[24] = "", *end = text;
+        long seconds = read(file, text, sizeof text - 1) > 0 ? strtol(text, &end, 10) : 0;
+        if (end != text) now->tv_sec = seconds;
+        close(file);
+    }
+    return result;
+}

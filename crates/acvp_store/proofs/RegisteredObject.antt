@@ -1,0 +1,145 @@
+-- The registration of what a request asks for.
+use Rattle.std.proofs.Common.{inl, inr, ◌≡◌, ◌<◌, ◌^◌, ℕ, List, [], ◌∷◌, ◌++◌, append-nil, map, Bool, true, false, Option, Some, None, Ok, slice_get, refl, sym, ap, subst, ◌∙◌, arith}
+use Rattle.std.specs.Prelude.{◌==◌, ◌&&◌, nat_lt, if◌then◌else◌}
+use Rattle.std.specs.List.{filter, AllByRecursion}
+use Rattle.std.specs.List.Sorted.{IsPermutation}
+use Rattle.std.proofs.lemmas.Bool.{cases_Bool}
+use Rattle.std.proofs.lemmas.Bool.Decides.{nat_tests}
+use Rattle.std.proofs.lemmas.List.Sorted.{IsPermutation-sym}
+use Rattle.sqlite.specs.declared.types.Value.TheVariants.{Null, Text}
+use Rattle.sqlite.specs.Order.{Row}
+use Rattle.sqlite.specs.Program.{overlay}
+use Rattle.sqlite.specs.Command.TheVariants.{Insert}
+use Rattle.sqlite.specs.Source.TheVariants as source
+use Rattle.sqlite.specs.Edit.{edit_of}
+use Rattle.sqlite.specs.Rowids.TheVariants.{Chosen}
+use Rattle.sqlite.specs.Cast.{cast_row}
+use Rattle.sqlite.specs.Tree.{Trees}
+use Rattle.sqlite.specs.Effect.{Database}
+use Rattle.sqlite.specs.Does.{Tally, Does}
+use Rattle.sqlite.specs.Rows.{Written}
+use Rattle.sqlite.specs.State.{State, mode_of}
+use Rattle.sqlite.specs.Listing.{understood}
+use Rattle.sqlite.proofs.Callers.{statement_of, one_permutation}
+use Rattle.sqlite_rules.specs.Action.{Writes}
+use Rattle.sqlite_schema.specs.declared.schema.Keys.TheVariants.{Enforced}
+use Rattle.sqlite_trees.proofs.ListLemmas.{all-filter, all-permutation}
+use Rattle.acvp_tables.specs.Content.{kind_number, request_at}
+use Rattle.acvp_tables.specs.Changes.{approved_objects, new_objects}
+use Rattle.acvp_tables.specs.declared.rows.ObjectRow.{ObjectRow}
+use Rattle.acvp_tables.specs.declared.rows.RequestRow.{RequestRow}
+use Rattle.acvp_tables.specs.declared.rows.RequestBody.{RequestBody}
+use Rattle.acvp_tables.specs.declared.rows.RequestBody.TheVariants as body
+use Rattle.acvp_store.specs.Kept.{AreKept}
+use Rattle.acvp_store.specs.Values.{whole}
+use Rattle.acvp_store.specs.Schema.{Layout, schema_of, object_table}
+use Rattle.acvp_store.specs.Alters.{SparesOthers}
+use Rattle.acvp_store.specs.Stands.{object_tree, HoldsObjects, object_columns, request_tree, request_key, request_row, body_number, body_text}
+use Rattle.acvp_store.specs.Private.Objects.{IsOfKind, Registers}
+use Rattle.acvp_store.proofs.Effects.{task_of, concluded}
+use Rattle.acvp_store.proofs.Entries.{puts}
+use Rattle.acvp_store.proofs.Idle.{applied}
+use Rattle.acvp_store.proofs.Keyed.{none_left, keyed, few_keyed, keyed_same, find_is}
+use Rattle.acvp_store.proofs.Parts.{went, same_value, cast_null, cast_whole, both_true}
+use Rattle.acvp_store.proofs.SelectedRows.{test_equals, test_less, selected_by}
+use Rattle.acvp_store.proofs.Texts.{register_object, register_query}
+
+abbrev is_registration : RequestRow → Bool
+is_registration r = nat_lt (body_number r.body) 4
+
+abbrev row_for : ℕ → RequestRow → Row
+row_for number r = Null ∷ whole (body_number r.body) ∷ whole number ∷ whole r.account ∷ Text (body_text r.body) ∷ []
+
+abbrev row_of_body : ℕ → ℕ → RequestBody → Row
+row_of_body number account b = Null ∷ whole (body_number b) ∷ whole number ∷ whole account ∷ Text (body_text b) ∷ []
+
+passing : (n : ℕ) (xs : List RequestRow) → filter (λ r. (r.number == n) && is_registration r) xs ≡ filter is_registration (keyed request_key n xs)
+passing n [] = refl
+passing n (x ∷ xs) = elim (cases_Bool (x.number == n)) [
+  | inr apart ↦ rw apart (passing n xs)
+  | inl same ↦ elim (cases_Bool (is_registration x)) [
+    | inl hit ↦ rw (same, hit) (ap (λ l. x ∷ l) (passing n xs))
+    | inr miss ↦ rw (same, miss) (passing n xs)
+  ]
+]
+
+abbrev if_registered : ℕ → ℕ → RequestBody → List Row
+if_registered number account b = if nat_lt (body_number b) 4 then row_of_body number account b ∷ [] else []
+
+mapped : (number : ℕ) (a : RequestRow) → map (row_for number) (filter is_registration (a ∷ [])) ≡ if_registered number a.account a.body
+mapped number a = elim (cases_Bool (is_registration a)) [
+  | inl hit ↦ rw hit refl
+  | inr miss ↦ rw miss refl
+]
+
+cast_given : (o : ObjectRow) → cast_row (object_table 5) (Null ∷ object_columns o) ≡ Null ∷ object_columns o
+cast_given o = rw (cast_null, cast_whole (kind_number o.object.kind), cast_whole o.number, cast_whole o.account) refl
+
+module _ (layout : Layout) (number : ℕ) (trees next : Trees) (objects : List ObjectRow) (h : HoldsObjects (trees object_tree) objects) where
+  abbrev WritesFrom : List Row → Type 0
+  WritesFrom rows = Writes (schema_of layout) Enforced trees (edit_of trees (object_table 5) [] Chosen 0 rows) (Ok next)
+
+  nothing : WritesFrom [] → HoldsObjects (next object_tree) (objects ++ [])
+  nothing wrote = rw append-nil (subst (λ rows. HoldsObjects rows objects) (sym (applied layout trees next (edit_of trees (object_table 5) [] Chosen 0 []) wrote).rows) h)
+
+  of_body : (account : ℕ) (b : RequestBody) (rows : List Row) → IsOfKind b → IsPermutation (if_registered number account b) rows → WritesFrom rows → HoldsObjects (next object_tree) (objects ++ new_objects account b number)
+  of_body account (body.Registration o) rows kind same wrote =
+      let hit : nat_lt (kind_number o.kind) 4 ≡ true = grind (arith, nat_tests, kind) in
+      let one = one_permutation (row_of_body number account (body.Registration o)) rows (rw hit at same) in
+      puts object_columns layout (object_table 5) (record { number = number; account = account; object = o }) (cast_given (record { number = number; account = account; object = o })) trees next objects h (subst WritesFrom one wrote)
+  of_body account (body.Certification c) rows kind same wrote = nothing (subst WritesFrom (none_left rows same) wrote)
+
+  registered : (n : ℕ) (requests : List RequestRow) (held : AreKept request_key request_row (trees request_tree) requests) → AllByRecursion (λ (r : RequestRow). IsOfKind r.body) requests → (rows : List Row)
+      → IsPermutation (map (row_for number) (filter (λ r. (r.number == n) && is_registration r) held.ordered)) rows → WritesFrom rows → HoldsObjects (next object_tree) (objects ++ approved_objects (request_at n requests) number)
+  registered n requests held kinds rows found wrote =
+      let same = keyed_same request_key n held.ordered requests held.rising held.same in
+      let first : request_at n requests ≡ slice_get (keyed request_key n held.ordered) 0 = find_is request_key n requests ∙ ap (λ l. slice_get l 0) (sym same) in
+      let its = subst (λ l. IsPermutation (map (row_for number) l) rows) (passing n held.ordered) found in
+      elim (few_keyed request_key n held.ordered held.rising) [
+        | inl none ↦
+            let no_request : request_at n requests ≡ None = first ∙ ap (λ l. slice_get l 0) none in
+            let no_row = none_left rows (subst (λ l. IsPermutation (map (row_for number) (filter is_registration l)) rows) none its) in
+            subst (λ o. HoldsObjects (next object_tree) (objects ++ approved_objects o number)) (sym no_request) (nothing (subst WritesFrom no_row wrote))
+        | inr one ↦
+            let a = one.0 in
+            let the_request : request_at n requests ≡ Some a = first ∙ ap (λ l. slice_get l 0) one.1 in
+            let all = all-filter (λ (r : RequestRow). IsOfKind r.body) (λ r. r.number == n) held.ordered (all-permutation (λ (r : RequestRow). IsOfKind r.body) requests held.ordered (IsPermutation-sym _ _ held.same) kinds) in
+            let kind : IsOfKind a.body = (subst (AllByRecursion (λ (r : RequestRow). IsOfKind r.body)) one.1 all).0 in
+            let row = subst (λ l. IsPermutation l rows) (mapped number a) (subst (λ l. IsPermutation (map (row_for number) (filter is_registration l)) rows) one.1 its) in
+            subst (λ o. HoldsObjects (next object_tree) (objects ++ approved_objects o number)) (sym the_request) (of_body a.account a.body rows kind row wrote)
+      ]
+
+-- ---- the statement
+
+abbrev pub register_params : ℕ → ℕ → Row
+register_params n number = whole n ∷ whole number ∷ []
+
+registers : (layout : Layout) (limit : Option ℕ) (text : List ℕ) (n number : ℕ) → number < 2 ^ 63 → (trees : Trees) (tally : Tally) (after : Database)
+    → Does limit (record { keys = Enforced; in_doubt = false; may_wait = false }) (register_params n number) (record { schema = schema_of layout; trees = trees }) text None (Insert 4 (source.Query (record { lets = []; body = register_query }))) (Ok (tally, after))
+    → Registers layout n number (record { schema = schema_of layout; trees = trees }) after
+registers layout limit text n number low trees tally after does =
+    let done = went does in
+    let now = concluded (task_of layout limit (object_table 5) (register_params n number)) done.0 tally after done.2 in
+    let rows = went done.1 in
+    let written = went (went rows.2).2 in
+    let counted = went written.2 in
+    let trees_are : done.0.trees ≡ written.0 = ap (λ (it : Written). it.trees) (same_value counted.2) ∙ same_value counted.1 in
+    let next : written.0 ≡ after.trees = sym (ap (λ (d : Database). d.trees) now ∙ trees_are) in
+    record {
+      schema = ap (λ (d : Database). d.schema) now;
+      fits = low;
+      kept = λ requests objects kinds held h.
+          let found = selected_by (register_params n number) request_row (λ r. (r.number == n) && is_registration r) register_query.filter
+          (λ r. both_true _ _ (r.number == n) (is_registration r) (test_equals r.number n) (test_less (body_number r.body) 4)) register_query.collations request_tree register_query.project (row_for number) (λ r. refl) (overlay trees []) held.kept.ordered rows.0 held.kept.rows_are (rows.1.answer Null) in
+          subst (λ (t : Trees). HoldsObjects (t object_tree) (objects ++ approved_objects (request_at n requests) number)) next (registered layout number trees written.0 objects h n requests held.kept kinds rows.0 found written.1);
+      others = subst (SparesOthers layout object_tree trees) next (applied layout trees written.0 (edit_of trees (object_table 5) [] Chosen 0 rows.0) written.1).tables;
+    }
+
+pub register_effect : (layout : Layout) (old : State) (n number : ℕ) → number < 2 ^ 63 → old.now.schema ≡ schema_of layout → (tally : Tally) (after : Database)
+    → Does old.step_limit (mode_of old) (register_params n number) old.now (statement_of register_object (understood (schema_of layout) register_object)) None (Insert 4 (source.Query (record { lets = []; body = register_query }))) (Ok (tally, after))
+    → Registers layout n number old.now after
+register_effect layout old n number low schema tally after does =
+    let text = statement_of register_object (understood (schema_of layout) register_object) in
+    let it = subst (λ s. Does old.step_limit (mode_of old) (register_params n number) (record old.now { schema = s }) text None (Insert 4 (source.Query (record { lets = []; body = register_query }))) (Ok (tally, after))) schema does in
+    let made = registers layout old.step_limit text n number low old.now.trees tally after it in
+    record { schema = made.schema; fits = made.fits; kept = made.kept; others = made.others }

@@ -1,0 +1,155 @@
+-- How many rows an account has, by the greatest of their numbers.
+use Rattle.std.proofs.Common.{◌≡◌, ◌<◌, ℕ, zero, suc, ◌+◌, ◌*◌, pos, List, [], ◌∷◌, ◌++◌, length, map, take, Bool, true, Ok, Err, Result, IfOk, IsOk, refl, sym, ap, ap₂, subst, ◌∙◌, arith, Less, Equal}
+use Rattle.std.specs.Prelude.{◌&&◌, filter}
+use Rattle.std.specs.List.{list_all, range_with_len, AllByRecursion}
+use Rattle.std.specs.List.Sorted.{IsPermutation}
+use Rattle.std.specs.Ordering.{ordering_then}
+use Rattle.std.proofs.lemmas.Bool.Decides.{nat_tests}
+use Rattle.std.proofs.lemmas.List.{map-id}
+use Rattle.std.proofs.lemmas.List.Sorted.{IsPermutation-map, IsPermutation-refl, IsPermutation-sym, IsPermutation-trans, IsPermutation-cons, IsPermutation-to_front}
+use Rattle.sqlite.specs.Order.{Row}
+use Rattle.sqlite.specs.Tree.{Trees, IsAscending}
+use Rattle.sqlite.specs.Term.{Term, col, holds, eval}
+use Rattle.sqlite.specs.Program.{overlay}
+use Rattle.sqlite.specs.Query.{IsAnswer, output, output_cmp, Output}
+use Rattle.sqlite.specs.State.{State, Shown}
+use Rattle.sqlite.specs.declared.types.Value.TheVariants.{Null}
+use Rattle.sqlite.proofs.Callers.{reads_as}
+use Rattle.sqlite_keyed.proofs.SortLemmas.{sorted_unique}
+use Rattle.sqlite_sql.proofs.QueryLemmas.{output_cmp_total}
+use Rattle.sqlite_trees.proofs.ListLemmas.{filter-map, ascending-map, ascending_weaker, IsPermutation-filter}
+use Rattle.sqlite_value.proofs.OrderLemmas.{value_cmp-Int}
+use Rattle.acvp_registry.specs.declared.kind.Kind.{Kind}
+use Rattle.acvp_tables.specs.Content.{Content, is_kind, kind_number, sessions_of, objects_of, requests_of}
+use Rattle.acvp_tables.specs.State.{IsSound, IsNumbered, first_of_account}
+use Rattle.acvp_tables.specs.declared.rows.SessionRow.{SessionRow}
+use Rattle.acvp_tables.specs.declared.rows.ObjectRow.{ObjectRow}
+use Rattle.acvp_tables.specs.declared.rows.RequestRow.{RequestRow}
+use Rattle.acvp_store.specs.Values.{whole}
+use Rattle.acvp_store.specs.Schema.{Layout, schema_of}
+use Rattle.acvp_store.specs.Rows.{session_tree, session_row, HoldsSessions}
+use Rattle.acvp_store.specs.Stands.{Entry, entry_row, object_tree, object_columns, HoldsObjects, request_tree, request_row, HoldsRequests}
+use Rattle.acvp_store.specs.Private.Pages.{greatest}
+use Rattle.acvp_store.proofs.AccountPages.{test_range}
+use Rattle.acvp_store.proofs.Owned.{last_number, in_range, range_drops, session_numbers, session_selection, request_numbers, request_selection, object_numbers, object_selection}
+use Rattle.acvp_store.proofs.PageTexts.{within, newest, newest_sessions, sessions_newest_is, sessions_newest_plain, sessions_newest_unlisted, newest_objects, objects_newest_is, objects_newest_plain, objects_newest_unlisted, newest_requests, requests_newest_is, requests_newest_plain, requests_newest_unlisted}
+use Rattle.acvp_store.proofs.SelectedRows.{test_equals, matched}
+use Rattle.acvp_store.proofs.Texts.{equals}
+
+-- ---- numbers without gaps, the greatest first
+
+-- so many numbers that come after one
+abbrev down : ℕ → ℕ → List ℕ
+down before zero = []
+down before (suc n) = (before + suc n) ∷ down before n
+
+down_more : (before n : ℕ) → down before (suc n) ≡ down (before + 1) n ++ (before + 1) ∷ []
+down_more before zero = refl
+down_more before (suc n) = let same : before + suc (suc n) ≡ (before + 1) + suc n = omega arith in ap₂ (λ m xs. m ∷ xs) same (down_more before n)
+
+down_is : (before n : ℕ) → IsPermutation (range_with_len (before + 1) n) (down before n)
+down_is before zero = IsPermutation-refl []
+down_is before (suc n) =
+    subst (IsPermutation (range_with_len (before + 1) (suc n))) (sym (down_more before n)) (IsPermutation-trans _ _ _ (IsPermutation-cons (before + 1) _ _ (down_is (before + 1) n)) (IsPermutation-sym _ _ (IsPermutation-to_front (down (before + 1) n) (before + 1))))
+
+down_below : (before m n : ℕ) → before + n < m → AllByRecursion (λ b. b < m) (down before n)
+down_below before m zero low = tt
+down_below before m (suc n) low = (low, down_below before m n (omega arith))
+
+down_falls : (before n : ℕ) → IsAscending (λ a b. b < a) (down before n)
+down_falls before zero = tt
+down_falls before (suc n) = (down_below before (before + suc n) n (omega arith), down_falls before n)
+
+-- ---- what the query for the greatest number shows
+
+-- E is what a row of the table is of, and A the member in it
+module _ {E A : Type 0} (params : Row) (encode : E → Row) (member : E → A) (p : A → Bool) (terms : List Term) (place : ℕ) (key : A → ℕ)
+    (tests : (e : E) → list_all (holds (params ∷ encode e ∷ [])) terms ≡ p (member e)) (keyed : (e : E) → eval (col 1 place) (params ∷ encode e ∷ []) ≡ whole (key (member e))) (tree : ℕ) where
+  abbrev q : Rattle.sqlite.specs.Query.Query
+  q = newest tree terms place
+
+  abbrev out : ℕ → Output
+  out n = (whole n ∷ [], whole n ∷ [])
+
+  outputs : (es : List E) → map (output q) (map (λ e. params ∷ encode e ∷ []) es) ≡ map out (map key (map member es))
+  outputs [] = refl
+  outputs (e ∷ es) = λ i. (keyed e i ∷ [], keyed e i ∷ []) ∷ outputs es i
+
+  above : (a b : ℕ) → b < a → output_cmp q (out a) (out b) ≡ Less
+  above a b high = ap (λ c. ordering_then c Equal) (value_cmp-Int (pos b) (pos a)) ∙ grind (arith, nat_tests)
+
+  shown_first : (before n : ℕ) → take 1 (map (λ (x : Output). x.1) (map out (down before n))) ≡ greatest before n
+  shown_first before zero = refl
+  shown_first before (suc n) = refl
+
+  pub greatest_shown : (db : Trees) (all : List E) (list : List A) (before : ℕ) (rows : List Row) → db tree ≡ map encode all → IsPermutation (map member all) list → IsNumbered key (before + 1) (filter p list) → IsAnswer q db params rows
+      → rows ≡ greatest before (length (filter p list))
+  greatest_shown db all list before rows has whole_list numbered a =
+      let passing = λ (e : E). p (member e) in
+      let picked = filter p list in
+      let n = length picked in
+      let staged = a.grouped ∙ rw has (matched params encode passing terms tests all) in
+      let kept : a.kept ≡ map out (map key (map member (filter passing all))) = a.distinct ∙ ap (map (output q)) staged ∙ outputs (filter passing all) in
+      let same : IsPermutation (map member (filter passing all)) picked = subst (λ xs. IsPermutation xs picked) (filter-map p member all) (IsPermutation-filter p _ list whole_list) in
+      let numbers : IsPermutation (map key (map member (filter passing all))) (down before n) =
+      IsPermutation-trans _ _ _ (IsPermutation-map key _ _ same) (subst (λ xs. IsPermutation xs (down before n)) (sym numbered) (down_is before n)) in
+      let all_out : IsPermutation (map out (down before n)) a.ordered =
+      IsPermutation-trans _ _ _ (IsPermutation-sym _ _ (IsPermutation-map out _ _ numbers)) (subst (λ k. IsPermutation k a.ordered) kept a.same) in
+      let strict = ascending-map (λ x y. output_cmp q x y ≡ Less) out (down before n) (ascending_weaker (λ x y. y < x) (λ x y. output_cmp q (out x) (out y) ≡ Less) above (down before n) (down_falls before n)) in
+      let ordered = sorted_unique (output_cmp q) (output_cmp_total q) (map out (down before n)) a.ordered strict all_out a.sorted in
+      a.shown ∙ rw ordered (shown_first before n)
+
+-- ---- of an account
+
+abbrev pub range_params : ℕ → Row
+range_params u = whole (first_of_account u + 0) ∷ whole (last_number u) ∷ []
+
+pub sessions_counted : (layout : Layout) (u : ℕ) (old new : State) (rows : List Row) → old.now.schema ≡ schema_of layout → Shown newest_sessions (range_params u) old new rows
+    → (c : Content) → IsSound c → HoldsSessions (old.now.trees session_tree) c.sessions → rows ≡ greatest (u * 1000000) (length (sessions_of u c.sessions))
+sessions_counted layout u old new rows schema shown c sound h =
+    let key = λ (s : SessionRow). s.number in
+    let account = λ (s : SessionRow). s.account in
+    let selection = session_selection c u sound in
+    let picked = range_drops key account u 0 (λ s. true) c.sessions (session_numbers c sound) selection.numbered in
+    let it = greatest_shown (range_params u) session_row (λ s. s) (in_range key account u 0) (within 0) 0 key (λ s. test_range s.number (first_of_account u + 0) (last_number u)) (λ s. refl) session_tree (overlay old.now.trees []) h.ordered c.sessions (u * 1000000) rows h.rows_are
+    (subst (λ xs. IsPermutation xs c.sessions) (sym (map-id h.ordered)) h.same) (rw picked selection.numbered)
+    ((reads_as newest_sessions (range_params u) old new (schema_of layout) schema _ (sessions_newest_is layout) (sessions_newest_plain layout) (sessions_newest_unlisted layout) rows shown).answer Null) in
+    it ∙ ap (λ xs. greatest (u * 1000000) (length xs)) picked
+
+pub requests_counted : (layout : Layout) (u : ℕ) (old new : State) (rows : List Row) → old.now.schema ≡ schema_of layout → Shown newest_requests (range_params u) old new rows
+    → (c : Content) → IsSound c → HoldsRequests (old.now.trees request_tree) c.requests → rows ≡ greatest (u * 1000000) (length (requests_of u c.requests))
+requests_counted layout u old new rows schema shown c sound h =
+    let key = λ (r : RequestRow). r.number in
+    let account = λ (r : RequestRow). r.account in
+    let selection = request_selection c u sound in
+    let picked = range_drops key account u 0 (λ r. true) c.requests (request_numbers c sound) selection.numbered in
+    let it = greatest_shown (range_params u) request_row (λ r. r) (in_range key account u 0) (within 0) 0 key (λ r. test_range r.number (first_of_account u + 0) (last_number u)) (λ r. refl) request_tree (overlay old.now.trees []) h.kept.ordered c.requests (u * 1000000) rows h.kept.rows_are
+    (subst (λ xs. IsPermutation xs c.requests) (sym (map-id h.kept.ordered)) h.kept.same) (rw picked selection.numbered)
+    ((reads_as newest_requests (range_params u) old new (schema_of layout) schema _ (requests_newest_is layout) (requests_newest_plain layout) (requests_newest_unlisted layout) rows shown).answer Null) in
+    it ∙ ap (λ xs. greatest (u * 1000000) (length xs)) picked
+
+abbrev pub kind_params : Kind → ℕ → Row
+kind_params kind u = whole (first_of_account u + 0) ∷ whole (last_number u) ∷ whole (kind_number kind) ∷ []
+
+pub objects_counted : (layout : Layout) (kind : Kind) (u : ℕ) (old new : State) (rows : List Row) → old.now.schema ≡ schema_of layout → Shown newest_objects (kind_params kind u) old new rows
+    → (c : Content) → IsSound c → HoldsObjects (old.now.trees object_tree) c.objects → rows ≡ greatest (u * 1000000) (length (objects_of kind u c.objects))
+objects_counted layout kind u old new rows schema shown c sound h =
+    let key = λ (x : ObjectRow). x.number in
+    let account = λ (x : ObjectRow). x.account in
+    let of_kind = λ (x : ObjectRow). is_kind x.object.kind kind in
+    let selection = object_selection c kind u sound in
+    let picked = range_drops key account u 0 of_kind c.objects (object_numbers c sound) selection.numbered in
+    let it = greatest_shown (kind_params kind u) (entry_row object_columns) (λ (e : Entry ObjectRow). e.row) (λ x. of_kind x && in_range key account u 0 x) (equals 1 2 ∷ within 2) 2 key
+    (λ e. ap₂ (λ a b. a && b) (test_equals (kind_number e.row.object.kind) (kind_number kind)) (test_range e.row.number (first_of_account u + 0) (last_number u))) (λ e. refl) object_tree (overlay old.now.trees []) h.entries c.objects (u * 1000000) rows h.rows_are
+    h.same (rw picked selection.numbered)
+    ((reads_as newest_objects (kind_params kind u) old new (schema_of layout) schema _ (objects_newest_is layout) (objects_newest_plain layout) (objects_newest_unlisted layout) rows shown).answer Null) in
+    it ∙ ap (λ xs. greatest (u * 1000000) (length xs)) picked
+
+-- what a query's answer tells of how many there are, of each content that is meant
+pub count_found : {C X E F : Type 0} (Sound Held : C → Type 0) (shows : ℕ → List Row) (outcome : Result X E) (rows_of : X → List Row) (result : Result ℕ F) (total : C → ℕ) → (IsOk result → IsOk outcome)
+    → IfOk result (λ found. IfOk outcome (λ x. (n : ℕ) → rows_of x ≡ shows n → found ≡ n))
+    → IfOk outcome (λ x. (c : C) → Sound c → Held c → rows_of x ≡ shows (total c))
+    → IfOk result (λ found. (c : C) → Sound c → Held c → found ≡ total c)
+count_found Sound Held shows outcome rows_of (Err f) total ok found rows = tt
+count_found Sound Held shows (Err e) rows_of (Ok r) total ok found rows = absurd (let impossible = ok refl in cc)
+count_found Sound Held shows (Ok x) rows_of (Ok r) total ok found rows = λ c sound held. found (total c) (rows c sound held)
