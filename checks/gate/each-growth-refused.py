@@ -447,13 +447,14 @@ def served_anew(what, file, events, accounts):
 
 def serve_without(base, room, event, accounts, at):
     """Serves an event over a copy of the file with this growth refused. Whether it was refused, and whether the event
-    was unavailable."""
+    was unavailable, or its connection was closed before it was read."""
     what = f"growth {at}, refused to a process that serves"
     accounts, file = copy.deepcopy(accounts), copied(base, room)
     serving, is_unavailable = Serving(file, at), False
     if serving.listens:
         was_refused, got = serving.is_refused(), serving.asked(event)
-        is_unavailable = got == without_line(UNAVAILABLE) and serving.is_refused() and not was_refused
+        is_put_off = got in (without_line(UNAVAILABLE), b"")
+        is_unavailable = is_put_off and serving.is_refused() and not was_refused
         is_right(what, event, serving.asked(event) if is_unavailable else got, accounts)
         if serving.process.poll() is not None:
             sys.exit(f"{what}: it ends with {serving.ended()}")

@@ -466,6 +466,35 @@ def clients_that_break_off(lab):
     lab.served(12)
 
 
+def many_clients_at_once(lab):
+    """Beside clients that send nothing, or a byte now and then, and such as end at once, each other client is answered
+    as if it were alone, and so are the slow ones when they are whole."""
+    whole = request("GET", "/account")
+    refusal = (401, {"error": "tokenMissing"})
+    lab.serve(20 + 50 + 20 + 60)
+    silent = [lab.connect() for _ in range(20)]
+    slow = [lab.connect() for _ in range(50)]
+    for at in range(len(whole) - 1):
+        for connection in slow:
+            connection.send(whole[at:at + 1])
+        if at < 20:
+            reset(lab.connect())
+        if at % 2 == 0 and at < 120:
+            began = time.time()
+            expect("a client beside many", lab.call("GET", "/account"), refusal)
+            expect("a client beside many, in a second", time.time() - began < 1, True)
+    for _ in range(max(0, 60 - len(range(0, min(120, len(whole) - 1), 2)))):
+        expect("a client beside many", lab.call("GET", "/account"), refusal)
+    for connection in slow:
+        connection.send(whole[-1:])
+    for connection in slow:
+        expect("a slow client", shown(read_all(connection)), refusal)
+        connection.close()
+    for connection in silent:
+        connection.close()
+    lab.served(20 + 50 + 20 + 60)
+
+
 def moment_of(reply):
     """The moment that the Date of a reply says."""
     date = re.search(rb"\r\nDate: ([^\r]*)\r\n", reply).group(1).decode()
@@ -473,7 +502,7 @@ def moment_of(reply):
 
 
 def at_its_address_and_moment(lab):
-    """Only the machine's own address is listened on, and the moment of each connection is that at which it is taken."""
+    """Only the machine's own address is listened on, and the moment of a request is that at which it is whole."""
     lab.serve(3)
     with socket.socket() as other:
         expect("another address", other.connect_ex(("127.0.0.2", lab.port)), errno.ECONNREFUSED)
@@ -483,10 +512,10 @@ def at_its_address_and_moment(lab):
         moment = moment_of(lab.ask(request("GET", "/algorithms")))
         expect("the moment of a connection", before <= moment <= time.time(), True)
     with lab.connect() as connection:
-        taken = time.time()
         time.sleep(2.5)
+        sent = time.time()
         connection.sendall(request("GET", "/algorithms"))
-        expect("the moment of one that sends later", int(taken) <= moment_of(read_all(connection)) <= taken + 1.5, True)
+        expect("the moment of one that sends later", int(sent) <= moment_of(read_all(connection)) <= time.time(), True)
     lab.served(3)
 
 
@@ -763,7 +792,8 @@ def made(program, folder):
 
 
 PARTS = [refused_lines, files_that_are_none, made_once, orders, faults_in_their_order, no_connection_can_be_taken, certified,
-         rows_of_each_kind, rows_that_stand_for_nothing, keys_that_change, clients_that_break_off, at_its_address_and_moment,
+         rows_of_each_kind, rows_that_stand_for_nothing, keys_that_change, clients_that_break_off, many_clients_at_once,
+         at_its_address_and_moment,
          large_bodies, backlog, by_curl, documents, whole_validation]
 
 

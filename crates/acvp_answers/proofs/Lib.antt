@@ -2,6 +2,6 @@ pub mod MapLemmas
 pub mod CloneLemmas
 pub mod AnswerLemmas
 pub mod MonteCarloLemmas
-pub mod TurnLemmas
+pub mod CheckpointLemmas
 pub mod StandardLemmas
 pub mod VerdictTextLemmas

@@ -1,4 +1,4 @@
--- Lemmas on the members of a turn, of which the last three are kept, and on checkpoints.
+-- Lemmas on the members of a checkpoint, of which the last three are kept, and on checkpoints.
 use Rattle.std.proofs.Common.{◌≡◌, ℕ, zero, suc, ◌+◌, ◌-◌, ◌<◌, ◌≤◌, List, [], ◌∷◌, ◌++◌, length, map, string_bytes, String, refl, append_assoc, ap, sym, ◌∙◌, arith, length-append}
 use Rattle.std.specs.Fn.{iterate}
 use Rattle.std.specs.Global.{Global}
@@ -6,7 +6,7 @@ use Rattle.std.specs.List.{concat}
 use Rattle.std.proofs.Math.Seq.{drop-append_seam}
 use Rattle.std.proofs.lemmas.List.{map-append, append-nil, get_or-append-add}
 use Rattle.hex.specs.Hex.{encode_lower}
-use Rattle.acvp_answers.specs.MonteCarlo.{next_of, extended, last_of, turn, checkpoints}
+use Rattle.acvp_answers.specs.MonteCarlo.{next_of, extended, last_of, next_checkpoint, checkpoints}
 use Rattle.acvp_answers.specs.Private.Ending.{EndsIn}
 
 pub iterate-suc : {A : Type 0} (h : A → A) (n : ℕ) (x : A) → iterate h (suc n) x ≡ h (iterate h n x)
@@ -44,26 +44,26 @@ last_of_ends members a b c ends =
     rw (ends.1, place) (sym (get_or-append-add front (a ∷ b ∷ c ∷ []) 2 []))
 
 -- the checkpoints written, and one more
-pub written_more : (hash : List ℕ → List ℕ) (seed : List ℕ) (turns i : ℕ) (texts : List (String Global))
-    (text : String Global) (checkpoint : List ℕ) (all : List (List ℕ)) → i < turns →
-    map string_bytes texts ++ map encode_lower (checkpoints hash seed (turns - i)) ≡ all → checkpoint ≡ turn hash seed
+pub written_more : (hash : List ℕ → List ℕ) (seed : List ℕ) (count i : ℕ) (texts : List (String Global))
+    (text : String Global) (checkpoint : List ℕ) (all : List (List ℕ)) → i < count →
+    map string_bytes texts ++ map encode_lower (checkpoints hash seed (count - i)) ≡ all → checkpoint ≡ next_checkpoint hash seed
     → string_bytes text ≡ encode_lower checkpoint →
-    map string_bytes (texts ++ text ∷ []) ++ map encode_lower (checkpoints hash checkpoint (turns - (i + 1))) ≡ all
+    map string_bytes (texts ++ text ∷ []) ++ map encode_lower (checkpoints hash checkpoint (count - (i + 1))) ≡ all
 unfolding checkpoints
-written_more hash seed turns i texts text checkpoint all more so is written =
-    let left : turns - i ≡ suc (turns - (i + 1)) = omega arith in
-    let so' : map string_bytes texts ++ map encode_lower (checkpoints hash seed (suc (turns - (i + 1)))) ≡ all =
+written_more hash seed count i texts text checkpoint all more so is written =
+    let left : count - i ≡ suc (count - (i + 1)) = omega arith in
+    let so' : map string_bytes texts ++ map encode_lower (checkpoints hash seed (suc (count - (i + 1)))) ≡ all =
     rw left at so in
-    let text_is : string_bytes text ≡ encode_lower (turn hash seed) = written ∙ ap (λ bytes. encode_lower bytes) is in
+    let text_is : string_bytes text ≡ encode_lower (next_checkpoint hash seed) = written ∙ ap (λ bytes. encode_lower bytes) is in
     rw (map-append string_bytes texts (text ∷ []), is, text_is)
-    (append_assoc (map string_bytes texts) (encode_lower (turn hash seed)
-    ∷ []) (map encode_lower (checkpoints hash (turn hash seed) (turns - (i + 1)))) ∙ so')
+    (append_assoc (map string_bytes texts) (encode_lower (next_checkpoint hash seed)
+    ∷ []) (map encode_lower (checkpoints hash (next_checkpoint hash seed) (count - (i + 1)))) ∙ so')
 
 -- all checkpoints are written
-pub written_all : (hash : List ℕ → List ℕ) (seed : List ℕ) (turns i : ℕ) (written all : List (List ℕ)) → turns ≤ i →
-    written ++ map encode_lower (checkpoints hash seed (turns - i)) ≡ all → written ≡ all
+pub written_all : (hash : List ℕ → List ℕ) (seed : List ℕ) (count i : ℕ) (written all : List (List ℕ)) → count ≤ i →
+    written ++ map encode_lower (checkpoints hash seed (count - i)) ≡ all → written ≡ all
 unfolding checkpoints
-written_all hash seed turns i written all end so =
-    let left : turns - i ≡ zero = omega arith in
+written_all hash seed count i written all end so =
+    let left : count - i ≡ zero = omega arith in
     let so' : written ++ map encode_lower (checkpoints hash seed zero) ≡ all = rw left at so in
     sym (append-nil written) ∙ so'

@@ -21,13 +21,13 @@ abbrev pub last_of : List (List ℕ) → List ℕ
 last_of members = slice_index_or members (length members - 1) []
 
 -- the last of the 1003 members that a seed begins
-unfoldable pub turn : (List ℕ → List ℕ) → List ℕ → List ℕ
-turn hash seed = last_of (members_of hash seed 1000)
+unfoldable pub next_checkpoint : (List ℕ → List ℕ) → List ℕ → List ℕ
+next_checkpoint hash seed = last_of (members_of hash seed 1000)
 
--- so many checkpoints: the turn of the seed, and then the turn of each one before
+-- so many checkpoints: the one after the seed, and then that after each one before
 unfoldable pub checkpoints : (List ℕ → List ℕ) → List ℕ → ℕ → List (List ℕ)
 checkpoints hash seed zero = []
-checkpoints hash seed (suc n) = turn hash seed ∷ checkpoints hash (turn hash seed) n
+checkpoints hash seed (suc n) = next_checkpoint hash seed ∷ checkpoints hash (next_checkpoint hash seed) n
 
 -- the member at a place, from 0 on
 abbrev pub member_at : List (List ℕ) → ℕ → List ℕ

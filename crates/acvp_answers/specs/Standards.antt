@@ -22,7 +22,7 @@ mac_texts name key message bytes = encode_lower (take bytes (hmac_of name key me
 
 -- so many checkpoints of a hash function
 abbrev pub checkpoint_texts : HashName → List ℕ → ℕ → List (List ℕ)
-checkpoint_texts name seed turns = map encode_lower (checkpoints (digest_of name) seed turns)
+checkpoint_texts name seed count = map encode_lower (checkpoints (digest_of name) seed count)
 
 -- of a Monte Carlo test: a hundred checkpoints
 unfoldable pub monte_carlo_texts : HashName → List ℕ → List (List ℕ)

@@ -14,7 +14,7 @@ pub use answering::standard;
 pub use answers::Answers;
 pub use grading::{disposition, grade};
 pub use iter::Iter;
-pub use monte_carlo::turn_is_the_standards;
+pub use monte_carlo::checkpoint_is_the_standards;
 pub use texts::{checkpoint_texts, digest_texts, mac_texts, monte_carlo_texts};
 pub use verdict::{Disposition, Verdict};
 pub use verdict_text::{

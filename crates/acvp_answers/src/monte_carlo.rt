@@ -2,12 +2,12 @@
 ghost use Rattle.std.specs.Prelude.{◌≡◌, ℕ, ◌++◌, List};
 ghost use Rattle.std.specs.Fn.{iterate};
 ghost use Rattle.acvp_mac.specs.Hash.{digest_of};
-ghost use Rattle.acvp_answers.specs.MonteCarlo.{AreMembers, extended, last_of, turn as turn_of};
+ghost use Rattle.acvp_answers.specs.MonteCarlo.{AreMembers, extended, last_of, next_checkpoint};
 ghost use Rattle.acvp_answers.specs.Private.Ending.{EndsIn};
 
 use acvp_mac::{Digest, HashName, hash_pieces};
 
-/// How often a turn hashes.
+/// How often is hashed for a checkpoint.
 const HASHES: usize = 1000;
 
 /// The hash of three members, joined.
@@ -40,9 +40,9 @@ fn later_member(
     third
 }
 
-/// One turn: the last of the 1003 members that the seed begins. It takes no memory.
-pub(crate) fn turn(name: HashName, seed: &[u8]) -> Digest
-    ensures { result ≡ turn_of (digest_of name) seed.now }
+/// The checkpoint after a seed, or after another: the last of the 1003 members that it begins. It takes no memory.
+pub(crate) fn next_checkpoint(name: HashName, seed: &[u8]) -> Digest
+    ensures { result ≡ next_checkpoint (digest_of name) seed.now }
 {
     let first = next_member(name, seed, seed, seed);
     let second = next_member(name, seed, seed, first.as_slice());
@@ -50,10 +50,10 @@ pub(crate) fn turn(name: HashName, seed: &[u8]) -> Digest
     later_member(name, first, second, third, HASHES - 3)
 }
 
-/// The definition of a turn is what it says: one list is as the standard describes the members that a seed begins, and
-/// its last member is the turn.
-pub fn turn_is_the_standards()
+/// The definition of the next checkpoint is what it says: one list is as the standard describes the members that a seed
+/// begins, and its last member is that checkpoint.
+pub fn checkpoint_is_the_standards()
     ensures some { (hash : List ℕ → List ℕ) (seed : List ℕ) → (members : List (List ℕ)) × AreMembers hash seed members }
     ensures last { (hash : List ℕ → List ℕ) (seed : List ℕ) (members : List (List ℕ)) →
-        AreMembers hash seed members → turn_of hash seed ≡ last_of members }
+        AreMembers hash seed members → next_checkpoint hash seed ≡ last_of members }
 {}

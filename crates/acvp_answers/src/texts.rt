@@ -2,16 +2,16 @@
 ghost use Rattle.std.specs.Prelude.{◌≡◌, ◌≤◌, [], ◌∷◌, IfOk, map, string_bytes};
 ghost use Rattle.hex.specs.Hex.{encode_lower};
 ghost use Rattle.acvp_mac.specs.Hash.{digest_of, out_of};
-ghost use Rattle.acvp_answers.specs.MonteCarlo.{turn as turn_of};
+ghost use Rattle.acvp_answers.specs.MonteCarlo.{next_checkpoint};
 ghost use Rattle.acvp_answers.specs.Private.Ending.{before_or};
 ghost use Rattle.acvp_answers.specs.Standards as standards;
 
-use crate::monte_carlo::turn;
+use crate::monte_carlo::next_checkpoint;
 use acvp_mac::{Digest, HashName, hash, hmac};
 use std::alloc::{AllocError, Global};
 
 /// How many checkpoints a Monte Carlo test has.
-const TURNS: usize = 100;
+const CHECKPOINTS: usize = 100;
 
 /// One text, of these bytes.
 fn one_text(alloc: Global, bytes: &[u8]) -> Result<Vec<String>, AllocError>
@@ -49,26 +49,26 @@ pub fn mac_texts(
 
 /// The checkpoint after another one, or after the seed where there is none yet.
 fn checkpoint_after(name: HashName, seed: &[u8], before: Option<Digest>) -> Digest
-    ensures { result ≡ turn_of (digest_of name) (before_or seed.now before) }
+    ensures { result ≡ next_checkpoint (digest_of name) (before_or seed.now before) }
 {
     match before {
-        Some(checkpoint) => turn(name, checkpoint.as_slice()),
-        None => turn(name, seed),
+        Some(checkpoint) => next_checkpoint(name, checkpoint.as_slice()),
+        None => next_checkpoint(name, seed),
     }
 }
 
-/// The first checkpoints of a Monte Carlo test, one for each turn. It takes memory for their texts alone.
+/// The first checkpoints of a Monte Carlo test, as many as are asked for. It takes memory for their texts alone.
 pub fn checkpoint_texts(
     alloc: Global,
     name: HashName,
     seed: &[u8],
-    turns: usize,
+    count: usize,
 ) -> Result<Vec<String>, AllocError>
-    ensures { IfOk result (λ texts. map string_bytes texts.items ≡ standards.checkpoint_texts name seed.now turns) }
+    ensures { IfOk result (λ texts. map string_bytes texts.items ≡ standards.checkpoint_texts name seed.now count) }
 {
-    let mut texts = Vec::with_capacity(alloc, turns)?;
+    let mut texts = Vec::with_capacity(alloc, count)?;
     let mut last = None;
-    for _ in 0..turns {
+    for _ in 0..count {
         let checkpoint = checkpoint_after(name, seed, last);
         let text = hex::encode(alloc, checkpoint.as_slice())?;
         texts.push(text)?;
@@ -85,5 +85,5 @@ pub fn monte_carlo_texts(
 ) -> Result<Vec<String>, AllocError>
     ensures { IfOk result (λ texts. map string_bytes texts.items ≡ standards.monte_carlo_texts name seed.now) }
 {
-    checkpoint_texts(alloc, name, seed, TURNS)
+    checkpoint_texts(alloc, name, seed, CHECKPOINTS)
 }

@@ -200,19 +200,19 @@ fn are_first(texts: &[String], wanted: &[&'static str]) -> bool {
     true
 }
 
-// Whether so many turns give so many checkpoints of the case.
-fn has_turns(alloc: Global, case: &Case, turns: usize) -> Result<bool, AllocError> {
-    let texts = checkpoint_texts(alloc, case.name, case.seed, turns)?;
-    Ok(texts.len() == turns && are_first(&texts, &case.first))
+// Whether so many count give so many checkpoints of the case.
+fn has_checkpoints(alloc: Global, case: &Case, count: usize) -> Result<bool, AllocError> {
+    let texts = checkpoint_texts(alloc, case.name, case.seed, count)?;
+    Ok(texts.len() == count && are_first(&texts, &case.first))
 }
 
 #[test]
-fn as_many_checkpoints_as_turns(rt: HostRuntime) {
+fn as_many_checkpoints_as_asked(rt: HostRuntime) {
     let [case, ..] = &CASES;
-    for turns in 0..4 {
+    for count in 0..4 {
         assert!(rt;
-            has_turns(rt.alloc(), case, turns) == Ok(true),
-            "{turns} turns"
+            has_checkpoints(rt.alloc(), case, count) == Ok(true),
+            "{count} count"
         );
     }
 }

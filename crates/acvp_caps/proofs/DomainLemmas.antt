@@ -10,7 +10,7 @@ use Rattle.acvp_caps.specs.declared.item.Item.{Item}
 use Rattle.acvp_caps.specs.declared.item.Item.TheVariants.{Single}
 use Rattle.acvp_caps.specs.Items.{has, first}
 use Rattle.acvp_caps.specs.Members.{is_member, members}
-use Rattle.acvp_caps.specs.Private.Walk.{AllFormed, IsNext, IsGreatest}
+use Rattle.acvp_caps.specs.Private.Walk.{AllFormed, IsNextMember, IsGreatest}
 use Rattle.acvp_caps.specs.Private.DomainItems.{AreDomainItems}
 use Rattle.acvp_caps.proofs.MembersLemmas.{members-list, has-first, step-first}
 use Rattle.acvp_caps.proofs.Steps.{IsListOf, place-of, passes-at, rises}
@@ -90,7 +90,7 @@ greatest-all items xs g e most = λ k d within.
     omega (arith, n, most.above (get_or xs k 0) (passes-at (is_member items) xs l k within))
 
 pub least-value : (items : List Item) (xs : List ℕ) (o : Option ℕ) → members items ≡ xs → AreDomainItems items
-    → IsNext (is_member items) 0 o → slice_get xs 0 ≡ Some (unwrap_or o 0)
+    → IsNextMember (is_member items) 0 o → slice_get xs 0 ≡ Some (unwrap_or o 0)
 least-value items xs o e d next =
     let some = domain-some items xs e d in
     let first : o ≡ slice_get xs 0 = step-first items o next ∙ ap (λ (ys : List ℕ). slice_get ys 0) e in

@@ -14,7 +14,7 @@ use Rattle.acvp_caps.specs.declared.item.Item.{Item}
 use Rattle.acvp_caps.specs.declared.item.Item.TheVariants.{Single, Range}
 use Rattle.acvp_caps.specs.Items.{has, bound, first, last, is_formed}
 use Rattle.acvp_caps.specs.Members.{is_member, greatest_bound, members}
-use Rattle.acvp_caps.specs.Private.Walk.{AllFormed, AllBounded, IsNext, IsGreatest}
+use Rattle.acvp_caps.specs.Private.Walk.{AllFormed, AllBounded, IsNextMember, IsGreatest}
 use Rattle.acvp_caps.proofs.Ranges.{range-has, has-range}
 use Rattle.acvp_caps.proofs.Steps.{IsListOf, passes-at, place-below, next-first, next-more}
 
@@ -240,16 +240,16 @@ pub members-end : (items : List Item) (k : ℕ) (o : Option ℕ) → o ≡ slice
     → length (members items) ≤ k
 members-end items k o at none = slice_get-none (members items) k (sym none ∙ at)
 
-pub step-first : (items : List Item) (o : Option ℕ) → IsNext (is_member items) 0 o → o ≡ slice_get (members items) 0
+pub step-first : (items : List Item) (o : Option ℕ) → IsNextMember (is_member items) 0 o → o ≡ slice_get (members items) 0
 step-first items o next = next-first (is_member items) (members items) (members-list items) o next
 
 pub step-more : (items : List Item) (k n : ℕ) (at o : Option ℕ) → at ≡ slice_get (members items) k → at ≡ Some n
-    → IsNext (is_member items) (n + 1) o → o ≡ slice_get (members items) (k + 1)
+    → IsNextMember (is_member items) (n + 1) o → o ≡ slice_get (members items) (k + 1)
 step-more items k n at o here is next =
     next-more (is_member items) (members items) (members-list items) k n o (sym here ∙ is) next
 
 -- what is left above a member falls with each step
-pub step-smaller : (p : ℕ → Bool) (n : ℕ) (o : Option ℕ) → n ≤ 524288 → IsNext p (n + 1) o
+pub step-smaller : (p : ℕ → Bool) (n : ℕ) (o : Option ℕ) → n ≤ 524288 → IsNextMember p (n + 1) o
     → unwrap_or (option_map (λ m. 524289 - m) o) 0 < 524289 - n
 step-smaller p n None limit next = omega arith
 step-smaller p n (Some m) limit next = omega (arith, next.from_start)

@@ -6,7 +6,7 @@ use Rattle.std.specs.Option.{option_eq}
 use Rattle.std.proofs.lemmas.Bool.Decides.{nat_tests}
 use Rattle.acvp_caps.specs.declared.item.Item.{Item}
 use Rattle.acvp_caps.specs.Members.{is_member, members}
-use Rattle.acvp_caps.specs.Private.Walk.{AllFormed, AllBounded, IsNext}
+use Rattle.acvp_caps.specs.Private.Walk.{AllFormed, AllBounded, IsNextMember}
 use Rattle.acvp_caps.proofs.MembersLemmas.{member-at, members-past, step-first, step-more}
 
 -- the two numbers stand at the same place, and the lists are alike up to there
@@ -16,7 +16,7 @@ pub record IsSideBySide (xs ys : List ℕ) (o p : Option ℕ) : Type 0 where
   pub second : p ≡ slice_get ys place
   pub alike : (j : ℕ) → j < place → slice_get xs j ≡ slice_get ys j
 
-pub side-first : (a b : List Item) (o p : Option ℕ) → IsNext (is_member a) 0 o → IsNext (is_member b) 0 p
+pub side-first : (a b : List Item) (o p : Option ℕ) → IsNextMember (is_member a) 0 o → IsNextMember (is_member b) 0 p
     → IsSideBySide (members a) (members b) o p
 side-first a b o p next other = record {
   place = 0;
@@ -27,7 +27,7 @@ side-first a b o p next other = record {
 
 pub side-more : (a b : List Item) (o p s t : Option ℕ) (n : ℕ) → IsSideBySide (members a) (members b) o p
     → o ≡ Some n → p ≡ Some n
-    → IsNext (is_member a) (n + 1) s → IsNext (is_member b) (n + 1) t → IsSideBySide (members a) (members b) s t
+    → IsNextMember (is_member a) (n + 1) s → IsNextMember (is_member b) (n + 1) t → IsSideBySide (members a) (members b) s t
 side-more a b o p s t n side here there next other = record {
   place = side.place + 1;
   first = step-more a side.place n o s side.first here next;

@@ -7,7 +7,7 @@ use Rattle.std.proofs.lemmas.List.Kept.{AllPairs-from_increasing}
 use Rattle.std.proofs.lemmas.List.Folds.{Any-from_list_any, list_any-from_Any}
 use Rattle.std.proofs.lemmas.Option.{slice_get-get_or, slice_get_past, slice_get_within, get_or_from_slice_get}
 use Rattle.std.proofs.lemmas.Bool.Decides.{nat_tests}
-use Rattle.acvp_caps.specs.Private.Walk.{IsLeastFrom, IsNext}
+use Rattle.acvp_caps.specs.Private.Walk.{IsLeastFrom, IsNextMember}
 
 -- an ascending list of exactly the numbers that pass
 pub record IsListOf (p : ℕ → Bool) (xs : List ℕ) : Type 0 where
@@ -83,7 +83,7 @@ no-next p xs l start k split none =
 
 -- the next number that passes is the one at k
 pub next-at : (p : ℕ → Bool) (xs : List ℕ) → IsListOf p xs → (start k : ℕ) (o : Option ℕ) → IsSplitAt xs start k
-    → IsNext p start o → o ≡ slice_get xs k
+    → IsNextMember p start o → o ≡ slice_get xs k
 next-at p xs l start k None split next = no-next p xs l start k split next
 next-at p xs l start k (Some n) split next = same-next p xs l start k n split next
 
@@ -95,7 +95,7 @@ up_to xs h k n within here j le false e =
     omega (arith, rises xs h j k less within)
 
 -- the first step
-pub next-first : (p : ℕ → Bool) (xs : List ℕ) → IsListOf p xs → (o : Option ℕ) → IsNext p 0 o → o ≡ slice_get xs 0
+pub next-first : (p : ℕ → Bool) (xs : List ℕ) → IsListOf p xs → (o : Option ℕ) → IsNextMember p 0 o → o ≡ slice_get xs 0
 next-first p xs l o next =
     next-at p xs l 0 0 o (record {
       below = λ j less within. absurd (omega arith);
@@ -104,7 +104,7 @@ next-first p xs l o next =
 
 -- a step from the number at k
 pub next-more : (p : ℕ → Bool) (xs : List ℕ) → IsListOf p xs → (k n : ℕ) (o : Option ℕ) → slice_get xs k ≡ Some n
-    → IsNext p (n + 1) o → o ≡ slice_get xs (k + 1)
+    → IsNextMember p (n + 1) o → o ≡ slice_get xs (k + 1)
 next-more p xs l k n o at next =
     let within : k < length xs = slice_get_within xs k n at in
     let here : get_or xs k 0 ≡ n = get_or_from_slice_get xs k n 0 at in

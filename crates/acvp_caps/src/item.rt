@@ -5,7 +5,7 @@ ghost use Rattle.std.specs.List.{list_all, filter_map};
 ghost use Rattle.serde_json.specs.View.{view};
 ghost use Rattle.acvp_caps.specs.Items.{has, first, last, is_formed, is_byte_oriented, item_within};
 ghost use Rattle.acvp_caps.specs.Registered.{item_of, range_of, is_item};
-ghost use Rattle.acvp_caps.specs.Private.Walk.{IsNext, AllFormed};
+ghost use Rattle.acvp_caps.specs.Private.Walk.{IsNextMember, AllFormed};
 ghost use Rattle.acvp_caps.specs.Private.Written.{item_data};
 
 use crate::CapFault;
@@ -79,7 +79,7 @@ impl Item {
     /// The least number of the item from `start` on.
     pub(crate) fn next(self, start: u64) -> Option<u64>
         requires { is_formed self ≡ true }
-        ensures { IsNext (has self) start result }
+        ensures { IsNextMember (has self) start result }
     {
         match self {
             Item::Single(value) if start <= value => Some(value),
@@ -111,7 +111,7 @@ impl Item {
 fn next_in_range(min: u64, max: u64, increment: u64, start: u64) -> Option<u64>
     requires ordered { min ≤ max }
     requires rising { 1 ≤ increment }
-    ensures { IsNext (has (Item.Range min max increment)) start result }
+    ensures { IsNextMember (has (Item.Range min max increment)) start result }
 {
     if start <= min {
         return Some(min);

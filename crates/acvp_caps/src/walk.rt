@@ -3,7 +3,7 @@
 ghost use Rattle.std.specs.Prelude.{◌≡◌, ◌<◌, ◌-◌, ◌↔◌, length, true, IsTrue};
 ghost use Rattle.std.specs.List.{slice_get};
 ghost use Rattle.acvp_caps.specs.Members.{is_member, members};
-ghost use Rattle.acvp_caps.specs.Private.Walk.{IsNext, IsGreatest, earlier, AllFormed, AllBounded};
+ghost use Rattle.acvp_caps.specs.Private.Walk.{IsNextMember, IsGreatest, earlier, AllFormed, AllBounded};
 
 use crate::item::Item;
 
@@ -21,7 +21,7 @@ fn earlier(a: Option<u64>, b: Option<u64>) -> Option<u64>
 /// The least number from `start` on that some item has.
 pub(crate) fn next_member(items: &[Item], start: u64) -> Option<u64>
     requires { AllFormed items.now }
-    ensures { IsNext (is_member items.now) start result }
+    ensures { IsNextMember (is_member items.now) start result }
 {
     let mut next = None;
     for item in items {

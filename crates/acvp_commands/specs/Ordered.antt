@@ -5,10 +5,10 @@ use Rattle.acvp_desk.specs.declared.order.Order.{Order}
 use Rattle.acvp_desk.specs.declared.order.OrderReply.{OrderReply}
 use Rattle.acvp_desk.specs.Orders.{Orders}
 use Rattle.acvp_commands.specs.declared.fault.Fault.{Fault}
-use Rattle.acvp_commands.specs.declared.lines.Line.{Line}
+use Rattle.acvp_commands.specs.declared.lines.Message.{Message}
 use Rattle.acvp_commands.specs.Lines.{outcome_of}
 
 -- the order was answered as the desk answers it, and the line or the fault is that reply's
-abbrev pub IsCarriedOut : {T : Type 0} → Meaning T → Result Line Fault → T → T → Order → Type 0
+abbrev pub IsCarriedOut : {T : Type 0} → Meaning T → Result Message Fault → T → T → Order → Type 0
 IsCarriedOut meaning result old new order =
     (reply : OrderReply) × Orders meaning reply old new order × (result ≡ outcome_of order reply)

@@ -2,16 +2,28 @@
 //! that they tell, an order on the records, and connections that are served over these.
 #![tactic(auto)]
 
+mod asked;
+mod done;
 mod fault;
+mod files;
+mod host;
 mod keys;
+mod life;
 mod lines;
 mod numbers;
 mod orders;
 mod serving;
+mod work;
 
+pub use asked::{BadNumber, Deed, Invocation, asked_by};
+pub use done::{done_over, make_tables};
 pub use fault::Fault;
+pub use files::{SystemFiles, TextFiles, keys_in, secret_in};
+pub use host::{Host, desk_over};
 pub use keys::{bytes_of, read_keys};
-pub use lines::Line;
+pub use life::{files_live_on, runs_follow};
+pub use lines::Message;
 pub use numbers::{account_number, connection_count, port_number, request_number};
 pub use orders::carry_out;
-pub use serving::serve_connections;
+pub use serving::{Listener, Taken, moment_of, serve_connections};
+pub use work::{Task, Work, work_of};

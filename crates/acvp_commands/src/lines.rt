@@ -7,7 +7,7 @@ use std::alloc::{AllocError, Global};
 
 /// A line of standard output.
 #[derive(Clone, Copy)]
-pub enum Line {
+pub enum Message {
     /// The tables are there.
     Ready,
 
@@ -66,23 +66,23 @@ fn approved_line(alloc: Global, request: u64, url: &str) -> Result<String, Alloc
     joined(alloc, front.as_str(), url)
 }
 
-impl Line {
+impl Message {
     /// The line, without its line feed.
     pub fn text(self, alloc: Global) -> Result<String, AllocError>
         ensures { IfOk result (λ text. string_bytes text ≡ line_text self) }
     {
         match self {
-            Line::Ready => String::from_str(alloc, "ready"),
-            Line::Migrated => String::from_str(alloc, "schema 3"),
-            Line::Added(account) => format!(in alloc; "account {account} added"),
-            Line::Disabled(account) => format!(in alloc; "account {account} disabled"),
-            Line::Approved(request, kind, number) => {
+            Message::Ready => String::from_str(alloc, "ready"),
+            Message::Migrated => String::from_str(alloc, "schema 3"),
+            Message::Added(account) => format!(in alloc; "account {account} added"),
+            Message::Disabled(account) => format!(in alloc; "account {account} disabled"),
+            Message::Approved(request, kind, number) => {
                 let url = approved_url(alloc, kind, number)?;
                 approved_line(alloc, request, url.as_str())
             }
-            Line::Rejected(request) => format!(in alloc; "request {request} rejected"),
-            Line::Listening(port) => format!(in alloc; "listening 127.0.0.1:{port}"),
-            Line::Served(count) => format!(in alloc; "served {count}"),
+            Message::Rejected(request) => format!(in alloc; "request {request} rejected"),
+            Message::Listening(port) => format!(in alloc; "listening 127.0.0.1:{port}"),
+            Message::Served(count) => format!(in alloc; "served {count}"),
         }
     }
 }

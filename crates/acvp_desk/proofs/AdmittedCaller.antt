@@ -12,13 +12,13 @@ use Rattle.acvp_policy.specs.declared.facts.Facts.{Facts}
 use Rattle.acvp_policy.specs.declared.rule.Rule.{Rule}
 use Rattle.acvp_policy.specs.declared.rule.Rule.TheVariants as rule
 use Rattle.acvp_tables.specs.declared.rows.AccountRow.{AccountRow}
-use Rattle.acvp_desk.specs.Answer.{action_of, facts_from, standing_of, unfound_of}
+use Rattle.acvp_desk.specs.Answer.{action_of, standing_of, unfound_facts}
 use Rattle.acvp_desk.specs.Private.Changeable.{IfChangeable}
 use Rattle.acvp_desk.specs.Wish.{action_of_wish}
 use Rattle.acvp_desk.specs.declared.ask.Asker.{Asker}
-use Rattle.acvp_desk.specs.declared.ask.Asker.TheVariants.{Login, Caller}
+use Rattle.acvp_desk.specs.declared.ask.Asker.TheVariants.{Caller}
 use Rattle.acvp_desk.specs.declared.ask.LoginAsk.{LoginAsk}
-use Rattle.acvp_desk.specs.declared.found.Found.{Found}
+use Rattle.acvp_desk.specs.declared.found.Found.TheVariants as found
 use Rattle.acvp_desk.specs.declared.wish.AccountWish.TheVariants as on_account
 use Rattle.acvp_desk.specs.declared.wish.CallerAsk.{CallerAsk}
 use Rattle.acvp_desk.specs.declared.wish.Registry.TheVariants as registry
@@ -77,27 +77,18 @@ enabled_row None P e if_some = absurd (cc)
 enabled_row (Some row) P e if_some = if_some
 
 -- so what holds of a row that was found holds of it
-pub row_is_there : (moment : ℕ) (it : Asker) (caller : CallerAsk) (a : Action) (f : Facts) (plain : Found) (account : Option AccountRow) (reviewer : Bool) (result : Result (Unit {0}) Rule) (P : Type 0) → it ≡ Caller caller
-    → a ≡ action_of it → f ≡ facts_from moment it plain → plain ≡ unfound_of it account reviewer → result ≡ judged (claims_conditions (scope_of a) f) tt → result ≡ Ok tt
-    → IfSome account (λ _. P) → P
-row_is_there moment it caller a f plain account reviewer result P is action facts unfound judges ok if_some =
-    let none : first_broken (claims_conditions (scope_of (action_of_wish caller.wish)) (facts_from moment (Caller caller) (unfound_of (Caller caller) account reviewer))) ≡ None =
-    held (claims_conditions (scope_of (action_of_wish caller.wish)) (facts_from moment (Caller caller) (unfound_of (Caller caller) account reviewer))) tt tt
-    (rw (action, facts, unfound, is) at (sym judges ∙ ok)) in
-    elim (admitted_enabled (scope_of (action_of_wish caller.wish)) (facts_from moment (Caller caller) (unfound_of (Caller caller) account reviewer)) none) [
+pub row_is_there : (moment : ℕ) (it : Asker) (caller : CallerAsk) (a : Action) (f : Facts) (account : Option AccountRow) (reviewer : Bool) (result : Result (Unit {0}) Rule) (P : Type 0) → it ≡ Caller caller
+    → a ≡ action_of it → f ≡ unfound_facts moment it account reviewer → result ≡ judged (claims_conditions (scope_of a) f) tt → result ≡ Ok tt → IfSome account (λ _. P) → P
+row_is_there moment it caller a f account reviewer result P is action facts judges ok if_some =
+    let none : first_broken (claims_conditions (scope_of (action_of_wish caller.wish)) (unfound_facts moment (Caller caller) account reviewer)) ≡ None =
+    held (claims_conditions (scope_of (action_of_wish caller.wish)) (unfound_facts moment (Caller caller) account reviewer)) tt tt (rw (action, facts, is) at (sym judges ∙ ok)) in
+    elim (admitted_enabled (scope_of (action_of_wish caller.wish)) (unfound_facts moment (Caller caller) account reviewer) none) [
       | inl login ↦ absurd (no_login caller.wish login)
       | inr enabled ↦ enabled_row account P enabled if_some
     ]
 
 -- ---- where a change can be made
 
-pub login_changes : (it : Asker) (login : LoginAsk) (account : Option AccountRow) (reviewer : Bool) (plain : Found) (P Q : Type 0) → it ≡ Login login
-    → plain ≡ unfound_of it account reviewer → (P → Q) → IfSome account (λ _. P) → IfChangeable it plain Q
-login_changes it login account reviewer plain P Q is unfound so said = rw (unfound, is) (go account said)
-  where
-    go : (account : Option AccountRow) → IfSome account (λ _. P) → IfSome account (λ _. Q)
-    go None said = tt
-    go (Some row) said = so said
-
-pub caller_changes : (it : Asker) (caller : CallerAsk) (f : Found) (P : Type 0) → it ≡ Caller caller → P → IfChangeable it f P
-caller_changes it caller f P is said = rw is said
+pub login_changes : (login : LoginAsk) (account : Option AccountRow) (P Q : Type 0) → (P → Q) → IfSome account (λ _. P) → IfChangeable (found.Login login account) Q
+login_changes login None P Q so said = tt
+login_changes login (Some row) P Q so said = so said

@@ -1,39 +1,36 @@
 -- What holds of what a caller is allowed.
-use Rattle.std.proofs.Common.{◌≡◌, ℕ, Bool, true, false, Option, None, Some, [], ◌∷◌, refl, arith}
+use Rattle.std.proofs.Common.{◌≡◌, ℕ, List, Bool, true, false, Option, None, Some, [], ◌∷◌, arith}
 use Rattle.std.proofs.lemmas.Bool.Decides.{nat_tests}
-use Rattle.std.specs.Prelude.{◌++◌, ◌==◌, ◌&&◌, ◌||◌, not, nat_le, is_some}
+use Rattle.std.specs.Prelude.{◌++◌, ◌==◌, ◌&&◌, nat_le, is_some}
 use Rattle.acvp_mac.specs.Conditions.{first_broken}
-use Rattle.acvp_policy.specs.Conditions.{is_account, is_enabled, account_there, account_enabled, without_session, token_there, token_shaped, token_signed, token_read, token_lasts, session_found, reviewer_found, algorithm_of, is_some_and, session_live, session_thawed, set_found, is_sample, session_lasts, set_lasts, set_live, is_unanswered, is_answered}
-use Rattle.acvp_policy.specs.Conditions.{session_found, reviewer_found, algorithm_of, is_some_and, session_live, session_thawed, set_found, is_sample, session_lasts, set_lasts, set_live}
-use Rattle.acvp_policy.specs.Policy.{policy, caller_conditions, claims_conditions, resource_conditions}
-use Rattle.acvp_policy.specs.Resource.{resource_of}
 use Rattle.acvp_policy.specs.Scope.{scope_of}
 use Rattle.acvp_policy.specs.declared.action.Action.{Action}
 use Rattle.acvp_policy.specs.declared.action.Action.TheVariants as action
 use Rattle.acvp_policy.specs.declared.facts.Facts.{Facts}
-use Rattle.acvp_policy.specs.declared.facts.Subject.{Subject}
+use Rattle.acvp_policy.specs.declared.facts.SessionFacts.{SessionFacts}
+use Rattle.acvp_policy.specs.declared.facts.SetFacts.{SetFacts}
 use Rattle.acvp_policy.specs.declared.facts.Subject.TheVariants as subject
 use Rattle.acvp_policy.specs.declared.resource.Resource.TheVariants as resource
 use Rattle.acvp_policy.specs.declared.rule.Rule.TheVariants as rule
-use Rattle.acvp_desk.specs.Answer.{facts_from, policy_conditions, IsOf}
-use Rattle.acvp_desk.specs.Place.{is_there, is_within}
+use Rattle.acvp_desk.specs.Answer.{facts_on_caller, policy_conditions}
+use Rattle.acvp_desk.specs.Place.{session_wish}
+use Rattle.acvp_desk.specs.Sets.{set_wish}
 use Rattle.acvp_desk.specs.Replies.{algorithm_at}
-use Rattle.acvp_desk.specs.Wish.{action_of_wish, action_on_session, action_on_set}
-use Rattle.acvp_desk.specs.declared.ask.Asker.{Asker}
-use Rattle.acvp_desk.specs.declared.ask.Asker.TheVariants.{Caller}
-use Rattle.acvp_desk.specs.declared.found.Found.{Found}
-use Rattle.acvp_desk.specs.declared.wish.CallerAsk.{CallerAsk}
+use Rattle.acvp_desk.specs.Wish.{action_on_session, action_on_set}
+use Rattle.acvp_desk.specs.declared.found.Found.TheVariants as found
+use Rattle.acvp_desk.specs.declared.found.FoundCaller.{FoundCaller}
+use Rattle.acvp_desk.specs.declared.found.Place.TheVariants as place
+use Rattle.acvp_desk.specs.declared.found.SessionPlace.{SessionPlace}
+use Rattle.acvp_desk.specs.declared.found.SetPlace.{SetPlace}
 use Rattle.acvp_desk.specs.declared.wish.SessionWish.{SessionWish}
 use Rattle.acvp_desk.specs.declared.wish.SessionWish.TheVariants.{Read, Cancel, Results, ListSets, ListReviewers, AddReviewer}
-use Rattle.acvp_desk.specs.declared.wish.Wish.{Wish}
-use Rattle.acvp_desk.specs.declared.wish.Wish.TheVariants.{Account, Algorithm, Session, Reviewer, Set, NewSession, CancelSet, ListSessions, Certify, Registry}
 use Rattle.acvp_desk.specs.declared.wish.Registry.{Registry as RegistryOf}
 use Rattle.acvp_desk.specs.declared.wish.Registry.TheVariants as registry
 use Rattle.acvp_desk.specs.Registries.{new_action}
-use Rattle.acvp_policy.specs.Conditions.{are_of_session, claims_of, has_passed, is_no_sample, this_session, with_session}
+use Rattle.acvp_policy.specs.Conditions.{is_account, is_enabled, account_there, account_enabled, without_session, token_there, token_shaped, token_signed, token_read, token_lasts, session_found, is_some_and, session_live, session_thawed, set_found, is_sample, session_lasts, set_lasts, set_live, is_unanswered, is_answered, are_of_session, claims_of, has_passed, is_no_sample, this_session, with_session}
 use Rattle.acvp_policy.specs.Decision.{account_of_claims}
-use Rattle.acvp_policy.specs.Policy.{session_conditions}
-use Rattle.acvp_policy.specs.Resource.{session_number}
+use Rattle.acvp_policy.specs.Policy.{policy, caller_conditions, claims_conditions, resource_conditions, session_conditions}
+use Rattle.acvp_policy.specs.Resource.{resource_of, session_number}
 use Rattle.acvp_policy.specs.SessionNumber.{account_of_session}
 use Rattle.acvp_token.specs.declared.Claims.{Claims}
 use Rattle.acvp_desk.specs.declared.wish.SetWish.{SetWish}
@@ -44,19 +41,6 @@ pub on_resource : (a : Action) (f : Facts) → first_broken (policy a f) ≡ Non
 unfolding policy
 on_resource a f held = back_held (claims_conditions (scope_of a) f) (resource_conditions a f) held
 
-algorithm_there : (n : ℕ) (s : Subject) → resource_of s ≡ resource.Algorithm n → is_some_and (algorithm_of s) (λ n. nat_le 1 n && nat_le n 12) ≡ true
-    → (nat_le 1 n && nat_le n 12) ≡ true
-algorithm_there n (subject.Algorithm m) names there = let same : m ≡ n = cc in rw (← same) there
-algorithm_there n (subject.Login it) names there = absurd (cc)
-algorithm_there n subject.Account names there = absurd (cc)
-algorithm_there n (subject.Session it) names there = absurd (cc)
-algorithm_there n (subject.Set it) names there = absurd (cc)
-algorithm_there n (subject.Reviewer it) names there = absurd (cc)
-algorithm_there n (subject.Vendor it) names there = absurd (cc)
-algorithm_there n (subject.Module it) names there = absurd (cc)
-algorithm_there n (subject.Environment it) names there = absurd (cc)
-algorithm_there n (subject.Request it) names there = absurd (cc)
-
 pub session_there : (it : SessionWish) (f : Facts) → first_broken (policy (action_on_session it) f) ≡ None → is_some (session_found f.subject) ≡ true
 session_there Read f held = first_held (is_some (session_found f.subject)) rule.NoResource [] (on_resource action.ReadSession f held)
 session_there Cancel f held = first_held (is_some (session_found f.subject)) rule.NoResource (session_live f ∷ session_thawed f ∷ []) (on_resource action.CancelSession f held)
@@ -64,10 +48,6 @@ session_there Results f held = first_held (is_some (session_found f.subject)) ru
 session_there ListSets f held = first_held (is_some (session_found f.subject)) rule.NoResource [] (on_resource action.ListSets f held)
 session_there ListReviewers f held = first_held (is_some (session_found f.subject)) rule.NoResource [] (on_resource action.ListReviewers f held)
 session_there AddReviewer f held = first_held (is_some (session_found f.subject)) rule.NoResource (session_live f ∷ []) (on_resource action.AddReviewer f held)
-
-reviewer_within : (s m : Bool) → s ≡ true → (not s || m) ≡ true → (s && m) ≡ true
-reviewer_within true m there within = within
-reviewer_within false m there within = absurd (cc)
 
 pub set_there : (it : SetWish) (f : Facts) → first_broken (policy (action_on_set it) f) ≡ None → is_some (set_found f.subject) ≡ true
 set_there on_set.Read f held = first_held (is_some (set_found f.subject)) rule.NoResource (session_live f ∷ session_lasts f ∷ set_live f ∷ set_lasts f ∷ []) (on_resource action.ReadSet f held)
@@ -84,30 +64,33 @@ certified_there f held =
     first_held (is_some (session_found f.subject)) rule.NoResource (session_live f ∷ session_lasts f ∷ session_thawed f ∷ is_no_sample f ∷ has_passed f ∷ [])
     (on_resource action.Certify f held)
 
-at_wish : (moment : ℕ) (caller : CallerAsk) (found : Found) (w : Wish) → caller.wish ≡ w → IsOf (Caller caller) found
-    → first_broken (policy (action_of_wish w) (facts_from moment (Caller caller) found)) ≡ None → is_there w found.subject ≡ true
-at_wish moment caller found (Account it) same of held = refl
-at_wish moment caller found (Algorithm n) same of held =
-    algorithm_there n found.subject (rw same at of.0)
-    (first_held (is_some_and (algorithm_of found.subject) (λ n. nat_le 1 n && nat_le n 12)) rule.NoResource [] (on_resource action.ReadAlgorithm (facts_from moment (Caller caller) found) held))
-at_wish moment caller found (Session n it) same of held = session_there it (facts_from moment (Caller caller) found) held
-at_wish moment caller found (Reviewer n m) same of held =
-    let within : is_within (Reviewer n m) found.subject ≡ true = rw same at of.2 in
-    reviewer_within (is_some (reviewer_found found.subject)) (nat_le m 9999)
-    (first_held (is_some (reviewer_found found.subject)) rule.NoResource (session_live (facts_from moment (Caller caller) found) ∷ []) (on_resource action.RemoveReviewer (facts_from moment (Caller caller) found) held))
-    within
-at_wish moment caller found NewSession same of held = refl
-at_wish moment caller found (Set session n it) same of held = set_there it (facts_from moment (Caller caller) found) held
-at_wish moment caller found (CancelSet session n) same of held = cancelled_there (facts_from moment (Caller caller) found) held
-at_wish moment caller found (ListSessions page) same of held = refl
-at_wish moment caller found (Certify n) same of held = certified_there (facts_from moment (Caller caller) found) held
-at_wish moment caller found (Registry it) same of held = refl
+-- ---- what the policy lets through is there
 
--- what the path names is there
-pub named_there : (moment : ℕ) (it : Asker) (caller : CallerAsk) (found : Found) → it ≡ Caller caller → IsOf it found → first_broken (policy_conditions moment it found) ≡ None
-    → is_there caller.wish found.subject ≡ true
-unfolding policy_conditions
-named_there moment it caller found is of held = at_wish moment caller found caller.wish refl (rw is at of) (rw is at held)
+module _ (moment : ℕ) (it : FoundCaller) (held : first_broken (policy_conditions moment (found.Caller it)) ≡ None) where
+  pub algorithm_there : (n : ℕ) → it.place ≡ place.Algorithm n → (nat_le 1 n && nat_le n 12) ≡ true
+  unfolding policy_conditions
+  algorithm_there n is =
+      first_held (nat_le 1 n && nat_le n 12) rule.NoResource [] (on_resource action.ReadAlgorithm (facts_on_caller moment it.token it.account it.reviewer (subject.Algorithm n)) (rw is at held))
+
+  pub session_found_there : (n : ℕ) (facts : Option SessionFacts) (at : SessionPlace) → it.place ≡ place.Session n facts at → facts ≡ None → ⊥
+  unfolding policy_conditions
+  session_found_there n facts at is none =
+      let there : is_some facts ≡ true = session_there (session_wish at) (facts_on_caller moment it.token it.account it.reviewer (subject.Session (record { session = n; found = facts }))) (rw is at held) in
+      absurd (let there = rw none at there in cc)
+
+  pub set_found_there : (session n : ℕ) (facts : Option SetFacts) (at : SetPlace) → it.place ≡ place.Set session n facts at → facts ≡ None → ⊥
+  unfolding policy_conditions
+  set_found_there session n facts at is none =
+      let there : is_some facts ≡ true = set_there (set_wish at) (facts_on_caller moment it.token it.account it.reviewer (subject.Set (record { session = session; set = n; found = facts }))) (rw is at held) in
+      absurd (let there = rw none at there in cc)
+
+  pub reviewer_found_there : (n m : ℕ) (facts : Option SessionFacts) (accounts : List ℕ) → it.place ≡ place.Reviewer n m facts accounts → facts ≡ None → ⊥
+  unfolding policy_conditions
+  reviewer_found_there n m facts accounts is none =
+      let f = facts_on_caller moment it.token it.account it.reviewer (subject.Reviewer (record { session = n; reviewer = m; found = facts })) in
+      let there : is_some facts ≡ true = first_held (is_some facts) rule.NoResource (session_live f ∷ [])
+      (on_resource action.RemoveReviewer (facts_on_caller moment it.token it.account it.reviewer (subject.Reviewer (record { session = n; reviewer = m; found = facts }))) (rw is at held)) in
+      absurd (let there = rw none at there in cc)
 
 -- where an account's new session is allowed, the account acts and is enabled
 pub new_allowed : (f : Facts) → first_broken (policy action.NewSession f) ≡ None → (is_account f.subject ≡ true) × (is_enabled f.standing ≡ true)

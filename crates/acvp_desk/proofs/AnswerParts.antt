@@ -28,20 +28,20 @@ module _ (keys : Keys) (m : ℕ) (r : RequestValue) (s : State) where
       go (Some rule) e = tt
 
   module _ (it : Asker) (held : first_broken (first_conditions m r) ≡ None) (asked : asker_of keys m r ≡ Some it) (f : Found) (found : f ≡ found_of keys.seed r.body it s) where
-    later : first_broken (conditions keys m r s) ≡ first_broken (later_conditions keys.seed m r it f)
+    later : first_broken (conditions keys m r s) ≡ first_broken (later_conditions keys.seed m r.body f)
     later = front_held (first_conditions m r) (later_of keys.seed m r (asker_of keys m r) s) held ∙ ap (λ a. first_broken (later_of keys.seed m r a s)) asked
-        ∙ ap (λ g. first_broken (later_conditions keys.seed m r it g)) (sym found)
+        ∙ ap (λ g. first_broken (later_conditions keys.seed m r.body g)) (sym found)
 
-    pub refused_later : (rule : Rule) → first_broken (later_conditions keys.seed m r it f) ≡ Some rule → answer keys m r s ≡ Err rule
+    pub refused_later : (rule : Rule) → first_broken (later_conditions keys.seed m r.body f) ≡ Some rule → answer keys m r s ≡ Err rule
     unfolding answer
     refused_later rule broken = ap (λ b. unless b (reply_to keys m r (asker_of keys m r) s)) (later ∙ broken)
 
-    pub answered : first_broken (later_conditions keys.seed m r it f) ≡ None → answer keys m r s ≡ Ok (reply_of keys m r it f)
+    pub answered : first_broken (later_conditions keys.seed m r.body f) ≡ None → answer keys m r s ≡ Ok (reply_of keys m r.body f)
     unfolding answer
     answered none = ap (λ b. unless b (reply_to keys m r (asker_of keys m r) s)) (later ∙ none)
-        ∙ ap (λ a. Ok (reply_to keys m r a s)) asked ∙ ap (λ g. Ok (reply_of keys m r it g)) (sym found)
+        ∙ ap (λ a. Ok (reply_to keys m r a s)) asked ∙ ap (λ g. Ok (reply_of keys m r.body g)) (sym found)
 
-    pub makes : first_broken (later_conditions keys.seed m r it f) ≡ None → accepted_change keys m r s ≡ change_of keys m r it f
+    pub makes : first_broken (later_conditions keys.seed m r.body f) ≡ None → accepted_change keys m r s ≡ change_of keys m r.body f
     unfolding accepted_change
     makes none = ap (λ a. change_on a (change_by keys m r (asker_of keys m r) s)) (answered none)
-        ∙ ap (λ a. change_by keys m r a s) asked ∙ ap (λ g. change_of keys m r it g) (sym found)
+        ∙ ap (λ a. change_by keys m r a s) asked ∙ ap (λ g. change_of keys m r.body g) (sym found)

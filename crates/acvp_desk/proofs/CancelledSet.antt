@@ -1,14 +1,14 @@
 -- A vector set that is cancelled: its number is of its session, and what is told of the session's counters is so after
 -- it.
-use Rattle.std.proofs.Common.{◌≡◌, ℕ, suc, ◌/◌, List, [], ◌∷◌, map, length, filter, Bool, true, false, ◌&&◌, ◌||◌, ◌==◌, Option, None, Some, refl, sym, ap, arith}
-use Rattle.std.specs.Prelude.{IfSome, not, is_some, option_map, option_and_then, if◌then◌else◌}
+use Rattle.std.proofs.Common.{◌≡◌, ℕ, suc, ◌/◌, List, [], ◌∷◌, map, length, filter, Bool, true, false, ◌&&◌, ◌==◌, Option, None, Some, refl, sym, ap, arith}
+use Rattle.std.specs.Prelude.{IfSome, is_some, option_map, option_and_then, if◌then◌else◌}
 use Rattle.std.specs.List.{All}
 use Rattle.std.proofs.lemmas.Bool.Decides.{nat_tests}
 use Rattle.std.proofs.lemmas.List.Elements.{All-nil, All-cons, All-head, All-tail}
 use Rattle.acvp_policy.specs.declared.facts.SessionFacts.{SessionFacts}
 use Rattle.acvp_tables.specs.Changes.{changed, is_set, cancelled_set as with_cancelled}
 use Rattle.acvp_tables.specs.Content.{Content, is_live_in, live_sets}
-use Rattle.acvp_tables.specs.Counted.{IsNextCount, has_passed as grades_pass, live_count, passed_count}
+use Rattle.acvp_tables.specs.Counted.{IsNextCount, answers_passed as grades_pass, live_count, passed_count}
 use Rattle.acvp_tables.specs.Graded.{GradedValue}
 use Rattle.acvp_tables.specs.State.{State, SetRecord, state_of, set_record, set_record_at, live_records, IsWellNumbered}
 use Rattle.acvp_tables.specs.declared.change.Change.TheVariants as change
@@ -38,11 +38,6 @@ number_fits named (Some facts) session n state well there = go (set_record_at n 
         → (n / 100) ≡ session
     go None is there = absurd (cc)
     go (Some row) is there = at row (named n state row well is) (row.session == session) refl there
-
--- what is found in a session is of it
-pub fits_within : (there fits : Bool) → (not there || fits) ≡ true → there ≡ true → fits ≡ true
-fits_within true fits within there = within
-fits_within false fits within there = absurd (cc)
 
 -- ---- the counters
 

@@ -18,9 +18,9 @@ use Rattle.acvp_tables.specs.StateChanges.{after_state}
 use Rattle.acvp_tables.specs.declared.change.Change.{Change}
 use Rattle.acvp_tables.specs.declared.change.Change.TheVariants as change
 use Rattle.acvp_tables.specs.declared.rows.AccountRow.{AccountRow}
-use Rattle.acvp_desk.specs.Answer.{accepted_change, account_found, action_of, answer, asker_of, change_by, change_of, change_on, effect, facts_from, first_conditions, first_conditions_on, found_of, later_conditions, later_of, own_conditions, policy_conditions, reply_to, state_after, who, IsOf}
+use Rattle.acvp_desk.specs.Answer.{accepted_change, account_found, action_in, answer, asker_of, change_by, change_of, change_on, effect, facts_in, first_conditions, first_conditions_on, found_of, later_conditions, later_of, own_conditions, policy_conditions, reply_to, state_after, who}
 use Rattle.acvp_desk.specs.Isolation.{is_who, own_after_request, who_of}
-use Rattle.acvp_desk.specs.Login.{step_of}
+use Rattle.acvp_desk.specs.Login.{login_step}
 use Rattle.acvp_desk.specs.Request.{RequestValue}
 use Rattle.acvp_desk.specs.declared.ask.Asker.{Asker}
 use Rattle.acvp_desk.specs.declared.ask.Asker.TheVariants.{Login, Caller}
@@ -31,7 +31,7 @@ use Rattle.acvp_desk.proofs.Decision.{Owns, covers}
 use Rattle.acvp_desk.proofs.FirstBroken.{back_held, held, whole_held}
 use Rattle.acvp_desk.proofs.Nobody.{nothing_changed}
 use Rattle.acvp_desk.proofs.OwnAnswer.{acts_as, asked_by}
-use Rattle.acvp_desk.proofs.Wishes.{wish_for, wish_names, wish_within}
+use Rattle.acvp_desk.proofs.Wishes.{found_fits}
 
 -- ---- what is accepted
 
@@ -59,10 +59,10 @@ account_number_of u (first ∷ rows) row is = go (first.number == u) refl (accou
     go false e later = later (rw e at is)
 
 login_made : (moment : ℕ) (login : LoginAsk) (u : ℕ) (account : Option AccountRow) (made : Change) → ((row : AccountRow) → account ≡ Some row → row.number ≡ u)
-    → option_and_then (λ row. option_map (λ step. change.UseStep (record { account = row.number; step = step })) (step_of moment login row)) account ≡ Some made
+    → option_and_then (λ row. option_map (λ step. change.UseStep (record { account = row.number; step = step })) (login_step moment login row)) account ≡ Some made
     → (account_of_change made ≡ u) × Fits made
 login_made moment login u None made number is = absurd (cc)
-login_made moment login u (Some row) made number is = go (step_of moment login row) is
+login_made moment login u (Some row) made number is = go (login_step moment login row) is
   where
     go : (step : Option ℕ) → option_map (λ step. change.UseStep (record { account = row.number; step = step })) step ≡ Some made → (account_of_change made ≡ u) × Fits made
     go None is = absurd (cc)
@@ -72,24 +72,18 @@ module _ (owns : Owns)
     (grants_name : (g : Granted) (it : Change) → Covers g it → account_of_change it ≡ g.account)
     (reviews : (u s a : ℕ) (state : State) → is_reviewer s a (own u state).reviewers ≡ ((owner_of s == u) && is_reviewer s a state.reviewers))
     (set_names : (n : ℕ) (state : State) (row : SetRecord) → IsWellNumbered state → set_record_at n state.sets ≡ Some row → row.session ≡ n / 100) where
-  -- what is found is of what is asked
-  is_of : (seeds : List (List ℕ)) (body : List ℕ) (it : Asker) (state : State) → IsWellNumbered state → IsOf it (found_of seeds body it state)
-  unfolding found_of
-  is_of seeds body (Login login) state well = tt
-  is_of seeds body (Caller caller) state well = (wish_names seeds _ state caller.wish, wish_for seeds _ body state caller.wish, wish_within reviews set_names seeds _ state caller.wish well)
-
   caller_made : (keys : Keys) (moment : ℕ) (r : RequestValue) (caller : CallerAsk) (u : ℕ) (state : State) (made : Change) → IsWellNumbered state → who (Caller caller) ≡ Some u
-      → first_broken (later_conditions keys.seed moment r (Caller caller) (found_of keys.seed r.body (Caller caller) state)) ≡ None
-      → change_of keys moment r (Caller caller) (found_of keys.seed r.body (Caller caller) state) ≡ Some made → (account_of_change made ≡ u) × Fits made
+      → first_broken (later_conditions keys.seed moment r.body (found_of keys.seed r.body (Caller caller) state)) ≡ None
+      → change_of keys moment r.body (found_of keys.seed r.body (Caller caller) state) ≡ Some made → (account_of_change made ≡ u) × Fits made
   unfolding policy_conditions
   caller_made keys moment r caller u state made well named none makes =
-      let it = Caller caller in
-      let found = found_of keys.seed r.body it state in
-      let a = action_of it in
-      let f = facts_from moment it found in
-      let front = policy_conditions moment it found in
-      let rest = own_conditions keys.seed r it found in
-      let covered = rw makes at (covers owns keys moment r it found (granted a f) (is_of keys.seed r.body it state well) (back_held front rest none) (decided_by a f (whole_held front rest none)) refl) in
+      let found = found_of keys.seed r.body (Caller caller) state in
+      let a = action_in found in
+      let f = facts_in moment found in
+      let front = policy_conditions moment found in
+      let rest = own_conditions keys.seed r.body found in
+      let fit = found_fits reviews set_names keys.seed r.body (Caller caller) state well in
+      let covered = rw makes at (covers owns keys moment r.body found (granted a f) fit (back_held front rest none) (decided_by a f (whole_held front rest none)) refl) in
       (grants_name (granted a f) made covered.0 ∙ granted_account a f ∙ acts_as moment keys.seed r.body caller u state named, covered.1)
 
   pub of_account : (keys : Keys) (moment : ℕ) (r : RequestValue) (u : ℕ) (state : State) (made : Change) → IsWellNumbered state → who_of keys moment r ≡ Some u

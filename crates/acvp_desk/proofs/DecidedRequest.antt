@@ -6,7 +6,7 @@ use Rattle.std.specs.List.{list_all}
 use Rattle.acvp_registry.specs.Object.{KeptObject, object_fault, is_fit}
 use Rattle.acvp_registry.specs.declared.kind.Kind.{Kind}
 use Rattle.acvp_registry.specs.declared.kind.Kind.TheVariants.{Vendor, Module, Environment, Certification}
-use Rattle.acvp_tables.specs.Content.{Content, count_of as rows_of, counts_of, objects_of, request_at, subject_of}
+use Rattle.acvp_tables.specs.Content.{Content, count_of as rows_of, counts_of, objects_of, request_at, purpose_of}
 use Rattle.acvp_tables.specs.declared.summary.Counted.TheVariants.{Objects}
 use Rattle.acvp_tables.specs.Next.{IsNextApproved, IsNextOrderFor, IsWaiting}
 use Rattle.acvp_tables.specs.State.{State, own, owner_of, first_of_account, has_registered, has_vendor, is_sound_body, objects_in, record_counts, state_of, IsWellNumbered}
@@ -110,7 +110,7 @@ module _ (requests : (u n : ℕ) (state : State) → IsWellNumbered state → re
   number_next : IsNextApproved (owner_of n) (own (owner_of n) state) row.body (approved_number state row)
   number_next = rw (names n state row well is_there.there) (go row.body sound)
     where
-      go : (b : RequestBody) → is_sound_body (own (owner_of n) state) b ≡ true → IsNextApproved (owner_of n) (own (owner_of n) state) b (approved_as state (owner_of n) (subject_of b))
+      go : (b : RequestBody) → is_sound_body (own (owner_of n) state) b ≡ true → IsNextApproved (owner_of n) (own (owner_of n) state) b (approved_as state (owner_of n) (purpose_of b))
       go (body.Registration object) kept = ap (λ k. first_of_account (owner_of n) + k)
           (counted objects state (owner_of n) object.kind (λ is. no_certification (has_vendor (own (owner_of n) state).objects object) object is kept))
       go (body.Certification c) kept = refl

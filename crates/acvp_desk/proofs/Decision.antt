@@ -1,77 +1,73 @@
 -- What the policy decides on what was found.
 use Rattle.std.proofs.Common.{◌≡◌, ◌⊎◌, ℕ, List, [], ◌∷◌, true, None, Some, Option, Ok, Err, inl, inr, refl, sym, ap, ◌∙◌, ◌/◌, ◌==◌, arith, ◌||◌}
-use Rattle.std.specs.Prelude.{option_map, option_and_then, is_some, ◌/◌, not, nat_lt}
-use Rattle.acvp_mac.specs.Conditions.{first_broken}
-use Rattle.acvp_caps.specs.Registered.{registration_conditions}
-use Rattle.acvp_policy.specs.Conditions.{claims_of, is_account, set_found}
+use Rattle.std.specs.Prelude.{Result, option_map, option_and_then, is_some, not, nat_lt}
 use Rattle.std.proofs.lemmas.Bool.Decides.{nat_tests}
 use Rattle.acvp_answers.specs.Answer.{Answer}
+use Rattle.acvp_caps.specs.Registered.{registration_conditions}
 use Rattle.acvp_gen.specs.Prompt.{PromptsValue}
+use Rattle.acvp_mac.specs.Conditions.{first_broken}
+use Rattle.acvp_policy.specs.Conditions.{claims_of}
 use Rattle.acvp_policy.specs.Decision.{account_of_claims, account_of_user, decision, granted}
+use Rattle.acvp_policy.specs.Granted.{Granted}
 use Rattle.acvp_policy.specs.Kinds.{IsOfSession, IsReview}
 use Rattle.acvp_policy.specs.Policy.{policy}
 use Rattle.acvp_policy.specs.Resource.{resource_of}
 use Rattle.acvp_policy.specs.SessionNumber.{account_of_session}
-use Rattle.acvp_policy.specs.Granted.{Granted}
 use Rattle.acvp_policy.specs.declared.action.Action.{Action}
 use Rattle.acvp_policy.specs.declared.action.Action.TheVariants as action
 use Rattle.acvp_policy.specs.declared.facts.Facts.{Facts}
-use Rattle.acvp_policy.specs.declared.facts.Subject.{Subject}
-use Rattle.acvp_policy.specs.declared.resource.Resource.TheVariants as resource
-use Rattle.acvp_policy.specs.declared.facts.Subject.{Subject}
+use Rattle.acvp_policy.specs.declared.facts.SetFacts.{SetFacts}
 use Rattle.acvp_policy.specs.declared.facts.Subject.TheVariants as subject
+use Rattle.acvp_policy.specs.declared.resource.Resource.TheVariants as resource
 use Rattle.acvp_policy.specs.declared.rule.Rule.{Rule}
 use Rattle.acvp_policy.specs.declared.rule.Rule.TheVariants as rule
+use Rattle.acvp_json.specs.declared.certify_body.CertifyBody.{CertifyBody}
+use Rattle.acvp_registry.specs.Object.{KeptObject}
 use Rattle.acvp_tables.specs.declared.change.Change.{Change}
 use Rattle.acvp_tables.specs.declared.change.Change.TheVariants as change
 use Rattle.acvp_tables.specs.declared.rows.AccountRow.{AccountRow}
-use Rattle.acvp_desk.specs.Answer.{action_of, facts_from, own_conditions, policy_conditions, change_of, CoversAny, IsOf}
-use Rattle.acvp_desk.specs.Login.{step_of, user_facts}
-use Rattle.acvp_desk.specs.declared.ask.Asker.{Asker}
-use Rattle.acvp_desk.specs.declared.ask.Asker.TheVariants.{Login, Caller}
-use Rattle.acvp_desk.specs.declared.ask.LoginAsk.{LoginAsk}
-use Rattle.acvp_desk.specs.declared.wish.SessionWish.{SessionWish}
-use Rattle.acvp_desk.specs.declared.wish.SessionWish.TheVariants.{Read, Cancel, Results, ListSets, ListReviewers, AddReviewer}
-use Rattle.acvp_desk.specs.declared.wish.Wish.{Wish}
-use Rattle.acvp_desk.specs.declared.wish.Wish.TheVariants.{Account, Algorithm, Session, Reviewer, Set, NewSession, CancelSet, ListSessions, Certify, Registry}
-use Rattle.acvp_desk.specs.Place.{unfound, is_within, is_for}
-use Rattle.acvp_desk.specs.Replies.{session_change, wish_change, cancelled_set, outcomes_in_material, answers_change, prompts_from, set_change, submission_change}
-use Rattle.acvp_desk.specs.declared.wish.SetWish.{SetWish}
-use Rattle.acvp_desk.specs.declared.wish.SetWish.TheVariants as on_set
-use Rattle.acvp_desk.specs.Request.{RequestValue}
-use Rattle.acvp_desk.specs.Reviewers.{reviewer_at}
-use Rattle.acvp_desk.specs.declared.keys.Keys.{Keys}
-use Rattle.acvp_desk.specs.Sets.{is_for_set}
-use Rattle.acvp_desk.specs.Submissions.{answers_at, graded_on, kept_answers}
-use Rattle.acvp_desk.specs.Wish.{action_of_wish, action_on_session, action_on_set}
-use Rattle.acvp_desk.specs.declared.found.Found.{Found}
+use Rattle.acvp_desk.specs.Answer.{action_in, change_of, facts_in, facts_on_login, is_fit, login_change, own_conditions, policy_conditions, CoversAny}
+use Rattle.acvp_desk.specs.Asked.{requested_conditions, certification_change, registration_change}
 use Rattle.acvp_desk.specs.Bodies.{body_conditions, registration_rule}
-use Rattle.acvp_desk.specs.NewSessions.{sessions_in_material, has_number_left, new_session_in}
-use Rattle.acvp_desk.specs.OwnConditions.{wish_conditions}
-use Rattle.acvp_desk.proofs.Allowed.{new_allowed, cancelled_there, set_there, registration_allowed, certification_owned}
-use Rattle.acvp_desk.proofs.NextRequest.{few_asked, registration_covered, certification_covered}
-use Rattle.acvp_desk.specs.Asked.{asked_conditions, asked_in, certification_change, certification_conditions_on, certified_conditions, registered_conditions, registration_change, registration_conditions_on}
-use Rattle.acvp_desk.specs.Registries.{kind_of, new_action}
+use Rattle.acvp_desk.specs.Login.{login_step, user_facts}
+use Rattle.acvp_desk.specs.NewSessions.{new_session_in}
+use Rattle.acvp_desk.specs.OwnConditions.{new_session_conditions, place_conditions}
+use Rattle.acvp_desk.specs.Place.{is_of_registry, action_at, is_within, session_wish, subject_at}
+use Rattle.acvp_desk.specs.Registries.{new_action}
+use Rattle.acvp_desk.specs.Replies.{answers_change, cancelled_set, place_change, prompts_from, session_change, set_change, submission_change}
+use Rattle.acvp_desk.specs.Reviewers.{reviewer_at}
+use Rattle.acvp_desk.specs.Sets.{set_wish}
+use Rattle.acvp_desk.specs.Submissions.{answers_at, graded_on, kept_answers}
+use Rattle.acvp_desk.specs.Wish.{action_on_session, action_on_set}
+use Rattle.acvp_desk.specs.declared.ask.LoginAsk.{LoginAsk}
 use Rattle.acvp_desk.specs.declared.found.Asked.{Asked}
-use Rattle.acvp_desk.specs.declared.wish.Registry.{Registry as RegistryOf}
-use Rattle.acvp_desk.specs.declared.wish.RegistryWish.TheVariants as on_registry
-use Rattle.acvp_desk.proofs.FirstBroken.{broken, held, back_held, first_held}
-use Rattle.acvp_desk.proofs.NextSession.{registers}
+use Rattle.acvp_desk.specs.declared.found.Found.{Found}
+use Rattle.acvp_desk.specs.declared.found.Found.TheVariants as found
+use Rattle.acvp_desk.specs.declared.found.Place.{Place}
+use Rattle.acvp_desk.specs.declared.found.Place.TheVariants as place
+use Rattle.acvp_desk.specs.declared.found.RegistryPlace.TheVariants as in_registry
+use Rattle.acvp_desk.specs.declared.found.SessionPlace.{SessionPlace}
+use Rattle.acvp_desk.specs.declared.found.SessionPlace.TheVariants as in_session
 use Rattle.acvp_desk.specs.declared.found.SetOutcome.{SetOutcome}
-use Rattle.acvp_desk.proofs.CancelledSet.{fits_within}
-use Rattle.acvp_desk.specs.declared.found.Material.{Material}
-use Rattle.acvp_desk.specs.declared.found.Material.TheVariants as material
+use Rattle.acvp_desk.specs.declared.found.SetPlace.{SetPlace}
+use Rattle.acvp_desk.specs.declared.found.SetPlace.TheVariants as in_set
 use Rattle.acvp_desk.specs.declared.found.Submission.{Submission}
+use Rattle.acvp_desk.specs.declared.keys.Keys.{Keys}
+use Rattle.acvp_desk.specs.declared.wish.Registry.{Registry as RegistryOf}
+use Rattle.acvp_desk.proofs.Allowed.{cancelled_there, certification_owned, set_there}
+use Rattle.acvp_desk.proofs.FirstBroken.{back_held, broken, first_held, held}
+use Rattle.acvp_desk.proofs.NextRequest.{certification_covered, few_asked, registration_covered}
+use Rattle.acvp_desk.proofs.NextSession.{registers}
 
-pub denied_by : (moment : ℕ) (it : Asker) (found : Found) (a : Action) (f : Facts) (rule : Rule) → a ≡ action_of it → f ≡ facts_from moment it found
-    → Err rule ≡ decision a f → first_broken (policy_conditions moment it found) ≡ Some rule
+pub denied_by : (moment : ℕ) (it : Found) (a : Action) (f : Facts) (rule : Rule) → a ≡ action_in it → f ≡ facts_in moment it
+    → Err rule ≡ decision a f → first_broken (policy_conditions moment it) ≡ Some rule
 unfolding policy_conditions decision
-denied_by moment it found a f rule action facts is = rw (← action, ← facts) (broken (policy a f) (granted a f) rule (sym is))
+denied_by moment it a f rule action facts is = rw (← action, ← facts) (broken (policy a f) (granted a f) rule (sym is))
 
-pub let_through : (moment : ℕ) (it : Asker) (found : Found) (a : Action) (f : Facts) (g : Granted) → a ≡ action_of it → f ≡ facts_from moment it found
-    → Ok g ≡ decision a f → first_broken (policy_conditions moment it found) ≡ None
+pub let_through : (moment : ℕ) (it : Found) (a : Action) (f : Facts) (g : Granted) → a ≡ action_in it → f ≡ facts_in moment it
+    → Ok g ≡ decision a f → first_broken (policy_conditions moment it) ≡ None
 unfolding policy_conditions decision
-let_through moment it found a f g action facts is = rw (← action, ← facts) (held (policy a f) (granted a f) g (sym is))
+let_through moment it a f g action facts is = rw (← action, ← facts) (held (policy a f) (granted a f) g (sym is))
 
 through : (a : Action) (f : Facts) (g : Granted) → Ok g ≡ decision a f → first_broken (policy a f) ≡ None
 unfolding decision
@@ -79,10 +75,9 @@ through a f g is = held (policy a f) (granted a f) g (sym is)
 
 -- ---- the grant is leave for the change
 
-login_covers : (keys : Keys) (moment : ℕ) (r : RequestValue) (login : LoginAsk) (found : Found)
-    → CoversAny (granted action.Login (facts_from moment (Login login) found)) (change_of keys moment r (Login login) found)
+login_covers : (moment : ℕ) (login : LoginAsk) (account : Option AccountRow) → CoversAny (granted action.Login (facts_on_login moment login account)) (login_change moment login account)
 unfolding granted
-login_covers keys moment r login found = go found.account
+login_covers moment login account = go account
   where
     at : (row : AccountRow) (step : Option ℕ) → CoversAny (record { action = action.Login; account = row.number; resource = resource.Account })
         (option_map (λ step. change.UseStep (record { account = row.number; step = step })) step)
@@ -91,29 +86,29 @@ login_covers keys moment r login found = go found.account
 
     go : (account : Option AccountRow)
         → CoversAny (record { action = action.Login; account = account_of_user (option_map (user_facts moment login) account); resource = resource.Account })
-        (option_and_then (λ row. option_map (λ step. change.UseStep (record { account = row.number; step = step })) (step_of moment login row)) account)
+        (option_and_then (λ row. option_map (λ step. change.UseStep (record { account = row.number; step = step })) (login_step moment login row)) account)
     go None = tt
-    go (Some row) = at row (step_of moment login row)
+    go (Some row) = at row (login_step moment login row)
 
 -- whose session a grant is for
 abbrev pub Owns : Type 0
 Owns = (action : Action) (facts : Facts) (grant : Granted) → decision action facts ≡ Ok grant
     → (session : ℕ) → IsOfSession session grant.resource → (account_of_session session ≡ grant.account) ⊎ IsReview action facts
 
-session_covers : (owns : Owns) (n : ℕ) (r : RequestValue) (it : SessionWish) (f : Facts) (g : Granted) → resource_of f.subject ≡ resource.Session n
-    → Ok g ≡ decision (action_on_session it) f → g ≡ granted (action_on_session it) f → CoversAny g (session_change n r it)
+session_covers : (owns : Owns) (n : ℕ) (body : List ℕ) (it : SessionPlace) (f : Facts) (g : Granted) → resource_of f.subject ≡ resource.Session n
+    → Ok g ≡ decision (action_on_session (session_wish it)) f → g ≡ granted (action_on_session (session_wish it)) f → CoversAny g (session_change n body it)
 unfolding granted
-session_covers owns n r Read f g names decided is = tt
-session_covers owns n r Cancel f g names decided is =
+session_covers owns n body (in_session.Read sets) f g names decided is = tt
+session_covers owns n body in_session.Cancel f g names decided is =
     let names : g.resource ≡ resource.Session n = rw is names in
     elim (owns action.CancelSession f g (sym decided) n (rw names refl)) [
       | inl own ↦ ((ap (λ x. x.action) is, names, sym own), tt)
       | inr review ↦ absurd (elim review.results [ inl e ↦ cc | inr e ↦ cc ])
     ]
-session_covers owns n r Results f g names decided is = tt
-session_covers owns n r ListSets f g names decided is = tt
-session_covers owns n r ListReviewers f g names decided is = tt
-session_covers owns n r AddReviewer f g names decided is = go (reviewer_at r.body)
+session_covers owns n body (in_session.Results sets) f g names decided is = tt
+session_covers owns n body (in_session.ListSets sets) f g names decided is = tt
+session_covers owns n body (in_session.ListReviewers accounts) f g names decided is = tt
+session_covers owns n body (in_session.AddReviewer accounts) f g names decided is = go (reviewer_at body)
   where
     on_it : g.resource ≡ resource.Session n
     on_it = rw is names
@@ -136,41 +131,21 @@ reviewer_covers owns n m f g names decided is =
       | inr review ↦ absurd (elim review.results [ inl e ↦ cc | inr e ↦ cc ])
     ]
 
-new_covers : (seeds : List (List ℕ)) (moment u : ℕ) (r : RequestValue) (found : Found) (f : Facts) (g : Granted)
-    → first_broken (wish_conditions seeds r found NewSession) ≡ None → u ≡ account_of_claims (claims_of f.token) → Ok g ≡ decision action.NewSession f → g ≡ granted action.NewSession f
-    → CoversAny g (option_map change.NewSession (new_session_in seeds moment u r.body found.material))
-unfolding granted decision
-new_covers seeds moment u r found f g own acts decided is =
-    let allowed = new_allowed f (held (policy action.NewSession f) (granted action.NewSession f) g (sym decided)) in
-    let left = first_held (has_number_left (sessions_in_material found.material)) rule.AccountFull []
-    (back_held (body_conditions registration_rule registration_conditions r.body) ((has_number_left (sessions_in_material found.material), rule.AccountFull) ∷ []) own) in
-    go f.subject refl allowed.0 left
-  where
-    go : (s : Subject) → f.subject ≡ s → is_account s ≡ true → has_number_left (sessions_in_material found.material) ≡ true
-        → CoversAny g (option_map change.NewSession (new_session_in seeds moment u r.body found.material))
-    go subject.Account e account left =
-        registers seeds moment u r.body found.material g (ap (λ x. x.action) is) (rw (is, e) refl) (rw (is, e, acts) refl) left
-    go (subject.Login it) e account left = absurd (cc)
-    go (subject.Algorithm it) e account left = absurd (cc)
-    go (subject.Session it) e account left = absurd (cc)
-    go (subject.Set it) e account left = absurd (cc)
-    go (subject.Reviewer it) e account left = absurd (cc)
-    go (subject.Vendor it) e account left = absurd (cc)
-    go (subject.Module it) e account left = absurd (cc)
-    go (subject.Environment it) e account left = absurd (cc)
-    go (subject.Request it) e account left = absurd (cc)
+new_covers : (seeds : List (List ℕ)) (moment u n : ℕ) (body : List ℕ) (f : Facts) (g : Granted) → f.subject ≡ subject.Account
+    → first_broken (new_session_conditions body n) ≡ None → u ≡ account_of_claims (claims_of f.token) → g ≡ granted action.NewSession f
+    → CoversAny g (option_map change.NewSession (new_session_in seeds moment u n body))
+unfolding granted
+new_covers seeds moment u n body f g on own acts is =
+    let few = first_held (nat_lt n 999999) rule.AccountFull [] (back_held (body_conditions registration_rule registration_conditions body) ((nat_lt n 999999, rule.AccountFull) ∷ []) own) in
+    registers seeds moment u n body g (ap (λ x. x.action) is) (rw (is, on) refl) (rw (is, on, acts) refl) few
 
-cancel_covers : (owns : Owns) (session n : ℕ) (sets : Option (List SetOutcome)) (f : Facts) (g : Granted) → resource_of f.subject ≡ resource.Set session n
-    → is_within (CancelSet session n) f.subject ≡ true → Ok g ≡ decision action.CancelSet f → g ≡ granted action.CancelSet f
-    → CoversAny g (option_map (λ sets. change.CancelSet (cancelled_set session n sets)) sets)
-unfolding decision granted
-cancel_covers owns session n None f g names within decided is = tt
-cancel_covers owns session n (Some sets) f g names within decided is =
+cancel_covers : (owns : Owns) (session n : ℕ) (sets : List SetOutcome) (f : Facts) (g : Granted) → resource_of f.subject ≡ resource.Set session n
+    → (n / 100) ≡ session → Ok g ≡ decision action.CancelSet f → g ≡ granted action.CancelSet f → CoversAny g (Some (change.CancelSet (cancelled_set session n sets)))
+unfolding granted
+cancel_covers owns session n sets f g names fits decided is =
     let names : g.resource ≡ resource.Set session n = rw is names in
-    let there = cancelled_there f (held (policy action.CancelSet f) (granted action.CancelSet f) g (sym decided)) in
-    let same : ((n / 100) == session) ≡ true = fits_within (is_some (set_found f.subject)) ((n / 100) == session) within there in
     elim (owns action.CancelSet f g (sym decided) session (rw names refl)) [
-      | inl own ↦ ((ap (λ x. x.action) is, names, sym own), grind (arith, nat_tests, same))
+      | inl own ↦ ((ap (λ x. x.action) is, names, sym own), fits)
       | inr review ↦ absurd (elim review.results [ inl e ↦ cc | inr e ↦ cc ])
     ]
 
@@ -200,104 +175,76 @@ submission_covers owns seeds session n body a f g which names fits decided is s 
       ])
     ]
 
-set_covers : (owns : Owns) (seeds : List (List ℕ)) (session n : ℕ) (body : List ℕ) (it : SetWish) (f : Facts) (g : Granted) → resource_of f.subject ≡ resource.Set session n
-    → (n / 100) ≡ session → Ok g ≡ decision (action_on_set it) f → g ≡ granted (action_on_set it) f → (m : Material) → is_for_set it m ≡ true
-    → CoversAny g (set_change seeds session n body m)
-set_covers owns seeds session n body on_set.Submit f g names fits decided is (material.Submission (Some s)) for =
-    submission_covers owns seeds session n body action.Submit f g (inl refl) names fits decided is s
-set_covers owns seeds session n body on_set.Resubmit f g names fits decided is (material.Submission (Some s)) for =
-    submission_covers owns seeds session n body action.Resubmit f g (inr refl) names fits decided is s
-set_covers owns seeds session n body on_set.Read f g names fits decided is (material.Submission (Some s)) for = absurd (cc)
-set_covers owns seeds session n body on_set.Expected f g names fits decided is (material.Submission (Some s)) for = absurd (cc)
-set_covers owns seeds session n body on_set.Results f g names fits decided is (material.Submission (Some s)) for = absurd (cc)
-set_covers owns seeds session n body it f g names fits decided is (material.Submission None) for = tt
-set_covers owns seeds session n body it f g names fits decided is material.Nothing for = tt
-set_covers owns seeds session n body it f g names fits decided is (material.Counts counts) for = tt
-set_covers owns seeds session n body it f g names fits decided is (material.SessionCount sessions) for = tt
-set_covers owns seeds session n body it f g names fits decided is (material.Sets sets) for = tt
-set_covers owns seeds session n body it f g names fits decided is (material.Outcomes sets) for = tt
-set_covers owns seeds session n body it f g names fits decided is (material.Reviewers accounts) for = tt
-set_covers owns seeds session n body it f g names fits decided is (material.Source source) for = tt
-set_covers owns seeds session n body it f g names fits decided is (material.Verdicts verdicts) for = tt
-set_covers owns seeds session n body it f g names fits decided is (material.Sessions total listed) for = tt
-set_covers owns seeds session n body it f g names fits decided is (material.Object row) for = tt
-set_covers owns seeds session n body it f g names fits decided is (material.Objects total rows) for = tt
-set_covers owns seeds session n body it f g names fits decided is (material.Request row) for = tt
-set_covers owns seeds session n body it f g names fits decided is (material.Requests total rows) for = tt
-set_covers owns seeds session n body it f g names fits decided is (material.Asked asked) for = tt
+set_covers : (owns : Owns) (seeds : List (List ℕ)) (session n : ℕ) (body : List ℕ) (it : SetPlace) (f : Facts) (g : Granted) → resource_of f.subject ≡ resource.Set session n
+    → (n / 100) ≡ session → Ok g ≡ decision (action_on_set (set_wish it)) f → g ≡ granted (action_on_set (set_wish it)) f → CoversAny g (set_change seeds session n body it)
+set_covers owns seeds session n body (in_set.Made shown source) f g names fits decided is = tt
+set_covers owns seeds session n body (in_set.Verdicts verdicts) f g names fits decided is = tt
+set_covers owns seeds session n body (in_set.Submit None) f g names fits decided is = tt
+set_covers owns seeds session n body (in_set.Submit (Some s)) f g names fits decided is = submission_covers owns seeds session n body action.Submit f g (inl refl) names fits decided is s
+set_covers owns seeds session n body (in_set.Resubmit None) f g names fits decided is = tt
+set_covers owns seeds session n body (in_set.Resubmit (Some s)) f g names fits decided is = submission_covers owns seeds session n body action.Resubmit f g (inr refl) names fits decided is s
 
 -- a registration
-registration_covers : (of : RegistryOf) (u : ℕ) (body : List ℕ) (asked : Option Asked) (f : Facts) (g : Granted)
-    → first_broken (registration_conditions_on (kind_of of) body asked) ≡ None → u ≡ account_of_claims (claims_of f.token)
-    → Ok g ≡ decision (new_action of) f → g ≡ granted (new_action of) f → CoversAny g (registration_change (kind_of of) u body asked)
+registration_covers : (of : RegistryOf) (u : ℕ) (object : Result KeptObject Rule) (asked : Asked) (f : Facts) (g : Granted) → f.subject ≡ subject.Account
+    → is_of_registry (in_registry.New of object asked) ≡ true → first_broken (requested_conditions object asked) ≡ None → u ≡ account_of_claims (claims_of f.token)
+    → g ≡ granted (new_action of) f → CoversAny g (registration_change u object asked)
 unfolding granted
-registration_covers of u body None f g own acts decided is = tt
-registration_covers of u body (Some asked) f g own acts decided is =
-    let allowed = registration_allowed of f (through (new_action of) f g decided) in
-    let few = few_asked asked (back_held (registered_conditions (kind_of of) body) (asked_conditions (Some asked)) own) in
-    go f.subject refl allowed.0 few
-  where
-    go : (s : Subject) → f.subject ≡ s → is_account s ≡ true → nat_lt asked.requests 999999 ≡ true → CoversAny g (registration_change (kind_of of) u body (Some asked))
-    go subject.Account e account few = registration_covered of u body asked g (ap (λ x. x.action) is) (rw (is, e) refl) (rw (is, e, acts) refl) few
-    go (subject.Login it) e account few = absurd (cc)
-    go (subject.Algorithm it) e account few = absurd (cc)
-    go (subject.Session it) e account few = absurd (cc)
-    go (subject.Set it) e account few = absurd (cc)
-    go (subject.Reviewer it) e account few = absurd (cc)
-    go (subject.Vendor it) e account few = absurd (cc)
-    go (subject.Module it) e account few = absurd (cc)
-    go (subject.Environment it) e account few = absurd (cc)
-    go (subject.Request it) e account few = absurd (cc)
+registration_covers of u (Err broken) asked f g on kind own acts is = tt
+registration_covers of u (Ok object) asked f g on kind own acts is =
+    registration_covered of u object asked g kind (ap (λ x. x.action) is) (rw (is, on) refl) (rw (is, on, acts) refl) (few_asked asked own)
 
 -- a certification
-certify_covers : (owns : Owns) (u n : ℕ) (body : List ℕ) (asked : Option Asked) (f : Facts) (g : Granted) → resource_of f.subject ≡ resource.Session n
-    → first_broken (certification_conditions_on body asked) ≡ None → u ≡ account_of_claims (claims_of f.token)
-    → Ok g ≡ decision action.Certify f → g ≡ granted action.Certify f → CoversAny g (certification_change u n body asked)
+certify_covers : (owns : Owns) (u n : ℕ) (parts : Result CertifyBody Rule) (asked : Asked) (f : Facts) (g : Granted) → resource_of f.subject ≡ resource.Session n
+    → first_broken (requested_conditions parts asked) ≡ None → u ≡ account_of_claims (claims_of f.token)
+    → Ok g ≡ decision action.Certify f → g ≡ granted action.Certify f → CoversAny g (certification_change u n parts asked)
 unfolding granted
-certify_covers owns u n body None f g names own acts decided is = tt
-certify_covers owns u n body (Some asked) f g names own acts decided is =
+certify_covers owns u n (Err broken) asked f g names own acts decided is = tt
+certify_covers owns u n (Ok parts) asked f g names own acts decided is =
     let on_it : g.resource ≡ resource.Session n = rw is names in
-    let few = few_asked asked (back_held (certified_conditions body) (asked_conditions (Some asked)) own) in
     elim (owns action.Certify f g (sym decided) n (rw on_it refl)) [
-      | inl mine ↦ certification_covered u n body asked g (ap (λ x. x.action) is) on_it
-          (sym mine ∙ certification_owned f n names (through action.Certify f g decided) ∙ sym acts) (sym mine) few
+      | inl mine ↦ certification_covered u n parts asked g (ap (λ x. x.action) is) on_it
+          (sym mine ∙ certification_owned f n names (through action.Certify f g decided) ∙ sym acts) (sym mine) (few_asked asked own)
       | inr review ↦ absurd (elim review.results [ inl e ↦ cc | inr e ↦ cc ])
     ]
 
 -- the number of a set that is there names its session
-fits_there : (session n : ℕ) (s : Subject) → is_some (set_found s) ≡ true → (not (is_some (set_found s)) || ((n / 100) == session)) ≡ true → (n / 100) ≡ session
-fits_there session n s there within =
+fits_there : (session n : ℕ) (found : Option SetFacts) → is_some found ≡ true → (not (is_some found) || ((n / 100) == session)) ≡ true → (n / 100) ≡ session
+fits_there session n found there within =
     let same : ((n / 100) == session) ≡ true = rw there at within in
     grind (arith, nat_tests, same)
 
-wish_covers : (owns : Owns) (keys : Keys) (moment u : ℕ) (r : RequestValue) (found : Found) (it : Wish) (f : Facts) (g : Granted) → resource_of f.subject ≡ resource_of (unfound it)
-    → is_for it found.material ≡ true → is_within it f.subject ≡ true → first_broken (wish_conditions keys.seed r found it) ≡ None → u ≡ account_of_claims (claims_of f.token) → Ok g ≡ decision (action_of_wish it) f → g ≡ granted (action_of_wish it) f → CoversAny g (wish_change keys.seed moment u r found it)
-wish_covers owns keys moment u r found (Account it) f g names for within own acts decided is = tt
-wish_covers owns keys moment u r found (Algorithm n) f g names for within own acts decided is = tt
-wish_covers owns keys moment u r found (Session n it) f g names for within own acts decided is = session_covers owns n r it f g names decided is
-wish_covers owns keys moment u r found (Reviewer n m) f g names for within own acts decided is = reviewer_covers owns n m f g names decided is
-wish_covers owns keys moment u r found (Set session n it) f g names for within own acts decided is =
-    set_covers owns keys.seed session n r.body it f g names (fits_there session n f.subject (set_there it f (through (action_on_set it) f g decided)) within) decided is found.material for
-wish_covers owns keys moment u r found NewSession f g names for within own acts decided is = new_covers keys.seed moment u r found f g own acts decided is
-wish_covers owns keys moment u r found (CancelSet session n) f g names for within own acts decided is = cancel_covers owns session n (outcomes_in_material found.material) f g names within decided is
-wish_covers owns keys moment u r found (ListSessions page) f g names for within own acts decided is = tt
-wish_covers owns keys moment u r found (Certify n) f g names for within own acts decided is = certify_covers owns u n r.body (asked_in found.material) f g names own acts decided is
-wish_covers owns keys moment u r found (Registry (on_registry.New of)) f g names for within own acts decided is =
-    registration_covers of u r.body (asked_in found.material) f g own acts decided is
-wish_covers owns keys moment u r found (Registry (on_registry.Read of n)) f g names for within own acts decided is = tt
-wish_covers owns keys moment u r found (Registry (on_registry.List of page)) f g names for within own acts decided is = tt
-wish_covers owns keys moment u r found (Registry (on_registry.ReadRequest n)) f g names for within own acts decided is = tt
-wish_covers owns keys moment u r found (Registry (on_registry.ListRequests page)) f g names for within own acts decided is = tt
+place_covers : (owns : Owns) (keys : Keys) (moment u : ℕ) (body : List ℕ) (it : Place) (f : Facts) (g : Granted) → f.subject ≡ subject_at it → is_within it ≡ true
+    → first_broken (place_conditions keys.seed body it) ≡ None → u ≡ account_of_claims (claims_of f.token) → Ok g ≡ decision (action_at it) f → g ≡ granted (action_at it) f
+    → CoversAny g (place_change keys.seed moment u body it)
+place_covers owns keys moment u body (place.Account counts) f g on within own acts decided is = tt
+place_covers owns keys moment u body place.Algorithms f g on within own acts decided is = tt
+place_covers owns keys moment u body (place.Algorithm n) f g on within own acts decided is = tt
+place_covers owns keys moment u body (place.Session n found it) f g on within own acts decided is = session_covers owns n body it f g (ap resource_of on) decided is
+place_covers owns keys moment u body (place.Reviewer n m found accounts) f g on within own acts decided is = reviewer_covers owns n m f g (ap resource_of on) decided is
+place_covers owns keys moment u body (place.NewSession sessions) f g on within own acts decided is = new_covers keys.seed moment u sessions body f g on own acts is
+place_covers owns keys moment u body (place.Set session n found it) f g on within own acts decided is =
+    let there : is_some found ≡ true = rw on at (set_there (set_wish it) f (through (action_on_set (set_wish it)) f g decided)) in
+    set_covers owns keys.seed session n body it f g (ap resource_of on) (fits_there session n found there within) decided is
+place_covers owns keys moment u body (place.CancelSet session n found sets) f g on within own acts decided is =
+    let there : is_some found ≡ true = rw on at (cancelled_there f (through action.CancelSet f g decided)) in
+    cancel_covers owns session n sets f g (ap resource_of on) (fits_there session n found there within) decided is
+place_covers owns keys moment u body (place.Sessions found) f g on within own acts decided is = tt
+place_covers owns keys moment u body (place.Certify n found parts asked) f g on within own acts decided is = certify_covers owns u n parts asked f g (ap resource_of on) own acts decided is
+place_covers owns keys moment u body (place.Registry (in_registry.New of object asked)) f g on within own acts decided is = registration_covers of u object asked f g on within own acts is
+place_covers owns keys moment u body (place.Registry (in_registry.Object of n row)) f g on within own acts decided is = tt
+place_covers owns keys moment u body (place.Registry (in_registry.Objects of found)) f g on within own acts decided is = tt
+place_covers owns keys moment u body (place.Registry (in_registry.Request n row)) f g on within own acts decided is = tt
+place_covers owns keys moment u body (place.Registry (in_registry.Requests found)) f g on within own acts decided is = tt
 
-pub covers : (owns : Owns) (keys : Keys) (moment : ℕ) (r : RequestValue) (it : Asker) (found : Found) (g : Granted) → IsOf it found
-    → first_broken (own_conditions keys.seed r it found) ≡ None → Ok g ≡ decision (action_of it) (facts_from moment it found) → g ≡ granted (action_of it) (facts_from moment it found)
-    → CoversAny g (change_of keys moment r it found)
-covers owns keys moment r (Login login) found g of own decided is = rw is (login_covers keys moment r login found)
-covers owns keys moment r (Caller caller) found g of own decided is =
-    wish_covers owns keys moment (account_of_claims (claims_of caller.token)) r found caller.wish (facts_from moment (Caller caller) found) g of.0 of.1 of.2 own refl decided is
+pub covers : (owns : Owns) (keys : Keys) (moment : ℕ) (body : List ℕ) (it : Found) (g : Granted) → is_fit it ≡ true
+    → first_broken (own_conditions keys.seed body it) ≡ None → Ok g ≡ decision (action_in it) (facts_in moment it) → g ≡ granted (action_in it) (facts_in moment it)
+    → CoversAny g (change_of keys moment body it)
+covers owns keys moment body (found.Login login account) g fit own decided is = rw is (login_covers moment login account)
+covers owns keys moment body (found.Caller it) g fit own decided is =
+    place_covers owns keys moment (account_of_claims (claims_of it.token)) body it.place (facts_in moment (found.Caller it)) g refl fit own refl decided is
 
-pub covered_by : (owns : Owns) (keys : Keys) (moment : ℕ) (r : RequestValue) (it : Asker) (found : Found) (a : Action) (f : Facts) (g : Granted) (made : Option Change)
-    → IsOf it found → first_broken (own_conditions keys.seed r it found) ≡ None → a ≡ action_of it → f ≡ facts_from moment it found → Ok g ≡ decision a f → g ≡ granted a f → made ≡ change_of keys moment r it found
-    → CoversAny g made
-covered_by owns keys moment r it found a f g made of own a_is f_is decided is makes =
-    rw makes (covers owns keys moment r it found g of own (rw (← a_is, ← f_is) decided) (rw (← a_is, ← f_is) is))
+pub covered_by : (owns : Owns) (keys : Keys) (moment : ℕ) (body : List ℕ) (it : Found) (a : Action) (f : Facts) (g : Granted) (made : Option Change)
+    → is_fit it ≡ true → first_broken (own_conditions keys.seed body it) ≡ None → a ≡ action_in it → f ≡ facts_in moment it → Ok g ≡ decision a f → g ≡ granted a f
+    → made ≡ change_of keys moment body it → CoversAny g made
+covered_by owns keys moment body it a f g made fit own a_is f_is decided is makes =
+    rw makes (covers owns keys moment body it g fit own (rw (← a_is, ← f_is) decided) (rw (← a_is, ← f_is) is))

@@ -3,7 +3,7 @@
 use Rattle.std.proofs.Common.{◌≡◌, ℕ, ◌/◌, List, true, false, ◌==◌, Option, None, Some, refl}
 use Rattle.std.specs.Prelude.{if◌then◌else◌, option_and_then}
 use Rattle.acvp_tables.specs.State.{State, SetRecord, set_record_at, IsWellNumbered}
-use Rattle.acvp_desk.specs.Sets.{if_live_in, no_set_material, set_in_session, set_material, submission_for}
+use Rattle.acvp_desk.specs.Sets.{if_live_in, no_set_place, set_in_session, set_place, submission_for}
 use Rattle.acvp_desk.specs.declared.wish.SetWish.{SetWish}
 use Rattle.acvp_desk.specs.declared.wish.SetWish.TheVariants as on_set
 
@@ -39,11 +39,11 @@ module _ (names : (n : ℕ) (state : State) (row : SetRecord) → IsWellNumbered
       go (Some row) is = let of : row.session ≡ n / 100 = names n state row well is in rw (of, apart) refl
 
   -- what is read of a vector set that isn't of the session
-  pub no_material : (seeds : List (List ℕ)) (session n : ℕ) (state : State) (it : SetWish) → IsWellNumbered state → ((n / 100) == session) ≡ false
-      → no_set_material it ≡ set_material seeds session n state.sets it
+  pub no_place : (seeds : List (List ℕ)) (session n : ℕ) (state : State) (it : SetWish) → IsWellNumbered state → ((n / 100) == session) ≡ false
+      → no_set_place it ≡ set_place seeds session n state.sets it
   unfolding submission_for
-  no_material seeds session n state on_set.Read well apart = rw (no_set_in session n state well apart) refl
-  no_material seeds session n state on_set.Expected well apart = rw (no_set_in session n state well apart) refl
-  no_material seeds session n state on_set.Results well apart = rw (no_set_in session n state well apart) refl
-  no_material seeds session n state on_set.Submit well apart = rw (none_live session n state well apart) refl
-  no_material seeds session n state on_set.Resubmit well apart = rw (none_live session n state well apart) refl
+  no_place seeds session n state on_set.Read well apart = rw (no_set_in session n state well apart) refl
+  no_place seeds session n state on_set.Expected well apart = rw (no_set_in session n state well apart) refl
+  no_place seeds session n state on_set.Results well apart = rw (no_set_in session n state well apart) refl
+  no_place seeds session n state on_set.Submit well apart = rw (none_live session n state well apart) refl
+  no_place seeds session n state on_set.Resubmit well apart = rw (none_live session n state well apart) refl

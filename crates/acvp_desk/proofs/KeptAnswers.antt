@@ -11,10 +11,10 @@ use Rattle.acvp_policy.specs.Conditions.{is_some_and}
 use Rattle.acvp_policy.specs.declared.facts.SessionFacts.{SessionFacts}
 use Rattle.acvp_tables.specs.Changes.{after, changed, is_set, with_graded}
 use Rattle.acvp_tables.specs.Content.{Content, is_live_in, live_sets, session_at, set_at, set_summary}
-use Rattle.acvp_tables.specs.Counted.{AreThere, IsCounted, IsNextCount, is_counted, is_passed, is_passed_in, has_passed, one_if, passed_count}
+use Rattle.acvp_tables.specs.Counted.{AreThere, IsCounted, IsNextCount, is_counted, is_passed, is_passed_in, answers_passed, one_if, passed_count}
 use Rattle.acvp_tables.specs.Graded.{GradedValue}
 use Rattle.acvp_tables.specs.Next.{IsNext}
-use Rattle.acvp_tables.specs.State.{State, SetRecord, state_of, session_record, session_record_at, set_record, set_record_at, live_records, IsSound, IsWellNumbered}
+use Rattle.acvp_tables.specs.State.{State, SetRecord, state_of, session_record, session_record_at, set_record, set_record_at, live_records, AreWellNumbered, IsWellNumbered}
 use Rattle.acvp_tables.specs.StateChanges.{after_state}
 use Rattle.acvp_tables.specs.declared.change.Change.{Change}
 use Rattle.acvp_tables.specs.declared.change.Change.TheVariants as change
@@ -26,10 +26,9 @@ use Rattle.acvp_desk.specs.Kept.{IsGradedSet, IsKept}
 use Rattle.acvp_desk.specs.Answer.{content_after}
 use Rattle.acvp_desk.specs.Place.{facts_of_session, session_facts}
 use Rattle.acvp_desk.specs.Private.SetRows.{source_with}
-use Rattle.acvp_desk.specs.Replies.{answers_change, prompts_from, set_change}
+use Rattle.acvp_desk.specs.Replies.{answers_change, prompts_from, submission_change}
 use Rattle.acvp_desk.specs.Sets.{if_live_in, others_passed, set_facts, set_passes, source_of, submission_for, submission_to}
 use Rattle.acvp_desk.specs.Submissions.{answers_at, graded_on, kept_answers}
-use Rattle.acvp_desk.specs.declared.found.Material.TheVariants as material
 use Rattle.acvp_desk.specs.declared.found.SetSource.{SetSource}
 use Rattle.acvp_desk.specs.declared.found.Submission.{Submission}
 use Rattle.acvp_desk.proofs.PassedSession.{found_holds, graded_passes, passed_is}
@@ -113,12 +112,12 @@ parts : (seeds : List (List ℕ)) (session n : ℕ) (sets : List SetRow) → All
     → passed_count session sets ≡ length (filter (beside seeds n) (map set_record (live_sets session sets))) + length (filter (λ row. is_set n row && is_passed_in session row) sets)
 parts seeds session n [] graded = refl
 parts seeds session n (row ∷ sets) graded =
-    go (is_live_in session row) (has_passed row.graded) (row.number == n) refl refl refl
+    go (is_live_in session row) (answers_passed row.graded) (row.number == n) refl refl refl
     (graded_passes seeds row (All-head (IsGradedSet seeds) row sets graded))
     (parts seeds session n sets (All-tail (IsGradedSet seeds) row sets graded))
   where
-    go : (live pass this : Bool) → is_live_in session row ≡ live → has_passed row.graded ≡ pass → (row.number == n) ≡ this
-        → has_passed row.graded ≡ set_passes seeds (set_record row)
+    go : (live pass this : Bool) → is_live_in session row ≡ live → answers_passed row.graded ≡ pass → (row.number == n) ≡ this
+        → answers_passed row.graded ≡ set_passes seeds (set_record row)
         → passed_count session sets ≡ length (filter (beside seeds n) (map set_record (live_sets session sets))) + length (filter (λ row. is_set n row && is_passed_in session row) sets)
         → passed_count session (row ∷ sets)
         ≡ length (filter (beside seeds n) (map set_record (live_sets session (row ∷ sets)))) + length (filter (λ row. is_set n row && is_passed_in session row) (row ∷ sets))
@@ -129,11 +128,11 @@ parts seeds session n (row ∷ sets) graded =
     go false pass true live is this passes later = rw (live, this) later
     go false pass false live is this passes later = rw (live, this) later
 
-module _ (once : (n : ℕ) (c : Content) → IsSound c → length (filter (is_set n) c.sets) ≤ 1)
+module _ (once : (n : ℕ) (c : Content) → AreWellNumbered c → length (filter (is_set n) c.sets) ≤ 1)
     (sets : (s : ℕ) (c : Content) → live_records s (state_of c).sets ≡ map set_record (live_sets s c.sets)) where
   -- the counter that is kept counts the others, and this set where it has passed
   pub others_are : (seeds : List (List ℕ)) (session n : ℕ) (c : Content) → IsKept seeds c → (there : AreThere session n c)
-      → others_passed seeds session n (state_of c).sets + one_if (has_passed there.set_row.graded) ≡ there.row.passed
+      → others_passed seeds session n (state_of c).sets + one_if (answers_passed there.set_row.graded) ≡ there.row.passed
   others_are seeds session n c kept there =
       let row = there.row in
       let set = there.set_row in
@@ -145,7 +144,7 @@ module _ (once : (n : ℕ) (c : Content) → IsSound c → length (filter (is_se
       let split = parts seeds session n c.sets kept.graded in
       let one : length (filter (λ row. is_set n row && is_passed_in session row) c.sets) ≡ one_if (is_passed_in session set)
       = one_both (is_set n) (is_passed_in session) c.sets set (once n c kept.sound) there.has_set in
-      let same : is_passed_in session set ≡ has_passed set.graded = rw (there.live) refl in
+      let same : is_passed_in session set ≡ answers_passed set.graded = rw (there.live) refl in
       rw (sets session c) (omega (arith, passed', split, rw same at one))
 
   -- ---- what is read
@@ -191,7 +190,7 @@ module _ (once : (n : ℕ) (c : Content) → IsSound c → length (filter (is_se
             let live' : ((row.session == session) && not row.cancelled) ≡ true = rw same at live in
             let all = others_are seeds session n c kept (record { row = srow; set_row = row; has_session = sym there; has_set = at; live = live' }) in
             let passed : others + one_if (is_some_and (option_map (λ (g : GradedValue). g.disposition) row.graded) is_passed) ≡ srow.passed = rw same at counted in
-            let passed' : others + one_if (has_passed row.graded) ≡ srow.passed = rw (passed_is row.graded) passed in
+            let passed' : others + one_if (answers_passed row.graded) ≡ srow.passed = rw (passed_is row.graded) passed in
             let is : others ≡ others_passed seeds session n (state_of c).sets = omega (arith, all, passed') in
             rw (live', made, same, is) refl
 
@@ -214,16 +213,16 @@ rightly_graded seeds n row prompts answers named right made =
     let is : prompts_of right.0 n row.capability ≡ prompts = cc in
     (right.0, right.1, record { verdicts = rw named (rw (← is) refl); disposition = refl })
 
-module _ (once : (n : ℕ) (c : Content) → IsSound c → length (filter (is_set n) c.sets) ≤ 1)
+module _ (once : (n : ℕ) (c : Content) → AreWellNumbered c → length (filter (is_set n) c.sets) ≤ 1)
     (sets : (s : ℕ) (c : Content) → live_records s (state_of c).sets ≡ map set_record (live_sets s c.sets))
     (follows : (n : ℕ) (c : Content) → set_record_at n (state_of c).sets ≡ option_map set_record (set_at n c.sets))
     (session_follows : (n : ℕ) (c : Content) → session_record_at n (state_of c).sessions ≡ option_map session_record (session_at n c.sessions))
     (names : (n : ℕ) (state : State) (row : SetRecord) → IsWellNumbered state → set_record_at n state.sets ≡ Some row → row.session ≡ n / 100)
     (changes : (c : Content) (it : Change) → state_of (after it c) ≡ after_state it (state_of c))
     (numbers : (it : Change) (state : State) → IsWellNumbered state → IsNext state it → IsWellNumbered (after_state it state))
-    (counts : (it : Change) (c : Content) → IsSound c → IsNext (state_of c) it → IsNextCount c it → IsCounted c → IsCounted (after it c))
-    (differ : (k : KeptAnswers) (c : Content) → IsSound c → IsCounted c → (there : AreThere k.session k.set c)
-    → k.passed + one_if (has_passed there.set_row.graded) ≡ there.row.passed + one_if (is_passed k.graded.disposition) → IsNextCount c (change.KeepAnswers k))
+    (counts : (it : Change) (c : Content) → AreWellNumbered c → IsNext (state_of c) it → IsNextCount c it → IsCounted c → IsCounted (after it c))
+    (differ : (k : KeptAnswers) (c : Content) → AreWellNumbered c → IsCounted c → (there : AreThere k.session k.set c)
+    → k.passed + one_if (answers_passed there.set_row.graded) ≡ there.row.passed + one_if (is_passed k.graded.disposition) → IsNextCount c (change.KeepAnswers k))
     (seeds : List (List ℕ)) (session n : ℕ) (c : Content) (kept : IsKept seeds c) where
   -- with answers that are graded by the set's prompts, and counted with the other sets of the session
   answers_kept : (there : AreThere session n c) (others : ℕ) (prompts : PromptsValue) (answers : List Answer) → others ≡ others_passed seeds session n (state_of c).sets
@@ -293,10 +292,10 @@ module _ (once : (n : ℕ) (c : Content) → IsSound c → length (filter (is_se
           on false live = absurd (let e = rw live at e in cc)
 
   pub submitted_kept : (body : List ℕ) → is_some (set_facts (session_facts seeds (state_of c) session) session n (state_of c).sets) ≡ true
-      → IsKept seeds (content_after (set_change seeds session n body (material.Submission (submission_for seeds session n (state_of c).sets))) c)
+      → IsKept seeds (content_after (option_and_then (submission_change seeds session n body) (submission_for seeds session n (state_of c).sets)) c)
   submitted_kept body there = go (submission_for seeds session n (state_of c).sets) refl
     where
-      go : (s : Option Submission) → submission_for seeds session n (state_of c).sets ≡ s → IsKept seeds (content_after (set_change seeds session n body (material.Submission s)) c)
+      go : (s : Option Submission) → submission_for seeds session n (state_of c).sets ≡ s → IsKept seeds (content_after (option_and_then (submission_change seeds session n body) s) c)
       go None e = kept
       go (Some s) e = by_prompts (prompts_from seeds n s.source) refl
         where

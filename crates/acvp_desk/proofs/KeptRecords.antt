@@ -17,9 +17,9 @@ use Rattle.acvp_answers.specs.declared.verdict.Verdict.{Verdict}
 use Rattle.acvp_tables.specs.Changes.{after, after_order, is_set}
 use Rattle.acvp_tables.specs.StateChanges.{after_state, after_order_state}
 use Rattle.acvp_tables.specs.Content.{Content, account_at, object_at, objects_of, request_at, is_reviewer, live_sets, reviewers_of, session_at, set_at}
-use Rattle.acvp_tables.specs.Counted.{IsCounted, IsNextCount, AreThere, has_passed, is_passed, one_if}
+use Rattle.acvp_tables.specs.Counted.{IsCounted, IsNextCount, AreThere, answers_passed, is_passed, one_if}
 use Rattle.acvp_tables.specs.Next.{IsNext, IsNextFor, IsNextOrder}
-use Rattle.acvp_tables.specs.State.{State, state_of, objects_in, own, owner_of, session_record_at, record_counts, IsWellNumbered, IsSound, SetRecord, set_record, set_record_at, live_records, session_record}
+use Rattle.acvp_tables.specs.State.{State, state_of, objects_in, own, owner_of, session_record_at, record_counts, IsWellNumbered, AreWellNumbered, SetRecord, set_record, set_record_at, live_records, session_record}
 use Rattle.acvp_tables.specs.declared.change.Change.{Change}
 use Rattle.acvp_tables.specs.declared.change.Change.TheVariants as change
 use Rattle.acvp_tables.specs.declared.change.OrderChange.{OrderChange}
@@ -28,11 +28,11 @@ use Rattle.acvp_tables.specs.declared.change.KeptAnswers.{KeptAnswers}
 use Rattle.acvp_tables.specs.declared.change.UsedStep.{UsedStep}
 use Rattle.acvp_tables.specs.declared.rows.AccountRow.{AccountRow}
 use Rattle.acvp_tables.specs.declared.rows.ReviewerRow.{ReviewerRow}
-use Rattle.acvp_desk.specs.Answer.{account_found, answer, asker_of, end_of_moments, facts_from, standing_of, found_of, later_of, policy_conditions, accepted_change, change_by, change_on, content_after, content_effect, state_after, effect}
+use Rattle.acvp_desk.specs.Answer.{account_found, answer, asker_of, end_of_moments, facts_in, standing_of, found_of, later_of, own_conditions, policy_conditions, accepted_change, change_by, change_on, content_after, content_effect, state_after, effect}
 use Rattle.acvp_desk.specs.Bodies.{body_conditions, registration_rule, rule_of}
-use Rattle.acvp_desk.specs.NewSessions.{sessions_in_material, has_number_left, new_session_in, newest_epoch, registration_in, session_made}
+use Rattle.acvp_desk.specs.NewSessions.{new_session_in, newest_epoch, registration_in, session_made}
 use Rattle.acvp_desk.specs.Kept.{IsKept}
-use Rattle.acvp_desk.specs.Login.{step_of}
+use Rattle.acvp_desk.specs.Login.{login_step}
 use Rattle.acvp_tables.specs.declared.rows.RequestRow.{RequestRow}
 use Rattle.acvp_desk.proofs.DecidedRequest.{approved_next, rejected_next}
 use Rattle.acvp_desk.specs.Orders.{approval, waiting_request, IsOrder, HasSecret, has_account, order_change as change_for, content_after_order, content_order_effect, state_after_order, order_effect}
@@ -45,27 +45,26 @@ use Rattle.acvp_desk.specs.declared.wish.Wish.TheVariants.{Account, Algorithm, S
 use Rattle.acvp_desk.specs.declared.wish.Registry.{Registry as RegistryOf}
 use Rattle.acvp_desk.specs.declared.wish.RegistryWish.{RegistryWish}
 use Rattle.acvp_desk.specs.declared.wish.RegistryWish.TheVariants as on_registry
-use Rattle.acvp_desk.specs.Asked.{asked_conditions, asked_in, certification_asked, certification_change, certification_conditions_on, certification_made, certified_conditions, certified_in, object_in, registered_conditions, registration_asked, registration_change, registration_conditions_on, request_made}
+use Rattle.acvp_desk.specs.Asked.{requested_conditions, certification_asked, certification_change, certification_made, certified_in, object_in, registration_asked, registration_change, request_made}
 use Rattle.acvp_desk.specs.Registries.{action_on_registry, kind_of}
 use Rattle.acvp_json.specs.declared.certify_body.CertifyBody.{CertifyBody}
 use Rattle.acvp_policy.specs.Resource.{resource_of}
 use Rattle.acvp_registry.specs.Object.{KeptObject}
 use Rattle.acvp_registry.specs.declared.kind.Kind.{Kind}
 use Rattle.acvp_tables.specs.declared.rows.ObjectRow.{ObjectRow}
-use Rattle.acvp_desk.specs.OwnConditions.{registry_conditions, session_conditions, wish_conditions}
-use Rattle.acvp_desk.specs.Place.{registry_material, session_facts, set_outcomes, session_material, subject_of, material_of, reviewers_in_material}
-use Rattle.acvp_desk.specs.Replies.{cancelled_set, registry_change, session_change, wish_change, set_change}
+use Rattle.acvp_desk.specs.OwnConditions.{new_session_conditions, place_conditions, registry_conditions, session_conditions}
+use Rattle.acvp_desk.specs.Place.{place_of, registry_place, session_facts, session_place, set_outcomes, subject_at}
+use Rattle.acvp_desk.specs.Replies.{cancelled_set, place_change, registry_change, session_change, set_change}
 use Rattle.acvp_desk.specs.Reviewers.{reviewer_at, has_room}
-use Rattle.acvp_desk.specs.Sets.{results_material, set_facts, set_material, set_source, verdicts_in_session}
+use Rattle.acvp_desk.specs.Sets.{results_place, set_facts, set_place, set_source, verdicts_in_session}
 use Rattle.acvp_desk.specs.Wish.{action_of_wish, action_on_session, action_on_set}
-use Rattle.acvp_desk.specs.declared.found.Material.{Material}
+use Rattle.acvp_desk.specs.declared.wish.AccountWish.TheVariants as on_account
 use Rattle.acvp_desk.specs.declared.wish.SetWish.{SetWish}
 use Rattle.acvp_desk.specs.declared.wish.SetWish.TheVariants as on_set
 use Rattle.acvp_desk.specs.declared.ask.LoginAsk.{LoginAsk}
-use Rattle.acvp_desk.specs.declared.found.Found.{Found}
-use Rattle.acvp_desk.specs.declared.found.Material.TheVariants as material
 use Rattle.acvp_desk.specs.declared.wish.CallerAsk.{CallerAsk}
 use Rattle.acvp_token.specs.declared.Claims.{Claims}
+use Rattle.acvp_desk.specs.declared.found.Asked.{Asked}
 use Rattle.acvp_desk.specs.declared.keys.Keys.{Keys}
 use Rattle.acvp_desk.specs.declared.order.Order.{Order}
 use Rattle.acvp_desk.specs.declared.order.Order.TheVariants as order
@@ -78,6 +77,7 @@ use Rattle.acvp_desk.proofs.FirstBroken.{back_held, first_held, whole_held}
 use Rattle.acvp_desk.proofs.NextSession.{next_session, number_of, sets_graded}
 use Rattle.acvp_desk.proofs.NextReviewer.{next_reviewer}
 use Rattle.acvp_desk.proofs.KeptAnswers.{submitted_kept}
+use Rattle.acvp_desk.proofs.Wishes.{wish_asked}
 
 -- ---- the records follow
 
@@ -101,20 +101,20 @@ module _ (follows : (c : Content) (it : OrderChange) → state_of (after_order i
 
 module _ (follows : (c : Content) (it : Change) → state_of (after it c) ≡ after_state it (state_of c))
     (numbers : (it : Change) (state : State) → IsWellNumbered state → IsNext state it → IsWellNumbered (after_state it state))
-    (counts : (it : Change) (c : Content) → IsSound c → IsNext (state_of c) it → IsNextCount c it → IsCounted c → IsCounted (after it c))
+    (counts : (it : Change) (c : Content) → AreWellNumbered c → IsNext (state_of c) it → IsNextCount c it → IsCounted c → IsCounted (after it c))
     (accounts : (u n : ℕ) (state : State) → account_at n (own u state).accounts ≡ (if n == u then account_at n state.accounts else None))
     (sessions : (u n : ℕ) (state : State) → IsWellNumbered state → session_record_at n (own u state).sessions ≡ (if owner_of n == u then session_record_at n state.sessions else None))
     (reviews : (u s a : ℕ) (state : State) → is_reviewer s a (own u state).reviewers ≡ ((owner_of s == u) && is_reviewer s a state.reviewers))
     (counted : (s : ℕ) (state : State) → IsWellNumbered state → length (reviewers_of s state.reviewers) ≡ length (filter (λ row. row.session == s) state.reviewers))
-    (once : (n : ℕ) (c : Content) → IsSound c → length (filter (is_set n) c.sets) ≤ 1)
+    (once : (n : ℕ) (c : Content) → AreWellNumbered c → length (filter (is_set n) c.sets) ≤ 1)
     (live : (s : ℕ) (c : Content) → live_records s (state_of c).sets ≡ map set_record (live_sets s c.sets))
     (set_follows : (n : ℕ) (c : Content) → set_record_at n (state_of c).sets ≡ option_map set_record (set_at n c.sets))
     (session_follows : (n : ℕ) (c : Content) → session_record_at n (state_of c).sessions ≡ option_map session_record (session_at n c.sessions))
     (objects : (u n : ℕ) (kind : Kind) (state : State) → IsWellNumbered state → object_at kind n (own u state).objects ≡ (if owner_of n == u then object_at kind n state.objects else None))
     (names_object : (n : ℕ) (kind : Kind) (state : State) (row : ObjectRow) → IsWellNumbered state → object_at kind n state.objects ≡ Some row → row.account ≡ owner_of n)
     (names_set : (n : ℕ) (state : State) (row : SetRecord) → IsWellNumbered state → set_record_at n state.sets ≡ Some row → row.session ≡ n / 100)
-    (differ : (k : KeptAnswers) (c : Content) → IsSound c → IsCounted c → (there : AreThere k.session k.set c)
-    → k.passed + one_if (has_passed there.set_row.graded) ≡ there.row.passed + one_if (is_passed k.graded.disposition) → IsNextCount c (change.KeepAnswers k)) where
+    (differ : (k : KeptAnswers) (c : Content) → AreWellNumbered c → IsCounted c → (there : AreThere k.session k.set c)
+    → k.passed + one_if (answers_passed there.set_row.graded) ≡ there.row.passed + one_if (is_passed k.graded.disposition) → IsNextCount c (change.KeepAnswers k)) where
   -- where the vector sets stay
   simply_kept : (seeds : List (List ℕ)) (it : Change) (c : Content) → (after it c).sets ≡ c.sets → IsNext (state_of c) it → IsNextCount c it
       → IsKept seeds c → IsKept seeds (after it c)
@@ -135,9 +135,9 @@ module _ (follows : (c : Content) (it : Change) → state_of (after it c) ≡ af
   login_kept seeds c row (Some step) kept = step_kept seeds (record { account = row.number; step = step }) c kept
 
   found_kept : (seeds : List (List ℕ)) (m : ℕ) (login : LoginAsk) (c : Content) (account : Option AccountRow) → IsKept seeds c
-      → IsKept seeds (content_after (option_and_then (λ row. option_map (λ step. change.UseStep (record { account = row.number; step = step })) (step_of m login row)) account) c)
+      → IsKept seeds (content_after (option_and_then (λ row. option_map (λ step. change.UseStep (record { account = row.number; step = step })) (login_step m login row)) account) c)
   found_kept seeds m login c None kept = kept
-  found_kept seeds m login c (Some row) kept = login_kept seeds c row (step_of m login row) kept
+  found_kept seeds m login c (Some row) kept = login_kept seeds c row (login_step m login row) kept
 
   -- where a session is cancelled
   cancelled_kept : (seeds : List (List ℕ)) (n : ℕ) (c : Content) → IsKept seeds c → IsKept seeds (after (change.CancelSession n) c)
@@ -154,52 +154,51 @@ module _ (follows : (c : Content) (it : Change) → state_of (after it c) ≡ af
   unfolding after
   removed_kept seeds r c kept = simply_kept seeds (change.RemoveReviewer r) c refl (tt, tt) tt kept
 
-  session_kept : (seeds : List (List ℕ)) (n : ℕ) (r : RequestValue) (f : Facts) (found : Found) (it : SessionWish) (c : Content)
-      → session_found f.subject ≡ session_facts seeds (state_of c) n → found.material ≡ session_material seeds n (state_of c) it
-      → first_broken (policy (action_on_session it) f) ≡ None → first_broken (session_conditions r found it) ≡ None
-      → IsKept seeds c → IsKept seeds (content_after (session_change n r it) c)
-  session_kept seeds n r f found Read c names shows allowed held kept = kept
-  session_kept seeds n r f found Cancel c names shows allowed held kept = cancelled_kept seeds n c kept
-  session_kept seeds n r f found Results c names shows allowed held kept = kept
-  session_kept seeds n r f found ListSets c names shows allowed held kept = kept
-  session_kept seeds n r f found ListReviewers c names shows allowed held kept = kept
-  session_kept seeds n r f found AddReviewer c names shows allowed held kept = go (reviewer_at r.body) refl
+  session_kept : (seeds : List (List ℕ)) (n : ℕ) (body : List ℕ) (f : Facts) (it : SessionWish) (c : Content)
+      → session_found f.subject ≡ session_facts seeds (state_of c) n
+      → first_broken (policy (action_on_session it) f) ≡ None → first_broken (session_conditions body (session_place seeds n (state_of c) it)) ≡ None
+      → IsKept seeds c → IsKept seeds (content_after (session_change n body (session_place seeds n (state_of c) it)) c)
+  session_kept seeds n body f Read c names allowed held kept = kept
+  session_kept seeds n body f Cancel c names allowed held kept = cancelled_kept seeds n c kept
+  session_kept seeds n body f Results c names allowed held kept = kept
+  session_kept seeds n body f ListSets c names allowed held kept = kept
+  session_kept seeds n body f ListReviewers c names allowed held kept = kept
+  session_kept seeds n body f AddReviewer c names allowed held kept = go (reviewer_at body) refl
     where
-      room : has_room (reviewers_in_material found.material) (reviewer_at r.body) ≡ true
-      room = first_held (has_room (reviewers_in_material found.material) (reviewer_at r.body)) rule.ReviewersFull []
-          (back_held (body_conditions rule_of reviewer_body_conditions r.body)
-          ((has_room (reviewers_in_material found.material) (reviewer_at r.body), rule.ReviewersFull) ∷ []) held)
+      reviewing : List ℕ
+      reviewing = reviewers_of n (state_of c).reviewers
 
-      go : (account : Option ℕ) → reviewer_at r.body ≡ account
+      room : has_room reviewing (reviewer_at body) ≡ true
+      room = first_held (has_room reviewing (reviewer_at body)) rule.ReviewersFull []
+          (back_held (body_conditions rule_of reviewer_body_conditions body) ((has_room reviewing (reviewer_at body), rule.ReviewersFull) ∷ []) held)
+
+      go : (account : Option ℕ) → reviewer_at body ≡ account
           → IsKept seeds (content_after (option_map (λ a. change.AddReviewer (record { session = n; account = a })) account) c)
       go None e = kept
       go (Some a) e = added_kept seeds (record { session = n; account = a }) c
-          (next_reviewer sessions reviews counted seeds (state_of c) n a r.body kept.sound (rw (← names) (session_there AddReviewer f allowed)) e (rw (shows, e) at room)) kept
+          (next_reviewer sessions reviews counted seeds (state_of c) n a body kept.sound (rw (← names) (session_there AddReviewer f allowed)) e (rw e at room)) kept
 
   -- where a session is registered
-  new_kept : (seeds : List (List ℕ)) (m u : ℕ) (r : RequestValue) (found : Found) (c : Content) → found.material ≡ material.SessionCount (record_counts u (state_of c)).sessions
-      → is_some (account_at u (state_of c).accounts) ≡ true → nat_lt m end_of_moments ≡ true → first_broken (wish_conditions seeds r found NewSession) ≡ None
-      → IsKept seeds c → IsKept seeds (content_after (option_map change.NewSession (new_session_in seeds m u r.body found.material)) c)
+  new_kept : (seeds : List (List ℕ)) (m u : ℕ) (body : List ℕ) (c : Content)
+      → is_some (account_at u (state_of c).accounts) ≡ true → nat_lt m end_of_moments ≡ true → first_broken (new_session_conditions body (record_counts u (state_of c)).sessions) ≡ None
+      → IsKept seeds c → IsKept seeds (content_after (option_map change.NewSession (new_session_in seeds m u (record_counts u (state_of c)).sessions body)) c)
   unfolding after
-  new_kept seeds m u r found c shows there served held kept = rw shows (go (newest_epoch seeds) refl (registration_in r.body) refl)
+  new_kept seeds m u body c there served held kept = go (newest_epoch seeds) refl (registration_in body) refl
     where
-      bodied : first_broken (body_conditions registration_rule registration_conditions r.body) ≡ None
-      bodied = whole_held (body_conditions registration_rule registration_conditions r.body) ((has_number_left (sessions_in_material found.material), rule.AccountFull) ∷ []) held
-
-      left : has_number_left (sessions_in_material found.material) ≡ true
-      left = first_held (has_number_left (sessions_in_material found.material)) rule.AccountFull []
-          (back_held (body_conditions registration_rule registration_conditions r.body) ((has_number_left (sessions_in_material found.material), rule.AccountFull) ∷ []) held)
+      bodied : first_broken (body_conditions registration_rule registration_conditions body) ≡ None
+      bodied = whole_held (body_conditions registration_rule registration_conditions body) ((nat_lt (record_counts u (state_of c)).sessions 999999, rule.AccountFull) ∷ []) held
 
       few : nat_lt (record_counts u (state_of c)).sessions 999999 ≡ true
-      few = rw shows at left
+      few = first_held (nat_lt (record_counts u (state_of c)).sessions 999999) rule.AccountFull []
+          (back_held (body_conditions registration_rule registration_conditions body) ((nat_lt (record_counts u (state_of c)).sessions 999999, rule.AccountFull) ∷ []) held)
 
-      go : (epoch : Option ℕ) → newest_epoch seeds ≡ epoch → (registration : Option RegistrationValue) → registration_in r.body ≡ registration
+      go : (epoch : Option ℕ) → newest_epoch seeds ≡ epoch → (registration : Option RegistrationValue) → registration_in body ≡ registration
           → IsKept seeds (content_after (option_map change.NewSession (option_and_then (λ epoch. option_map (session_made m u (record_counts u (state_of c)).sessions epoch) registration) epoch)) c)
       go None e registration is = kept
       go (Some epoch) e None is = kept
       go (Some epoch) e (Some registration) is =
           let made = session_made m u (record_counts u (state_of c)).sessions epoch registration in
-          let next = next_session accounts (state_of c) m u epoch registration r.body there served few bodied is in
+          let next = next_session accounts (state_of c) m u epoch registration body there served few bodied is in
           let fits = number_of u (record_counts u (state_of c)).sessions few in
           record {
             sound = subst (λ s. IsWellNumbered s) (sym (follows c (change.NewSession made))) (numbers (change.NewSession made) (state_of c) kept.sound (fits, next));
@@ -219,95 +218,87 @@ module _ (follows : (c : Content) (it : Change) → state_of (after it c) ≡ af
         graded = graded_stay seeds n c.sets kept.graded;
       }
 
-  set_kept : (seeds : List (List ℕ)) (session n : ℕ) (body : List ℕ) (f : Facts) (m : Material) (it : SetWish) (c : Content)
-      → set_found f.subject ≡ set_facts (session_facts seeds (state_of c) session) session n (state_of c).sets → m ≡ set_material seeds session n (state_of c).sets it
-      → first_broken (policy (action_on_set it) f) ≡ None → IsKept seeds c → IsKept seeds (content_after (set_change seeds session n body m) c)
-  set_kept seeds session n body f m on_set.Read c names shows allowed kept = rw shows kept
-  set_kept seeds session n body f m on_set.Expected c names shows allowed kept = rw shows kept
-  set_kept seeds session n body f m on_set.Results c names shows allowed kept =
-      rw shows (go (verdicts_in_session seeds session n (state_of c).sets))
+  set_kept : (seeds : List (List ℕ)) (session n : ℕ) (body : List ℕ) (f : Facts) (it : SetWish) (c : Content)
+      → set_found f.subject ≡ set_facts (session_facts seeds (state_of c) session) session n (state_of c).sets
+      → first_broken (policy (action_on_set it) f) ≡ None → IsKept seeds c → IsKept seeds (content_after (set_change seeds session n body (set_place seeds session n (state_of c).sets it)) c)
+  set_kept seeds session n body f on_set.Read c names allowed kept = kept
+  set_kept seeds session n body f on_set.Expected c names allowed kept = kept
+  set_kept seeds session n body f on_set.Results c names allowed kept = go (verdicts_in_session seeds session n (state_of c).sets)
     where
-      go : (verdicts : Option (List Verdict)) → IsKept seeds (content_after (set_change seeds session n body (results_material verdicts (set_source session n (state_of c).sets))) c)
+      go : (verdicts : Option (List Verdict)) → IsKept seeds (content_after (set_change seeds session n body (results_place verdicts (set_source session n (state_of c).sets))) c)
       go None = kept
       go (Some verdicts) = kept
-  set_kept seeds session n body f m on_set.Submit c names shows allowed kept =
-      rw shows (submitted_kept once live set_follows session_follows names_set follows numbers counts differ seeds session n c kept body (rw (← names) (set_there on_set.Submit f allowed)))
-  set_kept seeds session n body f m on_set.Resubmit c names shows allowed kept =
-      rw shows (submitted_kept once live set_follows session_follows names_set follows numbers counts differ seeds session n c kept body (rw (← names) (set_there on_set.Resubmit f allowed)))
+  set_kept seeds session n body f on_set.Submit c names allowed kept =
+      submitted_kept once live set_follows session_follows names_set follows numbers counts differ seeds session n c kept body (rw (← names) (set_there on_set.Submit f allowed))
+  set_kept seeds session n body f on_set.Resubmit c names allowed kept =
+      submitted_kept once live set_follows session_follows names_set follows numbers counts differ seeds session n c kept body (rw (← names) (set_there on_set.Resubmit f allowed))
 
   -- where an object is asked to be registered
-  registration_kept : (seeds : List (List ℕ)) (of : RegistryOf) (u : ℕ) (bytes : List ℕ) (m : Material) (c : Content)
-      → m ≡ material.Asked (registration_asked (kind_of of) u bytes (state_of c)) → is_some (account_at u (state_of c).accounts) ≡ true
-      → first_broken (registration_conditions_on (kind_of of) bytes (asked_in m)) ≡ None
-      → IsKept seeds c → IsKept seeds (content_after (registration_change (kind_of of) u bytes (asked_in m)) c)
+  registration_kept : (seeds : List (List ℕ)) (of : RegistryOf) (u : ℕ) (bytes : List ℕ) (c : Content) → is_some (account_at u (state_of c).accounts) ≡ true
+      → first_broken (requested_conditions (object_in (kind_of of) bytes) (registration_asked u (object_in (kind_of of) bytes) (state_of c))) ≡ None
+      → IsKept seeds c → IsKept seeds (content_after (registration_change u (object_in (kind_of of) bytes) (registration_asked u (object_in (kind_of of) bytes) (state_of c))) c)
   unfolding after
-  registration_kept seeds of u bytes m c shows there held kept = rw shows (go (object_in (kind_of of) bytes) refl)
+  registration_kept seeds of u bytes c there held kept = go (object_in (kind_of of) bytes) refl held
     where
-      fit : first_broken (asked_conditions (Some (registration_asked (kind_of of) u bytes (state_of c)))) ≡ None
-      fit = back_held (registered_conditions (kind_of of) bytes) (asked_conditions (Some (registration_asked (kind_of of) u bytes (state_of c)))) (rw shows at held)
+      asked : Asked
+      asked = registration_asked u (object_in (kind_of of) bytes) (state_of c)
 
-      go : (object : Option KeptObject) → object_in (kind_of of) bytes ≡ object
-          → IsKept seeds (content_after (option_map (λ object. change.NewRequest (request_made u (registration_asked (kind_of of) u bytes (state_of c)) object)) object) c)
-      go None e = kept
-      go (Some object) e =
-          simply_kept seeds (change.NewRequest (request_made u (registration_asked (kind_of of) u bytes (state_of c)) object)) c refl (
-            number_of u (registration_asked (kind_of of) u bytes (state_of c)).requests (few_asked (registration_asked (kind_of of) u bytes (state_of c)) fit),
+      go : (object : Result KeptObject Rule) → object_in (kind_of of) bytes ≡ object → first_broken (requested_conditions object asked) ≡ None
+          → IsKept seeds (content_after (registration_change u object asked) c)
+      go (Err broken) e fit = kept
+      go (Ok object) e fit =
+          simply_kept seeds (change.NewRequest (request_made u asked object)) c refl (
+            number_of u asked.requests (few_asked asked fit),
             next_registration accounts objects names_object (state_of c) kept.sound u (kind_of of) bytes object there e fit,
           ) tt kept
 
   -- where a session is asked to be certified
-  certification_kept : (seeds : List (List ℕ)) (u n : ℕ) (bytes : List ℕ) (m : Material) (c : Content)
-      → m ≡ material.Asked (certification_asked u bytes (state_of c)) → is_some (account_at u (state_of c).accounts) ≡ true → owner_of n ≡ u
-      → is_some (session_facts seeds (state_of c) n) ≡ true → first_broken (certification_conditions_on bytes (asked_in m)) ≡ None
-      → IsKept seeds c → IsKept seeds (content_after (certification_change u n bytes (asked_in m)) c)
+  certification_kept : (seeds : List (List ℕ)) (u n : ℕ) (bytes : List ℕ) (c : Content) → is_some (account_at u (state_of c).accounts) ≡ true → owner_of n ≡ u
+      → is_some (session_facts seeds (state_of c) n) ≡ true → first_broken (requested_conditions (certified_in bytes) (certification_asked u (certified_in bytes) (state_of c))) ≡ None
+      → IsKept seeds c → IsKept seeds (content_after (certification_change u n (certified_in bytes) (certification_asked u (certified_in bytes) (state_of c))) c)
   unfolding after
-  certification_kept seeds u n bytes m c shows there owned found held kept = rw shows (go (certified_in bytes) refl)
+  certification_kept seeds u n bytes c there owned found held kept = go (certified_in bytes) refl held
     where
-      fit : first_broken (asked_conditions (Some (certification_asked u bytes (state_of c)))) ≡ None
-      fit = back_held (certified_conditions bytes) (asked_conditions (Some (certification_asked u bytes (state_of c)))) (rw shows at held)
+      asked : Asked
+      asked = certification_asked u (certified_in bytes) (state_of c)
 
-      go : (parts : Option CertifyBody) → certified_in bytes ≡ parts
-          → IsKept seeds (content_after (option_map (λ parts. change.Certify (certification_made u n (certification_asked u bytes (state_of c)) parts)) parts) c)
-      go None e = kept
-      go (Some parts) e =
+      go : (parts : Result CertifyBody Rule) → certified_in bytes ≡ parts → first_broken (requested_conditions parts asked) ≡ None
+          → IsKept seeds (content_after (certification_change u n parts asked) c)
+      go (Err broken) e fit = kept
+      go (Ok parts) e fit =
           let next = next_certification accounts objects names_object (state_of c) kept.sound u sessions seeds bytes n parts there owned found e fit in
-          let numbered = number_of u (certification_asked u bytes (state_of c)).requests (few_asked (certification_asked u bytes (state_of c)) fit) in
-          simply_kept seeds (change.Certify (certification_made u n (certification_asked u bytes (state_of c)) parts)) c refl
-          ((sym owned, numbered), rw owned next) tt kept
+          simply_kept seeds (change.Certify (certification_made u n asked parts)) c refl ((sym owned, number_of u asked.requests (few_asked asked fit)), rw owned next) tt kept
 
-  registry_kept : (seeds : List (List ℕ)) (u : ℕ) (bytes : List ℕ) (f : Facts) (m : Material) (it : RegistryWish) (c : Content)
-      → m ≡ registry_material u bytes (state_of c) it → (is_enabled f.standing ≡ true → is_some (account_at u (state_of c).accounts) ≡ true)
-      → first_broken (policy (action_on_registry it) f) ≡ None → first_broken (registry_conditions bytes m it) ≡ None
-      → IsKept seeds c → IsKept seeds (content_after (registry_change u bytes m it) c)
-  registry_kept seeds u bytes f m (on_registry.Read of n) c shows acts allowed held kept = kept
-  registry_kept seeds u bytes f m (on_registry.New of) c shows acts allowed held kept =
-      registration_kept seeds of u bytes m c shows (acts (registration_allowed of f allowed).1) held kept
-  registry_kept seeds u bytes f m (on_registry.List of page) c shows acts allowed held kept = kept
-  registry_kept seeds u bytes f m (on_registry.ReadRequest n) c shows acts allowed held kept = kept
-  registry_kept seeds u bytes f m (on_registry.ListRequests page) c shows acts allowed held kept = kept
+  registry_kept : (seeds : List (List ℕ)) (u : ℕ) (body : List ℕ) (f : Facts) (it : RegistryWish) (c : Content)
+      → (is_enabled f.standing ≡ true → is_some (account_at u (state_of c).accounts) ≡ true)
+      → first_broken (policy (action_on_registry it) f) ≡ None → first_broken (registry_conditions (registry_place u body (state_of c) it)) ≡ None
+      → IsKept seeds c → IsKept seeds (content_after (registry_change u (registry_place u body (state_of c) it)) c)
+  registry_kept seeds u body f (on_registry.Read of n) c acts allowed held kept = kept
+  registry_kept seeds u body f (on_registry.New of) c acts allowed held kept = registration_kept seeds of u body c (acts (registration_allowed of f allowed).1) held kept
+  registry_kept seeds u body f (on_registry.List of page) c acts allowed held kept = kept
+  registry_kept seeds u body f (on_registry.ReadRequest n) c acts allowed held kept = kept
+  registry_kept seeds u body f (on_registry.ListRequests page) c acts allowed held kept = kept
 
-  wish_kept : (keys : Keys) (m u : ℕ) (r : RequestValue) (f : Facts) (found : Found) (it : Wish) (c : Content)
-      → f.subject ≡ subject_of keys.seed u (state_of c) it → found.material ≡ material_of keys.seed u r.body (state_of c) it
-      → u ≡ account_of_claims (claims_of f.token)
+  wish_kept : (keys : Keys) (m u : ℕ) (body : List ℕ) (f : Facts) (it : Wish) (c : Content)
+      → f.subject ≡ subject_at (place_of keys.seed u body (state_of c) it) → u ≡ account_of_claims (claims_of f.token)
       → (is_enabled f.standing ≡ true → is_some (account_at u (state_of c).accounts) ≡ true) → nat_lt m end_of_moments ≡ true
-      → first_broken (policy (action_of_wish it) f) ≡ None → first_broken (wish_conditions keys.seed r found it) ≡ None
-      → IsKept keys.seed c → IsKept keys.seed (content_after (wish_change keys.seed m u r found it) c)
-  wish_kept keys m u r f found (Account it) c names shows own acts served allowed held kept = kept
-  wish_kept keys m u r f found (Algorithm n) c names shows own acts served allowed held kept = kept
-  wish_kept keys m u r f found (Session n it) c names shows own acts served allowed held kept = session_kept keys.seed n r f found it c (ap session_found names) shows allowed held kept
-  wish_kept keys m u r f found (Reviewer n a) c names shows own acts served allowed held kept = removed_kept keys.seed (record { session = n; account = a }) c kept
-  wish_kept keys m u r f found (Set session n it) c names shows own acts served allowed held kept =
-      set_kept keys.seed session n r.body f found.material it c (ap set_found names) shows allowed kept
-  wish_kept keys m u r f found NewSession c names shows own acts served allowed held kept = new_kept keys.seed m u r found c shows (acts (new_allowed f allowed).1) served held kept
-  wish_kept keys m u r f found (CancelSet session n) c names shows own acts served allowed held kept =
-      rw shows (left_kept keys.seed session n c
-      (number_fits names_set (session_facts keys.seed (state_of c) session) session n (state_of c) kept.sound (rw names at (cancelled_there f allowed))) kept)
-  wish_kept keys m u r f found (ListSessions page) c names shows own acts served allowed held kept = kept
-  wish_kept keys m u r f found (Certify n) c names shows own acts served allowed held kept =
-      certification_kept keys.seed u n r.body found.material c shows (acts (certification_enabled f allowed))
+      → first_broken (policy (action_of_wish it) f) ≡ None → first_broken (place_conditions keys.seed body (place_of keys.seed u body (state_of c) it)) ≡ None
+      → IsKept keys.seed c → IsKept keys.seed (content_after (place_change keys.seed m u body (place_of keys.seed u body (state_of c) it)) c)
+  wish_kept keys m u body f (Account on_account.Read) c names own acts served allowed held kept = kept
+  wish_kept keys m u body f (Account on_account.ListAlgorithms) c names own acts served allowed held kept = kept
+  wish_kept keys m u body f (Algorithm n) c names own acts served allowed held kept = kept
+  wish_kept keys m u body f (Session n it) c names own acts served allowed held kept = session_kept keys.seed n body f it c (ap session_found names) allowed held kept
+  wish_kept keys m u body f (Reviewer n a) c names own acts served allowed held kept = removed_kept keys.seed (record { session = n; account = a }) c kept
+  wish_kept keys m u body f (Set session n it) c names own acts served allowed held kept = set_kept keys.seed session n body f it c (ap set_found names) allowed kept
+  wish_kept keys m u body f NewSession c names own acts served allowed held kept = new_kept keys.seed m u body c (acts (new_allowed f allowed).1) served held kept
+  wish_kept keys m u body f (CancelSet session n) c names own acts served allowed held kept =
+      left_kept keys.seed session n c
+      (number_fits names_set (session_facts keys.seed (state_of c) session) session n (state_of c) kept.sound (rw names at (cancelled_there f allowed))) kept
+  wish_kept keys m u body f (ListSessions page) c names own acts served allowed held kept = kept
+  wish_kept keys m u body f (Certify n) c names own acts served allowed held kept =
+      certification_kept keys.seed u n body c (acts (certification_enabled f allowed))
       (certification_owned f n (ap resource_of names) allowed ∙ sym own) (rw (names) at (certified_there f allowed)) held kept
-  wish_kept keys m u r f found (Registry it) c names shows own acts served allowed held kept =
-      registry_kept keys.seed u r.body f found.material it c shows acts allowed held kept
+  wish_kept keys m u body f (Registry it) c names own acts served allowed held kept = registry_kept keys.seed u body f it c acts allowed held kept
 
   -- an account that is enabled is there
   acts_there : (caller : CallerAsk) (state : State) → is_enabled (standing_of (account_found (Caller caller) state)) ≡ true
@@ -331,11 +322,12 @@ module _ (follows : (c : Content) (it : Change) → state_of (after it c) ≡ af
   by_answer keys m r c (Err rule) it held kept = kept
   by_answer keys m r c (Ok reply) None held kept = kept
   by_answer keys m r c (Ok reply) (Some (Caller caller)) held kept =
+      let u = account_of_claims (claims_of caller.token) in
       let found = found_of keys.seed r.body (Caller caller) (state_of c) in
-      let front = policy_conditions m (Caller caller) found in
-      let rest = wish_conditions keys.seed r found caller.wish in
-      wish_kept keys m (account_of_claims (claims_of caller.token)) r (facts_from m (Caller caller) found) found caller.wish c refl refl refl (acts_there caller (state_of c)) (held.0)
-      (whole_held front rest held.1) (back_held front rest held.1) kept
+      let front = policy_conditions m found in
+      let rest = own_conditions keys.seed r.body found in
+      wish_kept keys m u r.body (facts_in m found) caller.wish c refl refl (acts_there caller (state_of c)) (held.0)
+      (rw (wish_asked keys.seed u r.body (state_of c) caller.wish) at (whole_held front rest held.1)) (back_held front rest held.1) kept
   by_answer keys m r c (Ok reply) (Some (Login login)) held kept = found_kept keys.seed m login c (option_and_then (λ n. account_at n (state_of c).accounts) login.user) kept
 
   pub request_kept : (keys : Keys) (m : ℕ) (r : RequestValue) (c : Content) → IsKept keys.seed c → IsKept keys.seed (content_effect keys m r c)

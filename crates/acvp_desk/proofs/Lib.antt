@@ -1,4 +1,5 @@
 pub mod FirstBroken
+pub mod LaterSeeds
 pub mod LoginLemmas
 pub mod Decision
 pub mod NextReviewer
@@ -34,3 +35,4 @@ pub mod Objects
 pub mod AddedReviewer
 pub mod ServedApart
 pub mod Told
+pub mod WithoutRows

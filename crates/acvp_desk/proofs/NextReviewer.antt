@@ -69,7 +69,7 @@ own_session seeds n state mine is there =
 room_is : (n a : ℕ) (state : State) (mine : List ReviewerRow) → is_reviewer n a mine ≡ ((owner_of n == owner_of n) && is_reviewer n a state.reviewers)
     → length (filter (λ row. row.session == n) mine) ≤ length (filter (λ row. row.session == n) state.reviewers)
     → length (reviewers_of n state.reviewers) ≡ length (filter (λ row. row.session == n) state.reviewers)
-    → has_room (Some (reviewers_of n state.reviewers)) (Some a) ≡ true
+    → has_room (reviewers_of n state.reviewers) (Some a) ≡ true
     → (is_reviewer n a mine || nat_lt (length (filter (λ row. row.session == n) mine)) 16) ≡ true
 unfolding reviewers_of
 room_is n a state mine is few counted room = go (list_any (λ b. b == a) (reviewers_of n state.reviewers)) refl room
@@ -95,7 +95,7 @@ pub next_reviewer : (sessions : (u n : ℕ) (state : State) → IsWellNumbered s
     → (reviews : (u s a : ℕ) (state : State) → is_reviewer s a (own u state).reviewers ≡ ((owner_of s == u) && is_reviewer s a state.reviewers))
     → (counted : (s : ℕ) (state : State) → IsWellNumbered state → length (reviewers_of s state.reviewers) ≡ length (filter (λ row. row.session == s) state.reviewers))
     → (seeds : List (List ℕ)) (state : State) (n a : ℕ) (body : List ℕ) → IsWellNumbered state → is_some (session_facts seeds state n) ≡ true → reviewer_at body ≡ Some a
-    → has_room (Some (reviewers_of n state.reviewers)) (Some a) ≡ true → IsNextFor (own (owner_of n) state) (change.AddReviewer (record { session = n; account = a }))
+    → has_room (reviewers_of n state.reviewers) (Some a) ≡ true → IsNextFor (own (owner_of n) state) (change.AddReviewer (record { session = n; account = a }))
 unfolding own
 next_reviewer sessions reviews counted seeds state n a body well there named room = (
   own_session seeds n state (session_record_at n (own (owner_of n) state).sessions) (sessions (owner_of n) n state well) there,

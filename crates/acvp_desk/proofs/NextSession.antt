@@ -24,8 +24,7 @@ use Rattle.acvp_tables.specs.declared.rows.SetRow.{SetRow}
 use Rattle.acvp_desk.specs.Answer.{CoversAny}
 use Rattle.acvp_desk.specs.Bodies.{body_conditions, object_conditions, registration_rule, rule_of}
 use Rattle.acvp_desk.specs.Kept.{IsGradedSet}
-use Rattle.acvp_desk.specs.NewSessions.{sessions_in_material, has_number_left, newest_epoch, new_session_in, registration_in, session_made}
-use Rattle.acvp_desk.specs.declared.found.Material.{Material}
+use Rattle.acvp_desk.specs.NewSessions.{newest_epoch, new_session_in, registration_in, session_made}
 use Rattle.acvp_desk.proofs.FirstBroken.{back_held, first_held, whole_held}
 
 -- ---- what is registered
@@ -100,16 +99,14 @@ pub number_of : (u k : ℕ) → nat_lt k 999999 ≡ true → owner_of (first_of_
 number_of u k few = grind (arith, nat_tests, few)
 
 -- the grant is leave for it
-pub registers : (seeds : List (List ℕ)) (m u : ℕ) (body : List ℕ) (material : Material) (g : Granted) → g.action ≡ action.NewSession → g.resource ≡ resource.Account → g.account ≡ u
-    → has_number_left (sessions_in_material material) ≡ true → CoversAny g (option_map change.NewSession (new_session_in seeds m u body material))
-registers seeds m u body material g acts on is left = go (sessions_in_material material) left (newest_epoch seeds) (registration_in body)
+pub registers : (seeds : List (List ℕ)) (m u n : ℕ) (body : List ℕ) (g : Granted) → g.action ≡ action.NewSession → g.resource ≡ resource.Account → g.account ≡ u
+    → nat_lt n 999999 ≡ true → CoversAny g (option_map change.NewSession (new_session_in seeds m u n body))
+registers seeds m u n body g acts on is few = go (newest_epoch seeds) (registration_in body)
   where
-    go : (n : Option ℕ) → has_number_left n ≡ true → (epoch : Option ℕ) (registration : Option RegistrationValue)
-        → CoversAny g (option_map change.NewSession (option_and_then (λ n. option_and_then (λ epoch. option_map (session_made m u n epoch) registration) epoch) n))
-    go None few epoch registration = tt
-    go (Some n) few None registration = tt
-    go (Some n) few (Some epoch) None = tt
-    go (Some n) few (Some epoch) (Some registration) = ((acts, on, is), number_of u n few)
+    go : (epoch : Option ℕ) (registration : Option RegistrationValue) → CoversAny g (option_map change.NewSession (option_and_then (λ epoch. option_map (session_made m u n epoch) registration) epoch))
+    go None registration = tt
+    go (Some epoch) None = tt
+    go (Some epoch) (Some registration) = ((acts, on, is), number_of u n few)
 
 -- it is next
 pub next_session : (accounts : (u n : ℕ) (state : State) → account_at n (own u state).accounts ≡ (if n == u then account_at n state.accounts else None))

@@ -15,14 +15,15 @@ use Rattle.acvp_policy.specs.declared.facts.Token.TheVariants as token
 use Rattle.acvp_policy.specs.declared.rule.Rule.{Rule}
 use Rattle.acvp_policy.specs.declared.rule.Rule.TheVariants as rule
 use Rattle.acvp_tables.specs.State.{State}
-use Rattle.acvp_desk.specs.Answer.{accepted_change, answer, asker_of, change_by, change_on, effect, end_of_moments, facts_from, first_conditions, first_conditions_on, found_of, later_conditions, later_of, own_conditions, policy_conditions, reply_to, state_after, who}
+use Rattle.acvp_desk.specs.Answer.{accepted_change, answer, asker_of, change_by, change_on, effect, end_of_moments, facts_in, first_conditions, first_conditions_on, found_of, found_of_caller, later_conditions, later_of, own_conditions, policy_conditions, reply_to, state_after, who}
 use Rattle.acvp_desk.specs.Isolation.{who_of}
 use Rattle.acvp_desk.specs.Request.{RequestValue}
-use Rattle.acvp_desk.specs.Wish.{action_of_wish}
+use Rattle.acvp_desk.specs.Place.{action_at, wish_at}
 use Rattle.acvp_desk.specs.declared.ask.Asker.{Asker}
 use Rattle.acvp_desk.specs.declared.ask.Asker.TheVariants.{Login, Caller}
 use Rattle.acvp_desk.specs.declared.ask.LoginAsk.{LoginAsk}
-use Rattle.acvp_desk.specs.declared.found.Found.{Found}
+use Rattle.acvp_desk.specs.declared.found.Found.TheVariants as found
+use Rattle.acvp_desk.specs.declared.found.FoundCaller.{FoundCaller}
 use Rattle.acvp_desk.specs.declared.keys.Keys.{Keys}
 use Rattle.acvp_desk.specs.declared.wish.CallerAsk.{CallerAsk}
 use Rattle.acvp_desk.proofs.FirstBroken.{front_broken, front_held}
@@ -55,19 +56,18 @@ scope_refused scope.SessionResource f refusal apart broken = front_broken (calle
 scope_refused scope.ReviewableResource f refusal apart broken =
     front_broken (caller_conditions f) (if is_reviewer f then [] else session_conditions f) refusal broken
 
-policy_refused : (moment : ℕ) (caller : CallerAsk) (found : Found) → claims_of caller.token ≡ None
-    → first_broken (policy_conditions moment (Caller caller) found) ≡ Some (token_rule caller.token)
+policy_refused : (moment : ℕ) (it : FoundCaller) → claims_of it.token ≡ None → first_broken (policy_conditions moment (found.Caller it)) ≡ Some (token_rule it.token)
 unfolding policy_conditions policy
-policy_refused moment caller found none =
-    let f = facts_from moment (Caller caller) found in
-    let a = action_of_wish caller.wish in
-    front_broken (claims_conditions (scope_of a) f) (resource_conditions a f) (token_rule caller.token)
-    (scope_refused (scope_of a) f (token_rule caller.token) (no_login caller.wish) (caller_refused caller.token f refl none))
+policy_refused moment it none =
+    let f = facts_in moment (found.Caller it) in
+    let a = action_at it.place in
+    front_broken (claims_conditions (scope_of a) f) (resource_conditions a f) (token_rule it.token)
+    (scope_refused (scope_of a) f (token_rule it.token) (no_login (wish_at it.place)) (caller_refused it.token f refl none))
 
-later_refused : (seeds : List (List ℕ)) (moment : ℕ) (r : RequestValue) (caller : CallerAsk) (found : Found) → claims_of caller.token ≡ None
-    → first_broken (later_conditions seeds moment r (Caller caller) found) ≡ Some (token_rule caller.token)
-later_refused seeds moment r caller found none =
-    front_broken (policy_conditions moment (Caller caller) found) (own_conditions seeds r (Caller caller) found) (token_rule caller.token) (policy_refused moment caller found none)
+later_refused : (seeds : List (List ℕ)) (moment : ℕ) (body : List ℕ) (it : FoundCaller) → claims_of it.token ≡ None
+    → first_broken (later_conditions seeds moment body (found.Caller it)) ≡ Some (token_rule it.token)
+later_refused seeds moment body it none =
+    front_broken (policy_conditions moment (found.Caller it)) (own_conditions seeds body (found.Caller it)) (token_rule it.token) (policy_refused moment it none)
 
 no_claims : (claims : Option Claims) → option_map (λ (c : Claims). c.account) claims ≡ None → claims ≡ None
 no_claims None none = refl
@@ -91,13 +91,13 @@ refused_by front later refusal broken = go (first_broken front) refl
 pub judged_err : {X : Type 0} (conditions : List (Condition Rule)) (x : X) (refusal : Rule) → first_broken conditions ≡ Some refusal → judged conditions x ≡ Err refusal
 judged_err conditions x refusal broken = ap (λ b. unless b x) broken
 
-caller_answer : (keys : Keys) (moment : ℕ) (r : RequestValue) (caller : CallerAsk) (found : Found) (reply : Option Data) → claims_of caller.token ≡ None
-    → judged (first_conditions moment r ++ later_conditions keys.seed moment r (Caller caller) found) reply
-    ≡ Err (earlier_or (first_broken (first_conditions moment r)) (token_rule caller.token))
-caller_answer keys moment r caller found reply none =
-    judged_err (first_conditions moment r ++ later_conditions keys.seed moment r (Caller caller) found) reply _
-    (refused_by (first_conditions moment r) (later_conditions keys.seed moment r (Caller caller) found) (token_rule caller.token)
-    (later_refused keys.seed moment r caller found none))
+caller_answer : (keys : Keys) (moment : ℕ) (r : RequestValue) (caller : CallerAsk) (state : State) (reply : Option Data) → claims_of caller.token ≡ None
+    → judged (first_conditions moment r ++ later_of keys.seed moment r (Some (Caller caller)) state) reply ≡ Err (earlier_or (first_broken (first_conditions moment r)) (token_rule caller.token))
+unfolding found_of
+caller_answer keys moment r caller state reply none =
+    judged_err (first_conditions moment r ++ later_of keys.seed moment r (Some (Caller caller)) state) reply _
+    (refused_by (first_conditions moment r) (later_of keys.seed moment r (Some (Caller caller)) state) (token_rule caller.token)
+    (later_refused keys.seed moment r.body (found_of_caller keys.seed r.body caller state) none))
 
 -- ---- a login of no account
 
@@ -105,10 +105,6 @@ login_found : (seeds : List (List ℕ)) (body : List ℕ) (login : LoginAsk) (on
     → found_of seeds body (Login login) one ≡ found_of seeds body (Login login) other
 unfolding found_of
 login_found seeds body login one other none = rw none refl
-
-no_account : (seeds : List (List ℕ)) (body : List ℕ) (login : LoginAsk) (state : State) → login.user ≡ None → (found_of seeds body (Login login) state).account ≡ None
-unfolding found_of
-no_account seeds body login state none = rw none refl
 
 -- ---- what is refused before a row is looked at
 
@@ -144,8 +140,8 @@ asked_alike keys moment r one other nobody = go (asker_of keys moment r) nobody
     go (Some (Login login)) none = rw (login_found keys.seed r.body login one other none) refl
     go (Some (Caller caller)) none =
         let named : claims_of caller.token ≡ None = no_claims (claims_of caller.token) none in
-        caller_answer keys moment r caller (found_of keys.seed r.body (Caller caller) one) (reply_to keys moment r (Some (Caller caller)) one) named
-        ∙ sym (caller_answer keys moment r caller (found_of keys.seed r.body (Caller caller) other) (reply_to keys moment r (Some (Caller caller)) other) named)
+        caller_answer keys moment r caller one (reply_to keys moment r (Some (Caller caller)) one) named
+        ∙ sym (caller_answer keys moment r caller other (reply_to keys moment r (Some (Caller caller)) other) named)
 
 pub answered_alike : (keys : Keys) (moment : ℕ) (r : RequestValue) (one other : State) → who_of keys moment r ≡ None → answer keys moment r one ≡ answer keys moment r other
 unfolding answer
@@ -165,17 +161,17 @@ change_none (Ok shown) = refl
 change_none (Err refusal) = refl
 
 unchanged : (keys : Keys) (moment : ℕ) (r : RequestValue) (state : State) → option_and_then who (asker_of keys moment r) ≡ None → accepted_change keys moment r state ≡ None
-unfolding accepted_change answer
+unfolding accepted_change answer found_of
 unchanged keys moment r state nobody = go (asker_of keys moment r) nobody
   where
     go : (asked : Option Asker) → option_and_then who asked ≡ None
         → change_on (judged (first_conditions moment r ++ later_of keys.seed moment r asked state) (reply_to keys moment r asked state)) (change_by keys moment r asked state) ≡ None
     go None none = change_none _
-    go (Some (Login login)) none = rw (no_account keys.seed r.body login state none) (change_none _)
+    go (Some (Login login)) none = rw none (change_none _)
     go (Some (Caller caller)) none =
         let named : claims_of caller.token ≡ None = no_claims (claims_of caller.token) none in
         ap (λ reply. change_on reply (change_by keys moment r (Some (Caller caller)) state))
-        (caller_answer keys moment r caller (found_of keys.seed r.body (Caller caller) state) (reply_to keys moment r (Some (Caller caller)) state) named)
+        (caller_answer keys moment r caller state (reply_to keys moment r (Some (Caller caller)) state) named)
 
 pub nothing_made : (keys : Keys) (moment : ℕ) (r : RequestValue) (state : State) → who_of keys moment r ≡ None → accepted_change keys moment r state ≡ None
 unfolding accepted_change answer

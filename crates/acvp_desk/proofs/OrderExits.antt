@@ -6,7 +6,7 @@ use Rattle.acvp_tables.specs.Calls.{Reads, Changes}
 use Rattle.acvp_tables.specs.Changes.{after_order}
 use Rattle.acvp_tables.specs.Content.{Content, account_at, request_at, request_summary}
 use Rattle.acvp_tables.specs.Meaning.{Meaning}
-use Rattle.acvp_tables.specs.State.{IsSound, state_of}
+use Rattle.acvp_tables.specs.State.{AreWellNumbered, state_of}
 use Rattle.acvp_tables.specs.declared.change.OrderChange.{OrderChange}
 use Rattle.acvp_tables.specs.declared.change.OrderChange.TheVariants as change
 use Rattle.acvp_tables.specs.declared.rows.AccountRow.{AccountRow}
@@ -122,22 +122,22 @@ rejected_by n found b c is waits = go (request_at n c.requests) refl is
 -- ---- the exits
 
 module _ {T : Type 0} (faults : StoreFault → Type 0) (meaning : Meaning T) (it : Order) where
-  open meaning use {stands, is_live, is_clean, leaves}
+  open meaning use {stands, is_open, is_clean, leaves}
 
   abbrev Decides : T → T → OrderReply → Option OrderChange → Type 0
-  Decides old mid reply made = is_live mid → (c : Content) → IsSound c → stands old c → IsDecided it reply made c
+  Decides old mid reply made = is_open mid → (c : Content) → AreWellNumbered c → stands old c → IsDecided it reply made c
 
   becomes : (made : Option OrderChange) (reply : OrderReply) (c : Content) → IsDecided it reply made c → content_order_effect it c ≡ content_after_order made c
   becomes made reply c decided = ap (λ x. content_after_order x c) decided.change_is
 
   -- answered without a change
   pub left_alone : {X : Type 0} (x : X) (old new : T) (told : OrderReply) → Reads faults meaning {X = X} (Ok x) old new → Decides old new told None
-      → (is_live new → (c : Content) → IsSound c → stands old c → (told ≡ order_reply it (state_of c)) × stands new (content_order_effect it c))
-      × (is_clean new → is_live old → (c d : Content) → IsSound c → stands old c → leaves new (content_order_effect it c) d)
+      → (is_open new → (c : Content) → AreWellNumbered c → stands old c → (told ≡ order_reply it (state_of c)) × stands new (content_order_effect it c))
+      × (is_clean new → is_open old → (c d : Content) → AreWellNumbered c → stands old c → leaves new (content_order_effect it c) d)
   left_alone x old new told reads decides = (
     λ live c sound h. let decided = decides live c sound h in
         (sym decided.reply_is, subst (λ d. stands new d) (sym (becomes None told c decided)) (reads.same live c h)),
-    λ clean live c d sound h. let decided = decides (reads.live clean).1 c sound h in
+    λ clean live c d sound h. let decided = decides (reads.stays_open clean).1 c sound h in
         subst (λ e. leaves new e d) (sym (becomes None told c decided)) (reads.left clean live c d h),
   )
 
@@ -147,16 +147,16 @@ module _ {T : Type 0} (faults : StoreFault → Type 0) (meaning : Meaning T) (it
     pub carried_out : (y : Y) → Changes faults meaning {X = Y} (Ok y) mid new (after_order ch)
         → Orders meaning (Done approval) old new it
     carried_out y changes = record {
-      was_live = λ live. reads.was_live (changes.was_live live);
+      was_open = λ live. reads.was_open (changes.was_open live);
       was_clean = λ clean. reads.was_clean (changes.was_clean clean);
       same = tt;
-      live = λ clean. let read = reads.live (changes.was_clean clean) in (read.0, changes.live clean read.1);
+      stays_open = λ clean. let read = reads.stays_open (changes.was_clean clean) in (read.0, changes.stays_open clean read.1);
       kept = tt;
-      shut = λ clean off. absurd (off (reads.live (changes.was_clean clean)).0);
-      answered = λ live c sound h. let up = changes.was_live live in
+      shut = λ clean off. absurd (off (reads.stays_open (changes.was_clean clean)).0);
+      answered = λ live c sound h. let up = changes.was_open live in
           let decided = decides up c sound h in
           (sym decided.reply_is, subst (λ d. stands new d) (sym (becomes (Some ch) (Done approval) c decided)) (changes.ok live c sound (reads.same up c h)));
-      settled = λ clean live c d sound h. let up = (reads.live (changes.was_clean clean)).1 in
+      settled = λ clean live c d sound h. let up = (reads.stays_open (changes.was_clean clean)).1 in
           subst (λ e. leaves new e d) (sym (becomes (Some ch) (Done approval) c (decides up c sound h))) (changes.settled clean up c d sound (reads.same up c h));
     }
 
@@ -164,13 +164,13 @@ module _ {T : Type 0} (faults : StoreFault → Type 0) (meaning : Meaning T) (it
     pub failed : (e : StoreFault) → Changes faults meaning {X = Y} (Err e) mid new (after_order ch)
         → Orders meaning Unavailable old new it
     failed e changes = record {
-      was_live = λ live. reads.was_live (changes.was_live live);
+      was_open = λ live. reads.was_open (changes.was_open live);
       was_clean = λ clean. reads.was_clean (changes.was_clean clean);
       answered = tt;
-      same = λ live c h. changes.err live c (reads.same (changes.was_live live) c h);
-      live = tt;
+      same = λ live c h. changes.err live c (reads.same (changes.was_open live) c h);
+      stays_open = tt;
       kept = tt;
-      shut = λ clean off. absurd (off (reads.live (changes.was_clean clean)).0);
-      settled = λ clean live c sound h. let up = (reads.live (changes.was_clean clean)).1 in
+      shut = λ clean off. absurd (off (reads.stays_open (changes.was_clean clean)).0);
+      settled = λ clean live c sound h. let up = (reads.stays_open (changes.was_clean clean)).1 in
           subst (λ e. leaves new c e) (sym (becomes (Some ch) (Done approval) c (decides up c sound h))) (changes.unsettled clean up c sound (reads.same up c h));
     }

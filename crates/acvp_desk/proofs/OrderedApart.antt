@@ -2,15 +2,15 @@
 use Rattle.std.proofs.Common.{◌≡◌, ◌≢◌, ℕ, Bool, true, false, ◌==◌, Option, None, Some, refl, sym, ap, ◌∙◌, arith}
 use Rattle.std.specs.Prelude.{is_some, option_map, option_and_then, if◌then◌else◌}
 use Rattle.std.proofs.lemmas.Bool.Decides.{nat_tests}
-use Rattle.acvp_tables.specs.Content.{account_at, request_at, subject_of}
+use Rattle.acvp_tables.specs.Content.{account_at, request_at, purpose_of}
 use Rattle.acvp_tables.specs.Own.{account_of_order}
 use Rattle.acvp_tables.specs.State.{State, own, owner_of, record_counts, IsWellNumbered}
 use Rattle.acvp_tables.specs.StateChanges.{after_order_state}
 use Rattle.acvp_tables.specs.declared.change.OrderChange.{OrderChange}
 use Rattle.acvp_tables.specs.declared.change.OrderChange.TheVariants as change
 use Rattle.acvp_tables.specs.declared.rows.RequestRow.{RequestRow}
-use Rattle.acvp_tables.specs.declared.summary.RequestSubject.{RequestSubject}
-use Rattle.acvp_tables.specs.declared.summary.RequestSubject.TheVariants as asks
+use Rattle.acvp_tables.specs.declared.summary.RequestPurpose.{RequestPurpose}
+use Rattle.acvp_tables.specs.declared.summary.RequestPurpose.TheVariants as asks
 use Rattle.acvp_desk.specs.Isolation.{account_of_asked, own_after_order}
 use Rattle.acvp_desk.specs.Orders.{approval, approved_as, has_account, if_initial, is_initial, order_change, order_effect, state_after_order, waiting_request}
 use Rattle.acvp_desk.specs.declared.order.Order.{Order}
@@ -33,7 +33,7 @@ module _ (account_told : (u n : ℕ) (state : State) → account_at n (own u sta
   own_waiting : (n : ℕ) (state : State) → IsWellNumbered state → waiting_request n (own (owner_of n) state) ≡ waiting_request n state
   own_waiting n state well = ap (option_and_then if_initial) (request_told (owner_of n) n state well ∙ rw (same_number (owner_of n)) refl)
 
-  own_number : (u : ℕ) (state : State) (subject : RequestSubject) → approved_as (own u state) u subject ≡ approved_as state u subject
+  own_number : (u : ℕ) (state : State) (subject : RequestPurpose) → approved_as (own u state) u subject ≡ approved_as state u subject
   own_number u state (asks.Registration kind) = rw (counts_told u state) refl
   own_number u state (asks.Certification c) = refl
 
@@ -51,7 +51,7 @@ module _ (account_told : (u n : ℕ) (state : State) → account_at n (own u sta
   own_approval n state well None is = refl
   own_approval n state well (Some row) is =
       let names : row.account ≡ owner_of n = request_names n state row well (waits (request_at n state.requests) row is) in
-      rw (names, own_number (owner_of n) state (subject_of row.body)) refl
+      rw (names, own_number (owner_of n) state (purpose_of row.body)) refl
 
   own_change : (it : Order) (state : State) → IsWellNumbered state → order_change it (own (account_of_asked it) state) ≡ order_change it state
   unfolding order_change

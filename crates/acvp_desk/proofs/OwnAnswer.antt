@@ -21,12 +21,12 @@ use Rattle.acvp_policy.specs.declared.facts.Facts.{Facts}
 use Rattle.acvp_policy.specs.declared.rule.Rule.{Rule}
 use Rattle.acvp_tables.specs.Content.{account_at}
 use Rattle.acvp_tables.specs.State.{State, own, owner_of, IsWellNumbered}
-use Rattle.acvp_desk.specs.Answer.{accepted_change, account_found, asker_of, change_of, facts_from, first_conditions_on, found_of, policy_conditions, reviewer_found, standing_of, who}
+use Rattle.acvp_desk.specs.Answer.{accepted_change, account_found, asker_of, change_of, facts_in, first_conditions_on, found_of, reviewer_found, standing_of, who}
 use Rattle.acvp_desk.specs.Isolation.{who_of}
 use Rattle.acvp_desk.specs.Place.{place_of, unfound}
 use Rattle.acvp_desk.specs.Replies.{set_change}
 use Rattle.acvp_desk.specs.Request.{RequestValue}
-use Rattle.acvp_desk.specs.Sets.{results_material, set_source, verdicts_in_session}
+use Rattle.acvp_desk.specs.Sets.{results_place, set_source, verdicts_in_session}
 use Rattle.acvp_desk.specs.Wish.{action_of_wish}
 use Rattle.acvp_desk.specs.declared.ask.Asker.{Asker}
 use Rattle.acvp_desk.specs.declared.ask.Asker.TheVariants.{Login, Caller}
@@ -41,7 +41,7 @@ use Rattle.acvp_desk.specs.declared.wish.Wish.TheVariants as wish
 use Rattle.acvp_desk.proofs.Alike.{AreAlike, changes_alike, unchanged_by}
 use Rattle.acvp_desk.proofs.FirstBroken.{front_broken}
 use Rattle.acvp_desk.proofs.OwnPlace.{IsOnOwn}
-use Rattle.acvp_desk.proofs.Wishes.{not_reviewed, reads_results, wish_names, wish_no_login}
+use Rattle.acvp_desk.proofs.Wishes.{no_login_at, not_reviewed, policy_asked, reads_results, wish_names}
 
 -- ---- whose a request is
 
@@ -71,23 +71,23 @@ module _ (account_told : (u n : ℕ) (state : State) → account_at n (own u sta
 -- facts of two records in which the same row is found of the caller, who is a reviewer in both or in neither
 pub agree_on_caller : (moment : ℕ) (seeds : List (List ℕ)) (body : List ℕ) (caller : CallerAsk) (one other : State) → account_found (Caller caller) one ≡ account_found (Caller caller) other
     → reviewer_found (Caller caller) one ≡ reviewer_found (Caller caller) other
-    → AgreeOnCaller (facts_from moment (Caller caller) (found_of seeds body (Caller caller) one)) (facts_from moment (Caller caller) (found_of seeds body (Caller caller) other))
+    → AgreeOnCaller (facts_in moment (found_of seeds body (Caller caller) one)) (facts_in moment (found_of seeds body (Caller caller) other))
 unfolding found_of
 agree_on_caller moment seeds body caller one other accounts reviewers = record {
   token = refl;
   standing = ap standing_of accounts;
   reviewer = reviewers;
-  numbers = wish_names seeds (account_of_claims (claims_of caller.token)) one caller.wish ∙ sym (wish_names seeds (account_of_claims (claims_of caller.token)) other caller.wish);
+  numbers = wish_names seeds (account_of_claims (claims_of caller.token)) body one caller.wish ∙ sym (wish_names seeds (account_of_claims (claims_of caller.token)) body other caller.wish);
 }
 
 module _ (agree : (s : Scope) (one other : Facts) → AgreeOnCaller one other → claims_conditions s one ≡ claims_conditions s other) where
   -- a rule on callers refuses both, or none does
   pub refused_or_admitted : (moment : ℕ) (seeds : List (List ℕ)) (body : List ℕ) (caller : CallerAsk) (one other : State) → account_found (Caller caller) one ≡ account_found (Caller caller) other
       → reviewer_found (Caller caller) one ≡ reviewer_found (Caller caller) other
-      → (first_broken (claims_conditions (scope_of (action_of_wish caller.wish)) (facts_from moment (Caller caller) (found_of seeds body (Caller caller) other))) ≡ None
-      → AreAlike moment (Caller caller) (found_of seeds body (Caller caller) one) (found_of seeds body (Caller caller) other))
-      → AreAlike moment (Caller caller) (found_of seeds body (Caller caller) one) (found_of seeds body (Caller caller) other)
-  unfolding policy_conditions policy
+      → (first_broken (claims_conditions (scope_of (action_of_wish caller.wish)) (facts_in moment (found_of seeds body (Caller caller) other))) ≡ None
+      → AreAlike moment (found_of seeds body (Caller caller) one) (found_of seeds body (Caller caller) other))
+      → AreAlike moment (found_of seeds body (Caller caller) one) (found_of seeds body (Caller caller) other)
+  unfolding policy
   refused_or_admitted moment seeds body caller one other accounts reviewers admitted = go (first_broken (claims_conditions s g)) refl
     where
       a : Action
@@ -97,20 +97,20 @@ module _ (agree : (s : Scope) (one other : Facts) → AgreeOnCaller one other �
       s = scope_of a
 
       f : Facts
-      f = facts_from moment (Caller caller) (found_of seeds body (Caller caller) one)
+      f = facts_in moment (found_of seeds body (Caller caller) one)
 
       g : Facts
-      g = facts_from moment (Caller caller) (found_of seeds body (Caller caller) other)
+      g = facts_in moment (found_of seeds body (Caller caller) other)
 
       same : claims_conditions s f ≡ claims_conditions s g
       same = agree s f g (agree_on_caller moment seeds body caller one other accounts reviewers)
 
-      go : (b : Option Rule) → first_broken (claims_conditions s g) ≡ b → AreAlike moment (Caller caller) (found_of seeds body (Caller caller) one) (found_of seeds body (Caller caller) other)
+      go : (b : Option Rule) → first_broken (claims_conditions s g) ≡ b → AreAlike moment (found_of seeds body (Caller caller) one) (found_of seeds body (Caller caller) other)
       go None held = admitted held
       go (Some refusal) broken = inr (
         refusal,
-        front_broken (claims_conditions s f) (resource_conditions a f) refusal (ap first_broken same ∙ broken),
-        front_broken (claims_conditions s g) (resource_conditions a g) refusal broken,
+        ap first_broken (policy_asked moment seeds body (Caller caller) one) ∙ front_broken (claims_conditions s f) (resource_conditions a f) refusal (ap first_broken same ∙ broken),
+        ap first_broken (policy_asked moment seeds body (Caller caller) other) ∙ front_broken (claims_conditions s g) (resource_conditions a g) refusal broken,
       )
 
 -- ---- a caller who isn't refused acts on what is its own
@@ -148,23 +148,23 @@ module _ (owns : (a : Action) (f : Facts) (session : ℕ) → first_broken (clai
 
 -- the account of the facts is the one that acts
 pub acts_as : (moment : ℕ) (seeds : List (List ℕ)) (body : List ℕ) (caller : CallerAsk) (u : ℕ) (state : State) → who (Caller caller) ≡ Some u
-    → account_of (facts_from moment (Caller caller) (found_of seeds body (Caller caller) state)) ≡ u
+    → account_of (facts_in moment (found_of seeds body (Caller caller) state)) ≡ u
 unfolding found_of
 acts_as moment seeds body caller u state named =
-    rw (wish_no_login seeds (account_of_claims (claims_of caller.token)) state caller.wish) (acting (claims_of caller.token) u named)
+    rw (no_login_at (place_of seeds (account_of_claims (claims_of caller.token)) body state caller.wish)) (acting (claims_of caller.token) u named)
 
 -- ---- results change nothing
 
-results_change : (seeds : List (List ℕ)) (session n : ℕ) (body : List ℕ) (verdicts : Option (List Verdict)) (source : Option SetSource) → set_change seeds session n body (results_material verdicts source) ≡ None
+results_change : (seeds : List (List ℕ)) (session n : ℕ) (body : List ℕ) (verdicts : Option (List Verdict)) (source : Option SetSource) → set_change seeds session n body (results_place verdicts source) ≡ None
 results_change seeds session n body None source = refl
 results_change seeds session n body (Some verdicts) source = refl
 
 results_unchanged : (keys : Keys) (moment : ℕ) (r : RequestValue) (caller : CallerAsk) (state : State) → reads_results caller.wish ≡ true
-    → change_of keys moment r (Caller caller) (found_of keys.seed r.body (Caller caller) state) ≡ None
+    → change_of keys moment r.body (found_of keys.seed r.body (Caller caller) state) ≡ None
 unfolding found_of
 results_unchanged keys moment r caller state reads = go caller.wish refl reads
   where
-    go : (it : Wish) → caller.wish ≡ it → reads_results it ≡ true → change_of keys moment r (Caller caller) (found_of keys.seed r.body (Caller caller) state) ≡ None
+    go : (it : Wish) → caller.wish ≡ it → reads_results it ≡ true → change_of keys moment r.body (found_of keys.seed r.body (Caller caller) state) ≡ None
     go (wish.Session n on_session.Results) is reading = rw is refl
     go (wish.Set session n on_set.Results) is reading =
         rw is (results_change keys.seed session n r.body (verdicts_in_session keys.seed session n state.sets) (set_source session n state.sets))
@@ -204,21 +204,20 @@ module _ (account_told : (u n : ℕ) (state : State) → account_at n (own u sta
         own_account_found account_told (Caller caller) u state named,
         not_reviewed caller.wish u (own u state) off,
         not_reviewed caller.wish u state off,
-        ap (λ p. p.subject) place,
-        ap (λ p. p.material) place,
+        place,
       ) refl
 
   pub caller_alike : (moment : ℕ) (seeds : List (List ℕ)) (body : List ℕ) (caller : CallerAsk) (u : ℕ) (state : State) → IsWellNumbered state → who (Caller caller) ≡ Some u
       → reads_results caller.wish ≡ false
-      → AreAlike moment (Caller caller) (found_of seeds body (Caller caller) (own u state)) (found_of seeds body (Caller caller) state)
+      → AreAlike moment (found_of seeds body (Caller caller) (own u state)) (found_of seeds body (Caller caller) state)
   unfolding found_of
   caller_alike moment seeds body caller u state well named off =
       let acted = account_of_claims (claims_of caller.token) in
       refused_or_admitted agree moment seeds body caller (own u state) state (own_account_found account_told (Caller caller) u state named)
       (not_reviewed caller.wish acted (own u state) off ∙ sym (not_reviewed caller.wish acted state off))
       (λ held. inl (caller_found seeds body caller u state well named off
-      (on_own owns caller.wish (facts_from moment (Caller caller) (found_of seeds body (Caller caller) state)) u off
-      (wish_names seeds acted state caller.wish) (acts_as moment seeds body caller u state named) held)))
+      (on_own owns caller.wish (facts_in moment (found_of seeds body (Caller caller) state)) u off
+      (wish_names seeds acted body state caller.wish) (acts_as moment seeds body caller u state named) held)))
 
   -- what it changes
   pub made_alike : (keys : Keys) (moment : ℕ) (r : RequestValue) (u : ℕ) (state : State) → IsWellNumbered state → who_of keys moment r ≡ Some u

@@ -1,6 +1,6 @@
 -- What is found of a wish on what an account owns is found among the account's rows.
 use Rattle.std.proofs.Common.{◌≡◌, ℕ, ◌/◌, List, [], ◌∷◌, map, Bool, true, false, ◌&&◌, ◌==◌, Option, None, Some, refl, sym, ap, ◌∙◌, arith}
-use Rattle.std.specs.Prelude.{IfSome, is_some, option_map, option_and_then, if◌then◌else◌, ⊤, filter, not, length}
+use Rattle.std.specs.Prelude.{Result, Ok, Err, IfSome, is_some, option_map, option_and_then, if◌then◌else◌, ⊤, filter, not, length}
 use Rattle.std.specs.List.{All}
 use Rattle.std.proofs.lemmas.Bool.Decides.{nat_tests}
 use Rattle.std.proofs.lemmas.List.{take-map, drop-map}
@@ -8,6 +8,8 @@ use Rattle.std.proofs.lemmas.List.Elements.{All-head, All-tail}
 use Rattle.acvp_json.specs.declared.certify_body.CertifyBody.{CertifyBody}
 use Rattle.acvp_json.specs.declared.page.Page.{Page}
 use Rattle.acvp_policy.specs.Conditions.{is_none_or}
+use Rattle.acvp_desk.specs.declared.found.RegistryPlace.TheVariants as in_registry
+use Rattle.acvp_policy.specs.declared.rule.Rule.{Rule}
 use Rattle.acvp_registry.specs.Object.{KeptObject, object_vendor}
 use Rattle.acvp_registry.specs.declared.kind.Kind.{Kind}
 use Rattle.acvp_registry.specs.declared.kind.Kind.TheVariants.{Vendor, Module, Environment}
@@ -16,10 +18,11 @@ use Rattle.acvp_tables.specs.State.{State, SessionRecord, SetRecord, own, owner_
 use Rattle.acvp_tables.specs.declared.rows.ObjectRow.{ObjectRow}
 use Rattle.acvp_tables.specs.declared.rows.RequestRow.{RequestRow}
 use Rattle.acvp_desk.specs.Asked.{certification_asked, certified_in, has_own_parts, has_own_vendor, object_in, registration_asked}
-use Rattle.acvp_desk.specs.Place.{certification_of, facts_of_session, listed_session, material_of, place_of, registry_material, reviewed_facts, session_facts, session_material, session_passes, sessions_material, subject_of}
-use Rattle.acvp_desk.specs.Registries.{has_row, kind_of, own_object, own_request}
-use Rattle.acvp_desk.specs.Sets.{if_in_session, if_live_in, set_facts, set_in_session, set_material, submission_for, source_of, submission_to, set_passes}
-use Rattle.acvp_desk.specs.declared.found.Material.TheVariants as material
+use Rattle.acvp_desk.specs.Place.{certification_of, facts_of_session, listed_session, place_of, registry_place, reviewed_facts, session_facts, session_passes, session_place, sessions_page}
+use Rattle.acvp_desk.specs.Registries.{kind_of, own_object, own_request}
+use Rattle.acvp_desk.specs.Sets.{if_in_session, if_live_in, set_facts, set_in_session, set_place, submission_for, source_of, submission_to, set_passes}
+use Rattle.acvp_desk.specs.declared.found.Place.TheVariants as place
+use Rattle.acvp_desk.specs.declared.found.SetPlace.TheVariants as in_set
 use Rattle.acvp_desk.specs.declared.found.Submission.{Submission}
 use Rattle.acvp_desk.specs.declared.wish.Wish.{Wish}
 use Rattle.acvp_desk.specs.declared.wish.Wish.TheVariants as wish
@@ -83,8 +86,8 @@ module _ (session_told : (u n : ℕ) (state : State) → IsWellNumbered state �
     (object_names : (n : ℕ) (kind : Kind) (state : State) (row : ObjectRow) → IsWellNumbered state → object_at kind n state.objects ≡ Some row → row.account ≡ owner_of n)
     (request_names : (n : ℕ) (state : State) (row : RequestRow) → IsWellNumbered state → request_at n state.requests ≡ Some row → row.account ≡ owner_of n)
     (set_names : (n : ℕ) (state : State) (row : SetRecord) → IsWellNumbered state → set_record_at n state.sets ≡ Some row → row.session ≡ n / 100)
-    (certification_names : (n m : ℕ) (state : State) (row : SessionRecord) → IsWellNumbered state → session_record_at n state.sessions ≡ Some row → row.certify ≡ Some m → owner_of m ≡ owner_of n)
-    (certifications_name : (u : ℕ) (state : State) → IsWellNumbered state → All (λ row. IfSome row.certify (λ m. owner_of m ≡ u)) (session_records_of u state.sessions))
+    (certification_names : (n m : ℕ) (state : State) (row : SessionRecord) → IsWellNumbered state → session_record_at n state.sessions ≡ Some row → row.last_request ≡ Some m → owner_of m ≡ owner_of n)
+    (certifications_name : (u : ℕ) (state : State) → IsWellNumbered state → All (λ row. IfSome row.last_request (λ m. owner_of m ≡ u)) (session_records_of u state.sessions))
     (seeds : List (List ℕ)) (u : ℕ) (state : State) (well : IsWellNumbered state) where
   abbrev pub mine : State
   mine = own u state
@@ -102,7 +105,7 @@ module _ (session_told : (u n : ℕ) (state : State) → IsWellNumbered state �
   unfolding session_passes
   own_passes n of = rw (own_live n of) refl
 
-  certify_of : (n : ℕ) (row : SessionRecord) → owner_of n ≡ u → session_record_at n state.sessions ≡ Some row → (certify : Option ℕ) → row.certify ≡ certify
+  certify_of : (n : ℕ) (row : SessionRecord) → owner_of n ≡ u → session_record_at n state.sessions ≡ Some row → (certify : Option ℕ) → row.last_request ≡ certify
       → IfSome certify (λ m. owner_of m ≡ u)
   certify_of n row of found None is = tt
   certify_of n row of found (Some m) is = certification_names n m state row well found is ∙ of
@@ -110,7 +113,7 @@ module _ (session_told : (u n : ℕ) (state : State) → IsWellNumbered state �
   own_facts_of : (n : ℕ) (row : SessionRecord) → owner_of n ≡ u → session_record_at n state.sessions ≡ Some row → facts_of_session seeds mine row ≡ facts_of_session seeds state row
   own_facts_of n row of found =
       let number : row.number ≡ n = found_number n state.sessions row found in
-      rw (own_certification row.certify (certify_of n row of found row.certify refl), own_passes row.number (ap owner_of number ∙ of)) refl
+      rw (own_certification row.last_request (certify_of n row of found row.last_request refl), own_passes row.number (ap owner_of number ∙ of)) refl
 
   own_session_facts : (n : ℕ) → owner_of n ≡ u → session_facts seeds mine n ≡ session_facts seeds state n
   unfolding session_facts
@@ -170,12 +173,12 @@ module _ (session_told : (u n : ℕ) (state : State) → IsWellNumbered state �
       ap (λ rows. option_map (submission_by n rows) (option_and_then (if_live_in session) (set_record_at n mine.sets))) (own_live session of)
       ∙ ap (option_map (submission_to seeds session n state.sets)) (own_live_set session n of)
 
-  own_set_material : (session n : ℕ) (it : SetWish) → owner_of session ≡ u → set_material seeds session n mine.sets it ≡ set_material seeds session n state.sets it
-  own_set_material session n on_set.Read of = rw (own_set_in session n of) refl
-  own_set_material session n on_set.Expected of = rw (own_set_in session n of) refl
-  own_set_material session n on_set.Results of = rw (own_set_in session n of) refl
-  own_set_material session n on_set.Submit of = ap material.Submission (own_submission session n of)
-  own_set_material session n on_set.Resubmit of = ap material.Submission (own_submission session n of)
+  own_set_place : (session n : ℕ) (it : SetWish) → owner_of session ≡ u → set_place seeds session n mine.sets it ≡ set_place seeds session n state.sets it
+  own_set_place session n on_set.Read of = rw (own_set_in session n of) refl
+  own_set_place session n on_set.Expected of = rw (own_set_in session n of) refl
+  own_set_place session n on_set.Results of = rw (own_set_in session n of) refl
+  own_set_place session n on_set.Submit of = ap in_set.Submit (own_submission session n of)
+  own_set_place session n on_set.Resubmit of = ap in_set.Resubmit (own_submission session n of)
 
   -- ---- objects and requests
 
@@ -199,90 +202,62 @@ module _ (session_told : (u n : ℕ) (state : State) → IsWellNumbered state �
   own_parts : (parts : CertifyBody) → has_own_parts u mine.objects parts ≡ has_own_parts u state.objects parts
   own_parts parts = rw (own_object_told Module parts.module, own_object_told Environment parts.environment) refl
 
-  own_registration : (kind : Kind) (body : List ℕ) → registration_asked kind u body mine ≡ registration_asked kind u body state
-  own_registration kind body = rw (requests_told u state, named (object_in kind body)) refl
-    where
-      named : (object : Option KeptObject) → is_none_or object (has_own_vendor u mine.objects) ≡ is_none_or object (has_own_vendor u state.objects)
-      named None = refl
-      named (Some object) = own_vendor object
+  own_registration : (object : Result KeptObject Rule) → registration_asked u object mine ≡ registration_asked u object state
+  own_registration (Err broken) = rw (requests_told u state) refl
+  own_registration (Ok object) = rw (requests_told u state, own_vendor object) refl
 
-  own_certification_asked : (body : List ℕ) → certification_asked u body mine ≡ certification_asked u body state
-  own_certification_asked body = rw (requests_told u state, named (certified_in body)) refl
-    where
-      named : (parts : Option CertifyBody) → is_none_or parts (has_own_parts u mine.objects) ≡ is_none_or parts (has_own_parts u state.objects)
-      named None = refl
-      named (Some parts) = own_parts parts
+  own_certification_asked : (parts : Result CertifyBody Rule) → certification_asked u parts mine ≡ certification_asked u parts state
+  own_certification_asked (Err broken) = rw (requests_told u state) refl
+  own_certification_asked (Ok parts) = rw (requests_told u state, own_parts parts) refl
 
   -- ---- lists
 
-  own_listed : (rows : List SessionRecord) → All (λ row. IfSome row.certify (λ m. owner_of m ≡ u)) rows
+  own_listed : (rows : List SessionRecord) → All (λ row. IfSome row.last_request (λ m. owner_of m ≡ u)) rows
       → map (listed_session mine.requests) rows ≡ map (listed_session state.requests) rows
   own_listed [] named = refl
   own_listed (row ∷ rows) named =
       rw (
-        own_certification row.certify (All-head (λ (row : SessionRecord). IfSome row.certify (λ m. owner_of m ≡ u)) row rows named),
-        own_listed rows (All-tail (λ (row : SessionRecord). IfSome row.certify (λ m. owner_of m ≡ u)) row rows named),
+        own_certification row.last_request (All-head (λ (row : SessionRecord). IfSome row.last_request (λ m. owner_of m ≡ u)) row rows named),
+        own_listed rows (All-tail (λ (row : SessionRecord). IfSome row.last_request (λ m. owner_of m ≡ u)) row rows named),
       ) refl
 
-  own_sessions_material : (at : Option Page) → sessions_material u mine at ≡ sessions_material u state at
-  own_sessions_material None = refl
-  own_sessions_material (Some at) =
+  own_sessions_page : (at : Page) → sessions_page u mine at ≡ sessions_page u state at
+  own_sessions_page at =
       let rows = session_records_of u state.sessions in
       let shown : map (listed_session mine.requests) (page at.offset at.limit rows) ≡ map (listed_session state.requests) (page at.offset at.limit rows) =
       page_map (listed_session mine.requests) at.offset at.limit rows ∙ ap (page at.offset at.limit) (own_listed rows (certifications_name u state well))
       ∙ sym (page_map (listed_session state.requests) at.offset at.limit rows) in
       rw (sessions_told u state, shown) refl
 
-  -- ---- what a path names, and what is read for the reply
+  -- ---- what is found
 
-  own_has_row : (it : RegistryWish) → has_row u mine it ≡ has_row u state it
-  own_has_row (on_registry.Read of n) = ap is_some (own_object_told (kind_of of) n)
-  own_has_row (on_registry.New of) = refl
-  own_has_row (on_registry.List of at) = refl
-  own_has_row (on_registry.ReadRequest n) = ap is_some (own_request_told n)
-  own_has_row (on_registry.ListRequests at) = refl
+  own_session_place : (n : ℕ) (it : SessionWish) → owner_of n ≡ u → session_place seeds n mine it ≡ session_place seeds n state it
+  own_session_place n on_session.Read of = rw (own_live n of) refl
+  own_session_place n on_session.Cancel of = refl
+  own_session_place n on_session.Results of = rw (own_live n of) refl
+  own_session_place n on_session.ListSets of = rw (own_live n of) refl
+  own_session_place n on_session.ListReviewers of = rw (own_reviewers n of) refl
+  own_session_place n on_session.AddReviewer of = rw (own_reviewers n of) refl
 
-  own_subject : (it : Wish) → IsOnOwn u it → subject_of seeds u mine it ≡ subject_of seeds u state it
-  own_subject (wish.Account it) on = refl
-  own_subject (wish.Algorithm n) on = refl
-  own_subject (wish.Session n it) on = rw (own_session_facts n on) refl
-  own_subject (wish.Reviewer n m) on = rw (own_reviewed_facts n m on) refl
-  own_subject (wish.Set session n it) on = rw (own_set_facts session n on) refl
-  own_subject wish.NewSession on = refl
-  own_subject (wish.CancelSet session n) on = rw (own_set_facts session n on) refl
-  own_subject (wish.ListSessions at) on = refl
-  own_subject (wish.Certify n) on = rw (own_session_facts n on) refl
-  own_subject (wish.Registry it) on = rw (own_has_row it) refl
-
-  own_session_material : (n : ℕ) (it : SessionWish) → owner_of n ≡ u → session_material seeds n mine it ≡ session_material seeds n state it
-  own_session_material n on_session.Read of = rw (own_live n of) refl
-  own_session_material n on_session.Cancel of = refl
-  own_session_material n on_session.Results of = rw (own_live n of) refl
-  own_session_material n on_session.ListSets of = rw (own_live n of) refl
-  own_session_material n on_session.ListReviewers of = rw (own_reviewers n of) refl
-  own_session_material n on_session.AddReviewer of = rw (own_reviewers n of) refl
-
-  own_registry_material : (body : List ℕ) (it : RegistryWish) → registry_material u body mine it ≡ registry_material u body state it
-  own_registry_material body (on_registry.Read of n) = rw (own_object_told (kind_of of) n) refl
-  own_registry_material body (on_registry.New of) = rw (own_registration (kind_of of) body) refl
-  own_registry_material body (on_registry.List of None) = refl
-  own_registry_material body (on_registry.List of (Some at)) = rw (objects_told u (kind_of of) state) refl
-  own_registry_material body (on_registry.ReadRequest n) = rw (own_request_told n) refl
-  own_registry_material body (on_registry.ListRequests None) = refl
-  own_registry_material body (on_registry.ListRequests (Some at)) = rw (requests_told u state) refl
-
-  own_material : (body : List ℕ) (it : Wish) → IsOnOwn u it → material_of seeds u body mine it ≡ material_of seeds u body state it
-  own_material body (wish.Account on_account.Read) on = ap material.Counts (counts_told u state)
-  own_material body (wish.Account on_account.ListAlgorithms) on = refl
-  own_material body (wish.Algorithm n) on = refl
-  own_material body (wish.Session n it) on = own_session_material n it on
-  own_material body (wish.Reviewer n m) on = rw (own_reviewers n on) refl
-  own_material body (wish.Set session n it) on = own_set_material session n it on
-  own_material body wish.NewSession on = ap (λ n. material.SessionCount n.sessions) (counts_told u state)
-  own_material body (wish.CancelSet session n) on = rw (own_live session on) refl
-  own_material body (wish.ListSessions at) on = own_sessions_material at
-  own_material body (wish.Certify n) on = rw (own_certification_asked body) refl
-  own_material body (wish.Registry it) on = own_registry_material body it
+  own_registry_place : (body : List ℕ) (it : RegistryWish) → registry_place u body mine it ≡ registry_place u body state it
+  own_registry_place body (on_registry.Read of n) = rw (own_object_told (kind_of of) n) refl
+  own_registry_place body (on_registry.New of) = ap (in_registry.New of (object_in (kind_of of) body)) (own_registration (object_in (kind_of of) body))
+  own_registry_place body (on_registry.List of None) = refl
+  own_registry_place body (on_registry.List of (Some at)) = rw (objects_told u (kind_of of) state) refl
+  own_registry_place body (on_registry.ReadRequest n) = rw (own_request_told n) refl
+  own_registry_place body (on_registry.ListRequests None) = refl
+  own_registry_place body (on_registry.ListRequests (Some at)) = rw (requests_told u state) refl
 
   pub own_place : (body : List ℕ) (it : Wish) → IsOnOwn u it → place_of seeds u body mine it ≡ place_of seeds u body state it
-  own_place body it on = rw (own_subject it on, own_material body it on) refl
+  own_place body (wish.Account on_account.Read) on = ap place.Account (counts_told u state)
+  own_place body (wish.Account on_account.ListAlgorithms) on = refl
+  own_place body (wish.Algorithm n) on = refl
+  own_place body (wish.Session n it) on = rw (own_session_facts n on, own_session_place n it on) refl
+  own_place body (wish.Reviewer n m) on = rw (own_reviewed_facts n m on, own_reviewers n on) refl
+  own_place body (wish.Set session n it) on = rw (own_set_facts session n on, own_set_place session n it on) refl
+  own_place body wish.NewSession on = ap (λ n. place.NewSession n.sessions) (counts_told u state)
+  own_place body (wish.CancelSet session n) on = rw (own_set_facts session n on, own_live session on) refl
+  own_place body (wish.ListSessions None) on = refl
+  own_place body (wish.ListSessions (Some at)) on = ap (λ found. place.Sessions (Some found)) (own_sessions_page at)
+  own_place body (wish.Certify n) on = rw (own_session_facts n on, own_certification_asked (certified_in body)) refl
+  own_place body (wish.Registry it) on = ap place.Registry (own_registry_place body it)

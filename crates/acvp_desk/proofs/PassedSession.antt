@@ -6,7 +6,7 @@ use Rattle.std.proofs.lemmas.Bool.Decides.{nat_tests}
 use Rattle.std.proofs.lemmas.List.Elements.{All-head, All-tail}
 use Rattle.acvp_policy.specs.Conditions.{is_some_and}
 use Rattle.acvp_tables.specs.Content.{Content, is_live_in, live_sets, session_at, set_summary}
-use Rattle.acvp_tables.specs.Counted.{is_counted, is_passed, has_passed, live_count, passed_count}
+use Rattle.acvp_tables.specs.Counted.{is_counted, is_passed, answers_passed, live_count, passed_count}
 use Rattle.acvp_tables.specs.Graded.{GradedValue}
 use Rattle.acvp_tables.specs.State.{state_of, set_record, live_records}
 use Rattle.acvp_tables.specs.declared.rows.SessionRow.{SessionRow}
@@ -40,11 +40,11 @@ graded_disposition : (seeds : List (List ℕ)) (row : SetRow) → IsGradedSet se
 unfolding IsGradedSet set_disposition
 graded_disposition seeds row right = rw (right.1) (disposed_at row right.0 row.graded right.2)
 
-pub passed_is : (graded : Option GradedValue) → has_passed graded ≡ is_some_and (option_map (λ (g : GradedValue). g.disposition) graded) is_passed
+pub passed_is : (graded : Option GradedValue) → answers_passed graded ≡ is_some_and (option_map (λ (g : GradedValue). g.disposition) graded) is_passed
 passed_is None = refl
 passed_is (Some g) = refl
 
-pub graded_passes : (seeds : List (List ℕ)) (row : SetRow) → IsGradedSet seeds row → has_passed row.graded ≡ set_passes seeds (set_record row)
+pub graded_passes : (seeds : List (List ℕ)) (row : SetRow) → IsGradedSet seeds row → answers_passed row.graded ≡ set_passes seeds (set_record row)
 graded_passes seeds row right = passed_is row.graded ∙ ap (λ d. is_some_and d is_passed) (graded_disposition seeds row right)
 
 -- what is read of a session's sets is what they come to
@@ -70,9 +70,9 @@ any_length f (x ∷ xs) = grind (arith, nat_tests)
 
 fewer_passed : (m : ℕ) (sets : List SetRow) → passed_count m sets ≤ live_count m sets
 fewer_passed m [] = omega (arith)
-fewer_passed m (row ∷ sets) = go (is_live_in m row) (has_passed row.graded) refl refl (fewer_passed m sets)
+fewer_passed m (row ∷ sets) = go (is_live_in m row) (answers_passed row.graded) refl refl (fewer_passed m sets)
   where
-    go : (live pass : Bool) → is_live_in m row ≡ live → has_passed row.graded ≡ pass → passed_count m sets ≤ live_count m sets
+    go : (live pass : Bool) → is_live_in m row ≡ live → answers_passed row.graded ≡ pass → passed_count m sets ≤ live_count m sets
         → passed_count m (row ∷ sets) ≤ live_count m (row ∷ sets)
     go true true live pass later = rw (live, pass) (omega (arith, later))
     go true false live pass later = rw (live, pass) (omega (arith, later))
@@ -89,10 +89,10 @@ all_counted : (seeds : List (List ℕ)) (m : ℕ) (sets : List SetRow) → All (
     → (passed_count m sets == live_count m sets) ≡ list_all (set_passes seeds) (map set_record (live_sets m sets))
 all_counted seeds m [] graded = refl
 all_counted seeds m (row ∷ sets) graded =
-    go (is_live_in m row) (has_passed row.graded) refl refl (graded_passes seeds row (All-head (IsGradedSet seeds) row sets graded))
+    go (is_live_in m row) (answers_passed row.graded) refl refl (graded_passes seeds row (All-head (IsGradedSet seeds) row sets graded))
     (fewer_passed m sets) (all_counted seeds m sets (All-tail (IsGradedSet seeds) row sets graded))
   where
-    go : (live pass : Bool) → is_live_in m row ≡ live → has_passed row.graded ≡ pass → has_passed row.graded ≡ set_passes seeds (set_record row)
+    go : (live pass : Bool) → is_live_in m row ≡ live → answers_passed row.graded ≡ pass → answers_passed row.graded ≡ set_passes seeds (set_record row)
         → passed_count m sets ≤ live_count m sets
         → (passed_count m sets == live_count m sets) ≡ list_all (set_passes seeds) (map set_record (live_sets m sets))
         → (passed_count m (row ∷ sets) == live_count m (row ∷ sets)) ≡ list_all (set_passes seeds) (map set_record (live_sets m (row ∷ sets)))

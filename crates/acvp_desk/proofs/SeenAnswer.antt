@@ -28,17 +28,18 @@ use Rattle.acvp_policy.specs.declared.rule.Rule.{Rule}
 use Rattle.acvp_policy.specs.declared.rule.Rule.TheVariants as rule
 use Rattle.acvp_tables.specs.Content.{account_at, is_reviewer}
 use Rattle.acvp_tables.specs.State.{State, SessionRecord, SetRecord, own, seen, may_see, owner_of, session_record_at, set_record_at, live_records, IsWellNumbered}
-use Rattle.acvp_desk.specs.Answer.{account_found, answer, asker_of, facts_from, first_conditions, first_conditions_on, found_of, later_conditions, later_of, own_conditions, policy_conditions, reply_of, reply_to, reviewer_found, who}
+use Rattle.acvp_desk.specs.Answer.{account_found, answer, asker_of, facts_in, first_conditions, first_conditions_on, found_of, later_conditions, later_of, own_conditions, policy_conditions, reply_of, reply_to, reviewer_found, who}
 use Rattle.acvp_desk.specs.Isolation.{who_of, SeesTheSame}
 use Rattle.acvp_desk.specs.OwnConditions.{set_conditions}
-use Rattle.acvp_desk.specs.Place.{facts_of_session, place_of, reviewed, session_facts, session_passes, set_outcome, set_outcomes, subject_of}
-use Rattle.acvp_desk.specs.Replies.{disposition_at, prompts_from, result_shown, results_reply, set_reply}
+use Rattle.acvp_desk.specs.Place.{facts_of_session, place_of, reviewed, session_facts, session_passes, set_outcome, set_outcomes, subject_at}
+use Rattle.acvp_desk.specs.Replies.{disposition_at, prompts_from, result_shown, session_reply, set_reply}
 use Rattle.acvp_desk.specs.Request.{RequestValue}
-use Rattle.acvp_desk.specs.Sets.{facts_of_set, if_in_session, results_material, set_facts, set_in_session, set_source, source_of, verdicts_in_session, verdicts_on_set}
+use Rattle.acvp_desk.specs.Sets.{facts_of_set, if_in_session, results_place, set_facts, set_in_session, set_source, source_of, verdicts_in_session, verdicts_on_set}
 use Rattle.acvp_desk.specs.Wish.{action_of_wish}
 use Rattle.acvp_desk.specs.declared.ask.Asker.{Asker}
 use Rattle.acvp_desk.specs.declared.ask.Asker.TheVariants.{Login, Caller}
 use Rattle.acvp_desk.specs.declared.found.Found.{Found}
+use Rattle.acvp_desk.specs.declared.found.SessionPlace.TheVariants as in_session
 use Rattle.acvp_desk.specs.declared.found.SetOutcome.{SetOutcome}
 use Rattle.acvp_desk.specs.declared.found.SetSource.{SetSource}
 use Rattle.acvp_desk.specs.declared.keys.Keys.{Keys}
@@ -53,7 +54,7 @@ use Rattle.acvp_desk.proofs.FirstBroken.{front_broken}
 use Rattle.acvp_desk.proofs.Nobody.{earlier_or, judged_err, refused_by}
 use Rattle.acvp_desk.proofs.OwnAnswer.{acting, acts_as, agree_on_caller, asked_by, caller_alike, login_own, own_account_found}
 use Rattle.acvp_desk.proofs.OwnPlace.{IsOnOwn, found_number}
-use Rattle.acvp_desk.proofs.Wishes.{reads_results}
+use Rattle.acvp_desk.proofs.Wishes.{policy_asked, reads_results}
 
 -- ---- who may see a session
 
@@ -180,26 +181,26 @@ set_list_same (Some a) None agree = absurd agree
 
 -- ---- the replies
 
-results_reply_same : (moment : ℕ) (one other : Option SessionFacts) (sets : Option (List SetOutcome)) → AgreeOnResults one other → results_reply moment one sets ≡ results_reply moment other sets
-results_reply_same moment None None sets agree = refl
-results_reply_same moment (Some a) (Some b) None agree = refl
-results_reply_same moment (Some a) (Some b) (Some sets) agree =
+results_reply_same : (moment n : ℕ) (body : List ℕ) (one other : Option SessionFacts) (sets : List SetOutcome) → AgreeOnResults one other
+    → option_and_then (session_reply moment n body (in_session.Results sets)) one ≡ option_and_then (session_reply moment n body (in_session.Results sets)) other
+results_reply_same moment n body None None sets agree = refl
+results_reply_same moment n body (Some a) (Some b) sets agree =
     ap (λ (created : ℕ). Some (session_results_data a.passed (map (λ (set : SetOutcome). record { vs = set.vs; disposition = disposition_at moment created set.disposition }) sets))) agree.1
     ∙ ap (λ (passed : Bool). Some (session_results_data passed (map (result_shown moment b) sets))) agree.2
-results_reply_same moment None (Some b) sets agree = absurd agree
-results_reply_same moment (Some a) None sets agree = absurd agree
+results_reply_same moment n body None (Some b) sets agree = absurd agree
+results_reply_same moment n body (Some a) None sets agree = absurd agree
 
 set_results_same : (seeds : List (List ℕ)) (moment n : ℕ) (one other : Option SetFacts) (verdicts : Option (List Verdict)) (source : Option SetSource) → AgreeOnSetResults one other
-    → set_reply seeds moment n on_set.Results one (results_material verdicts source) ≡ set_reply seeds moment n on_set.Results other (results_material verdicts source)
+    → option_and_then (set_reply seeds moment n (results_place verdicts source)) one ≡ option_and_then (set_reply seeds moment n (results_place verdicts source)) other
 set_results_same seeds moment n None None verdicts source agree = refl
 set_results_same seeds moment n (Some a) (Some b) None source agree =
-    ap (λ (created : ℕ). option_and_then (λ (prompts : PromptsValue). Some (set_results_data n (disposition_at moment created None) (verdicts_of (standard_of prompts) [])))
-    (option_and_then (prompts_from seeds n) source)) agree.1
+    ap (λ (created : ℕ). option_and_then (λ (source : SetSource). option_map (λ (prompts : PromptsValue). set_results_data n (disposition_at moment created None) (verdicts_of (standard_of prompts) []))
+    (prompts_from seeds n source)) source) agree.1
 set_results_same seeds moment n (Some a) (Some b) (Some verdicts) source agree = refl
 set_results_same seeds moment n None (Some b) verdicts source agree = absurd agree
 set_results_same seeds moment n (Some a) None verdicts source agree = absurd agree
 
-none_asked : (seeds : List (List ℕ)) (n : ℕ) (body : List ℕ) (verdicts : Option (List Verdict)) (source : Option SetSource) → set_conditions seeds n body (results_material verdicts source) ≡ []
+none_asked : (seeds : List (List ℕ)) (n : ℕ) (body : List ℕ) (verdicts : Option (List Verdict)) (source : Option SetSource) → set_conditions seeds n body (results_place verdicts source) ≡ []
 none_asked seeds n body None source = refl
 none_asked seeds n body (Some verdicts) source = refl
 
@@ -214,50 +215,54 @@ module _ (agree : (s : Scope) (one other : Facts) → AgreeOnCaller one other �
   found it state = found_of keys.seed r.body (asks it) state
 
   abbrev told : Wish → State → Result (Option Data) Rule
-  told it state = judged (first_conditions moment r ++ later_conditions keys.seed moment r (asks it) (found it state)) (reply_of keys moment r (asks it) (found it state))
+  told it state = judged (first_conditions moment r ++ later_conditions keys.seed moment r.body (found it state)) (reply_of keys moment r.body (found it state))
 
   -- where a rule on callers refuses both
   refused : (it : Wish) (refusal : Rule) (state : State)
-      → first_broken (claims_conditions (scope_of (action_of_wish it)) (facts_from moment (asks it) (found it state))) ≡ Some refusal
+      → first_broken (claims_conditions (scope_of (action_of_wish it)) (facts_in moment (found it state))) ≡ Some refusal
       → told it state ≡ Err (earlier_or (first_broken (first_conditions moment r)) refusal)
-  unfolding policy_conditions policy
+  unfolding policy
   refused it refusal state broken =
-      let f = facts_from moment (asks it) (found it state) in
+      let f = facts_in moment (found it state) in
       let a = action_of_wish it in
-      judged_err (first_conditions moment r ++ later_conditions keys.seed moment r (asks it) (found it state)) (reply_of keys moment r (asks it) (found it state)) _
-      (refused_by (first_conditions moment r) (later_conditions keys.seed moment r (asks it) (found it state)) refusal
-      (front_broken (policy_conditions moment (asks it) (found it state)) (own_conditions keys.seed r (asks it) (found it state)) refusal
-      (front_broken (claims_conditions (scope_of a) f) (resource_conditions a f) refusal broken)))
+      judged_err (first_conditions moment r ++ later_conditions keys.seed moment r.body (found it state)) (reply_of keys moment r.body (found it state)) _
+      (refused_by (first_conditions moment r) (later_conditions keys.seed moment r.body (found it state)) refusal
+      (front_broken (policy_conditions moment (found it state)) (own_conditions keys.seed r.body (found it state)) refusal
+      (ap first_broken (policy_asked moment keys.seed r.body (asks it) state) ∙ front_broken (claims_conditions (scope_of a) f) (resource_conditions a f) refusal broken)))
 
   -- where the conditions behind those on callers are the same, and the reply is
-  admitted : (it : Wish) → AgreeOnCaller (facts_from moment (asks it) (found it one)) (facts_from moment (asks it) (found it other))
-      → resource_conditions (action_of_wish it) (facts_from moment (asks it) (found it one)) ≡ resource_conditions (action_of_wish it) (facts_from moment (asks it) (found it other))
-      → own_conditions keys.seed r (asks it) (found it one) ≡ own_conditions keys.seed r (asks it) (found it other)
-      → reply_of keys moment r (asks it) (found it one) ≡ reply_of keys moment r (asks it) (found it other) → told it one ≡ told it other
-  unfolding policy_conditions policy
+  admitted : (it : Wish) → AgreeOnCaller (facts_in moment (found it one)) (facts_in moment (found it other))
+      → resource_conditions (action_of_wish it) (facts_in moment (found it one)) ≡ resource_conditions (action_of_wish it) (facts_in moment (found it other))
+      → own_conditions keys.seed r.body (found it one) ≡ own_conditions keys.seed r.body (found it other)
+      → reply_of keys moment r.body (found it one) ≡ reply_of keys moment r.body (found it other) → told it one ≡ told it other
+  unfolding policy
   admitted it callers resources owned replies =
       let a = action_of_wish it in
-      let f = facts_from moment (asks it) (found it one) in
-      let g = facts_from moment (asks it) (found it other) in
+      let f = facts_in moment (found it one) in
+      let g = facts_in moment (found it other) in
       let first = first_conditions moment r in
-      ap (λ claims. judged (first ++ ((claims ++ resource_conditions a f) ++ own_conditions keys.seed r (asks it) (found it one))) (reply_of keys moment r (asks it) (found it one))) (agree (scope_of a) f g callers)
-      ∙ ap (λ resource. judged (first ++ ((claims_conditions (scope_of a) g ++ resource) ++ own_conditions keys.seed r (asks it) (found it one))) (reply_of keys moment r (asks it) (found it one))) resources
-      ∙ ap (λ own. judged (first ++ ((claims_conditions (scope_of a) g ++ resource_conditions a g) ++ own)) (reply_of keys moment r (asks it) (found it one))) owned
-      ∙ ap (λ reply. judged (first ++ ((claims_conditions (scope_of a) g ++ resource_conditions a g) ++ own_conditions keys.seed r (asks it) (found it other))) reply) replies
+      let own = λ (state : State). own_conditions keys.seed r.body (found it state) in
+      let reply = λ (state : State). reply_of keys moment r.body (found it state) in
+      ap (λ decided. judged (first ++ (decided ++ own one)) (reply one)) (policy_asked moment keys.seed r.body (asks it) one)
+      ∙ ap (λ claims. judged (first ++ ((claims ++ resource_conditions a f) ++ own one)) (reply one)) (agree (scope_of a) f g callers)
+      ∙ ap (λ resource. judged (first ++ ((claims_conditions (scope_of a) g ++ resource) ++ own one)) (reply one)) resources
+      ∙ ap (λ asked. judged (first ++ ((claims_conditions (scope_of a) g ++ resource_conditions a g) ++ asked)) (reply one)) owned
+      ∙ ap (λ shown. judged (first ++ ((claims_conditions (scope_of a) g ++ resource_conditions a g) ++ own other)) shown) replies
+      ∙ sym (ap (λ decided. judged (first ++ (decided ++ own other)) (reply other)) (policy_asked moment keys.seed r.body (asks it) other))
 
-  session_told : (n : ℕ) → AgreeOnCaller (facts_from moment (asks (wish.Session n on_session.Results)) (found (wish.Session n on_session.Results) one))
-      (facts_from moment (asks (wish.Session n on_session.Results)) (found (wish.Session n on_session.Results) other))
+  session_told : (n : ℕ) → AgreeOnCaller (facts_in moment (found (wish.Session n on_session.Results) one))
+      (facts_in moment (found (wish.Session n on_session.Results) other))
       → session_record_at n one.sessions ≡ session_record_at n other.sessions → live_records n one.sets ≡ live_records n other.sets
       → told (wish.Session n on_session.Results) one ≡ told (wish.Session n on_session.Results) other
   unfolding found_of
   session_told n callers records live =
       let facts = facts_agree keys.seed n one other records live in
       admitted (wish.Session n on_session.Results) callers (session_list_same (session_facts keys.seed one n) (session_facts keys.seed other n) facts) refl
-      (ap (λ rows. results_reply moment (session_facts keys.seed one n) (Some (map (set_outcome keys.seed) rows))) live
-      ∙ results_reply_same moment (session_facts keys.seed one n) (session_facts keys.seed other n) (Some (set_outcomes keys.seed n other)) facts)
+      (ap (λ rows. option_and_then (session_reply moment n r.body (in_session.Results (map (set_outcome keys.seed) rows))) (session_facts keys.seed one n)) live
+      ∙ results_reply_same moment n r.body (session_facts keys.seed one n) (session_facts keys.seed other n) (set_outcomes keys.seed n other) facts)
 
-  set_told : (session n : ℕ) → AgreeOnCaller (facts_from moment (asks (wish.Set session n on_set.Results)) (found (wish.Set session n on_set.Results) one))
-      (facts_from moment (asks (wish.Set session n on_set.Results)) (found (wish.Set session n on_set.Results) other))
+  set_told : (session n : ℕ) → AgreeOnCaller (facts_in moment (found (wish.Set session n on_set.Results) one))
+      (facts_in moment (found (wish.Set session n on_set.Results) other))
       → session_record_at session one.sessions ≡ session_record_at session other.sessions → live_records session one.sets ≡ live_records session other.sets
       → set_in_session session n one.sets ≡ set_in_session session n other.sets
       → told (wish.Set session n on_set.Results) one ≡ told (wish.Set session n on_set.Results) other
@@ -270,7 +275,7 @@ module _ (agree : (s : Scope) (one other : Facts) → AgreeOnCaller one other �
       let source = λ (state : State). set_source session n state.sets in
       admitted (wish.Set session n on_set.Results) callers (set_list_same (set_facts (session_facts seeds one session) session n one.sets) (set_facts (session_facts seeds other session) session n other.sets) sets)
       (none_asked seeds n r.body (verdicts one) (source one) ∙ sym (none_asked seeds n r.body (verdicts other) (source other)))
-      (ap (λ row. set_reply seeds moment n on_set.Results (set_facts (session_facts seeds one session) session n one.sets) (results_material (option_and_then (verdicts_on_set seeds) row) (option_map source_of row))) same
+      (ap (λ row. option_and_then (set_reply seeds moment n (results_place (option_and_then (verdicts_on_set seeds) row) (option_map source_of row))) (set_facts (session_facts seeds one session) session n one.sets)) same
       ∙ set_results_same seeds moment n (set_facts (session_facts seeds one session) session n one.sets) (set_facts (session_facts seeds other session) session n other.sets) (verdicts other) (source other) sets)
 
 -- ---- all of it
@@ -297,10 +302,10 @@ module _ (set_names : (n : ℕ) (state : State) (row : SetRecord) → IsWellNumb
   -- on results of a session, or of a vector set of it, both are refused, or the session is seen in both
   results_alike : (token : Token) (it : Wish) (n : ℕ) → who (Caller (record { token = token; wish = it })) ≡ Some u
       → ((state : State) → reviewed it u state ≡ is_reviewer n u state.reviewers)
-      → IsOfItsKind (action_of_wish it) (resource_of (subject_of keys.seed (account_of_claims (claims_of token)) one it))
-      → IsOfSession n (resource_of (subject_of keys.seed (account_of_claims (claims_of token)) one it))
-      → (AgreeOnCaller (facts_from moment (Caller (record { token = token; wish = it })) (found_of keys.seed r.body (Caller (record { token = token; wish = it })) one))
-      (facts_from moment (Caller (record { token = token; wish = it })) (found_of keys.seed r.body (Caller (record { token = token; wish = it })) other))
+      → IsOfItsKind (action_of_wish it) (resource_of (subject_at (place_of keys.seed (account_of_claims (claims_of token)) r.body one it)))
+      → IsOfSession n (resource_of (subject_at (place_of keys.seed (account_of_claims (claims_of token)) r.body one it)))
+      → (AgreeOnCaller (facts_in moment (found_of keys.seed r.body (Caller (record { token = token; wish = it })) one))
+      (facts_in moment (found_of keys.seed r.body (Caller (record { token = token; wish = it })) other))
       → may_see u (owner_of n) n one ≡ true → told agree keys moment r token one other it one ≡ told agree keys moment r token one other it other)
       → told agree keys moment r token one other it one ≡ told agree keys moment r token one other it other
   unfolding found_of
@@ -313,10 +318,10 @@ module _ (set_names : (n : ℕ) (state : State) (row : SetRecord) → IsWellNumb
       a = action_of_wish it
 
       f : Facts
-      f = facts_from moment (Caller caller) (found_of keys.seed r.body (Caller caller) one)
+      f = facts_in moment (found_of keys.seed r.body (Caller caller) one)
 
       g : Facts
-      g = facts_from moment (Caller caller) (found_of keys.seed r.body (Caller caller) other)
+      g = facts_in moment (found_of keys.seed r.body (Caller caller) other)
 
       acted : account_of_claims (claims_of token) ≡ u
       acted = acting (claims_of token) u named

@@ -42,10 +42,10 @@ module _ (follow : (keys : Keys) (moment : ℕ) (r : RequestValue) (c : Content)
         let given = served.given clean c kept h in
         inr (content_effect keys moment r c, given.1, left c kept)
     served_apart (Denied broken) changed served clean c kept h = elim (served.denied clean c kept h) [
-      | inl unavailable ↦ inl (unavailable, λ live. served.same live c (h (served.was_live live)))
+      | inl unavailable ↦ inl (unavailable, λ live. served.same live c (h (served.was_open live)))
       | inr is ↦ inr (
         c,
-        (λ live. served.same live c (h (served.was_live live))),
+        (λ live. served.same live c (h (served.was_open live))),
         (λ v. sym (ap (λ (d : Content). own v (state_of d)) (stays c broken is)) ∙ left c kept v),
       )
     ]

@@ -1,6 +1,6 @@
 -- No definition of an answer says that the server is unavailable.
 use Rattle.std.proofs.Common.{◌≡◌, ℕ, List, [], ◌∷◌, ◌++◌, map, Bool, true, false, ◌&&◌, Option, None, Some, Err, refl}
-use Rattle.std.specs.Prelude.{if◌then◌else◌, not}
+use Rattle.std.specs.Prelude.{Ok, Result, option_map, option_and_then, if◌then◌else◌, not}
 use Rattle.std.specs.List.{flat_map, list_all}
 use Rattle.acvp_caps.specs.Algorithms.{is_hmac_of}
 use Rattle.acvp_caps.specs.Registered.{algorithm_at, algorithm_conditions, capabilities_at, capability_conditions, parameter_conditions, registration_conditions}
@@ -9,7 +9,7 @@ use Rattle.acvp_caps.specs.declared.CapFault.{CapFault}
 use Rattle.acvp_caps.specs.declared.CapFault.TheVariants as cap
 use Rattle.acvp_gen.specs.Prompt.{PromptsValue}
 use Rattle.acvp_json.specs.AnswersBody.{all_given_conditions, answers_body_conditions, submission_conditions}
-use Rattle.acvp_json.specs.CertifyBody.{certify_body_conditions}
+use Rattle.acvp_json.specs.CertifyBody.{certify_body_of, certify_body_conditions}
 use Rattle.acvp_json.specs.Data.{Data}
 use Rattle.acvp_json.specs.Envelope.{envelope_conditions, object_of}
 use Rattle.acvp_json.specs.LoginBody.{login_body_conditions}
@@ -19,7 +19,7 @@ use Rattle.acvp_json.specs.SubmittedAnswers.{GivenValue, SubmissionValue, submis
 use Rattle.acvp_json.specs.declared.fault.BodyFault.{BodyFault}
 use Rattle.acvp_json.specs.declared.fault.BodyFault.TheVariants as fault
 use Rattle.acvp_mac.specs.Conditions.{Condition, first_broken, with_fault}
-use Rattle.acvp_policy.specs.Conditions.{is_reviewer}
+use Rattle.acvp_policy.specs.Conditions.{claims_of, is_reviewer}
 use Rattle.acvp_policy.specs.Policy.{caller_conditions, claims_conditions, policy, resource_conditions, session_conditions}
 use Rattle.acvp_policy.specs.Scope.{scope_of}
 use Rattle.acvp_policy.specs.declared.action.Action.{Action}
@@ -29,29 +29,36 @@ use Rattle.acvp_policy.specs.declared.action.Scope.TheVariants as scope
 use Rattle.acvp_policy.specs.declared.facts.Facts.{Facts}
 use Rattle.acvp_policy.specs.declared.rule.Rule.{Rule}
 use Rattle.acvp_policy.specs.declared.rule.Rule.TheVariants as rule
+use Rattle.acvp_policy.specs.Decision.{account_of_claims}
 use Rattle.acvp_registry.specs.Object.{object_conditions}
 use Rattle.acvp_registry.specs.declared.fault.RegFault.{RegFault}
 use Rattle.acvp_registry.specs.declared.fault.RegFault.TheVariants as reg
+use Rattle.acvp_registry.specs.declared.kind.Kind.{Kind}
 use Rattle.acvp_tables.specs.State.{State}
-use Rattle.acvp_desk.specs.Answer.{action_of, answer, asker_of, conditions, facts_from, first_conditions, first_conditions_on, found_of, later_of, own_conditions, policy_conditions, reply_to}
-use Rattle.acvp_desk.specs.Asked.{asked_conditions, asked_in, registered_conditions}
+use Rattle.acvp_desk.specs.Answer.{action_in, answer, asker_of, conditions, facts_in, first_conditions, first_conditions_on, found_of, later_of, own_conditions, policy_conditions, reply_to}
+use Rattle.acvp_desk.specs.Asked.{certified_conditions, certified_in, judged_read, kept_as, object_in, requested_conditions, registered_conditions}
 use Rattle.acvp_desk.specs.Bodies.{body_conditions, object_conditions as conditions_on, object_rule, registration_rule, rule_of}
-use Rattle.acvp_desk.specs.OwnConditions.{prompted_conditions, set_conditions, wish_conditions}
+use Rattle.acvp_desk.specs.OwnConditions.{place_conditions, prompted_conditions, submitted_conditions}
 use Rattle.acvp_desk.specs.Registries.{kind_of}
 use Rattle.acvp_desk.specs.Replies.{prompts_from}
 use Rattle.acvp_desk.specs.Request.{RequestValue}
 use Rattle.acvp_desk.specs.declared.ask.Asker.{Asker}
 use Rattle.acvp_desk.specs.declared.ask.Asker.TheVariants.{Login, Caller}
-use Rattle.acvp_desk.specs.declared.found.Found.{Found}
-use Rattle.acvp_desk.specs.declared.found.Material.{Material}
-use Rattle.acvp_desk.specs.declared.found.Material.TheVariants as material
+use Rattle.acvp_desk.specs.declared.found.Place.{Place}
+use Rattle.acvp_desk.specs.declared.found.Place.TheVariants as place
+use Rattle.acvp_desk.specs.declared.found.RegistryPlace.TheVariants as in_registry
+use Rattle.acvp_desk.specs.declared.found.SessionPlace.TheVariants as in_session
+use Rattle.acvp_desk.specs.declared.found.SetPlace.TheVariants as in_set
+use Rattle.acvp_desk.specs.declared.found.Submission.{Submission}
+use Rattle.acvp_desk.specs.declared.found.Asked.{Asked}
 use Rattle.acvp_desk.specs.declared.keys.Keys.{Keys}
+use Rattle.acvp_desk.specs.declared.wish.RegistryWish.TheVariants as on_registry
+use Rattle.acvp_desk.specs.declared.wish.AccountWish.TheVariants as on_account
+use Rattle.acvp_desk.specs.declared.wish.Wish.TheVariants as wish
+use Rattle.acvp_desk.specs.declared.wish.Wish.{Wish}
 use Rattle.acvp_desk.specs.declared.request.Ask.{Ask}
 use Rattle.acvp_desk.specs.declared.request.Ask.TheVariants as request
-use Rattle.acvp_desk.specs.declared.wish.RegistryWish.TheVariants as on_registry
-use Rattle.acvp_desk.specs.declared.wish.SessionWish.TheVariants as on_session
-use Rattle.acvp_desk.specs.declared.wish.Wish.{Wish}
-use Rattle.acvp_desk.specs.declared.wish.Wish.TheVariants as wish
+use Rattle.acvp_desk.specs.Place.{place_of}
 use Rattle.acvp_desk.proofs.FirstBroken.{broken}
 
 -- no condition has such a fault
@@ -217,72 +224,113 @@ policy_lacks : (a : Action) (f : Facts) → lacks is_unavailable (policy a f) �
 unfolding policy
 policy_lacks a f = both_lack is_unavailable (claims_conditions (scope_of a) f) (resource_conditions a f) (claims_lack (scope_of a) f) (resources_lack a f)
 
+-- ---- what is read of a body
+
+-- the rule that is told is another
+abbrev is_told : {X : Type 0} → Result X Rule → Bool
+is_told (Ok x) = true
+is_told (Err broken) = not (is_unavailable broken)
+
+judged_told : {X : Type 0} (conditions : List (Condition Rule)) (read : Option X) → lacks is_unavailable conditions ≡ true → is_told (judged_read (first_broken conditions) read) ≡ true
+judged_told conditions read lack = go (first_broken conditions) refl read
+  where
+    go : {X : Type 0} (b : Option Rule) → first_broken conditions ≡ b → (read : Option X) → is_told (judged_read b read) ≡ true
+    go (Some broken) e read = rw (not_broken is_unavailable conditions broken lack e) refl
+    go None e None = refl
+    go None e (Some x) = refl
+
+object_told : (kind : Kind) (body : List ℕ) → is_told (object_in kind body) ≡ true
+unfolding object_in
+object_told kind body = judged_told (registered_conditions kind body) (option_map (kept_as kind) (object_of body))
+    (body_lacks is_memory_of_objects object_rule objects_lack (object_conditions kind) (λ d. refl) body)
+
+parts_told : (body : List ℕ) → is_told (certified_in body) ≡ true
+unfolding certified_in
+parts_told body = judged_told (certified_conditions body) (option_and_then certify_body_of (object_of body)) (body_lacks is_memory rule_of rule_lacks certify_body_conditions (λ d. refl) body)
+
+read_lacks : {X : Type 0} (read : Result X Rule) (asked : Asked) → is_told read ≡ true → lacks is_unavailable (requested_conditions read asked) ≡ true
+read_lacks (Ok x) asked told = refl
+read_lacks (Err broken) asked told = rw told refl
+
 -- ---- what an action asks itself
 
 with_room : (front : List (Condition Rule)) (room : Bool) (full : Rule) → is_unavailable full ≡ false → lacks is_unavailable front ≡ true → lacks is_unavailable (front ++ (room, full) ∷ []) ≡ true
 with_room front room full other lack = both_lack is_unavailable front ((room, full) ∷ []) lack (rw other refl)
 
-module _ (seeds : List (List ℕ)) (r : RequestValue) (found : Found) where
-  set_lacks : (n : ℕ) (m : Material) → lacks is_unavailable (set_conditions seeds n r.body m) ≡ true
-  set_lacks n material.Nothing = refl
-  set_lacks n (material.Counts x) = refl
-  set_lacks n (material.SessionCount x) = refl
-  set_lacks n (material.Sets x) = refl
-  set_lacks n (material.Outcomes x) = refl
-  set_lacks n (material.Reviewers x) = refl
-  set_lacks n (material.Source x) = refl
-  set_lacks n (material.Verdicts x) = refl
-  set_lacks n (material.Submission None) = refl
-  set_lacks n (material.Sessions x y) = refl
-  set_lacks n (material.Object x) = refl
-  set_lacks n (material.Objects x y) = refl
-  set_lacks n (material.Request x) = refl
-  set_lacks n (material.Requests x y) = refl
-  set_lacks n (material.Asked x) = refl
-  set_lacks n (material.Submission (Some s)) = go (prompts_from seeds n s.source)
+module _ (seeds : List (List ℕ)) (body : List ℕ) where
+  submission_lacks : (n : ℕ) (s : Option Submission) → lacks is_unavailable (submitted_conditions seeds n body s) ≡ true
+  submission_lacks n None = refl
+  submission_lacks n (Some s) = go (prompts_from seeds n s.source)
     where
-      go : (prompts : Option PromptsValue) → lacks is_unavailable (prompted_conditions r.body prompts) ≡ true
+      go : (prompts : Option PromptsValue) → lacks is_unavailable (prompted_conditions body prompts) ≡ true
       go None = refl
-      go (Some prompts) = body_lacks is_memory rule_of rule_lacks (λ d. answers_body_conditions d prompts) (answers_lack prompts) r.body
+      go (Some prompts) = body_lacks is_memory rule_of rule_lacks (λ d. answers_body_conditions d prompts) (answers_lack prompts) body
 
-  wish_lacks : (it : Wish) → lacks is_unavailable (wish_conditions seeds r found it) ≡ true
-  wish_lacks (wish.Account it) = refl
-  wish_lacks (wish.Algorithm n) = refl
-  wish_lacks (wish.Session n on_session.Read) = refl
-  wish_lacks (wish.Session n on_session.Cancel) = refl
-  wish_lacks (wish.Session n on_session.Results) = refl
-  wish_lacks (wish.Session n on_session.ListSets) = refl
-  wish_lacks (wish.Session n on_session.ListReviewers) = refl
-  wish_lacks (wish.Session n on_session.AddReviewer) = with_room (body_conditions rule_of reviewer_body_conditions r.body) _ rule.ReviewersFull refl (body_lacks is_memory rule_of rule_lacks reviewer_body_conditions (λ d. refl) r.body)
-  wish_lacks (wish.Reviewer n m) = refl
-  wish_lacks (wish.Set session n it) = set_lacks n found.material
-  wish_lacks wish.NewSession = with_room (body_conditions registration_rule registration_conditions r.body) _ rule.AccountFull refl
-      (body_lacks is_memory_of_caps registration_rule caps_lack registration_conditions (λ d. capabilities_lack (capabilities_at d)) r.body)
-  wish_lacks (wish.CancelSet session n) = refl
-  wish_lacks (wish.ListSessions at) = refl
-  wish_lacks (wish.Certify n) =
-      both_lack is_unavailable (body_conditions rule_of certify_body_conditions r.body) (asked_conditions (asked_in found.material)) (body_lacks is_memory rule_of rule_lacks certify_body_conditions (λ d. refl) r.body) refl
-  wish_lacks (wish.Registry (on_registry.Read of n)) = refl
-  wish_lacks (wish.Registry (on_registry.New of)) =
-      both_lack is_unavailable (registered_conditions (kind_of of) r.body) (asked_conditions (asked_in found.material))
-      (body_lacks is_memory_of_objects object_rule objects_lack (object_conditions (kind_of of)) (λ d. refl) r.body) refl
-  wish_lacks (wish.Registry (on_registry.List of at)) = refl
-  wish_lacks (wish.Registry (on_registry.ReadRequest n)) = refl
-  wish_lacks (wish.Registry (on_registry.ListRequests at)) = refl
+  abbrev reads : Place → Bool
+  reads (place.Certify n found parts asked) = is_told parts
+  reads (place.Registry (in_registry.New of object asked)) = is_told object
+  reads _ = true
+
+  place_lacks : (it : Place) → reads it ≡ true → lacks is_unavailable (place_conditions seeds body it) ≡ true
+  place_lacks (place.Account counts) told = refl
+  place_lacks place.Algorithms told = refl
+  place_lacks (place.Algorithm n) told = refl
+  place_lacks (place.Session n found (in_session.Read sets)) told = refl
+  place_lacks (place.Session n found in_session.Cancel) told = refl
+  place_lacks (place.Session n found (in_session.Results sets)) told = refl
+  place_lacks (place.Session n found (in_session.ListSets sets)) told = refl
+  place_lacks (place.Session n found (in_session.ListReviewers accounts)) told = refl
+  place_lacks (place.Session n found (in_session.AddReviewer accounts)) told =
+      with_room (body_conditions rule_of reviewer_body_conditions body) _ rule.ReviewersFull refl (body_lacks is_memory rule_of rule_lacks reviewer_body_conditions (λ d. refl) body)
+  place_lacks (place.Reviewer n m found accounts) told = refl
+  place_lacks (place.NewSession sessions) told = with_room (body_conditions registration_rule registration_conditions body) _ rule.AccountFull refl
+      (body_lacks is_memory_of_caps registration_rule caps_lack registration_conditions (λ d. capabilities_lack (capabilities_at d)) body)
+  place_lacks (place.Set session n found (in_set.Made shown source)) told = refl
+  place_lacks (place.Set session n found (in_set.Verdicts verdicts)) told = refl
+  place_lacks (place.Set session n found (in_set.Submit s)) told = submission_lacks n s
+  place_lacks (place.Set session n found (in_set.Resubmit s)) told = submission_lacks n s
+  place_lacks (place.CancelSet session n found sets) told = refl
+  place_lacks (place.Sessions found) told = refl
+  place_lacks (place.Certify n found parts asked) told = read_lacks parts asked told
+  place_lacks (place.Registry (in_registry.Object of n row)) told = refl
+  place_lacks (place.Registry (in_registry.New of object asked)) told = read_lacks object asked told
+  place_lacks (place.Registry (in_registry.Objects of found)) told = refl
+  place_lacks (place.Registry (in_registry.Request n row)) told = refl
+  place_lacks (place.Registry (in_registry.Requests found)) told = refl
+
+-- what is read of a body is told so
+wish_reads : (seeds : List (List ℕ)) (u : ℕ) (body : List ℕ) (state : State) (it : Wish) → reads seeds body (place_of seeds u body state it) ≡ true
+wish_reads seeds u body state (wish.Account on_account.Read) = refl
+wish_reads seeds u body state (wish.Account on_account.ListAlgorithms) = refl
+wish_reads seeds u body state (wish.Algorithm n) = refl
+wish_reads seeds u body state (wish.Session n it) = refl
+wish_reads seeds u body state (wish.Reviewer n m) = refl
+wish_reads seeds u body state wish.NewSession = refl
+wish_reads seeds u body state (wish.Set session n it) = refl
+wish_reads seeds u body state (wish.CancelSet session n) = refl
+wish_reads seeds u body state (wish.ListSessions at) = refl
+wish_reads seeds u body state (wish.Certify n) = parts_told body
+wish_reads seeds u body state (wish.Registry (on_registry.Read of n)) = refl
+wish_reads seeds u body state (wish.Registry (on_registry.New of)) = object_told (kind_of of) body
+wish_reads seeds u body state (wish.Registry (on_registry.List of at)) = refl
+wish_reads seeds u body state (wish.Registry (on_registry.ReadRequest n)) = refl
+wish_reads seeds u body state (wish.Registry (on_registry.ListRequests at)) = refl
 
 -- ---- all conditions
 
 module _ (keys : Keys) (moment : ℕ) (r : RequestValue) (state : State) where
   later_lacks : (asked : Option Asker) → lacks is_unavailable (later_of keys.seed moment r asked state) ≡ true
-  unfolding policy_conditions
+  unfolding policy_conditions found_of
   later_lacks None = refl
   later_lacks (Some it) =
       let found = found_of keys.seed r.body it state in
-      both_lack is_unavailable (policy_conditions moment it found) (own_conditions keys.seed r it found) (policy_lacks (action_of it) (facts_from moment it found)) (own_lacks it found)
+      both_lack is_unavailable (policy_conditions moment found) (own_conditions keys.seed r.body found) (policy_lacks (action_in found) (facts_in moment found)) (own_lacks it)
     where
-      own_lacks : (it : Asker) (found : Found) → lacks is_unavailable (own_conditions keys.seed r it found) ≡ true
-      own_lacks (Login login) found = refl
-      own_lacks (Caller caller) found = wish_lacks keys.seed r found caller.wish
+      own_lacks : (it : Asker) → lacks is_unavailable (own_conditions keys.seed r.body (found_of keys.seed r.body it state)) ≡ true
+      own_lacks (Login login) = refl
+      own_lacks (Caller caller) =
+          let at = place_of keys.seed (account_of_claims (claims_of caller.token)) r.body state caller.wish in
+          place_lacks keys.seed r.body at (wish_reads keys.seed (account_of_claims (claims_of caller.token)) r.body state caller.wish)
 
   first_lacks : (a : Ask) → lacks is_unavailable (first_conditions_on a r) ≡ true
   first_lacks request.Login = body_lacks is_memory rule_of rule_lacks login_body_conditions (λ d. refl) r.body

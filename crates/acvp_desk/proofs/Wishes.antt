@@ -1,19 +1,24 @@
--- What is found of a wish: of what its path names, and what the reply to it shows.
-use Rattle.std.proofs.Common.{◌≡◌, ℕ, ◌/◌, List, Bool, true, false, Option, None, Some, refl, ap, ◌<◌, arith}
+-- What is found of a wish is of what is asked: by the action, by what its path names, and by numbers that fit.
+use Rattle.std.proofs.Common.{◌≡◌, ℕ, ◌/◌, List, Bool, true, false, Option, None, Some, refl, ap, ◌∙◌, ◌<◌, arith}
 use Rattle.std.specs.Prelude.{not, nat_le, is_some, ◌&&◌, ◌||◌, ◌==◌}
 use Rattle.std.proofs.lemmas.Bool.Decides.{nat_tests}
 use Rattle.acvp_answers.specs.declared.verdict.Verdict.{Verdict}
 use Rattle.acvp_policy.specs.Conditions.{login_of}
+use Rattle.acvp_policy.specs.Policy.{policy}
 use Rattle.acvp_policy.specs.Resource.{resource_of}
 use Rattle.acvp_policy.specs.declared.facts.SessionFacts.{SessionFacts}
 use Rattle.acvp_policy.specs.declared.facts.SetFacts.{SetFacts}
 use Rattle.acvp_tables.specs.Content.{is_reviewer}
 use Rattle.acvp_tables.specs.State.{State, SetRecord, own, owner_of, set_record_at, IsWellNumbered}
-use Rattle.acvp_desk.specs.Place.{is_for, is_within, material_of, reviewed, reviewed_facts, session_facts, subject_of, unfound}
-use Rattle.acvp_desk.specs.Registries.{has_row, registry_subject}
-use Rattle.acvp_desk.specs.Sets.{is_for_set, results_material, set_facts, set_material, set_source, verdicts_in_session}
-use Rattle.acvp_desk.specs.declared.found.SetSource.{SetSource}
-use Rattle.acvp_desk.specs.declared.wish.Registry.{Registry}
+use Rattle.acvp_desk.specs.Answer.{action_in, action_of, facts_in, found_of, is_fit, policy_conditions}
+use Rattle.acvp_desk.specs.Place.{is_within, place_of, reviewed, reviewed_facts, session_facts, subject_at, unfound, wish_at}
+use Rattle.acvp_desk.specs.Sets.{results_place, set_facts, set_place, set_source, set_wish, verdicts_in_session}
+use Rattle.acvp_desk.specs.Wish.{action_of_wish}
+use Rattle.acvp_desk.specs.declared.ask.Asker.{Asker}
+use Rattle.acvp_desk.specs.declared.ask.Asker.TheVariants.{Login, Caller}
+use Rattle.acvp_desk.specs.declared.found.Place.{Place}
+use Rattle.acvp_desk.specs.declared.found.Place.TheVariants as place
+use Rattle.acvp_desk.specs.declared.found.RegistryPlace.TheVariants as in_registry
 use Rattle.acvp_desk.specs.declared.wish.Registry.TheVariants as registry
 use Rattle.acvp_desk.specs.declared.wish.RegistryWish.TheVariants as on_registry
 use Rattle.acvp_desk.specs.declared.wish.SessionWish.TheVariants as on_session
@@ -22,8 +27,11 @@ use Rattle.acvp_desk.specs.declared.wish.SetWish.TheVariants as on_set
 use Rattle.acvp_desk.specs.declared.wish.AccountWish.TheVariants as on_account
 use Rattle.acvp_desk.specs.declared.wish.Wish.{Wish}
 use Rattle.acvp_desk.specs.declared.wish.Wish.TheVariants as wish
+use Rattle.acvp_desk.specs.Registries.{kind_of}
+use Rattle.acvp_desk.specs.Asked.{object_in}
 use Rattle.acvp_desk.proofs.CancelledSet.{number_fits}
 use Rattle.acvp_desk.proofs.NextReviewer.{none_reviews}
+use Rattle.acvp_desk.proofs.NextRequest.{is_of_its_kind}
 
 -- the actions that reviewers are let in to
 abbrev pub reads_results : Wish → Bool
@@ -53,88 +61,98 @@ not_reviewed (wish.ListSessions at) u state off = refl
 not_reviewed (wish.Certify n) u state off = refl
 not_reviewed (wish.Registry it) u state off = refl
 
+-- ---- what was asked
+
+set_asked : (seeds : List (List ℕ)) (session n : ℕ) (sets : List SetRecord) (it : SetWish) → set_wish (set_place seeds session n sets it) ≡ it
+set_asked seeds session n sets on_set.Read = refl
+set_asked seeds session n sets on_set.Expected = refl
+set_asked seeds session n sets on_set.Results = go (verdicts_in_session seeds session n sets)
+  where
+    go : (verdicts : Option (List Verdict)) → set_wish (results_place verdicts (set_source session n sets)) ≡ on_set.Results
+    go None = refl
+    go (Some verdicts) = refl
+set_asked seeds session n sets on_set.Submit = refl
+set_asked seeds session n sets on_set.Resubmit = refl
+
+pub wish_asked : (seeds : List (List ℕ)) (u : ℕ) (body : List ℕ) (state : State) (it : Wish) → wish_at (place_of seeds u body state it) ≡ it
+wish_asked seeds u body state (wish.Account on_account.Read) = refl
+wish_asked seeds u body state (wish.Account on_account.ListAlgorithms) = refl
+wish_asked seeds u body state (wish.Algorithm n) = refl
+wish_asked seeds u body state (wish.Session n on_session.Read) = refl
+wish_asked seeds u body state (wish.Session n on_session.Cancel) = refl
+wish_asked seeds u body state (wish.Session n on_session.Results) = refl
+wish_asked seeds u body state (wish.Session n on_session.ListSets) = refl
+wish_asked seeds u body state (wish.Session n on_session.ListReviewers) = refl
+wish_asked seeds u body state (wish.Session n on_session.AddReviewer) = refl
+wish_asked seeds u body state (wish.Reviewer n m) = refl
+wish_asked seeds u body state (wish.Set session n it) = ap (wish.Set session n) (set_asked seeds session n state.sets it)
+wish_asked seeds u body state wish.NewSession = refl
+wish_asked seeds u body state (wish.CancelSet session n) = refl
+wish_asked seeds u body state (wish.ListSessions None) = refl
+wish_asked seeds u body state (wish.ListSessions (Some at)) = refl
+wish_asked seeds u body state (wish.Certify n) = refl
+wish_asked seeds u body state (wish.Registry (on_registry.Read of n)) = refl
+wish_asked seeds u body state (wish.Registry (on_registry.New of)) = refl
+wish_asked seeds u body state (wish.Registry (on_registry.List of None)) = refl
+wish_asked seeds u body state (wish.Registry (on_registry.List of (Some at))) = refl
+wish_asked seeds u body state (wish.Registry (on_registry.ReadRequest n)) = refl
+wish_asked seeds u body state (wish.Registry (on_registry.ListRequests None)) = refl
+wish_asked seeds u body state (wish.Registry (on_registry.ListRequests (Some at))) = refl
+
+pub action_asked : (seeds : List (List ℕ)) (body : List ℕ) (it : Asker) (state : State) → action_in (found_of seeds body it state) ≡ action_of it
+unfolding found_of
+action_asked seeds body (Login login) state = refl
+action_asked seeds body (Caller caller) state = ap action_of_wish (wish_asked seeds _ body state caller.wish)
+
+pub policy_asked : (moment : ℕ) (seeds : List (List ℕ)) (body : List ℕ) (it : Asker) (state : State)
+    → policy_conditions moment (found_of seeds body it state) ≡ policy (action_of it) (facts_in moment (found_of seeds body it state))
+unfolding policy_conditions
+policy_asked moment seeds body it state = ap (λ a. policy a (facts_in moment (found_of seeds body it state))) (action_asked seeds body it state)
+
 -- ---- what a path names
 
-registry_named : (of : Registry) (n : ℕ) (found : Bool) → resource_of (registry_subject found (on_registry.Read of n)) ≡ resource_of (registry_subject false (on_registry.Read of n))
-registry_named registry.Vendors n found = refl
-registry_named registry.Modules n found = refl
-registry_named registry.Environments n found = refl
+-- whatever is found there
+pub place_names : (it : Place) → resource_of (subject_at it) ≡ resource_of (unfound (wish_at it))
+place_names (place.Account counts) = refl
+place_names place.Algorithms = refl
+place_names (place.Algorithm n) = refl
+place_names (place.Session n found it) = refl
+place_names (place.Reviewer n m found accounts) = refl
+place_names (place.NewSession sessions) = refl
+place_names (place.Set session n found it) = refl
+place_names (place.CancelSet session n found sets) = refl
+place_names (place.Sessions found) = refl
+place_names (place.Certify n found parts asked) = refl
+place_names (place.Registry (in_registry.Object registry.Vendors n row)) = refl
+place_names (place.Registry (in_registry.Object registry.Modules n row)) = refl
+place_names (place.Registry (in_registry.Object registry.Environments n row)) = refl
+place_names (place.Registry (in_registry.New of object asked)) = refl
+place_names (place.Registry (in_registry.Objects of found)) = refl
+place_names (place.Registry (in_registry.Request n row)) = refl
+place_names (place.Registry (in_registry.Requests found)) = refl
 
-pub wish_names : (seeds : List (List ℕ)) (u : ℕ) (state : State) (it : Wish) → resource_of (subject_of seeds u state it) ≡ resource_of (unfound it)
-wish_names seeds u state (wish.Account it) = refl
-wish_names seeds u state (wish.Algorithm n) = refl
-wish_names seeds u state (wish.Session n it) = refl
-wish_names seeds u state (wish.Reviewer n m) = refl
-wish_names seeds u state (wish.Set session n it) = refl
-wish_names seeds u state wish.NewSession = refl
-wish_names seeds u state (wish.CancelSet session n) = refl
-wish_names seeds u state (wish.ListSessions at) = refl
-wish_names seeds u state (wish.Certify n) = refl
-wish_names seeds u state (wish.Registry (on_registry.Read of n)) = registry_named of n (has_row u state (on_registry.Read of n))
-wish_names seeds u state (wish.Registry (on_registry.New of)) = refl
-wish_names seeds u state (wish.Registry (on_registry.List of at)) = refl
-wish_names seeds u state (wish.Registry (on_registry.ReadRequest n)) = refl
-wish_names seeds u state (wish.Registry (on_registry.ListRequests at)) = refl
-
-registry_no_login : (of : Registry) (n : ℕ) (found : Bool) → login_of (registry_subject found (on_registry.Read of n)) ≡ None
-registry_no_login registry.Vendors n found = refl
-registry_no_login registry.Modules n found = refl
-registry_no_login registry.Environments n found = refl
+pub wish_names : (seeds : List (List ℕ)) (u : ℕ) (body : List ℕ) (state : State) (it : Wish) → resource_of (subject_at (place_of seeds u body state it)) ≡ resource_of (unfound it)
+wish_names seeds u body state it = place_names (place_of seeds u body state it) ∙ ap (λ w. resource_of (unfound w)) (wish_asked seeds u body state it)
 
 -- and it is no login
-pub wish_no_login : (seeds : List (List ℕ)) (u : ℕ) (state : State) (it : Wish) → login_of (subject_of seeds u state it) ≡ None
-wish_no_login seeds u state (wish.Account it) = refl
-wish_no_login seeds u state (wish.Algorithm n) = refl
-wish_no_login seeds u state (wish.Session n it) = refl
-wish_no_login seeds u state (wish.Reviewer n m) = refl
-wish_no_login seeds u state (wish.Set session n it) = refl
-wish_no_login seeds u state wish.NewSession = refl
-wish_no_login seeds u state (wish.CancelSet session n) = refl
-wish_no_login seeds u state (wish.ListSessions at) = refl
-wish_no_login seeds u state (wish.Certify n) = refl
-wish_no_login seeds u state (wish.Registry (on_registry.Read of n)) = registry_no_login of n (has_row u state (on_registry.Read of n))
-wish_no_login seeds u state (wish.Registry (on_registry.New of)) = refl
-wish_no_login seeds u state (wish.Registry (on_registry.List of at)) = refl
-wish_no_login seeds u state (wish.Registry (on_registry.ReadRequest n)) = refl
-wish_no_login seeds u state (wish.Registry (on_registry.ListRequests at)) = refl
-
--- ---- what is read for the reply
-
-results_for : (verdicts : Option (List Verdict)) (source : Option SetSource) → is_for_set on_set.Results (results_material verdicts source) ≡ true
-results_for None source = refl
-results_for (Some verdicts) source = refl
-
-set_for : (seeds : List (List ℕ)) (session n : ℕ) (sets : List SetRecord) (it : SetWish) → is_for_set it (set_material seeds session n sets it) ≡ true
-set_for seeds session n sets on_set.Read = refl
-set_for seeds session n sets on_set.Expected = refl
-set_for seeds session n sets on_set.Results = results_for (verdicts_in_session seeds session n sets) (set_source session n sets)
-set_for seeds session n sets on_set.Submit = refl
-set_for seeds session n sets on_set.Resubmit = refl
-
-pub wish_for : (seeds : List (List ℕ)) (u : ℕ) (body : List ℕ) (state : State) (it : Wish) → is_for it (material_of seeds u body state it) ≡ true
-wish_for seeds u body state (wish.Account on_account.Read) = refl
-wish_for seeds u body state (wish.Account on_account.ListAlgorithms) = refl
-wish_for seeds u body state (wish.Algorithm n) = refl
-wish_for seeds u body state (wish.Session n on_session.Read) = refl
-wish_for seeds u body state (wish.Session n on_session.Cancel) = refl
-wish_for seeds u body state (wish.Session n on_session.Results) = refl
-wish_for seeds u body state (wish.Session n on_session.ListSets) = refl
-wish_for seeds u body state (wish.Session n on_session.ListReviewers) = refl
-wish_for seeds u body state (wish.Session n on_session.AddReviewer) = refl
-wish_for seeds u body state (wish.Reviewer n m) = refl
-wish_for seeds u body state (wish.Set session n it) = set_for seeds session n state.sets it
-wish_for seeds u body state wish.NewSession = refl
-wish_for seeds u body state (wish.CancelSet session n) = refl
-wish_for seeds u body state (wish.ListSessions None) = refl
-wish_for seeds u body state (wish.ListSessions (Some at)) = refl
-wish_for seeds u body state (wish.Certify n) = refl
-wish_for seeds u body state (wish.Registry (on_registry.Read of n)) = refl
-wish_for seeds u body state (wish.Registry (on_registry.New of)) = refl
-wish_for seeds u body state (wish.Registry (on_registry.List of None)) = refl
-wish_for seeds u body state (wish.Registry (on_registry.List of (Some at))) = refl
-wish_for seeds u body state (wish.Registry (on_registry.ReadRequest n)) = refl
-wish_for seeds u body state (wish.Registry (on_registry.ListRequests None)) = refl
-wish_for seeds u body state (wish.Registry (on_registry.ListRequests (Some at))) = refl
+pub no_login_at : (it : Place) → login_of (subject_at it) ≡ None
+no_login_at (place.Account counts) = refl
+no_login_at place.Algorithms = refl
+no_login_at (place.Algorithm n) = refl
+no_login_at (place.Session n found it) = refl
+no_login_at (place.Reviewer n m found accounts) = refl
+no_login_at (place.NewSession sessions) = refl
+no_login_at (place.Set session n found it) = refl
+no_login_at (place.CancelSet session n found sets) = refl
+no_login_at (place.Sessions found) = refl
+no_login_at (place.Certify n found parts asked) = refl
+no_login_at (place.Registry (in_registry.Object registry.Vendors n row)) = refl
+no_login_at (place.Registry (in_registry.Object registry.Modules n row)) = refl
+no_login_at (place.Registry (in_registry.Object registry.Environments n row)) = refl
+no_login_at (place.Registry (in_registry.New of object asked)) = refl
+no_login_at (place.Registry (in_registry.Objects of found)) = refl
+no_login_at (place.Registry (in_registry.Request n row)) = refl
+no_login_at (place.Registry (in_registry.Requests found)) = refl
 
 -- ---- the numbers that are found fit
 
@@ -167,14 +185,24 @@ module _ (reviews : (u s a : ℕ) (state : State) → is_reviewer s a (own u sta
           let same : n / 100 ≡ session = number_fits set_names (session_facts seeds state session) session n state well (ap is_some e) in
           grind (arith, nat_tests, same)
 
-  pub wish_within : (seeds : List (List ℕ)) (u : ℕ) (state : State) (it : Wish) → IsWellNumbered state → is_within it (subject_of seeds u state it) ≡ true
-  wish_within seeds u state (wish.Account it) well = refl
-  wish_within seeds u state (wish.Algorithm n) well = refl
-  wish_within seeds u state (wish.Session n it) well = refl
-  wish_within seeds u state (wish.Reviewer n m) well = reviewer_within seeds state n m well
-  wish_within seeds u state (wish.Set session n it) well = set_within seeds state session n well
-  wish_within seeds u state wish.NewSession well = refl
-  wish_within seeds u state (wish.CancelSet session n) well = set_within seeds state session n well
-  wish_within seeds u state (wish.ListSessions at) well = refl
-  wish_within seeds u state (wish.Certify n) well = refl
-  wish_within seeds u state (wish.Registry it) well = refl
+  wish_within : (seeds : List (List ℕ)) (u : ℕ) (body : List ℕ) (state : State) (it : Wish) → IsWellNumbered state → is_within (place_of seeds u body state it) ≡ true
+  wish_within seeds u body state (wish.Account on_account.Read) well = refl
+  wish_within seeds u body state (wish.Account on_account.ListAlgorithms) well = refl
+  wish_within seeds u body state (wish.Algorithm n) well = refl
+  wish_within seeds u body state (wish.Session n it) well = refl
+  wish_within seeds u body state (wish.Reviewer n m) well = reviewer_within seeds state n m well
+  wish_within seeds u body state (wish.Set session n it) well = set_within seeds state session n well
+  wish_within seeds u body state wish.NewSession well = refl
+  wish_within seeds u body state (wish.CancelSet session n) well = set_within seeds state session n well
+  wish_within seeds u body state (wish.ListSessions at) well = refl
+  wish_within seeds u body state (wish.Certify n) well = refl
+  wish_within seeds u body state (wish.Registry (on_registry.Read of n)) well = refl
+  wish_within seeds u body state (wish.Registry (on_registry.New of)) well = is_of_its_kind of body (object_in (kind_of of) body) _ refl
+  wish_within seeds u body state (wish.Registry (on_registry.List of at)) well = refl
+  wish_within seeds u body state (wish.Registry (on_registry.ReadRequest n)) well = refl
+  wish_within seeds u body state (wish.Registry (on_registry.ListRequests at)) well = refl
+
+  pub found_fits : (seeds : List (List ℕ)) (body : List ℕ) (it : Asker) (state : State) → IsWellNumbered state → is_fit (found_of seeds body it state) ≡ true
+  unfolding found_of
+  found_fits seeds body (Login login) state well = refl
+  found_fits seeds body (Caller caller) state well = wish_within seeds _ body state caller.wish well

@@ -1,6 +1,6 @@
 -- What a request is answered, and what it changes.
 use Rattle.std.specs.Prelude.{◌≡◌, ◌⊎◌, ℕ, ◌≤◌, Bool, false, List, [], ◌∷◌, ◌++◌, length, drop, nat_lt, true, Option}
-use Rattle.std.specs.Prelude.{Some, None, option_map, option_and_then, is_some, if◌then◌else◌, Result, Ok, Err, ⊤}
+use Rattle.std.specs.Prelude.{Some, None, option_map, option_and_then, if◌then◌else◌, Result, Ok, Err, ⊤}
 use Rattle.acvp_json.specs.Data.{Data}
 use Rattle.acvp_mac.specs.Conditions.{Condition, judged}
 use Rattle.acvp_token.specs.Keys.{Ring}
@@ -12,13 +12,14 @@ use Rattle.acvp_policy.specs.Conditions.{claims_of}
 use Rattle.acvp_policy.specs.Decision.{account_of_claims}
 use Rattle.acvp_policy.specs.Granted.{Granted}
 use Rattle.acvp_policy.specs.Policy.{policy}
-use Rattle.acvp_policy.specs.Resource.{resource_of}
 use Rattle.acvp_policy.specs.declared.action.Action.{Action}
 use Rattle.acvp_policy.specs.declared.action.Action.TheVariants as action
 use Rattle.acvp_policy.specs.declared.facts.Facts.{Facts}
 use Rattle.acvp_policy.specs.declared.facts.Standing.{Standing}
 use Rattle.acvp_policy.specs.declared.facts.Standing.TheVariants as standing
+use Rattle.acvp_policy.specs.declared.facts.Subject.{Subject}
 use Rattle.acvp_policy.specs.declared.facts.Subject.TheVariants as subject
+use Rattle.acvp_policy.specs.declared.facts.Token.{Token}
 use Rattle.acvp_policy.specs.declared.facts.Token.TheVariants as token
 use Rattle.acvp_policy.specs.declared.rule.Rule.{Rule}
 use Rattle.acvp_policy.specs.declared.rule.Rule.TheVariants as rule
@@ -32,19 +33,21 @@ use Rattle.acvp_tables.specs.declared.change.Change.{Change}
 use Rattle.acvp_tables.specs.declared.change.Change.TheVariants as change
 use Rattle.acvp_tables.specs.declared.rows.AccountRow.{AccountRow}
 use Rattle.acvp_desk.specs.Bodies.{body_conditions, rule_of}
-use Rattle.acvp_desk.specs.Login.{login_ask_at, login_facts, step_of, claims_at}
+use Rattle.acvp_desk.specs.Login.{login_ask_at, login_facts, login_step, claims_at}
 use Rattle.acvp_desk.specs.declared.ask.Asker.{Asker}
 use Rattle.acvp_desk.specs.declared.ask.Asker.TheVariants as ask
 use Rattle.acvp_desk.specs.declared.ask.LoginAsk.{LoginAsk}
 use Rattle.acvp_desk.specs.declared.found.Found.{Found}
-use Rattle.acvp_desk.specs.declared.found.Material.TheVariants as material
+use Rattle.acvp_desk.specs.declared.found.Found.TheVariants as found
+use Rattle.acvp_desk.specs.declared.found.FoundCaller.{FoundCaller}
 use Rattle.acvp_desk.specs.declared.keys.Keys.{Keys}
 use Rattle.acvp_desk.specs.declared.request.Ask.{Ask}
 use Rattle.acvp_desk.specs.declared.request.Ask.TheVariants as request
+use Rattle.acvp_desk.specs.declared.wish.CallerAsk.{CallerAsk}
 use Rattle.acvp_desk.specs.declared.wish.Wish.{Wish}
-use Rattle.acvp_desk.specs.Place.{unfound, subject_of, material_of, is_for, is_within, reviewed}
-use Rattle.acvp_desk.specs.OwnConditions.{wish_conditions}
-use Rattle.acvp_desk.specs.Replies.{wish_reply, wish_change}
+use Rattle.acvp_desk.specs.Place.{action_at, is_within, place_of, reviewed, subject_at, unfound}
+use Rattle.acvp_desk.specs.OwnConditions.{place_conditions}
+use Rattle.acvp_desk.specs.Replies.{place_reply, place_change}
 use Rattle.acvp_desk.specs.Request.{RequestValue}
 use Rattle.acvp_desk.specs.Wish.{action_of_wish, token_at}
 
@@ -87,105 +90,110 @@ who (ask.Caller caller) = option_map (λ claims. claims.account) (claims_of call
 abbrev pub account_found : Asker → State → Option AccountRow
 account_found it state = option_and_then (λ n. account_at n state.accounts) (who it)
 
--- before anything is looked at that the path names
-abbrev pub unfound_of : Asker → Option AccountRow → Bool → Found
-unfound_of (ask.Login login) account reviewer = record {
-  account = account;
-  reviewer = reviewer;
-  subject = subject.Account;
-  material = material.Nothing;
-}
-unfound_of (ask.Caller caller) account reviewer = record {
-  account = account;
-  reviewer = reviewer;
-  subject = unfound caller.wish;
-  material = material.Nothing;
-}
-
 -- whether the account that acts reviews the session of the path, where that is asked
 abbrev pub reviewer_found : Asker → State → Bool
 reviewer_found (ask.Login login) state = false
 reviewer_found (ask.Caller caller) state = reviewed caller.wish (account_of_claims (claims_of caller.token)) state
 
 -- by the body, too, where it names rows
-unfoldable pub found_of : List (List ℕ) → List ℕ → Asker → State → Found
-found_of seeds body (ask.Login login) state =
-    unfound_of (ask.Login login) (account_found (ask.Login login) state) (reviewer_found (ask.Login login) state)
-found_of seeds body (ask.Caller caller) state = record {
+abbrev pub found_of_caller : List (List ℕ) → List ℕ → CallerAsk → State → FoundCaller
+found_of_caller seeds body caller state = record {
+  token = caller.token;
   account = account_found (ask.Caller caller) state;
   reviewer = reviewer_found (ask.Caller caller) state;
-  subject = subject_of seeds (account_of_claims (claims_of caller.token)) state caller.wish;
-  material = material_of seeds (account_of_claims (claims_of caller.token)) body state caller.wish;
+  place = place_of seeds (account_of_claims (claims_of caller.token)) body state caller.wish;
 }
+
+unfoldable pub found_of : List (List ℕ) → List ℕ → Asker → State → Found
+found_of seeds body (ask.Login login) state = found.Login login (account_found (ask.Login login) state)
+found_of seeds body (ask.Caller caller) state = found.Caller (found_of_caller seeds body caller state)
+
+-- ---- what the policy is asked
 
 abbrev pub standing_of : Option AccountRow → Standing
 standing_of None = standing.Absent
 standing_of (Some row) = if row.enabled then standing.Enabled else standing.Disabled
 
-abbrev pub facts_from : ℕ → Asker → Found → Facts
-facts_from moment (ask.Login login) found = record {
+abbrev pub facts_on_login : ℕ → LoginAsk → Option AccountRow → Facts
+facts_on_login moment login account = record {
   moment = moment;
   token = token.Missing;
   standing = standing.Absent;
   reviewer = false;
-  subject = subject.Login (login_facts moment login found.account);
-}
-facts_from moment (ask.Caller caller) found = record {
-  moment = moment;
-  token = caller.token;
-  standing = standing_of found.account;
-  reviewer = found.reviewer;
-  subject = found.subject;
+  subject = subject.Login (login_facts moment login account);
 }
 
--- what was found is of what is asked: the path names it, and what the reply shows was read
-abbrev pub IsOf : Asker → Found → Type 0
-IsOf (ask.Login login) found = ⊤
-IsOf (ask.Caller caller) found =
-    (resource_of found.subject ≡ resource_of (unfound caller.wish)) × (is_for caller.wish found.material ≡ true)
-    × (is_within caller.wish found.subject ≡ true)
+abbrev pub facts_on_caller : ℕ → Token → Option AccountRow → Bool → Subject → Facts
+facts_on_caller moment token account reviewer subject = record {
+  moment = moment;
+  token = token;
+  standing = standing_of account;
+  reviewer = reviewer;
+  subject = subject;
+}
+
+-- before anything is looked at that the path names
+abbrev pub unfound_facts : ℕ → Asker → Option AccountRow → Bool → Facts
+unfound_facts moment (ask.Login login) account reviewer = facts_on_login moment login account
+unfound_facts moment (ask.Caller caller) account reviewer =
+    facts_on_caller moment caller.token account reviewer (unfound caller.wish)
+
+abbrev pub facts_in : ℕ → Found → Facts
+facts_in moment (found.Login login account) = facts_on_login moment login account
+facts_in moment (found.Caller it) = facts_on_caller moment it.token it.account it.reviewer (subject_at it.place)
+
+abbrev pub action_in : Found → Action
+action_in (found.Login login account) = action.Login
+action_in (found.Caller it) = action_at it.place
+
+-- the account that acts
+abbrev pub acting : FoundCaller → ℕ
+acting it = account_of_claims (claims_of it.token)
+
+-- what is found of a caller is of what the path names
+abbrev pub is_fit : Found → Bool
+is_fit (found.Login login account) = true
+is_fit (found.Caller it) = is_within it.place
 
 -- ---- the answer
 
 -- what the policy asks of what was found
-unfoldable pub policy_conditions : ℕ → Asker → Found → List (Condition Rule)
-policy_conditions moment it found = policy (action_of it) (facts_from moment it found)
+unfoldable pub policy_conditions : ℕ → Found → List (Condition Rule)
+policy_conditions moment it = policy (action_in it) (facts_in moment it)
 
 -- and what the action itself does
-abbrev pub own_conditions : List (List ℕ) → RequestValue → Asker → Found → List (Condition Rule)
-own_conditions seeds r (ask.Login login) found = []
-own_conditions seeds r (ask.Caller caller) found = wish_conditions seeds r found caller.wish
+abbrev pub own_conditions : List (List ℕ) → List ℕ → Found → List (Condition Rule)
+own_conditions seeds body (found.Login login account) = []
+own_conditions seeds body (found.Caller it) = place_conditions seeds body it.place
 
 -- the conditions on what was found
-abbrev pub later_conditions : List (List ℕ) → ℕ → RequestValue → Asker → Found → List (Condition Rule)
-later_conditions seeds moment r it found = policy_conditions moment it found ++ own_conditions seeds r it found
+abbrev pub later_conditions : List (List ℕ) → ℕ → List ℕ → Found → List (Condition Rule)
+later_conditions seeds moment body it = policy_conditions moment it ++ own_conditions seeds body it
 
 -- the object of a login's reply
-abbrev pub login_reply : Ring → ℕ → LoginAsk → Found → Option Data
-login_reply ring moment login found =
-    option_map (λ row. token_data (ring_token_text ring (claims_at moment login row))) found.account
+abbrev pub login_reply : Ring → ℕ → LoginAsk → Option AccountRow → Option Data
+login_reply ring moment login account =
+    option_map (λ row. token_data (ring_token_text ring (claims_at moment login row))) account
 
 -- the object of the reply
-abbrev pub reply_of : Keys → ℕ → RequestValue → Asker → Found → Option Data
-reply_of keys moment r (ask.Login login) found = login_reply keys.token moment login found
-reply_of keys moment r (ask.Caller caller) found =
-    wish_reply keys moment (account_of_claims (claims_of caller.token)) r found caller.wish
+abbrev pub reply_of : Keys → ℕ → List ℕ → Found → Option Data
+reply_of keys moment body (found.Login login account) = login_reply keys.token moment login account
+reply_of keys moment body (found.Caller it) = place_reply keys moment (acting it) body it.place
 
 -- the change that a login makes
-abbrev pub login_change : ℕ → LoginAsk → Found → Option Change
-login_change moment login found =
+abbrev pub login_change : ℕ → LoginAsk → Option AccountRow → Option Change
+login_change moment login account =
     option_and_then (λ row. option_map (λ step. change.UseStep (record { account = row.number; step = step }))
-    (step_of moment login row)) found.account
+    (login_step moment login row)) account
 
 -- the change that is made
-abbrev pub change_of : Keys → ℕ → RequestValue → Asker → Found → Option Change
-change_of keys moment r (ask.Login login) found = login_change moment login found
-change_of keys moment r (ask.Caller caller) found =
-    wish_change keys.seed moment (account_of_claims (claims_of caller.token)) r found caller.wish
+abbrev pub change_of : Keys → ℕ → List ℕ → Found → Option Change
+change_of keys moment body (found.Login login account) = login_change moment login account
+change_of keys moment body (found.Caller it) = place_change keys.seed moment (acting it) body it.place
 
 abbrev pub later_of : List (List ℕ) → ℕ → RequestValue → Option Asker → State → List (Condition Rule)
 later_of seeds moment r None state = []
-later_of seeds moment r (Some it) state = later_conditions seeds moment r it (found_of seeds r.body it state)
+later_of seeds moment r (Some it) state = later_conditions seeds moment r.body (found_of seeds r.body it state)
 
 -- all conditions, in their order
 abbrev pub conditions : Keys → ℕ → RequestValue → State → List (Condition Rule)
@@ -193,7 +201,7 @@ conditions keys moment r state = first_conditions moment r ++ later_of keys.seed
 
 abbrev pub reply_to : Keys → ℕ → RequestValue → Option Asker → State → Option Data
 reply_to keys moment r None state = None
-reply_to keys moment r (Some it) state = reply_of keys moment r it (found_of keys.seed r.body it state)
+reply_to keys moment r (Some it) state = reply_of keys moment r.body (found_of keys.seed r.body it state)
 
 -- the rule of the first condition that doesn't hold, or the object of the reply
 unfoldable pub answer : Keys → ℕ → RequestValue → State → Result (Option Data) Rule
@@ -204,7 +212,7 @@ answer keys moment r state =
 
 abbrev pub change_by : Keys → ℕ → RequestValue → Option Asker → State → Option Change
 change_by keys moment r None state = None
-change_by keys moment r (Some it) state = change_of keys moment r it (found_of keys.seed r.body it state)
+change_by keys moment r (Some it) state = change_of keys moment r.body (found_of keys.seed r.body it state)
 
 -- the change of a request that is accepted
 abbrev pub change_on : Result (Option Data) Rule → Option Change → Option Change

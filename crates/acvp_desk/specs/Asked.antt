@@ -1,6 +1,6 @@
 -- What an account asks the operator for: that an object is registered, or that a test session is certified.
-use Rattle.std.specs.Prelude.{ℕ, ◌+◌, List, [], ◌∷◌, ◌++◌, Bool, ◌&&◌, nat_lt, if◌then◌else◌, Option, Some, None}
-use Rattle.std.specs.Prelude.{option_map, option_and_then, is_some}
+use Rattle.std.specs.Prelude.{ℕ, ◌+◌, List, [], ◌∷◌, ◌++◌, length, Bool, true, false, ◌&&◌, nat_lt, Option, Some, None}
+use Rattle.std.specs.Prelude.{option_map, option_and_then, is_some, Result, Ok, Err}
 use Rattle.acvp_json.specs.CertifyBody.{certify_body_conditions, certify_body_of}
 use Rattle.acvp_json.specs.Data.{Data}
 use Rattle.acvp_json.specs.Envelope.{object_of}
@@ -22,18 +22,18 @@ use Rattle.acvp_tables.specs.declared.change.Change.TheVariants as change
 use Rattle.acvp_tables.specs.declared.change.NewCertification.{NewCertification}
 use Rattle.acvp_tables.specs.declared.change.NewRequest.{NewRequest}
 use Rattle.acvp_tables.specs.declared.rows.ObjectRow.{ObjectRow}
-use Rattle.std.specs.Prelude.{length}
 use Rattle.acvp_desk.specs.Bodies.{body_conditions, object_rule, rule_of}
 use Rattle.acvp_desk.specs.Registries.{own_object}
 use Rattle.acvp_desk.specs.declared.found.Asked.{Asked}
-use Rattle.acvp_desk.specs.declared.found.Material.{Material}
-use Rattle.acvp_desk.specs.declared.found.Material.TheVariants as material
 
 -- ---- what a body asks for
 
--- what is read of a body, where all conditions on it hold
-abbrev pub where_held : {X : Type 0} → List (Condition Rule) → Option X → Option X
-where_held conditions read = if is_some (first_broken conditions) then None else read
+-- what is read of a body on which all conditions hold; or the rule of the first that doesn't. A body of which nothing
+-- is read breaks one
+abbrev pub judged_read : {X : Type 0} → Option Rule → Option X → Result X Rule
+judged_read (Some broken) read = Err broken
+judged_read None (Some x) = Ok x
+judged_read None None = Err rule.BodyEnvelope
 
 -- the conditions on the body of a request to register an object of a kind
 abbrev pub registered_conditions : Kind → List ℕ → List (Condition Rule)
@@ -43,16 +43,18 @@ abbrev pub kept_as : Kind → Data → KeptObject
 kept_as kind d = record { kind = kind; value = d }
 
 -- the object that it asks to register
-unfoldable pub object_in : Kind → List ℕ → Option KeptObject
-object_in kind body = where_held (registered_conditions kind body) (option_map (kept_as kind) (object_of body))
+unfoldable pub object_in : Kind → List ℕ → Result KeptObject Rule
+object_in kind body =
+    judged_read (first_broken (registered_conditions kind body)) (option_map (kept_as kind) (object_of body))
 
 -- the conditions on the body of a request for certification
 abbrev pub certified_conditions : List ℕ → List (Condition Rule)
 certified_conditions body = body_conditions rule_of certify_body_conditions body
 
 -- the module and the environment that it asks to certify
-unfoldable pub certified_in : List ℕ → Option CertifyBody
-certified_in body = where_held (certified_conditions body) (option_and_then certify_body_of (object_of body))
+unfoldable pub certified_in : List ℕ → Result CertifyBody Rule
+certified_in body =
+    judged_read (first_broken (certified_conditions body)) (option_and_then certify_body_of (object_of body))
 
 -- ---- what it names
 
@@ -65,35 +67,37 @@ abbrev pub has_own_parts : ℕ → List ObjectRow → CertifyBody → Bool
 has_own_parts u objects body =
     is_some (own_object Module u body.module objects) && is_some (own_object Environment u body.environment objects)
 
+-- all that is named by a body is there; by one of which nothing is read nothing is named
+abbrev pub is_named : {X : Type 0} → Result X Rule → (X → Bool) → Bool
+is_named (Ok x) test = test x
+is_named (Err broken) test = true
+
 -- so many requests the account has, and whether all that is named is there
-abbrev pub registration_asked : Kind → ℕ → List ℕ → State → Asked
-registration_asked kind u body state = record {
+abbrev pub registration_asked : ℕ → Result KeptObject Rule → State → Asked
+registration_asked u object state = record {
   requests = length (requests_of u state.requests);
-  named = is_none_or (object_in kind body) (has_own_vendor u state.objects);
+  named = is_named object (has_own_vendor u state.objects);
 }
 
-abbrev pub certification_asked : ℕ → List ℕ → State → Asked
-certification_asked u body state = record {
+abbrev pub certification_asked : ℕ → Result CertifyBody Rule → State → Asked
+certification_asked u parts state = record {
   requests = length (requests_of u state.requests);
-  named = is_none_or (certified_in body) (has_own_parts u state.objects);
+  named = is_named parts (has_own_parts u state.objects);
 }
 
 -- ---- the conditions
 
-abbrev pub asked_in : Material → Option Asked
-asked_in (material.Asked asked) = Some asked
-asked_in _ = None
-
 -- what the body names is there, and the account has no 999999 requests yet
-abbrev pub asked_conditions : Option Asked → List (Condition Rule)
-asked_conditions asked = (is_none_or asked (λ a. a.named), rule.NoReference)
-    ∷ (is_none_or asked (λ a. nat_lt a.requests 999999), rule.AccountFull) ∷ []
+abbrev pub asked_conditions : Asked → List (Condition Rule)
+asked_conditions asked = (asked.named, rule.NoReference) ∷ (nat_lt asked.requests 999999, rule.AccountFull) ∷ []
 
-abbrev pub registration_conditions_on : Kind → List ℕ → Option Asked → List (Condition Rule)
-registration_conditions_on kind body asked = registered_conditions kind body ++ asked_conditions asked
+-- all conditions on the body hold
+abbrev pub read_conditions : {X : Type 0} → Result X Rule → List (Condition Rule)
+read_conditions (Ok x) = []
+read_conditions (Err broken) = (false, broken) ∷ []
 
-abbrev pub certification_conditions_on : List ℕ → Option Asked → List (Condition Rule)
-certification_conditions_on body asked = certified_conditions body ++ asked_conditions asked
+abbrev pub requested_conditions : {X : Type 0} → Result X Rule → Asked → List (Condition Rule)
+requested_conditions read asked = read_conditions read ++ asked_conditions asked
 
 -- ---- the request that is made
 
@@ -111,19 +115,17 @@ certification_made u session asked body = record {
   certification = record { «module» = body.module; environment = body.environment; session = session };
 }
 
-abbrev pub registration_change : Kind → ℕ → List ℕ → Option Asked → Option Change
-registration_change kind u body None = None
-registration_change kind u body (Some asked) =
-    option_map (λ object. change.NewRequest (request_made u asked object)) (object_in kind body)
+abbrev pub registration_change : ℕ → Result KeptObject Rule → Asked → Option Change
+registration_change u (Ok object) asked = Some (change.NewRequest (request_made u asked object))
+registration_change u (Err broken) asked = None
 
-abbrev pub certification_change : ℕ → ℕ → List ℕ → Option Asked → Option Change
-certification_change u session body None = None
-certification_change u session body (Some asked) =
-    option_map (λ parts. change.Certify (certification_made u session asked parts)) (certified_in body)
+abbrev pub certification_change : ℕ → ℕ → Result CertifyBody Rule → Asked → Option Change
+certification_change u session (Ok parts) asked = Some (change.Certify (certification_made u session asked parts))
+certification_change u session (Err broken) asked = None
 
 -- it waits for the operator's decision
 abbrev pub request_waiting : Kind → ℕ → PendingRequest
 request_waiting kind n = record { number = n; kind = kind; status = status.Initial; approved = None }
 
-abbrev pub asked_reply : Kind → ℕ → Option Asked → Option Data
-asked_reply kind u asked = option_map (λ a. request_data (request_waiting kind (next_request u a))) asked
+abbrev pub asked_reply : Kind → ℕ → Asked → Data
+asked_reply kind u asked = request_data (request_waiting kind (next_request u asked))

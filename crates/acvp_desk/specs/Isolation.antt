@@ -7,7 +7,7 @@ use Rattle.acvp_policy.specs.declared.rule.Rule.{Rule}
 use Rattle.acvp_policy.specs.declared.rule.Rule.TheVariants as rule
 use Rattle.acvp_tables.specs.Content.{Content, is_reviewer}
 use Rattle.acvp_tables.specs.Meaning.{Meaning}
-use Rattle.acvp_tables.specs.State.{State, IsSound, IsWellNumbered, live_records, may_see, own, owner_of}
+use Rattle.acvp_tables.specs.State.{State, AreWellNumbered, IsWellNumbered, live_records, may_see, own, owner_of}
 use Rattle.acvp_tables.specs.State.{session_record_at, set_record_at, state_of}
 use Rattle.acvp_desk.specs.Answer.{answer, asker_of, effect, first_conditions_on, who, Gives, Refuses}
 use Rattle.acvp_desk.specs.Kept.{IsKept}
@@ -88,19 +88,19 @@ IsUnavailable (Given reply) = ⊥
 IsUnavailable (Denied broken) = broken ≡ rule.Unavailable
 
 module _ {T : Type 0} (meaning : Meaning T) where
-  open meaning use {stands, is_live, is_clean}
+  open meaning use {stands, is_open, is_clean}
 
   -- For every content that the tables stood for they stand for one in which each account owns what the order leaves of
   -- its own rows.
   abbrev pub LeavesApart : T → T → Order → Type 0
-  LeavesApart old new it = is_live new → (c : Content) → IsSound c → stands old c
+  LeavesApart old new it = is_open new → (c : Content) → AreWellNumbered c → stands old c
       → (d : Content) × stands new d × ((u : ℕ) → own u (state_of d) ≡ own_after_order it u (own u (state_of c)))
 
   -- It is so unless the order is unavailable.
   abbrev pub IsOrderedApart : OrderReply → T → T → Order → Type 0
   IsOrderedApart reply old new it = ByReply reply (LeavesApart old new it) (LeavesApart old new it) ⊤
 
-  -- The same of a request while the disk tells no lie; or the request is unavailable, and all stays.
+  -- The same of a request while the disk is clean; or the request is unavailable, and all stays.
   abbrev pub IsServedApart : DeskReply → T → T → Keys → ℕ → RequestValue → Type 0
   IsServedApart reply old new keys moment r = is_clean new → (c : Content) → IsKept keys.seed c → Holds meaning old c
       → (IsUnavailable reply × Holds meaning new c)

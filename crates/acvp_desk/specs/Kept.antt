@@ -6,7 +6,7 @@ use Rattle.acvp_answers.specs.Verdicts.{verdicts_of, disposition_of}
 use Rattle.acvp_tables.specs.Content.{Content}
 use Rattle.acvp_tables.specs.Counted.{IsCounted}
 use Rattle.acvp_tables.specs.Graded.{GradedValue}
-use Rattle.acvp_tables.specs.State.{IsSound}
+use Rattle.acvp_tables.specs.State.{AreWellNumbered}
 use Rattle.acvp_tables.specs.declared.rows.SetRow.{SetRow}
 
 -- The verdicts that are kept are those on the kept answers by the standard answers to the prompts under the seed, and
@@ -25,6 +25,6 @@ abbrev pub IsGraded : List (List ℕ) → Content → Type 0
 IsGraded seeds c = All (IsGradedSet seeds) c.sets
 
 pub record IsKept (seeds : List (List ℕ)) (c : Content) : Type 0 where
-  pub sound : IsSound c
+  pub sound : AreWellNumbered c
   pub counted : IsCounted c
   pub graded : IsGraded seeds c

@@ -60,11 +60,11 @@ login_ask_at ring body = option_map (login_ask ring) (login_at body)
 -- ---- what is found on it
 
 -- the step whose code (RFC 6238) the password is
-abbrev pub step_of : ℕ → LoginAsk → AccountRow → Option ℕ
-step_of moment ask row = option_and_then (λ code. accepted row.secret row.last_step moment code) ask.password
+abbrev pub login_step : ℕ → LoginAsk → AccountRow → Option ℕ
+login_step moment ask row = option_and_then (λ code. accepted row.secret row.last_step moment code) ask.password
 
 abbrev pub user_facts : ℕ → LoginAsk → AccountRow → UserFacts
-user_facts moment ask row = record { account = row.number; enabled = row.enabled; step = step_of moment ask row }
+user_facts moment ask row = record { account = row.number; enabled = row.enabled; step = login_step moment ask row }
 
 abbrev pub login_facts : ℕ → LoginAsk → Option AccountRow → LoginFacts
 login_facts moment ask found = record { user = option_map (user_facts moment ask) found; renewal = ask.renewal }

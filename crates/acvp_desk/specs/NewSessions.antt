@@ -1,5 +1,5 @@
 -- A new test session: what its body registers, its number, its vector sets and the token that is bound to it.
-use Rattle.std.specs.Prelude.{ℕ, ◌+◌, List, [], ◌∷◌, length, Bool, true, nat_lt, Option, Some, None, option_map}
+use Rattle.std.specs.Prelude.{ℕ, ◌+◌, List, [], ◌∷◌, length, Option, Some, None, option_map}
 use Rattle.std.specs.Prelude.{option_and_then}
 use Rattle.std.specs.List.{range_with_len}
 use Rattle.acvp_caps.specs.Registered.{registration_at}
@@ -12,23 +12,11 @@ use Rattle.acvp_tables.specs.declared.change.NewSession.{NewSession}
 use Rattle.acvp_token.specs.TokenText.{ring_token_text}
 use Rattle.acvp_token.specs.declared.Claims.{Claims}
 use Rattle.acvp_desk.specs.Login.{token_life}
-use Rattle.acvp_desk.specs.declared.found.Material.{Material}
-use Rattle.acvp_desk.specs.declared.found.Material.TheVariants as material
 use Rattle.acvp_token.specs.Keys.{Ring}
 
 -- what the bytes of a body register
 unfoldable pub registration_in : List ℕ → Option RegistrationValue
 registration_in body = option_map registration_at (object_of body)
-
--- how many sessions the account has
-abbrev pub sessions_in_material : Material → Option ℕ
-sessions_in_material (material.SessionCount n) = Some n
-sessions_in_material _ = None
-
--- the account has no 999999 sessions yet
-abbrev pub has_number_left : Option ℕ → Bool
-has_number_left None = true
-has_number_left (Some n) = nat_lt n 999999
 
 -- the place of the newest seed
 abbrev pub newest_epoch : List (List ℕ) → Option ℕ
@@ -45,10 +33,9 @@ session_made moment u n epoch registration = record {
 }
 
 -- the session that a body registers: the account's next number, and vector sets under the newest seed
-abbrev pub new_session_in : List (List ℕ) → ℕ → ℕ → List ℕ → Material → Option NewSession
-new_session_in seeds moment u body material =
-    option_and_then (λ n. option_and_then (λ epoch. option_map (session_made moment u n epoch) (registration_in body))
-    (newest_epoch seeds)) (sessions_in_material material)
+abbrev pub new_session_in : List (List ℕ) → ℕ → ℕ → ℕ → List ℕ → Option NewSession
+new_session_in seeds moment u n body =
+    option_and_then (λ epoch. option_map (session_made moment u n epoch) (registration_in body)) (newest_epoch seeds)
 
 -- a token that is bound to it
 abbrev pub session_claims : NewSession → Claims

@@ -4,9 +4,10 @@ use Rattle.std.specs.Prelude.{is_some, if◌then◌else◌, ⊤}
 use Rattle.acvp_tables.specs.Changes.{after_order}
 use Rattle.acvp_registry.specs.declared.kind.Kind.{Kind}
 use Rattle.acvp_registry.specs.declared.kind.Kind.TheVariants.{Vendor, Module, Environment, Certification}
-use Rattle.acvp_tables.specs.Content.{Content, account_at, request_at, subject_of}
+use Rattle.acvp_tables.specs.Content.{Content, account_at, request_at, purpose_of}
 use Rattle.acvp_tables.specs.Meaning.{Meaning}
-use Rattle.acvp_tables.specs.State.{State, first_of_account, is_account_number, record_counts, state_of, IsSound}
+use Rattle.acvp_tables.specs.State.{State, first_of_account, is_account_number, record_counts, state_of}
+use Rattle.acvp_tables.specs.State.{AreWellNumbered}
 use Rattle.acvp_tables.specs.StateChanges.{after_order_state}
 use Rattle.acvp_tables.specs.declared.change.OrderChange.{OrderChange}
 use Rattle.acvp_tables.specs.declared.change.OrderChange.TheVariants as change
@@ -14,8 +15,8 @@ use Rattle.acvp_tables.specs.declared.rows.RequestRow.{RequestRow}
 use Rattle.acvp_tables.specs.declared.rows.RequestStatus.{RequestStatus}
 use Rattle.acvp_tables.specs.declared.rows.RequestStatus.TheVariants as status
 use Rattle.acvp_registry.specs.declared.counts.Counts.{Counts}
-use Rattle.acvp_tables.specs.declared.summary.RequestSubject.{RequestSubject}
-use Rattle.acvp_tables.specs.declared.summary.RequestSubject.TheVariants as asks
+use Rattle.acvp_tables.specs.declared.summary.RequestPurpose.{RequestPurpose}
+use Rattle.acvp_tables.specs.declared.summary.RequestPurpose.TheVariants as asks
 use Rattle.acvp_desk.specs.declared.order.Order.{Order}
 use Rattle.acvp_desk.specs.declared.order.Order.TheVariants as order
 use Rattle.acvp_desk.specs.declared.order.OrderReply.{OrderReply}
@@ -53,17 +54,17 @@ count_of Environment n = n.environments
 count_of Certification n = 0
 
 -- the number that an approval gives: the account's next of the kind, or that of the session that is certified
-abbrev pub approved_as : State → ℕ → RequestSubject → ℕ
+abbrev pub approved_as : State → ℕ → RequestPurpose → ℕ
 approved_as state account (asks.Registration kind) =
     first_of_account account + count_of kind (record_counts account state)
 approved_as state account (asks.Certification c) = c.session
 
 abbrev pub approved_number : State → RequestRow → ℕ
-approved_number state row = approved_as state row.account (subject_of row.body)
+approved_number state row = approved_as state row.account (purpose_of row.body)
 
 -- with the kind of what is approved
 abbrev pub approved_reply : State → RequestRow → OrderReply
-approved_reply state row = Done (Some (kind_asked (subject_of row.body), approved_number state row))
+approved_reply state row = Done (Some (kind_asked (purpose_of row.body), approved_number state row))
 
 -- a request that isn't there is unknown, and one that was decided isn't decided again
 abbrev pub on_request : (RequestRow → OrderReply) → Option RequestRow → OrderReply
@@ -123,33 +124,35 @@ ByReply NotInitial P Q R = Q
 ByReply Unavailable P Q R = R
 
 module _ {T : Type 0} (meaning : Meaning T) where
-  open meaning use {stands, is_live, is_clean, leaves}
+  open meaning use {stands, is_open, is_clean, leaves}
 
   abbrev pub Answers : OrderReply → T → T → Order → Type 0
-  Answers reply old new it = is_live new → (c : Content) → IsSound c → stands old c
+  Answers reply old new it = is_open new → (c : Content) → AreWellNumbered c → stands old c
       → (reply ≡ order_reply it (state_of c)) × stands new (content_order_effect it c)
 
   abbrev pub Settles : T → T → Order → Type 0
   Settles old new it =
-      is_clean new → is_live old → (c d : Content) → IsSound c → stands old c → leaves new (content_order_effect it c) d
+      is_clean new → is_open old → (c d : Content) → AreWellNumbered c → stands old c
+      → leaves new (content_order_effect it c) d
 
   abbrev pub Stays : T → T → Type 0
-  Stays old new = is_live new → (c : Content) → stands old c → stands new c
+  Stays old new = is_open new → (c : Content) → stands old c → stands new c
 
   -- For every content that the tables stand for: the order is answered, and the content after its effect stands; or it
   -- is unavailable, and all stands as it did. A crash finds the effect of what was answered; and of what was
   -- unavailable, what there was or that with the effect.
   pub record Orders (reply : OrderReply) (old new : T) (it : Order) : Type 0 where
-    pub was_live : is_live new → is_live old
+    pub was_open : is_open new → is_open old
     pub was_clean : is_clean new → is_clean old
     pub answered : ByReply reply (Answers reply old new it) (Answers reply old new it) ⊤
     pub same : ByReply reply ⊤ (Stays old new) (Stays old new)
     pub settled : ByReply reply (Settles old new it) (Settles old new it)
-        (is_clean new → is_live old → (c : Content) → IsSound c → stands old c
+        (is_clean new → is_open old → (c : Content) → AreWellNumbered c → stands old c
         → leaves new c (content_order_effect it c))
     -- unless it is unavailable, the tables were open and stay so, and where it is refused a crash finds what it found
     -- before
-    pub live : ByReply reply (is_clean new → is_live old × is_live new) (is_clean new → is_live old × is_live new) ⊤
+    pub stays_open : ByReply reply (is_clean new → is_open old × is_open new)
+        (is_clean new → is_open old × is_open new) ⊤
     pub kept : ByReply reply ⊤ (is_clean new → (c d : Content) → leaves old c d → leaves new c d) ⊤
     -- of tables that were shut already a crash finds what it found, whatever is answered
-    pub shut : is_clean new → (is_live old → ⊥) → (c d : Content) → leaves old c d → leaves new c d
+    pub shut : is_clean new → (is_open old → ⊥) → (c d : Content) → leaves old c d → leaves new c d

@@ -1,37 +1,43 @@
--- What the records hold of what a path names.
-use Rattle.std.specs.Prelude.{ℕ, ◌/◌, List, [], ◌∷◌, map, length, Bool, true, false, not, ◌&&◌, ◌||◌, ◌==◌, nat_le}
-use Rattle.std.specs.Prelude.{if◌then◌else◌, Option, Some, None, option_map, option_and_then, is_some}
+-- What is found of what a caller asks: the numbers of its path, how what these name stands, and what the reply shows.
+use Rattle.std.specs.Prelude.{Ok, ℕ, ◌/◌, List, [], ◌∷◌, map, length, Bool, true, false, not, ◌&&◌, ◌||◌, ◌==◌, nat_le}
+use Rattle.std.specs.Prelude.{if◌then◌else◌, Option, None, option_map, option_and_then, is_some}
 use Rattle.std.specs.List.{list_all}
 use Rattle.acvp_json.specs.declared.page.Page.{Page}
-use Rattle.acvp_policy.specs.Conditions.{session_found, reviewer_found, set_found}
+use Rattle.acvp_policy.specs.declared.action.Action.{Action}
 use Rattle.acvp_policy.specs.declared.facts.CertificationStatus.{CertificationStatus}
 use Rattle.acvp_policy.specs.declared.facts.CertificationStatus.TheVariants as certification
 use Rattle.acvp_policy.specs.declared.facts.SessionFacts.{SessionFacts}
 use Rattle.acvp_policy.specs.declared.facts.Subject.{Subject}
 use Rattle.acvp_policy.specs.declared.facts.Subject.TheVariants as subject
-use Rattle.acvp_tables.specs.Content.{is_reviewer, page, request_at, request_summary, reviewers_of}
+use Rattle.acvp_tables.specs.Content.{is_kind, is_reviewer, page, request_at, request_summary, reviewers_of}
 use Rattle.acvp_tables.specs.State.{State, SessionRecord, SetRecord, session_record_at, session_records_of}
 use Rattle.acvp_tables.specs.State.{live_records, record_counts}
 use Rattle.acvp_tables.specs.declared.rows.RequestRow.{RequestRow}
 use Rattle.acvp_tables.specs.declared.rows.RequestStatus.{RequestStatus}
 use Rattle.acvp_tables.specs.declared.rows.RequestStatus.TheVariants as status
-use Rattle.acvp_desk.specs.declared.find.Place.{Place}
 use Rattle.acvp_desk.specs.declared.found.ListedSession.{ListedSession}
 use Rattle.acvp_desk.specs.declared.found.SetOutcome.{SetOutcome}
-use Rattle.acvp_desk.specs.declared.found.Material.{Material}
-use Rattle.acvp_desk.specs.declared.found.Material.TheVariants as material
+use Rattle.acvp_desk.specs.declared.found.SessionsPage.{SessionsPage}
+use Rattle.acvp_desk.specs.declared.found.Place.{Place}
+use Rattle.acvp_desk.specs.declared.found.Place.TheVariants as place
+use Rattle.acvp_desk.specs.declared.found.ObjectsPage.{ObjectsPage}
+use Rattle.acvp_desk.specs.declared.found.RegistryPlace.{RegistryPlace}
+use Rattle.acvp_desk.specs.declared.found.RegistryPlace.TheVariants as in_registry
+use Rattle.acvp_desk.specs.declared.found.RequestsPage.{RequestsPage}
+use Rattle.acvp_desk.specs.declared.found.SessionPlace.{SessionPlace}
+use Rattle.acvp_desk.specs.declared.found.SessionPlace.TheVariants as in_session
 use Rattle.acvp_desk.specs.declared.wish.Wish.{Wish}
 use Rattle.acvp_desk.specs.declared.wish.Wish.TheVariants as wish
-use Rattle.acvp_desk.specs.declared.wish.AccountWish.{AccountWish}
 use Rattle.acvp_desk.specs.declared.wish.AccountWish.TheVariants as on_account
 use Rattle.acvp_desk.specs.declared.wish.SessionWish.{SessionWish}
 use Rattle.acvp_desk.specs.declared.wish.SessionWish.TheVariants as on_session
 use Rattle.acvp_desk.specs.declared.wish.RegistryWish.{RegistryWish}
 use Rattle.acvp_desk.specs.declared.wish.RegistryWish.TheVariants as on_registry
-use Rattle.acvp_desk.specs.Asked.{registration_asked, certification_asked}
-use Rattle.acvp_desk.specs.Registries.{has_row, kind_of, objects_material, own_object, own_request, registry_subject}
-use Rattle.acvp_desk.specs.Registries.{requests_material}
-use Rattle.acvp_desk.specs.Sets.{set_disposition, set_facts, set_material, set_passes, set_reviewed, is_for_set}
+use Rattle.acvp_desk.specs.Asked.{certified_in, object_in, certification_asked, registration_asked}
+use Rattle.acvp_desk.specs.Registries.{kind_of, objects_page, own_object, own_request, registry_subject, requests_page}
+use Rattle.acvp_desk.specs.Registries.{unfound_row}
+use Rattle.acvp_desk.specs.Sets.{set_disposition, set_facts, set_passes, set_place, set_reviewed, set_wish}
+use Rattle.acvp_desk.specs.Wish.{action_of_wish}
 
 -- ---- a test session
 
@@ -58,7 +64,7 @@ facts_of_session seeds state row = record {
   cancelled = row.cancelled;
   created = row.created;
   sample = row.sample;
-  certification = certification_of row.certify state.requests;
+  certification = certification_of row.last_request state.requests;
   passed = session_passes seeds row.number state.sets;
 }
 
@@ -91,43 +97,13 @@ unfound wish.NewSession = subject.Account
 unfound (wish.CancelSet session n) = subject.Set (record { session = session; set = n; found = None })
 unfound (wish.ListSessions page) = subject.Account
 unfound (wish.Certify n) = subject.Session (record { session = n; found = None })
-unfound (wish.Registry it) = registry_subject false it
+unfound (wish.Registry it) = unfound_row it
 
 -- how a session of an account's review stands, where the account is a reviewer of it
 abbrev pub reviewed_facts : List (List ℕ) → State → ℕ → ℕ → Option SessionFacts
 reviewed_facts seeds state n m = if is_reviewer n m state.reviewers then session_facts seeds state n else None
 
--- with what is found there, of the account that acts where it is of no session
-abbrev pub subject_of : List (List ℕ) → ℕ → State → Wish → Subject
-subject_of seeds u state (wish.Account it) = subject.Account
-subject_of seeds u state (wish.Algorithm n) = subject.Algorithm n
-subject_of seeds u state (wish.Session n it) =
-    subject.Session (record { session = n; found = session_facts seeds state n })
-subject_of seeds u state (wish.Reviewer n m) =
-    subject.Reviewer (record { session = n; reviewer = m; found = reviewed_facts seeds state n m })
-subject_of seeds u state (wish.Set session n it) =
-    subject.Set (record {
-      session = session;
-      set = n;
-      found = set_facts (session_facts seeds state session) session n state.sets;
-    })
-subject_of seeds u state wish.NewSession = subject.Account
-subject_of seeds u state (wish.CancelSet session n) =
-    subject.Set (record {
-      session = session;
-      set = n;
-      found = set_facts (session_facts seeds state session) session n state.sets;
-    })
-subject_of seeds u state (wish.ListSessions page) = subject.Account
-subject_of seeds u state (wish.Certify n) =
-    subject.Session (record { session = n; found = session_facts seeds state n })
-subject_of seeds u state (wish.Registry it) = registry_subject (has_row u state it) it
-
--- ---- what a reply shows besides
-
-abbrev pub account_material : ℕ → State → AccountWish → Material
-account_material u state on_account.Read = material.Counts (record_counts u state)
-account_material u state on_account.ListAlgorithms = material.Nothing
+-- ---- what is found
 
 -- the numbers of a session's vector sets that aren't cancelled
 abbrev pub set_numbers : ℕ → State → List ℕ
@@ -140,13 +116,13 @@ set_outcome seeds row = record { vs = row.number; disposition = set_disposition 
 abbrev pub set_outcomes : List (List ℕ) → ℕ → State → List SetOutcome
 set_outcomes seeds n state = map (set_outcome seeds) (live_records n state.sets)
 
-abbrev pub session_material : List (List ℕ) → ℕ → State → SessionWish → Material
-session_material seeds n state on_session.Read = material.Sets (set_numbers n state)
-session_material seeds n state on_session.Cancel = material.Nothing
-session_material seeds n state on_session.Results = material.Outcomes (set_outcomes seeds n state)
-session_material seeds n state on_session.ListSets = material.Sets (set_numbers n state)
-session_material seeds n state on_session.ListReviewers = material.Reviewers (reviewers_of n state.reviewers)
-session_material seeds n state on_session.AddReviewer = material.Reviewers (reviewers_of n state.reviewers)
+abbrev pub session_place : List (List ℕ) → ℕ → State → SessionWish → SessionPlace
+session_place seeds n state on_session.Read = in_session.Read (set_numbers n state)
+session_place seeds n state on_session.Cancel = in_session.Cancel
+session_place seeds n state on_session.Results = in_session.Results (set_outcomes seeds n state)
+session_place seeds n state on_session.ListSets = in_session.ListSets (set_numbers n state)
+session_place seeds n state on_session.ListReviewers = in_session.ListReviewers (reviewers_of n state.reviewers)
+session_place seeds n state on_session.AddReviewer = in_session.AddReviewer (reviewers_of n state.reviewers)
 
 -- what a list shows of a session
 abbrev pub listed_session : List RequestRow → SessionRecord → ListedSession
@@ -155,148 +131,113 @@ listed_session requests row = record {
   created = row.created;
   sample = row.sample;
   cancelled = row.cancelled;
-  certification = certification_of row.certify requests;
+  certification = certification_of row.last_request requests;
 }
 
 -- how many sessions an account has, and those of a page
-abbrev pub sessions_material : ℕ → State → Option Page → Material
-sessions_material u state None = material.Nothing
-sessions_material u state (Some at) =
-    material.Sessions (length (session_records_of u state.sessions))
-    (map (listed_session state.requests) (page at.offset at.limit (session_records_of u state.sessions)))
-
--- of the account's registries and requests
-abbrev pub registry_material : ℕ → List ℕ → State → RegistryWish → Material
-registry_material u body state (on_registry.Read of n) = material.Object (own_object (kind_of of) u n state.objects)
-registry_material u body state (on_registry.New of) = material.Asked (registration_asked (kind_of of) u body state)
-registry_material u body state (on_registry.List of at) = objects_material (kind_of of) u state.objects at
-registry_material u body state (on_registry.ReadRequest n) =
-    material.Request (option_map request_summary (own_request u n state.requests))
-registry_material u body state (on_registry.ListRequests at) = requests_material u state.requests at
-
--- what is read of the records of the account that acts, and of what the path and the body name
-abbrev pub material_of : List (List ℕ) → ℕ → List ℕ → State → Wish → Material
-material_of seeds u body state (wish.Account it) = account_material u state it
-material_of seeds u body state (wish.Algorithm n) = material.Nothing
-material_of seeds u body state (wish.Session n it) = session_material seeds n state it
-material_of seeds u body state (wish.Reviewer n m) = material.Reviewers (reviewers_of n state.reviewers)
-material_of seeds u body state wish.NewSession = material.SessionCount (record_counts u state).sessions
-material_of seeds u body state (wish.CancelSet session n) = material.Outcomes (set_outcomes seeds session state)
-material_of seeds u body state (wish.Set session n it) = set_material seeds session n state.sets it
-material_of seeds u body state (wish.ListSessions page) = sessions_material u state page
-material_of seeds u body state (wish.Certify n) = material.Asked (certification_asked u body state)
-material_of seeds u body state (wish.Registry it) = registry_material u body state it
-
--- both
-abbrev pub place_of : List (List ℕ) → ℕ → List ℕ → State → Wish → Place
-place_of seeds u body state it = record {
-  subject = subject_of seeds u state it;
-  material = material_of seeds u body state it;
+abbrev pub sessions_page : ℕ → State → Page → SessionsPage
+sessions_page u state at = record {
+  page = at;
+  total = length (session_records_of u state.sessions);
+  sessions = map (listed_session state.requests) (page at.offset at.limit (session_records_of u state.sessions));
 }
 
--- ---- which material a wish has
+-- of a registry, or of requests
+abbrev pub registry_place : ℕ → List ℕ → State → RegistryWish → RegistryPlace
+registry_place u body state (on_registry.Read of n) =
+    in_registry.Object of n (own_object (kind_of of) u n state.objects)
+registry_place u body state (on_registry.New of) =
+    in_registry.New of (object_in (kind_of of) body) (registration_asked u (object_in (kind_of of) body) state)
+registry_place u body state (on_registry.List of at) =
+    in_registry.Objects of (option_map (objects_page (kind_of of) u state.objects) at)
+registry_place u body state (on_registry.ReadRequest n) =
+    in_registry.Request n (option_map request_summary (own_request u n state.requests))
+registry_place u body state (on_registry.ListRequests at) =
+    in_registry.Requests (option_map (requests_page u state.requests) at)
 
-abbrev pub has_counts : Material → Bool
-has_counts (material.Counts n) = true
-has_counts _ = false
+-- by the records of the account that acts, and by what the path and the body name
+abbrev pub place_of : List (List ℕ) → ℕ → List ℕ → State → Wish → Place
+place_of seeds u body state (wish.Account on_account.Read) = place.Account (record_counts u state)
+place_of seeds u body state (wish.Account on_account.ListAlgorithms) = place.Algorithms
+place_of seeds u body state (wish.Algorithm n) = place.Algorithm n
+place_of seeds u body state (wish.Session n it) =
+    place.Session n (session_facts seeds state n) (session_place seeds n state it)
+place_of seeds u body state (wish.Reviewer n m) =
+    place.Reviewer n m (reviewed_facts seeds state n m) (reviewers_of n state.reviewers)
+place_of seeds u body state wish.NewSession = place.NewSession (record_counts u state).sessions
+place_of seeds u body state (wish.Set session n it) =
+    place.Set session n (set_facts (session_facts seeds state session) session n state.sets)
+    (set_place seeds session n state.sets it)
+place_of seeds u body state (wish.CancelSet session n) =
+    place.CancelSet session n (set_facts (session_facts seeds state session) session n state.sets)
+    (set_outcomes seeds session state)
+place_of seeds u body state (wish.ListSessions at) = place.Sessions (option_map (sessions_page u state) at)
+place_of seeds u body state (wish.Certify n) =
+    place.Certify n (session_facts seeds state n) (certified_in body) (certification_asked u (certified_in body) state)
+place_of seeds u body state (wish.Registry it) = place.Registry (registry_place u body state it)
 
-abbrev pub has_session_count : Material → Bool
-has_session_count (material.SessionCount n) = true
-has_session_count _ = false
+-- ---- what the policy is asked about it
 
-abbrev pub is_for_account : AccountWish → Material → Bool
-is_for_account on_account.Read m = has_counts m
-is_for_account on_account.ListAlgorithms m = true
+abbrev pub session_wish : SessionPlace → SessionWish
+session_wish (in_session.Read sets) = on_session.Read
+session_wish in_session.Cancel = on_session.Cancel
+session_wish (in_session.Results sets) = on_session.Results
+session_wish (in_session.ListSets sets) = on_session.ListSets
+session_wish (in_session.ListReviewers accounts) = on_session.ListReviewers
+session_wish (in_session.AddReviewer accounts) = on_session.AddReviewer
 
-abbrev pub has_sets : Material → Bool
-has_sets (material.Sets sets) = true
-has_sets _ = false
+abbrev pub registry_wish : RegistryPlace → RegistryWish
+registry_wish (in_registry.Object of n row) = on_registry.Read of n
+registry_wish (in_registry.New of object asked) = on_registry.New of
+registry_wish (in_registry.Objects of rows) = on_registry.List of (option_map (λ (rows : ObjectsPage). rows.page) rows)
+registry_wish (in_registry.Request n row) = on_registry.ReadRequest n
+registry_wish (in_registry.Requests rows) =
+    on_registry.ListRequests (option_map (λ (rows : RequestsPage). rows.page) rows)
 
-abbrev pub has_outcomes : Material → Bool
-has_outcomes (material.Outcomes sets) = true
-has_outcomes _ = false
+-- what was asked
+abbrev pub wish_at : Place → Wish
+wish_at (place.Account counts) = wish.Account on_account.Read
+wish_at place.Algorithms = wish.Account on_account.ListAlgorithms
+wish_at (place.Algorithm n) = wish.Algorithm n
+wish_at (place.Session n found it) = wish.Session n (session_wish it)
+wish_at (place.Reviewer n m found accounts) = wish.Reviewer n m
+wish_at (place.NewSession sessions) = wish.NewSession
+wish_at (place.Set session n found it) = wish.Set session n (set_wish it)
+wish_at (place.CancelSet session n found sets) = wish.CancelSet session n
+wish_at (place.Sessions found) = wish.ListSessions (option_map (λ (found : SessionsPage). found.page) found)
+wish_at (place.Certify n found parts asked) = wish.Certify n
+wish_at (place.Registry it) = wish.Registry (registry_wish it)
 
-abbrev pub has_reviewers : Material → Bool
-has_reviewers (material.Reviewers accounts) = true
-has_reviewers _ = false
+-- the action that it is
+abbrev pub action_at : Place → Action
+action_at it = action_of_wish (wish_at it)
 
-abbrev pub reviewers_in_material : Material → Option (List ℕ)
-reviewers_in_material (material.Reviewers accounts) = Some accounts
-reviewers_in_material _ = None
+-- what the path names, with what is found there
+abbrev pub subject_at : Place → Subject
+subject_at (place.Account counts) = subject.Account
+subject_at place.Algorithms = subject.Account
+subject_at (place.Algorithm n) = subject.Algorithm n
+subject_at (place.Session n found it) = subject.Session (record { session = n; found = found })
+subject_at (place.Reviewer n m found accounts) =
+    subject.Reviewer (record { session = n; reviewer = m; found = found })
+subject_at (place.NewSession sessions) = subject.Account
+subject_at (place.Set session n found it) = subject.Set (record { session = session; set = n; found = found })
+subject_at (place.CancelSet session n found sets) =
+    subject.Set (record { session = session; set = n; found = found })
+subject_at (place.Sessions found) = subject.Account
+subject_at (place.Certify n found parts asked) = subject.Session (record { session = n; found = found })
+subject_at (place.Registry it) = registry_subject it
 
-abbrev pub is_for_session : SessionWish → Material → Bool
-is_for_session on_session.Read m = has_sets m
-is_for_session on_session.Cancel m = true
-is_for_session on_session.Results m = has_outcomes m
-is_for_session on_session.ListSets m = has_sets m
-is_for_session on_session.ListReviewers m = has_reviewers m
-is_for_session on_session.AddReviewer m = has_reviewers m
+-- what is to be registered is of the kind that the registry holds
+abbrev pub is_of_registry : RegistryPlace → Bool
+is_of_registry (in_registry.New of (Ok object) asked) = is_kind object.kind (kind_of of)
+is_of_registry _ = true
 
-abbrev pub has_sessions : Material → Bool
-has_sessions (material.Sessions total sessions) = true
-has_sessions _ = false
-
-abbrev pub is_for_page : Option Page → Material → Bool
-is_for_page None m = true
-is_for_page (Some at) m = has_sessions m
-
-abbrev pub is_asked : Material → Bool
-is_asked (material.Asked asked) = true
-is_asked _ = false
-
-abbrev pub has_object : Material → Bool
-has_object (material.Object row) = true
-has_object _ = false
-
-abbrev pub has_request : Material → Bool
-has_request (material.Request row) = true
-has_request _ = false
-
-abbrev pub has_objects : Material → Bool
-has_objects (material.Objects total rows) = true
-has_objects _ = false
-
-abbrev pub has_requests : Material → Bool
-has_requests (material.Requests total rows) = true
-has_requests _ = false
-
-abbrev pub is_for_registry : RegistryWish → Material → Bool
-is_for_registry (on_registry.Read of n) m = has_object m
-is_for_registry (on_registry.New of) m = is_asked m
-is_for_registry (on_registry.List of at) m = not (is_some at) || has_objects m
-is_for_registry (on_registry.ReadRequest n) m = has_request m
-is_for_registry (on_registry.ListRequests at) m = not (is_some at) || has_requests m
-
-abbrev pub is_for : Wish → Material → Bool
-is_for (wish.Account it) m = is_for_account it m
-is_for (wish.Algorithm n) m = true
-is_for (wish.Session n it) m = is_for_session it m
-is_for (wish.Reviewer n a) m = has_reviewers m
-is_for (wish.Set session n it) m = is_for_set it m
-is_for wish.NewSession m = has_session_count m
-is_for (wish.CancelSet session n) m = has_outcomes m
-is_for (wish.ListSessions page) m = is_for_page page m
-is_for (wish.Certify n) m = is_asked m
-is_for (wish.Registry it) m = is_for_registry it m
-
-abbrev pub is_within : Wish → Subject → Bool
-is_within (wish.Reviewer n m) s = not (is_some (reviewer_found s)) || nat_le m 9999
-is_within (wish.CancelSet session n) s = not (is_some (set_found s)) || ((n / 100) == session)
--- the number of a reviewer that is found is an account's, and that of a vector set names its session
-is_within (wish.Set session n it) s = not (is_some (set_found s)) || ((n / 100) == session)
-is_within _ s = true
-
--- ---- what is there where the policy lets through
-
--- the algorithms are numbered from 1 to 12
-abbrev pub is_there : Wish → Subject → Bool
-is_there (wish.Account it) s = true
-is_there (wish.Algorithm n) s = nat_le 1 n && nat_le n 12
-is_there (wish.Session n it) s = is_some (session_found s)
-is_there (wish.Reviewer n m) s = is_some (reviewer_found s) && nat_le m 9999
-is_there (wish.Set session n it) s = is_some (set_found s)
-is_there wish.NewSession s = true
-is_there (wish.CancelSet session n) s = is_some (set_found s)
-is_there (wish.ListSessions page) s = true
-is_there (wish.Certify n) s = is_some (session_found s)
-is_there (wish.Registry it) s = true
+-- the number of a reviewer that is found is an account's, that of a vector set names its session, and what is to be
+-- registered is of its registry
+abbrev pub is_within : Place → Bool
+is_within (place.Reviewer n m found accounts) = not (is_some found) || nat_le m 9999
+is_within (place.Set session n found it) = not (is_some found) || ((n / 100) == session)
+is_within (place.CancelSet session n found sets) = not (is_some found) || ((n / 100) == session)
+is_within (place.Registry it) = is_of_registry it
+is_within _ = true

@@ -1,5 +1,5 @@
 -- The registries of an account: its vendors, modules and operational environments, and the requests for them.
-use Rattle.std.specs.Prelude.{ℕ, List, length, map, Bool, true, ◌==◌, if◌then◌else◌, Option, Some, None}
+use Rattle.std.specs.Prelude.{ℕ, List, length, map, false, ◌==◌, if◌then◌else◌, Option, Some, None}
 use Rattle.std.specs.Prelude.{option_and_then, is_some}
 use Rattle.acvp_json.specs.Data.{Data}
 use Rattle.acvp_json.specs.Page.{page_data}
@@ -17,16 +17,18 @@ use Rattle.acvp_registry.specs.declared.request.PendingRequest.{PendingRequest}
 use Rattle.acvp_registry.specs.declared.request.Status.{Status}
 use Rattle.acvp_registry.specs.declared.request.Status.TheVariants as status
 use Rattle.acvp_tables.specs.Content.{object_at, objects_of, page, request_at, request_summary, requests_of}
-use Rattle.acvp_tables.specs.State.{State, given_number}
+use Rattle.acvp_tables.specs.State.{given_number}
 use Rattle.acvp_tables.specs.declared.rows.ObjectRow.{ObjectRow}
 use Rattle.acvp_tables.specs.declared.rows.RequestRow.{RequestRow}
 use Rattle.acvp_tables.specs.declared.rows.RequestStatus.{RequestStatus}
 use Rattle.acvp_tables.specs.declared.rows.RequestStatus.TheVariants as decided
-use Rattle.acvp_tables.specs.declared.summary.RequestSubject.{RequestSubject}
-use Rattle.acvp_tables.specs.declared.summary.RequestSubject.TheVariants as asks
+use Rattle.acvp_tables.specs.declared.summary.RequestPurpose.{RequestPurpose}
+use Rattle.acvp_tables.specs.declared.summary.RequestPurpose.TheVariants as asks
 use Rattle.acvp_tables.specs.declared.summary.RequestSummary.{RequestSummary}
-use Rattle.acvp_desk.specs.declared.found.Material.{Material}
-use Rattle.acvp_desk.specs.declared.found.Material.TheVariants as material
+use Rattle.acvp_desk.specs.declared.found.ObjectsPage.{ObjectsPage}
+use Rattle.acvp_desk.specs.declared.found.RegistryPlace.{RegistryPlace}
+use Rattle.acvp_desk.specs.declared.found.RegistryPlace.TheVariants as found
+use Rattle.acvp_desk.specs.declared.found.RequestsPage.{RequestsPage}
 use Rattle.acvp_desk.specs.declared.wish.Registry.{Registry}
 use Rattle.acvp_desk.specs.declared.wish.Registry.TheVariants as registry
 use Rattle.acvp_desk.specs.declared.wish.RegistryWish.{RegistryWish}
@@ -80,32 +82,35 @@ row_subject registry.Vendors row = subject.Vendor row
 row_subject registry.Modules row = subject.Module row
 row_subject registry.Environments row = subject.Environment row
 
--- where the row that it names is found, or isn't
-abbrev pub registry_subject : Bool → RegistryWish → Subject
-registry_subject found (on.Read of n) = row_subject of (record { number = n; found = found })
-registry_subject found (on.ReadRequest n) = subject.Request (record { number = n; found = found })
-registry_subject found _ = subject.Account
+-- by its numbers alone
+abbrev pub unfound_row : RegistryWish → Subject
+unfound_row (on.Read of n) = row_subject of (record { number = n; found = false })
+unfound_row (on.ReadRequest n) = subject.Request (record { number = n; found = false })
+unfound_row _ = subject.Account
 
--- the account has the row that the path names
-abbrev pub has_row : ℕ → State → RegistryWish → Bool
-has_row u state (on.Read of n) = is_some (own_object (kind_of of) u n state.objects)
-has_row u state (on.ReadRequest n) = is_some (own_request u n state.requests)
-has_row u state _ = true
+-- where the row that it names is found, or isn't
+abbrev pub registry_subject : RegistryPlace → Subject
+registry_subject (found.Object of n row) = row_subject of (record { number = n; found = is_some row })
+registry_subject (found.Request n row) = subject.Request (record { number = n; found = is_some row })
+registry_subject _ = subject.Account
 
 -- ---- what is read of the records
 
--- how many objects an account has, and those of a page
-abbrev pub objects_material : Kind → ℕ → List ObjectRow → Option Page → Material
-objects_material kind u objects None = material.Nothing
-objects_material kind u objects (Some at) =
-    material.Objects (length (objects_of kind u objects)) (page at.offset at.limit (objects_of kind u objects))
+-- how many objects of a kind an account has, and those of a page
+abbrev pub objects_page : Kind → ℕ → List ObjectRow → Page → ObjectsPage
+objects_page kind u objects at = record {
+  page = at;
+  total = length (objects_of kind u objects);
+  objects = page at.offset at.limit (objects_of kind u objects);
+}
 
 -- how many requests, and those of a page
-abbrev pub requests_material : ℕ → List RequestRow → Option Page → Material
-requests_material u requests None = material.Nothing
-requests_material u requests (Some at) =
-    material.Requests (length (requests_of u requests))
-    (page at.offset at.limit (map request_summary (requests_of u requests)))
+abbrev pub requests_page : ℕ → List RequestRow → Page → RequestsPage
+requests_page u requests at = record {
+  page = at;
+  total = length (requests_of u requests);
+  requests = page at.offset at.limit (map request_summary (requests_of u requests));
+}
 
 -- ---- what is shown
 
@@ -113,7 +118,7 @@ abbrev pub object_shown : ObjectRow → Data
 object_shown row = object_data row.object row.number
 
 -- what a request asks for is of a kind
-abbrev pub kind_asked : RequestSubject → Kind
+abbrev pub kind_asked : RequestPurpose → Kind
 kind_asked (asks.Registration kind) = kind
 kind_asked (asks.Certification c) = Certification
 
@@ -125,25 +130,17 @@ status_shown decided.Rejected = status.Rejected
 abbrev pub request_shown : RequestSummary → PendingRequest
 request_shown row = record {
   number = row.number;
-  kind = kind_asked row.subject;
+  kind = kind_asked row.purpose;
   status = status_shown row.status;
   approved = given_number row.status;
 }
 
-abbrev pub object_reply : Material → Option Data
-object_reply (material.Object (Some row)) = Some (object_shown row)
-object_reply _ = None
+abbrev pub request_reply : RequestSummary → Data
+request_reply row = request_data (request_shown row)
 
-abbrev pub request_reply : Material → Option Data
-request_reply (material.Request (Some row)) = Some (request_data (request_shown row))
-request_reply _ = None
+abbrev pub objects_reply : Kind → ObjectsPage → Data
+objects_reply kind found = page_data object_shown (list_path kind) found.page found.total found.objects
 
-abbrev pub objects_reply : Kind → Option Page → Material → Option Data
-objects_reply kind (Some at) (material.Objects total rows) =
-    Some (page_data object_shown (list_path kind) at total rows)
-objects_reply kind _ _ = None
-
-abbrev pub requests_reply : Option Page → Material → Option Data
-requests_reply (Some at) (material.Requests total rows) =
-    Some (page_data request_data (list_path Certification) at total (map request_shown rows))
-requests_reply _ _ = None
+abbrev pub requests_reply : RequestsPage → Data
+requests_reply found =
+    page_data request_data (list_path Certification) found.page found.total (map request_shown found.requests)

@@ -19,12 +19,11 @@ use Rattle.acvp_json.specs.VectorSet.{vector_set_data}
 use Rattle.acvp_gen.specs.Prompt.{PromptsValue}
 use Rattle.acvp_gen.specs.Prompts.{prompts_of}
 use Rattle.acvp_json.specs.Urls.{results_url, session_url, set_url}
-use Rattle.acvp_json.specs.declared.page.Page.{Page}
 use Rattle.acvp_json.specs.declared.session.Session.{Session}
 use Rattle.acvp_json.specs.declared.session.SetResult.{SetResult}
 use Rattle.acvp_json.specs.declared.session.SessionStatus.{SessionStatus}
 use Rattle.acvp_json.specs.declared.session.SessionStatus.TheVariants as shown
-use Rattle.acvp_policy.specs.Conditions.{is_some_and, session_found, set_found, set_life}
+use Rattle.acvp_policy.specs.Conditions.{is_some_and, set_life}
 use Rattle.acvp_policy.specs.declared.facts.CertificationStatus.{CertificationStatus}
 use Rattle.acvp_policy.specs.declared.facts.CertificationStatus.TheVariants as certification
 use Rattle.acvp_policy.specs.declared.facts.SessionFacts.{SessionFacts}
@@ -34,42 +33,29 @@ use Rattle.acvp_tables.specs.Counted.{is_passed}
 use Rattle.acvp_tables.specs.declared.change.CancelledSet.{CancelledSet}
 use Rattle.acvp_tables.specs.declared.change.Change.{Change}
 use Rattle.acvp_tables.specs.declared.change.Change.TheVariants as change
-use Rattle.acvp_registry.specs.declared.counts.Counts.{Counts}
-use Rattle.acvp_desk.specs.Asked.{asked_in, asked_reply, registration_change, certification_change}
+use Rattle.acvp_desk.specs.Asked.{asked_reply, registration_change, certification_change}
 use Rattle.acvp_desk.specs.NewSessions.{new_session_in, session_made_data}
-use Rattle.acvp_desk.specs.Registries.{kind_of, object_reply, objects_reply, request_reply, requests_reply}
-use Rattle.acvp_desk.specs.Place.{reviewers_in_material}
-use Rattle.acvp_desk.specs.Request.{RequestValue}
+use Rattle.acvp_desk.specs.Registries.{kind_of, object_shown, objects_reply, request_reply, requests_reply}
 use Rattle.acvp_desk.specs.Reviewers.{reviewer_at, with_account, without_account}
 use Rattle.acvp_desk.specs.Submissions.{graded_at, kept_answers}
-use Rattle.acvp_desk.specs.declared.found.Found.{Found}
+use Rattle.acvp_desk.specs.declared.found.ByPrompts.{ByPrompts}
+use Rattle.acvp_desk.specs.declared.found.ByPrompts.TheVariants as by_prompts
 use Rattle.acvp_desk.specs.declared.found.ListedSession.{ListedSession}
+use Rattle.acvp_desk.specs.declared.found.Place.{Place}
+use Rattle.acvp_desk.specs.declared.found.Place.TheVariants as place
+use Rattle.acvp_desk.specs.declared.found.RegistryPlace.{RegistryPlace}
+use Rattle.acvp_desk.specs.declared.found.RegistryPlace.TheVariants as in_registry
+use Rattle.acvp_desk.specs.declared.found.SessionPlace.{SessionPlace}
+use Rattle.acvp_desk.specs.declared.found.SessionPlace.TheVariants as in_session
+use Rattle.acvp_desk.specs.declared.found.SessionsPage.{SessionsPage}
 use Rattle.acvp_desk.specs.declared.found.SetOutcome.{SetOutcome}
+use Rattle.acvp_desk.specs.declared.found.SetPlace.{SetPlace}
+use Rattle.acvp_desk.specs.declared.found.SetPlace.TheVariants as in_set
 use Rattle.acvp_desk.specs.declared.found.SetSource.{SetSource}
 use Rattle.acvp_desk.specs.declared.found.Submission.{Submission}
-use Rattle.acvp_desk.specs.declared.found.Material.{Material}
-use Rattle.acvp_desk.specs.declared.found.Material.TheVariants as material
 use Rattle.acvp_desk.specs.declared.keys.Keys.{Keys}
-use Rattle.acvp_desk.specs.declared.wish.AccountWish.{AccountWish}
-use Rattle.acvp_desk.specs.declared.wish.AccountWish.TheVariants as on_account
-use Rattle.acvp_desk.specs.declared.wish.RegistryWish.{RegistryWish}
-use Rattle.acvp_desk.specs.declared.wish.RegistryWish.TheVariants as on_registry
-use Rattle.acvp_desk.specs.declared.wish.SessionWish.{SessionWish}
-use Rattle.acvp_desk.specs.declared.wish.SessionWish.TheVariants as on_session
-use Rattle.acvp_desk.specs.declared.wish.SetWish.{SetWish}
-use Rattle.acvp_desk.specs.declared.wish.SetWish.TheVariants as on_set
-use Rattle.acvp_desk.specs.declared.wish.Wish.{Wish}
-use Rattle.acvp_desk.specs.declared.wish.Wish.TheVariants as wish
 
--- ---- accounts and algorithms
-
-abbrev pub counts_reply : ℕ → Material → Option Data
-counts_reply u (material.Counts n) = Some (account_data u n)
-counts_reply u _ = None
-
-abbrev pub account_reply : ℕ → Found → AccountWish → Option Data
-account_reply u found on_account.Read = counts_reply u found.material
-account_reply u found on_account.ListAlgorithms = Some algorithms_data
+-- ---- algorithms
 
 -- the algorithm of a number
 unfoldable pub algorithm_at : ℕ → Option Algorithm
@@ -95,14 +81,6 @@ session_shown n facts = record {
   status = session_status facts;
 }
 
-abbrev pub sets_in_material : Material → Option (List ℕ)
-sets_in_material (material.Sets sets) = Some sets
-sets_in_material _ = None
-
-abbrev pub facts_reply : ℕ → Option SessionFacts → Option (List ℕ) → Option Data
-facts_reply n (Some facts) (Some sets) = Some (session_data (session_shown n facts) facts.passed sets)
-facts_reply n _ _ = None
-
 -- what a vector set comes to at a moment: what its answers do, where it has any; else it waits for them, until its end
 abbrev pub disposition_at : ℕ → ℕ → Option Disposition → Disposition
 disposition_at moment created (Some d) = d
@@ -115,31 +93,20 @@ result_shown moment facts set = record {
   disposition = disposition_at moment facts.created set.disposition;
 }
 
-abbrev pub outcomes_in_material : Material → Option (List SetOutcome)
-outcomes_in_material (material.Outcomes sets) = Some sets
-outcomes_in_material _ = None
+-- to who adds to these reviewers: the reviewers with one more
+abbrev pub added_reply : List ℕ → List ℕ → Option Data
+added_reply body accounts = option_map (λ a. reviewers_data (with_account a accounts)) (reviewer_at body)
 
-abbrev pub results_reply : ℕ → Option SessionFacts → Option (List SetOutcome) → Option Data
-results_reply moment (Some facts) (Some sets) =
+-- of a session that stands so
+abbrev pub session_reply : ℕ → ℕ → List ℕ → SessionPlace → SessionFacts → Option Data
+session_reply moment n body (in_session.Read sets) facts =
+    Some (session_data (session_shown n facts) facts.passed sets)
+session_reply moment n body in_session.Cancel facts = Some (outcome_data (codes "cancelled") (session_url n))
+session_reply moment n body (in_session.Results sets) facts =
     Some (session_results_data facts.passed (map (result_shown moment facts) sets))
-results_reply moment _ _ = None
-
--- the reviewers of a session, with one more
-abbrev pub added_reply : Option (List ℕ) → Option ℕ → Option Data
-added_reply (Some accounts) (Some a) = Some (reviewers_data (with_account a accounts))
-added_reply _ _ = None
-
-abbrev pub session_reply : ℕ → ℕ → RequestValue → Found → SessionWish → Option Data
-session_reply moment n r found on_session.Read =
-    facts_reply n (session_found found.subject) (sets_in_material found.material)
-session_reply moment n r found on_session.Cancel = Some (outcome_data (codes "cancelled") (session_url n))
-session_reply moment n r found on_session.Results =
-    results_reply moment (session_found found.subject) (outcomes_in_material found.material)
-session_reply moment n r found on_session.ListSets = option_map sets_data (sets_in_material found.material)
-session_reply moment n r found on_session.ListReviewers =
-    option_map reviewers_data (reviewers_in_material found.material)
-session_reply moment n r found on_session.AddReviewer =
-    added_reply (reviewers_in_material found.material) (reviewer_at r.body)
+session_reply moment n body (in_session.ListSets sets) facts = Some (sets_data sets)
+session_reply moment n body (in_session.ListReviewers accounts) facts = Some (reviewers_data accounts)
+session_reply moment n body (in_session.AddReviewer accounts) facts = added_reply body accounts
 
 -- ---- vector sets
 
@@ -152,35 +119,26 @@ set_results_reply moment n facts disposition verdicts =
     set_results_data n (disposition_at moment facts.session.created disposition) verdicts
 
 -- by the prompts; results are shown by them where there are no answers
-abbrev pub prompts_reply : ℕ → ℕ → SetFacts → SetWish → PromptsValue → Option Data
-prompts_reply moment n facts on_set.Read prompts = Some (vector_set_data facts.session.sample prompts)
-prompts_reply moment n facts on_set.Expected prompts = Some (expected_data prompts (standard_of prompts))
-prompts_reply moment n facts on_set.Results prompts =
-    Some (set_results_reply moment n facts None (verdicts_of (standard_of prompts) []))
-prompts_reply moment n facts on_set.Submit prompts = None
-prompts_reply moment n facts on_set.Resubmit prompts = None
+abbrev pub prompts_reply : ℕ → ℕ → SetFacts → ByPrompts → PromptsValue → Data
+prompts_reply moment n facts by_prompts.Prompts prompts = vector_set_data facts.session.sample prompts
+prompts_reply moment n facts by_prompts.Expected prompts = expected_data prompts (standard_of prompts)
+prompts_reply moment n facts by_prompts.Results prompts =
+    set_results_reply moment n facts None (verdicts_of (standard_of prompts) [])
 
-abbrev pub source_reply : List (List ℕ) → ℕ → ℕ → SetFacts → SetWish → Option SetSource → Option Data
-source_reply seeds moment n facts it source =
-    option_and_then (prompts_reply moment n facts it) (option_and_then (prompts_from seeds n) source)
+abbrev pub source_reply : List (List ℕ) → ℕ → ℕ → SetFacts → ByPrompts → SetSource → Option Data
+source_reply seeds moment n facts it source = option_map (prompts_reply moment n facts it) (prompts_from seeds n source)
 
--- by the verdicts on the answers
-abbrev pub verdicts_reply : ℕ → ℕ → SetFacts → SetWish → List Verdict → Option Data
-verdicts_reply moment n facts on_set.Results verdicts =
+-- that answers are kept
+abbrev pub received_reply : ℕ → Submission → Data
+received_reply n submission = outcome_data (codes "received") (results_url n)
+
+-- of a vector set that stands so
+abbrev pub set_reply : List (List ℕ) → ℕ → ℕ → SetPlace → SetFacts → Option Data
+set_reply seeds moment n (in_set.Made it source) facts = option_and_then (source_reply seeds moment n facts it) source
+set_reply seeds moment n (in_set.Verdicts verdicts) facts =
     Some (set_results_reply moment n facts (Some (disposition_of verdicts)) verdicts)
-verdicts_reply moment n facts _ verdicts = None
-
-abbrev pub material_reply : List (List ℕ) → ℕ → ℕ → SetFacts → SetWish → Material → Option Data
-material_reply seeds moment n facts it (material.Source source) = source_reply seeds moment n facts it source
-material_reply seeds moment n facts it (material.Verdicts verdicts) = verdicts_reply moment n facts it verdicts
--- that the answers are kept
-material_reply seeds moment n facts it (material.Submission (Some submission)) =
-    Some (outcome_data (codes "received") (results_url n))
-material_reply seeds moment n facts it _ = None
-
-abbrev pub set_reply : List (List ℕ) → ℕ → ℕ → SetWish → Option SetFacts → Material → Option Data
-set_reply seeds moment n it (Some facts) m = material_reply seeds moment n facts it m
-set_reply seeds moment n it None m = None
+set_reply seeds moment n (in_set.Submit submission) facts = option_map (received_reply n) submission
+set_reply seeds moment n (in_set.Resubmit submission) facts = option_map (received_reply n) submission
 
 -- ---- a vector set that is cancelled
 
@@ -210,47 +168,52 @@ listed_shown row = record {
   status = if row.cancelled then shown.Cancelled else certified_status row.certification;
 }
 
-abbrev pub sessions_reply : Option Page → Material → Option Data
-sessions_reply (Some at) (material.Sessions total sessions) =
-    Some (page_data session_row_data (codes "/acvp/v1/testSessions") at total (map listed_shown sessions))
-sessions_reply _ _ = None
+abbrev pub sessions_reply : SessionsPage → Data
+sessions_reply found =
+    page_data session_row_data (codes "/acvp/v1/testSessions") found.page found.total (map listed_shown found.sessions)
 
 -- ---- registries, requests and certification
 
-abbrev pub registry_reply : ℕ → Material → RegistryWish → Option Data
-registry_reply u m (on_registry.Read of n) = object_reply m
-registry_reply u m (on_registry.New of) = asked_reply (kind_of of) u (asked_in m)
-registry_reply u m (on_registry.List of at) = objects_reply (kind_of of) at m
-registry_reply u m (on_registry.ReadRequest n) = request_reply m
-registry_reply u m (on_registry.ListRequests at) = requests_reply at m
+abbrev pub registry_reply : ℕ → RegistryPlace → Option Data
+registry_reply u (in_registry.Object of n row) = option_map object_shown row
+registry_reply u (in_registry.New of object asked) = Some (asked_reply (kind_of of) u asked)
+registry_reply u (in_registry.Objects of found) = option_map (objects_reply (kind_of of)) found
+registry_reply u (in_registry.Request n row) = option_map request_reply row
+registry_reply u (in_registry.Requests found) = option_map requests_reply found
 
-abbrev pub registry_change : ℕ → List ℕ → Material → RegistryWish → Option Change
-registry_change u body m (on_registry.New of) = registration_change (kind_of of) u body (asked_in m)
-registry_change u body m _ = None
+abbrev pub registry_change : ℕ → RegistryPlace → Option Change
+registry_change u (in_registry.New of object asked) = registration_change u object asked
+registry_change u _ = None
 
 -- ---- each
 
--- at a moment, to the account that acts
-abbrev pub wish_reply : Keys → ℕ → ℕ → RequestValue → Found → Wish → Option Data
-wish_reply keys moment u r found (wish.Account it) = account_reply u found it
-wish_reply keys moment u r found (wish.Algorithm n) = option_map algorithm_data (algorithm_at n)
-wish_reply keys moment u r found (wish.Session n it) = session_reply moment n r found it
-wish_reply keys moment u r found (wish.Reviewer n m) =
-    option_map (λ accounts. reviewers_data (without_account m accounts)) (reviewers_in_material found.material)
-wish_reply keys moment u r found (wish.Set session n it) =
-    set_reply keys.seed moment n it (set_found found.subject) found.material
-wish_reply keys moment u r found wish.NewSession =
-    option_map (session_made_data keys.token) (new_session_in keys.seed moment u r.body found.material)
-wish_reply keys moment u r found (wish.CancelSet session n) = Some (outcome_data (codes "cancelled") (set_url n))
-wish_reply keys moment u r found (wish.ListSessions page) = sessions_reply page found.material
-wish_reply keys moment u r found (wish.Certify n) = asked_reply Certification u (asked_in found.material)
-wish_reply keys moment u r found (wish.Registry it) = registry_reply u found.material it
+-- at a moment, to the account that acts: by what was found of what it asks
+abbrev pub place_reply : Keys → ℕ → ℕ → List ℕ → Place → Option Data
+place_reply keys moment u body (place.Account counts) = Some (account_data u counts)
+place_reply keys moment u body place.Algorithms = Some algorithms_data
+place_reply keys moment u body (place.Algorithm n) = option_map algorithm_data (algorithm_at n)
+place_reply keys moment u body (place.Session n found it) = option_and_then (session_reply moment n body it) found
+place_reply keys moment u body (place.Reviewer n m found accounts) =
+    Some (reviewers_data (without_account m accounts))
+place_reply keys moment u body (place.NewSession sessions) =
+    option_map (session_made_data keys.token) (new_session_in keys.seed moment u sessions body)
+place_reply keys moment u body (place.Set session n found it) =
+    option_and_then (set_reply keys.seed moment n it) found
+place_reply keys moment u body (place.CancelSet session n found sets) =
+    Some (outcome_data (codes "cancelled") (set_url n))
+place_reply keys moment u body (place.Sessions found) = option_map sessions_reply found
+place_reply keys moment u body (place.Certify n found parts asked) =
+    Some (asked_reply Certification u asked)
+place_reply keys moment u body (place.Registry it) = registry_reply u it
 
-abbrev pub session_change : ℕ → RequestValue → SessionWish → Option Change
-session_change n r on_session.Cancel = Some (change.CancelSession n)
-session_change n r on_session.AddReviewer =
-    option_map (λ a. change.AddReviewer (record { session = n; account = a })) (reviewer_at r.body)
-session_change n r _ = None
+-- who is added is told by the body
+abbrev pub added_change : ℕ → List ℕ → Option Change
+added_change n body = option_map (λ a. change.AddReviewer (record { session = n; account = a })) (reviewer_at body)
+
+abbrev pub session_change : ℕ → List ℕ → SessionPlace → Option Change
+session_change n body in_session.Cancel = Some (change.CancelSession n)
+session_change n body (in_session.AddReviewer accounts) = added_change n body
+session_change n body _ = None
 
 -- the answers that a body gives are kept, graded by these prompts
 abbrev pub answers_change : ℕ → ℕ → List ℕ → ℕ → PromptsValue → Option Change
@@ -261,21 +224,22 @@ abbrev pub submission_change : List (List ℕ) → ℕ → ℕ → List ℕ → 
 submission_change seeds session n body s =
     option_and_then (answers_change session n body s.others) (prompts_from seeds n s.source)
 
-abbrev pub set_change : List (List ℕ) → ℕ → ℕ → List ℕ → Material → Option Change
-set_change seeds session n body (material.Submission (Some s)) = submission_change seeds session n body s
+abbrev pub set_change : List (List ℕ) → ℕ → ℕ → List ℕ → SetPlace → Option Change
+set_change seeds session n body (in_set.Submit submission) =
+    option_and_then (submission_change seeds session n body) submission
+set_change seeds session n body (in_set.Resubmit submission) =
+    option_and_then (submission_change seeds session n body) submission
 set_change seeds session n body _ = None
 
-abbrev pub wish_change : List (List ℕ) → ℕ → ℕ → RequestValue → Found → Wish → Option Change
-wish_change seeds moment u r found (wish.Account it) = None
-wish_change seeds moment u r found (wish.Algorithm n) = None
-wish_change seeds moment u r found (wish.Session n it) = session_change n r it
-wish_change seeds moment u r found (wish.Reviewer n m) =
+abbrev pub place_change : List (List ℕ) → ℕ → ℕ → List ℕ → Place → Option Change
+place_change seeds moment u body (place.Session n found it) = session_change n body it
+place_change seeds moment u body (place.Reviewer n m found accounts) =
     Some (change.RemoveReviewer (record { session = n; account = m }))
-wish_change seeds moment u r found (wish.Set session n it) = set_change seeds session n r.body found.material
-wish_change seeds moment u r found wish.NewSession =
-    option_map change.NewSession (new_session_in seeds moment u r.body found.material)
-wish_change seeds moment u r found (wish.CancelSet session n) =
-    option_map (λ sets. change.CancelSet (cancelled_set session n sets)) (outcomes_in_material found.material)
-wish_change seeds moment u r found (wish.ListSessions page) = None
-wish_change seeds moment u r found (wish.Certify n) = certification_change u n r.body (asked_in found.material)
-wish_change seeds moment u r found (wish.Registry it) = registry_change u r.body found.material it
+place_change seeds moment u body (place.Set session n found it) = set_change seeds session n body it
+place_change seeds moment u body (place.NewSession sessions) =
+    option_map change.NewSession (new_session_in seeds moment u sessions body)
+place_change seeds moment u body (place.CancelSet session n found sets) =
+    Some (change.CancelSet (cancelled_set session n sets))
+place_change seeds moment u body (place.Certify n found parts asked) = certification_change u n parts asked
+place_change seeds moment u body (place.Registry it) = registry_change u it
+place_change seeds moment u body _ = None

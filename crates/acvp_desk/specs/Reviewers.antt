@@ -1,6 +1,6 @@
 -- The reviewers of a test session: who is named, whether there is room, and the list after it.
-use Rattle.std.specs.Prelude.{ℕ, List, ◌∷◌, ◌++◌, length, filter, Bool, true, ◌||◌, ◌==◌, not, nat_lt, Option, Some}
-use Rattle.std.specs.Prelude.{option_and_then}
+use Rattle.std.specs.Prelude.{ℕ, List, ◌∷◌, ◌++◌, length, filter, Bool, true, ◌||◌, ◌==◌, not, nat_lt, Option}
+use Rattle.std.specs.Prelude.{Some, None, option_and_then}
 use Rattle.std.specs.List.{list_any}
 use Rattle.acvp_json.specs.Envelope.{object_of}
 use Rattle.acvp_json.specs.ReviewerBody.{reviewer_body_of}
@@ -9,10 +9,10 @@ use Rattle.acvp_json.specs.ReviewerBody.{reviewer_body_of}
 abbrev pub reviewer_at : List ℕ → Option ℕ
 reviewer_at body = option_and_then reviewer_body_of (object_of body)
 
--- an account reviews the session already, or fewer than 16 do
-abbrev pub has_room : Option (List ℕ) → Option ℕ → Bool
-has_room (Some accounts) (Some a) = list_any (λ b. b == a) accounts || nat_lt (length accounts) 16
-has_room _ _ = true
+-- the account that is named reviews the session already, or fewer than 16 do
+abbrev pub has_room : List ℕ → Option ℕ → Bool
+has_room accounts (Some a) = list_any (λ b. b == a) accounts || nat_lt (length accounts) 16
+has_room accounts None = true
 
 -- ascending accounts with one more among them: those below it, it, and those above it
 abbrev pub with_account : ℕ → List ℕ → List ℕ

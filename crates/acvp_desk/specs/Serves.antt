@@ -35,41 +35,41 @@ IfUnchanged (Ok served) P = served.changed ≡ false → P
 IfUnchanged (Err rule) P = (rule ≡ Unavailable) ⊎ P
 
 module _ {T : Type 0} (meaning : Meaning T) where
-  open meaning use {stands, is_live, is_clean, leaves}
+  open meaning use {stands, is_open, is_clean, leaves}
 
   -- The tables stand for the content, if they are open. Of tables that are shut this says nothing.
   abbrev pub Holds : T → Content → Type 0
-  Holds t c = is_live t → stands t c
+  Holds t c = is_open t → stands t c
 
   -- The tables are looked at, or left alone: as a read, but that nothing need be asked of them.
   pub record Looks {X E : Type 0} (result : Result X E) (old new : T) : Type 0 where
-    pub was_live : is_live new → is_live old
+    pub was_open : is_open new → is_open old
     pub was_clean : is_clean new → is_clean old
-    pub live : OnOk result (is_clean new → is_live old → is_live new)
-    pub same : is_live new → (c : Content) → stands old c → stands new c
-    pub left : is_clean new → is_live old → (c d : Content) → stands old c → leaves new c d
+    pub stays_open : OnOk result (is_clean new → is_open old → is_open new)
+    pub same : is_open new → (c : Content) → stands old c → stands new c
+    pub left : is_clean new → is_open old → (c d : Content) → stands old c → leaves new c d
     pub kept : is_clean new → (c d : Content) → leaves old c d → leaves new c d
 
   -- What is seen is what is selected of each content that the tables stood for, whatever the seeds that it is kept
   -- under.
   abbrev pub Sees : {X E : Type 0} → Result X E → T → T → (List (List ℕ) → Content → X) → Type 0
-  Sees result old new selected = is_live new → IfOk result (λ found. (seeds : List (List ℕ)) (c : Content)
+  Sees result old new selected = is_open new → IfOk result (λ found. (seeds : List (List ℕ)) (c : Content)
       → IsKept seeds c → stands old c → found ≡ selected seeds c)
 
-  -- What is seen while the disk tells no lie, whether the tables are open or shut: of tables that are shut nothing is
+  -- What is seen while the disk is clean, whether the tables are open or shut: of tables that are shut nothing is
   -- read.
   abbrev pub Knows : {X E : Type 0} → Result X E → T → T → (List (List ℕ) → Content → X) → Type 0
   Knows result old new selected = is_clean new → IfOk result (λ found. (seeds : List (List ℕ)) (c : Content)
       → IsKept seeds c → Holds old c → found ≡ selected seeds c)
 
-  -- While the disk tells no lie, and for every content that the tables stand for if they are open: the reply is given,
+  -- While the disk is clean, and for every content that the tables stand for if they are open: the reply is given,
   -- and the content after the request's effect stands and holds what holds at all times; or the request is refused, and
   -- all stands as it did. So of tables that are shut either nothing is told that the records decide, or it is
   -- unavailable. A crash finds the effect of what was given; and of what was refused, what there was or that with the
   -- effect. Past the last moment that is served nothing else is looked at.
   pub record Serves (result : Result Served Rule) (old new : T) (keys : Keys) (moment : ℕ)
       (r : RequestValue) : Type 0 where
-    pub was_live : is_live new → is_live old
+    pub was_open : is_open new → is_open old
     pub was_clean : is_clean new → is_clean old
     pub clock : end_of_moments ≤ moment → result ≡ Err ClockOutOfRange
     -- there is room for the head of what is given, whatever the tables stand for
@@ -80,14 +80,14 @@ module _ {T : Type 0} (meaning : Meaning T) where
         × (served.changed ≡ is_some (accepted_change keys moment r (state_of c))))
     pub denied : IfErr result (λ rule. is_clean new → (c : Content) → IsKept keys.seed c → Holds old c
         → Refuses rule (answer keys moment r (state_of c)))
-    pub same : OnErr result (is_live new → (c : Content) → stands old c → stands new c)
-    pub settled : OnOk result (is_clean new → is_live old → (c d : Content) → IsKept keys.seed c → stands old c
+    pub same : OnErr result (is_open new → (c : Content) → stands old c → stands new c)
+    pub settled : OnOk result (is_clean new → is_open old → (c d : Content) → IsKept keys.seed c → stands old c
         → leaves new (content_effect keys moment r c) d)
-    pub unsettled : OnErr result (is_clean new → is_live old → (c : Content) → IsKept keys.seed c → stands old c
+    pub unsettled : OnErr result (is_clean new → is_open old → (c : Content) → IsKept keys.seed c → stands old c
         → leaves new c (content_effect keys moment r c))
-    -- unless it is unavailable, a live store stays live, and where no change was made a crash finds what it found
+    -- unless it is unavailable, an open store stays open, and where no change was made a crash finds what it found
     -- before
-    pub live : IfLasting result (is_clean new → is_live old → is_live new)
+    pub stays_open : IfLasting result (is_clean new → is_open old → is_open new)
     pub kept : IfUnchanged result (is_clean new → (c d : Content) → leaves old c d → leaves new c d)
     -- of tables that were shut already a crash finds what it found, whatever is answered
-    pub shut : is_clean new → (is_live old → ⊥) → (c d : Content) → leaves old c d → leaves new c d
+    pub shut : is_clean new → (is_open old → ⊥) → (c d : Content) → leaves old c d → leaves new c d

@@ -1,5 +1,5 @@
 -- What the records hold of a vector set.
-use Rattle.std.specs.Prelude.{ℕ, List, length, filter, Bool, true, false, not, ◌&&◌, ◌==◌, ◌||◌, if◌then◌else◌}
+use Rattle.std.specs.Prelude.{ℕ, List, length, filter, Bool, false, not, ◌&&◌, ◌==◌, if◌then◌else◌}
 use Rattle.std.specs.Prelude.{slice_get, Option, Some, None, option_map, option_and_then, is_some}
 use Rattle.acvp_answers.specs.Answer.{Answer}
 use Rattle.acvp_answers.specs.Standards.{standard_of}
@@ -15,8 +15,9 @@ use Rattle.acvp_tables.specs.Counted.{is_passed}
 use Rattle.acvp_tables.specs.State.{State, SetRecord, live_records, set_record_at}
 use Rattle.acvp_desk.specs.declared.found.SetSource.{SetSource}
 use Rattle.acvp_desk.specs.declared.found.Submission.{Submission}
-use Rattle.acvp_desk.specs.declared.found.Material.{Material}
-use Rattle.acvp_desk.specs.declared.found.Material.TheVariants as material
+use Rattle.acvp_desk.specs.declared.found.ByPrompts.TheVariants as by_prompts
+use Rattle.acvp_desk.specs.declared.found.SetPlace.{SetPlace}
+use Rattle.acvp_desk.specs.declared.found.SetPlace.TheVariants as in_set
 use Rattle.acvp_desk.specs.declared.wish.SetWish.{SetWish}
 use Rattle.acvp_desk.specs.declared.wish.SetWish.TheVariants as on_set
 
@@ -42,7 +43,7 @@ abbrev pub set_reviewed : SetWish → ℕ → ℕ → State → Bool
 set_reviewed on_set.Results session u state = is_reviewer session u state.reviewers
 set_reviewed _ session u state = false
 
--- ---- what a reply shows besides
+-- ---- what a reply shows
 
 -- what its prompts are made from, beside its number and the seed
 abbrev pub source_of : SetRecord → SetSource
@@ -70,9 +71,9 @@ abbrev pub verdicts_in_session : List (List ℕ) → ℕ → ℕ → List SetRec
 verdicts_in_session seeds session n sets = option_and_then (verdicts_on_set seeds) (set_in_session session n sets)
 
 -- the verdicts; or, where there are no answers, what the prompts are made from
-abbrev pub results_material : Option (List Verdict) → Option SetSource → Material
-results_material (Some verdicts) source = material.Verdicts verdicts
-results_material None source = material.Source source
+abbrev pub results_place : Option (List Verdict) → Option SetSource → SetPlace
+results_place (Some verdicts) source = in_set.Verdicts verdicts
+results_place None source = in_set.Made by_prompts.Results source
 
 -- ---- what its answers come to
 
@@ -112,41 +113,29 @@ unfoldable pub submission_for : List (List ℕ) → ℕ → ℕ → List SetReco
 submission_for seeds session n sets =
     option_map (submission_to seeds session n sets) (option_and_then (if_live_in session) (set_record_at n sets))
 
--- ---- what is read of it
+-- ---- what is found of it
 
-abbrev pub set_material : List (List ℕ) → ℕ → ℕ → List SetRecord → SetWish → Material
-set_material seeds session n sets on_set.Read = material.Source (set_source session n sets)
-set_material seeds session n sets on_set.Expected = material.Source (set_source session n sets)
-set_material seeds session n sets on_set.Results =
-    results_material (verdicts_in_session seeds session n sets) (set_source session n sets)
-set_material seeds session n sets on_set.Submit = material.Submission (submission_for seeds session n sets)
-set_material seeds session n sets on_set.Resubmit = material.Submission (submission_for seeds session n sets)
+abbrev pub set_place : List (List ℕ) → ℕ → ℕ → List SetRecord → SetWish → SetPlace
+set_place seeds session n sets on_set.Read = in_set.Made by_prompts.Prompts (set_source session n sets)
+set_place seeds session n sets on_set.Expected = in_set.Made by_prompts.Expected (set_source session n sets)
+set_place seeds session n sets on_set.Results =
+    results_place (verdicts_in_session seeds session n sets) (set_source session n sets)
+set_place seeds session n sets on_set.Submit = in_set.Submit (submission_for seeds session n sets)
+set_place seeds session n sets on_set.Resubmit = in_set.Resubmit (submission_for seeds session n sets)
 
 -- and of one that isn't there
-abbrev pub no_set_material : SetWish → Material
-no_set_material on_set.Read = material.Source None
-no_set_material on_set.Expected = material.Source None
-no_set_material on_set.Results = material.Source None
-no_set_material on_set.Submit = material.Submission None
-no_set_material on_set.Resubmit = material.Submission None
+abbrev pub no_set_place : SetWish → SetPlace
+no_set_place on_set.Read = in_set.Made by_prompts.Prompts None
+no_set_place on_set.Expected = in_set.Made by_prompts.Expected None
+no_set_place on_set.Results = in_set.Made by_prompts.Results None
+no_set_place on_set.Submit = in_set.Submit None
+no_set_place on_set.Resubmit = in_set.Resubmit None
 
--- ---- which material a wish has
-
-abbrev pub has_source : Material → Bool
-has_source (material.Source source) = true
-has_source _ = false
-
-abbrev pub has_verdicts : Material → Bool
-has_verdicts (material.Verdicts verdicts) = true
-has_verdicts _ = false
-
-abbrev pub has_submission : Material → Bool
-has_submission (material.Submission submission) = true
-has_submission _ = false
-
-abbrev pub is_for_set : SetWish → Material → Bool
-is_for_set on_set.Read m = has_source m
-is_for_set on_set.Expected m = has_source m
-is_for_set on_set.Results m = has_source m || has_verdicts m
-is_for_set on_set.Submit m = has_submission m
-is_for_set on_set.Resubmit m = has_submission m
+-- what was asked
+abbrev pub set_wish : SetPlace → SetWish
+set_wish (in_set.Made by_prompts.Prompts source) = on_set.Read
+set_wish (in_set.Made by_prompts.Expected source) = on_set.Expected
+set_wish (in_set.Made by_prompts.Results source) = on_set.Results
+set_wish (in_set.Verdicts verdicts) = on_set.Results
+set_wish (in_set.Submit submission) = on_set.Submit
+set_wish (in_set.Resubmit submission) = on_set.Resubmit

@@ -10,7 +10,7 @@ ghost use Rattle.acvp_json.specs.LoginBody.{login_body_conditions, login_body_of
 ghost use Rattle.acvp_json.specs.ReviewerBody.{reviewer_body_conditions, reviewer_body_of};
 ghost use Rattle.acvp_json.specs.View.{view};
 ghost use Rattle.acvp_registry.specs.Object.{object_conditions};
-ghost use Rattle.acvp_desk.specs.Asked.{certified_conditions, certified_in, kept_as, object_in, registered_conditions};
+ghost use Rattle.acvp_desk.specs.Asked.{certified_in, kept_as, object_in};
 ghost use Rattle.acvp_desk.specs.Bodies.{rule_of, registration_rule, object_rule, body_conditions};
 ghost use Rattle.acvp_desk.specs.Login.{login_at};
 ghost use Rattle.acvp_desk.specs.NewSessions.{registration_in};
@@ -252,19 +252,13 @@ fn object_said(
 }
 
 /// The object of a kind that a body asks to register, or the rule of the first condition on it that doesn't hold.
-#[tactic(auto, unfolding(crate::specs::Asked::object_in))]
 pub(crate) fn object_read(
     alloc: Global,
     kind: Kind,
     body: &[u8],
 ) -> Result<Result<Object, Rule>, AllocError>
-    ensures ok { IfOk result (λ read. IfOk read (λ object. (first_broken (registered_conditions kind body.now) ≡ None)
-        × (object_in kind body.now ≡ Some object))) }
-    ensures err { IfOk result
-        (λ read. IfErr read (λ rule. (first_broken (registered_conditions kind body.now) ≡ Some rule)
-        × (object_in kind body.now ≡ None))) }
+    ensures { IfOk result (λ read. read ≡ object_in kind body.now) }
 {
-    joined_conditions::<Rule>();
     match opened_read(alloc, body)? {
         Ok(object) => object_said(alloc, kind, &object),
         Err(rule) => Ok(Err(rule)),
@@ -288,17 +282,12 @@ fn certify_said(object: &Value) -> Result<CertifyBody, Rule>
 
 /// The module and the environment that a body asks to certify, or the rule of the first condition on it that doesn't
 /// hold.
-#[tactic(auto, unfolding(crate::specs::Asked::certified_in))]
 pub(crate) fn certify_read(
     alloc: Global,
     body: &[u8],
 ) -> Result<Result<CertifyBody, Rule>, AllocError>
-    ensures ok { IfOk result (λ read. IfOk read (λ parts. (first_broken (certified_conditions body.now) ≡ None)
-        × (certified_in body.now ≡ Some parts))) }
-    ensures err { IfOk result (λ read. IfErr read (λ rule. (first_broken (certified_conditions body.now) ≡ Some rule)
-        × (certified_in body.now ≡ None))) }
+    ensures { IfOk result (λ read. read ≡ certified_in body.now) }
 {
-    joined_conditions::<Rule>();
     match opened_read(alloc, body)? {
         Ok(object) => Ok(certify_said(&object)),
         Err(rule) => Ok(Err(rule)),

@@ -1,15 +1,14 @@
 //! What is given to who cancels a vector set.
 
-ghost use Rattle.std.specs.Prelude.{◌≡◌, ◌&&◌, true, Some, IfOk, IfErr, codes, filter, length, option_map};
+ghost use Rattle.std.specs.Prelude.{◌≡◌, ◌&&◌, Some, IfOk, IfErr, codes, filter, length};
 ghost use Rattle.acvp_json.specs.Session.{outcome_data};
 ghost use Rattle.acvp_json.specs.Urls.{set_url};
 ghost use Rattle.acvp_tables.specs.declared.change.Change.TheVariants as change;
 ghost use Rattle.acvp_desk.specs.Answer.{IsReply};
-ghost use Rattle.acvp_desk.specs.Place.{has_outcomes};
-ghost use Rattle.acvp_desk.specs.Replies.{cancelled_set, has_passed, is_other, outcomes_in_material};
+ghost use Rattle.acvp_desk.specs.Replies.{cancelled_set, has_passed, is_other};
 
 use crate::draft::{Draft, told};
-use crate::found::{Material, SetOutcome};
+use crate::found::SetOutcome;
 use acvp_answers::Disposition;
 use acvp_json::ReplyObject;
 use acvp_policy::Rule;
@@ -38,29 +37,25 @@ fn others_passed(sets: &[SetOutcome], number: u64) -> usize
         .count()
 }
 
-/// What is given to who cancels a vector set.
+/// What is given to who cancels a vector set, by those of its session that aren't cancelled.
 #[tactic(auto, unfolding(acvp_json::specs::ReplyData::reply_data))]
 pub(crate) fn draft_cancelled(
     alloc: Global,
     session: u64,
     set: u64,
-    material: &Material,
+    sets: &[SetOutcome],
 ) -> Result<Draft, Rule>
-    requires { has_outcomes material.now ≡ true }
     ensures reply { IfOk result
         (λ draft. IsReply draft.reply.items (Some (outcome_data (codes "cancelled") (set_url set)))) }
-    ensures change { IfOk result (λ draft. draft.change
-        ≡ option_map (λ sets. change.CancelSet (cancelled_set session set sets)) (outcomes_in_material material.now)) }
+    ensures change { IfOk result
+        (λ draft. draft.change ≡ Some (change.CancelSet (cancelled_set session set sets.now))) }
     ensures denied { IfErr result (λ rule. rule ≡ Rule.Unavailable) }
 {
-    let Material::Outcomes(outcomes) = material else {
-        unreachable!()
-    };
     let cancelled = CancelledSet {
         session,
         set,
-        live: others(&outcomes.sets, set) as u64,
-        passed: others_passed(&outcomes.sets, set) as u64,
+        live: others(sets, set) as u64,
+        passed: others_passed(sets, set) as u64,
     };
     told(
         alloc,

@@ -2,7 +2,7 @@
 
 ghost use Rattle.std.specs.Prelude.{◌≡◌, ◌+◌, ◌≤◌, false, length, IfOk, IfErr};
 ghost use Rattle.acvp_tables.specs.Content.{Content, greatest_epoch_of};
-ghost use Rattle.acvp_tables.specs.State.{IsSound};
+ghost use Rattle.acvp_tables.specs.State.{AreWellNumbered};
 ghost use Rattle.acvp_desk.specs.Request.{request_value};
 ghost use Rattle.acvp_desk.specs.Desk.{HasSeeds, tables_of};
 ghost use Rattle.acvp_desk.specs.Isolation.{IsOrderedApart, IsServedApart, IsToldBySeen};
@@ -84,14 +84,14 @@ impl<T: Tables> Desk<T> {
         ensures empty { IfOk result (λ desk. desk.cached ≡ 0) }
         ensures looks { Looks T.meaning result tables (tables_of result) }
         ensures open { IfOk result (λ desk. T.meaning.is_clean desk.tables
-            → T.meaning.is_live tables × T.meaning.is_live desk.tables) }
-        ensures seeded { IfOk result (λ desk. T.meaning.is_clean desk.tables → (c : Content) → IsSound c
+            → T.meaning.is_open tables × T.meaning.is_open desk.tables) }
+        ensures seeded { IfOk result (λ desk. T.meaning.is_clean desk.tables → (c : Content) → AreWellNumbered c
             → T.meaning.stands tables c → HasSeeds keys.seed (greatest_epoch_of c.sets)) }
         ensures looked { IfErr result (λ fault. fault.1 ≡ NewFault.Epoch → T.meaning.is_clean fault.0
-            → T.meaning.is_live tables × T.meaning.is_live fault.0) }
+            → T.meaning.is_open tables × T.meaning.is_open fault.0) }
         ensures store { IfErr result (λ fault. fault.1 ≡ NewFault.Store → T.faults StoreFault.Refused) }
         ensures epoch { IfErr result (λ fault. fault.1 ≡ NewFault.Epoch → T.meaning.is_clean fault.0 → (c : Content)
-            → IsSound c → T.meaning.stands tables c → ¬ HasSeeds keys.seed (greatest_epoch_of c.sets)) }
+            → AreWellNumbered c → T.meaning.stands tables c → ¬ HasSeeds keys.seed (greatest_epoch_of c.sets)) }
     {
         let mut tables = tables;
         let newest = keys.seed.newest();

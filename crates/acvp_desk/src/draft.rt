@@ -4,35 +4,32 @@ ghost use Rattle.std.specs.Prelude.{◌≡◌, ◌⊎◌, ◌<◌, true, Some, N
 ghost use Rattle.acvp_mac.specs.Conditions.{first_broken};
 ghost use Rattle.acvp_token.specs.TokenText.{ring_token_text};
 ghost use Rattle.acvp_json.specs.ReplyData.{reply_data, token_data};
-ghost use Rattle.acvp_desk.specs.Answer.{change_of, end_of_moments, login_change, login_reply, own_conditions};
-ghost use Rattle.acvp_desk.specs.Answer.{policy_conditions, reply_of, IsOf, IsReply};
+ghost use Rattle.acvp_desk.specs.Answer.{acting, change_of, end_of_moments, is_fit, login_change, login_reply};
+ghost use Rattle.acvp_desk.specs.Answer.{own_conditions, policy_conditions, reply_of, IsReply};
 ghost use Rattle.acvp_desk.specs.Desk.{keys_of};
-ghost use Rattle.acvp_desk.specs.Place.{is_for, is_there};
-ghost use Rattle.acvp_desk.specs.OwnConditions.{wish_conditions};
-ghost use Rattle.acvp_desk.specs.Replies.{wish_change, wish_reply};
-ghost use Rattle.acvp_desk.specs.Request.{request_value};
+ghost use Rattle.acvp_desk.specs.Place.{is_within};
+ghost use Rattle.acvp_desk.specs.OwnConditions.{place_conditions};
+ghost use Rattle.acvp_desk.specs.Replies.{place_change, place_reply};
 ghost use Rattle.acvp_desk.specs.Login.{renewed_session};
-ghost use Rattle.acvp_desk.specs.declared.ask.Asker.TheVariants as ask;
+ghost use Rattle.acvp_desk.specs.declared.found.Found.TheVariants as found;
 
-use crate::account::{draft_account, draft_algorithm};
-use crate::ask::{Asker, LoginAsk};
+use crate::algorithm::draft_algorithm;
+use crate::ask::LoginAsk;
 use crate::cache::Cache;
 use crate::cancel::draft_cancelled;
+use crate::facts::login_step;
 use crate::find::acting;
-use crate::found::{Found, step_of};
+use crate::found::{Found, FoundCaller, Place};
 use crate::listing::draft_sessions;
 use crate::new_session::draft_new_session;
 use crate::registration::draft_certification;
 use crate::registry::draft_registry;
-use crate::request::TypedRequest;
 use crate::reviewers::draft_removed;
 use crate::session::draft_session;
 use crate::set::draft_set;
-use crate::wish::Wish;
-use acvp_gen::Seeds;
 use acvp_json::{ReplyObject, write_reply};
 use acvp_policy::{Renewal, Rule};
-use acvp_tables::{Change, UsedStep};
+use acvp_tables::{AccountRow, Change, UsedStep};
 use acvp_token::{Claims, KeyRing, issue_ring};
 use std::alloc::{AllocError, Global};
 
@@ -112,19 +109,20 @@ fn draft_login(
     ring: &KeyRing,
     moment: u64,
     login: &LoginAsk,
-    found: &Found,
+    account: &Option<AccountRow>,
 ) -> Result<Draft, Rule>
     requires moment { moment < end_of_moments }
-    requires held { first_broken (policy_conditions moment (ask.Login login.now) found.now) ≡ None }
-    ensures reply { IfOk result (λ draft. IsReply draft.reply.items (login_reply ring.now moment login.now found.now)) }
-    ensures change { IfOk result (λ draft. draft.change ≡ login_change moment login.now found.now) }
+    requires held { first_broken (policy_conditions moment (found.Login login.now account.now)) ≡ None }
+    ensures reply { IfOk result
+        (λ draft. IsReply draft.reply.items (login_reply ring.now moment login.now account.now)) }
+    ensures change { IfOk result (λ draft. draft.change ≡ login_change moment login.now account.now) }
     ensures denied { IfErr result (λ rule. rule ≡ Rule.Unavailable) }
 {
-    let Some(row) = &found.account else {
-        unreachable!()
+    let Some(row) = account else {
+        return Err(Rule::LoginRefused);
     };
-    let Some(step) = step_of(moment, login, row) else {
-        unreachable!()
+    let Some(step) = login_step(moment, login, row) else {
+        return Err(Rule::LoginRefused);
     };
     let claims = Claims {
         account: row.number,
@@ -139,101 +137,66 @@ fn draft_login(
     token_told(alloc, ring, &claims, Change::UseStep(used))
 }
 
-/// What a caller is given beside vector sets, or the rule of the first condition of the action's own that doesn't hold.
-fn draft_beside_sets(
-    alloc: Global,
-    ring: &KeyRing,
-    seeds: &Seeds,
-    moment: u64,
-    account: u16,
-    request: &TypedRequest<'_>,
-    wish: &Wish,
-    found: &Found,
-) -> Result<Draft, Rule>
-    requires moment { moment < end_of_moments }
-    requires there { is_there wish.now found.now.subject ≡ true }
-    requires material { is_for wish.now found.now.material ≡ true }
-    ensures held { IfOk result
-        (λ _. first_broken (wish_conditions seeds.now (request_value request.now) found.now wish.now) ≡ None) }
-    ensures reply { IfOk result (λ draft. IsReply draft.reply.items
-        (wish_reply (keys_of ring.now seeds.now) moment account (request_value request.now) found.now wish.now)) }
-    ensures change { IfOk result
-        (λ draft. draft.change ≡ wish_change seeds.now moment account (request_value request.now) found.now wish.now) }
-    ensures denied { IfErr result (λ rule. (rule ≡ Rule.Unavailable)
-        ⊎ (first_broken (wish_conditions seeds.now (request_value request.now) found.now wish.now) ≡ Some rule)) }
-{
-    let material = &found.material;
-    match *wish {
-        Wish::Account(it) => draft_account(alloc, account, it, found),
-        Wish::Algorithm(number) => draft_algorithm(alloc, number),
-        Wish::Session(number, it) => draft_session(alloc, moment, number, request, it, found),
-        Wish::Reviewer(session, reviewer) => draft_removed(alloc, session, reviewer, material),
-        Wish::NewSession => {
-            draft_new_session(alloc, ring, seeds, moment, account, request.body, material)
-        }
-        Wish::CancelSet(session, set) => draft_cancelled(alloc, session, set, material),
-        Wish::ListSessions(page) => draft_sessions(alloc, page, material),
-        Wish::Certify(session) => {
-            draft_certification(alloc, account, session, request.body, material)
-        }
-        Wish::Registry(it) => draft_registry(alloc, account, request.body, material, it),
-        // What is given on a vector set is drafted of what it owns.
-        Wish::Set(_, _, _) => Err(Rule::Unavailable),
-    }
-}
-
 /// What a caller is given, or the rule of the first condition of the action's own that doesn't hold.
-fn draft_wish(
+#[tactic(auto, unfolding(acvp_json::specs::ReplyData::reply_data))]
+fn draft_place(
     alloc: Global,
     ring: &KeyRing,
     cache: &mut Cache,
     moment: u64,
-    account: u16,
-    request: &TypedRequest<'_>,
-    wish: &Wish,
-    found: Found,
+    body: &[u8],
+    caller: FoundCaller,
 ) -> Result<Draft, Rule>
     requires moment { moment < end_of_moments }
-    requires there { is_there wish.now found.subject ≡ true }
-    requires material { is_for wish.now found.material ≡ true }
-    ensures held { IfOk result
-        (λ _. first_broken (wish_conditions cache.old.seeds (request_value request.now) found wish.now) ≡ None) }
+    requires held { first_broken (policy_conditions moment (found.Caller caller)) ≡ None }
+    requires within { is_within caller.place ≡ true }
+    ensures held { IfOk result (λ _. first_broken (place_conditions cache.old.seeds body.now caller.place) ≡ None) }
     ensures reply { IfOk result (λ draft. IsReply draft.reply.items
-        (wish_reply (keys_of ring.now cache.old.seeds) moment account (request_value request.now) found wish.now)) }
-    ensures change { IfOk result (λ draft. draft.change ≡ wish_change cache.old.seeds moment account
-        (request_value request.now) found wish.now) }
+        (place_reply (keys_of ring.now cache.old.seeds) moment (acting caller) body.now caller.place)) }
+    ensures change { IfOk result
+        (λ draft. draft.change ≡ place_change cache.old.seeds moment (acting caller) body.now caller.place) }
     ensures seeds { cache.new.seeds ≡ cache.old.seeds }
     ensures denied { IfErr result (λ rule. (rule ≡ Rule.Unavailable)
-        ⊎ (first_broken (wish_conditions cache.old.seeds (request_value request.now) found wish.now) ≡ Some rule)) }
+        ⊎ (first_broken (place_conditions cache.old.seeds body.now caller.place) ≡ Some rule)) }
 {
-    let Wish::Set(session, number, it) = *wish else {
-        return draft_beside_sets(
-            alloc,
-            ring,
-            cache.seeds(),
-            moment,
-            account,
-            request,
-            wish,
-            &found,
-        );
-    };
-    let Found {
-        subject,
-        material,
-        ..
-    } = found;
-    draft_set(
-        alloc,
-        cache,
-        moment,
-        session,
-        number,
-        it,
-        request.body,
-        &subject,
-        material,
-    )
+    let account = acting(&caller.token);
+    match caller.place {
+        Place::Account(counts) => {
+            told(alloc, &ReplyObject::ReadAccount { account, counts }, None)
+        }
+        Place::Algorithms => told(alloc, &ReplyObject::ListAlgorithms, None),
+        Place::Algorithm(number) => draft_algorithm(alloc, number),
+        Place::Session(number, found, it) => {
+            // What isn't there was refused before.
+            let Some(facts) = found else {
+                return Err(Rule::NoResource);
+            };
+            draft_session(alloc, moment, number, body, &it, &facts)
+        }
+        Place::Reviewer(session, reviewer, found, accounts) => {
+            let Some(_) = found else {
+                return Err(Rule::NoResource);
+            };
+            draft_removed(alloc, session, reviewer, &accounts.numbers)
+        }
+        Place::NewSession(sessions) => {
+            draft_new_session(alloc, ring, cache.seeds(), moment, account, sessions, body)
+        }
+        Place::Set(session, number, found, it) => {
+            let Some(facts) = found else {
+                return Err(Rule::NoResource);
+            };
+            draft_set(alloc, cache, moment, session, number, body, it, &facts)
+        }
+        Place::CancelSet(session, set, _, sets) => {
+            draft_cancelled(alloc, session, set, &sets.sets)
+        }
+        Place::Sessions(found) => draft_sessions(alloc, &found),
+        Place::Certify(session, _, parts, asked) => {
+            draft_certification(alloc, account, session, parts, &asked)
+        }
+        Place::Registry(it) => draft_registry(alloc, account, it),
+    }
 }
 
 /// What is given where the policy lets through, or the rule of the first condition of the action's own that doesn't
@@ -243,37 +206,23 @@ pub(crate) fn draft_for(
     ring: &KeyRing,
     cache: &mut Cache,
     moment: u64,
-    request: &TypedRequest<'_>,
-    ask: &Asker,
+    body: &[u8],
     found: Found,
 ) -> Result<Draft, Rule>
     requires moment { moment < end_of_moments }
-    requires held { first_broken (policy_conditions moment ask.now found) ≡ None }
-    requires of { IsOf ask.now found }
-    ensures held { IfOk result
-        (λ _. first_broken (own_conditions cache.old.seeds (request_value request.now) ask.now found) ≡ None) }
-    ensures reply { IfOk result (λ draft. IsReply draft.reply.items
-        (reply_of (keys_of ring.now cache.old.seeds) moment (request_value request.now) ask.now found)) }
-    ensures change { IfOk result (λ draft. draft.change ≡ change_of (keys_of ring.now cache.old.seeds) moment
-        (request_value request.now) ask.now found) }
+    requires held { first_broken (policy_conditions moment found) ≡ None }
+    requires fit { is_fit found ≡ true }
+    ensures held { IfOk result (λ _. first_broken (own_conditions cache.old.seeds body.now found) ≡ None) }
+    ensures reply { IfOk result
+        (λ draft. IsReply draft.reply.items (reply_of (keys_of ring.now cache.old.seeds) moment body.now found)) }
+    ensures change { IfOk result
+        (λ draft. draft.change ≡ change_of (keys_of ring.now cache.old.seeds) moment body.now found) }
     ensures seeds { cache.new.seeds ≡ cache.old.seeds }
     ensures denied { IfErr result (λ rule. (rule ≡ Rule.Unavailable)
-        ⊎ (first_broken (own_conditions cache.old.seeds (request_value request.now) ask.now found) ≡ Some rule)) }
+        ⊎ (first_broken (own_conditions cache.old.seeds body.now found) ≡ Some rule)) }
 {
-    match ask {
-        Asker::Login(login) => draft_login(alloc, ring, moment, login, &found),
-        Asker::Caller(caller) => {
-            let account = acting(&caller.token);
-            draft_wish(
-                alloc,
-                ring,
-                cache,
-                moment,
-                account,
-                request,
-                &caller.wish,
-                found,
-            )
-        },
+    match found {
+        Found::Login(login, account) => draft_login(alloc, ring, moment, &login, &account),
+        Found::Caller(caller) => draft_place(alloc, ring, cache, moment, body, caller),
     }
 }

@@ -1,40 +1,40 @@
 //! The tables are looked at.
 
 ghost use Rattle.std.specs.Prelude.{◌≡◌, ◌⊎◌, ◌/◌, ℕ, List, map, ◌&&◌, ◌||◌, ◌==◌, not, nat_le, true, Some, is_some};
-ghost use Rattle.std.specs.Prelude.{IfOk, IfErr, IfSome, option_and_then};
+ghost use Rattle.std.specs.Prelude.{IfOk, IfErr, IfSome, option_and_then, option_map};
 ghost use Rattle.acvp_mac.specs.Conditions.{first_broken};
 ghost use Rattle.acvp_policy.specs.Conditions.{claims_of};
 ghost use Rattle.acvp_policy.specs.Decision.{account_of_claims};
-ghost use Rattle.acvp_policy.specs.Resource.{resource_of};
 ghost use Rattle.acvp_tables.specs.Content.{Content, account_at, reviewers_of, session_at, set_at};
 ghost use Rattle.acvp_tables.specs.Meaning.{narrowed};
 ghost use Rattle.acvp_tables.specs.State.{record_counts, session_record, state_of, set_record_at};
-ghost use Rattle.acvp_desk.specs.Answer.{found_of, policy_conditions, reviewer_found, who, IsOf};
+ghost use Rattle.acvp_desk.specs.Answer.{action_in, action_of, found_of, is_fit, policy_conditions};
+ghost use Rattle.acvp_desk.specs.Answer.{reviewer_found, who};
 ghost use Rattle.acvp_desk.specs.Kept.{IsKept};
 ghost use Rattle.acvp_desk.specs.Private.Admitted.{IsAdmitted};
 ghost use Rattle.acvp_desk.specs.Private.Changeable.{IfChangeable};
 ghost use Rattle.acvp_desk.specs.Private.SetRows.{facts_in, rows_in, source_from};
-ghost use Rattle.acvp_desk.specs.Place.{certification_of, certification_status, listed_session, sessions_material};
-ghost use Rattle.acvp_desk.specs.Place.{is_for_page, session_facts, reviewed_facts, is_within, account_material};
-ghost use Rattle.acvp_desk.specs.Place.{session_material, is_for, is_for_account, is_for_session, place_of};
-ghost use Rattle.acvp_desk.specs.Place.{set_numbers, set_outcomes, unfound};
-ghost use Rattle.acvp_desk.specs.Sets.{no_set_material, set_facts, set_material, submission_for, verdicts_on_set};
-ghost use Rattle.acvp_desk.specs.Sets.{is_for_set};
+ghost use Rattle.acvp_desk.specs.Place.{certification_of, certification_status, is_within, listed_session, place_of};
+ghost use Rattle.acvp_desk.specs.Place.{reviewed_facts, session_facts, session_place, session_wish, sessions_page};
+ghost use Rattle.acvp_desk.specs.Place.{set_numbers, set_outcomes, wish_at};
+ghost use Rattle.acvp_desk.specs.Sets.{no_set_place, set_facts, set_place, set_wish, submission_for, verdicts_on_set};
 ghost use Rattle.acvp_desk.specs.Serves.{Holds, Knows, Looks, Sees};
+ghost use Rattle.acvp_desk.specs.declared.found.Place.TheVariants as place;
 
 use crate::ask::Asker;
+use crate::body::certify_read;
+use crate::facts::unfound_facts;
 use crate::found::{
-    Accounts, Found, ListedSession, ListedSessions, Material, SetNumbers, SetOutcome, SetOutcomes,
-    SetSource, SetVerdicts, Submission, facts_for,
+    Accounts, ByPrompts, Found, FoundCaller, ListedSession, ListedSessions, Place, SessionPlace,
+    SessionsPage, SetNumbers, SetOutcome, SetOutcomes, SetPlace, SetSource, SetVerdicts,
+    Submission,
 };
-use crate::own_rows::{certification_asked, has_row, registry_material, registry_subject};
+use crate::own_rows::{certification_asked, registry_place};
 use crate::submit::one_if_passed;
 use crate::wish::{AccountWish, CallerAsk, SessionWish, SetWish, Wish};
 use acvp_json::Page;
-use acvp_policy::{
-    CertificationStatus, ReviewerSubject, Rule, SessionFacts, SessionSubject, SetFacts, SetSubject,
-    Subject, Token, admit,
-};
+use acvp_policy::{CertificationStatus, Rule, SessionFacts, SetFacts, Token, admit};
+use acvp_registry::Counts;
 use acvp_tables::{
     AccountRow, Counted, RequestStatus, SessionRow, SetSummary, StoreFault, Tables, numbers_name,
     numbers_tell, selections_follow, sets_are_there_once,
@@ -72,7 +72,7 @@ fn account<T: Tables>(tables: &mut T, number: Option<u16>) -> Result<Option<Acco
     ensures found { Knows T.meaning result tables.old tables.new
         (λ seeds c. option_and_then (λ n. account_at n c.accounts) number) }
     ensures open { IfOk result (λ found. IfSome found (λ _. T.meaning.is_clean tables.new
-        → T.meaning.is_live tables.old × T.meaning.is_live tables.new)) }
+        → T.meaning.is_open tables.old × T.meaning.is_open tables.new)) }
     ensures looks { Looks T.meaning result tables.old tables.new }
 {
     match number {
@@ -167,7 +167,7 @@ fn facts_by_row<T: Tables>(
     let Some(row) = row else {
         return Ok(None);
     };
-    let certification = certification(tables, row.certify)?;
+    let certification = certification(tables, row.last_request)?;
     Ok(Some(facts_of(&row, certification)))
 }
 
@@ -298,44 +298,38 @@ fn reviewers<T: Tables>(tables: &mut T, session: u64) -> Result<Accounts, StoreF
     })
 }
 
-/// What is read for the reply to who asks something of the account, or of all algorithms.
+/// How many rows an account has.
 #[tactic(auto, unfolding(acvp_tables::specs::State::state_of))]
-fn account_material<T: Tables>(
-    tables: &mut T,
-    account: u16,
-    wish: AccountWish,
-) -> Result<Material, StoreFault>
-    ensures found { Sees T.meaning result tables.old tables.new
-        (λ seeds c. account_material account (state_of c) wish) }
-    ensures fits { IfOk result (λ material. is_for_account wish material ≡ true) }
+fn account_counts<T: Tables>(tables: &mut T, account: u16) -> Result<Counts, StoreFault>
+    ensures found { Sees T.meaning result tables.old tables.new (λ seeds c. record_counts account (state_of c)) }
     ensures looks { Looks T.meaning result tables.old tables.new }
 {
     selections_follow();
-    match wish {
-        AccountWish::Read => Ok(Material::Counts(tables.counts(account)?)),
-        AccountWish::ListAlgorithms => Ok(Material::Nothing),
-    }
+    let counts = tables.counts(account)?;
+    Ok(counts)
 }
 
-/// What is read for the reply to who asks something of a session.
-fn session_material<T: Tables>(
+/// What is found of a session for what is asked of it.
+fn session_place<T: Tables>(
     alloc: Global,
     tables: &mut T,
     session: u64,
     wish: SessionWish,
-) -> Result<Material, StoreFault>
+) -> Result<SessionPlace, StoreFault>
     ensures found { Sees T.meaning result tables.old tables.new
-        (λ seeds c. session_material seeds session (state_of c) wish) }
-    ensures fits { IfOk result (λ material. is_for_session wish material ≡ true) }
+        (λ seeds c. session_place seeds session (state_of c) wish) }
+    ensures asked { IfOk result (λ place. session_wish place ≡ wish) }
     ensures looks { Looks T.meaning result tables.old tables.new }
 {
     match wish {
-        SessionWish::Read => Ok(Material::Sets(set_numbers(alloc, tables, session)?)),
-        SessionWish::Results => Ok(Material::Outcomes(set_outcomes(alloc, tables, session)?)),
-        SessionWish::ListSets => Ok(Material::Sets(set_numbers(alloc, tables, session)?)),
-        SessionWish::Cancel => Ok(Material::Nothing),
-        SessionWish::ListReviewers => Ok(Material::Reviewers(reviewers(tables, session)?)),
-        SessionWish::AddReviewer => Ok(Material::Reviewers(reviewers(tables, session)?)),
+        SessionWish::Read => Ok(SessionPlace::Read(set_numbers(alloc, tables, session)?)),
+        SessionWish::Cancel => Ok(SessionPlace::Cancel),
+        SessionWish::Results => Ok(SessionPlace::Results(set_outcomes(alloc, tables, session)?)),
+        SessionWish::ListSets => Ok(SessionPlace::ListSets(set_numbers(alloc, tables, session)?)),
+        SessionWish::ListReviewers => {
+            Ok(SessionPlace::ListReviewers(reviewers(tables, session)?))
+        }
+        SessionWish::AddReviewer => Ok(SessionPlace::AddReviewer(reviewers(tables, session)?)),
     }
 }
 
@@ -441,43 +435,55 @@ fn submission<T: Tables>(
     Ok(Some(Submission { source, others }))
 }
 
-/// What is read for the reply where the vector set isn't there.
-fn no_set_material(wish: SetWish) -> Material
-    ensures material { result ≡ no_set_material wish }
-    ensures fits { is_for_set wish result ≡ true }
+/// What is found of a vector set that isn't there.
+fn no_set_place(wish: SetWish) -> SetPlace
+    ensures value { result ≡ no_set_place wish }
+    ensures asked { set_wish result ≡ wish }
 {
     match wish {
-        SetWish::Read | SetWish::Expected | SetWish::Results => Material::Source(None),
-        SetWish::Submit | SetWish::Resubmit => Material::Submission(None),
+        SetWish::Read => SetPlace::Made(ByPrompts::Prompts, None),
+        SetWish::Expected => SetPlace::Made(ByPrompts::Expected, None),
+        SetWish::Results => SetPlace::Made(ByPrompts::Results, None),
+        SetWish::Submit => SetPlace::Submit(None),
+        SetWish::Resubmit => SetPlace::Resubmit(None),
     }
 }
 
-/// What is read for the reply to who asks something of the vector set of a number, which names the session of a number;
-/// these are their rows.
-fn set_material<T: Tables>(
+/// What is found of the vector set of a number, which names the session of a number, for what is asked of it; these are
+/// their rows.
+fn set_place<T: Tables>(
     tables: &mut T,
     session: u64,
     number: u64,
     rows: &SetRows,
     wish: SetWish,
-) -> Result<Material, StoreFault>
+) -> Result<SetPlace, StoreFault>
     requires { ((number / 100) == session) ≡ true }
     ensures found { Sees (narrowed T.meaning (λ c. rows.now ≡ rows_in session number c)) result tables.old tables.new
-        (λ seeds c. set_material seeds session number (state_of c).sets wish) }
-    ensures fits { IfOk result (λ material. is_for_set wish material ≡ true) }
+        (λ seeds c. set_place seeds session number (state_of c).sets wish) }
+    ensures asked { IfOk result (λ place. set_wish place ≡ wish) }
     ensures looks { Looks T.meaning result tables.old tables.new }
 {
     selections_follow();
     numbers_name();
     match wish {
-        SetWish::Read => Ok(Material::Source(set_source(tables, number, rows.set)?)),
-        SetWish::Expected => Ok(Material::Source(set_source(tables, number, rows.set)?)),
+        SetWish::Read => {
+            let source = set_source(tables, number, rows.set)?;
+            Ok(SetPlace::Made(ByPrompts::Prompts, source))
+        }
+        SetWish::Expected => {
+            let source = set_source(tables, number, rows.set)?;
+            Ok(SetPlace::Made(ByPrompts::Expected, source))
+        }
         SetWish::Results => match set_verdicts(tables, number)? {
-            Some(verdicts) => Ok(Material::Verdicts(verdicts)),
-            None => Ok(Material::Source(set_source(tables, number, rows.set)?)),
+            Some(verdicts) => Ok(SetPlace::Verdicts(verdicts)),
+            None => {
+                let source = set_source(tables, number, rows.set)?;
+                Ok(SetPlace::Made(ByPrompts::Results, source))
+            }
         },
-        SetWish::Submit => Ok(Material::Submission(submission(tables, session, number, rows)?)),
-        SetWish::Resubmit => Ok(Material::Submission(submission(tables, session, number, rows)?)),
+        SetWish::Submit => Ok(SetPlace::Submit(submission(tables, session, number, rows)?)),
+        SetWish::Resubmit => Ok(SetPlace::Resubmit(submission(tables, session, number, rows)?)),
     }
 }
 
@@ -487,7 +493,7 @@ fn listed_session<T: Tables>(tables: &mut T, row: &SessionRow) -> Result<ListedS
         (λ seeds c. listed_session c.requests (session_record row.now)) }
     ensures looks { Looks T.meaning result tables.old tables.new }
 {
-    let certification = certification(tables, row.certify)?;
+    let certification = certification(tables, row.last_request)?;
     Ok(ListedSession {
         number: row.number,
         created: row.created,
@@ -528,82 +534,57 @@ fn session_count<T: Tables>(tables: &mut T, account: u16) -> Result<u64, StoreFa
     tables.count(account, Counted::Sessions)
 }
 
-/// What is read for the reply to who lists the sessions of an account.
+/// A page of an account's sessions, where the query is one.
 #[tactic(auto, unfolding(acvp_tables::specs::State::state_of))]
-fn sessions_material<T: Tables>(
+fn sessions_page<T: Tables>(
     alloc: Global,
     tables: &mut T,
     account: u16,
     page: Option<Page>,
-) -> Result<Material, StoreFault>
+) -> Result<Option<SessionsPage>, StoreFault>
     ensures found { Sees T.meaning result tables.old tables.new
-        (λ seeds c. sessions_material account (state_of c) page) }
-    ensures fits { IfOk result (λ material. is_for_page page material ≡ true) }
+        (λ seeds c. option_map (sessions_page account (state_of c)) page) }
+    ensures asked { IfOk result (λ found. option_map (λ found. found.page) found ≡ page) }
     ensures looks { Looks T.meaning result tables.old tables.new }
 {
     selections_follow();
     let Some(page) = page else {
-        return Ok(Material::Nothing);
+        return Ok(None);
     };
-    let count = tables.count(account, Counted::Sessions)?;
+    let total = tables.count(account, Counted::Sessions)?;
     let rows = tables.sessions(account, page.offset, page.limit)?;
     let sessions = listed_sessions(alloc, tables, &rows)?;
-    Ok(Material::Sessions(count, sessions))
+    Ok(Some(SessionsPage {
+        page,
+        total,
+        sessions,
+    }))
 }
 
-/// What a path names, with what is found there, and what is read for the reply.
-#[derive(Drop)]
-struct Place {
-    subject: Subject,
-    material: Material,
-}
-
-/// What is found of the vector set of a number on a path of a session, and what is read for the reply to who asks
-/// something of it: each row once. Of a number of another session nothing is read, since its row may be another
-/// account's.
-fn set_place<T: Tables>(
+/// What is found of the vector set of a number on a path of a session for what is asked of it: each row is read once.
+/// Of a number of another session nothing is read, since its row may be another account's.
+fn place_in_session<T: Tables>(
     tables: &mut T,
     session: u64,
     number: u64,
     wish: SetWish,
 ) -> Result<Place, StoreFault>
     ensures found { Sees T.meaning result tables.old tables.new
-        (λ seeds c. record {
-          subject = Subject.Set (record {
-            session = session;
-            set = number;
-            found = set_facts (session_facts seeds (state_of c) session) session number (state_of c).sets;
-          });
-          material = set_material seeds session number (state_of c).sets wish;
-        }) }
-    ensures names { IfOk result
-        (λ place. resource_of place.subject ≡ resource_of (unfound (Wish.Set session number wish))) }
-    ensures within { IfOk result (λ place. is_within (Wish.Set session number wish) place.subject ≡ true) }
-    ensures fits { IfOk result (λ place. is_for_set wish place.material ≡ true) }
+        (λ seeds c. place.Set session number
+        (set_facts (session_facts seeds (state_of c) session) session number (state_of c).sets)
+        (set_place seeds session number (state_of c).sets wish)) }
+    ensures asked { IfOk result (λ place. wish_at place ≡ Wish.Set session number wish) }
+    ensures within { IfOk result (λ place. is_within place ≡ true) }
     ensures looks { Looks T.meaning result tables.old tables.new }
 {
     numbers_name();
     if number / SETS_OF_A_SESSION != session {
-        return Ok(Place {
-            subject: Subject::Set(SetSubject {
-                session,
-                set: number,
-                found: None,
-            }),
-            material: no_set_material(wish),
-        });
+        return Ok(Place::Set(session, number, None, no_set_place(wish)));
     }
     let rows = set_rows(tables, session, number)?;
     let found = facts_by_rows(tables, session, number, &rows)?;
-    let material = set_material(tables, session, number, &rows, wish)?;
-    Ok(Place {
-        subject: Subject::Set(SetSubject {
-            session,
-            set: number,
-            found,
-        }),
-        material,
-    })
+    let place = set_place(tables, session, number, &rows, wish)?;
+    Ok(Place::Set(session, number, found, place))
 }
 
 /// What is found of a wish of an account.
@@ -616,66 +597,44 @@ fn look_at<T: Tables>(
 ) -> Result<Place, StoreFault>
     ensures found { Sees T.meaning result tables.old tables.new
         (λ seeds c. place_of seeds account body.now (state_of c) wish.now) }
-    ensures names { IfOk result (λ place. resource_of place.subject ≡ resource_of (unfound wish.now)) }
-    ensures within { IfOk result (λ place. is_within wish.now place.subject ≡ true) }
-    ensures fits { IfOk result (λ place. is_for wish.now place.material ≡ true) }
+    ensures asked { IfOk result (λ place. wish_at place ≡ wish.now) }
+    ensures within { IfOk result (λ place. is_within place ≡ true) }
     ensures looks { Looks T.meaning result tables.old tables.new }
 {
     match *wish {
-        Wish::Account(it) => Ok(Place {
-            subject: Subject::Account,
-            material: account_material(tables, account, it)?,
-        }),
-        Wish::NewSession => Ok(Place {
-            subject: Subject::Account,
-            material: Material::SessionCount(session_count(tables, account)?),
-        }),
-        Wish::ListSessions(page) => Ok(Place {
-            subject: Subject::Account,
-            material: sessions_material(alloc, tables, account, page)?,
-        }),
-        Wish::Algorithm(number) => Ok(Place {
-            subject: Subject::Algorithm(number),
-            material: Material::Nothing,
-        }),
+        Wish::Account(it) => match it {
+            AccountWish::Read => Ok(Place::Account(account_counts(tables, account)?)),
+            AccountWish::ListAlgorithms => Ok(Place::Algorithms),
+        },
+        Wish::Algorithm(number) => Ok(Place::Algorithm(number)),
+        Wish::NewSession => Ok(Place::NewSession(session_count(tables, account)?)),
+        Wish::ListSessions(page) => {
+            Ok(Place::Sessions(sessions_page(alloc, tables, account, page)?))
+        }
         Wish::Registry(it) => {
-            let found = has_row(tables, account, it)?;
-            let material = registry_material(alloc, tables, account, body, it)?;
-            let subject = registry_subject(found, it);
-            Ok(Place { subject, material })
+            Ok(Place::Registry(registry_place(alloc, tables, account, body, it)?))
         }
         Wish::Session(session, it) => {
             let found = session_facts(tables, session)?;
-            let material = session_material(alloc, tables, session, it)?;
-            let subject = Subject::Session(SessionSubject { session, found });
-            Ok(Place { subject, material })
+            let place = session_place(alloc, tables, session, it)?;
+            Ok(Place::Session(session, found, place))
         }
         Wish::Certify(session) => {
             let found = session_facts(tables, session)?;
-            let material = Material::Asked(certification_asked(alloc, tables, account, body)?);
-            let subject = Subject::Session(SessionSubject { session, found });
-            Ok(Place { subject, material })
+            let parts = certify_read(alloc, body)?;
+            let asked = certification_asked(tables, account, &parts)?;
+            Ok(Place::Certify(session, found, parts, asked))
         }
         Wish::Reviewer(session, reviewer) => {
             let found = reviewed_facts(tables, session, reviewer)?;
-            let material = Material::Reviewers(reviewers(tables, session)?);
-            let subject = Subject::Reviewer(ReviewerSubject {
-                session,
-                reviewer,
-                found,
-            });
-            Ok(Place { subject, material })
+            let accounts = reviewers(tables, session)?;
+            Ok(Place::Reviewer(session, reviewer, found, accounts))
         }
-        Wish::Set(session, set, it) => set_place(tables, session, set, it),
+        Wish::Set(session, set, it) => place_in_session(tables, session, set, it),
         Wish::CancelSet(session, set) => {
             let found = set_facts(tables, session, set)?;
-            let material = Material::Outcomes(set_outcomes(alloc, tables, session)?);
-            let subject = Subject::Set(SetSubject {
-                session,
-                set,
-                found,
-            });
-            Ok(Place { subject, material })
+            let sets = set_outcomes(alloc, tables, session)?;
+            Ok(Place::CancelSet(session, set, found, sets))
         }
     }
 }
@@ -692,16 +651,16 @@ pub(crate) fn find<T: Tables>(
 ) -> Result<Found, Rule>
     ensures found { Knows T.meaning result tables.old tables.new
         (λ seeds c. found_of seeds body.now ask.now (state_of c)) }
-    ensures of { IfOk result (λ found. IsOf ask.now found) }
-    ensures admitted { IfOk result (IsAdmitted moment ask.now) }
+    ensures action { IfOk result (λ found. action_in found ≡ action_of ask.now) }
+    ensures fit { IfOk result (λ found. is_fit found ≡ true) }
+    ensures admitted { IfOk result (IsAdmitted moment) }
     ensures open { IfOk result
-        (λ found. IfChangeable ask.now found (T.meaning.is_clean tables.new → T.meaning.is_live tables.old)) }
+        (λ found. IfChangeable found (T.meaning.is_clean tables.new → T.meaning.is_open tables.old)) }
     ensures refused { IfErr result (λ rule. (rule ≡ Rule.Unavailable)
-        ⊎ ((T.meaning.is_clean tables.new → T.meaning.is_live tables.old → T.meaning.is_live tables.new)
+        ⊎ ((T.meaning.is_clean tables.new → T.meaning.is_open tables.old → T.meaning.is_open tables.new)
         × (T.meaning.is_clean tables.new → (seeds : List (List ℕ)) (c : Content) → IsKept seeds c
         → Holds T.meaning tables.old c
-        → first_broken (policy_conditions moment ask.now (found_of seeds body.now ask.now (state_of c)))
-        ≡ Some rule))) }
+        → first_broken (policy_conditions moment (found_of seeds body.now ask.now (state_of c))) ≡ Some rule))) }
     ensures looks { Looks T.meaning result tables.old tables.new }
 {
     let Ok(account) = account(tables, who(ask)) else {
@@ -710,20 +669,22 @@ pub(crate) fn find<T: Tables>(
     let Ok(reviewer) = reviewer(tables, ask) else {
         return Err(Rule::Unavailable);
     };
-    let caller = Found::nothing(ask, account, reviewer);
-    if let Err(rule) = admit(ask.action(), &facts_for(moment, ask, &caller)) {
+    let facts = unfound_facts(moment, ask, &account, reviewer);
+    if let Err(rule) = admit(ask.action(), &facts) {
         return Err(rule);
     }
-    let Asker::Caller(asked) = ask else {
-        return Ok(caller);
-    };
-    match look_at(alloc, tables, acting(&asked.token), body, &asked.wish) {
-        Ok(Place { subject, material }) => Ok(Found {
-            account,
-            reviewer,
-            subject,
-            material,
-        }),
-        Err(_) => Err(Rule::Unavailable),
+    match ask {
+        Asker::Login(login) => Ok(Found::Login(*login, account)),
+        Asker::Caller(asked) => {
+            match look_at(alloc, tables, acting(&asked.token), body, &asked.wish) {
+                Ok(place) => Ok(Found::Caller(FoundCaller {
+                    token: asked.token,
+                    account,
+                    reviewer,
+                    place,
+                })),
+                Err(_) => Err(Rule::Unavailable),
+            }
+        }
     }
 }

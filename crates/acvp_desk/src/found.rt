@@ -1,21 +1,12 @@
-//! What the tables hold of a request.
+//! What is found of a request.
 
-ghost use Rattle.std.specs.Prelude.{◌≡◌};
-ghost use Rattle.acvp_desk.specs.Answer.{facts_from, standing_of, unfound_of};
-ghost use Rattle.acvp_desk.specs.Login.{step_of, login_facts};
-ghost use Rattle.acvp_desk.specs.Place.{unfound};
-
-use crate::ask::{Asker, LoginAsk};
-use crate::own_rows::registry_subject;
-use crate::wish::Wish;
+use crate::ask::LoginAsk;
+use crate::wish::Registry;
 use acvp_answers::{Disposition, Verdict};
 use acvp_caps::Capability;
-use acvp_mac::accepted_step;
-use acvp_policy::{
-    CertificationStatus, Facts, LoginFacts, ReviewerSubject, SessionSubject, SetSubject, Standing,
-    Subject, Token, UserFacts,
-};
-use acvp_registry::Counts;
+use acvp_json::{CertifyBody, Page};
+use acvp_policy::{CertificationStatus, Rule, SessionFacts, SetFacts, Token};
+use acvp_registry::{Counts, Object};
 use acvp_tables::{AccountRow, ObjectRow, RequestSummary};
 use std::marker::Model;
 
@@ -129,6 +120,16 @@ impl Model for ListedSessions {
     ghost view = { λ s. s.sessions.items };
 }
 
+/// A page of test sessions.
+#[derive(Drop)]
+pub(crate) struct SessionsPage {
+    pub page: Page,
+
+    /// How many there are in all.
+    pub total: u64,
+    pub sessions: ListedSessions,
+}
+
 /// Objects of a registry in the order of their numbers.
 #[derive(Drop)]
 pub(crate) struct ObjectRows {
@@ -148,6 +149,16 @@ impl Model for ObjectRows {
     ghost view = { λ o. o.rows.items };
 }
 
+/// A page of the objects of a registry.
+#[derive(Drop)]
+pub(crate) struct ObjectsPage {
+    pub page: Page,
+
+    /// How many there are in all.
+    pub total: u64,
+    pub objects: ObjectRows,
+}
+
 /// Requests in the order of their numbers.
 #[derive(Drop)]
 pub(crate) struct RequestRows {
@@ -163,177 +174,141 @@ impl Model for RequestRows {
     ghost view = { λ r. r.rows.items };
 }
 
+/// A page of requests.
+#[derive(Drop)]
+pub(crate) struct RequestsPage {
+    pub page: Page,
+
+    /// How many there are in all.
+    pub total: u64,
+    pub requests: RequestRows,
+}
+
 /// What a request for registration or certification is judged by, beside its body.
 #[derive(Clone, Copy)]
 pub(crate) struct Asked {
     /// How many requests the account has.
     pub requests: u64,
 
-    /// Whether all that the body names is there, and the account's; of a body that isn't read, nothing is asked.
+    /// Whether all that the body names is there, and the account's; a body that isn't read names nothing.
     pub named: bool,
 }
 
-/// What a reply shows of the records, beside how what the path names stands.
+/// What is found of a test session for what is asked of it.
 #[derive(Drop)]
-pub(crate) enum Material {
-    Nothing,
+pub(crate) enum SessionPlace {
+    /// The vector sets that aren't cancelled.
+    Read(SetNumbers),
+    Cancel,
 
-    /// How many rows the account that acts has.
-    Counts(Counts),
+    /// The vector sets that aren't cancelled, with what their answers come to.
+    Results(SetOutcomes),
 
-    /// How many sessions the account that acts has.
-    SessionCount(u64),
+    /// The vector sets that aren't cancelled.
+    ListSets(SetNumbers),
 
-    /// The vector sets of a session that aren't cancelled.
-    Sets(SetNumbers),
+    /// The accounts that review it.
+    ListReviewers(Accounts),
 
-    /// The same with what their answers come to.
-    Outcomes(SetOutcomes),
-
-    /// The accounts that review a session.
-    Reviewers(Accounts),
-
-    /// What the prompts of a vector set are made from.
-    Source(Option<SetSource>),
-
-    /// The verdicts on the answers to a vector set.
-    Verdicts(SetVerdicts),
-
-    /// What answers to a vector set of the session that isn't cancelled come to.
-    Submission(Option<Submission>),
-
-    /// How many sessions an account has, and those of a page.
-    Sessions(u64, ListedSessions),
-
-    /// The object that the path names, where it is the account's.
-    Object(Option<ObjectRow>),
-
-    /// How many objects of a kind an account has, and those of a page.
-    Objects(u64, ObjectRows),
-
-    /// The request that the path names, where it is the account's.
-    Request(Option<RequestSummary>),
-
-    /// How many requests an account has, and those of a page.
-    Requests(u64, RequestRows),
-
-    /// What a request for registration or certification is judged by.
-    Asked(Asked),
+    /// The same.
+    AddReviewer(Accounts),
 }
 
-/// What the tables hold of a request.
+/// What is shown of a vector set by its prompts.
+#[derive(Clone, Copy)]
+pub(crate) enum ByPrompts {
+    /// They themselves.
+    Prompts,
+
+    /// With their standard answers.
+    Expected,
+
+    /// That no test is answered.
+    Results,
+}
+
+/// What is found of a vector set for what is asked of it.
 #[derive(Drop)]
-pub(crate) struct Found {
+pub(crate) enum SetPlace {
+    /// What the prompts are made from by which something is shown.
+    Made(ByPrompts, Option<SetSource>),
+
+    /// The verdicts on its answers, which are shown.
+    Verdicts(SetVerdicts),
+
+    /// What answers to it are graded by and counted with, where it isn't cancelled.
+    Submit(Option<Submission>),
+
+    /// The same of answers that come in the place of others.
+    Resubmit(Option<Submission>),
+}
+
+/// What is found of an account's registries and requests for what is asked of them.
+#[derive(Drop)]
+pub(crate) enum RegistryPlace {
+    /// The object of a number, where it is the account's.
+    Object(Registry, u64, Option<ObjectRow>),
+
+    /// The object that a body asks to register, or the rule of the first condition on it that doesn't hold; and what is
+    /// judged beside.
+    New(Registry, Result<Object, Rule>, Asked),
+
+    /// A page of the objects, where the query is one.
+    Objects(Registry, Option<ObjectsPage>),
+
+    /// The request of a number, where it is the account's.
+    Request(u64, Option<RequestSummary>),
+
+    /// A page of the requests, where the query is one.
+    Requests(Option<RequestsPage>),
+}
+
+/// What is found of what a caller asks: the numbers of the path, how what they name stands, where it is there, and what
+/// the reply shows.
+#[derive(Drop)]
+pub(crate) enum Place {
+    /// How many rows the account that acts has.
+    Account(Counts),
+    Algorithms,
+    Algorithm(u64),
+    Session(u64, Option<SessionFacts>, SessionPlace),
+
+    /// A reviewer that is removed, and the accounts that review the session, which is found where it is one of them.
+    Reviewer(u64, u64, Option<SessionFacts>, Accounts),
+
+    /// How many sessions the account that acts has, to which one is added.
+    NewSession(u64),
+    Set(u64, u64, Option<SetFacts>, SetPlace),
+
+    /// A vector set that is cancelled, and those of its session that aren't.
+    CancelSet(u64, u64, Option<SetFacts>, SetOutcomes),
+
+    /// A page of the account's sessions, where the query is one.
+    Sessions(Option<SessionsPage>),
+
+    /// A session; what a body asks to certify it with, or the rule of the first condition on it that doesn't hold; and
+    /// what is judged beside.
+    Certify(u64, Option<SessionFacts>, Result<CertifyBody, Rule>, Asked),
+    Registry(RegistryPlace),
+}
+
+/// What is found of a caller.
+#[derive(Drop)]
+pub(crate) struct FoundCaller {
+    pub token: Token,
+
     /// The account that acts.
     pub account: Option<AccountRow>,
 
     /// Whether it reviews the session of the path; looked up on the actions that reviewers are let in to.
     pub reviewer: bool,
-
-    /// What the path names; of a login, the account.
-    pub subject: Subject,
-    pub material: Material,
+    pub place: Place,
 }
 
-/// What a wish names, by its numbers alone.
-fn unfound(wish: &Wish) -> Subject
-    ensures { result ≡ unfound wish.now }
-{
-    match *wish {
-        Wish::Account(_) => Subject::Account,
-        Wish::NewSession => Subject::Account,
-        Wish::ListSessions(_) => Subject::Account,
-        Wish::Algorithm(number) => Subject::Algorithm(number),
-        Wish::Session(session, _) | Wish::Certify(session) => Subject::Session(SessionSubject {
-            session,
-            found: None,
-        }),
-        Wish::Registry(it) => registry_subject(false, it),
-        Wish::Reviewer(session, reviewer) => Subject::Reviewer(ReviewerSubject {
-            session,
-            reviewer,
-            found: None,
-        }),
-        Wish::Set(session, set, _) | Wish::CancelSet(session, set) => Subject::Set(SetSubject {
-            session,
-            set,
-            found: None,
-        }),
-    }
-}
-
-impl Found {
-    /// Before anything is looked at that the path names.
-    pub fn nothing(ask: &Asker, account: Option<AccountRow>, reviewer: bool) -> Found
-        ensures { result ≡ unfound_of ask.now account reviewer }
-    {
-        let subject = match ask {
-            Asker::Login(_) => Subject::Account,
-            Asker::Caller(caller) => unfound(&caller.wish),
-        };
-        Found {
-            account,
-            reviewer,
-            subject,
-            material: Material::Nothing,
-        }
-    }
-}
-
-/// The step whose code the password is.
-pub(crate) fn step_of(moment: u64, login: &LoginAsk, row: &AccountRow) -> Option<u64>
-    ensures { result ≡ step_of moment login.now row.now }
-{
-    accepted_step(&row.secret, row.last_step, moment, login.password?)
-}
-
-/// What is found on a login.
-fn login_facts(moment: u64, login: &LoginAsk, found: &Option<AccountRow>) -> LoginFacts
-    ensures { result ≡ login_facts moment login.now found.now }
-{
-    let user = match found {
-        Some(row) => Some(UserFacts {
-            account: row.number,
-            enabled: row.enabled,
-            step: step_of(moment, login, row),
-        }),
-        None => None,
-    };
-    LoginFacts {
-        user,
-        renewal: login.renewal,
-    }
-}
-
-/// How an account stands.
-fn standing_of(account: &Option<AccountRow>) -> Standing
-    ensures { result ≡ standing_of account.now }
-{
-    match account {
-        None => Standing::Absent,
-        Some(row) if row.enabled => Standing::Enabled,
-        Some(_) => Standing::Disabled,
-    }
-}
-
-/// What the policy is asked about.
-pub(crate) fn facts_for(moment: u64, ask: &Asker, found: &Found) -> Facts
-    ensures { result ≡ facts_from moment ask.now found.now }
-{
-    match ask {
-        Asker::Login(login) => Facts {
-            moment,
-            token: Token::Missing,
-            standing: Standing::Absent,
-            reviewer: false,
-            subject: Subject::Login(login_facts(moment, login, &found.account)),
-        },
-        Asker::Caller(caller) => Facts {
-            moment,
-            token: caller.token,
-            standing: standing_of(&found.account),
-            reviewer: found.reviewer,
-            subject: found.subject,
-        },
-    }
+/// What is found of a request.
+#[derive(Drop)]
+pub(crate) enum Found {
+    /// Of a login, the account.
+    Login(LoginAsk, Option<AccountRow>),
+    Caller(FoundCaller),
 }

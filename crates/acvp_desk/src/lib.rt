@@ -12,6 +12,7 @@ pub use isolation::{
     seen_rows_answer,
 };
 pub use keys::Keys;
+pub use later_keys::records_outlast_keys;
 pub use laws::{
     accepted_requests_are_told, effects_follow, errors_are_named, no_answer_is_unavailable,
     records_are_kept, reviewers_are_told,
@@ -20,8 +21,9 @@ pub use order::{Order, OrderReply, order_on};
 pub use page::page_of;
 pub use request::{Ask, TokenField, TypedRequest};
 pub use wish::{AccountWish, Registry, RegistryWish, SessionWish, SetWish, Wish};
+pub use without_rows::nobody_is_accepted_without_rows;
 
-mod account;
+mod algorithm;
 mod ask;
 mod body;
 mod cache;
@@ -29,10 +31,12 @@ mod cancel;
 mod desk;
 mod draft;
 mod entry;
+mod facts;
 mod find;
 mod found;
 mod isolation;
 mod keys;
+mod later_keys;
 mod laws;
 mod listing;
 mod new_session;
@@ -50,3 +54,4 @@ mod set;
 mod submit;
 mod token;
 mod wish;
+mod without_rows;

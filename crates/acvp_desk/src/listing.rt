@@ -1,18 +1,15 @@
 //! What is given to who lists the test sessions of its account.
 
-ghost use Rattle.std.specs.Prelude.{◌≡◌, ◌⊎◌, map, codes, true, Some, None, IfOk, IfErr};
-ghost use Rattle.acvp_json.specs.Page.{page_data};
-ghost use Rattle.acvp_json.specs.Session.{session_row_data};
+ghost use Rattle.std.specs.Prelude.{◌≡◌, ◌⊎◌, map, option_map, Some, None, IfOk, IfErr};
 ghost use Rattle.acvp_mac.specs.Conditions.{first_broken};
 ghost use Rattle.acvp_desk.specs.Answer.{IsReply};
 ghost use Rattle.acvp_desk.specs.OwnConditions.{page_conditions};
-ghost use Rattle.acvp_desk.specs.Place.{is_for_page};
 ghost use Rattle.acvp_desk.specs.Replies.{listed_shown, sessions_reply};
 
 use crate::ask::END_OF_MOMENTS;
 use crate::draft::{Draft, told};
-use crate::found::{ListedSession, Material};
-use acvp_json::{Created, Page, ReplyObject, Session, SessionStatus};
+use crate::found::{ListedSession, SessionsPage};
+use acvp_json::{Created, ReplyObject, Session, SessionStatus};
 use acvp_policy::{CertificationStatus, Rule};
 use std::alloc::Global;
 
@@ -55,46 +52,26 @@ fn all_shown(alloc: Global, rows: &[ListedSession]) -> Result<Vec<Session>, Rule
     Ok(sessions)
 }
 
-/// What is given to who lists sessions.
+/// What is given to who lists sessions, or the rule that says that the query is no page.
 #[tactic(auto, unfolding(acvp_json::specs::ReplyData::reply_data))]
-fn told_sessions(
-    alloc: Global,
-    page: Page,
-    total: u64,
-    listed: &[ListedSession],
-) -> Result<Draft, Rule>
-    ensures reply { IfOk result (λ draft. IsReply draft.reply.items
-        (Some (page_data session_row_data (codes "/acvp/v1/testSessions") page total (map listed_shown listed.now)))) }
+pub(crate) fn draft_sessions(alloc: Global, found: &Option<SessionsPage>) -> Result<Draft, Rule>
+    ensures held { IfOk result (λ _. first_broken (page_conditions found.now) ≡ None) }
+    ensures reply { IfOk result (λ draft. IsReply draft.reply.items (option_map sessions_reply found.now)) }
     ensures change { IfOk result (λ draft. draft.change ≡ None) }
-    ensures denied { IfErr result (λ rule. rule ≡ Rule.Unavailable) }
+    ensures denied { IfErr result (λ rule. (rule ≡ Rule.Unavailable)
+        ⊎ (first_broken (page_conditions found.now) ≡ Some rule)) }
 {
-    let sessions = all_shown(alloc, listed)?;
+    let Some(found) = found else {
+        return Err(Rule::BadPage);
+    };
+    let sessions = match all_shown(alloc, &found.sessions.sessions) {
+        Ok(sessions) => sessions,
+        Err(rule) => return Err(rule),
+    };
     let object = ReplyObject::ListSessions {
-        page,
-        total,
+        page: found.page,
+        total: found.total,
         sessions: &sessions,
     };
     told(alloc, &object, None)
-}
-
-/// What is given to who lists sessions, or the rule that says that the query is no page.
-pub(crate) fn draft_sessions(
-    alloc: Global,
-    page: Option<Page>,
-    material: &Material,
-) -> Result<Draft, Rule>
-    requires { is_for_page page material.now ≡ true }
-    ensures held { IfOk result (λ _. first_broken (page_conditions page) ≡ None) }
-    ensures reply { IfOk result (λ draft. IsReply draft.reply.items (sessions_reply page material.now)) }
-    ensures change { IfOk result (λ draft. draft.change ≡ None) }
-    ensures denied { IfErr result (λ rule. (rule ≡ Rule.Unavailable)
-        ⊎ (first_broken (page_conditions page) ≡ Some rule)) }
-{
-    let Some(page) = page else {
-        return Err(Rule::BadPage);
-    };
-    let Material::Sessions(total, listed) = material else {
-        unreachable!()
-    };
-    told_sessions(alloc, page, *total, &listed.sessions)
 }

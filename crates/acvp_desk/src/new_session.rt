@@ -1,21 +1,16 @@
 //! What is given to who registers a new test session.
 
-ghost use Rattle.std.specs.Prelude.{◌≡◌, ◌⊎◌, ◌<◌, ◌++◌, [], ◌∷◌, true, Some, None, IfOk, IfErr, option_map};
+ghost use Rattle.std.specs.Prelude.{◌≡◌, ◌⊎◌, ◌<◌, Some, None, IfOk, IfErr, option_map};
 ghost use Rattle.std.specs.List.{range_with_len};
-ghost use Rattle.acvp_caps.specs.Registered.{registration_conditions};
 ghost use Rattle.acvp_mac.specs.Conditions.{first_broken};
-ghost use Rattle.acvp_policy.specs.declared.rule.Rule.TheVariants as rule;
 ghost use Rattle.acvp_tables.specs.State.{first_of_session};
 ghost use Rattle.acvp_tables.specs.declared.change.Change.TheVariants as change;
 ghost use Rattle.acvp_desk.specs.Answer.{end_of_moments, IsReply};
-ghost use Rattle.acvp_desk.specs.Bodies.{body_conditions, registration_rule};
-ghost use Rattle.acvp_desk.specs.NewSessions.{sessions_in_material, has_number_left, new_session_in, newest_epoch};
-ghost use Rattle.acvp_desk.specs.NewSessions.{session_made_data};
-ghost use Rattle.acvp_desk.specs.Place.{has_session_count};
+ghost use Rattle.acvp_desk.specs.NewSessions.{new_session_in, newest_epoch, session_made_data};
+ghost use Rattle.acvp_desk.specs.OwnConditions.{new_session_conditions};
 
 use crate::body::registration_body;
 use crate::draft::{Draft, TOKEN_LIFE, told};
-use crate::found::Material;
 use crate::numbers::{MOST_ROWS, next_number};
 use acvp_gen::Seeds;
 use acvp_json::{Created, ReplyObject};
@@ -27,17 +22,6 @@ use std::alloc::{AllocError, Global};
 
 /// How many numbers each session has for its vector sets.
 const NUMBERS_OF_SESSION: u64 = 100;
-
-/// How many sessions the account that acts has.
-fn found_sessions(material: &Material) -> u64
-    requires { has_session_count material.now ≡ true }
-    ensures { sessions_in_material material.now ≡ Some result }
-{
-    let Material::SessionCount(sessions) = material else {
-        unreachable!()
-    };
-    *sessions
-}
 
 /// The place of the newest seed.
 fn newest_epoch(seeds: &Seeds) -> u64
@@ -91,35 +75,31 @@ fn told_session(alloc: Global, ring: &KeyRing, session: NewSession) -> Result<Dr
     told(alloc, &object, Some(Change::NewSession(session)))
 }
 
-/// What is given to who registers a new session, or the rule of the first condition on the body and the numbers that
-/// are left that doesn't hold.
+/// What is given to who registers a new session beside so many of its account, or the rule of the first condition on
+/// the body and the numbers that are left that doesn't hold.
 pub(crate) fn draft_new_session(
     alloc: Global,
     ring: &KeyRing,
     seeds: &Seeds,
     moment: u64,
     account: u16,
+    sessions: u64,
     body: &[u8],
-    material: &Material,
 ) -> Result<Draft, Rule>
-    requires moment { moment < end_of_moments }
-    requires material { has_session_count material.now ≡ true }
-    ensures held { IfOk result (λ _. first_broken (body_conditions registration_rule registration_conditions body.now
-        ++ (has_number_left (sessions_in_material material.now), rule.AccountFull) ∷ []) ≡ None) }
+    requires { moment < end_of_moments }
+    ensures held { IfOk result (λ _. first_broken (new_session_conditions body.now sessions) ≡ None) }
     ensures reply { IfOk result (λ draft. IsReply draft.reply.items
-        (option_map (session_made_data ring.now) (new_session_in seeds.now moment account body.now material.now))) }
+        (option_map (session_made_data ring.now) (new_session_in seeds.now moment account sessions body.now))) }
     ensures change { IfOk result (λ draft. draft.change
-        ≡ option_map change.NewSession (new_session_in seeds.now moment account body.now material.now)) }
+        ≡ option_map change.NewSession (new_session_in seeds.now moment account sessions body.now)) }
     ensures denied { IfErr result (λ denied. (denied ≡ Rule.Unavailable)
-        ⊎ (first_broken (body_conditions registration_rule registration_conditions body.now
-        ++ (has_number_left (sessions_in_material material.now), rule.AccountFull) ∷ []) ≡ Some denied)) }
+        ⊎ (first_broken (new_session_conditions body.now sessions) ≡ Some denied)) }
 {
     joined_conditions::<Rule>();
     let registration = match registration_body(alloc, body) {
         Ok(registration) => registration,
         Err(rule) => return Err(rule),
     };
-    let sessions = found_sessions(material);
     if sessions >= MOST_ROWS {
         return Err(Rule::AccountFull);
     }

@@ -3,8 +3,8 @@
 ghost use Rattle.std.specs.Prelude.{◌≡◌, ◌≢◌, ◌+◌, ◌≤◌, IfOk, option_map};
 ghost use Rattle.acvp_tables.specs.Calls.{Reads};
 ghost use Rattle.acvp_tables.specs.Content.{Content, request_at};
-ghost use Rattle.acvp_tables.specs.State.{first_of_account, state_of, IsSound};
-ghost use Rattle.acvp_tables.specs.declared.summary.RequestSubject.TheVariants as asks;
+ghost use Rattle.acvp_tables.specs.State.{first_of_account, state_of, AreWellNumbered};
+ghost use Rattle.acvp_tables.specs.declared.summary.RequestPurpose.TheVariants as asks;
 ghost use Rattle.acvp_desk.specs.Orders.{approved_as, is_initial, IsOrder, Orders};
 ghost use Rattle.acvp_desk.specs.Private.Waiting.{waiting_in};
 ghost use Rattle.acvp_desk.specs.declared.order.Order.TheVariants as order;
@@ -13,7 +13,7 @@ use crate::numbers::NUMBERS_OF_ACCOUNT;
 use crate::registry::kind_asked;
 use acvp_registry::Kind;
 use acvp_tables::{
-    Approval, Counted, NewAccount, OrderChange, RequestStatus, RequestSubject, RequestSummary,
+    Approval, Counted, NewAccount, OrderChange, RequestPurpose, RequestStatus, RequestSummary,
     StoreFault, Tables, numbers_count, numbers_name, selections_follow,
 };
 
@@ -120,7 +120,7 @@ fn registered(kind: Kind, so_many: u64) -> u64
 /// The number that an approval gives to what is registered of a kind.
 #[tactic(auto, unfolding(acvp_tables::specs::State::state_of))]
 fn registered_number<T: Tables>(tables: &mut T, account: u16, kind: Kind) -> Result<u64, StoreFault>
-    ensures found { T.meaning.is_live tables.new → IfOk result (λ number. (c : Content) → IsSound c
+    ensures found { T.meaning.is_open tables.new → IfOk result (λ number. (c : Content) → AreWellNumbered c
         → T.meaning.stands tables.old c → number ≡ approved_as (state_of c) account (asks.Registration kind)) }
     ensures reads { Reads T.faults T.meaning result tables.old tables.new }
 {
@@ -133,21 +133,21 @@ fn registered_number<T: Tables>(tables: &mut T, account: u16, kind: Kind) -> Res
 /// The request of a number, as far as the operator's decision goes.
 #[tactic(auto, unfolding(acvp_tables::specs::State::state_of))]
 fn find_waiting<T: Tables>(tables: &mut T, number: u64) -> Result<Option<Waiting>, StoreFault>
-    ensures found { T.meaning.is_live tables.new
-        → IfOk result (λ waiting. (c : Content) → IsSound c → T.meaning.stands tables.old c
+    ensures found { T.meaning.is_open tables.new
+        → IfOk result (λ waiting. (c : Content) → AreWellNumbered c → T.meaning.stands tables.old c
         → waiting ≡ option_map (waiting_in (state_of c)) (request_at number c.requests)) }
     ensures reads { Reads T.faults T.meaning result tables.old tables.new }
 {
     let Some(request) = tables.request(number)? else {
         return Ok(None);
     };
-    let approved = match request.subject {
-        RequestSubject::Registration(kind) => registered_number(tables, request.account, kind)?,
-        RequestSubject::Certification(certification) => certification.session,
+    let approved = match request.purpose {
+        RequestPurpose::Registration(kind) => registered_number(tables, request.account, kind)?,
+        RequestPurpose::Certification(certification) => certification.session,
     };
     Ok(Some(Waiting {
         initial: is_initial(request.status),
-        kind: kind_asked(request.subject),
+        kind: kind_asked(request.purpose),
         approved,
     }))
 }

@@ -1,43 +1,28 @@
 //! What is given to who asks the operator for a registration or a certification.
 
-ghost use Rattle.std.specs.Prelude.{◌≡◌, ◌⊎◌, ◌<◌, true, Some, None, IfOk, IfErr};
+ghost use Rattle.std.specs.Prelude.{◌≡◌, ◌⊎◌, ◌<◌, Some, None, IfOk, IfErr};
 ghost use Rattle.acvp_json.specs.Registry.{request_data};
 ghost use Rattle.acvp_mac.specs.Conditions.{first_broken};
 ghost use Rattle.acvp_registry.specs.declared.kind.Kind.TheVariants as of_kind;
 ghost use Rattle.acvp_desk.specs.Answer.{IsReply};
-ghost use Rattle.acvp_desk.specs.Asked.{asked_conditions, asked_in, asked_reply, certification_change};
-ghost use Rattle.acvp_desk.specs.Asked.{certification_conditions_on, next_request, registration_change};
-ghost use Rattle.acvp_desk.specs.Asked.{registration_conditions_on, request_waiting};
-ghost use Rattle.acvp_desk.specs.Place.{is_asked};
+ghost use Rattle.acvp_desk.specs.Asked.{requested_conditions, asked_conditions, asked_reply, certification_change};
+ghost use Rattle.acvp_desk.specs.Asked.{next_request, registration_change, request_waiting};
 
-use crate::body::{certify_read, object_read};
 use crate::draft::{Draft, told};
-use crate::found::{Asked, Material};
+use crate::found::Asked;
 use crate::numbers::{MOST_ROWS, next_number};
-use acvp_json::ReplyObject;
-use acvp_mac::joined_conditions;
+use acvp_json::{CertifyBody, ReplyObject};
 use acvp_policy::Rule;
-use acvp_registry::{Kind, PendingRequest, Status};
+use acvp_registry::{Kind, Object, PendingRequest, Status};
 use acvp_tables::{Certification, Change, NewCertification, NewRequest};
 use std::alloc::Global;
 
-/// What the request is judged by.
-fn found_asked(material: &Material) -> Asked
-    requires { is_asked material.now ≡ true }
-    ensures { asked_in material.now ≡ Some result }
-{
-    let Material::Asked(asked) = material else {
-        unreachable!()
-    };
-    *asked
-}
-
 /// The number of the account's next request, or the rule of the first condition beside those on the body that doesn't
 /// hold.
-pub(crate) fn next_request(account: u16, asked: Asked) -> Result<u64, Rule>
-    ensures ok { IfOk result (λ number. (first_broken (asked_conditions (Some asked)) ≡ None)
-        × (number ≡ next_request account asked)) }
-    ensures err { IfErr result (λ rule. first_broken (asked_conditions (Some asked)) ≡ Some rule) }
+pub(crate) fn next_request(account: u16, asked: &Asked) -> Result<u64, Rule>
+    ensures ok { IfOk result (λ number. (first_broken (asked_conditions asked.now) ≡ None)
+        × (number ≡ next_request account asked.now)) }
+    ensures err { IfErr result (λ rule. first_broken (asked_conditions asked.now) ≡ Some rule) }
 {
     if !asked.named {
         return Err(Rule::NoReference);
@@ -70,26 +55,21 @@ pub(crate) fn draft_registration(
     alloc: Global,
     account: u16,
     kind: Kind,
-    body: &[u8],
-    material: &Material,
+    object: Result<Object, Rule>,
+    asked: &Asked,
 ) -> Result<Draft, Rule>
-    requires { is_asked material.now ≡ true }
-    ensures held { IfOk result (λ _. first_broken (registration_conditions_on kind body.now (asked_in material.now))
-        ≡ None) }
+    ensures held { IfOk result (λ _. first_broken (requested_conditions object asked.now) ≡ None) }
     ensures reply { IfOk result
-        (λ draft. IsReply draft.reply.items (asked_reply kind account (asked_in material.now))) }
-    ensures change { IfOk result
-        (λ draft. draft.change ≡ registration_change kind account body.now (asked_in material.now)) }
+        (λ draft. IsReply draft.reply.items (Some (asked_reply kind account asked.now))) }
+    ensures change { IfOk result (λ draft. draft.change ≡ registration_change account object asked.now) }
     ensures denied { IfErr result (λ rule. (rule ≡ Rule.Unavailable)
-        ⊎ (first_broken (registration_conditions_on kind body.now (asked_in material.now)) ≡ Some rule)) }
+        ⊎ (first_broken (requested_conditions object asked.now) ≡ Some rule)) }
 {
-    joined_conditions::<Rule>();
-    let object = match object_read(alloc, kind, body) {
-        Ok(Ok(object)) => object,
-        Ok(Err(rule)) => return Err(rule),
-        Err(_) => return Err(Rule::Unavailable),
+    let object = match object {
+        Ok(object) => object,
+        Err(rule) => return Err(rule),
     };
-    let number = match next_request(account, found_asked(material)) {
+    let number = match next_request(account, asked) {
         Ok(number) => number,
         Err(rule) => return Err(rule),
     };
@@ -106,26 +86,22 @@ pub(crate) fn draft_certification(
     alloc: Global,
     account: u16,
     session: u64,
-    body: &[u8],
-    material: &Material,
+    parts: Result<CertifyBody, Rule>,
+    asked: &Asked,
 ) -> Result<Draft, Rule>
-    requires { is_asked material.now ≡ true }
-    ensures held { IfOk result (λ _. first_broken (certification_conditions_on body.now (asked_in material.now))
-        ≡ None) }
+    ensures held { IfOk result (λ _. first_broken (requested_conditions parts asked.now) ≡ None) }
     ensures reply { IfOk result
-        (λ draft. IsReply draft.reply.items (asked_reply of_kind.Certification account (asked_in material.now))) }
+        (λ draft. IsReply draft.reply.items (Some (asked_reply of_kind.Certification account asked.now))) }
     ensures change { IfOk result
-        (λ draft. draft.change ≡ certification_change account session body.now (asked_in material.now)) }
+        (λ draft. draft.change ≡ certification_change account session parts asked.now) }
     ensures denied { IfErr result (λ rule. (rule ≡ Rule.Unavailable)
-        ⊎ (first_broken (certification_conditions_on body.now (asked_in material.now)) ≡ Some rule)) }
+        ⊎ (first_broken (requested_conditions parts asked.now) ≡ Some rule)) }
 {
-    joined_conditions::<Rule>();
-    let parts = match certify_read(alloc, body) {
-        Ok(Ok(parts)) => parts,
-        Ok(Err(rule)) => return Err(rule),
-        Err(_) => return Err(Rule::Unavailable),
+    let parts = match parts {
+        Ok(parts) => parts,
+        Err(rule) => return Err(rule),
     };
-    let number = match next_request(account, found_asked(material)) {
+    let number = match next_request(account, asked) {
         Ok(number) => number,
         Err(rule) => return Err(rule),
     };

@@ -1,37 +1,32 @@
 //! What is given on the registries and the requests of an account.
 
-ghost use Rattle.std.specs.Prelude.{◌≡◌, ◌⊎◌, List, map, true, Some, None, IfOk, IfErr};
-ghost use Rattle.acvp_json.specs.Page.{page_data};
-ghost use Rattle.acvp_json.specs.Registry.{registered_data, request_data};
-ghost use Rattle.acvp_json.specs.Urls.{list_path};
+ghost use Rattle.std.specs.Prelude.{◌≡◌, ◌⊎◌, List, map, option_map, Some, None, IfOk, IfErr};
+ghost use Rattle.acvp_json.specs.Registry.{registered_data};
 ghost use Rattle.acvp_mac.specs.Conditions.{first_broken};
-ghost use Rattle.acvp_registry.specs.declared.kind.Kind.TheVariants.{Certification};
 ghost use Rattle.acvp_desk.specs.Answer.{IsReply};
 ghost use Rattle.acvp_desk.specs.OwnConditions.{page_conditions, registry_conditions};
-ghost use Rattle.acvp_desk.specs.Place.{is_for_registry};
-ghost use Rattle.acvp_desk.specs.Registries.{kind_asked, kind_of, object_reply, object_shown, objects_reply};
-ghost use Rattle.acvp_desk.specs.Registries.{request_reply, request_shown, requests_reply, status_shown};
+ghost use Rattle.acvp_desk.specs.Registries.{kind_asked, kind_of, object_shown, objects_reply, request_reply};
+ghost use Rattle.acvp_desk.specs.Registries.{request_shown, requests_reply, status_shown};
 ghost use Rattle.acvp_desk.specs.Replies.{registry_change, registry_reply};
 
 use crate::draft::{Draft, told};
-use crate::found::Material;
+use crate::found::{ObjectsPage, RegistryPlace, RequestsPage};
 use crate::registration::draft_registration;
-use crate::wish::{Registry, RegistryWish};
-use acvp_json::{Page, Registered, ReplyObject};
+use acvp_json::{Registered, ReplyObject};
 use acvp_policy::Rule;
 use acvp_registry::{Kind, PendingRequest, Status};
-use acvp_tables::{ObjectRow, RequestStatus, RequestSubject, RequestSummary};
+use acvp_tables::{ObjectRow, RequestPurpose, RequestStatus, RequestSummary};
 use std::alloc::{AllocError, Global};
 
 // ---- what is shown
 
 /// The kind of what a request asks for.
-pub(crate) fn kind_asked(subject: RequestSubject) -> Kind
+pub(crate) fn kind_asked(subject: RequestPurpose) -> Kind
     ensures { result ≡ kind_asked subject }
 {
     match subject {
-        RequestSubject::Registration(kind) => kind,
-        RequestSubject::Certification(_) => Kind::Certification,
+        RequestPurpose::Registration(kind) => kind,
+        RequestPurpose::Certification(_) => Kind::Certification,
     }
 }
 
@@ -46,7 +41,7 @@ fn request_shown(row: &RequestSummary) -> PendingRequest
     };
     PendingRequest {
         number: row.number,
-        kind: kind_asked(row.subject),
+        kind: kind_asked(row.purpose),
         status,
         approved,
     }
@@ -84,12 +79,12 @@ fn requests_shown(alloc: Global, rows: &[RequestSummary]) -> Result<Vec<PendingR
 
 /// What is given to who reads an object. One that isn't there was refused before.
 #[tactic(auto, unfolding(acvp_json::specs::ReplyData::reply_data))]
-fn draft_object(alloc: Global, material: &Material) -> Result<Draft, Rule>
-    ensures reply { IfOk result (λ draft. IsReply draft.reply.items (object_reply material.now)) }
+fn draft_object(alloc: Global, row: &Option<ObjectRow>) -> Result<Draft, Rule>
+    ensures reply { IfOk result (λ draft. IsReply draft.reply.items (option_map object_shown row.now)) }
     ensures change { IfOk result (λ draft. draft.change ≡ None) }
     ensures denied { IfErr result (λ rule. rule ≡ Rule.Unavailable) }
 {
-    let Material::Object(Some(row)) = material else {
+    let Some(row) = row else {
         return Err(Rule::Unavailable);
     };
     let object = Registered {
@@ -101,105 +96,63 @@ fn draft_object(alloc: Global, material: &Material) -> Result<Draft, Rule>
 
 /// What is given to who reads a request. One that isn't there was refused before.
 #[tactic(auto, unfolding(acvp_json::specs::ReplyData::reply_data))]
-fn draft_request(alloc: Global, material: &Material) -> Result<Draft, Rule>
-    ensures reply { IfOk result (λ draft. IsReply draft.reply.items (request_reply material.now)) }
+fn draft_request(alloc: Global, row: &Option<RequestSummary>) -> Result<Draft, Rule>
+    ensures reply { IfOk result (λ draft. IsReply draft.reply.items (option_map request_reply row.now)) }
     ensures change { IfOk result (λ draft. draft.change ≡ None) }
     ensures denied { IfErr result (λ rule. rule ≡ Rule.Unavailable) }
 {
-    let Material::Request(Some(row)) = material else {
+    let Some(row) = row else {
         return Err(Rule::Unavailable);
     };
     let request = request_shown(row);
     told(alloc, &ReplyObject::Request { request }, None)
 }
 
-/// What is told of a page of a registry.
+/// What is given to who lists what a registry holds, where the query is a page.
 #[tactic(auto, unfolding(acvp_json::specs::ReplyData::reply_data))]
-fn told_objects(
-    alloc: Global,
-    kind: Kind,
-    page: Page,
-    total: u64,
-    rows: &[ObjectRow],
-) -> Result<Draft, Rule>
-    ensures reply { IfOk result
-        (λ draft. IsReply draft.reply.items (Some (page_data object_shown (list_path kind) page total rows.now))) }
+fn draft_objects(alloc: Global, kind: Kind, found: &Option<ObjectsPage>) -> Result<Draft, Rule>
+    ensures held { IfOk result (λ _. first_broken (page_conditions found.now) ≡ None) }
+    ensures reply { IfOk result (λ draft. IsReply draft.reply.items (option_map (objects_reply kind) found.now)) }
     ensures change { IfOk result (λ draft. draft.change ≡ None) }
-    ensures denied { IfErr result (λ rule. rule ≡ Rule.Unavailable) }
+    ensures denied { IfErr result (λ rule. (rule ≡ Rule.Unavailable)
+        ⊎ (first_broken (page_conditions found.now) ≡ Some rule)) }
 {
-    let Ok(objects) = objects_shown(alloc, rows) else {
+    let Some(found) = found else {
+        return Err(Rule::BadPage);
+    };
+    let Ok(objects) = objects_shown(alloc, &found.objects.rows) else {
         return Err(Rule::Unavailable);
     };
     let object = ReplyObject::ListObjects {
         kind,
-        page,
-        total,
+        page: found.page,
+        total: found.total,
         objects: &objects,
     };
     told(alloc, &object, None)
 }
 
-/// What is told of a page of requests.
+/// What is given to who lists requests, where the query is a page.
 #[tactic(auto, unfolding(acvp_json::specs::ReplyData::reply_data))]
-fn told_requests(
-    alloc: Global,
-    page: Page,
-    total: u64,
-    rows: &[RequestSummary],
-) -> Result<Draft, Rule>
-    ensures reply { IfOk result (λ draft. IsReply draft.reply.items
-        (Some (page_data request_data (list_path Certification) page total (map request_shown rows.now)))) }
+fn draft_requests(alloc: Global, found: &Option<RequestsPage>) -> Result<Draft, Rule>
+    ensures held { IfOk result (λ _. first_broken (page_conditions found.now) ≡ None) }
+    ensures reply { IfOk result (λ draft. IsReply draft.reply.items (option_map requests_reply found.now)) }
     ensures change { IfOk result (λ draft. draft.change ≡ None) }
-    ensures denied { IfErr result (λ rule. rule ≡ Rule.Unavailable) }
+    ensures denied { IfErr result (λ rule. (rule ≡ Rule.Unavailable)
+        ⊎ (first_broken (page_conditions found.now) ≡ Some rule)) }
 {
-    let Ok(requests) = requests_shown(alloc, rows) else {
+    let Some(found) = found else {
+        return Err(Rule::BadPage);
+    };
+    let Ok(requests) = requests_shown(alloc, &found.requests.rows) else {
         return Err(Rule::Unavailable);
     };
     let object = ReplyObject::ListRequests {
-        page,
-        total,
+        page: found.page,
+        total: found.total,
         requests: &requests,
     };
     told(alloc, &object, None)
-}
-
-/// What is given to who lists what a registry holds, where the query is a page.
-fn draft_objects(
-    alloc: Global,
-    kind: Kind,
-    page: Option<Page>,
-    material: &Material,
-) -> Result<Draft, Rule>
-    ensures held { IfOk result (λ _. first_broken (page_conditions page) ≡ None) }
-    ensures reply { IfOk result (λ draft. IsReply draft.reply.items (objects_reply kind page material.now)) }
-    ensures change { IfOk result (λ draft. draft.change ≡ None) }
-    ensures denied { IfErr result (λ rule. (rule ≡ Rule.Unavailable)
-        ⊎ (first_broken (page_conditions page) ≡ Some rule)) }
-{
-    let Some(page) = page else {
-        return Err(Rule::BadPage);
-    };
-    let Material::Objects(total, objects) = material else {
-        return Err(Rule::Unavailable);
-    };
-    told_objects(alloc, kind, page, *total, &objects.rows)
-}
-
-/// What is given to who lists requests, where the query is a page.
-fn draft_requests(alloc: Global, page: Option<Page>, material: &Material) -> Result<Draft, Rule>
-    ensures held { IfOk result (λ _. first_broken (page_conditions page) ≡ None) }
-    ensures reply { IfOk result (λ draft. IsReply draft.reply.items (requests_reply page material.now)) }
-    ensures change { IfOk result (λ draft. draft.change ≡ None) }
-    ensures denied { IfErr result (λ rule. (rule ≡ Rule.Unavailable)
-        ⊎ (first_broken (page_conditions page) ≡ Some rule)) }
-{
-    let Some(page) = page else {
-        return Err(Rule::BadPage);
-    };
-    let Material::Requests(total, requests) = material else {
-        return Err(Rule::Unavailable);
-    };
-    told_requests(alloc, page, *total, &requests.rows)
 }
 
 /// What is given on the registries and requests of an account, or the rule of the first condition of the action's own
@@ -207,24 +160,21 @@ fn draft_requests(alloc: Global, page: Option<Page>, material: &Material) -> Res
 pub(crate) fn draft_registry(
     alloc: Global,
     account: u16,
-    body: &[u8],
-    material: &Material,
-    wish: RegistryWish,
+    place: RegistryPlace,
 ) -> Result<Draft, Rule>
-    requires { is_for_registry wish material.now ≡ true }
-    ensures held { IfOk result (λ _. first_broken (registry_conditions body.now material.now wish) ≡ None) }
-    ensures reply { IfOk result (λ draft. IsReply draft.reply.items (registry_reply account material.now wish)) }
-    ensures change { IfOk result (λ draft. draft.change ≡ registry_change account body.now material.now wish) }
+    ensures held { IfOk result (λ _. first_broken (registry_conditions place) ≡ None) }
+    ensures reply { IfOk result (λ draft. IsReply draft.reply.items (registry_reply account place)) }
+    ensures change { IfOk result (λ draft. draft.change ≡ registry_change account place) }
     ensures denied { IfErr result (λ rule. (rule ≡ Rule.Unavailable)
-        ⊎ (first_broken (registry_conditions body.now material.now wish) ≡ Some rule)) }
+        ⊎ (first_broken (registry_conditions place) ≡ Some rule)) }
 {
-    match wish {
-        RegistryWish::Read(_, _) => draft_object(alloc, material),
-        RegistryWish::New(registry) => {
-            draft_registration(alloc, account, registry.kind(), body, material)
+    match place {
+        RegistryPlace::Object(_, _, row) => draft_object(alloc, &row),
+        RegistryPlace::New(registry, object, asked) => {
+            draft_registration(alloc, account, registry.kind(), object, &asked)
         }
-        RegistryWish::List(registry, page) => draft_objects(alloc, registry.kind(), page, material),
-        RegistryWish::ReadRequest(_) => draft_request(alloc, material),
-        RegistryWish::ListRequests(page) => draft_requests(alloc, page, material),
+        RegistryPlace::Objects(registry, found) => draft_objects(alloc, registry.kind(), &found),
+        RegistryPlace::Request(_, row) => draft_request(alloc, &row),
+        RegistryPlace::Requests(found) => draft_requests(alloc, &found),
     }
 }

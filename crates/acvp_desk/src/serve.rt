@@ -1,22 +1,23 @@
 //! A request is served: found, decided, drafted, and carried out.
 
-ghost use Rattle.std.specs.Prelude.{◌≡◌, ◌<◌, ◌⊎◌, None, Some, IfOk, IfErr};
+ghost use Rattle.std.specs.Prelude.{◌≡◌, ◌<◌, ◌⊎◌, true, None, Some, IfOk, IfErr};
 ghost use Rattle.acvp_mac.specs.Conditions.{first_broken};
-ghost use Rattle.acvp_desk.specs.Answer.{change_of, end_of_moments, later_conditions, reply_of, IsOf, IsReply};
-ghost use Rattle.acvp_desk.specs.Answer.{CoversAny};
+ghost use Rattle.acvp_desk.specs.Answer.{action_in, change_of, end_of_moments, is_fit, later_conditions};
+ghost use Rattle.acvp_desk.specs.Answer.{reply_of, CoversAny, IsReply};
 ghost use Rattle.acvp_desk.specs.Desk.{keys_of};
 ghost use Rattle.acvp_desk.specs.Private.Admitted.{IsAdmitted};
 ghost use Rattle.acvp_desk.specs.Request.{request_value};
 ghost use Rattle.acvp_desk.specs.Serves.{Serves};
 
-use crate::ask::{Asker, asker_for};
+use crate::ask::asker_for;
 use crate::cache::Cache;
 use crate::draft::{Draft, draft_for};
+use crate::facts::facts_in;
 use crate::find::find;
-use crate::found::{Found, facts_for};
+use crate::found::Found;
 use crate::laws::records_are_kept;
 use crate::request::TypedRequest;
-use acvp_policy::{Grant, Rule, decide_admitted, granted_resources, release};
+use acvp_policy::{Action, Grant, Rule, decide_admitted, granted_resources, release};
 use acvp_tables::Tables;
 use acvp_token::KeyRing;
 use std::alloc::Global;
@@ -34,31 +35,31 @@ fn plan(
     ring: &KeyRing,
     cache: &mut Cache,
     moment: u64,
-    request: &TypedRequest<'_>,
-    ask: &Asker,
+    body: &[u8],
+    action: Action,
     found: Found,
 ) -> Result<Allowed, Rule>
     requires moment { moment < end_of_moments }
-    requires of { IsOf ask.now found }
-    requires admitted { IsAdmitted moment ask.now found }
+    requires action { action_in found ≡ action }
+    requires fit { is_fit found ≡ true }
+    requires admitted { IsAdmitted moment found }
     ensures held { IfOk result
-        (λ _. first_broken (later_conditions cache.old.seeds moment (request_value request.now) ask.now found) ≡ None) }
+        (λ _. first_broken (later_conditions cache.old.seeds moment body.now found) ≡ None) }
     ensures reply { IfOk result (λ allowed. IsReply allowed.draft.reply.items
-        (reply_of (keys_of ring.now cache.old.seeds) moment (request_value request.now) ask.now found)) }
-    ensures change { IfOk result (λ allowed. allowed.draft.change ≡ change_of (keys_of ring.now cache.old.seeds) moment
-        (request_value request.now) ask.now found) }
+        (reply_of (keys_of ring.now cache.old.seeds) moment body.now found)) }
+    ensures change { IfOk result (λ allowed. allowed.draft.change
+        ≡ change_of (keys_of ring.now cache.old.seeds) moment body.now found) }
     ensures seeds { cache.new.seeds ≡ cache.old.seeds }
     ensures covers { IfOk result (λ allowed. CoversAny allowed.grant allowed.draft.change) }
     ensures denied { IfErr result (λ rule. (rule ≡ Rule.Unavailable)
-        ⊎ (first_broken (later_conditions cache.old.seeds moment (request_value request.now) ask.now found)
-        ≡ Some rule)) }
+        ⊎ (first_broken (later_conditions cache.old.seeds moment body.now found) ≡ Some rule)) }
 {
     granted_resources();
-    let grant = match decide_admitted(ask.action(), &facts_for(moment, ask, &found)) {
+    let grant = match decide_admitted(action, &facts_in(moment, &found)) {
         Ok(grant) => grant,
         Err(rule) => return Err(rule),
     };
-    match draft_for(alloc, ring, cache, moment, request, ask, found) {
+    match draft_for(alloc, ring, cache, moment, body, found) {
         Ok(draft) => Ok(Allowed { grant, draft }),
         Err(rule) => {
             release(grant);
@@ -96,7 +97,16 @@ pub(crate) fn serve<T: Tables>(
         Ok(found) => found,
         Err(rule) => return Err(rule),
     };
-    let Allowed { grant, draft } = match plan(alloc, ring, cache, moment, request, &ask, found) {
+    let action = ask.action();
+    let Allowed { grant, draft } = match plan(
+        alloc,
+        ring,
+        cache,
+        moment,
+        request.body,
+        action,
+        found,
+    ) {
         Ok(allowed) => allowed,
         Err(rule) => return Err(rule),
     };

@@ -1,25 +1,20 @@
 //! What is given to who reads a test session or its lists, or cancels it.
 
-ghost use Rattle.std.specs.Prelude.{◌≡◌, ◌⊎◌, ◌<◌, map, true, Some, None, IfOk, IfErr, is_some};
-ghost use Rattle.acvp_policy.specs.Conditions.{session_found};
-ghost use Rattle.acvp_desk.specs.Answer.{end_of_moments, IsReply};
-ghost use Rattle.acvp_desk.specs.Place.{is_for_session, has_sets};
+ghost use Rattle.std.specs.Prelude.{◌≡◌, ◌⊎◌, ◌<◌, map, Some, None, IfOk, IfErr};
+ghost use Rattle.acvp_json.specs.Session.{session_data, session_results_data};
 ghost use Rattle.acvp_mac.specs.Conditions.{first_broken};
+ghost use Rattle.acvp_desk.specs.Answer.{end_of_moments, IsReply};
 ghost use Rattle.acvp_desk.specs.OwnConditions.{session_conditions};
-ghost use Rattle.acvp_desk.specs.Request.{request_value};
-ghost use Rattle.acvp_desk.specs.Replies.{disposition_at, facts_reply, result_shown, results_reply, session_reply};
-ghost use Rattle.acvp_desk.specs.Replies.{session_shown, session_status, session_change, sets_in_material};
-ghost use Rattle.acvp_desk.specs.declared.wish.SessionWish.TheVariants as on_session;
+ghost use Rattle.acvp_desk.specs.Replies.{disposition_at, result_shown, session_change, session_reply, session_shown};
+ghost use Rattle.acvp_desk.specs.Replies.{session_status};
 
 use crate::ask::END_OF_MOMENTS;
 use crate::draft::{Draft, told};
-use crate::found::{Found, Material, SetOutcome};
-use crate::request::TypedRequest;
-use crate::reviewers::{draft_added, found_reviewers};
-use crate::wish::SessionWish;
+use crate::found::{SessionPlace, SetOutcome};
+use crate::reviewers::draft_added;
 use acvp_answers::Disposition;
 use acvp_json::{Created, ReplyObject, Session, SessionStatus, SetResult};
-use acvp_policy::{CertificationStatus, Rule, SessionFacts, SessionSubject, Subject};
+use acvp_policy::{CertificationStatus, Rule, SessionFacts};
 use acvp_tables::Change;
 use std::alloc::{AllocError, Global};
 
@@ -58,7 +53,8 @@ fn session_shown(number: u64, facts: &SessionFacts) -> Result<Session, Rule>
 #[tactic(auto, unfolding(acvp_json::specs::ReplyData::reply_data))]
 fn draft_read(alloc: Global, number: u64, facts: &SessionFacts, sets: &[u64]) -> Result<Draft, Rule>
     ensures reply { IfOk result
-        (λ draft. IsReply draft.reply.items (facts_reply number (Some facts.now) (Some sets.now))) }
+        (λ draft. IsReply draft.reply.items
+        (Some (session_data (session_shown number facts.now) facts.now.passed sets.now))) }
     ensures change { IfOk result (λ draft. draft.change ≡ None) }
     ensures denied { IfErr result (λ rule. rule ≡ Rule.Unavailable) }
 {
@@ -69,34 +65,6 @@ fn draft_read(alloc: Global, number: u64, facts: &SessionFacts, sets: &[u64]) ->
         sets,
     };
     told(alloc, &object, None)
-}
-
-/// How the session of a path stands.
-fn found_facts(subject: &Subject) -> &SessionFacts
-    requires { is_some (session_found subject.now) ≡ true }
-    ensures { session_found subject.now ≡ Some result.now }
-{
-    let Subject::Session(
-        SessionSubject {
-            found: Some(facts),
-            ..
-        },
-    ) = subject
-    else {
-        unreachable!()
-    };
-    facts
-}
-
-/// The vector sets that were found.
-fn found_sets(material: &Material) -> &[u64]
-    requires { has_sets material.now ≡ true }
-    ensures { sets_in_material material.now ≡ Some result.now }
-{
-    let Material::Sets(sets) = material else {
-        unreachable!()
-    };
-    &sets.numbers
 }
 
 /// What a vector set comes to at a moment, by the creation of its session, which is so early that it ends before the
@@ -146,7 +114,8 @@ fn draft_results(
     outcomes: &[SetOutcome],
 ) -> Result<Draft, Rule>
     ensures reply { IfOk result
-        (λ draft. IsReply draft.reply.items (results_reply moment (Some facts.now) (Some outcomes.now))) }
+        (λ draft. IsReply draft.reply.items
+        (Some (session_results_data facts.now.passed (map (result_shown moment facts.now) outcomes.now)))) }
     ensures change { IfOk result (λ draft. draft.change ≡ None) }
     ensures denied { IfErr result (λ rule. rule ≡ Rule.Unavailable) }
 {
@@ -163,32 +132,26 @@ fn draft_results(
     told(alloc, &object, None)
 }
 
-/// What is given on a session.
+/// What is given on a session that stands so.
 #[tactic(auto, unfolding(acvp_json::specs::ReplyData::reply_data))]
 pub(crate) fn draft_session(
     alloc: Global,
     moment: u64,
     number: u64,
-    request: &TypedRequest<'_>,
-    it: SessionWish,
-    found: &Found,
+    body: &[u8],
+    it: &SessionPlace,
+    facts: &SessionFacts,
 ) -> Result<Draft, Rule>
-    requires there { is_some (session_found found.now.subject) ≡ true }
-    requires material { is_for_session it found.now.material ≡ true }
-    ensures held { IfOk result (λ _. first_broken (session_conditions (request_value request.now) found.now it)
-        ≡ None) }
+    ensures held { IfOk result (λ _. first_broken (session_conditions body.now it.now) ≡ None) }
     ensures reply { IfOk result
-        (λ draft. IsReply draft.reply.items (session_reply moment number (request_value request.now) found.now it)) }
-    ensures change { IfOk result (λ draft. draft.change ≡ session_change number (request_value request.now) it) }
+        (λ draft. IsReply draft.reply.items (session_reply moment number body.now it.now facts.now)) }
+    ensures change { IfOk result (λ draft. draft.change ≡ session_change number body.now it.now) }
     ensures denied { IfErr result (λ rule. (rule ≡ Rule.Unavailable)
-        ⊎ (first_broken (session_conditions (request_value request.now) found.now it) ≡ Some rule)) }
+        ⊎ (first_broken (session_conditions body.now it.now) ≡ Some rule)) }
 {
     match it {
-        SessionWish::Read => {
-            let facts = found_facts(&found.subject);
-            draft_read(alloc, number, facts, found_sets(&found.material))
-        }
-        SessionWish::Cancel => {
+        SessionPlace::Read(sets) => draft_read(alloc, number, facts, &sets.numbers),
+        SessionPlace::Cancel => {
             let cancelled = Some(Change::CancelSession(number));
             told(
                 alloc,
@@ -196,21 +159,17 @@ pub(crate) fn draft_session(
                 cancelled,
             )
         }
-        SessionWish::Results => {
-            let facts = found_facts(&found.subject);
-            let Material::Outcomes(outcomes) = &found.material else {
-                unreachable!()
-            };
-            draft_results(alloc, moment, facts, &outcomes.sets)
-        }
-        SessionWish::ListSets => {
-            let sets = found_sets(&found.material);
+        SessionPlace::Results(outcomes) => draft_results(alloc, moment, facts, &outcomes.sets),
+        SessionPlace::ListSets(sets) => {
+            let sets = &sets.numbers;
             told(alloc, &ReplyObject::ListSets { sets }, None)
         }
-        SessionWish::ListReviewers => {
-            let accounts = found_reviewers(&found.material);
+        SessionPlace::ListReviewers(reviewers) => {
+            let accounts = &reviewers.numbers;
             told(alloc, &ReplyObject::Reviewers { accounts }, None)
         }
-        SessionWish::AddReviewer => draft_added(alloc, number, request.body, &found.material),
+        SessionPlace::AddReviewer(reviewers) => {
+            draft_added(alloc, number, body, &reviewers.numbers)
+        }
     }
 }

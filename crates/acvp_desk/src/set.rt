@@ -1,47 +1,27 @@
 //! What is given on a vector set: its prompts, its expected answers, its results, or that answers to it are kept.
 
-ghost use Rattle.std.specs.Prelude.{◌≡◌, ◌⊎◌, ◌++◌, [], map, true, Some, None, IfOk, IfErr, is_some, slice_get};
+ghost use Rattle.std.specs.Prelude.{◌≡◌, ◌⊎◌, ◌++◌, [], map, Some, None, IfOk, IfErr};
 ghost use Rattle.acvp_answers.specs.Standards.{standard_of};
 ghost use Rattle.acvp_answers.specs.Verdicts.{verdicts_of};
 ghost use Rattle.acvp_answers.specs.declared.verdict.Verdict.TheVariants as verdict;
 ghost use Rattle.acvp_mac.specs.Conditions.{first_broken};
-ghost use Rattle.acvp_policy.specs.Conditions.{set_found};
 ghost use Rattle.acvp_desk.specs.Answer.{IsReply};
 ghost use Rattle.acvp_desk.specs.Cached.{HasItsStandard, StaysTrue};
 ghost use Rattle.acvp_desk.specs.OwnConditions.{set_conditions};
 ghost use Rattle.acvp_desk.specs.Replies.{prompts_reply, set_change, set_reply, set_results_reply, source_reply};
-ghost use Rattle.acvp_desk.specs.Sets.{is_for_set};
 
 use crate::ask::END_OF_MOMENTS;
 use crate::cache::Cache;
 use crate::draft::{Draft, told};
 use crate::entry::Entry;
-use crate::found::{Material, SetSource};
+use crate::found::{ByPrompts, SetPlace, SetSource};
 use crate::session::disposition_at;
 use crate::submit::draft_answers;
-use crate::wish::SetWish;
 use acvp_answers::{Disposition, Verdict, disposition};
 use acvp_gen::{Group, Prompts};
 use acvp_json::ReplyObject;
-use acvp_policy::{Rule, SetFacts, SetSubject, Subject};
+use acvp_policy::{Rule, SetFacts};
 use std::alloc::{AllocError, Global};
-
-/// How the vector set of a path stands.
-fn found_facts(subject: &Subject) -> &SetFacts
-    requires { is_some (set_found subject.now) ≡ true }
-    ensures { set_found subject.now ≡ Some result.now }
-{
-    let Subject::Set(
-        SetSubject {
-            found: Some(facts),
-            ..
-        },
-    ) = subject
-    else {
-        unreachable!()
-    };
-    facts
-}
 
 /// Adds that each test of a group isn't answered.
 fn add_missing(verdicts: &mut Vec<Verdict>, group: &Group) -> Result<(), AllocError>
@@ -98,25 +78,25 @@ fn told_of(
     moment: u64,
     number: u64,
     facts: &SetFacts,
-    it: SetWish,
+    it: ByPrompts,
     entry: &mut Entry,
 ) -> Result<Draft, Rule>
     requires { HasItsStandard entry.old }
     ensures reply { IfOk result
-        (λ draft. IsReply draft.reply.items (prompts_reply moment number facts.now it entry.old.prompts)) }
+        (λ draft. IsReply draft.reply.items (Some (prompts_reply moment number facts.now it entry.old.prompts))) }
     ensures change { IfOk result (λ draft. draft.change ≡ None) }
     ensures denied { IfErr result (λ rule. rule ≡ Rule.Unavailable) }
     ensures stays { StaysTrue entry.old entry.new }
 {
     match it {
-        SetWish::Read => {
+        ByPrompts::Prompts => {
             let object = ReplyObject::ReadSet {
                 sample: facts.session.sample,
                 prompts: entry.prompts(),
             };
             told(alloc, &object, None)
         }
-        SetWish::Expected => {
+        ByPrompts::Expected => {
             if entry.complete(alloc).is_err() {
                 return Err(Rule::Unavailable);
             }
@@ -126,14 +106,12 @@ fn told_of(
             };
             told(alloc, &object, None)
         }
-        SetWish::Results => {
+        ByPrompts::Results => {
             let Ok(verdicts) = all_missing(alloc, entry.prompts()) else {
                 return Err(Rule::Unavailable);
             };
             told_results(alloc, moment, number, facts, None, &verdicts)
         }
-        // Answers aren't kept without what they are counted with.
-        SetWish::Submit | SetWish::Resubmit => Err(Rule::Unavailable),
     }
 }
 
@@ -145,11 +123,11 @@ fn draft_made(
     moment: u64,
     number: u64,
     facts: &SetFacts,
-    it: SetWish,
+    it: ByPrompts,
     source: SetSource,
 ) -> Result<Draft, Rule>
     ensures reply { IfOk result
-        (λ draft. IsReply draft.reply.items (source_reply cache.old.seeds moment number facts.now it (Some source))) }
+        (λ draft. IsReply draft.reply.items (source_reply cache.old.seeds moment number facts.now it source)) }
     ensures change { IfOk result (λ draft. draft.change ≡ None) }
     ensures seeds { cache.new.seeds ≡ cache.old.seeds }
     ensures denied { IfErr result (λ rule. rule ≡ Rule.Unavailable) }
@@ -166,42 +144,43 @@ fn draft_made(
     draft
 }
 
-/// What is given on a vector set.
+/// What is given on a vector set that stands so.
 pub(crate) fn draft_set(
     alloc: Global,
     cache: &mut Cache,
     moment: u64,
     session: u64,
     number: u64,
-    it: SetWish,
     body: &[u8],
-    subject: &Subject,
-    material: Material,
+    it: SetPlace,
+    facts: &SetFacts,
 ) -> Result<Draft, Rule>
-    requires there { is_some (set_found subject.now) ≡ true }
-    requires material { is_for_set it material ≡ true }
-    ensures held { IfOk result (λ _. first_broken (set_conditions cache.old.seeds number body.now material) ≡ None) }
-    ensures reply { IfOk result (λ draft. IsReply draft.reply.items
-        (set_reply cache.old.seeds moment number it (set_found subject.now) material)) }
-    ensures change { IfOk result (λ draft. draft.change ≡ set_change cache.old.seeds session number body.now material) }
+    ensures held { IfOk result (λ _. first_broken (set_conditions cache.old.seeds number body.now it) ≡ None) }
+    ensures reply { IfOk result
+        (λ draft. IsReply draft.reply.items (set_reply cache.old.seeds moment number it facts.now)) }
+    ensures change { IfOk result (λ draft. draft.change ≡ set_change cache.old.seeds session number body.now it) }
     ensures seeds { cache.new.seeds ≡ cache.old.seeds }
     ensures denied { IfErr result (λ rule. (rule ≡ Rule.Unavailable)
-        ⊎ (first_broken (set_conditions cache.old.seeds number body.now material) ≡ Some rule)) }
+        ⊎ (first_broken (set_conditions cache.old.seeds number body.now it) ≡ Some rule)) }
 {
-    let facts = found_facts(subject);
-    match material {
-        Material::Source(Some(source)) => {
-            draft_made(alloc, cache, moment, number, facts, it, source)
+    match it {
+        SetPlace::Made(shown, Some(source)) => {
+            draft_made(alloc, cache, moment, number, facts, shown, source)
         }
-        Material::Verdicts(found) => {
+        SetPlace::Verdicts(found) => {
             let verdicts = &found.verdicts;
             let came_to = disposition(verdicts);
             told_results(alloc, moment, number, facts, Some(came_to), verdicts)
         }
-        Material::Submission(Some(submission)) => {
+        SetPlace::Submit(Some(submission)) => {
+            draft_answers(alloc, cache, session, number, body, submission)
+        }
+        SetPlace::Resubmit(Some(submission)) => {
             draft_answers(alloc, cache, session, number, body, submission)
         }
         // The row of the set was found, but not its capability: it stands for nothing.
-        _ => Err(Rule::Unavailable),
+        SetPlace::Made(_, None) | SetPlace::Submit(None) | SetPlace::Resubmit(None) => {
+            Err(Rule::Unavailable)
+        }
     }
 }

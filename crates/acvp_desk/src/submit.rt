@@ -1,15 +1,13 @@
 //! What is given to who submits answers to a vector set.
 
-ghost use Rattle.std.specs.Prelude.{◌≡◌, ◌⊎◌, codes, Some, None, option_and_then, IfOk, IfErr, IfSome};
-ghost use Rattle.acvp_json.specs.Session.{outcome_data};
-ghost use Rattle.acvp_json.specs.Urls.{results_url};
+ghost use Rattle.std.specs.Prelude.{◌≡◌, ◌⊎◌, Some, None, option_and_then, IfOk, IfErr, IfSome};
 ghost use Rattle.acvp_mac.specs.Conditions.{first_broken};
 ghost use Rattle.acvp_policy.specs.Conditions.{is_some_and};
 ghost use Rattle.acvp_tables.specs.Counted.{is_passed, one_if};
 ghost use Rattle.acvp_desk.specs.Answer.{IsReply};
 ghost use Rattle.acvp_desk.specs.Cached.{HasItsStandard, StaysTrue};
 ghost use Rattle.acvp_desk.specs.OwnConditions.{prompted_conditions};
-ghost use Rattle.acvp_desk.specs.Replies.{prompts_from, submission_change};
+ghost use Rattle.acvp_desk.specs.Replies.{prompts_from, received_reply, submission_change};
 ghost use Rattle.acvp_desk.specs.Submissions.{answers_conditions, graded_at, kept_answers};
 
 use crate::body::answers_body;
@@ -112,7 +110,7 @@ pub(crate) fn draft_answers(
         (λ _. first_broken (prompted_conditions body.now (prompts_from cache.old.seeds number submission.source))
         ≡ None) }
     ensures reply { IfOk result
-        (λ draft. IsReply draft.reply.items (Some (outcome_data (codes "received") (results_url number)))) }
+        (λ draft. IsReply draft.reply.items (Some (received_reply number submission))) }
     ensures change { IfOk result
         (λ draft. draft.change ≡ submission_change cache.old.seeds session number body.now submission) }
     ensures seeds { cache.new.seeds ≡ cache.old.seeds }

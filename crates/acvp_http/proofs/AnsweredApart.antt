@@ -3,7 +3,7 @@ use Rattle.std.proofs.Common.{◌≡◌, inl, inr, ℕ, List, true, false, Optio
 use Rattle.acvp_policy.specs.declared.rule.Rule.{Rule}
 use Rattle.acvp_tables.specs.Content.{Content}
 use Rattle.acvp_tables.specs.Meaning.{Meaning}
-use Rattle.acvp_tables.specs.State.{State, own, state_of, IsSound, IsWellNumbered}
+use Rattle.acvp_tables.specs.State.{State, own, state_of, AreWellNumbered, IsWellNumbered}
 use Rattle.acvp_tables.specs.declared.change.Change.{Change}
 use Rattle.acvp_desk.specs.Answer.{accepted_change, answer, content_after, content_effect, effect}
 use Rattle.acvp_desk.specs.Data.{Data}
@@ -31,7 +31,7 @@ module _ (follow : (keys : Keys) (m : ℕ) (r : RequestValue) (c : Content) → 
       go None is same = nobody keys m r one other is
       go (Some u) is same = alike u keys m r one other well_one well_other is same
 
-  left_by : (r : RequestValue) (c : Content) → IsSound c → (v : ℕ) → own v (state_of (content_effect keys m r c)) ≡ own_after_request keys m r v (own v (state_of c))
+  left_by : (r : RequestValue) (c : Content) → AreWellNumbered c → (v : ℕ) → own v (state_of (content_effect keys m r c)) ≡ own_after_request keys m r v (own v (state_of c))
   left_by r c sound v = ap (own v) (follow keys m r c) ∙ apart v keys m r (state_of c) sound
 
   -- what else is served of the bytes is the same request
@@ -41,7 +41,7 @@ module _ (follow : (keys : Keys) (m : ℕ) (r : RequestValue) (c : Content) → 
       let same : r' ≡ r = one_value r' r (asks-unique bytes (typed r') (typed r) asks'.1 asks.1) in
       is ∙ ap (λ (v : RequestValue). content_effect keys m v other) same
 
-  pub answered_apart : (old new : Content) (reply : List ℕ) → IsSound old → ServesRequest keys m bytes old new reply → IsAnsweredApart keys m bytes old new reply
+  pub answered_apart : (old new : Content) (reply : List ℕ) → AreWellNumbered old → ServesRequest keys m bytes old new reply → IsAnsweredApart keys m bytes old new reply
   answered_apart old new reply sound (inl (same, refuses)) = record {
     who = None;
     of = of_refused keys m bytes reply refuses;
@@ -73,6 +73,6 @@ module _ (follow : (keys : Keys) (m : ℕ) (r : RequestValue) (c : Content) → 
 module _ {T : Type 0} (meaning : Meaning T) (law : RequestIsolation) (keys : Keys) (m : ℕ) (bytes reply : List ℕ) (old new : T) where
   pub taken_apart : RequestTaken meaning keys m bytes reply old new
       → GoesBy meaning keys (λ c next. IsTakenApart keys m bytes c next reply) old new
-  taken_apart (true, goes) = λ clean c kept h. let (next, takes, after, kept_after) = goes clean c kept h in (next, inl takes, after, kept_after)
-  taken_apart (false, goes) = λ clean c kept h.
+  taken_apart (true, goes, leaves, idle) = λ clean c kept h. let (next, takes, after, kept_after) = goes clean c kept h in (next, inl takes, after, kept_after)
+  taken_apart (false, goes, leaves, idle) = λ clean c kept h.
       let (next, takes, after, kept_after) = goes clean c kept h in (next, inr (takes, law keys m bytes c next reply kept.sound takes), after, kept_after)

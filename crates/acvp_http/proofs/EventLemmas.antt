@@ -7,8 +7,8 @@ use Rattle.acvp_desk.specs.declared.order.Order.{Order}
 use Rattle.acvp_desk.specs.declared.order.Order.TheVariants as kind
 use Rattle.acvp_http.specs.declared.script.Command.{Command}
 use Rattle.acvp_http.specs.declared.script.Command.TheVariants as command
-use Rattle.acvp_http.specs.declared.script.Line.{Line}
-use Rattle.acvp_http.specs.declared.script.Line.TheVariants as line
+use Rattle.acvp_http.specs.declared.script.ScriptLine.{ScriptLine}
+use Rattle.acvp_http.specs.declared.script.ScriptLine.TheVariants as line
 use Rattle.acvp_http.specs.Event.{Event, request, order}
 use Rattle.acvp_http.specs.Private.Lines.{Lacks, IsMoment, IsLine, command_word}
 use Rattle.acvp_http.specs.Script.{IsSecretText, IsWritten}
@@ -103,7 +103,7 @@ after_word_lacks w rest text is lacks =
     rw is (lacks_append 10 (command_word w) (32 ∷ rest) (word_lacks_ten w) ((λ same. omega arith), lacks))
 
 -- a line has no line feed
-pub line_lacks : (said : Line) (text : List ℕ) → IsLine said text → Lacks 10 text
+pub line_lacks : (said : ScriptLine) (text : List ℕ) → IsLine said text → Lacks 10 text
 line_lacks (line.Request m n) text (rest, is, (few, moment)) =
     after_word_lacks command.Request rest text is
     (moment_lacks m (decimal n) rest moment (decimal_lacks 10 n (omega arith) (omega arith)))
@@ -128,7 +128,7 @@ length_moment m rest text is =
     rw is.1 (omega (arith, length-append (decimal m) (32 ∷ rest)))
 
 -- a line's length
-pub line_short : (said : Line) (text : List ℕ) → IsLine said text → length text ≤ 101
+pub line_short : (said : ScriptLine) (text : List ℕ) → IsLine said text → length text ≤ 101
 line_short (line.Request m n) text (rest, is, (few, moment)) =
     let low : length (decimal n) ≤ 7 = length-decimal-le 7 n (omega arith) (omega arith) (omega arith) in
     let tail = length_moment m (decimal n) rest moment in
@@ -153,7 +153,7 @@ line_short (line.Order m (kind.RejectRequest decided)) text (rest, is, (named, m
     rw is (omega arith)
 
 -- an event's text begins with its line
-pub event_front : (e : Event) (front : List ℕ) → IsWritten e front → (said : Line) × (text : List ℕ) × (tail : List ℕ)
+pub event_front : (e : Event) (front : List ℕ) → IsWritten e front → (said : ScriptLine) × (text : List ℕ) × (tail : List ℕ)
     × IsLine said text × (front ≡ text ++ 10 ∷ tail)
 event_front (request m bytes) front written =
     let parts = request_parts m bytes front written in

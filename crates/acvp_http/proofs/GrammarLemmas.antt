@@ -4,8 +4,8 @@ use Rattle.std.specs.Io.KnownBytes.{Consumes}
 use Rattle.acvp_desk.specs.declared.order.Order.{Order}
 use Rattle.acvp_desk.specs.declared.order.Order.TheVariants as kind
 use Rattle.acvp_http.specs.declared.script.Command.TheVariants as command
-use Rattle.acvp_http.specs.declared.script.Line.{Line}
-use Rattle.acvp_http.specs.declared.script.Line.TheVariants as line
+use Rattle.acvp_http.specs.declared.script.ScriptLine.{ScriptLine}
+use Rattle.acvp_http.specs.declared.script.ScriptLine.TheVariants as line
 use Rattle.acvp_http.specs.declared.script.ScriptFault.{ScriptFault}
 use Rattle.acvp_http.specs.declared.script.ScriptFault.TheVariants.{Read, Write, Syntax, Limit, Memory}
 use Rattle.acvp_http.specs.Event.{request, order}
@@ -57,7 +57,7 @@ line_at_front xs text rest said-text tail more front lacks lacks' is front-is is
 
 -- a line that says nothing, so no event
 nothing_said : (xs ys text : List ℕ) → xs ≡ (text ++ 10 ∷ []) ++ ys → Lacks 10 text
-    → ((said : Line) → IsLine said text → ⊥) → HasNoEvent xs
+    → ((said : ScriptLine) → IsLine said text → ⊥) → HasNoEvent xs
 nothing_said xs ys text consumed lacks none = λ e front more written is.
     let (said, said-text, tail, line, front-is) = event_front e front written in
     let same : text ≡ said-text =
@@ -66,13 +66,13 @@ nothing_said xs ys text consumed lacks none = λ e front more written is.
     none said (rw same line)
 
 pub no_line_said : (a b : Option (List ℕ)) (text : List ℕ) → Consumes a b (text ++ 10 ∷ []) → Lacks 10 text
-    → ((said : Line) → IsLine said text → ⊥) → IfSome a LeavesGrammar
+    → ((said : ScriptLine) → IsLine said text → ⊥) → IfSome a LeavesGrammar
 no_line_said None b text consumed lacks none = tt
 no_line_said (Some xs) None text consumed lacks none = absurd consumed
 no_line_said (Some xs) (Some ys) text consumed lacks none =
     (not_empty xs text ys consumed, nothing_said xs ys text consumed lacks none)
 
-pub nothing_said_alone : (text : List ℕ) → Lacks 10 text → ((said : Line) → IsLine said text → ⊥)
+pub nothing_said_alone : (text : List ℕ) → Lacks 10 text → ((said : ScriptLine) → IsLine said text → ⊥)
     → HasNoEvent (text ++ 10 ∷ [])
 nothing_said_alone text lacks none =
     nothing_said (text ++ 10 ∷ []) [] text (sym (append-nil (text ++ 10 ∷ []))) lacks none
@@ -87,7 +87,7 @@ no_gap word rest is =
     omega (arith, length-append word (32 ∷ rest))
 
 -- one byte is no event
-no_line_empty : (said : Line) → IsLine said [] → ⊥
+no_line_empty : (said : ScriptLine) → IsLine said [] → ⊥
 no_line_empty (line.Request m n) (rest, is, tail) = no_gap (command_word command.Request) rest is
 no_line_empty (line.Order m (kind.AddAccount account secret)) (rest, is, tail) =
     no_gap (command_word command.AddAccount) rest is

@@ -16,7 +16,7 @@ use Rattle.acvp_desk.specs.declared.order.Order.{Order}
 use Rattle.acvp_desk.specs.declared.order.Order.TheVariants as it
 use Rattle.acvp_desk.specs.declared.order.OrderReply.{OrderReply}
 use Rattle.acvp_desk.specs.declared.order.OrderReply.TheVariants.{Done, Taken, Unknown, NotInitial}
-use Rattle.acvp_http.specs.Event.{Event, request, order, Answer, replied, ordered, Turn}
+use Rattle.acvp_http.specs.Event.{Event, request, order, EventAnswer, replied, ordered, Turn}
 use Rattle.acvp_http.specs.Reply.{IsDateOf}
 use Rattle.acvp_http.specs.Serve.{AsksTheDesk, IsReplied, Runs, Takes}
 use Rattle.acvp_http.specs.Headline.{AnswersTurn, IsAnswered, LeftBy, is_done}
@@ -64,7 +64,7 @@ module _ (follow_request : (keys : Keys) (m : ℕ) (r : RequestValue) (c : Conte
     (follow_order : (o : Order) (c : Content) → state_of (content_order_effect o c) ≡ order_effect o (state_of c)) (keys : Keys) where
   -- ---- one turn
 
-  abbrev AnsweredAs : Turn → Content → Content → Answer → Type 0
+  abbrev AnsweredAs : Turn → Content → Content → EventAnswer → Type 0
   AnsweredAs turn c next told = IsAnswered keys turn (state_of c) (state_of next) told
 
   denied_stays : (m : ℕ) (r : RequestValue) (c : Content) (rule : Rule) → answer keys m r (state_of c) ≡ Err rule → content_effect keys m r c ≡ c
@@ -93,7 +93,7 @@ module _ (follow_request : (keys : Keys) (m : ℕ) (r : RequestValue) (c : Conte
       let stays : content_order_effect o c ≡ c = rw none refl in
       inl (ap state_of (left ∙ stays), (is, done))
 
-  turn_answered : (event : Event) (unavailable : Bool) (c next : Content) (told : Answer)
+  turn_answered : (event : Event) (unavailable : Bool) (c next : Content) (told : EventAnswer)
       → Takes keys (record { event = event; unavailable = unavailable }) c next told
       → AnsweredAs (record { event = event; unavailable = unavailable }) c next told
   turn_answered (request m bytes) true c next (replied reply) (same, put_off) = (ap state_of same, put_off)
@@ -110,7 +110,7 @@ module _ (follow_request : (keys : Keys) (m : ℕ) (r : RequestValue) (c : Conte
 
   -- ---- a run
 
-  left_more : (event : Event) (unavailable : Bool) (turns : List Turn) (state next now : State) (told : Answer)
+  left_more : (event : Event) (unavailable : Bool) (turns : List Turn) (state next now : State) (told : EventAnswer)
       → IsAnswered keys (record { event = event; unavailable = unavailable }) state next told → LeftBy keys turns next now
       → LeftBy keys (record { event = event; unavailable = unavailable } ∷ turns) state now
   left_more event true turns state next now told (same, put_off) left = inr (inl refl, subst (λ (s : State). LeftBy keys turns s now) same left)
@@ -119,7 +119,7 @@ module _ (follow_request : (keys : Keys) (m : ℕ) (r : RequestValue) (c : Conte
     | inr accepted ↦ inl (next, told, refl, accepted, left)
   ]
 
-  pub tells : (earlier later : List Turn) (turn : Turn) (old new : Content) (answers : List Answer) → Runs keys (earlier ++ turn ∷ later) old new answers
+  pub tells : (earlier later : List Turn) (turn : Turn) (old new : Content) (answers : List EventAnswer) → Runs keys (earlier ++ turn ∷ later) old new answers
       → AnswersTurn keys earlier turn (state_of old) answers
   tells [] later turn old new [] runs = absurd runs
   tells [] later turn old new (a ∷ answers) (next, takes, rest) =
@@ -139,7 +139,7 @@ module _ (follow_request : (keys : Keys) (m : ℕ) (r : RequestValue) (c : Conte
       )
 
   -- and what it leaves
-  pub leaves : (turns : List Turn) (old new : Content) (answers : List Answer) → Runs keys turns old new answers → LeftBy keys turns (state_of old) (state_of new)
+  pub leaves : (turns : List Turn) (old new : Content) (answers : List EventAnswer) → Runs keys turns old new answers → LeftBy keys turns (state_of old) (state_of new)
   leaves [] old new [] runs = ap state_of runs
   leaves [] old new (a ∷ answers) runs = absurd runs
   leaves (t ∷ turns) old new [] runs = absurd runs

@@ -24,7 +24,7 @@ use Rattle.acvp_desk.specs.Written.{body_of}
 use Rattle.acvp_desk.specs.declared.keys.Keys.{Keys}
 use Rattle.acvp_desk.specs.declared.order.Order.{Order}
 use Rattle.acvp_http.specs.Asks.{ParsedRequest, refused, wrong_method, typed, Asks}
-use Rattle.acvp_http.specs.Event.{Event, request, order, Answer, replied, ordered, Turn}
+use Rattle.acvp_http.specs.Event.{Event, request, order, EventAnswer, replied, ordered, Turn}
 use Rattle.acvp_http.specs.Isolation.{is_theirs, is_told, whose, AsksWithin, IsOf, IsToldAlone, Isolation, IsolationAlone, LetsSee, Only, Told}
 use Rattle.acvp_http.specs.Event.{CanHappen}
 use Rattle.acvp_http.specs.Reply.{framed, refusal, IsDateOf}
@@ -61,12 +61,12 @@ of_asked keys m bytes r (early, asks) = let in_time : nat_lt m end_of_moments �
 -- ---- a turn in both runs
 
 -- a turn is taken in both runs, or is none of the other's
-pub record Kept (keys : Keys) (u : ℕ) (these : ℕ → Bool) (Alike : Content → Content → Type 0) (turn : Turn) (next d : Content) (told : Answer) : Type 0 where
+pub record Kept (keys : Keys) (u : ℕ) (these : ℕ → Bool) (Alike : Content → Content → Type 0) (turn : Turn) (next d : Content) (told : EventAnswer) : Type 0 where
   pub who : Option ℕ
   pub of : IsOf keys turn.event who
   pub theirs : is_theirs these turn who ≡ true
   pub left : Content
-  pub other : Answer
+  pub other : EventAnswer
   pub takes : Takes keys turn d left other
   pub alike : Alike next left
   pub same : is_told u turn who ≡ true → told ≡ other
@@ -158,7 +158,7 @@ module _ (keys : Keys) (u : ℕ) (these : ℕ → Bool) (itself : these u ≡ tr
       own_ordered : (o : Order) (c : Content) → IsKept keys.seed c → (v : ℕ) → own v (state_of (content_order_effect o c)) ≡ own_after_order o v (own v (state_of c))
       own_ordered o c kept v = ap (own v) (follow_order o c) ∙ order_apart v o (state_of c) kept.sound
 
-      pub order_taken : (m : ℕ) (o : Order) (one other next : Content) (told : Answer) → CanHappen (order m o) → Alike one other
+      pub order_taken : (m : ℕ) (o : Order) (one other next : Content) (told : EventAnswer) → CanHappen (order m o) → Alike one other
           → Serves keys (order m o) one next told → Kept keys u these Alike (record { event = order m o; unavailable = false }) next other told
       order_taken m o one other next (replied reply) can alike serves = absurd serves
       order_taken m o one other next (ordered reply) can alike (is, answers) = record {
@@ -312,7 +312,7 @@ module _ (keys : Keys) (u : ℕ) (these : ℕ → Bool) (itself : these u ≡ tr
             go None named = inr (nobodys_dropped named)
             go (Some w) named = by w named (these w) refl
 
-      pub request_turn : (one other next : Content) (told : Answer) → AsksWithin keys u these (request m bytes) → Alike one other → Serves keys (request m bytes) one next told
+      pub request_turn : (one other next : Content) (told : EventAnswer) → AsksWithin keys u these (request m bytes) → Alike one other → Serves keys (request m bytes) one next told
           → Kept keys u these Alike asking next other told ⊎ Dropped keys u these Alike asking next other
       request_turn one other next (ordered reply) within alike serves = absurd serves
       request_turn one other next (replied reply) within alike serves = elim serves [
@@ -329,7 +329,7 @@ module _ (keys : Keys) (u : ℕ) (these : ℕ → Bool) (itself : these u ≡ tr
 -- ---- a run
 
 -- an event that was unavailable changes nothing, and is taken in none of the other run
-put_off : (keys : Keys) (u : ℕ) (these : ℕ → Bool) (AlikeNow : Content → Content → Type 0) (event : Event) (one other next : Content) (told : Answer)
+put_off : (keys : Keys) (u : ℕ) (these : ℕ → Bool) (AlikeNow : Content → Content → Type 0) (event : Event) (one other next : Content) (told : EventAnswer)
     → AlikeNow one other → Takes keys (record { event = event; unavailable = true }) one next told
     → Dropped keys u these AlikeNow (record { event = event; unavailable = true }) next other
 put_off keys u these AlikeNow (request m bytes) one other next (replied reply) alike (same, ((r, asks), is)) =
@@ -340,13 +340,13 @@ put_off keys u these AlikeNow (order m o) one other next (ordered reply) alike (
     record { who = None; of = refl; theirs = refl; told = refl; alike = rw same alike }
 
 module _ (keys : Keys) (u : ℕ) (these : ℕ → Bool) (AlikeNow : Content → Content → Type 0)
-    (turned : (turn : Turn) (one other next : Content) (told : Answer) → CanHappen turn.event → (turn.unavailable ≡ false → AsksWithin keys u these turn.event) → AlikeNow one other
+    (turned : (turn : Turn) (one other next : Content) (told : EventAnswer) → CanHappen turn.event → (turn.unavailable ≡ false → AsksWithin keys u these turn.event) → AlikeNow one other
     → Takes keys turn one next told → Kept keys u these AlikeNow turn next other told ⊎ Dropped keys u these AlikeNow turn next other) where
-  abbrev Alone : List Turn → List Answer → Content → Type 0
-  Alone turns answers other = (chosen : List Turn) × (left : Content) × (others : List Answer) × (told : List Answer)
+  abbrev Alone : List Turn → List EventAnswer → Content → Type 0
+  Alone turns answers other = (chosen : List Turn) × (left : Content) × (others : List EventAnswer) × (told : List EventAnswer)
       × Only keys these turns chosen × Runs keys chosen other left others × Told keys u turns answers told × Told keys u chosen others told
 
-  kept_first : (turn : Turn) (turns : List Turn) (next other : Content) (told : Answer) (answers : List Answer) → (kept : Kept keys u these AlikeNow turn next other told)
+  kept_first : (turn : Turn) (turns : List Turn) (next other : Content) (told : EventAnswer) (answers : List EventAnswer) → (kept : Kept keys u these AlikeNow turn next other told)
       → Alone turns answers kept.left → Alone (turn ∷ turns) (told ∷ answers) other
   kept_first turn turns next other told answers kept (chosen, left, others, heard, only, runs, first, second) = go (is_told u turn kept.who) refl
     where
@@ -375,7 +375,7 @@ module _ (keys : Keys) (u : ℕ) (these : ℕ → Bool) (AlikeNow : Content → 
         (kept.who, kept.of, rw e second),
       )
 
-  dropped_first : (turn : Turn) (turns : List Turn) (next other : Content) (told : Answer) (answers : List Answer) → Dropped keys u these AlikeNow turn next other
+  dropped_first : (turn : Turn) (turns : List Turn) (next other : Content) (told : EventAnswer) (answers : List EventAnswer) → Dropped keys u these AlikeNow turn next other
       → Alone turns answers other → Alone (turn ∷ turns) (told ∷ answers) other
   dropped_first turn turns next other told answers dropped (chosen, left, others, heard, only, runs, first, second) = (
     chosen,
@@ -388,7 +388,7 @@ module _ (keys : Keys) (u : ℕ) (these : ℕ → Bool) (AlikeNow : Content → 
     second,
   )
 
-  pub alone : (turns : List Turn) (one other new : Content) (answers : List Answer) → All (λ turn. CanHappen turn.event) turns
+  pub alone : (turns : List Turn) (one other new : Content) (answers : List EventAnswer) → All (λ turn. CanHappen turn.event) turns
       → All (λ turn. turn.unavailable ≡ false → AsksWithin keys u these turn.event) turns → AlikeNow one other → Runs keys turns one new answers → Alone turns answers other
   alone [] one other new [] can asked alike runs = ([], other, [], [], refl, refl, refl, refl)
   alone [] one other new (told ∷ answers) can asked alike runs = absurd runs
@@ -424,7 +424,7 @@ module _ (keys : Keys) (u : ℕ) (these : ℕ → Bool) (itself : these u ≡ tr
     → (is_reviewer s a state.reviewers ≡ true) ⊎ (it ≡ change.AddReviewer (record { session = s; account = a })))
     (accepted_told : (keys : Keys) (m : ℕ) (r : RequestValue) (c : Content) → IsKept keys.seed c → 1 ≤ length keys.seed → IfOk (answer keys m r (state_of c)) (λ object. is_some object ≡ true))
     (seeded : 1 ≤ length keys.seed) where
-  turned : (event : Event) (unavailable : Bool) (one other next : Content) (told : Answer) → CanHappen event → (unavailable ≡ false → AsksWithin keys u these event)
+  turned : (event : Event) (unavailable : Bool) (one other next : Content) (told : EventAnswer) → CanHappen event → (unavailable ≡ false → AsksWithin keys u these event)
       → Alike keys u these itself one other → Takes keys (record { event = event; unavailable = unavailable }) one next told
       → Kept keys u these (Alike keys u these itself) (record { event = event; unavailable = unavailable }) next other told
       ⊎ Dropped keys u these (Alike keys u these itself) (record { event = event; unavailable = unavailable }) next other
@@ -435,7 +435,7 @@ module _ (keys : Keys) (u : ℕ) (these : ℕ → Bool) (itself : these u ≡ tr
       request_turn keys u these itself session_told set_told live_told reviewer_told follow request_kept apart nothing answered_alike changes adds reviewers accepted_told seeded m bytes
       one other next told (asked refl) alike serves
 
-  pub isolated : (turns : List Turn) (old new : Content) (answers : List Answer) → IsKept keys.seed old → All (λ turn. CanHappen turn.event) turns
+  pub isolated : (turns : List Turn) (old new : Content) (answers : List EventAnswer) → IsKept keys.seed old → All (λ turn. CanHappen turn.event) turns
       → LetsSee keys u these (state_of old) turns → Runs keys turns old new answers → IsToldAlone keys u these turns old answers
   isolated turns old new answers kept can lets runs =
       let (chosen, left, others, told, only, runs_alone, here, heard) =
@@ -455,9 +455,9 @@ module _ (keys : Keys) (u : ℕ) (these : ℕ → Bool) (itself : these u ≡ tr
         every = λ theirs after said hears only_theirs runs_theirs told_theirs.
             let same : theirs ≡ chosen = only_one keys these turns theirs chosen only_theirs only in
             let ran = run_one keys chosen old after left said others (subst (λ (ts : List Turn). Runs keys ts old after said) same runs_theirs) runs_alone in
-            let hears_here : Told keys u chosen others hears = subst (λ (answers : List Answer). Told keys u chosen answers hears) ran.1 (subst (λ (ts : List Turn). Told keys u ts said hears) same told_theirs) in
+            let hears_here : Told keys u chosen others hears = subst (λ (answers : List EventAnswer). Told keys u chosen answers hears) ran.1 (subst (λ (ts : List Turn). Told keys u ts said hears) same told_theirs) in
             let is : hears ≡ told = told_one keys u chosen others hears told hears_here heard in
-            subst (λ (answers_told : List Answer). Told keys u turns answers answers_told) (sym is) here;
+            subst (λ (answers_told : List EventAnswer). Told keys u turns answers answers_told) (sym is) here;
       }
 
 -- where nobody else lets it see anything

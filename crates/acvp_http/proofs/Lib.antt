@@ -15,6 +15,8 @@ pub mod MethodLemmas
 pub mod RequestLemmas
 pub mod LineLemmas
 pub mod KnownLemmas
+pub mod LeftLemmas
+pub mod LifeLemmas
 pub mod ReadLineLemmas
 pub mod EventLemmas
 pub mod GrammarLemmas

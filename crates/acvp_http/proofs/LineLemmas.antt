@@ -8,8 +8,8 @@ use Rattle.std.specs.Str.Parse.{AllDigits, digits_value}
 use Rattle.acvp_desk.specs.declared.order.Order.TheVariants as order
 use Rattle.acvp_http.specs.declared.script.Command.{Command}
 use Rattle.acvp_http.specs.declared.script.Command.TheVariants as command
-use Rattle.acvp_http.specs.declared.script.Line.{Line}
-use Rattle.acvp_http.specs.declared.script.Line.TheVariants as line
+use Rattle.acvp_http.specs.declared.script.ScriptLine.{ScriptLine}
+use Rattle.acvp_http.specs.declared.script.ScriptLine.TheVariants as line
 use Rattle.acvp_http.specs.Private.Lines.{Lacks, IsMoment, IsRequestTail, IsAddTail, IsDisableTail, IsDecisionTail, IsLine, command_word}
 use Rattle.acvp_http.specs.Script.{IsNumber, IsAccountNumber, IsSecretText}
 
@@ -146,7 +146,7 @@ pub word_is : (text a b rest : List ℕ) (w : Command) → Lacks 32 a × (text �
 word_is text a b rest w cut is = cut_same 32 a b (command_word w) rest cut.0 (word_lacks w) (sym cut.1 ∙ is)
 
 pub no_line_word : (text a b : List ℕ) → Lacks 32 a × (text ≡ a ++ 32 ∷ b) → ((w : Command) → a ≢ command_word w)
-    → (other : Line) → IsLine other text → ⊥
+    → (other : ScriptLine) → IsLine other text → ⊥
 no_line_word text a b cut none (line.Request m n) (rest, is, tail) =
     none command.Request (word_is text a b rest command.Request cut is).0
 no_line_word text a b cut none (line.Order m (order.AddAccount n s)) (rest, is, tail) =
@@ -159,7 +159,7 @@ no_line_word text a b cut none (line.Order m (order.RejectRequest n)) (rest, is,
     none command.RejectRequest (word_is text a b rest command.RejectRequest cut is).0
 
 pub no_add_line : (text a b : List ℕ) → Lacks 32 a × (text ≡ a ++ 32 ∷ b) → a ≡ command_word command.AddAccount
-    → ((m n : ℕ) (s : List ℕ) → IsAddTail m n s b → ⊥) → (other : Line) → IsLine other text → ⊥
+    → ((m n : ℕ) (s : List ℕ) → IsAddTail m n s b → ⊥) → (other : ScriptLine) → IsLine other text → ⊥
 no_add_line text a b cut word none (line.Request m n) (rest, is, tail) =
     let same : a ≡ command_word command.Request = (word_is text a b rest command.Request cut is).0 in cc
 no_add_line text a b cut word none (line.Order m (order.AddAccount n s)) (rest, is, tail) =

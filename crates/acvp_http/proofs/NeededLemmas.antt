@@ -1,6 +1,6 @@
 -- What an input asks is what the front of it asks that its request needs.
 use Rattle.std.proofs.Common.{◌≡◌, ◌<◌, ◌≤◌, ⊎_elim, inl, inr, ℕ, zero, suc, ◌+◌, ◌-◌, min, List, [], ◌∷◌, ◌++◌, length, take, drop, Bool, true, false, Option, None, Some, IfSome, Result, Ok, Err, refl, sym, ap, ◌∙◌, arith, subst, below_more, take-take, take_all, length-append, append-nil, append_assoc}
-use Rattle.std.specs.Prelude.{nat_lt, nat_le, MatchBool}
+use Rattle.std.specs.Prelude.{nat_lt, nat_le, MatchBool, ◌≢◌}
 use Rattle.std.specs.Io.KnownBytes.{Consumes}
 use Rattle.std.proofs.Math.Seq.{take-append_seam, take-append-add, take-length}
 use Rattle.std.proofs.lemmas.Bool.{lt-ltb, le-ltb}
@@ -15,7 +15,7 @@ use Rattle.acvp_tables.specs.Meaning.{Meaning}
 use Rattle.acvp_http.specs.Asks.{FramedHead, ParsedRequest, ReadsBlock, refused, Asks, AsksBlock, AskedBy, IsBlockEnd, HasNoEmptyLine, asked_path, ends_empty, head_limit, headless, window}
 use Rattle.acvp_http.specs.Connection.{AnswersInput, TakesWithin}
 use Rattle.acvp_http.specs.Event.{request, replied}
-use Rattle.acvp_http.specs.Needed.{IsNeeded, IsNeededAt, IsWithinNeeded, NeedsBody, needed_size}
+use Rattle.acvp_http.specs.Needed.{IsNeeded, IsNeededAt, IsShortOfHead, IsWithinNeeded, NeedsBody, needed_size}
 use Rattle.acvp_http.specs.Paths.{Names}
 use Rattle.acvp_http.specs.Target.{path_of}
 use Rattle.acvp_http.specs.declared.path.Path.{Path}
@@ -23,7 +23,7 @@ use Rattle.acvp_http.specs.declared.head.Head.{Head}
 use Rattle.acvp_http.specs.Private.Head.{IsParsed, ParsesInput}
 use Rattle.acvp_http.specs.Private.Receiving.{IsHeadBegun, IsHeadTaken, IsBodyTaken, TakesFew, TakesOfHead}
 use Rattle.acvp_http.specs.Reply.{refusal, IsDateOf}
-use Rattle.acvp_http.specs.Serve.{IsRefused, RefusesAtOnce, RequestTaken, ShowsRequest, Takes}
+use Rattle.acvp_http.specs.Serve.{IsRefused, LeavesNext, RefusesAtOnce, RequestTaken, ShowsRequest, StaysOpen, Takes}
 use Rattle.acvp_http.specs.Source.{InputStream, Gives}
 use Rattle.acvp_http.proofs.AsksLemmas.{end_or_none, end_unique, read_unique}
 use Rattle.acvp_http.proofs.RequestLemmas.{block_length}
@@ -321,14 +321,24 @@ module _ {T : Type 0} (meaning : Meaning T) (keys : Keys) (m : ℕ) (input front
     | inr (r, (early, asks), answered) ↦ inr (r, (early, asks_needed input front _ (in_time early needed) asks), answered)
   ]
 
+  left_by : (unavailable : Bool) (next : Content) (new : T) → IsNeededAt m input front
+      → LeavesNext meaning keys (record { event = request m front; unavailable = unavailable }) next new
+      → LeavesNext meaning keys (record { event = request m input; unavailable = unavailable }) next new
+  left_by true next new needed (other, (r, (early, asks), is), left) = (other, (r, (early, asks_needed input front _ (in_time early needed) asks), is), left)
+  left_by false next new needed left = left
+
   -- what is served of the front is served of the whole
   pub taken_needed : (old new : T) → IsNeededAt m input front → RequestTaken meaning keys m front reply old new
       → RequestTaken meaning keys m input reply old new
-  taken_needed old new needed (unavailable, goes) = (
+  taken_needed old new needed (unavailable, goes, leaves, idle) = (
     unavailable,
     λ clean c kept h.
         let (next, takes, stands_after, kept_after) = goes clean c kept h in
         (next, takes_by unavailable c next needed takes, stands_after, kept_after),
+    λ clean live c kept h.
+        let (next, takes, kept_after, left) = leaves clean live c kept h in
+        (next, takes_by unavailable c next needed takes, kept_after, left_by unavailable next new needed left),
+    λ clean off c kept. takes_by unavailable c c needed (idle clean off c kept),
   )
 
 -- ---- what a connection is answered
@@ -345,8 +355,9 @@ module _ {T : Type 0} (meaning : Meaning T) (keys : Keys) (m : ℕ) (reply : Lis
 
   -- at a moment that isn't served nothing is needed
   pub answers_late : (input : InputStream) → end_of_moments ≤ m → RequestTaken meaning keys m [] reply old new
-      → ShowsRequest meaning m [] reply old new → AnswersInput meaning keys m input input reply old new
-  answers_late input late taken shows = inl ([], consumes_nothing input.held, taken, late_by input.held late taken, shows)
+      → ShowsRequest meaning m [] reply old new → StaysOpen meaning (replied reply) old new
+      → AnswersInput meaning keys m input input reply old new
+  answers_late input late taken shows lasts = inl ([], consumes_nothing input.held, taken, late_by input.held late taken, shows, lasts)
 
   early_by : (held : Option (List ℕ)) (front : List ℕ) → m < end_of_moments → IfSome held (λ bytes. IsNeeded bytes front)
       → RequestTaken meaning keys m front reply old new → IsAnsweredBy held front
@@ -357,6 +368,52 @@ module _ {T : Type 0} (meaning : Meaning T) (keys : Keys) (m : ℕ) (reply : Lis
 
   pub answers_early : (input left : InputStream) (front : List ℕ) → m < end_of_moments → Gives input left front
       → IfSome input.held (λ bytes. IsNeeded bytes front) → RequestTaken meaning keys m front reply old new
-      → ShowsRequest meaning m front reply old new → AnswersInput meaning keys m input left reply old new
-  answers_early input left front early consumed needed taken shows =
-      inl (front, consumed, taken, early_by input.held front early needed taken, shows)
+      → ShowsRequest meaning m front reply old new → StaysOpen meaning (replied reply) old new
+      → AnswersInput meaning keys m input left reply old new
+  answers_early input left front early consumed needed taken shows lasts =
+      inl (front, consumed, taken, early_by input.held front early needed taken, shows, lasts)
+
+-- ---- whatever comes behind
+
+window_front : (bytes rest : List ℕ) (k : ℕ) → k ≤ length (window bytes) → take k (window (bytes ++ rest)) ≡ take k (window bytes)
+unfolding window
+window_front bytes rest k low =
+    let lows = window_low bytes k low in
+    take-take k 16384 (bytes ++ rest) lows.0 ∙ take-append-le k bytes rest lows.1 ∙ sym (take-take k 16384 bytes lows.0)
+
+window_longer : (bytes rest : List ℕ) (n : ℕ) → n ≤ length (window bytes) → n ≤ length (window (bytes ++ rest))
+unfolding window
+window_longer bytes rest n low =
+    omega (arith, length-take 16384 bytes, length-take 16384 (bytes ++ rest), length-append bytes rest)
+
+-- the block that is there is that of all that may come
+pub needs_more : (bytes rest : List ℕ) (n size : ℕ) → IsBlockEnd (window bytes) n → NeedsBody (take n bytes) size
+    → IsNeeded (bytes ++ rest) (take (n + size) (bytes ++ rest))
+needs_more bytes rest n size (low, ends, first) needs =
+    let lows = window_low bytes n low in
+    let end : IsBlockEnd (window (bytes ++ rest)) n = (
+      window_longer bytes rest n low,
+      ap ends_empty (window_front bytes rest n low) ∙ ends,
+      λ k below. ap ends_empty (window_front bytes rest k (omega arith)) ∙ first k below,
+    ) in
+    inr (n, size, end, subst (λ (b : List ℕ). NeedsBody b size) (sym (take-append-le n bytes rest lows.1)) needs, refl)
+
+pub needs_none_more : (bytes rest : List ℕ) (n : ℕ) (rule : Rule) → IsBlockEnd (window bytes) n → ReadsBlock (take n bytes) (Err rule)
+    → IsNeeded (bytes ++ rest) (take n (bytes ++ rest))
+needs_none_more bytes rest n rule end reads =
+    subst (λ (m : ℕ). IsNeeded (bytes ++ rest) (take m (bytes ++ rest))) (omega arith)
+    (needs_more bytes rest n 0 end (Err rule, reads, refl))
+
+pub needs_window : (bytes rest : List ℕ) → HasNoEmptyLine (window bytes) → length (window bytes) ≡ head_limit
+    → IsNeeded (bytes ++ rest) (take head_limit (bytes ++ rest))
+unfolding window
+needs_window bytes rest none full_window =
+    let same : window (bytes ++ rest) ≡ window bytes =
+    take-append-le 16384 bytes rest (omega (arith, length-take 16384 bytes)) in
+    inl (subst HasNoEmptyLine (sym same) none, refl)
+
+pub short_of_head : (bytes : List ℕ) → HasNoEmptyLine (window bytes) → length (window bytes) ≢ head_limit → IsShortOfHead bytes
+unfolding window
+short_of_head bytes none other =
+    let few : length bytes < 16384 = omega (arith, length-take 16384 bytes, other) in
+    (subst HasNoEmptyLine (take_all 16384 bytes (omega arith)) none, few)

@@ -13,7 +13,7 @@ use Rattle.acvp_desk.specs.Data.{Data}
 use Rattle.acvp_desk.specs.Request.{RequestValue}
 use Rattle.acvp_desk.specs.declared.keys.Keys.{Keys}
 use Rattle.acvp_http.specs.Asks.{ParsedRequest, refused, wrong_method, typed, Asks}
-use Rattle.acvp_http.specs.Event.{Event, request, order, Answer, replied, ordered}
+use Rattle.acvp_http.specs.Event.{Event, request, order, EventAnswer, replied, ordered}
 use Rattle.acvp_http.specs.Reply.{refusal, IsDateOf}
 use Rattle.acvp_http.specs.Serve.{RefusesAtOnce, IsRefused, AsksTheDesk, IsReplied, RequestAnswered, ServesRequest, Serves}
 use Rattle.acvp_http.proofs.AsksLemmas.{asks-unique}
@@ -82,7 +82,7 @@ request_one keys m bytes old new new' a b (inr (r, asks, x)) (inr (r', asks', y)
     (is ∙ sym is', replied_one e (answer keys m r' (state_of old)) a b (subst (λ (date : List ℕ). IsReplied date (answer keys m r' (state_of old)) a) day shown) shown')
 
 -- and so is an event
-pub event_one : (keys : Keys) (event : Event) (old new new' : Content) (a b : Answer) → Serves keys event old new a → Serves keys event old new' b
+pub event_one : (keys : Keys) (event : Event) (old new new' : Content) (a b : EventAnswer) → Serves keys event old new a → Serves keys event old new' b
     → (new ≡ new') × (a ≡ b)
 event_one keys (request m bytes) old new new' (replied a) (replied b) x y =
     let same = request_one keys m bytes old new new' a b x y in (same.0, ap replied same.1)

@@ -4,10 +4,11 @@ use Rattle.std.specs.List.{All}
 use Rattle.std.proofs.lemmas.List.Elements.{All-nil, All-cons}
 use Rattle.acvp_tables.specs.Meaning.{Meaning}
 use Rattle.acvp_desk.specs.declared.keys.Keys.{Keys}
-use Rattle.acvp_http.specs.Event.{Answer, Turn}
+use Rattle.acvp_http.specs.Event.{EventAnswer, Turn}
 use Rattle.acvp_http.specs.Headline.{Headline, HeadlineLeft}
 use Rattle.acvp_http.specs.Isolation.{Isolation}
 use Rattle.acvp_http.specs.Event.{CanHappen}
+use Rattle.acvp_http.specs.Left.{LeavesRun}
 use Rattle.acvp_http.specs.Promise.{GoesAsPromised}
 use Rattle.acvp_http.specs.Run.{RunsScript, RunsTurns, events_of}
 use Rattle.acvp_http.specs.Script.{IsScript}
@@ -24,10 +25,12 @@ all_can (turn ∷ turns) text (front, rest, is, written, script) =
     All-cons (λ (turn : Turn). CanHappen turn.event) turn turns (can_happen turn.event front written) (all_can turns rest script)
 
 module _ {T : Type 0} (meaning : Meaning T)
-    (makes : (keys : Keys) (turns : List Turn) (answers : List Answer) (old new : T) → GoesThrough meaning keys turns answers old new
+    (makes : (keys : Keys) (turns : List Turn) (answers : List EventAnswer) (old new : T) → GoesThrough meaning keys turns answers old new
     → GoesByTurns meaning keys turns answers old new)
+    (leaving : (keys : Keys) (turns : List Turn) (answers : List EventAnswer) (old new : T) → GoesThrough meaning keys turns answers old new
+    → LeavesRun meaning keys turns answers old new)
     (headline : Headline) (left : HeadlineLeft) (isolation : Isolation) (keys : Keys) (seeded : 1 ≤ length keys.seed) where
-  promised : (turns : List Turn) (answers : List Answer) (text : List ℕ) (old new : T) → IsScript (events_of turns) text → GoesThrough meaning keys turns answers old new
+  promised : (turns : List Turn) (answers : List EventAnswer) (text : List ℕ) (old new : T) → IsScript (events_of turns) text → GoesThrough meaning keys turns answers old new
       → GoesAsPromised meaning keys turns answers old new
   promised turns answers text old new script through = λ clean c kept h.
       let (next, runs, stands-next, kept-next) = makes keys turns answers old new through clean c kept h in (
@@ -45,4 +48,4 @@ module _ {T : Type 0} (meaning : Meaning T)
   pub runs_script : (tables last : T) (input rest : InputStream) (old new : OutputStream) (result : Result ℕ ScriptFault)
       → RunsTurns meaning keys tables last input rest old new result → RunsScript meaning keys tables last input rest old new result
   runs_script tables last input rest old new result (turns, answers, text, through, script, stops, writes, few) =
-      (turns, answers, text, promised turns answers text tables last script through, through, script, stops, writes, few)
+      (turns, answers, text, promised turns answers text tables last script through, leaving keys turns answers tables last through, through, script, stops, writes, few)

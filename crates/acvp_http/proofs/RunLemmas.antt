@@ -11,10 +11,10 @@ use Rattle.acvp_desk.specs.declared.order.Order.TheVariants.{AddAccount, Disable
 use Rattle.acvp_http.specs.declared.source.ReadFault.{ReadFault}
 use Rattle.acvp_http.specs.declared.source.ReadFault.TheVariants.{Failed, TooOften}
 use Rattle.acvp_http.specs.declared.script.ScriptFault.TheVariants.{Write}
-use Rattle.acvp_http.specs.Event.{Event, request, order, Answer, Turn}
+use Rattle.acvp_http.specs.Event.{Event, request, order, EventAnswer, Turn}
 use Rattle.acvp_http.specs.Event.{CanHappen}
 use Rattle.acvp_http.specs.Script.{IsScript, IsWritten, IsAccountNumber, HasNoEvent, answer_text, output_of}
-use Rattle.acvp_http.specs.Serve.{GoesByTurn, GoesByTurns, GoesThrough, ShowsEvent}
+use Rattle.acvp_http.specs.Serve.{GoesByTurns, GoesThrough, HandlesTurn, LeavesShut}
 use Rattle.acvp_http.specs.Private.Reading.{TakesPart, StopsReading, stopped_by}
 use Rattle.acvp_http.specs.Source.{InputStream, OutputStream, Gives, Gets, GetsFront}
 use Rattle.acvp_http.specs.Run.{events_of, most_reads, BeginsWith, TakesInPart, StopsAfter, WritesAnswers, RunsTurns}
@@ -39,7 +39,7 @@ pub events_more : (turns : List Turn) (turn : Turn) → events_of (turns ++ turn
 events_more [] turn = refl
 events_more (t ∷ turns) turn = ap (λ rest. t.event ∷ rest) (events_more turns turn)
 
-pub output_more : (answers : List Answer) (answer : Answer) → output_of (answers ++ answer ∷ []) ≡ output_of answers
+pub output_more : (answers : List EventAnswer) (answer : EventAnswer) → output_of (answers ++ answer ∷ []) ≡ output_of answers
     ++ answer_text answer
 output_more [] answer = append-nil (answer_text answer)
 output_more (a ∷ answers) answer = ap (λ rest. answer_text a ++ rest) (output_more answers answer)
@@ -50,56 +50,54 @@ appends_nothing None = tt
 appends_nothing (Some xs) = sym (append-nil xs)
 
 -- a turn of a desk with the same keys
-pub under : {T : Type 0} (meaning : Meaning T) (now keys : Keys) (old new : T) (turn : Turn) (answer : Answer) → now ≡ keys
-    → GoesByTurn meaning now turn answer old new → GoesByTurn meaning keys turn answer old new
-under meaning now keys old new turn answer same takes = subst (λ (k : Keys). GoesByTurn meaning k turn answer old new) same takes
+pub under : {T : Type 0} (meaning : Meaning T) (now keys : Keys) (old new : T) (turn : Turn) (answer : EventAnswer) → now ≡ keys
+    → HandlesTurn meaning now turn answer old new → HandlesTurn meaning keys turn answer old new
+under meaning now keys old new turn answer same handled = subst (λ (k : Keys). HandlesTurn meaning k turn answer old new) same handled
+
+-- a store that is shut, over one turn more
+pub shut_more : {T : Type 0} (meaning : Meaning T) (start mid now : T) → (meaning.is_clean now → meaning.is_clean mid) → (meaning.is_open mid → meaning.is_open start)
+    → LeavesShut meaning start mid → LeavesShut meaning mid now → LeavesShut meaning start now
+shut_more meaning start mid now was_clean was_open first last =
+    λ clean off c d left. last clean (λ live. off (was_open live)) c d (first (was_clean clean) off c d left)
 
 -- tables that go through turns, and by one more
 module _ {T : Type 0} (meaning : Meaning T) (keys : Keys) where
-  open meaning use {stands, is_live, is_clean}
+  open meaning use {stands, is_open, is_clean}
 
-  through_more : (turns : List Turn) (answers : List Answer) (start mid now : T) (turn : Turn) (answer : Answer)
-      → GoesThrough meaning keys turns answers start mid → (is_clean now → is_clean mid) → ShowsEvent meaning turn.event answer mid now
-      → GoesByTurn meaning keys turn answer mid now
+  through_more : (turns : List Turn) (answers : List EventAnswer) (start mid now : T) (turn : Turn) (answer : EventAnswer)
+      → GoesThrough meaning keys turns answers start mid → HandlesTurn meaning keys turn answer mid now
       → GoesThrough meaning keys (turns ++ turn ∷ []) (answers ++ answer ∷ []) start now
-  through_more [] [] start mid now turn answer through was_clean shows takes =
-      let same : mid ≡ start = through in (
-        now,
-        subst (λ (t : T). is_clean now → is_clean t) same was_clean,
-        subst (λ (t : T). ShowsEvent meaning turn.event answer t now) same shows,
-        subst (λ (t : T). GoesByTurn meaning keys turn answer t now) same takes,
-        refl,
-      )
-  through_more [] (a ∷ answers) start mid now turn answer through was_clean shows takes = absurd through
-  through_more (t ∷ turns) [] start mid now turn answer through was_clean shows takes = absurd through
-  through_more (t ∷ turns) (a ∷ answers) start mid now turn answer (next, up, shown, first, through) was_clean shows takes =
-      (next, up, shown, first, through_more turns answers next mid now turn answer through was_clean shows takes)
+  through_more [] [] start mid now turn answer through handled =
+      let same : mid ≡ start = through in
+      (now, subst (λ (t : T). HandlesTurn meaning keys turn answer t now) same handled, refl)
+  through_more [] (a ∷ answers) start mid now turn answer through handled = absurd through
+  through_more (t ∷ turns) [] start mid now turn answer through handled = absurd through
+  through_more (t ∷ turns) (a ∷ answers) start mid now turn answer (next, first, through) handled =
+      (next, first, through_more turns answers next mid now turn answer through handled)
 
-  -- a disk that has told no lie at the end had told none at the start
-  through_clean : (turns : List Turn) (answers : List Answer) (old new : T) → GoesThrough meaning keys turns answers old new → is_clean new → is_clean old
+  -- a disk that is clean at the end was clean at the start
+  pub through_clean : (turns : List Turn) (answers : List EventAnswer) (old new : T) → GoesThrough meaning keys turns answers old new → is_clean new → is_clean old
   through_clean [] [] old new through clean = subst (λ (t : T). is_clean t) through clean
   through_clean [] (a ∷ answers) old new through clean = absurd through
   through_clean (t ∷ turns) [] old new through clean = absurd through
-  through_clean (t ∷ turns) (a ∷ answers) old new (mid, up, shown, first, through) clean = up (through_clean turns answers mid new through clean)
+  through_clean (t ∷ turns) (a ∷ answers) old new (mid, first, through) clean = first.was_clean (through_clean turns answers mid new through clean)
 
   -- and then the tables go by all turns
-  pub make_a_run : (turns : List Turn) (answers : List Answer) (old new : T) → GoesThrough meaning keys turns answers old new
+  pub make_a_run : (turns : List Turn) (answers : List EventAnswer) (old new : T) → GoesThrough meaning keys turns answers old new
       → GoesByTurns meaning keys turns answers old new
-  make_a_run [] [] old new through = λ clean c kept h. (c, refl, subst (λ (t : T). is_live t → stands t c) (sym through) h, kept)
+  make_a_run [] [] old new through = λ clean c kept h. (c, refl, subst (λ (t : T). is_open t → stands t c) (sym through) h, kept)
   make_a_run [] (a ∷ answers) old new through = absurd through
   make_a_run (t ∷ turns) [] old new through = absurd through
-  make_a_run (t ∷ turns) (a ∷ answers) old new (mid, up, shown, first, through) = λ clean c kept h.
-      let (c', taken, stands', kept') = first (through_clean turns answers mid new through clean) c kept h in
+  make_a_run (t ∷ turns) (a ∷ answers) old new (mid, first, through) = λ clean c kept h.
+      let (c', taken, stands', kept') = first.taken (through_clean turns answers mid new through clean) c kept h in
       let (next, ran, stands-next, kept-next) = make_a_run turns answers mid new through clean c' kept' stands' in
       (next, (c', taken, ran), stands-next, kept-next)
 
 -- what a run over tables has done after so many turns
 module _ {T : Type 0} (meaning : Meaning T) (keys : Keys) (start : T) where
-  open meaning use {is_clean}
-
   pub record Ran (now : T) (input left : InputStream) (old new : OutputStream) (count : ℕ) : Type 0 where
     pub turns : List Turn
-    pub answers : List Answer
+    pub answers : List EventAnswer
     pub text : List ℕ
     pub runs : GoesThrough meaning keys turns answers start now
     pub script : IsScript (events_of turns) text
@@ -120,18 +118,18 @@ module _ {T : Type 0} (meaning : Meaning T) (keys : Keys) (start : T) where
     appended = appends_nothing old.contents;
   }
 
-  module _ (mid now : T) (input left left' : InputStream) (old new new' : OutputStream) (turn : Turn) (answer : Answer) (front : List ℕ) where
+  module _ (mid now : T) (input left left' : InputStream) (old new new' : OutputStream) (turn : Turn) (answer : EventAnswer) (front : List ℕ) where
     -- one turn more
-    pub ran_more : (count : ℕ) → Ran mid input left old new count → (is_clean now → is_clean mid) → IsWritten turn.event front
-        → Gives left left' front → ShowsEvent meaning turn.event answer mid now → GoesByTurn meaning keys turn answer mid now
+    pub ran_more : (count : ℕ) → Ran mid input left old new count → IsWritten turn.event front
+        → Gives left left' front → HandlesTurn meaning keys turn answer mid now
         → Gets new new' (answer_text answer)
         → Ran now input left' old new' (count + 1)
-    ran_more count ran was_clean written consumed shows takes appended =
+    ran_more count ran written consumed handled appended =
         record {
           turns = ran.turns ++ turn ∷ [];
           answers = ran.answers ++ answer ∷ [];
           text = ran.text ++ front;
-          runs = through_more meaning keys ran.turns ran.answers start mid now turn answer ran.runs was_clean shows takes;
+          runs = through_more meaning keys ran.turns ran.answers start mid now turn answer ran.runs handled;
           script = rw (events_more ran.turns turn)
               (script_more (events_of ran.turns) ran.text front turn.event ran.script written);
           size = omega (arith, length-append ran.turns (turn ∷ []), ran.size);
@@ -141,15 +139,14 @@ module _ {T : Type 0} (meaning : Meaning T) (keys : Keys) (start : T) where
         }
 
     -- the writer fails in a turn's answer
-    pub ran_writes : (count : ℕ) → Ran mid input left old new count → count < 100000 → (is_clean now → is_clean mid)
-        → IsWritten turn.event front → Gives left left' front → ShowsEvent meaning turn.event answer mid now
-        → GoesByTurn meaning keys turn answer mid now
+    pub ran_writes : (count : ℕ) → Ran mid input left old new count → count < 100000
+        → IsWritten turn.event front → Gives left left' front → HandlesTurn meaning keys turn answer mid now
         → GetsFront new new' (answer_text answer) → RunsTurns meaning keys start now input left' old new' (Err Write)
-    ran_writes count ran few was_clean written consumed shows takes (begun, rest, parts, appended) = (
+    ran_writes count ran few written consumed handled (begun, rest, parts, appended) = (
       ran.turns ++ turn ∷ [],
       ran.answers ++ answer ∷ [],
       ran.text ++ front,
-      through_more meaning keys ran.turns ran.answers start mid now turn answer ran.runs was_clean shows takes,
+      through_more meaning keys ran.turns ran.answers start mid now turn answer ran.runs handled,
       rw (events_more ran.turns turn) (script_more (events_of ran.turns) ran.text front turn.event ran.script written),
       consumes_consumes input.held left.held left'.held ran.text front ran.consumed consumed,
       (
@@ -168,7 +165,7 @@ in_part input left left' text consumed (part, taken, none) = (part, none, consum
 
 -- the byte behind the last turn isn't read: a read has failed, or there were too many
 pub stopped_at_last : (read : ReadFault) (limit : ℕ) (input left : InputStream) (old new : OutputStream) (turns : List Turn)
-    (answers : List Answer) (text : List ℕ) → StopsReading read left limit → limit ≡ min (input.reads + most_reads) (2 ^ 64 - 1)
+    (answers : List EventAnswer) (text : List ℕ) → StopsReading read left limit → limit ≡ min (input.reads + most_reads) (2 ^ 64 - 1)
     → TakesInPart input left text → Gets old new (output_of answers)
     → StopsAfter input left turns text (Err (stopped_by read)) × WritesAnswers old new answers (Err (stopped_by read))
 stopped_at_last Failed limit input left old new turns answers text stops at part appended = (part, appended)

@@ -8,12 +8,13 @@ use Rattle.acvp_http.specs.declared.connection.ServeFault.{ServeFault}
 use Rattle.acvp_http.specs.declared.connection.ServeFault.TheVariants.{Read, Write, Turns}
 use Rattle.acvp_http.specs.Needed.{IsNeededAt, IsWithinNeeded}
 use Rattle.acvp_http.specs.Reply.{refusal}
-use Rattle.acvp_http.specs.Serve.{RequestTaken, ShowsRequest}
+use Rattle.acvp_http.specs.Event.{replied}
+use Rattle.acvp_http.specs.Serve.{RequestTaken, ShowsRequest, StaysOpen}
 use Rattle.acvp_http.specs.Source.{InputStream, OutputStream, Gives, Gets, GetsFront, ReadsTooOften}
 
 -- the most reads for one request
-abbrev pub most_turns : ℕ
-most_turns = 2200000
+abbrev pub most_request_reads : ℕ
+most_request_reads = 2200000
 
 -- Some of a known input may be taken, and nothing behind what its request needs.
 abbrev pub TakesWithin : InputStream → InputStream → Type 0
@@ -29,13 +30,14 @@ IsUnhandled moment input left written out old new =
 module _ {T : Type 0} (meaning : Meaning T) where
   -- What was taken is what the request of the known input needs, and nothing behind it. The reply, and what becomes of
   -- the records, are those of the whole input as a request, or it is unavailable. The reply has its form, whatever the
-  -- tables stand for.
+  -- tables stand for; and tables that were open are, unless it is unavailable.
   abbrev pub AnswersNeeded : Keys → ℕ → InputStream → InputStream → List ℕ → T → T → Type 0
   AnswersNeeded keys moment input left reply old new =
       (front : List ℕ) × Gives input left front × RequestTaken meaning keys moment front reply old new
       × IfSome input.held (λ bytes. IsNeededAt moment bytes front
       × RequestTaken meaning keys moment bytes reply old new)
       × ShowsRequest meaning moment front reply old new
+      × StaysOpen meaning (replied reply) old new
 
   -- Or memory for what it needs was refused: the records stay, and some of it may be taken.
   abbrev pub AnswersNothing : ℕ → InputStream → InputStream → List ℕ → T → T → Type 0
@@ -55,7 +57,7 @@ module _ {T : Type 0} (meaning : Meaning T) where
       (reply : List ℕ) × AnswersInput keys moment input left reply old new × GetsFront written out reply
   ServesOne keys moment input left written out old new (Err Read) = IsUnhandled moment input left written out old new
   ServesOne keys moment input left written out old new (Err Turns) =
-      IsUnhandled moment input left written out old new × ReadsTooOften most_turns input left
+      IsUnhandled moment input left written out old new × ReadsTooOften most_request_reads input left
 
 -- whether the fault is that the reader, or the writer, has failed
 abbrev pub is_read_end : {X : Type 0} → Result X ServeFault → Bool

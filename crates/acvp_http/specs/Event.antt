@@ -15,9 +15,9 @@ CanHappen (request moment bytes) = ⊤
 CanHappen (order moment o) = IsOrder o × HasSecret o
 
 -- the bytes of a reply, or the reply to an order
-pub data Answer : Type 0 where
-  replied : List ℕ → Answer
-  ordered : OrderReply → Answer
+pub data EventAnswer : Type 0 where
+  replied : List ℕ → EventAnswer
+  ordered : OrderReply → EventAnswer
 
 -- an event, and whether it was unavailable
 pub record Turn : Type 0 where

@@ -12,7 +12,7 @@ use Rattle.acvp_desk.specs.Written.{body_of}
 use Rattle.acvp_desk.specs.declared.keys.Keys.{Keys}
 use Rattle.acvp_desk.specs.declared.order.OrderReply.{OrderReply}
 use Rattle.acvp_desk.specs.declared.order.OrderReply.TheVariants.{Done, Taken, Unknown, NotInitial, Unavailable}
-use Rattle.acvp_http.specs.Event.{Event, request, order, Answer, replied, ordered, Turn}
+use Rattle.acvp_http.specs.Event.{Event, request, order, EventAnswer, replied, ordered, Turn}
 use Rattle.acvp_http.specs.Reply.{refusal, framed, IsDateOf}
 use Rattle.acvp_http.specs.Serve.{AsksTheDesk, IsUnavailableRequest, RefusesAtOnce, Runs}
 
@@ -27,7 +27,7 @@ is_done Unavailable = false
 
 -- The event is denied over this state: the head, the framing, the route or the clock is at fault, or the reply names
 -- the first rule of the policy that is broken; or the order is refused.
-abbrev pub IsDenied : Keys → Event → State → Answer → Type 0
+abbrev pub IsDenied : Keys → Event → State → EventAnswer → Type 0
 IsDenied keys (request moment bytes) state (replied reply) =
     RefusesAtOnce moment bytes reply
     ⊎ ((r : RequestValue) × (rule : Rule) × (date : List ℕ) × AsksTheDesk moment bytes r
@@ -39,7 +39,7 @@ IsDenied keys (order moment o) state (ordered reply) = (reply ≡ order_reply o 
 
 -- The event is accepted over this state: each condition holds, the reply shows its object, and the other state is what
 -- its effect leaves.
-abbrev pub IsAccepted : Keys → Event → State → State → Answer → Type 0
+abbrev pub IsAccepted : Keys → Event → State → State → EventAnswer → Type 0
 IsAccepted keys (request moment bytes) state next (replied reply) =
     (r : RequestValue) × (shown : Data) × (date : List ℕ) × AsksTheDesk moment bytes r
     × (first_broken (conditions keys moment r state) ≡ None)
@@ -51,14 +51,14 @@ IsAccepted keys (order moment o) state next (ordered reply) =
     (reply ≡ order_reply o state) × (is_done reply ≡ true) × (next ≡ order_effect o state)
 
 -- the event is unavailable
-abbrev pub IsToldUnavailable : Event → Answer → Type 0
+abbrev pub IsToldUnavailable : Event → EventAnswer → Type 0
 IsToldUnavailable (request moment bytes) (replied reply) = IsUnavailableRequest moment bytes reply
 IsToldUnavailable (request moment bytes) (ordered reply) = ⊥
 IsToldUnavailable (order moment o) (replied reply) = ⊥
 IsToldUnavailable (order moment o) (ordered reply) = reply ≡ Unavailable
 
 -- the answer to a turn over this state, which stays unless the event is accepted
-abbrev pub IsAnswered : Keys → Turn → State → State → Answer → Type 0
+abbrev pub IsAnswered : Keys → Turn → State → State → EventAnswer → Type 0
 IsAnswered keys turn state next answer = MatchBool turn.unavailable
     ((next ≡ state) × IsToldUnavailable turn.event answer)
     (((next ≡ state) × IsDenied keys turn.event state answer) ⊎ IsAccepted keys turn.event state next answer)
@@ -67,32 +67,33 @@ IsAnswered keys turn state next answer = MatchBool turn.unavailable
 
 -- the turn's event isn't accepted over this state
 abbrev pub IsNotAccepted : Keys → Turn → State → Type 0
-IsNotAccepted keys turn state = (turn.unavailable ≡ true) ⊎ ((answer : Answer) × IsDenied keys turn.event state answer)
+IsNotAccepted keys turn state =
+    (turn.unavailable ≡ true) ⊎ ((answer : EventAnswer) × IsDenied keys turn.event state answer)
 
 -- what the accepted events among the turns leave of a state: the effect of each, one after another, and nothing of the
 -- others
 abbrev pub LeftBy : Keys → List Turn → State → State → Type 0
 LeftBy keys [] state now = now ≡ state
 LeftBy keys (turn ∷ turns) state now =
-    ((next : State) × (answer : Answer) × (turn.unavailable ≡ false) × IsAccepted keys turn.event state next answer
+    ((next : State) × (answer : EventAnswer) × (turn.unavailable ≡ false) × IsAccepted keys turn.event state next answer
     × LeftBy keys turns next now)
     ⊎ (IsNotAccepted keys turn state × LeftBy keys turns state now)
 
 -- the answer to this turn is among those of the run, in its place, and is given over the state that the accepted turns
 -- before it left
-abbrev pub AnswersTurn : Keys → List Turn → Turn → State → List Answer → Type 0
+abbrev pub AnswersTurn : Keys → List Turn → Turn → State → List EventAnswer → Type 0
 AnswersTurn keys earlier turn state answers =
-    (told : List Answer) × (answer : Answer) × (after : List Answer) × (now : State) × (next : State)
+    (told : List EventAnswer) × (answer : EventAnswer) × (after : List EventAnswer) × (now : State) × (next : State)
     × (answers ≡ told ++ answer ∷ after) × (length told ≡ length earlier) × LeftBy keys earlier state now
     × IsAnswered keys turn now next answer
 
 -- The headline: in every run each event is answered over the state that the accepted ones before it left.
 abbrev pub Headline : Type 0
-Headline = (keys : Keys) (earlier later : List Turn) (turn : Turn) (old new : Content) (answers : List Answer)
+Headline = (keys : Keys) (earlier later : List Turn) (turn : Turn) (old new : Content) (answers : List EventAnswer)
     → Runs keys (earlier ++ turn ∷ later) old new answers → AnswersTurn keys earlier turn (state_of old) answers
 
 -- And what a run leaves is what its accepted events left.
 abbrev pub HeadlineLeft : Type 0
 HeadlineLeft =
-    (keys : Keys) (turns : List Turn) (old new : Content) (answers : List Answer) → Runs keys turns old new answers
+    (keys : Keys) (turns : List Turn) (old new : Content) (answers : List EventAnswer) → Runs keys turns old new answers
     → LeftBy keys turns (state_of old) (state_of new)

@@ -3,14 +3,14 @@ use Rattle.std.specs.Prelude.{◌≡◌, ◌⊎◌, ℕ, ◌≤◌, ◌==◌, Li
 use Rattle.std.specs.Prelude.{MatchBool, length, Option, Some, None, ⊤}
 use Rattle.std.specs.List.{All}
 use Rattle.acvp_tables.specs.Content.{Content, is_reviewer}
-use Rattle.acvp_tables.specs.State.{State, own, owner_of, state_of, IsSound}
+use Rattle.acvp_tables.specs.State.{State, own, owner_of, state_of, AreWellNumbered}
 use Rattle.acvp_desk.specs.Answer.{end_of_moments}
 use Rattle.acvp_desk.specs.Isolation.{is_who, reviewer_asked, who_of, SeesAlike}
 use Rattle.acvp_desk.specs.Kept.{IsKept}
 use Rattle.acvp_desk.specs.Request.{RequestValue}
 use Rattle.acvp_desk.specs.declared.keys.Keys.{Keys}
 use Rattle.acvp_http.specs.Asks.{ParsedRequest, refused, wrong_method, typed, Asks}
-use Rattle.acvp_http.specs.Event.{Event, request, order, Answer, CanHappen, Turn}
+use Rattle.acvp_http.specs.Event.{Event, request, order, EventAnswer, CanHappen, Turn}
 use Rattle.acvp_http.specs.Serve.{AsksTheDesk, IsUnavailableRequest, Runs, ServesRequest}
 
 -- ---- whose an event is
@@ -38,9 +38,9 @@ pub record IsAnsweredApart (keys : Keys) (moment : ℕ) (bytes : List ℕ) (old 
     (reply : List ℕ) : Type 0 where
   pub who : Option ℕ
   pub of : IsOf keys (request moment bytes) who
-  pub told : (other : Content) → IsSound other → SeesAlike who (state_of old) (state_of other)
+  pub told : (other : Content) → AreWellNumbered other → SeesAlike who (state_of old) (state_of other)
       → (after : Content) × ServesRequest keys moment bytes other after reply
-  pub left : (v : ℕ) (other after : Content) (said : List ℕ) → IsSound other
+  pub left : (v : ℕ) (other after : Content) (said : List ℕ) → AreWellNumbered other
       → own v (state_of old) ≡ own v (state_of other)
       → ServesRequest keys moment bytes other after said → own v (state_of new) ≡ own v (state_of after)
   pub others : (v : ℕ) → is_who who v ≡ false → own v (state_of new) ≡ own v (state_of old)
@@ -48,8 +48,9 @@ pub record IsAnsweredApart (keys : Keys) (moment : ℕ) (bytes : List ℕ) (old 
 
 -- so is each request that is served
 abbrev pub RequestIsolation : Type 0
-RequestIsolation = (keys : Keys) (moment : ℕ) (bytes : List ℕ) (old new : Content) (reply : List ℕ) → IsSound old
-    → ServesRequest keys moment bytes old new reply → IsAnsweredApart keys moment bytes old new reply
+RequestIsolation = (keys : Keys) (moment : ℕ) (bytes : List ℕ) (old new : Content) (reply : List ℕ)
+    → AreWellNumbered old → ServesRequest keys moment bytes old new reply
+    → IsAnsweredApart keys moment bytes old new reply
 
 -- or it is unavailable, and changes nothing
 abbrev pub IsTakenApart : Keys → ℕ → List ℕ → Content → Content → List ℕ → Type 0
@@ -86,12 +87,13 @@ abbrev pub is_told : ℕ → Turn → Option ℕ → Bool
 is_told u turn who = not turn.unavailable && is_who who u
 
 -- the answers to u's requests among those of a run, in their order
-abbrev pub Told : Keys → ℕ → List Turn → List Answer → List Answer → Type 0
+abbrev pub Told : Keys → ℕ → List Turn → List EventAnswer → List EventAnswer → Type 0
 Told keys u [] [] told = told ≡ []
 Told keys u [] (answer ∷ answers) told = ⊥
 Told keys u (turn ∷ turns) [] told = ⊥
 Told keys u (turn ∷ turns) (answer ∷ answers) told = (who : Option ℕ) × IsOf keys turn.event who
-    × MatchBool (is_told u turn who) ((rest : List Answer) × (told ≡ answer ∷ rest) × Told keys u turns answers rest)
+    × MatchBool (is_told u turn who)
+    ((rest : List EventAnswer) × (told ≡ answer ∷ rest) × Told keys u turns answers rest)
     (Told keys u turns answers told)
 
 -- ---- who can let an account see something
@@ -113,22 +115,23 @@ pub record LetsSee (keys : Keys) (u : ℕ) (these : ℕ → Bool) (state : State
 -- u is told in the run what it is told in the run of the operator's and these accounts' turns alone, from the same
 -- records: there is such a run, and in each that is one it is told the same
 pub record IsToldAlone (keys : Keys) (u : ℕ) (these : ℕ → Bool) (turns : List Turn) (old : Content)
-    (answers : List Answer) : Type 0 where
+    (answers : List EventAnswer) : Type 0 where
   pub chosen : List Turn
   pub left : Content
-  pub others : List Answer
-  pub told : List Answer
+  pub others : List EventAnswer
+  pub told : List EventAnswer
   pub only : Only keys these turns chosen
   pub runs : Runs keys chosen old left others
   pub here : Told keys u turns answers told
   pub alone : Told keys u chosen others told
-  pub every : (only_theirs : List Turn) (after : Content) (said heard : List Answer) → Only keys these turns only_theirs
-      → Runs keys only_theirs old after said
+  pub every : (only_theirs : List Turn) (after : Content) (said heard : List EventAnswer)
+      → Only keys these turns only_theirs → Runs keys only_theirs old after said
       → Told keys u only_theirs said heard → Told keys u turns answers heard
 
 -- What an account is told in a run is what it is told where only those act that let it see something.
 abbrev pub Isolation : Type 0
-Isolation = (keys : Keys) (u : ℕ) (these : ℕ → Bool) (turns : List Turn) (old new : Content) (answers : List Answer)
+Isolation = (keys : Keys) (u : ℕ) (these : ℕ → Bool) (turns : List Turn) (old new : Content)
+    (answers : List EventAnswer)
     → 1 ≤ length keys.seed → IsKept keys.seed old → All (λ turn. CanHappen turn.event) turns
     → LetsSee keys u these (state_of old) turns
     → Runs keys turns old new answers → IsToldAlone keys u these turns old answers
@@ -140,7 +143,7 @@ pub record IsUnnamed (keys : Keys) (u : ℕ) (state : State) (turns : List Turn)
 
 -- So an account that no other names a reviewer is told what it is told where the operator and it alone act.
 abbrev pub IsolationAlone : Type 0
-IsolationAlone = (keys : Keys) (u : ℕ) (turns : List Turn) (old new : Content) (answers : List Answer)
+IsolationAlone = (keys : Keys) (u : ℕ) (turns : List Turn) (old new : Content) (answers : List EventAnswer)
     → 1 ≤ length keys.seed → IsKept keys.seed old → All (λ turn. CanHappen turn.event) turns
     → IsUnnamed keys u (state_of old) turns
     → Runs keys turns old new answers → IsToldAlone keys u (λ w. w == u) turns old answers

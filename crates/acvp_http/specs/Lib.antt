@@ -4,6 +4,8 @@ pub mod Reply
 pub mod Event
 pub mod Serve
 pub mod Handled
+pub mod Left
+pub mod Life
 pub mod Script
 pub mod Asks
 pub mod Source

@@ -1,8 +1,8 @@
 -- How much of an input its request needs.
-use Rattle.std.specs.Prelude.{◌≡◌, ◌⊎◌, ℕ, ◌+◌, List, [], ◌++◌, take, nat_lt, MatchBool, Result, Ok, Err}
+use Rattle.std.specs.Prelude.{◌≡◌, ◌<◌, ◌⊎◌, ℕ, ◌+◌, List, [], ◌++◌, length, take, nat_lt, MatchBool, Result, Ok, Err}
 use Rattle.acvp_policy.specs.declared.rule.Rule.{Rule}
 use Rattle.acvp_desk.specs.Answer.{end_of_moments}
-use Rattle.acvp_http.specs.Asks.{FramedHead, HasNoEmptyLine, IsBlockEnd, ReadsBlock, window}
+use Rattle.acvp_http.specs.Asks.{FramedHead, HasNoEmptyLine, IsBlockEnd, ReadsBlock, head_limit, window}
 
 -- so many bytes are needed behind a block: the body, or nothing where the block is refused whatever follows it
 abbrev pub needed_size : Result FramedHead Rule → ℕ
@@ -27,3 +27,7 @@ IsNeededAt moment input front = MatchBool (nat_lt moment end_of_moments) (IsNeed
 -- what its request needs of an input begins with this
 abbrev pub IsWithinNeeded : List ℕ → List ℕ → Type 0
 IsWithinNeeded input part = (front : List ℕ) → IsNeeded input front → (rest : List ℕ) × (front ≡ part ++ rest)
+
+-- no empty line is there, and fewer bytes than a head may have
+abbrev pub IsShortOfHead : List ℕ → Type 0
+IsShortOfHead bytes = HasNoEmptyLine bytes × (length bytes < head_limit)

@@ -6,7 +6,8 @@ use Rattle.acvp_desk.specs.declared.keys.Keys.{Keys}
 use Rattle.acvp_tables.specs.Meaning.{Meaning}
 use Rattle.acvp_http.specs.declared.script.ScriptFault.{ScriptFault}
 use Rattle.acvp_http.specs.declared.script.ScriptFault.TheVariants.{Read, Write, Syntax, Limit, Memory}
-use Rattle.acvp_http.specs.Event.{Event, Answer, Turn}
+use Rattle.acvp_http.specs.Event.{Event, EventAnswer, Turn}
+use Rattle.acvp_http.specs.Left.{LeavesRun}
 use Rattle.acvp_http.specs.Promise.{GoesAsPromised}
 use Rattle.acvp_http.specs.Script.{IsScript, HasNoEvent, LeavesGrammar, answer_text, output_of}
 use Rattle.acvp_http.specs.Serve.{GoesThrough}
@@ -51,14 +52,14 @@ StopsAfter input left turns text (Err Limit) = TakesInPart input left text × Re
 StopsAfter input left turns text (Err Memory) = (length turns < most_events) × TakesInPart input left text
 
 -- the output of all answers but the last, and a front of the last one's
-abbrev pub WritesInPart : OutputStream → OutputStream → List Answer → Type 0
+abbrev pub WritesInPart : OutputStream → OutputStream → List EventAnswer → Type 0
 WritesInPart old new answers =
-    (earlier : List Answer) × (last : Answer) × (answers ≡ earlier ++ last ∷ [])
+    (earlier : List EventAnswer) × (last : EventAnswer) × (answers ≡ earlier ++ last ∷ [])
     × ((front : List ℕ) × (rest : List ℕ) × (answer_text last ≡ front ++ rest)
     × Gets old new (output_of earlier ++ front))
 
 -- what is written of the answers
-abbrev pub WritesAnswers : OutputStream → OutputStream → List Answer → Result ℕ ScriptFault → Type 0
+abbrev pub WritesAnswers : OutputStream → OutputStream → List EventAnswer → Result ℕ ScriptFault → Type 0
 WritesAnswers old new answers (Ok count) = Gets old new (output_of answers)
 WritesAnswers old new answers (Err Write) = WritesInPart old new answers
 WritesAnswers old new answers (Err Read) = Gets old new (output_of answers)
@@ -72,17 +73,17 @@ module _ {T : Type 0} (meaning : Meaning T) where
   abbrev pub RunsTurns : Keys → T → T → InputStream → InputStream → OutputStream → OutputStream → Result ℕ ScriptFault
       → Type 0
   RunsTurns keys tables last input left old new result =
-      (turns : List Turn) × (answers : List Answer) × (text : List ℕ)
+      (turns : List Turn) × (answers : List EventAnswer) × (text : List ℕ)
       × GoesThrough meaning keys turns answers tables last × IsScript (events_of turns) text
       × StopsAfter input left turns text result × WritesAnswers old new answers result
       × (length turns ≤ most_events)
 
-  -- The same, and the promise of the server of these turns and answers.
+  -- The same, and the promise of the server of these turns and answers, and what a crash finds after them.
   abbrev pub RunsScript : Keys → T → T → InputStream → InputStream → OutputStream → OutputStream → Result ℕ ScriptFault
       → Type 0
   RunsScript keys tables last input left old new result =
-      (turns : List Turn) × (answers : List Answer) × (text : List ℕ)
-      × GoesAsPromised meaning keys turns answers tables last
+      (turns : List Turn) × (answers : List EventAnswer) × (text : List ℕ)
+      × GoesAsPromised meaning keys turns answers tables last × LeavesRun meaning keys turns answers tables last
       × GoesThrough meaning keys turns answers tables last × IsScript (events_of turns) text
       × StopsAfter input left turns text result × WritesAnswers old new answers result
       × (length turns ≤ most_events)

@@ -5,7 +5,7 @@ use Rattle.hex.specs.Hex.{decode_of}
 use Rattle.acvp_desk.specs.declared.order.Order.TheVariants.{AddAccount, DisableAccount, ApproveRequest, RejectRequest}
 use Rattle.acvp_desk.specs.declared.order.OrderReply.{OrderReply}
 use Rattle.acvp_desk.specs.declared.order.OrderReply.TheVariants.{Done, Taken, Unknown, NotInitial, Unavailable}
-use Rattle.acvp_http.specs.Event.{Event, request, order, Answer, replied, ordered}
+use Rattle.acvp_http.specs.Event.{Event, request, order, EventAnswer, replied, ordered}
 
 -- a number of the script: 1 to 19 digits without leading zeros
 abbrev pub IsNumber : ℕ → Type 0
@@ -67,9 +67,9 @@ order_word NotInitial = codes "notInitial"
 order_word Unavailable = codes "unavailable"
 
 -- what is written for an answer
-abbrev pub answer_text : Answer → List ℕ
+abbrev pub answer_text : EventAnswer → List ℕ
 answer_text (replied bytes) = codes "reply " ++ decimal (length bytes) ++ codes "\n" ++ bytes ++ codes "\n"
 answer_text (ordered reply) = codes "order " ++ order_word reply ++ codes "\n"
 
-abbrev pub output_of : List Answer → List ℕ
+abbrev pub output_of : List EventAnswer → List ℕ
 output_of answers = flat_map answer_text answers

@@ -3,6 +3,7 @@ ghost use Rattle.std.specs.Prelude.{◌≡◌, ◌<◌, false, MatchResult};
 ghost use Rattle.acvp_desk.specs.Answer.{end_of_moments};
 ghost use Rattle.acvp_http.specs.Connection.{AnswersInput, ServesOne, TakesWithin, is_read_end, is_write_end};
 ghost use Rattle.acvp_http.specs.Private.Receiving.{StopsConnection};
+ghost use Rattle.acvp_http.specs.Serve.{LeavesShut};
 
 use crate::receiving::{ReceiveFault, Received, receive};
 use crate::reply::Reply;
@@ -15,8 +16,8 @@ use acvp_policy::Rule;
 use acvp_tables::Tables;
 use std::alloc::Global;
 
-/// The most reads for one request.
-const MOST_TURNS: u64 = 2200000;
+/// The most reads for one request: one for each byte that it may have, with room for interruptions.
+const MOST_REQUEST_READS: u64 = 2200000;
 
 /// Why a connection got no whole reply.
 #[derive(Clone, Copy, PartialEq, Eq, Debug)]
@@ -39,8 +40,9 @@ fn answer_input<T: Tables, S: Source>(
 ) -> Result<Reply, ServeFault>
     requires { (S.stream reader.old).failed ≡ false }
     ensures keys { desk.new.keys ≡ desk.old.keys }
-    ensures was_live { T.meaning.is_live desk.new.tables → T.meaning.is_live desk.old.tables }
+    ensures was_open { T.meaning.is_open desk.new.tables → T.meaning.is_open desk.old.tables }
     ensures was_clean { T.meaning.is_clean desk.new.tables → T.meaning.is_clean desk.old.tables }
+    ensures shut { LeavesShut T.meaning desk.old.tables desk.new.tables }
     ensures answered { MatchResult result
         (λ reply. ((S.stream reader.new).failed ≡ false)
         × AnswersInput T.meaning desk.old.keys moment (S.stream reader.old)
@@ -51,7 +53,7 @@ fn answer_input<T: Tables, S: Source>(
     let Some(date) = date_of(moment) else {
         return Ok(Reply::refusal(None, Rule::ClockOutOfRange));
     };
-    let limit = reader.reads().saturating_add(MOST_TURNS);
+    let limit = reader.reads().saturating_add(MOST_REQUEST_READS);
     match receive(alloc, reader, limit) {
         Ok(Received { bytes, head }) => Ok(answer(routes, desk, moment, &date, &bytes, head)),
         Err(ReceiveFault::Memory) => Ok(Reply::refusal(None, Rule::Unavailable)),
@@ -73,8 +75,9 @@ pub fn serve_one<T: Tables, S: Source, K: Sink>(
     requires reader_clear { (S.stream reader.old).failed ≡ false }
     requires writer_clear { (K.stream writer.old).failed ≡ false }
     ensures keys { desk.new.keys ≡ desk.old.keys }
-    ensures was_live { T.meaning.is_live desk.new.tables → T.meaning.is_live desk.old.tables }
+    ensures was_open { T.meaning.is_open desk.new.tables → T.meaning.is_open desk.old.tables }
     ensures was_clean { T.meaning.is_clean desk.new.tables → T.meaning.is_clean desk.old.tables }
+    ensures shut { LeavesShut T.meaning desk.old.tables desk.new.tables }
     ensures serves { ServesOne T.meaning desk.old.keys moment (S.stream reader.old) (S.stream reader.new)
         (K.stream writer.old)
         (K.stream writer.new) desk.old.tables desk.new.tables result }

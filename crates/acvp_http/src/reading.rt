@@ -9,7 +9,7 @@ ghost use Rattle.acvp_http.specs.Private.Reading.{StopsBody, StopsEvent, event_o
 ghost use Rattle.acvp_http.specs.Script.{IsWritten, HasNoEvent};
 ghost use Rattle.acvp_http.specs.Source.{Gives};
 
-use crate::script::{Line, ScriptFault, read_line};
+use crate::script::{ScriptFault, ScriptLine, read_line};
 use crate::source::{ReadFault, Source, is_interrupted};
 use acvp_desk::Order;
 use std::alloc::Global;
@@ -60,7 +60,8 @@ pub(crate) fn read_byte<S: Source>(reader: &mut S, limit: u64) -> Result<Option<
     }
 }
 
-/// The length of the next line, which stands in `line`, or `None` at the end.
+/// The length of the next line, which stands in `line`, or `None` at the end. A line that is longer is Syntax, and
+/// takes no memory.
 fn read_whole_line<S: Source>(
     reader: &mut S,
     limit: u64,
@@ -160,8 +161,8 @@ pub(crate) fn next_event<S: Source>(
     };
     match read_line(&line[..count]) {
         None => Err(ScriptFault::Syntax),
-        Some(Line::Order { moment, order }) => Ok(Some(ScriptEvent::Order { moment, order })),
-        Some(Line::Request { moment, length }) => {
+        Some(ScriptLine::Order { moment, order }) => Ok(Some(ScriptEvent::Order { moment, order })),
+        Some(ScriptLine::Request { moment, length }) => {
             let bytes = read_request_bytes(alloc, reader, limit, length)?;
             Ok(Some(ScriptEvent::Request { moment, bytes }))
         }

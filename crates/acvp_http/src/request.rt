@@ -23,7 +23,7 @@ pub(crate) enum Refusal {
 }
 
 /// As much of an input as may be its head.
-fn window_of(bytes: &[u8]) -> &[u8]
+pub(crate) fn window_of(bytes: &[u8]) -> &[u8]
     ensures value { result.now ≡ window bytes.now }
     ensures within { length result.now ≤ length bytes.now }
 {

@@ -1,11 +1,12 @@
 //! A script from its bytes to the bytes of the replies.
 ghost use Rattle.std.specs.Prelude.{◌≡◌, Bool, List, false};
-ghost use Rattle.acvp_http.specs.Event.{Answer, CanHappen, Turn};
+ghost use Rattle.acvp_http.specs.Event.{EventAnswer, CanHappen, Turn};
 ghost use Rattle.acvp_desk.specs.declared.keys.Keys.{Keys};
+ghost use Rattle.acvp_http.specs.Left.{LeavesRun};
 ghost use Rattle.acvp_http.specs.Private.Reading.{event_of};
 ghost use Rattle.acvp_http.specs.Run.{RunsScript, RunsTurns, is_read_answer, is_write_answer};
 ghost use Rattle.acvp_http.specs.Script.{answer_text};
-ghost use Rattle.acvp_http.specs.Serve.{GoesByTurn, GoesByTurns, GoesThrough, ShowsEvent};
+ghost use Rattle.acvp_http.specs.Serve.{GoesByTurns, GoesThrough, HandlesTurn, LeavesShut};
 ghost use Rattle.acvp_http.specs.Private.Writing.{WritesText};
 
 use crate::promise::{headline, isolation};
@@ -33,11 +34,11 @@ fn take_turn<T: Tables, K: Sink>(
     requires clear { (K.stream writer.old).failed ≡ false }
     requires event { CanHappen (event_of event.now) }
     ensures keys { desk.new.keys ≡ desk.old.keys }
-    ensures was_live { T.meaning.is_live desk.new.tables → T.meaning.is_live desk.old.tables }
+    ensures was_open { T.meaning.is_open desk.new.tables → T.meaning.is_open desk.old.tables }
     ensures was_clean { T.meaning.is_clean desk.new.tables → T.meaning.is_clean desk.old.tables }
-    ensures turn { (unavailable : Bool) × (answer : Answer)
-        × ShowsEvent T.meaning (event_of event.now) answer desk.old.tables desk.new.tables
-        × GoesByTurn T.meaning desk.old.keys
+    ensures shut { LeavesShut T.meaning desk.old.tables desk.new.tables }
+    ensures turn { (unavailable : Bool) × (answer : EventAnswer)
+        × HandlesTurn T.meaning desk.old.keys
         (record { event = event_of event.now; unavailable = unavailable }) answer desk.old.tables desk.new.tables
         × WritesText (K.stream writer.old) (K.stream writer.new) (answer_text answer) result }
 {
@@ -57,12 +58,21 @@ fn take_turn<T: Tables, K: Sink>(
 /// Tables that went through turns, one by one, went by all of them: for every content that they stood for, the answers
 /// are those of the run, and they stand for the content after it.
 pub fn turns_make_a_run<T: Tables>()
-    ensures { (keys : Keys) (turns : List Turn) (answers : List Answer) (old new : T)
+    ensures { (keys : Keys) (turns : List Turn) (answers : List EventAnswer) (old new : T)
         → GoesThrough T.meaning keys turns answers old new
         → GoesByTurns T.meaning keys turns answers old new }
 {}
 
-/// Runs a script, turn by turn.
+/// What a crash finds after tables that were open went through turns, one by one: the records after all turns alone;
+/// or, where a turn that was unavailable shut them, these or those with its effect.
+pub fn turns_leave<T: Tables>()
+    ensures { (keys : Keys) (turns : List Turn) (answers : List EventAnswer) (old new : T)
+        → GoesThrough T.meaning keys turns answers old new
+        → LeavesRun T.meaning keys turns answers old new }
+{}
+
+/// Runs a script, turn by turn. An event that was read whole is handled, whatever the next read does; after 100000 of
+/// them any byte is Limit.
 fn run_turns<T: Tables, S: Source, K: Sink>(
     alloc: Global,
     routes: &Routes,
@@ -73,8 +83,9 @@ fn run_turns<T: Tables, S: Source, K: Sink>(
     requires reader_clear { (S.stream reader.old).failed ≡ false }
     requires writer_clear { (K.stream writer.old).failed ≡ false }
     ensures keys { desk.new.keys ≡ desk.old.keys }
-    ensures was_live { T.meaning.is_live desk.new.tables → T.meaning.is_live desk.old.tables }
+    ensures was_open { T.meaning.is_open desk.new.tables → T.meaning.is_open desk.old.tables }
     ensures was_clean { T.meaning.is_clean desk.new.tables → T.meaning.is_clean desk.old.tables }
+    ensures shut { LeavesShut T.meaning desk.old.tables desk.new.tables }
     ensures run { RunsTurns T.meaning desk.old.keys desk.old.tables desk.new.tables (S.stream reader.old)
         (S.stream reader.new)
         (K.stream writer.old) (K.stream writer.new) result }
@@ -98,7 +109,7 @@ fn run_turns<T: Tables, S: Source, K: Sink>(
 /// that fails, which does so after its event was handled. The number is how many events there were.
 ///
 /// The answers that are written are those of the script's events over the records that the tables stood for, as
-/// `headline` and `isolation` say of every run.
+/// `headline` and `isolation` say of every run; and what a crash finds after it is what `turns_leave` says.
 pub fn run<T: Tables, S: Source, K: Sink>(
     alloc: Global,
     routes: &Routes,
@@ -109,8 +120,9 @@ pub fn run<T: Tables, S: Source, K: Sink>(
     requires reader_clear { (S.stream reader.old).failed ≡ false }
     requires writer_clear { (K.stream writer.old).failed ≡ false }
     ensures keys { desk.new.keys ≡ desk.old.keys }
-    ensures was_live { T.meaning.is_live desk.new.tables → T.meaning.is_live desk.old.tables }
+    ensures was_open { T.meaning.is_open desk.new.tables → T.meaning.is_open desk.old.tables }
     ensures was_clean { T.meaning.is_clean desk.new.tables → T.meaning.is_clean desk.old.tables }
+    ensures shut { LeavesShut T.meaning desk.old.tables desk.new.tables }
     ensures run { RunsScript T.meaning desk.old.keys desk.old.tables desk.new.tables (S.stream reader.old)
         (S.stream reader.new)
         (K.stream writer.old) (K.stream writer.new) result }
@@ -121,5 +133,6 @@ pub fn run<T: Tables, S: Source, K: Sink>(
     headline();
     isolation();
     turns_make_a_run::<T>();
+    turns_leave::<T>();
     run_turns(alloc, routes, desk, reader, writer)
 }

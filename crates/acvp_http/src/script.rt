@@ -3,7 +3,7 @@ ghost use Rattle.std.specs.Prelude.{◌≡◌, ◌≢◌, ◌++◌, ◌∷◌, �
 ghost use Rattle.acvp_http.specs.Script.{IsAccountNumber, IsSecretText};
 ghost use Rattle.acvp_http.specs.Private.Lines.{Lacks, IsMoment, IsRequestTail, IsAddTail, IsDisableTail};
 ghost use Rattle.acvp_http.specs.Private.Lines.{IsDecisionTail, IsLine, command_word};
-ghost use Rattle.acvp_http.specs.declared.script.Line.{Line};
+ghost use Rattle.acvp_http.specs.declared.script.ScriptLine.{ScriptLine};
 ghost use Rattle.acvp_http.specs.declared.script.Command.{Command};
 ghost use Rattle.acvp_http.specs.Private.Reading.{stopped_by};
 ghost use Rattle.acvp_http.specs.declared.script.ScriptFault.TheVariants.{Memory, Write};
@@ -71,7 +71,7 @@ impl From<WriteFault> for ScriptFault {
 
 /// What a line of a script says. The bytes of a request come after its line.
 #[derive(Clone, Copy)]
-pub(crate) enum Line {
+pub(crate) enum ScriptLine {
     Request { moment: u64, length: u64 },
     Order { moment: u64, order: Order },
 }
@@ -196,34 +196,34 @@ fn command_of(word: &[u8]) -> Option<Command>
 }
 
 /// Reads a line, which is given without its line feed.
-pub(crate) fn read_line(line: &[u8]) -> Option<Line>
-    ensures { MatchOption result ((other : Line) → IsLine other line.now → ⊥) (λ said. IsLine said line.now) }
+pub(crate) fn read_line(line: &[u8]) -> Option<ScriptLine>
+    ensures { MatchOption result ((other : ScriptLine) → IsLine other line.now → ⊥) (λ said. IsLine said line.now) }
 {
     let (word, rest) = split_at_space(line)?;
     match command_of(word)? {
         Command::Request => {
             let (moment, length) = read_request(rest)?;
-            Some(Line::Request { moment, length })
+            Some(ScriptLine::Request { moment, length })
         }
         Command::AddAccount => {
             let (moment, account, secret) = read_add(rest)?;
             let order = Order::AddAccount { account, secret };
-            Some(Line::Order { moment, order })
+            Some(ScriptLine::Order { moment, order })
         }
         Command::DisableAccount => {
             let (moment, account) = read_disable(rest)?;
             let order = Order::DisableAccount { account };
-            Some(Line::Order { moment, order })
+            Some(ScriptLine::Order { moment, order })
         }
         Command::ApproveRequest => {
             let (moment, request) = read_decision(rest)?;
             let order = Order::ApproveRequest { request };
-            Some(Line::Order { moment, order })
+            Some(ScriptLine::Order { moment, order })
         }
         Command::RejectRequest => {
             let (moment, request) = read_decision(rest)?;
             let order = Order::RejectRequest { request };
-            Some(Line::Order { moment, order })
+            Some(ScriptLine::Order { moment, order })
         }
     }
 }

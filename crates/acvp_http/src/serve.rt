@@ -3,7 +3,7 @@ ghost use Rattle.std.specs.Prelude.{◌≡◌, ◌≤◌, ◌<◌, MatchOption};
 ghost use Rattle.acvp_desk.specs.Answer.{end_of_moments};
 ghost use Rattle.acvp_tables.specs.Content.{Content};
 ghost use Rattle.acvp_desk.specs.declared.keys.Keys.{Keys};
-ghost use Rattle.acvp_http.specs.Event.{Event, Answer};
+ghost use Rattle.acvp_http.specs.Event.{Event, EventAnswer};
 ghost use Rattle.acvp_http.specs.Isolation.{IsTakenApart};
 ghost use Rattle.acvp_http.specs.Handled.{Handles};
 ghost use Rattle.acvp_http.specs.Private.Head.{ParsesInput};
@@ -15,7 +15,9 @@ use crate::promise::request_isolation;
 use crate::reply::Reply;
 use crate::request::{Refusal, parse_head, parse_request};
 use crate::routes::Routes;
-use acvp_desk::{Desk, DeskReply, END_OF_MOMENTS};
+use acvp_desk::{
+    Desk, DeskReply, END_OF_MOMENTS, nobody_is_accepted_without_rows, records_are_kept,
+};
 use acvp_policy::Rule;
 use acvp_tables::Tables;
 use httpdate::HttpDate;
@@ -56,6 +58,8 @@ pub(crate) fn answer<T: Tables>(
         Err(Refusal::ByRule(rule)) => return Reply::refusal(Some(date), rule),
         Err(Refusal::WrongMethod(path)) => return Reply::wrong_method(date, path),
     };
+    records_are_kept();
+    nobody_is_accepted_without_rows();
     match desk.handle(moment, &request).reply {
         DeskReply::Given(buffer) => Reply::accepted(date, buffer),
         DeskReply::Denied(rule) => Reply::refusal(Some(date), rule),
@@ -87,7 +91,7 @@ pub fn handle_bytes<T: Tables>(
 
 /// The definitions give one answer to an event over the same records, and leave the same records after it.
 pub fn events_are_served_one_way()
-    ensures { (keys : Keys) (event : Event) (old new other : Content) (first second : Answer)
+    ensures { (keys : Keys) (event : Event) (old new other : Content) (first second : EventAnswer)
         → Serves keys event old new first
         → Serves keys event old other second → (new ≡ other) × (first ≡ second) }
 {}

@@ -1,11 +1,13 @@
 //! The records in a file, whose tables are made, or taken over where they are there, or moved to today's schema; or in
 //! memory. What is done over any store is apart from what opens and closes the file.
 ghost use Rattle.std.specs.Prelude.{◌≡◌};
+ghost use Rattle.acvp_commands.specs.Work.{IsWork};
 ghost use Rattle.acvp_server.specs.Faults.{fault_of_open};
 
-use acvp_commands::Fault;
-use acvp_store::{SqlTables, adopt, create, migrate};
-use sqlite::{Alter, Connection, Error, ErrorCode, FileFrom, FileStore, MemStore, Start};
+use crate::host::Machine;
+use acvp_commands::{Fault, Message, Work, done_over, make_tables};
+use acvp_store::SqlTables;
+use sqlite::{Connection, Error, ErrorCode, FileFrom, FileStore, MemStore, Start};
 use sqlite_disk::Disk;
 use std::alloc::Global;
 use std::fs;
@@ -56,49 +58,26 @@ pub(crate) fn close<D: Disk + Drop>(connection: Connection<FileStore<D>>) {
     }
 }
 
-/// Makes the tables in a store that has none.
-fn make_tables<S: Alter + Drop>(
-    alloc: Global,
-    connection: Connection<S>,
-) -> Result<SqlTables<S>, Fault> {
-    match create(alloc, connection) {
-        Ok(tables) => Ok(tables),
-        Err((_, fault)) => Err(Fault::from(fault)),
-    }
-}
-
-/// Takes over the tables in a store.
-pub(crate) fn take_over<S: Alter + Drop>(
-    alloc: Global,
-    connection: Connection<S>,
-) -> Result<SqlTables<S>, Fault> {
-    match adopt(alloc, connection) {
-        Ok(tables) => Ok(tables),
-        Err((_, fault)) => Err(Fault::from(fault)),
-    }
-}
-
-/// Moves the tables in a store from an earlier schema to today's, and gives the connection back.
-pub(crate) fn move_tables_over<S: Alter + Drop>(
-    alloc: Global,
-    connection: Connection<S>,
-) -> Result<Connection<S>, Fault> {
-    match migrate(alloc, connection) {
-        Ok(tables) => Ok(tables.into_connection()),
-        Err((_, fault)) => Err(Fault::from(fault)),
-    }
-}
-
-/// Makes the tables in a store that has none, and gives the connection back.
-pub(crate) fn make_tables_over<S: Alter + Drop>(
-    alloc: Global,
-    connection: Connection<S>,
-) -> Result<Connection<S>, Fault> {
-    let tables = make_tables(alloc, connection)?;
-    Ok(tables.into_connection())
-}
-
 /// Makes the tables of records that are kept in memory alone.
 pub(crate) fn tables_in_memory(alloc: Global) -> Result<SqlTables<MemStore>, Fault> {
     make_tables(alloc, Connection::open_in_memory(alloc)?)
+}
+
+/// Does this with the database in a file, and gives the line that says so. Only tables that are made may be in a file
+/// that isn't there yet.
+pub(crate) fn done_in<S: Start>(
+    rt: &HostRuntime,
+    path: &str,
+    start: S,
+    work: Work,
+) -> Result<Message, Fault>
+    requires { IsWork work }
+{
+    let opened = match work {
+        Work::Make => connect(rt, path, start),
+        Work::Move | Work::Take(_) => connect_existing(rt, path, start),
+    };
+    let (connection, outcome) = done_over(&Machine(rt), opened?, work)?;
+    close(connection);
+    outcome
 }

@@ -1,98 +1,38 @@
 //! The program: its command line, and what each subcommand runs.
 #![tactic(auto)]
 
-ghost use Rattle.std.specs.Prelude.{◌≡◌, true};
-ghost use Rattle.acvp_tables.specs.State.{is_account_number};
-ghost use Rattle.acvp_desk.specs.Orders.{IsOrder};
-ghost use Rattle.acvp_server.specs.Commands.{IsWork, NamesAccount};
+ghost use Rattle.acvp_commands.specs.Asked.{NamesAccount};
 
+mod client;
 mod command;
 mod database;
-mod files;
-mod listening;
+mod host;
+mod port;
 mod printing;
 mod script;
-mod work;
 
-use crate::command::{Asked, command, wish_of};
-use crate::files::{keys_in, secret_in};
-use crate::work::{Task, Work, done_in};
-use acvp_commands::{Fault, Line};
-use acvp_desk::Order;
+use crate::command::command;
+use crate::database::done_in;
+use crate::printing::print_line;
+use crate::script::script;
+use acvp_commands::{Fault, Invocation, SystemFiles, asked_by, work_of};
 use clap::Error;
 use clap::error::ErrorKind;
 use sqlite::Wary;
 use std::io;
 use std::process::ExitCode;
 
-/// Does this with the database in a file, and gives the line that says so.
-fn done_with(rt: &HostRuntime, db: &str, work: Work) -> Result<Line, Fault>
-    requires { IsWork work }
-{
-    done_in(rt, db, Wary, work)
-}
-
-/// Carries out an order of the operator on the records in a file.
-fn ordered(rt: &HostRuntime, db: &str, order: Order) -> Result<Line, Fault>
-    requires { IsOrder order }
-{
-    done_with(rt, db, Work::Take(Task::Order(order)))
-}
-
-/// Adds an account with the secret in a file.
-fn add_account(rt: &HostRuntime, db: &str, account: u16, secret: &str) -> Result<Line, Fault>
-    requires { is_account_number account ≡ true }
-{
-    let secret = secret_in(rt, secret)?;
-    ordered(rt, db, Order::AddAccount { account, secret })
-}
-
-/// Serves so many connections of a port over the records in a file, under the keys in another.
-fn serve(rt: &HostRuntime, db: &str, keys: &str, port: u16, count: u64) -> Result<Line, Fault> {
-    let keys = keys_in(rt, keys)?;
-    done_with(rt, db, Work::Take(Task::Serve { keys, port, count }))
-}
-
-/// Carries out what the command line asks for, and gives the line that says so, where there is one.
-fn carry_out(rt: &HostRuntime, asked: Asked<'_>) -> Result<Option<Line>, Fault>
+/// Carries out what the command line asks for, and prints the line that says so, where there is one.
+fn run(rt: &HostRuntime, asked: Invocation<'_>) -> Result<(), Fault>
     requires { NamesAccount asked }
 {
-    let line = match asked {
-        Asked::Init { db } => done_with(rt, db, Work::Make)?,
-        Asked::Migrate { db } => done_with(rt, db, Work::Move)?,
-        Asked::AddAccount {
-            db,
-            account,
-            secret,
-        } => add_account(rt, db, account, secret)?,
-        Asked::DisableAccount { db, account } => {
-            ordered(rt, db, Order::DisableAccount { account })?
+    match asked {
+        Invocation::On(db, deed) => {
+            let work = work_of(&SystemFiles(rt), deed)?;
+            let line = done_in(rt, db, Wary, work)?;
+            print_line(rt, line)
         }
-        Asked::ApproveRequest { db, request } => {
-            ordered(rt, db, Order::ApproveRequest { request })?
-        }
-        Asked::RejectRequest { db, request } => ordered(rt, db, Order::RejectRequest { request })?,
-        Asked::Serve {
-            db,
-            keys,
-            port,
-            count,
-        } => serve(rt, db, keys, port, count)?,
-        Asked::Script { keys } => {
-            script::script(rt, keys)?;
-            return Ok(None);
-        }
-    };
-    Ok(Some(line))
-}
-
-/// Carries out what the command line asks for, and prints the line that says so.
-fn run(rt: &HostRuntime, asked: Asked<'_>) -> Result<(), Fault>
-    requires { NamesAccount asked }
-{
-    match carry_out(rt, asked)? {
-        Some(line) => printing::print_line(rt, line),
-        None => Ok(()),
+        Invocation::Script(keys) => script(rt, keys),
     }
 }
 
@@ -142,12 +82,12 @@ fn execute_words(rt: &HostRuntime, words: &[String]) -> ExitCode {
         }
         Err(error) => return refused(rt, &error),
     };
-    match wish_of(&matches) {
+    match asked_by(&matches) {
         Ok(Some(asked)) => match run(rt, asked) {
             Ok(()) => ExitCode::SUCCESS,
             Err(fault) => failed(rt, fault),
         },
-        Ok(None) => ExitCode::SUCCESS,
+        Ok(None) => ExitCode::from(2),
         Err(bad) => refused_for(rt, bad.message()),
     }
 }

@@ -1,8 +1,6 @@
 //! Script mode: a script on standard input, over records in memory.
 use crate::database::tables_in_memory;
-use crate::files::keys_in;
-use crate::listening::desk_over;
-use acvp_commands::Fault;
+use acvp_commands::{Fault, SystemFiles, desk_over, keys_in};
 use acvp_desk::Desk;
 use acvp_http::{Flagged, Routes, run};
 use acvp_tables::Tables;
@@ -42,7 +40,7 @@ pub(crate) fn script<R: Files + Input + Print + AllocGlobal>(
     rt: &R,
     keys: &str,
 ) -> Result<(), Fault> {
-    let keys = keys_in(rt, keys)?;
+    let keys = keys_in(&SystemFiles(rt), keys)?;
     let tables = tables_in_memory(rt.alloc())?;
     let mut desk = desk_over(rt.alloc(), keys, tables)?;
     run_input(rt, &mut desk)

@@ -16,7 +16,7 @@ use Rattle.sqlite_sql.specs.declared.ops.BinaryOp.TheVariants.{Compare}
 use Rattle.sqlite_sql.specs.declared.ops.CompareOp.TheVariants.{Le, Ge}
 use Rattle.sqlite_value.proofs.OrderLemmas.{value_cmp-Int}
 use Rattle.acvp_tables.specs.Content.{Content, page, sessions_of}
-use Rattle.acvp_tables.specs.State.{IsSound, first_of_account}
+use Rattle.acvp_tables.specs.State.{AreWellNumbered, first_of_account}
 use Rattle.acvp_tables.specs.declared.rows.SessionRow.{SessionRow}
 use Rattle.acvp_store.specs.Values.{whole}
 use Rattle.acvp_store.specs.Schema.{Layout, schema_of}
@@ -49,7 +49,7 @@ page_params u o l = whole (first_of_account u + min o 999999) ∷ whole (last_nu
 -- ---- sessions
 
 pub session_page : (layout : Layout) (u o l : ℕ) (old new : State) (rows : List Row) → old.now.schema ≡ schema_of layout → Shown page_sessions (page_params u o l) old new rows
-    → (c : Content) → IsSound c → HoldsSessions (old.now.trees session_tree) c.sessions → rows ≡ map session_shown (page o l (sessions_of u c.sessions))
+    → (c : Content) → AreWellNumbered c → HoldsSessions (old.now.trees session_tree) c.sessions → rows ≡ map session_shown (page o l (sessions_of u c.sessions))
 session_page layout u o l old new rows schema shown c sound h =
     let key = λ (s : SessionRow). s.number in
     let account = λ (s : SessionRow). s.account in

@@ -14,9 +14,9 @@ use Rattle.acvp_store.proofs.Keyed.{keyed, keyed_same, find_is}
 
 -- what is made of a query's answer was read as the query was
 pub read_as : {X Y E F : Type 0} (r : Result X E) (q : Result Y F) (old new : State) → (IsOk q → IsOk r) → IsRead r old new → IsRead q old new
-read_as (Ok x) (Ok y) old new same h = record { stays = h.stays; was_clean = h.was_clean; live = h.live; limit = h.limit; left = h.left }
+read_as (Ok x) (Ok y) old new same h = record { stays = h.stays; was_clean = h.was_clean; stays_open = h.stays_open; limit = h.limit; left = h.left }
 read_as (Err e) (Ok y) old new same h = absurd (let impossible = same refl in cc)
-read_as r (Err f) old new same h = record { stays = h.stays; was_clean = h.was_clean; live = tt; limit = h.limit; left = h.left }
+read_as r (Err f) old new same h = record { stays = h.stays; was_clean = h.was_clean; stays_open = tt; limit = h.limit; left = h.left }
 
 -- what is found, whichever way the store's tables lie
 pub in_store : {X E : Type 0} (r : Result X E) (db : Database) (P : X → Layout → Type 0) → ((layout : Layout) → db.schema ≡ schema_of layout → IfOk r (λ x. P x layout)) → IfOk r (λ x. InStore db (P x))

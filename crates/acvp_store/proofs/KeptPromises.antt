@@ -1,5 +1,5 @@
 -- From what statements do to what the tables promise.
-use Rattle.std.proofs.Common.{◌≡◌, ◌<◌, ◌^◌, inl, inr, ℕ, List, [], ◌∷◌, ◌++◌, true, Result, Ok, Err, IsTrue, IfOk, IfErr, OnOk, refl, sym, ap, subst, ◌∙◌}
+use Rattle.std.proofs.Common.{◌≡◌, ◌<◌, ◌^◌, inl, inr, ℕ, List, [], ◌∷◌, ◌++◌, true, Result, Ok, Err, IsTrue, IfOk, IfErr, refl, sym, ap, subst, ◌∙◌}
 use Rattle.std.specs.Prelude.{◌==◌, not, filter, if◌then◌else◌}
 use Rattle.std.specs.List.{list_any, AllByRecursion}
 use Rattle.std.proofs.lemmas.Bool.{cases_Bool}
@@ -13,8 +13,8 @@ use Rattle.sqlite_trees.proofs.ListLemmas.{all-append}
 use Rattle.sqlite_trees.specs.Tree.{Trees}
 use Rattle.acvp_tables.specs.Calls.{Finds, Reads, Changes}
 use Rattle.acvp_tables.specs.Content.{Content, is_reviewer, request_at}
-use Rattle.acvp_tables.specs.Changes.{after, after_order, changed, is_account, with_step, disabled, new_account, is_session, cancelled_session, with_counts, with_passed, with_certify, new_session, is_set, cancelled_set, with_graded, new_sets, is_request, with_status, new_request, new_certification, with_reviewer, is_pair, approved_objects, new_objects}
-use Rattle.acvp_tables.specs.State.{IsSound}
+use Rattle.acvp_tables.specs.Changes.{after, after_order, changed, is_account, with_step, disabled, new_account, is_session, cancelled_session, with_counts, with_passed, with_last_request, new_session, is_set, cancelled_set, with_graded, new_sets, is_request, with_status, new_request, new_certification, with_reviewer, is_pair, approved_objects, new_objects}
+use Rattle.acvp_tables.specs.State.{AreWellNumbered}
 use Rattle.acvp_tables.specs.declared.rows.AccountRow.{AccountRow}
 use Rattle.acvp_tables.specs.declared.rows.SessionRow.{SessionRow}
 use Rattle.acvp_tables.specs.declared.rows.SetRow.{SetRow}
@@ -41,7 +41,7 @@ use Rattle.acvp_store.specs.Version.{is_version_row}
 use Rattle.acvp_store.specs.Stands.{Stands, set_tree, HoldsSets, HoldsObjects, IsKeepable, FitColumns, BodyReads, request_tree, HoldsRequests, reviewer_tree, HoldsReviewers}
 use Rattle.acvp_store.specs.Connection.{ServesStore, InStore, IsRead, IsWritten, StaysSound, Under, UnderStore, Both}
 use Rattle.acvp_store.specs.Alters.{Alters}
-use Rattle.acvp_store.specs.Store.{may_fail, Begins, BecomesMigrated, IsStoreOf, meaning_of, stands, IsLive, is_clean, leaves}
+use Rattle.acvp_store.specs.Store.{may_fail, Begins, BecomesMigrated, IsStoreOf, meaning_of, stands, leaves}
 use Rattle.acvp_store.specs.Private.Found.{store_of}
 use Rattle.acvp_store.specs.Private.Objects.{Registers}
 use Rattle.acvp_store.proofs.Sound.{kinds_of}
@@ -66,11 +66,11 @@ module _ {S : Type 0} (g : Ghosts S) (a b : Held S) (serves : ServesStore (state
   pub reads : {X : Type 0} (r : Result X StoreFault) → IsRead r (state g a) (state g b) → Reads may_fail (meaning_of g) r a b
   reads r h = record {
     fault = any r;
-    was_live = λ live. record { is_open = h.stays.was_open live.is_open; store = serves (h.stays.was_open live.is_open) };
+    was_open = h.stays.was_open;
     was_clean = h.was_clean;
-    live = lives r h;
-    same = λ live c st. (st.0, same_schema live.is_open st.0 st.1, subst (λ (d : Database). Stands st.0 d.trees c) (sym (h.stays.now live.is_open)) st.2);
-    left = λ clean live c d st clean' db may. inl (store_of st.0 (state g a).now db st.1 (sym (settled db live.is_open (h.left clean db may) ∙ ap (λ (x : Database). x.trees) (sym (live.store.ready.settled)))) live.store.sound c st.2);
+    stays_open = h.stays_open;
+    same = λ live c st. (st.0, same_schema live st.0 st.1, subst (λ (d : Database). Stands st.0 d.trees c) (sym (h.stays.now live)) st.2, serves_read r (state g a) (state g b) serves h);
+    left = λ clean live c d st clean' db may. inl (store_of st.0 (state g a).now db st.1 (sym (settled db live (h.left clean db may) ∙ ap (λ (x : Database). x.trees) (sym ((serves live).ready.settled)))) (serves live).sound c st.2);
     kept = λ clean c d was clean' db may. was (h.was_clean clean) db (h.left clean db may);
   }
     where
@@ -81,17 +81,12 @@ module _ {S : Type 0} (g : Ghosts S) (a b : Held S) (serves : ServesStore (state
       any (Ok x) = tt
       any (Err e) = tt
 
-      lives : {X : Type 0} (r : Result X StoreFault) → IsRead r (state g a) (state g b) → OnOk r (is_clean g b → IsLive g a × IsLive g b)
-      lives (Ok x) h = λ clean. let open_both = h.live clean in
-          (record { is_open = open_both.0; store = serves open_both.0 }, record { is_open = open_both.1; store = serves_read (Ok x) (state g a) (state g b) serves h open_both.1 })
-      lives (Err e) h = tt
-
 -- what is found of the rows, whichever way the tables lie
 module _ {S : Type 0} (g : Ghosts S) (a b : Held S) where
   pub finds : {X Y : Type 0} (r : Result X StoreFault) (shown : X → Y) (selected : Content → Y)
-      → (IsTrue (state g b).is_open → IfOk r (λ x. InStore (state g a).now (λ layout. (c : Content) → IsSound c → Stands layout (state g a).now.trees c → shown x ≡ selected c)))
+      → (IsTrue (state g b).is_open → IfOk r (λ x. InStore (state g a).now (λ layout. (c : Content) → AreWellNumbered c → Stands layout (state g a).now.trees c → shown x ≡ selected c)))
       → Finds (meaning_of g) shown r a b selected
-  finds (Ok x) shown selected found live = λ c sound st. found live.is_open st.0 st.1 c sound st.2
+  finds (Ok x) shown selected found live = λ c sound st. found live st.0 st.1 c sound st.2
   finds (Err e) shown selected found live = tt
 
 -- ---- changes
@@ -100,7 +95,7 @@ pub written_as : {X E : Type 0} (r : Result X E) (old new : State) (P Q : Databa
 written_as (Ok x) old new P Q turns h = record {
   was_open = h.was_open;
   was_clean = h.was_clean;
-  live = h.live;
+  stays_open = h.stays_open;
   settled = h.settled;
   limit = h.limit;
   ok = λ live. turns _ _ (h.ok live);
@@ -111,7 +106,7 @@ written_as (Ok x) old new P Q turns h = record {
 written_as (Err e) old new P Q turns h = record {
   was_open = h.was_open;
   was_clean = h.was_clean;
-  live = tt;
+  stays_open = tt;
   settled = h.settled;
   limit = h.limit;
   ok = tt;
@@ -132,33 +127,33 @@ serves_written (Err e) old new Change serves keeps h live =
     record { ready = h.settled live; schema = (was.schema.0, ap (λ (d : Database). d.schema) (h.err live) ∙ was.schema.1); sound = subst IsDatabase (sym (h.err live)) was.sound }
 
 module _ {S : Type 0} (g : Ghosts S) (a b : Held S) (Change : Layout → Database → Database → Type 0) (change : Content → Content) (serves : ServesStore (state g a)) (keeps : (layout : Layout) (d e : Database) → Change layout d e → e.schema ≡ schema_of layout)
-    (turns : (layout : Layout) (d e : Database) → Change layout d e → (c : Content) → IsSound c → Stands layout d.trees c → Stands layout e.trees (change c)) where
+    (turns : (layout : Layout) (d e : Database) → Change layout d e → (c : Content) → AreWellNumbered c → Stands layout d.trees c → Stands layout e.trees (change c)) where
   -- a database with the change is a store's, with the changed content
-  made : (live : IsLive g a) (c : Content) → IsSound c → (st : stands g a c) (after : Database) (db : Trees) → after.trees ≡ db → StaysSound (state g a).now after × Change st.0 (state g a).now after → IsStoreOf db (change c)
-  made live c sound st after db trees it = store_of st.0 after db (keeps st.0 _ _ it.1) trees (it.0 live.store.sound) (change c) (turns st.0 _ _ it.1 c sound st.2)
+  made : (live : IsTrue (state g a).is_open) (c : Content) → AreWellNumbered c → (st : stands g a c) (after : Database) (db : Trees) → after.trees ≡ db → StaysSound (state g a).now after × Change st.0 (state g a).now after → IsStoreOf db (change c)
+  made live c sound st after db trees it = store_of st.0 after db (keeps st.0 _ _ it.1) trees (it.0 (serves live).sound) (change c) (turns st.0 _ _ it.1 c sound st.2)
 
   pub changes_sound : {X : Type 0} (r : Result X StoreFault) → IsWritten r (state g a) (state g b) (UnderStore Change) → Changes may_fail (meaning_of g) r a b change
   changes_sound (Ok x) h = record {
     fault = tt;
-    was_live = λ live. record { is_open = h.was_open live.is_open; store = serves (h.was_open live.is_open) };
+    was_open = h.was_open;
     was_clean = h.was_clean;
-    live = λ clean live. let now = h.live clean live.is_open in record { is_open = now; store = serves_written (Ok x) (state g a) (state g b) Change serves keeps h now };
-    ok = λ live c sound st. let it = (h.ok live.is_open st.0 st.1).1 in (st.0, keeps st.0 _ _ it, turns st.0 _ _ it c sound st.2);
+    stays_open = h.stays_open;
+    ok = λ live c sound st. let it = (h.ok live st.0 st.1).1 in (st.0, keeps st.0 _ _ it, turns st.0 _ _ it c sound st.2, serves_written (Ok x) (state g a) (state g b) Change serves keeps h);
     err = tt;
-    settled = λ clean live c d sound st clean' db may. let it = h.left_ok clean live.is_open db may in
+    settled = λ clean live c d sound st clean' db may. let it = h.left_ok clean live db may in
         inl (made live c sound st it.0 db it.1 (it.2 st.0 st.1));
     unsettled = tt;
   }
   changes_sound (Err e) h = record {
     fault = tt;
-    was_live = λ live. record { is_open = h.was_open live.is_open; store = serves (h.was_open live.is_open) };
+    was_open = h.was_open;
     was_clean = h.was_clean;
-    live = tt;
+    stays_open = tt;
     ok = tt;
-    err = λ live c st. (st.0, ap (λ (d : Database). d.schema) (h.err live.is_open) ∙ st.1, subst (λ (d : Database). Stands st.0 d.trees c) (sym (h.err live.is_open)) st.2);
+    err = λ live c st. (st.0, ap (λ (d : Database). d.schema) (h.err live) ∙ st.1, subst (λ (d : Database). Stands st.0 d.trees c) (sym (h.err live)) st.2, serves_written (Err e) (state g a) (state g b) Change serves keeps h);
     settled = tt;
-    unsettled = λ clean live c sound st clean' db may. elim (h.left_err clean live.is_open db may) [
-      | inl was ↦ inl (store_of st.0 (state g a).now db st.1 (sym was) live.store.sound c st.2)
+    unsettled = λ clean live c sound st clean' db may. elim (h.left_err clean live db may) [
+      | inl was ↦ inl (store_of st.0 (state g a).now db st.1 (sym was) (serves live).sound c st.2)
       | inr it ↦ inr (made live c sound st it.0 db it.1 (it.2 st.0 st.1))
     ];
   }
@@ -179,7 +174,7 @@ both_under First Second keeps d e h layout schema =
 
 module _ {S : Type 0} (g : Ghosts S) (a b : Held S) (First Second : Layout → Database → Database → Type 0) (change : Content → Content) (serves : ServesStore (state g a))
     (keeps_first : (layout : Layout) (d e : Database) → First layout d e → e.schema ≡ schema_of layout) (keeps : (layout : Layout) (d e : Database) → Second layout d e → e.schema ≡ schema_of layout)
-    (turns : (layout : Layout) (d e : Database) → Both (First layout) (Second layout) d e → (c : Content) → IsSound c → Stands layout d.trees c → Stands layout e.trees (change c)) where
+    (turns : (layout : Layout) (d e : Database) → Both (First layout) (Second layout) d e → (c : Content) → AreWellNumbered c → Stands layout d.trees c → Stands layout e.trees (change c)) where
   pub changes_both : {X : Type 0} (r : Result X StoreFault) → IsWritten r (state g a) (state g b) (Both (UnderStore First) (UnderStore Second)) → Changes may_fail (meaning_of g) r a b change
   changes_both r h = changes_sound g a b (λ layout. Both (First layout) (Second layout)) change serves (λ layout d e h. keeps layout _ _ h.2) turns r (written_as r (state g a) (state g b) _ _ (both_under First Second keeps_first) h)
 
@@ -190,45 +185,45 @@ module _ {S : Type 0} (g : Ghosts S) (a m b : Held S) (change : Content → Cont
       → Changes may_fail (meaning_of g) r a b change
   read_then x (Ok y) prior h = record {
     fault = tt;
-    was_live = λ live. prior.was_live (h.was_live live);
+    was_open = λ live. prior.was_open (h.was_open live);
     was_clean = λ clean. prior.was_clean (h.was_clean clean);
-    live = λ clean live. h.live clean (prior.live (h.was_clean clean)).1;
-    ok = λ live c sound st. h.ok live c sound (prior.same (h.was_live live) c st);
+    stays_open = λ clean live. h.stays_open clean (prior.stays_open (h.was_clean clean)).1;
+    ok = λ live c sound st. h.ok live c sound (prior.same (h.was_open live) c st);
     err = tt;
-    settled = λ clean live c d sound st. let now = (prior.live (h.was_clean clean)).1 in h.settled clean now c d sound (prior.same now c st);
+    settled = λ clean live c d sound st. let now = (prior.stays_open (h.was_clean clean)).1 in h.settled clean now c d sound (prior.same now c st);
     unsettled = tt;
   }
   read_then x (Err e) prior h = record {
     fault = h.fault;
-    was_live = λ live. prior.was_live (h.was_live live);
+    was_open = λ live. prior.was_open (h.was_open live);
     was_clean = λ clean. prior.was_clean (h.was_clean clean);
-    live = tt;
+    stays_open = tt;
     ok = tt;
-    err = λ live c st. h.err live c (prior.same (h.was_live live) c st);
+    err = λ live c st. h.err live c (prior.same (h.was_open live) c st);
     settled = tt;
-    unsettled = λ clean live c sound st. let now = (prior.live (h.was_clean clean)).1 in h.unsettled clean now c sound (prior.same now c st);
+    unsettled = λ clean live c sound st. let now = (prior.stays_open (h.was_clean clean)).1 in h.unsettled clean now c sound (prior.same now c st);
   }
 
   -- nothing is left to change
-  pub read_alone : {X Y : Type 0} (x : X) (y : Y) → Reads may_fail (meaning_of g) (Ok x) a m → (IsLive g m → (c : Content) → IsSound c → stands g a c → change c ≡ c)
+  pub read_alone : {X Y : Type 0} (x : X) (y : Y) → Reads may_fail (meaning_of g) (Ok x) a m → (IsTrue (state g m).is_open → (c : Content) → AreWellNumbered c → stands g a c → change c ≡ c)
       → Changes {E = StoreFault} may_fail (meaning_of g) (Ok y) a m change
   read_alone x y prior same = record {
     fault = tt;
-    was_live = prior.was_live;
+    was_open = prior.was_open;
     was_clean = prior.was_clean;
-    live = λ clean live. (prior.live clean).1;
+    stays_open = λ clean live. (prior.stays_open clean).1;
     ok = λ live c sound st. subst (stands g m) (sym (same live c sound st)) (prior.same live c st);
     err = tt;
-    settled = λ clean live c d sound st. subst (λ x. leaves g m x d) (sym (same (prior.live clean).1 c sound st)) (prior.left clean live c d st);
+    settled = λ clean live c d sound st. subst (λ x. leaves g m x d) (sym (same (prior.stays_open clean).1 c sound st)) (prior.left clean live c d st);
     unsettled = tt;
   }
 
   pub read_failed : {X Y : Type 0} (e f : StoreFault) → Reads may_fail (meaning_of g) {X = X} (Err e) a m → Changes may_fail (meaning_of g) {X = Y} (Err f) a m change
   read_failed e f prior = record {
     fault = tt;
-    was_live = prior.was_live;
+    was_open = prior.was_open;
     was_clean = prior.was_clean;
-    live = tt;
+    stays_open = tt;
     ok = tt;
     err = prior.same;
     settled = tt;
@@ -321,17 +316,17 @@ stepped u layout d e h c st = accounts_altered (changed (is_account u.account) (
 -- ---- two parts
 
 pub set_cancelled : (x : CancelledSet) (layout : Layout) (d e : Database) → Both (Alters layout (set_tree layout) HoldsSets (changed (is_set x.set) cancelled_set)) (Alters layout session_tree HoldsSessions (changed (is_session x.session) (with_counts x.live x.passed))) d e
-    → (c : Content) → IsSound c → Stands layout d.trees c → Stands layout e.trees (after (change.CancelSet x) c)
+    → (c : Content) → AreWellNumbered c → Stands layout d.trees c → Stands layout e.trees (after (change.CancelSet x) c)
 unfolding after
 set_cancelled x layout d e h c sound st = sessions_altered (changed (is_session x.session) (with_counts x.live x.passed)) layout h.0 e h.2 _ (sets_altered (changed (is_set x.set) cancelled_set) layout d h.0 h.1 c st)
 
 pub answers_kept : (k : KeptAnswers) (layout : Layout) (d e : Database) → Both (Alters layout (set_tree layout) HoldsSets (changed (is_set k.set) (with_graded k.graded))) (Alters layout session_tree HoldsSessions (changed (is_session k.session) (with_passed k.passed))) d e
-    → (c : Content) → IsSound c → Stands layout d.trees c → Stands layout e.trees (after (change.KeepAnswers k) c)
+    → (c : Content) → AreWellNumbered c → Stands layout d.trees c → Stands layout e.trees (after (change.KeepAnswers k) c)
 unfolding after
 answers_kept k layout d e h c sound st = sessions_altered (changed (is_session k.session) (with_passed k.passed)) layout h.0 e h.2 _ (sets_altered (changed (is_set k.set) (with_graded k.graded)) layout d h.0 h.1 c st)
 
 pub session_begun : (s : NewSession) (layout : Layout) (d e : Database) → Both (Alters layout session_tree HoldsSessions (λ rows. rows ++ new_session s ∷ [])) (Alters layout (set_tree layout) HoldsSets (λ rows. rows ++ new_sets s.number s.epoch 1 s.registration.capabilities)) d e
-    → (c : Content) → IsSound c → Stands layout d.trees c → Stands layout e.trees (after (change.NewSession s) c)
+    → (c : Content) → AreWellNumbered c → Stands layout d.trees c → Stands layout e.trees (after (change.NewSession s) c)
 unfolding after
 session_begun s layout d e h c sound st = sets_altered (λ rows. rows ++ new_sets s.number s.epoch 1 s.registration.capabilities) layout h.0 e h.2 _ (sessions_altered (λ rows. rows ++ new_session s ∷ []) layout d h.0 h.1 c st)
 
@@ -339,10 +334,10 @@ pub request_made : (r : NewRequest) (layout : Layout) (d e : Database) → Alter
 unfolding after
 request_made r layout d e h c st = requests_altered (λ rows. rows ++ new_request r ∷ []) layout d e h c st
 
-pub certification_asked : (x : NewCertification) (layout : Layout) (d e : Database) → Both (Alters layout request_tree HoldsRequests (λ rows. rows ++ new_certification x ∷ [])) (Alters layout session_tree HoldsSessions (changed (is_session x.certification.session) (with_certify x.number))) d e
-    → (c : Content) → IsSound c → Stands layout d.trees c → Stands layout e.trees (after (change.Certify x) c)
+pub certification_asked : (x : NewCertification) (layout : Layout) (d e : Database) → Both (Alters layout request_tree HoldsRequests (λ rows. rows ++ new_certification x ∷ [])) (Alters layout session_tree HoldsSessions (changed (is_session x.certification.session) (with_last_request x.number))) d e
+    → (c : Content) → AreWellNumbered c → Stands layout d.trees c → Stands layout e.trees (after (change.Certify x) c)
 unfolding after
-certification_asked x layout d e h c sound st = sessions_altered (changed (is_session x.certification.session) (with_certify x.number)) layout h.0 e h.2 _ (requests_altered (λ rows. rows ++ new_certification x ∷ []) layout d h.0 h.1 c st)
+certification_asked x layout d e h c sound st = sessions_altered (changed (is_session x.certification.session) (with_last_request x.number)) layout h.0 e h.2 _ (requests_altered (λ rows. rows ++ new_certification x ∷ []) layout d h.0 h.1 c st)
 
 pub rejected : (n : ℕ) (layout : Layout) (d e : Database) → Alters layout request_tree HoldsRequests (changed (is_request n) (with_status status.Rejected)) d e → (c : Content) → Stands layout d.trees c → Stands layout e.trees (after_order (order.Reject n) c)
 unfolding after_order
@@ -367,7 +362,7 @@ fit_registered n number low (r ∷ requests) all = elim (cases_Bool (r.number ==
     go account (body.Registration o) reads = ((low, reads), tt)
     go account (body.Certification c) reads = tt
 
-registered : (n number : ℕ) (layout : Layout) (d e : Database) → Registers layout n number d e → (c : Content) → IsSound c → Stands layout d.trees c → Stands layout e.trees (record c { objects = c.objects ++ approved_objects (request_at n c.requests) number })
+registered : (n number : ℕ) (layout : Layout) (d e : Database) → Registers layout n number d e → (c : Content) → AreWellNumbered c → Stands layout d.trees c → Stands layout e.trees (record c { objects = c.objects ++ approved_objects (request_at n c.requests) number })
 registered n number layout d e h c sound st = record {
   version = ap (list_any (is_version_row 3)) (h.others.0 (apart 0 5 refl)) ∙ st.version;
   accounts = subst (λ rows. HoldsAccounts rows c.accounts) (sym (h.others.1.0 (apart 2 5 refl))) st.accounts;
@@ -381,7 +376,7 @@ registered n number layout d e h c sound st = record {
 }
 
 pub approved : (x : Approval) (layout : Layout) (d e : Database) → Both (Registers layout x.request x.approved) (Alters layout request_tree HoldsRequests (changed (is_request x.request) (with_status (status.Approved x.approved)))) d e
-    → (c : Content) → IsSound c → Stands layout d.trees c → Stands layout e.trees (after_order (order.Approve x) c)
+    → (c : Content) → AreWellNumbered c → Stands layout d.trees c → Stands layout e.trees (after_order (order.Approve x) c)
 unfolding after_order
 approved x layout d e h c sound st = requests_altered (changed (is_request x.request) (with_status (status.Approved x.approved))) layout h.0 e h.2 _ (registered x.request x.approved layout d h.0 h.1 c sound st)
 

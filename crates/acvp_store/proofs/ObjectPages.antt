@@ -17,7 +17,7 @@ use Rattle.sqlite_sql.specs.declared.ops.CompareOp.TheVariants.{Eq}
 use Rattle.sqlite_trees.proofs.ListLemmas.{map-map, filter-map, all-filter, IsPermutation-filter}
 use Rattle.acvp_registry.specs.declared.kind.Kind.{Kind}
 use Rattle.acvp_tables.specs.Content.{Content, kind_number, is_kind, object_at, objects_of, page}
-use Rattle.acvp_tables.specs.State.{IsSound, first_of_account}
+use Rattle.acvp_tables.specs.State.{AreWellNumbered, first_of_account}
 use Rattle.acvp_tables.specs.declared.rows.ObjectRow.{ObjectRow}
 use Rattle.acvp_store.specs.Values.{whole}
 use Rattle.acvp_store.specs.Schema.{Layout, schema_of}
@@ -75,7 +75,7 @@ abbrev pub objects_params : Kind → ℕ → ℕ → ℕ → Row
 objects_params kind u o l = whole (first_of_account u + min o 999999) ∷ whole (last_number u) ∷ whole (min l most) ∷ whole (kind_number kind) ∷ []
 
 pub object_page : (layout : Layout) (kind : Kind) (u o l : ℕ) (old new : State) (rows : List Row) → old.now.schema ≡ schema_of layout → Shown page_objects (objects_params kind u o l) old new rows
-    → (c : Content) → IsSound c → HoldsObjects (old.now.trees object_tree) c.objects → FitColumns c.objects
+    → (c : Content) → AreWellNumbered c → HoldsObjects (old.now.trees object_tree) c.objects → FitColumns c.objects
     → AllByRecursion IsKeepable (page o l (objects_of kind u c.objects)) × (rows ≡ map object_columns (page o l (objects_of kind u c.objects)))
 object_page layout kind u o l old new rows schema shown c sound h fit =
     let key = λ (x : ObjectRow). x.number in

@@ -1,5 +1,5 @@
 -- Trees list one schema, so what a store's database shows to an open is that store.
-use Rattle.std.proofs.Common.{◌≡◌, ◌⊎◌, inl, inr, ◌≤◌, ◌+◌, ◌↔◌, ℕ, zero, suc, pos, List, [], ◌∷◌, length, slice_get, Bool, true, false, Some, Result, Ok, Err, IsTrue, IfErr, refl, sym, ap, subst, ◌∙◌, arith}
+use Rattle.std.proofs.Common.{◌≡◌, ◌⊎◌, inl, inr, ◌≤◌, ◌+◌, ◌↔◌, ℕ, zero, suc, pos, List, [], ◌∷◌, length, slice_get, Bool, true, false, Some, Result, Ok, Err, IsTrue, IfErr, IfOk, refl, sym, ap, subst, ◌∙◌, arith}
 use Rattle.std.specs.List.{AllZip, AllByRecursion, filter}
 use Rattle.sqlite.specs.Effect.{Database, IsDatabase}
 use Rattle.sqlite.specs.Held.{Held, state}
@@ -20,8 +20,8 @@ use Rattle.sqlite_value.specs.declared.value.Value.{Value}
 use Rattle.sqlite_value.specs.declared.value.Value.TheVariants.{Null, Int, Real, Text, Blob}
 use Rattle.acvp_tables.specs.Content.{Content}
 use Rattle.acvp_store.specs.Adopted.{IsOurs}
-use Rattle.acvp_store.specs.Connection.{LeavesNoMore, LeavesSo}
-use Rattle.acvp_store.specs.Migrated.{IsOf, IsMigrated, Migrates, Turns, layout_after, IsAfterMigration}
+use Rattle.acvp_store.specs.Connection.{LeavesNoMore, LeavesSo, ServesStore}
+use Rattle.acvp_store.specs.Migrated.{IsOf, IsMigrated, Migrates, Moves, layout_after, IsAfterMigration}
 use Rattle.acvp_store.specs.Schema.{Layout, Created, Migrated, schema_of, SchemaVersion, First, Second, Third, schema_at}
 use Rattle.acvp_store.specs.Stands.{StandsAt, Stands}
 use Rattle.acvp_store.specs.Store.{IsStoreAt, IsStoreOf, IsOldOrMigrated, stands}
@@ -126,30 +126,34 @@ is_of version db sound c it = record { schema = one_schema version db.schema db.
 pub is_ours : (db : Database) → IsDatabase db → (c : Content) → IsStoreOf db.trees c → IsOurs db
 is_ours db sound c it = let of = is_of (Third it.0) db sound c it.1 in record { layout = it.0; schema = of.schema; version = of.named; no_old_sets = of.no_old_sets }
 
-pub stands_again : {S : Type 0} (g : Ghosts S) (t : Held S) (db : Database) → (state g t).now ≡ db → IsDatabase db → (c : Content) → IsStoreOf db.trees c → stands g t c
-stands_again g t db same sound c it =
-    subst (λ (d : Database). (layout : Layout) × (d.schema ≡ schema_of layout) × Stands layout d.trees c) (sym same) (it.0, one_schema (Third it.0) db.schema db.trees sound it.1.sound, it.1.stands)
+pub stands_again : {S : Type 0} (g : Ghosts S) (t : Held S) (db : Database) → (state g t).now ≡ db → IsDatabase db → (c : Content) → IsStoreOf db.trees c → ServesStore (state g t) → stands g t c
+stands_again g t db same sound c it serves = (
+  it.0,
+  subst (λ (d : Database). d.schema ≡ schema_of it.0) (sym same) (one_schema (Third it.0) db.schema db.trees sound it.1.sound),
+  subst (λ (d : Database). Stands it.0 d.trees c) (sym same) it.1.stands,
+  serves,
+)
 
 -- after a migration
-pub stands_migrated : {S : Type 0} (g : Ghosts S) (t : Held S) (old : State) → IsDatabase old.now → IsMigrated old (state g t) → (version : SchemaVersion) (c : Content) → IsStoreAt version old.now.trees c → stands g t c
-stands_migrated g t old sound moved version c it = go moved.from (same_version moved.from version (sym moved.was.schema ∙ one_schema version old.now.schema old.now.trees sound it.sound)) moved.was moved.turned
+pub stands_migrated : {S : Type 0} (g : Ghosts S) (t : Held S) (old : State) → IsDatabase old.now → IsMigrated old (state g t) → ServesStore (state g t) → (version : SchemaVersion) (c : Content) → IsStoreAt version old.now.trees c → stands g t c
+stands_migrated g t old sound moved serves version c it = go moved.from (same_version moved.from version (sym moved.was.schema ∙ one_schema version old.now.schema old.now.trees sound it.sound)) moved.was moved.turned
   where
     go : (from : SchemaVersion) → from ≡ version → IsOf from old.now → Migrates from old.now (state g t).now → stands g t c
-    go First is was turned = (Migrated, turned.schema, turned.stands c (subst (λ v. StandsAt v old.now.trees c) (sym is) it.stands))
-    go (Second layout) is was turned = (layout, turned.schema, turned.stands c (subst (λ v. StandsAt v old.now.trees c) (sym is) it.stands))
-    go (Third layout) is was turned = stands_again g t old.now turned sound c (layout, subst (λ v. IsStoreAt v old.now.trees c) (sym is) it)
+    go First is was turned = (Migrated, turned.schema, turned.stands c (subst (λ v. StandsAt v old.now.trees c) (sym is) it.stands), serves)
+    go (Second layout) is was turned = (layout, turned.schema, turned.stands c (subst (λ v. StandsAt v old.now.trees c) (sym is) it.stands), serves)
+    go (Third layout) is was turned = stands_again g t old.now turned sound c (layout, subst (λ v. IsStoreAt v old.now.trees c) (sym is) it) serves
 
 -- ---- what a crash leaves of a migration
 
 migrated_store : (old : Database) → IsDatabase old → (db : Trees) → IsAfterMigration old db → (version : SchemaVersion) (c : Content) → IsStoreAt version old.trees c → IsStoreOf db c
 migrated_store old sound db moved version c it = go moved.from (same_version moved.from version (sym moved.was.schema ∙ one_schema version old.schema old.trees sound it.sound)) moved.was moved.turned
   where
-    turned_so : (from : SchemaVersion) → from ≡ version → Turns from old moved.after → IsStoreOf db c
-    turned_so from is turned = store_of (layout_after from) moved.after db turned.schema moved.trees moved.sound c (turned.stands c (subst (λ v. StandsAt v old.trees c) (sym is) it.stands))
+    moved_so : (from : SchemaVersion) → from ≡ version → Moves from old moved.after → IsStoreOf db c
+    moved_so from is turned = store_of (layout_after from) moved.after db turned.schema moved.trees moved.sound c (turned.stands c (subst (λ v. StandsAt v old.trees c) (sym is) it.stands))
 
     go : (from : SchemaVersion) → from ≡ version → IsOf from old → Migrates from old moved.after → IsStoreOf db c
-    go First is was turned = turned_so First is turned
-    go (Second layout) is was turned = turned_so (Second layout) is turned
+    go First is was turned = moved_so First is turned
+    go (Second layout) is was turned = moved_so (Second layout) is turned
     go (Third layout) is was turned =
         store_of layout moved.after db (ap (λ (d : Database). d.schema) turned ∙ was.schema) moved.trees moved.sound c (subst (λ (d : Database). Stands layout d.trees c) (sym turned) (subst (λ v. StandsAt v old.trees c) (sym is) it.stands))
 
@@ -174,6 +178,11 @@ neither_ours db a b not_a not_b is_a is_b ours = go ours.layout ours.schema
     go : (layout : Layout) → db.schema ≡ schema_of layout → ⊥
     go Created is = not_so a _ not_a is_a is
     go Migrated is = not_so b _ not_b is_b is
+
+-- of a success that two things are known of
+pub of_success : {X E : Type 0} (r : Result X E) (P Q R : X → Type 0) → ((x : X) → P x → Q x → R x) → IfOk r P → IfOk r Q → IfOk r R
+of_success (Ok x) P Q R so p q = so x p q
+of_success (Err e) P Q R so p q = tt
 
 -- of a fault that two things are known of
 pub of_both : {X E : Type 0} (r : Result X E) (P Q R : E → Type 0) → ((e : E) → P e → Q e → R e) → IfErr r P → IfErr r Q → IfErr r R

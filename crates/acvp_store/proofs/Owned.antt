@@ -8,7 +8,7 @@ use Rattle.sqlite_trees.proofs.ListLemmas.{map-map, filter-map}
 use Rattle.sqlite.specs.Tree.{IsAscending}
 use Rattle.acvp_registry.specs.declared.kind.Kind.{Kind}
 use Rattle.acvp_tables.specs.Content.{Content, sessions_of, requests_of, objects_of}
-use Rattle.acvp_tables.specs.State.{IsSound, IsWellNumbered, IsNumbered, state_of, own, owner_of, session_record, objects_in, first_of_account}
+use Rattle.acvp_tables.specs.State.{AreWellNumbered, IsWellNumbered, IsNumbered, state_of, own, owner_of, session_record, objects_in, first_of_account}
 use Rattle.acvp_tables.specs.declared.rows.SessionRow.{SessionRow}
 use Rattle.acvp_tables.specs.declared.rows.RequestRow.{RequestRow}
 use Rattle.acvp_tables.specs.declared.rows.ObjectRow.{ObjectRow}
@@ -87,7 +87,7 @@ rising_dropped key (suc o) i (a ∷ list) is =
     let rest : IsNumbered key (i + 1) list = cc (is) in
     rising_dropped key o (i + 1) list rest
 
--- ---- of a sound content
+-- ---- of well numbered rows
 
 all_mapped : {A B : Type 0} (f : A → B) (p : B → Bool) (list : List A) → list_all p (map f list) ≡ true → list_all (λ a. p (f a)) list ≡ true
 all_mapped f p [] h = refl
@@ -97,11 +97,11 @@ pub record Selection {A : Type 0} (key : A → ℕ) (u : ℕ) (list : List A) : 
   pub numbered : IsNumbered key (first_of_account u) list
   pub few : length list ≤ 999999
 
-pub session_numbers : (c : Content) → IsSound c → IsKeyed (λ (s : SessionRow). s.number) (λ s. s.account) c.sessions
+pub session_numbers : (c : Content) → AreWellNumbered c → IsKeyed (λ (s : SessionRow). s.number) (λ s. s.account) c.sessions
 unfolding state_of
 session_numbers c sound = all_mapped session_record (λ r. owner_of r.number == r.account) c.sessions (keyed (state_of c) sound).sessions
 
-pub session_selection : (c : Content) (u : ℕ) → IsSound c → Selection (λ (s : SessionRow). s.number) u (sessions_of u c.sessions)
+pub session_selection : (c : Content) (u : ℕ) → AreWellNumbered c → Selection (λ (s : SessionRow). s.number) u (sessions_of u c.sessions)
 unfolding IsWellNumbered own state_of
 session_selection c u sound =
     let mine = filter-map (λ r. r.account == u) session_record c.sessions in
@@ -112,18 +112,18 @@ session_selection c u sound =
       few = subst (λ n. n ≤ 999999) (length-map (sessions_of u c.sessions) session_record) few;
     }
 
-pub request_numbers : (c : Content) → IsSound c → IsKeyed (λ (r : RequestRow). r.number) (λ r. r.account) c.requests
+pub request_numbers : (c : Content) → AreWellNumbered c → IsKeyed (λ (r : RequestRow). r.number) (λ r. r.account) c.requests
 unfolding state_of
 request_numbers c sound = (keyed (state_of c) sound).requests
 
-pub request_selection : (c : Content) (u : ℕ) → IsSound c → Selection (λ (r : RequestRow). r.number) u (requests_of u c.requests)
+pub request_selection : (c : Content) (u : ℕ) → AreWellNumbered c → Selection (λ (r : RequestRow). r.number) u (requests_of u c.requests)
 unfolding IsWellNumbered own state_of
 request_selection c u sound = record {
   numbered = (sound u).requests;
   few = (sound u).few_requests;
 }
 
-pub object_numbers : (c : Content) → IsSound c → IsKeyed (λ (o : ObjectRow). o.number) (λ o. o.account) c.objects
+pub object_numbers : (c : Content) → AreWellNumbered c → IsKeyed (λ (o : ObjectRow). o.number) (λ o. o.account) c.objects
 unfolding state_of
 object_numbers c sound = (keyed (state_of c) sound).objects
 
@@ -131,7 +131,7 @@ within_account : (kind : Kind) (u : ℕ) (objects : List ObjectRow) → objects_
 within_account kind u [] = refl
 within_account kind u (o ∷ objects) = grind (arith, nat_tests, within_account kind u objects)
 
-pub object_selection : (c : Content) (kind : Kind) (u : ℕ) → IsSound c → Selection (λ (o : ObjectRow). o.number) u (objects_of kind u c.objects)
+pub object_selection : (c : Content) (kind : Kind) (u : ℕ) → AreWellNumbered c → Selection (λ (o : ObjectRow). o.number) u (objects_of kind u c.objects)
 unfolding IsWellNumbered own state_of
 object_selection c kind u sound = record {
   numbered = subst (λ list. IsNumbered (λ (o : ObjectRow). o.number) (first_of_account u) list) (within_account kind u c.objects) ((sound u).objects kind);

@@ -72,14 +72,14 @@ module _ (sql : List ℕ) (params : Row) (old new : State) (law : new.is_clean �
   read (Ok x) rows_of ok err = record {
     stays = later (λ clean. same_unchanged old new ready (unchanged_shown sql params old new (rows_of x) is (ok clean)));
     was_clean = clean_before old.is_clean new.is_clean kept.clean;
-    live = λ clean. let same = unchanged_shown sql params old new (rows_of x) is (ok clean) in (same.0.was_open, same.0.is_open);
+    stays_open = λ clean. let same = unchanged_shown sql params old new (rows_of x) is (ok clean) in (same.0.was_open, same.0.is_open);
     limit = kept.limit;
     left = left;
   }
   read (Err e) rows_of ok err = record {
     stays = later (λ clean. stays_failed sql params old new e ready (err clean));
     was_clean = clean_before old.is_clean new.is_clean kept.clean;
-    live = tt;
+    stays_open = tt;
     limit = kept.limit;
     left = left;
   }

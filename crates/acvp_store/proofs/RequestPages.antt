@@ -17,8 +17,8 @@ use Rattle.sqlite.proofs.Callers.{reads_as}
 use Rattle.sqlite_sql.specs.declared.ops.BinaryOp.TheVariants.{Compare}
 use Rattle.sqlite_sql.specs.declared.ops.CompareOp.TheVariants.{Eq}
 use Rattle.sqlite_trees.proofs.ListLemmas.{all-filter}
-use Rattle.acvp_tables.specs.Content.{Content, page, kind_number, request_at, request_summary, requests_of, subject_of}
-use Rattle.acvp_tables.specs.State.{IsSound, first_of_account, given_number}
+use Rattle.acvp_tables.specs.Content.{Content, page, kind_number, request_at, request_summary, requests_of, purpose_of}
+use Rattle.acvp_tables.specs.State.{AreWellNumbered, first_of_account, given_number}
 use Rattle.acvp_tables.specs.declared.rows.RequestBody.{RequestBody}
 use Rattle.acvp_tables.specs.declared.rows.RequestBody.TheVariants as body
 use Rattle.acvp_tables.specs.declared.rows.RequestRow.{RequestRow}
@@ -29,7 +29,7 @@ use Rattle.acvp_store.specs.Schema.{Layout, schema_of}
 use Rattle.acvp_store.specs.Stands.{request_tree, request_key, request_row, HoldsRequests, BodyReads, body_number, body_text, status_number}
 use Rattle.acvp_store.specs.Private.Objects.{IsOfKind}
 use Rattle.acvp_store.specs.Private.Requests.{request_shown, IsReadable}
-use Rattle.acvp_store.specs.Private.Summaries.{SubjectReads, subject_number, subject_text, summary_shown}
+use Rattle.acvp_store.specs.Private.Summaries.{PurposeReads, purpose_number, purpose_text, summary_shown}
 use Rattle.acvp_store.proofs.AccountPages.{test_range, most, page_params}
 use Rattle.acvp_store.proofs.Keyed.{keyed, keyed_same, find_is, none_fits, none_passes}
 use Rattle.acvp_store.proofs.RowLists.{all_taken, all_dropped}
@@ -52,13 +52,13 @@ listed_request r = whole r.number ∷ whole r.account ∷ whole (body_number r.b
 shows : (params : Row) (r : RequestRow) → eval_all request_columns (params ∷ request_row r ∷ []) ≡ listed_request r
 shows params r = rw (test_equals (body_number r.body) 4) refl
 
-subject_is : (b : RequestBody) → IsOfKind b → (whole (body_number b) ≡ whole (subject_number (subject_of b))) × (body_shown b ≡ or_null Text (subject_text (subject_of b)))
-subject_is (body.Registration o) kind = let other : (kind_number o.kind == 4) ≡ false = grind (arith, nat_tests, kind) in (refl, rw other refl)
-subject_is (body.Certification c) kind = (refl, refl)
+purpose_is : (b : RequestBody) → IsOfKind b → (whole (body_number b) ≡ whole (purpose_number (purpose_of b))) × (body_shown b ≡ or_null Text (purpose_text (purpose_of b)))
+purpose_is (body.Registration o) kind = let other : (kind_number o.kind == 4) ≡ false = grind (arith, nat_tests, kind) in (refl, rw other refl)
+purpose_is (body.Certification c) kind = (refl, refl)
 
 summary_is : (r : RequestRow) → IsOfKind r.body → listed_request r ≡ summary_shown (request_summary r)
 summary_is r kind =
-    let is = subject_is r.body kind in
+    let is = purpose_is r.body kind in
     λ i. whole r.number ∷ whole r.account ∷ is.0 i ∷ is.1 i ∷ whole (status_number r.status) ∷ or_null whole (given_number r.status) ∷ []
 
 abbrev summaries : List RequestRow → List RequestSummary
@@ -68,16 +68,16 @@ summaries_are : (list : List RequestRow) → AllByRecursion (λ (r : RequestRow)
 summaries_are [] all = refl
 summaries_are (r ∷ list) all = λ i. summary_is r all.0 i ∷ summaries_are list all.1 i
 
-subject_reads : (b : RequestBody) → IsOfKind b → BodyReads b → SubjectReads (subject_of b)
-subject_reads (body.Registration o) kind reads = kind
-subject_reads (body.Certification c) kind reads = reads
+purpose_reads : (b : RequestBody) → IsOfKind b → BodyReads b → PurposeReads (purpose_of b)
+purpose_reads (body.Registration o) kind reads = kind
+purpose_reads (body.Certification c) kind reads = reads
 
 abbrev Reads : RequestSummary → Type 0
-Reads s = SubjectReads s.subject
+Reads s = PurposeReads s.purpose
 
 summaries_read : (list : List RequestRow) → AllByRecursion (λ (r : RequestRow). IsOfKind r.body) list → AllByRecursion (λ (r : RequestRow). BodyReads r.body) list → AllByRecursion Reads (summaries list)
 summaries_read [] kinds reads = tt
-summaries_read (r ∷ list) kinds reads = (subject_reads r.body kinds.0 reads.0, summaries_read list kinds.1 reads.1)
+summaries_read (r ∷ list) kinds reads = (purpose_reads r.body kinds.0 reads.0, summaries_read list kinds.1 reads.1)
 
 -- ---- by its number
 
@@ -98,7 +98,7 @@ request_rows layout n k fits large old new rows schema h list kept = elim (small
     small_or_large n = search arith
 
 pub request_found : (layout : Layout) (n : ℕ) (k : ℤ) → (n < 2 ^ 63 → k ≡ pos n) → (2 ^ 63 ≤ n → k ≡ negsuc 0) → (old new : State) (rows : List Row) → old.now.schema ≡ schema_of layout → Shown find_request (Int k ∷ []) old new rows
-    → (c : Content) → IsSound c → HoldsRequests (old.now.trees request_tree) c.requests → AllByRecursion (λ (r : RequestRow). IsReadable r.body) (keyed request_key n c.requests) × IsPermutation (map request_shown (keyed request_key n c.requests)) rows
+    → (c : Content) → AreWellNumbered c → HoldsRequests (old.now.trees request_tree) c.requests → AllByRecursion (λ (r : RequestRow). IsReadable r.body) (keyed request_key n c.requests) × IsPermutation (map request_shown (keyed request_key n c.requests)) rows
 request_found layout n k fits large old new rows schema shown c sound h =
     let mine = keyed request_key n c.requests in
     let kinds = all-filter (λ (r : RequestRow). IsOfKind r.body) (λ r. r.number == n) c.requests (kinds_of c sound) in
@@ -126,7 +126,7 @@ summary_told Sound Held (Ok row) (Ok told) picked ok tells finds = λ c sound he
 -- ---- a page
 
 pub request_page : (layout : Layout) (u o l : ℕ) (old new : State) (rows : List Row) → old.now.schema ≡ schema_of layout → Shown page_requests (page_params u o l) old new rows
-    → (c : Content) → IsSound c → HoldsRequests (old.now.trees request_tree) c.requests
+    → (c : Content) → AreWellNumbered c → HoldsRequests (old.now.trees request_tree) c.requests
     → AllByRecursion Reads (page o l (summaries (requests_of u c.requests))) × (rows ≡ map summary_shown (page o l (summaries (requests_of u c.requests))))
 request_page layout u o l old new rows schema shown c sound h =
     let key = λ (r : RequestRow). r.number in

@@ -21,7 +21,7 @@ use Rattle.sqlite_trees.proofs.ListLemmas.{filter-map, ascending-map, ascending_
 use Rattle.sqlite_value.proofs.OrderLemmas.{value_cmp-Int}
 use Rattle.acvp_registry.specs.declared.kind.Kind.{Kind}
 use Rattle.acvp_tables.specs.Content.{Content, is_kind, kind_number, sessions_of, objects_of, requests_of}
-use Rattle.acvp_tables.specs.State.{IsSound, IsNumbered, first_of_account}
+use Rattle.acvp_tables.specs.State.{AreWellNumbered, IsNumbered, first_of_account}
 use Rattle.acvp_tables.specs.declared.rows.SessionRow.{SessionRow}
 use Rattle.acvp_tables.specs.declared.rows.ObjectRow.{ObjectRow}
 use Rattle.acvp_tables.specs.declared.rows.RequestRow.{RequestRow}
@@ -105,7 +105,7 @@ abbrev pub range_params : ℕ → Row
 range_params u = whole (first_of_account u + 0) ∷ whole (last_number u) ∷ []
 
 pub sessions_counted : (layout : Layout) (u : ℕ) (old new : State) (rows : List Row) → old.now.schema ≡ schema_of layout → Shown newest_sessions (range_params u) old new rows
-    → (c : Content) → IsSound c → HoldsSessions (old.now.trees session_tree) c.sessions → rows ≡ greatest (u * 1000000) (length (sessions_of u c.sessions))
+    → (c : Content) → AreWellNumbered c → HoldsSessions (old.now.trees session_tree) c.sessions → rows ≡ greatest (u * 1000000) (length (sessions_of u c.sessions))
 sessions_counted layout u old new rows schema shown c sound h =
     let key = λ (s : SessionRow). s.number in
     let account = λ (s : SessionRow). s.account in
@@ -117,7 +117,7 @@ sessions_counted layout u old new rows schema shown c sound h =
     it ∙ ap (λ xs. greatest (u * 1000000) (length xs)) picked
 
 pub requests_counted : (layout : Layout) (u : ℕ) (old new : State) (rows : List Row) → old.now.schema ≡ schema_of layout → Shown newest_requests (range_params u) old new rows
-    → (c : Content) → IsSound c → HoldsRequests (old.now.trees request_tree) c.requests → rows ≡ greatest (u * 1000000) (length (requests_of u c.requests))
+    → (c : Content) → AreWellNumbered c → HoldsRequests (old.now.trees request_tree) c.requests → rows ≡ greatest (u * 1000000) (length (requests_of u c.requests))
 requests_counted layout u old new rows schema shown c sound h =
     let key = λ (r : RequestRow). r.number in
     let account = λ (r : RequestRow). r.account in
@@ -132,7 +132,7 @@ abbrev pub kind_params : Kind → ℕ → Row
 kind_params kind u = whole (first_of_account u + 0) ∷ whole (last_number u) ∷ whole (kind_number kind) ∷ []
 
 pub objects_counted : (layout : Layout) (kind : Kind) (u : ℕ) (old new : State) (rows : List Row) → old.now.schema ≡ schema_of layout → Shown newest_objects (kind_params kind u) old new rows
-    → (c : Content) → IsSound c → HoldsObjects (old.now.trees object_tree) c.objects → rows ≡ greatest (u * 1000000) (length (objects_of kind u c.objects))
+    → (c : Content) → AreWellNumbered c → HoldsObjects (old.now.trees object_tree) c.objects → rows ≡ greatest (u * 1000000) (length (objects_of kind u c.objects))
 objects_counted layout kind u old new rows schema shown c sound h =
     let key = λ (x : ObjectRow). x.number in
     let account = λ (x : ObjectRow). x.account in

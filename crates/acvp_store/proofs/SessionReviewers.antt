@@ -16,7 +16,7 @@ use Rattle.sqlite.proofs.Callers.{reads_as}
 use Rattle.sqlite_keyed.proofs.ListLemmas.{filter-map}
 use Rattle.sqlite_trees.proofs.ListLemmas.{map-map, ascending-filter, IsPermutation-filter}
 use Rattle.acvp_tables.specs.Content.{Content, is_reviewer, account_numbers, reviewers_of}
-use Rattle.acvp_tables.specs.State.{IsSound}
+use Rattle.acvp_tables.specs.State.{AreWellNumbered}
 use Rattle.acvp_tables.specs.Private.Ascending.{with_number, ascending}
 use Rattle.acvp_tables.specs.declared.rows.ReviewerRow.{ReviewerRow}
 use Rattle.acvp_tables.proofs.Reviewers.{accounts_in, reviewers_read}
@@ -90,9 +90,9 @@ ordered_same placed (n ∷ numbers) =
     IsPermutation-trans _ (numbers ++ n ∷ placed) _ front
     (IsPermutation-trans _ (numbers ++ with_number n placed) _ (IsPermutation-append_right numbers (n ∷ placed) (with_number n placed) (placed_same n placed)) (ordered_same (with_number n placed) numbers))
 
--- ---- of a sound content they are the session's
+-- ---- of well numbered rows they are the session's
 
-reviewers_same : (s : ℕ) (c : Content) → IsSound c → IsPermutation (accounts_in s c.reviewers) (reviewers_of s c.reviewers)
+reviewers_same : (s : ℕ) (c : Content) → AreWellNumbered c → IsPermutation (accounts_in s c.reviewers) (reviewers_of s c.reviewers)
 reviewers_same s c sound = subst (IsPermutation (accounts_in s c.reviewers)) (reviewers_read s c c.reviewers _ sound refl refl) (rw append-nil at (ordered_same [] (accounts_in s c.reviewers)))
 
 above_range : (m a k : ℕ) → m < a → AllByRecursion (λ n. m < n) (range_with_len a k)
@@ -113,7 +113,7 @@ module _ {X L E F : Type 0} (s : ℕ) (table : List Row) (rows_in : X → List R
   pub find_all : (outcome : Result X E) (result : Result L F) → (IsOk result → IsOk outcome)
       → IfOk result (λ l. IfOk outcome (λ x. (list : List ℕ) → rows_in x ≡ map account_shown list → listed l ≡ list))
       → IfOk outcome (λ x. (list : List ReviewerRow) → HoldsReviewers table list → (numbers : List ℕ) → Rising numbers → IsPermutation (accounts_in s list) numbers → rows_in x ≡ map account_shown numbers)
-      → IfOk result (λ l. (c : Content) → IsSound c → HoldsReviewers table c.reviewers → listed l ≡ reviewers_of s c.reviewers)
+      → IfOk result (λ l. (c : Content) → AreWellNumbered c → HoldsReviewers table c.reviewers → listed l ≡ reviewers_of s c.reviewers)
   find_all outcome (Err f) ok lists rows = tt
   find_all (Err e) (Ok l) ok lists rows = absurd (let impossible = ok refl in cc)
   find_all (Ok x) (Ok l) ok lists rows = λ c sound h. lists (reviewers_of s c.reviewers) (rows c.reviewers h (reviewers_of s c.reviewers) (reviewers_rise s c.reviewers) (reviewers_same s c sound))

@@ -34,7 +34,7 @@ use Rattle.sqlite.specs.State.{mode_of}
 use Rattle.sqlite.specs.Listing.{understood}
 use Rattle.sqlite.proofs.Callers.{statement_of}
 use Rattle.sqlite_rules.specs.Calls.{ids_of}
-use Rattle.acvp_tables.specs.Changes.{changed, is_session, cancelled_session, with_counts, with_passed, with_certify, new_session}
+use Rattle.acvp_tables.specs.Changes.{changed, is_session, cancelled_session, with_counts, with_passed, with_last_request, new_session}
 use Rattle.acvp_store.specs.Values.{flag}
 use Rattle.acvp_store.specs.Schema.{session_table}
 use Rattle.acvp_store.specs.Alters.{Alters}
@@ -75,10 +75,10 @@ module _ (layout : Layout) (terms project : List Term) (params : Row) (n : ℕ) 
 -- ---- a cancelled session
 
 abbrev called_off : SessionRow → Row
-called_off s = whole s.number ∷ whole s.number ∷ Null ∷ whole s.account ∷ flag s.sample ∷ whole s.created ∷ whole 1 ∷ or_null whole s.certify ∷ whole s.live ∷ whole s.passed ∷ []
+called_off s = whole s.number ∷ whole s.number ∷ Null ∷ whole s.account ∷ flag s.sample ∷ whole s.created ∷ whole 1 ∷ or_null whole s.last_request ∷ whole s.live ∷ whole s.passed ∷ []
 
 cast_off : (s : SessionRow) → cast_row (session_table 3) (drop 1 (called_off s)) ≡ session_row (cancelled_session s)
-cast_off s = rw (cast_whole s.number, cast_null, cast_whole s.account, cast_flag s.sample, cast_whole s.created, cast_whole 1, cast_option s.certify, cast_whole s.live, cast_whole s.passed) refl
+cast_off s = rw (cast_whole s.number, cast_null, cast_whole s.account, cast_flag s.sample, cast_whole s.created, cast_whole 1, cast_option s.last_request, cast_whole s.live, cast_whole s.passed) refl
 
 pub cancel_effect : (layout : Layout) (old : State) (n : ℕ) → old.now.schema ≡ schema_of layout → (tally : Tally) (after : Database)
     → Does old.step_limit (mode_of old) (whole n ∷ []) old.now (statement_of cancel_session (understood (schema_of layout) cancel_session)) None (Update 2 (record { lets = []; body = simple 3 cancel_terms cancel_columns })) (Ok (tally, after))
@@ -90,10 +90,10 @@ cancel_effect layout old n schema tally after does =
 -- ---- the counters of a session
 
 abbrev counted : ℕ → ℕ → SessionRow → Row
-counted live passed s = whole s.number ∷ whole s.number ∷ Null ∷ whole s.account ∷ flag s.sample ∷ whole s.created ∷ flag s.cancelled ∷ or_null whole s.certify ∷ whole live ∷ whole passed ∷ []
+counted live passed s = whole s.number ∷ whole s.number ∷ Null ∷ whole s.account ∷ flag s.sample ∷ whole s.created ∷ flag s.cancelled ∷ or_null whole s.last_request ∷ whole live ∷ whole passed ∷ []
 
 cast_counted : (live passed : ℕ) (s : SessionRow) → cast_row (session_table 3) (drop 1 (counted live passed s)) ≡ session_row (with_counts live passed s)
-cast_counted live passed s = rw (cast_whole s.number, cast_null, cast_whole s.account, cast_flag s.sample, cast_whole s.created, cast_flag s.cancelled, cast_option s.certify, cast_whole live, cast_whole passed) refl
+cast_counted live passed s = rw (cast_whole s.number, cast_null, cast_whole s.account, cast_flag s.sample, cast_whole s.created, cast_flag s.cancelled, cast_option s.last_request, cast_whole live, cast_whole passed) refl
 
 pub count_effect : (layout : Layout) (old : State) (n live passed : ℕ) → old.now.schema ≡ schema_of layout → (tally : Tally) (after : Database)
     → Does old.step_limit (mode_of old) (whole n ∷ whole live ∷ whole passed ∷ []) old.now (statement_of count_session (understood (schema_of layout) count_session)) None (Update 2 (record { lets = []; body = count_query })) (Ok (tally, after))
@@ -103,10 +103,10 @@ count_effect layout old n live passed schema tally after does =
     old (statement_of count_session (understood (schema_of layout) count_session)) schema tally after does
 
 abbrev passing : ℕ → SessionRow → Row
-passing passed s = whole s.number ∷ whole s.number ∷ Null ∷ whole s.account ∷ flag s.sample ∷ whole s.created ∷ flag s.cancelled ∷ or_null whole s.certify ∷ whole s.live ∷ whole passed ∷ []
+passing passed s = whole s.number ∷ whole s.number ∷ Null ∷ whole s.account ∷ flag s.sample ∷ whole s.created ∷ flag s.cancelled ∷ or_null whole s.last_request ∷ whole s.live ∷ whole passed ∷ []
 
 cast_passing : (passed : ℕ) (s : SessionRow) → cast_row (session_table 3) (drop 1 (passing passed s)) ≡ session_row (with_passed passed s)
-cast_passing passed s = rw (cast_whole s.number, cast_null, cast_whole s.account, cast_flag s.sample, cast_whole s.created, cast_flag s.cancelled, cast_option s.certify, cast_whole s.live, cast_whole passed) refl
+cast_passing passed s = rw (cast_whole s.number, cast_null, cast_whole s.account, cast_flag s.sample, cast_whole s.created, cast_flag s.cancelled, cast_option s.last_request, cast_whole s.live, cast_whole passed) refl
 
 pub pass_effect : (layout : Layout) (old : State) (n passed : ℕ) → old.now.schema ≡ schema_of layout → (tally : Tally) (after : Database)
     → Does old.step_limit (mode_of old) (whole n ∷ whole passed ∷ []) old.now (statement_of pass_session (understood (schema_of layout) pass_session)) None (Update 2 (record { lets = []; body = pass_query })) (Ok (tally, after))
@@ -120,14 +120,14 @@ pass_effect layout old n passed schema tally after does =
 abbrev certified : ℕ → SessionRow → Row
 certified request s = whole s.number ∷ whole s.number ∷ Null ∷ whole s.account ∷ flag s.sample ∷ whole s.created ∷ flag s.cancelled ∷ whole request ∷ whole s.live ∷ whole s.passed ∷ []
 
-cast_certified : (request : ℕ) (s : SessionRow) → cast_row (session_table 3) (drop 1 (certified request s)) ≡ session_row (with_certify request s)
+cast_certified : (request : ℕ) (s : SessionRow) → cast_row (session_table 3) (drop 1 (certified request s)) ≡ session_row (with_last_request request s)
 cast_certified request s = rw (cast_whole s.number, cast_null, cast_whole s.account, cast_flag s.sample, cast_whole s.created, cast_flag s.cancelled, cast_whole request, cast_whole s.live, cast_whole s.passed) refl
 
 pub certify_effect : (layout : Layout) (old : State) (n request : ℕ) → old.now.schema ≡ schema_of layout → (tally : Tally) (after : Database)
     → Does old.step_limit (mode_of old) (whole n ∷ whole request ∷ []) old.now (statement_of certify_session (understood (schema_of layout) certify_session)) None (Update 2 (record { lets = []; body = certify_query })) (Ok (tally, after))
-    → Alters layout session_tree HoldsSessions (changed (is_session n) (with_certify request)) old.now after
+    → Alters layout session_tree HoldsSessions (changed (is_session n) (with_last_request request)) old.now after
 certify_effect layout old n request schema tally after does =
-    session_effect layout certify_query.filter certify_query.project (whole n ∷ whole request ∷ []) n (with_certify request) (λ s. refl) (certified request) (λ s. refl) (cast_certified request) (λ s. rw test_equals (and_true _)) (λ s. refl)
+    session_effect layout certify_query.filter certify_query.project (whole n ∷ whole request ∷ []) n (with_last_request request) (λ s. refl) (certified request) (λ s. refl) (cast_certified request) (λ s. rw test_equals (and_true _)) (λ s. refl)
     old (statement_of certify_session (understood (schema_of layout) certify_session)) schema tally after does
 
 -- ---- a new session

@@ -21,7 +21,7 @@ use Rattle.sqlite_sql.specs.declared.ops.CompareOp.TheVariants.{Ne}
 use Rattle.sqlite_value.proofs.OrderLemmas.{value_cmp-Int}
 use Rattle.sqlite_trees.proofs.ListLemmas.{map-map, ascending-filter, IsPermutation-filter}
 use Rattle.acvp_tables.specs.Content.{Content, live_sets, set_summary}
-use Rattle.acvp_tables.specs.State.{IsSound, SetRecord, set_record, state_of, sets_in, first_of_session}
+use Rattle.acvp_tables.specs.State.{AreWellNumbered, SetRecord, set_record, state_of, sets_in, first_of_session}
 use Rattle.acvp_tables.specs.declared.rows.SetRow.{SetRow}
 use Rattle.acvp_tables.specs.declared.summary.SetSummary.{SetSummary}
 use Rattle.acvp_tables.proofs.Numbers.{keyed, sets_numbered}
@@ -74,7 +74,7 @@ live_rows layout s old new rows schema h columns kept rise =
     same_told : (xs : List SetColumns) → IsPermutation xs (filter (is_live_set s) columns) → IsPermutation (map (λ c. c) xs) (filter (is_live_set s) columns)
     same_told xs same = rw (map_same xs) same
 
--- ---- of a sound content they are the session's
+-- ---- of well numbered rows they are the session's
 
 within_is : (s n session : ℕ) (cancelled : Bool) → ((n / 100) == session) ≡ true → is_live_within s n cancelled ≡ ((session == s) && not cancelled)
 within_is s n session cancelled own =
@@ -102,7 +102,7 @@ live_within s (r ∷ rows) all =
     let here = within_is s r.number r.session r.cancelled own in
     rw (here, more) refl
 
-pub live_is : (s : ℕ) (c : Content) → IsSound c → filter (λ (row : SetRow). is_live_within s row.number row.cancelled) c.sets ≡ live_sets s c.sets
+pub live_is : (s : ℕ) (c : Content) → AreWellNumbered c → filter (λ (row : SetRow). is_live_within s row.number row.cancelled) c.sets ≡ live_sets s c.sets
 unfolding state_of
 live_is s c sound = live_within s c.sets (keyed (state_of c) sound).sets
 
@@ -125,7 +125,7 @@ filter_both : {R : Type 0} (p q : R → Bool) (rows : List R) → filter q (filt
 filter_both p q [] = refl
 filter_both p q (r ∷ rows) = grind (arith, nat_tests, filter_both p q rows)
 
-pub live_rise : (s : ℕ) (c : Content) → IsSound c → IsAscending (λ (a b : SetRow). a.number < b.number) (live_sets s c.sets)
+pub live_rise : (s : ℕ) (c : Content) → AreWellNumbered c → IsAscending (λ (a b : SetRow). a.number < b.number) (live_sets s c.sets)
 live_rise s c sound =
     let own = filter (λ (row : SetRow). row.session == s) c.sets in
     let follows : sets_in s (state_of c).sets ≡ map set_record own = sets_follow s c in
@@ -176,7 +176,7 @@ module _ {X L M E F G : Type 0} (s : ℕ) (table : List Row) (rows_in : X → Li
       → IfOk found (λ l. IfOk outcome (λ x. (list : List ShortColumns) → rows_in x ≡ map short_shown list → listed l ≡ list))
       → IfOk result (λ m. IfOk found (λ l. AllZip IsSummary (listed l) (told m)))
       → IfOk outcome (λ x. (columns : List SetColumns) → AreKept set_key set_row table columns → Rising (filter (is_live_set s) columns) → rows_in x ≡ map set_shown (filter (is_live_set s) columns))
-      → IfOk result (λ m. (c : Content) → IsSound c → HoldsSets table c.sets → told m ≡ map set_summary (live_sets s c.sets))
+      → IfOk result (λ m. (c : Content) → AreWellNumbered c → HoldsSets table c.sets → told m ≡ map set_summary (live_sets s c.sets))
   find_live outcome found (Err g) ok_found ok_result lists tells rows = tt
   find_live outcome (Err f) (Ok m) ok_found ok_result lists tells rows = absurd (let impossible = ok_result refl in cc)
   find_live (Err e) (Ok l) (Ok m) ok_found ok_result lists tells rows = absurd (let impossible = ok_found refl in cc)

@@ -1,4 +1,4 @@
--- What a sound content's requests ask to register.
+-- What the requests of well numbered rows ask to register.
 use Rattle.std.proofs.Common.{inl, inr, ◌≡◌, ◌<◌, ℕ, List, [], ◌∷◌, Bool, true, false, not, refl, arith}
 use Rattle.std.specs.Prelude.{◌==◌, ◌&&◌, is_some}
 use Rattle.std.specs.List.{filter, list_all, AllByRecursion}
@@ -8,7 +8,7 @@ use Rattle.acvp_registry.specs.Object.{KeptObject, is_fit, object_fault}
 use Rattle.acvp_registry.specs.declared.kind.Kind.{Kind}
 use Rattle.acvp_registry.specs.declared.kind.Kind.TheVariants.{Vendor, Module, Environment, Certification}
 use Rattle.acvp_tables.specs.Content.{Content, kind_number}
-use Rattle.acvp_tables.specs.State.{State, state_of, own, IsWellNumbered, IsSound, is_sound_body}
+use Rattle.acvp_tables.specs.State.{State, state_of, own, IsWellNumbered, AreWellNumbered, is_sound_body}
 use Rattle.acvp_tables.specs.declared.rows.RequestBody.{RequestBody}
 use Rattle.acvp_tables.specs.declared.rows.RequestBody.TheVariants as body
 use Rattle.acvp_tables.specs.declared.rows.RequestRow.{RequestRow}
@@ -58,6 +58,6 @@ all_kinds : (c : Content) (rows : List RequestRow) → AllByRecursion (λ (r : R
 all_kinds c [] h = tt
 all_kinds c (x ∷ rows) h = (body_kind (own x.account (state_of c)) x.body h.0, all_kinds c rows h.1)
 
-pub kinds_of : (c : Content) → IsSound c → AllByRecursion (λ (r : RequestRow). IsOfKind r.body) c.requests
+pub kinds_of : (c : Content) → AreWellNumbered c → AllByRecursion (λ (r : RequestRow). IsOfKind r.body) c.requests
 unfolding IsWellNumbered own state_of
 kinds_of c sound = all_kinds c c.requests (each (λ u b. is_sound_body (own u (state_of c)) b) c.requests (λ u. (sound u).asked))

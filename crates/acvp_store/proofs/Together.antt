@@ -130,7 +130,7 @@ module _ (old begun last new : State) (begins : begun ≡ record old { in_transa
       record {
         was_open = stays.was_open;
         was_clean = λ sure. clean_before old.is_clean last.is_clean (survives_so (Err f) h).clean (clean_before last.is_clean new.is_clean gone.clean sure);
-        live = tt;
+        stays_open = tt;
         settled = stays.settled;
         limit = gone.limit ∙ (survives_so (Err f) h).limit;
         ok = tt;
@@ -156,7 +156,7 @@ module _ (old begun last new : State) (begins : begun ≡ record old { in_transa
         record {
           was_open = stays.was_open;
           was_clean = sure_old;
-          live = tt;
+          stays_open = tt;
           settled = stays.settled;
           limit = gone.limit ∙ (survives_so (Ok y) h).limit;
           ok = tt;
@@ -183,7 +183,7 @@ module _ (old begun last new : State) (begins : begun ≡ record old { in_transa
         record {
           was_open = was;
           was_clean = sure_old;
-          live = λ sure live. (shown sure).is_open;
+          stays_open = λ sure live. (shown sure).is_open;
           settled = λ live. let s = shown (clean live) in record { settled = s.now_is ∙ sym s.committed_is; autocommit = s.mode };
           limit = gone.limit ∙ (survives_so (Ok y) h).limit;
           ok = λ live. subst (Change old.now) (sym (shown (clean live)).now_is) (made_so y h (was live) (sure_last (clean live))).2;

@@ -6,7 +6,7 @@ use Rattle.sqlite.specs.Effect.{Database}
 use Rattle.sqlite.specs.Order.{Row}
 use Rattle.acvp_tables.specs.declared.rows.ReviewerRow.{ReviewerRow}
 use Rattle.acvp_store.specs.Connection.{Under, UnderStore, Both}
-use Rattle.acvp_store.specs.Migrated.{Turns}
+use Rattle.acvp_store.specs.Migrated.{Moves}
 use Rattle.acvp_store.specs.Rows.{HoldsAccounts, HoldsSessions}
 use Rattle.acvp_store.specs.Schema.{Created, Migrated, schema_of, First, Second, schema_at}
 use Rattle.acvp_store.specs.Version.{is_version_row}
@@ -25,8 +25,8 @@ abbrev pub MovesFirst : Database → Database → Type 0
 MovesFirst = Both (Under (before table.LaterSet) (Makes table.LaterSet)) (Both (Under (before table.LaterReviewer) (Makes table.LaterReviewer))
     (Both (Under (schema_of Migrated) CopiesSets) (Both (Under (schema_of Migrated) EmptiesOldSets) (UnderStore RaisesVersion))))
 
-pub first_turns : (old new : Database) → MovesFirst old new → Under (schema_at First) (Turns First) old new
-first_turns old new h schema =
+pub first_moves : (old new : Database) → MovesFirst old new → Under (schema_at First) (Moves First) old new
+first_moves old new h schema =
     let d1 = h.1 (schema ∙ first_is) in
     let m1 = d1.1 in
     let d2 = h.2.1 m1.schema in
@@ -66,8 +66,8 @@ first_turns old new h schema =
 abbrev pub MovesSecond : Database → Database → Type 0
 MovesSecond = Both (Under (before table.Reviewer) (Makes table.Reviewer)) (UnderStore RaisesVersion)
 
-pub second_turns : (old new : Database) → MovesSecond old new → Under (schema_at (Second Created)) (Turns (Second Created)) old new
-second_turns old new h schema =
+pub second_moves : (old new : Database) → MovesSecond old new → Under (schema_at (Second Created)) (Moves (Second Created)) old new
+second_moves old new h schema =
     let d1 = h.1 (schema ∙ second_is) in
     let m = d1.1 in
     let d2 = h.2 Created (m.schema ∙ whole_schema) in
@@ -92,8 +92,8 @@ second_turns old new h schema =
 abbrev pub MovesSecondBeside : Database → Database → Type 0
 MovesSecondBeside = Both (Under (before table.LaterReviewer) (Makes table.LaterReviewer)) (UnderStore RaisesVersion)
 
-pub second_beside_turns : (old new : Database) → MovesSecondBeside old new → Under (schema_at (Second Migrated)) (Turns (Second Migrated)) old new
-second_beside_turns old new h schema =
+pub second_beside_moves : (old new : Database) → MovesSecondBeside old new → Under (schema_at (Second Migrated)) (Moves (Second Migrated)) old new
+second_beside_moves old new h schema =
     let d1 = h.1 (schema ∙ second_beside_is) in
     let m = d1.1 in
     let d2 = h.2 Migrated (m.schema ∙ migrated_schema) in

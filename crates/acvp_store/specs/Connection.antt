@@ -56,7 +56,7 @@ IsAfter Change old db = (after : Database) × (after.trees ≡ db) × Change old
 pub record IsRead {X E : Type 0} (result : Result X E) (old new : State) : Type 0 where
   pub stays : Stays old new
   pub was_clean : HasCleanDisk new → HasCleanDisk old
-  pub live : OnOk result (HasCleanDisk new → IsTrue old.is_open × IsTrue new.is_open)
+  pub stays_open : OnOk result (HasCleanDisk new → IsTrue old.is_open × IsTrue new.is_open)
   pub limit : new.step_limit ≡ old.step_limit
   pub left : LeavesNoMore old new
 
@@ -65,7 +65,7 @@ pub record IsWritten {X E : Type 0} (result : Result X E) (old new : State)
     (Change : Database → Database → Type 0) : Type 0 where
   pub was_open : IsTrue new.is_open → IsTrue old.is_open
   pub was_clean : HasCleanDisk new → HasCleanDisk old
-  pub live : OnOk result (HasCleanDisk new → IsTrue old.is_open → IsTrue new.is_open)
+  pub stays_open : OnOk result (HasCleanDisk new → IsTrue old.is_open → IsTrue new.is_open)
   pub settled : IsReady new
   pub limit : new.step_limit ≡ old.step_limit
   pub ok : OnOk result (IsTrue new.is_open → Change old.now new.now)

@@ -25,14 +25,14 @@ layout_after (Second layout) = layout
 layout_after (Third layout) = layout
 
 -- the tables are those of schema 3, and stand for what the earlier ones stood for
-pub record Turns (from : SchemaVersion) (old new : Database) : Type 0 where
+pub record Moves (from : SchemaVersion) (old new : Database) : Type 0 where
   pub schema : new.schema ≡ schema_of (layout_after from)
   pub stands : (c : Content) → StandsAt from old.trees c → Stands (layout_after from) new.trees c
 
 -- what is of schema 3 stays as it is
 abbrev pub Migrates : SchemaVersion → Database → Database → Type 0
-Migrates First old new = Turns First old new
-Migrates (Second layout) old new = Turns (Second layout) old new
+Migrates First old new = Moves First old new
+Migrates (Second layout) old new = Moves (Second layout) old new
 Migrates (Third layout) old new = new ≡ old
 
 -- it was a store's of some version, and is one of schema 3

@@ -37,11 +37,11 @@ session_key s = s.number
 
 abbrev pub session_row : SessionRow → Row
 session_row s = whole s.number ∷ Null ∷ whole s.account ∷ flag s.sample ∷ whole s.created ∷ flag s.cancelled
-    ∷ or_null whole s.certify ∷ whole s.live ∷ whole s.passed ∷ []
+    ∷ or_null whole s.last_request ∷ whole s.live ∷ whole s.passed ∷ []
 
 abbrev pub HoldsSessions : List Row → List SessionRow → Type 0
 HoldsSessions = AreKept session_key session_row
 
 abbrev pub session_shown : SessionRow → Row
 session_shown s = whole s.number ∷ whole s.account ∷ flag s.sample ∷ whole s.created ∷ flag s.cancelled
-    ∷ or_null whole s.certify ∷ whole s.live ∷ whole s.passed ∷ []
+    ∷ or_null whole s.last_request ∷ whole s.live ∷ whole s.passed ∷ []

@@ -3,7 +3,7 @@ ghost use Rattle.std.specs.Prelude.{◌≡◌, ◌≢◌, ◌<◌, ◌*◌, ◌+
 ghost use Rattle.sqlite.specs.Held.{state};
 ghost use Rattle.sqlite_value.specs.Order.{column};
 ghost use Rattle.acvp_tables.specs.Content.{Content, sessions_of, objects_of, requests_of, count_of, counts_of};
-ghost use Rattle.acvp_tables.specs.State.{IsSound};
+ghost use Rattle.acvp_tables.specs.State.{AreWellNumbered};
 ghost use Rattle.acvp_store.specs.Connection.{ServesStore, IsRead};
 ghost use Rattle.acvp_store.specs.Rows.{session_tree, HoldsSessions};
 ghost use Rattle.acvp_store.specs.Stands.{object_tree, request_tree, HoldsObjects, HoldsRequests};
@@ -53,7 +53,7 @@ fn given_since(account: u16, row: &Row) -> Result<u64, StoreFault>
 fn count_sessions<S: Alter>(conn: &mut Connection<S>, account: u16) -> Result<u64, StoreFault>
     requires { ServesStore (state S.Store conn.old) }
     ensures found { IsTrue (state S.Store conn.new).is_open
-        → IfOk result (λ found. (c : Content) → IsSound c
+        → IfOk result (λ found. (c : Content) → AreWellNumbered c
         → HoldsSessions ((state S.Store conn.old).now.trees session_tree) c.sessions
         → found ≡ length (sessions_of account c.sessions)) }
     ensures read { IsRead result (state S.Store conn.old) (state S.Store conn.new) }
@@ -76,7 +76,7 @@ fn count_objects<S: Alter>(
 ) -> Result<u64, StoreFault>
     requires { ServesStore (state S.Store conn.old) }
     ensures found { IsTrue (state S.Store conn.new).is_open
-        → IfOk result (λ found. (c : Content) → IsSound c
+        → IfOk result (λ found. (c : Content) → AreWellNumbered c
         → HoldsObjects ((state S.Store conn.old).now.trees object_tree) c.objects
         → found ≡ length (objects_of kind account c.objects)) }
     ensures read { IsRead result (state S.Store conn.old) (state S.Store conn.new) }
@@ -95,7 +95,7 @@ fn count_objects<S: Alter>(
 fn count_requests<S: Alter>(conn: &mut Connection<S>, account: u16) -> Result<u64, StoreFault>
     requires { ServesStore (state S.Store conn.old) }
     ensures found { IsTrue (state S.Store conn.new).is_open
-        → IfOk result (λ found. (c : Content) → IsSound c
+        → IfOk result (λ found. (c : Content) → AreWellNumbered c
         → HoldsRequests ((state S.Store conn.old).now.trees request_tree) c.requests
         → found ≡ length (requests_of account c.requests)) }
     ensures read { IsRead result (state S.Store conn.old) (state S.Store conn.new) }
@@ -118,7 +118,7 @@ pub(crate) fn find_count<S: Alter>(
 ) -> Result<u64, StoreFault>
     requires { ServesStore (state S.Store conn.old) }
     ensures found { IsTrue (state S.Store conn.new).is_open
-        → IfOk result (λ found. (c : Content) → IsSound c
+        → IfOk result (λ found. (c : Content) → AreWellNumbered c
         → HoldsSessions ((state S.Store conn.old).now.trees session_tree) c.sessions
         → HoldsObjects ((state S.Store conn.old).now.trees object_tree) c.objects
         → HoldsRequests ((state S.Store conn.old).now.trees request_tree) c.requests → found ≡ count_of of account c) }
@@ -138,7 +138,7 @@ pub(crate) fn find_counts<S: Alter>(
 ) -> Result<Counts, StoreFault>
     requires { ServesStore (state S.Store conn.old) }
     ensures found { IsTrue (state S.Store conn.new).is_open
-        → IfOk result (λ found. (c : Content) → IsSound c
+        → IfOk result (λ found. (c : Content) → AreWellNumbered c
         → HoldsSessions ((state S.Store conn.old).now.trees session_tree) c.sessions
         → HoldsObjects ((state S.Store conn.old).now.trees object_tree) c.objects
         → HoldsRequests ((state S.Store conn.old).now.trees request_tree) c.requests → found ≡ counts_of account c) }

@@ -4,7 +4,7 @@ ghost use Rattle.std.specs.Prelude.{◌≡◌, ◌≢◌, IsOk};
 use acvp_tables::StoreFault;
 use sqlite::{Error, ErrorCode};
 
-/// Why a database isn't taken over.
+/// Why a database isn't taken over. No call on tables that were has a fault like Schema, so it is a type of its own.
 #[derive(Clone, Copy, Debug, PartialEq, Eq)]
 pub enum AdoptFault {
     /// Its tables aren't the store's, or it doesn't name their version.

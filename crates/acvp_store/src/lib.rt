@@ -7,6 +7,7 @@ mod fault;
 mod migration;
 mod objects;
 mod pages;
+mod reopening;
 mod requests;
 mod reviewers;
 mod same;
@@ -21,4 +22,5 @@ mod version;
 mod work;
 
 pub use fault::AdoptFault;
+pub use reopening::reopens;
 pub use store::{SqlTables, adopt, create, migrate};

@@ -2,7 +2,7 @@
 ghost use Rattle.std.specs.Prelude.{◌≡◌};
 ghost use Rattle.sqlite.specs.Held.{state};
 ghost use Rattle.acvp_store.specs.Connection.{IsReady, IsInside, IsWritten, Under, UnderStore};
-ghost use Rattle.acvp_store.specs.Migrated.{Turns};
+ghost use Rattle.acvp_store.specs.Migrated.{Moves};
 ghost use Rattle.acvp_store.specs.Schema.{Migrated, schema_of, First, Second, Created, first_schema, second_schema};
 ghost use Rattle.acvp_store.specs.Schema.{schema_at};
 ghost use Rattle.acvp_store.specs.Private.Migration.{version_of, CopiesSets, EmptiesOldSets, RaisesVersion};
@@ -73,10 +73,10 @@ impl Work for VersionRaised {
 }
 
 /// Moves schema 1 to schema 3.
-fn turn_first<S: Alter>(connection: &mut Connection<S>) -> Result<(), StoreFault>
+fn move_first<S: Alter>(connection: &mut Connection<S>) -> Result<(), StoreFault>
     requires { IsReady (state S.Store connection.old) }
     ensures { IsWritten result (state S.Store connection.old) (state S.Store connection.new)
-        (Under first_schema (Turns First)) }
+        (Under first_schema (Moves First)) }
 {
     let named = Then {
         first: OldSetsDeleted,
@@ -97,10 +97,10 @@ fn turn_first<S: Alter>(connection: &mut Connection<S>) -> Result<(), StoreFault
 }
 
 /// Moves schema 2 to schema 3, as it is made in a new database.
-fn turn_second<S: Alter>(connection: &mut Connection<S>) -> Result<(), StoreFault>
+fn move_second<S: Alter>(connection: &mut Connection<S>) -> Result<(), StoreFault>
     requires { IsReady (state S.Store connection.old) }
     ensures { IsWritten result (state S.Store connection.old) (state S.Store connection.new)
-        (Under (second_schema Created) (Turns (Second Created))) }
+        (Under (second_schema Created) (Moves (Second Created))) }
 {
     let work = Then {
         first: StoreTable::Reviewer,
@@ -110,10 +110,10 @@ fn turn_second<S: Alter>(connection: &mut Connection<S>) -> Result<(), StoreFaul
 }
 
 /// Moves schema 2 to schema 3, where the table of sets of schema 1 stands beside the later one.
-fn turn_second_beside<S: Alter>(connection: &mut Connection<S>) -> Result<(), StoreFault>
+fn move_second_beside<S: Alter>(connection: &mut Connection<S>) -> Result<(), StoreFault>
     requires { IsReady (state S.Store connection.old) }
     ensures { IsWritten result (state S.Store connection.old) (state S.Store connection.new)
-        (Under (second_schema Migrated) (Turns (Second Migrated))) }
+        (Under (second_schema Migrated) (Moves (Second Migrated))) }
 {
     let work = Then {
         first: StoreTable::LaterReviewer,
@@ -123,17 +123,17 @@ fn turn_second_beside<S: Alter>(connection: &mut Connection<S>) -> Result<(), St
 }
 
 /// Moves an earlier schema to schema 3, in one transaction.
-pub(crate) fn turn<S: Alter>(
+pub(crate) fn move_earlier<S: Alter>(
     connection: &mut Connection<S>,
     from: Earlier,
 ) -> Result<(), StoreFault>
     requires { IsReady (state S.Store connection.old) }
     ensures { IsWritten result (state S.Store connection.old) (state S.Store connection.new)
-        (Under (schema_at (version_of from)) (Turns (version_of from))) }
+        (Under (schema_at (version_of from)) (Moves (version_of from))) }
 {
     match from {
-        Earlier::First => turn_first(connection),
-        Earlier::Second => turn_second(connection),
-        Earlier::SecondBeside => turn_second_beside(connection),
+        Earlier::First => move_first(connection),
+        Earlier::Second => move_second(connection),
+        Earlier::SecondBeside => move_second_beside(connection),
     }
 }

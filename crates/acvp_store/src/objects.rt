@@ -4,7 +4,7 @@ ghost use Rattle.sqlite.specs.Held.{state};
 ghost use Rattle.acvp_registry.specs.Json.{body_json};
 ghost use Rattle.acvp_registry.specs.Object.{KeptObject, object_text};
 ghost use Rattle.acvp_tables.specs.Content.{Content, kind_number, object_at, objects_of, page};
-ghost use Rattle.acvp_tables.specs.State.{IsSound};
+ghost use Rattle.acvp_tables.specs.State.{AreWellNumbered};
 ghost use Rattle.acvp_tables.specs.declared.rows.ObjectRow.{ObjectRow as Registration};
 ghost use Rattle.acvp_store.specs.Connection.{ServesStore, IsRead, IsInside, UnderStore};
 ghost use Rattle.acvp_store.specs.Private.Columns.{columns_of_object};
@@ -148,7 +148,7 @@ pub(crate) fn find_object<S: Alter>(
 ) -> Result<Option<ObjectRow>, StoreFault>
     requires { ServesStore (state S.Store conn.old) }
     ensures found { IsTrue (state S.Store conn.new).is_open
-        → IfOk result (λ found. (c : Content) → IsSound c
+        → IfOk result (λ found. (c : Content) → AreWellNumbered c
         → HoldsObjects ((state S.Store conn.old).now.trees object_tree) c.objects → FitColumns c.objects
         → found ≡ object_at kind number c.objects) }
     ensures judged { IsTrue (state S.Store conn.new).is_open → number < 2 ^ 63
@@ -173,7 +173,7 @@ pub(crate) fn page_objects<S: Alter>(
 ) -> Result<Vec<ObjectRow>, StoreFault>
     requires { ServesStore (state S.Store conn.old) }
     ensures found { IsTrue (state S.Store conn.new).is_open
-        → IfOk result (λ found. (c : Content) → IsSound c
+        → IfOk result (λ found. (c : Content) → AreWellNumbered c
         → HoldsObjects ((state S.Store conn.old).now.trees object_tree) c.objects → FitColumns c.objects
         → found.items ≡ page offset limit (objects_of kind account c.objects)) }
     ensures read { IsRead result (state S.Store conn.old) (state S.Store conn.new) }
@@ -188,7 +188,8 @@ pub(crate) fn page_objects<S: Alter>(
     )
 }
 
-/// The registration of what a request asks for, under a number. One for certification registers nothing.
+/// The registration of what a request asks for, under a number. One for certification registers nothing. The statement
+/// selects the request's row, so the text of the object goes over unread.
 #[derive(Clone, Copy)]
 pub(crate) struct Registered {
     pub request: u64,

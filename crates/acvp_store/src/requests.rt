@@ -13,7 +13,7 @@ ghost use Rattle.acvp_store.specs.Stands.{request_tree, HoldsRequests, BodyReads
 ghost use Rattle.acvp_store.specs.Stands.{body_text, status_number};
 ghost use Rattle.acvp_registry.specs.Url.{url_of};
 ghost use Rattle.acvp_tables.specs.Content.{Content, page, request_at, requests_of, request_summary};
-ghost use Rattle.acvp_tables.specs.State.{IsSound, given_number};
+ghost use Rattle.acvp_tables.specs.State.{AreWellNumbered, given_number};
 ghost use Rattle.acvp_store.specs.Private.Columns.{request_columns, status_columns};
 ghost use Rattle.acvp_store.specs.Private.Requests.{FitsBody, IsAsked, IsJudgedBody, IsJudgedRequest, IsReadable};
 ghost use Rattle.acvp_store.specs.Private.Requests.{request_shown};
@@ -251,7 +251,7 @@ pub(crate) fn find_request<S: Alter>(
 ) -> Result<Option<RequestSummary>, StoreFault>
     requires { ServesStore (state S.Store conn.old) }
     ensures found { IsTrue (state S.Store conn.new).is_open
-        → IfOk result (λ found. (c : Content) → IsSound c
+        → IfOk result (λ found. (c : Content) → AreWellNumbered c
         → HoldsRequests ((state S.Store conn.old).now.trees request_tree) c.requests
         → found ≡ option_map request_summary (request_at number c.requests)) }
     ensures judged { IsTrue (state S.Store conn.new).is_open → number < 2 ^ 63
@@ -296,7 +296,7 @@ pub(crate) fn page_requests<S: Alter>(
 ) -> Result<Vec<RequestSummary>, StoreFault>
     requires { ServesStore (state S.Store conn.old) }
     ensures found { IsTrue (state S.Store conn.new).is_open
-        → IfOk result (λ found. (c : Content) → IsSound c
+        → IfOk result (λ found. (c : Content) → AreWellNumbered c
         → HoldsRequests ((state S.Store conn.old).now.trees request_tree) c.requests
         → found.items ≡ page offset limit (map request_summary (requests_of account c.requests))) }
     ensures read { IsRead result (state S.Store conn.old) (state S.Store conn.new) }

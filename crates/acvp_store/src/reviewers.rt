@@ -2,7 +2,7 @@
 ghost use Rattle.std.specs.Prelude.{◌≡◌, nat_lt, length, not, filter, IsTrue, IfOk, IsOk, List};
 ghost use Rattle.sqlite.specs.Held.{state};
 ghost use Rattle.acvp_tables.specs.Content.{Content, is_reviewer, reviewers_of};
-ghost use Rattle.acvp_tables.specs.State.{IsSound};
+ghost use Rattle.acvp_tables.specs.State.{AreWellNumbered};
 ghost use Rattle.acvp_tables.specs.Changes.{is_pair, with_reviewer};
 ghost use Rattle.acvp_tables.specs.declared.rows.ReviewerRow.{ReviewerRow as Reviewer};
 ghost use Rattle.acvp_store.specs.Alters.{Alters};
@@ -55,7 +55,7 @@ pub(crate) fn find_reviewers<S: Alter>(
 ) -> Result<Vec<u16>, StoreFault>
     requires { ServesStore (state S.Store conn.old) }
     ensures found { IsTrue (state S.Store conn.new).is_open
-        → IfOk result (λ found. InStore (state S.Store conn.old).now (λ layout. (c : Content) → IsSound c
+        → IfOk result (λ found. InStore (state S.Store conn.old).now (λ layout. (c : Content) → AreWellNumbered c
         → HoldsReviewers ((state S.Store conn.old).now.trees (reviewer_tree layout)) c.reviewers
         → found.items ≡ reviewers_of session c.reviewers)) }
     ensures read { IsRead result (state S.Store conn.old) (state S.Store conn.new) }

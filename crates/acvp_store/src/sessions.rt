@@ -2,9 +2,9 @@
 ghost use Rattle.std.specs.Prelude.{◌≡◌, ◌<◌, ◌^◌, ◌++◌, ◌∷◌, [], IsTrue, IfOk, List};
 ghost use Rattle.sqlite.specs.Held.{state};
 ghost use Rattle.acvp_tables.specs.Changes.{changed, is_session, cancelled_session, with_counts, with_passed};
-ghost use Rattle.acvp_tables.specs.Changes.{with_certify, new_session};
+ghost use Rattle.acvp_tables.specs.Changes.{with_last_request, new_session};
 ghost use Rattle.acvp_tables.specs.Content.{Content, session_at, sessions_of, page};
-ghost use Rattle.acvp_tables.specs.State.{IsSound};
+ghost use Rattle.acvp_tables.specs.State.{AreWellNumbered};
 ghost use Rattle.acvp_tables.specs.declared.rows.SessionRow.{SessionRow as Session};
 ghost use Rattle.acvp_store.specs.Alters.{Alters};
 ghost use Rattle.acvp_store.specs.Connection.{ServesStore, IsRead, IsInside, UnderStore};
@@ -36,7 +36,7 @@ impl Shown for SessionRow {
         let sample = truth(row, 2)?;
         let created: u64 = field(row, 3)?;
         let cancelled = truth(row, 4)?;
-        let certify: Option<u64> = field(row, 5)?;
+        let last_request: Option<u64> = field(row, 5)?;
         let live: u64 = field(row, 6)?;
         let passed: u64 = field(row, 7)?;
         Ok(SessionRow {
@@ -45,7 +45,7 @@ impl Shown for SessionRow {
             sample,
             created,
             cancelled,
-            certify,
+            last_request,
             live,
             passed,
         })
@@ -101,7 +101,7 @@ pub(crate) fn page_sessions<S: Alter>(
 ) -> Result<Vec<SessionRow>, StoreFault>
     requires { ServesStore (state S.Store conn.old) }
     ensures found { IsTrue (state S.Store conn.new).is_open
-        → IfOk result (λ found. (c : Content) → IsSound c
+        → IfOk result (λ found. (c : Content) → AreWellNumbered c
         → HoldsSessions ((state S.Store conn.old).now.trees session_tree) c.sessions
         → found.items ≡ page offset limit (sessions_of account c.sessions)) }
     ensures read { IsRead result (state S.Store conn.old) (state S.Store conn.new) }
@@ -202,13 +202,14 @@ pub(crate) struct CertifiedSession {
 }
 
 impl Work for CertifiedSession {
-    ghost use Rattle.acvp_tables.specs.Changes.{changed, is_session, with_certify};
+    ghost use Rattle.acvp_tables.specs.Changes.{changed, is_session, with_last_request};
     ghost use Rattle.acvp_store.specs.Alters.{Alters};
     ghost use Rattle.acvp_store.specs.Connection.{UnderStore};
     ghost use Rattle.acvp_store.specs.Rows.{session_tree, HoldsSessions};
 
     ghost change = { λ s. UnderStore
-        (λ layout. Alters layout session_tree HoldsSessions (changed (is_session s.number) (with_certify s.request))) };
+        (λ layout. Alters layout session_tree HoldsSessions
+        (changed (is_session s.number) (with_last_request s.request))) };
 
     fn run<S: Alter>(&self, tx: &mut Transaction<'_, S>) -> Result<(), StoreFault> {
         let number = fitting(self.number)?;

@@ -4,7 +4,7 @@ ghost use Rattle.std.specs.Prelude.{IfSome, IsOk, List, Some, map, option_map};
 ghost use Rattle.std.specs.List.{AllZip};
 ghost use Rattle.sqlite.specs.Held.{state};
 ghost use Rattle.acvp_tables.specs.Content.{Content, set_at, set_summary, live_sets, greatest_epoch_of};
-ghost use Rattle.acvp_tables.specs.State.{IsSound};
+ghost use Rattle.acvp_tables.specs.State.{AreWellNumbered};
 ghost use Rattle.acvp_answers.specs.declared.verdict.Disposition.{Disposition as Kept};
 ghost use Rattle.acvp_tables.specs.declared.rows.SetRow.{SetRow as Set};
 ghost use Rattle.acvp_tables.specs.Changes.{changed, is_set, cancelled_set, with_graded, new_sets};
@@ -258,7 +258,7 @@ pub(crate) fn find_sets<S: Alter>(
 ) -> Result<Vec<SetSummary>, StoreFault>
     requires { ServesStore (state S.Store conn.old) }
     ensures found { IsTrue (state S.Store conn.new).is_open
-        → IfOk result (λ found. InStore (state S.Store conn.old).now (λ layout. (c : Content) → IsSound c
+        → IfOk result (λ found. InStore (state S.Store conn.old).now (λ layout. (c : Content) → AreWellNumbered c
         → HoldsSets ((state S.Store conn.old).now.trees (set_tree layout)) c.sets
         → found.items ≡ map set_summary (live_sets session c.sets))) }
     ensures judged { IsTrue (state S.Store conn.new).is_open

@@ -70,7 +70,7 @@ pub(crate) fn account_number(row: &Row, at: usize) -> Result<u16, StoreFault>
     }
 }
 
-/// The number as a column keeps it; one that no column keeps where it is too large.
+/// The number as a column keeps it. Where it is too large it is -1, which no row has, so the database is asked as ever.
 pub(crate) fn key(number: u64) -> i64
     ensures fits { number < 2 ^ 63 → result ≡ pos number }
     ensures too_large { 2 ^ 63 ≤ number → result ≡ negsuc 0 }

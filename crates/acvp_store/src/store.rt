@@ -7,22 +7,22 @@ ghost use Rattle.sqlite.specs.Steps.{over_memory};
 ghost use Rattle.acvp_store.specs.Adopted.{IsAdopted, IsOurs};
 ghost use Rattle.acvp_store.specs.Version.{HasVersion};
 ghost use Rattle.acvp_tables.specs.Calls.{Changes};
-ghost use Rattle.acvp_tables.specs.Content.{Content, no_rows};
+ghost use Rattle.acvp_tables.specs.Content.{no_rows};
 ghost use Rattle.acvp_tables.specs.Changes.{after, after_order};
 ghost use Rattle.acvp_tables.specs.declared.change.Change.TheVariants as change;
 ghost use Rattle.acvp_tables.specs.declared.change.OrderChange.TheVariants as order;
 ghost use Rattle.acvp_store.specs.Connection.{IsSettled, IsReady, IsHandedBack, ServesStore, IsWritten, LeavesNoMore};
 ghost use Rattle.acvp_store.specs.Connection.{LeavesSo, Under};
 ghost use Rattle.acvp_store.specs.Migrated.{IsKnown, IsMigrated, IsAfterMigration, IsOf};
-ghost use Rattle.acvp_store.specs.Schema.{Created, Migrated, no_schema, schema_of, SchemaVersion, schema_at};
+ghost use Rattle.acvp_store.specs.Schema.{Created, Migrated, no_schema, schema_of, schema_at};
 ghost use Rattle.acvp_store.specs.Private.Migration.{version_of, IsEarlierOf};
-ghost use Rattle.acvp_store.specs.Store.{may_fail, Begins, BecomesMigrated, IsStoreAt, IsStoreOf, IsOldOrMigrated};
-ghost use Rattle.acvp_store.specs.Store.{meaning_of, stands, IsLive};
+ghost use Rattle.acvp_store.specs.Store.{may_fail, meaning_of, stands, Begins, BecomesMigrated, IsOpen};
+ghost use Rattle.acvp_store.specs.Store.{IsNoStore, IsNoStoreOfAny, IsOldOrMigrated, TakesOver, TakesOverAny};
 
 use crate::accounts::{DisabledAccount, find_account};
 use crate::counts::{find_count, find_counts};
 use crate::fault::{AdoptFault, adopt_fault};
-use crate::migration::{Earlier, turn};
+use crate::migration::{Earlier, move_earlier};
 use crate::objects::{Registered, find_object, find_owner, page_objects};
 use crate::requests::{
     CertificationAsked, DecidedRequest, find_request, find_status, page_requests,
@@ -115,8 +115,9 @@ fn make_tables<S: Alter>(connection: &mut Connection<S>) -> Result<(), StoreFaul
     commit(connection, &tables)
 }
 
-/// Makes the tables of a new store in a database that has none, without a row in them. A fault hands the connection
-/// back, and the database is as it was. The memory is for the texts of the rows.
+/// Makes the tables of a new store in a database that has none, without a row in them. With another table in the
+/// database the schema wouldn't be the store's. A fault hands the connection back, and the database is as it was. The
+/// memory is for the texts of the rows.
 pub fn create<S: Alter>(
     alloc: Global,
     mut connection: Connection<S>,
@@ -125,8 +126,8 @@ pub fn create<S: Alter>(
         → (state S.Store t).now.schema ≡ schema_of Created) }
     ensures begins { IfOk result (λ t. IsTrue (state S.Store t).is_open → stands S.Store t no_rows) }
     ensures fresh { IfOk result (λ t. (state S.Store connection).now.schema ≡ no_schema) }
-    ensures live { IfOk result (λ t. HasCleanDisk (state S.Store t) → IsTrue (state S.Store connection).is_open
-        → IsLive S.Store t) }
+    ensures stays_open { IfOk result (λ t. HasCleanDisk (state S.Store t) → IsTrue (state S.Store connection).is_open
+        → IsOpen S.Store t) }
     ensures unchanged { IfErr result (λ e. IsTrue (state S.Store e.0).is_open
         → IsHandedBack (state S.Store connection) (state S.Store e.0)) }
     ensures limit { IfOk result (λ t. (state S.Store t).step_limit ≡ (state S.Store connection).step_limit) }
@@ -235,8 +236,8 @@ fn adopt_named<S: Alter>(
     ensures named { IfOk result (λ t. IsTrue (state S.Store t).is_open → IsTrue (state S.Store connection).is_open
         × HasVersion 3 (state S.Store connection).now.trees
         × ((state S.Store t).now ≡ (state S.Store connection).now)) }
-    ensures live { IfOk result (λ t. HasCleanDisk (state S.Store t) → HasCleanDisk (state S.Store connection)
-        × IsTrue (state S.Store connection).is_open × IsLive S.Store t) }
+    ensures stays_open { IfOk result (λ t. HasCleanDisk (state S.Store t) → HasCleanDisk (state S.Store connection)
+        × IsTrue (state S.Store connection).is_open × IsOpen S.Store t) }
     ensures schema { IfErr result (λ e. e.1 ≡ AdoptFault.Schema → IsTrue (state S.Store e.0).is_open
         → IsTrue (state S.Store connection).is_open × ¬ HasVersion 3 (state S.Store connection).now.trees) }
     ensures open { IfErr result (λ e. e.1 ≡ AdoptFault.Schema → HasCleanDisk (state S.Store e.0)
@@ -265,8 +266,8 @@ fn adopt_migrated<S: Alter>(
         × ((state S.Store connection).now.schema ≡ schema_of Migrated) × IsDatabase (state S.Store connection).now }
     ensures adopted { IfOk result (λ t. IsTrue (state S.Store t).is_open
         → IsAdopted (state S.Store connection) (state S.Store t)) }
-    ensures live { IfOk result (λ t. HasCleanDisk (state S.Store t) → IsTrue (state S.Store connection).is_open
-        × IsLive S.Store t) }
+    ensures stays_open { IfOk result (λ t. HasCleanDisk (state S.Store t) → IsTrue (state S.Store connection).is_open
+        × IsOpen S.Store t) }
     ensures schema { IfErr result (λ e. e.1 ≡ AdoptFault.Schema → IsTrue (state S.Store e.0).is_open
         → ¬ IsOurs (state S.Store connection).now) }
     ensures open { IfErr result (λ e. e.1 ≡ AdoptFault.Schema → HasCleanDisk (state S.Store e.0)
@@ -294,16 +295,14 @@ pub fn adopt<S: Alter>(
 ) -> Result<SqlTables<S>, (Connection<S>, AdoptFault)>
     ensures adopted { IfOk result (λ t. IsTrue (state S.Store t).is_open
         → IsAdopted (state S.Store connection) (state S.Store t)) }
-    ensures found { IfOk result (λ t. IsTrue (state S.Store t).is_open → (c : Content)
-        → IsStoreOf (state S.Store connection).now.trees c → stands S.Store t c) }
-    ensures live { IfOk result (λ t. HasCleanDisk (state S.Store t) → IsTrue (state S.Store connection).is_open
-        × IsLive S.Store t) }
+    ensures found { IfOk result (TakesOver S.Store connection) }
+    ensures stays_open { IfOk result (λ t. HasCleanDisk (state S.Store t) → IsTrue (state S.Store connection).is_open
+        × IsOpen S.Store t) }
     ensures schema { IfErr result (λ e. e.1 ≡ AdoptFault.Schema → IsTrue (state S.Store e.0).is_open
         → ¬ IsOurs (state S.Store connection).now) }
     ensures open { IfErr result (λ e. e.1 ≡ AdoptFault.Schema → HasCleanDisk (state S.Store e.0)
         → IsTrue (state S.Store connection).is_open → IsTrue (state S.Store e.0).is_open) }
-    ensures recognized { IfErr result (λ e. e.1 ≡ AdoptFault.Schema → IsTrue (state S.Store e.0).is_open → (c : Content)
-        → ¬ IsStoreOf (state S.Store connection).now.trees c) }
+    ensures recognized { IfErr result (λ e. e.1 ≡ AdoptFault.Schema → IsNoStore S.Store connection e.0) }
     ensures unchanged { IfErr result (λ e. IsTrue (state S.Store e.0).is_open
         → IsHandedBack (state S.Store connection) (state S.Store e.0)) }
     ensures limit { IfOk result (λ t. (state S.Store t).step_limit ≡ (state S.Store connection).step_limit) }
@@ -360,8 +359,8 @@ fn migrate_from<S: Alter>(
         × IsDatabase (state S.Store connection).now }
     ensures migrated { IfOk result (λ t. IsTrue (state S.Store t).is_open
         → IsMigrated (state S.Store connection) (state S.Store t)) }
-    ensures live { IfOk result (λ t. HasCleanDisk (state S.Store t) → IsTrue (state S.Store connection).is_open
-        × IsLive S.Store t) }
+    ensures stays_open { IfOk result (λ t. HasCleanDisk (state S.Store t) → IsTrue (state S.Store connection).is_open
+        × IsOpen S.Store t) }
     ensures schema { IfErr result (λ e. e.1 ≡ AdoptFault.Schema → IsTrue (state S.Store e.0).is_open
         → ¬ IsOf (version_of from) (state S.Store connection).now) }
     ensures open { IfErr result (λ e. e.1 ≡ AdoptFault.Schema → HasCleanDisk (state S.Store e.0)
@@ -379,7 +378,7 @@ fn migrate_from<S: Alter>(
         Ok(false) => return Err((connection, AdoptFault::Schema)),
         Err(fault) => return Err((connection, adopt_fault(fault))),
     }
-    match turn(&mut connection, from) {
+    match move_earlier(&mut connection, from) {
         Ok(()) => Ok(SqlTables { alloc, connection }),
         Err(fault) => Err((connection, adopt_fault(fault))),
     }
@@ -395,16 +394,14 @@ pub fn migrate<S: Alter>(
 ) -> Result<SqlTables<S>, (Connection<S>, AdoptFault)>
     ensures migrated { IfOk result (λ t. IsTrue (state S.Store t).is_open
         → IsMigrated (state S.Store connection) (state S.Store t)) }
-    ensures live { IfOk result (λ t. HasCleanDisk (state S.Store t) → IsTrue (state S.Store connection).is_open
-        × IsLive S.Store t) }
-    ensures found { IfOk result (λ t. IsTrue (state S.Store t).is_open → (version : SchemaVersion) (c : Content)
-        → IsStoreAt version (state S.Store connection).now.trees c → stands S.Store t c) }
+    ensures stays_open { IfOk result (λ t. HasCleanDisk (state S.Store t) → IsTrue (state S.Store connection).is_open
+        × IsOpen S.Store t) }
+    ensures found { IfOk result (TakesOverAny S.Store connection) }
     ensures schema { IfErr result (λ e. e.1 ≡ AdoptFault.Schema → IsTrue (state S.Store e.0).is_open
         → ¬ IsKnown (state S.Store connection).now) }
     ensures open { IfErr result (λ e. e.1 ≡ AdoptFault.Schema → HasCleanDisk (state S.Store e.0)
         → IsTrue (state S.Store connection).is_open → IsTrue (state S.Store e.0).is_open) }
-    ensures recognized { IfErr result (λ e. e.1 ≡ AdoptFault.Schema → IsTrue (state S.Store e.0).is_open
-        → (version : SchemaVersion) (c : Content) → ¬ IsStoreAt version (state S.Store connection).now.trees c) }
+    ensures recognized { IfErr result (λ e. e.1 ≡ AdoptFault.Schema → IsNoStoreOfAny S.Store connection e.0) }
     ensures unchanged { IfErr result (λ e. IsTrue (state S.Store e.0).is_open
         → IsHandedBack (state S.Store connection) (state S.Store e.0)) }
     ensures limit { IfOk result (λ t. (state S.Store t).step_limit ≡ (state S.Store connection).step_limit) }
@@ -625,20 +622,22 @@ impl<S: Alter> Tables for SqlTables<S> {
     ghost use Rattle.std.proofs.Common.{◌∙◌, sym, ap, inl};
     ghost use Rattle.sqlite.specs.Effect.{Database};
     ghost use Rattle.acvp_store.specs.Store.{may_fail, meaning_of};
-    ghost use Rattle.acvp_store.specs.Private.Clean.{open_is_clean};
+    ghost use Rattle.acvp_store.specs.Private.Clean.{open_is_clean, open_or_shut};
     ghost use Rattle.acvp_store.specs.Private.Found.{store_of};
 
     ghost faults = { may_fail };
 
     ghost meaning = { meaning_of S.Store };
 
-    ghost clean = { λ t live. open_is_clean (S.Store.shut_if_dirty t.store) live.is_open };
+    ghost decides = { λ t. open_or_shut (S.Store.view t.store).is_open };
+
+    ghost clean = { λ t live. open_is_clean (S.Store.shut_if_dirty t.store) live };
 
     ghost rests = { λ t c d live h clean db may.
         let now : Database = record { schema = t.schema; trees = (S.Store.view t.store).trees } in
-        let settled = S.Store.settled t.store db live.is_open may in
-        inl (store_of h.0 now db h.1 (sym (settled ∙ ap (λ (x : Database). x.trees) (sym live.store.ready.settled)))
-        live.store.sound c h.2) };
+        let settled = S.Store.settled t.store db live may in
+        inl (store_of h.0 now db h.1 (sym (settled ∙ ap (λ (x : Database). x.trees) (sym (h.3 live).ready.settled)))
+        (h.3 live).sound c h.2) };
 
     fn account(&mut self, number: u16) -> Result<Option<AccountRow>, StoreFault> {
         find_account(&mut self.connection, number)

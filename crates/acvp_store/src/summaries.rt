@@ -11,18 +11,18 @@ ghost use Rattle.acvp_tables.specs.State.{given_number};
 ghost use Rattle.acvp_tables.specs.declared.rows.Certification.{Certification as Certified};
 ghost use Rattle.acvp_tables.specs.declared.rows.RequestStatus.{RequestStatus as Decided};
 ghost use Rattle.acvp_tables.specs.declared.rows.RequestBody.TheVariants as body;
-ghost use Rattle.acvp_tables.specs.declared.summary.RequestSubject.{RequestSubject as Subject};
+ghost use Rattle.acvp_tables.specs.declared.summary.RequestPurpose.{RequestPurpose as Purpose};
 ghost use Rattle.acvp_registry.specs.declared.kind.Kind.{Kind as ObjectKind};
 ghost use Rattle.acvp_store.specs.Stands.{BodyReads, certification_data, status_number};
-ghost use Rattle.acvp_store.specs.Private.Summaries.{subject_number, subject_text, FitsCertification, FitsSubject};
-ghost use Rattle.acvp_store.specs.Private.Summaries.{SubjectReads};
+ghost use Rattle.acvp_store.specs.Private.Summaries.{purpose_number, purpose_text, FitsCertification, FitsPurpose};
+ghost use Rattle.acvp_store.specs.Private.Summaries.{PurposeReads};
 
 use crate::pages::Member;
 use crate::requests::certification_text;
 use crate::shown::{Shown, account_number, field};
 use acvp_caps::json::{number_at, text_at};
 use acvp_registry::{Kind, RegFault, body_value, url_number};
-use acvp_tables::{Certification, RequestStatus, RequestSubject, RequestSummary, StoreFault};
+use acvp_tables::{Certification, RequestPurpose, RequestStatus, RequestSummary, StoreFault};
 use serde_json::Value;
 use sqlite::Row;
 use std::alloc::Global;
@@ -97,18 +97,18 @@ pub(crate) fn certification(text: String) -> Result<Certification, StoreFault>
 }
 
 /// What is asked for, by the number of its kind and the text of a certification.
-fn subject(number: u32, text: Option<String>) -> Result<RequestSubject, StoreFault>
-    ensures known { IfOk result (λ found. (s : Subject) → SubjectReads s → number ≡ subject_number s
-        → option_map string_bytes text ≡ subject_text s → found ≡ s) }
-    ensures judged { IfOk result (λ found. (number ≡ subject_number found)
-        × (option_map string_bytes text ≡ subject_text found)) }
-    ensures refused { IfErr result (λ fault. fault ≡ StoreFault.Refused → (s : Subject) → SubjectReads s → FitsSubject s
-        → number ≡ subject_number s → option_map string_bytes text ≢ subject_text s) }
+fn purpose(number: u32, text: Option<String>) -> Result<RequestPurpose, StoreFault>
+    ensures known { IfOk result (λ found. (s : Purpose) → PurposeReads s → number ≡ purpose_number s
+        → option_map string_bytes text ≡ purpose_text s → found ≡ s) }
+    ensures judged { IfOk result (λ found. (number ≡ purpose_number found)
+        × (option_map string_bytes text ≡ purpose_text found)) }
+    ensures refused { IfErr result (λ fault. fault ≡ StoreFault.Refused → (s : Purpose) → PurposeReads s → FitsPurpose s
+        → number ≡ purpose_number s → option_map string_bytes text ≢ purpose_text s) }
 {
     match text {
-        Some(text) if number == 4 => Ok(RequestSubject::Certification(certification(text)?)),
+        Some(text) if number == 4 => Ok(RequestPurpose::Certification(certification(text)?)),
         Some(_) => Err(StoreFault::Refused),
-        None => Ok(RequestSubject::Registration(registered_kind(number)?)),
+        None => Ok(RequestPurpose::Registration(registered_kind(number)?)),
     }
 }
 
@@ -147,15 +147,15 @@ impl Shown for RequestStatus {
 impl Member for RequestSummary {
     ghost use Rattle.std.specs.Prelude.{◌<◌, ◌^◌};
     ghost use Rattle.acvp_store.specs.Private.Shown.{IsText};
-    ghost use Rattle.acvp_store.specs.Private.Summaries.{FitsSubject, subject_text};
+    ghost use Rattle.acvp_store.specs.Private.Summaries.{FitsPurpose, purpose_text};
     ghost use Rattle.acvp_tables.specs.declared.summary.RequestSummary.{RequestSummary as Summary};
-    ghost use Rattle.acvp_store.specs.Private.Summaries.{SubjectReads, summary_shown};
+    ghost use Rattle.acvp_store.specs.Private.Summaries.{PurposeReads, summary_shown};
 
     ghost listed_as = { summary_shown };
 
-    ghost reads = { λ s. SubjectReads s.subject };
+    ghost reads = { λ s. PurposeReads s.purpose };
 
-    ghost fits = { λ s. (s.account < 2 ^ 16) × FitsSubject s.subject × IsText (subject_text s.subject) };
+    ghost fits = { λ s. (s.account < 2 ^ 16) × FitsPurpose s.purpose × IsText (purpose_text s.purpose) };
 
     ghost judged_so = { λ s. s.account < 2 ^ 16 };
 
@@ -169,7 +169,7 @@ impl Member for RequestSummary {
         Ok(RequestSummary {
             number,
             account,
-            subject: subject(kind, text)?,
+            purpose: purpose(kind, text)?,
             status: status(decided, given)?,
         })
     }

@@ -1,4 +1,5 @@
-//! The version that the table `meta` names, and what is left of an earlier one.
+//! The version that the table `meta` names, and what is left of an earlier one. The tables alone tell which schema it
+//! is; then `meta` has to name that one.
 ghost use Rattle.std.specs.Prelude.{◌≡◌, ◌↔◌, nat_lt, length, [], IsTrue, IfOk};
 ghost use Rattle.std.specs.List.{list_any};
 ghost use Rattle.sqlite.specs.Held.{state};

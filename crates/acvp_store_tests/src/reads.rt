@@ -5,7 +5,7 @@ use crate::changes::{SECRET, fault_word};
 use crate::words::{account_in, cut, kind_of, number};
 use acvp_answers::{Disposition, Verdict};
 use acvp_registry::Kind;
-use acvp_tables::{Counted, RequestStatus, RequestSubject, StoreFault, Tables};
+use acvp_tables::{Counted, RequestPurpose, RequestStatus, StoreFault, Tables};
 use std::alloc::AllocError;
 use std::fmt::Write;
 use std::process::Abort;
@@ -125,7 +125,7 @@ fn certified_by<T: Tables>(
     number: u64,
 ) -> Result<(), StoreFault> {
     match tables.session(number)? {
-        Some(row) => put_all(text, &[maybe(row.certify)]),
+        Some(row) => put_all(text, &[maybe(row.last_request)]),
         None => put_all(text, NONE),
     }
 }
@@ -307,9 +307,9 @@ fn decision<T: Tables>(text: &mut String, tables: &mut T, number: u64) -> Result
 /// What a request asks to register or to certify: a kind, or a module, an environment and a session.
 fn subject<T: Tables>(text: &mut String, tables: &mut T, number: u64) -> Result<(), StoreFault> {
     match tables.request(number)? {
-        Some(request) => match request.subject {
-            RequestSubject::Registration(kind) => put_all(text, &[kind_word(kind)]),
-            RequestSubject::Certification(named) => put_all(
+        Some(request) => match request.purpose {
+            RequestPurpose::Registration(kind) => put_all(text, &[kind_word(kind)]),
+            RequestPurpose::Certification(named) => put_all(
                 text,
                 &[
                     Word::Number(named.module),

@@ -2,7 +2,7 @@
 use Rattle.std.proofs.Common.{◌≡◌, ℕ, Bool, true, false, List, [], ◌∷◌, None, refl, sym, subst}
 use Rattle.std.specs.Prelude.{filter, ◌==◌}
 use Rattle.acvp_tables.specs.Content.{Content, account_at}
-use Rattle.acvp_tables.specs.State.{own, state_of, is_account_row, IsSound, IsWellNumbered}
+use Rattle.acvp_tables.specs.State.{own, state_of, is_account_row, AreWellNumbered, IsWellNumbered}
 use Rattle.acvp_tables.specs.Changes.{after_order, new_account}
 use Rattle.acvp_tables.specs.declared.rows.AccountRow.{AccountRow}
 use Rattle.acvp_tables.specs.declared.change.NewAccount.{NewAccount}
@@ -22,7 +22,7 @@ own_none : (a : NewAccount) (c : Content) → account_at a.account c.accounts �
 unfolding own state_of
 own_none a c none = none_kept a.account c.accounts none
 
-pub added_sound : (a : NewAccount) (c : Content) → IsSound c → is_account_row (new_account a) ≡ true → account_at a.account c.accounts ≡ None
-    → IsSound (after_order (AddAccount a) c)
+pub added_sound : (a : NewAccount) (c : Content) → AreWellNumbered c → is_account_row (new_account a) ≡ true → account_at a.account c.accounts ≡ None
+    → AreWellNumbered (after_order (AddAccount a) c)
 added_sound a c sound fine none = subst (λ s. IsWellNumbered s) (sym (order_follows c (AddAccount a)))
     (well_ordered (AddAccount a) (state_of c) sound (own_none a c none, fine))

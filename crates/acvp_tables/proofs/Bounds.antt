@@ -8,7 +8,7 @@ use Rattle.std.proofs.lemmas.Option.{same_Some}
 use Rattle.acvp_registry.specs.declared.kind.Kind.{Kind}
 use Rattle.acvp_tables.specs.Content.{Content, is_kind, is_live_in, greatest_epoch_of, greater, objects_of, requests_of, reviewers_of}
 use Rattle.acvp_tables.specs.Changes.{is_set}
-use Rattle.acvp_tables.specs.Counted.{has_passed, is_passed_in, IsCounted, AreThere}
+use Rattle.acvp_tables.specs.Counted.{answers_passed, is_passed_in, IsCounted, AreThere}
 use Rattle.acvp_tables.specs.State.{State, SetRecord, IsNumbered, own, sets_in, live_records, objects_in, session_records_of, IsWellNumbered}
 use Rattle.acvp_tables.specs.State.{first_of_account}
 use Rattle.acvp_tables.specs.Private.Ascending.{with_number, ascending}
@@ -90,7 +90,7 @@ one_live session set c counted there =
     let is = counters session c there.row there.has_session counted in
     omega (arith, is.live, found_counts (is_set set) (is_live_in session) c.sets there.set_row there.has_set there.live)
 
-pub one_passed : (session set : ℕ) (c : Content) → IsCounted c → (there : AreThere session set c) → has_passed there.set_row.graded ≡ true
+pub one_passed : (session set : ℕ) (c : Content) → IsCounted c → (there : AreThere session set c) → answers_passed there.set_row.graded ≡ true
     → 1 ≤ there.row.passed
 one_passed session set c counted there has =
     let is = counters session c there.row there.has_session counted in

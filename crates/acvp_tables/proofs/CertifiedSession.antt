@@ -27,13 +27,13 @@ request_keyed u n test (row ∷ requests) all there = go (row.number == n) refl 
 
 -- the requests that sessions name are an account's where all requests are
 named_keyed : (u : ℕ) (requests : List RequestRow) (sessions : List SessionRecord) → list_all (λ row. owner_of row.number == u) requests ≡ true
-    → list_all (λ row. of_all (λ n. list_any (λ request. (request.number == n) && certifies row.number request.body) requests) row.certify) sessions ≡ true
-    → list_all (λ row. of_all (λ m. owner_of m == u) row.certify) sessions ≡ true
+    → list_all (λ row. of_all (λ n. list_any (λ request. (request.number == n) && certifies row.number request.body) requests) row.last_request) sessions ≡ true
+    → list_all (λ row. of_all (λ m. owner_of m == u) row.last_request) sessions ≡ true
 named_keyed u requests [] keyed there = refl
 named_keyed u requests (row ∷ sessions) keyed there =
-    let here : of_all (λ n. list_any (λ request. (request.number == n) && certifies row.number request.body) requests) row.certify ≡ true = grind (arith, nat_tests, there) in
+    let here : of_all (λ n. list_any (λ request. (request.number == n) && certifies row.number request.body) requests) row.last_request ≡ true = grind (arith, nat_tests, there) in
     let rest = named_keyed u requests sessions keyed (grind (arith, nat_tests, there)) in
-    let first : of_all (λ m. owner_of m == u) row.certify ≡ true = of row.certify here in
+    let first : of_all (λ m. owner_of m == u) row.last_request ≡ true = of row.last_request here in
     grind (arith, nat_tests, first, rest)
   where
     of : (certify : Option ℕ) → of_all (λ n. list_any (λ request. (request.number == n) && certifies row.number request.body) requests) certify ≡ true
@@ -41,37 +41,37 @@ named_keyed u requests (row ∷ sessions) keyed there =
     of None h = refl
     of (Some n) h = request_keyed u n (λ request. certifies row.number request.body) requests keyed h
 
-own_named : (u : ℕ) (mine : State) → IsWellNumberedFor u mine → list_all (λ row. of_all (λ m. owner_of m == u) row.certify) mine.sessions ≡ true
+own_named : (u : ℕ) (mine : State) → IsWellNumberedFor u mine → list_all (λ row. of_all (λ m. owner_of m == u) row.last_request) mine.sessions ≡ true
 own_named u mine well = named_keyed u mine.requests mine.sessions (requests_keyed u mine well) well.certified
 
-all_named : (state : State) → IsWellNumbered state → list_all (λ row. of_all (λ m. owner_of m == row.account) row.certify) state.sessions ≡ true
+all_named : (state : State) → IsWellNumbered state → list_all (λ row. of_all (λ m. owner_of m == row.account) row.last_request) state.sessions ≡ true
 unfolding IsWellNumbered own
-all_named state well = by_class (λ a b. a == b) (λ row. row.account) (λ u row. of_all (λ m. owner_of m == u) row.certify) eqb_same state.sessions
+all_named state well = by_class (λ a b. a == b) (λ row. row.account) (λ u row. of_all (λ m. owner_of m == u) row.last_request) eqb_same state.sessions
     (λ u. own_named u (own u state) (well u))
 
 of_some : (test : ℕ → Bool) (certify : Option ℕ) (m : ℕ) → certify ≡ Some m → of_all test certify ≡ true → test m ≡ true
 of_some test certify m is all = rw is at all
 
-pub certification_names : (n m : ℕ) (state : State) (row : SessionRecord) → IsWellNumbered state → session_record_at n state.sessions ≡ Some row → row.certify ≡ Some m
+pub certification_names : (n m : ℕ) (state : State) (row : SessionRecord) → IsWellNumbered state → session_record_at n state.sessions ≡ Some row → row.last_request ≡ Some m
     → owner_of m ≡ owner_of n
 certification_names n m state row well found certify =
-    let all = found_all (λ (row : SessionRecord). row.number == n) (λ row. of_all (λ m. owner_of m == row.account) row.certify) state.sessions row found (all_named state well) in
-    let its : (owner_of m == row.account) ≡ true = of_some (λ m. owner_of m == row.account) row.certify m certify all in
+    let all = found_all (λ (row : SessionRecord). row.number == n) (λ row. of_all (λ m. owner_of m == row.account) row.last_request) state.sessions row found (all_named state well) in
+    let its : (owner_of m == row.account) ≡ true = of_some (λ m. owner_of m == row.account) row.last_request m certify all in
     grind (arith, nat_tests, its, session_names n state row well found)
 
 -- ---- of an account's sessions
 
-each_named : (u : ℕ) (sessions : List SessionRecord) → list_all (λ row. of_all (λ m. owner_of m == u) row.certify) sessions ≡ true
-    → All (λ row. IfSome row.certify (λ m. owner_of m ≡ u)) sessions
-each_named u [] all = All-nil (λ (row : SessionRecord). IfSome row.certify (λ m. owner_of m ≡ u))
+each_named : (u : ℕ) (sessions : List SessionRecord) → list_all (λ row. of_all (λ m. owner_of m == u) row.last_request) sessions ≡ true
+    → All (λ row. IfSome row.last_request (λ m. owner_of m ≡ u)) sessions
+each_named u [] all = All-nil (λ (row : SessionRecord). IfSome row.last_request (λ m. owner_of m ≡ u))
 each_named u (row ∷ sessions) all =
-    All-cons (λ (row : SessionRecord). IfSome row.certify (λ m. owner_of m ≡ u)) row sessions (of row.certify (grind (arith, nat_tests, all)))
+    All-cons (λ (row : SessionRecord). IfSome row.last_request (λ m. owner_of m ≡ u)) row sessions (of row.last_request (grind (arith, nat_tests, all)))
     (each_named u sessions (grind (arith, nat_tests, all)))
   where
     of : (certify : Option ℕ) → of_all (λ m. owner_of m == u) certify ≡ true → IfSome certify (λ m. owner_of m ≡ u)
     of None h = tt
     of (Some m) h = grind (arith, nat_tests, h)
 
-pub certifications_name : (u : ℕ) (state : State) → IsWellNumbered state → All (λ row. IfSome row.certify (λ m. owner_of m ≡ u)) (session_records_of u state.sessions)
+pub certifications_name : (u : ℕ) (state : State) → IsWellNumbered state → All (λ row. IfSome row.last_request (λ m. owner_of m ≡ u)) (session_records_of u state.sessions)
 unfolding IsWellNumbered own
 certifications_name u state well = each_named u (session_records_of u state.sessions) (own_named u (own u state) (well u))

@@ -8,13 +8,13 @@ use Rattle.std.proofs.lemmas.List.Elements.{filter-append}
 use Rattle.std.proofs.lemmas.List.Folds.{list_all-map}
 use Rattle.acvp_caps.specs.Capability.{CapabilityValue}
 use Rattle.acvp_tables.specs.Content.{Content, is_live_in, session_at}
-use Rattle.acvp_tables.specs.Changes.{changed, after, is_session, is_set, new_session, new_sets, with_graded, with_passed, with_counts, with_certify}
+use Rattle.acvp_tables.specs.Changes.{changed, after, is_session, is_set, new_session, new_sets, with_graded, with_passed, with_counts, with_last_request}
 use Rattle.acvp_tables.specs.Changes.{cancelled_session, cancelled_set}
-use Rattle.acvp_tables.specs.Counted.{one_if, is_passed, has_passed, is_passed_in, live_count, passed_count, is_counted, IsCounted, AreThere, IsNextCount}
+use Rattle.acvp_tables.specs.Counted.{one_if, is_passed, answers_passed, is_passed_in, live_count, passed_count, is_counted, IsCounted, AreThere, IsNextCount}
 use Rattle.acvp_tables.specs.Own.{Fits}
 use Rattle.acvp_tables.specs.Next.{IsNext}
 use Rattle.acvp_tables.specs.State.{State, SessionRecord, SetRecord, session_record, set_record, state_of, own, owner_of, session_record_at, sets_in}
-use Rattle.acvp_tables.specs.State.{first_of_account, IsWellNumbered, IsSound}
+use Rattle.acvp_tables.specs.State.{first_of_account, IsWellNumbered, AreWellNumbered}
 use Rattle.acvp_tables.specs.declared.rows.SessionRow.{SessionRow}
 use Rattle.acvp_tables.specs.declared.rows.SetRow.{SetRow}
 use Rattle.acvp_tables.specs.declared.change.Change.{Change}
@@ -34,7 +34,7 @@ record IsFree (n : ℕ) (c : Content) : Type 0 where
   session : session_at n c.sessions ≡ None
   sets : filter (λ row. row.session == n) c.sets ≡ []
 
-next_free : (c : Content) (s : NewSession) → IsSound c → IsNext (state_of c) (change.NewSession s) → IsFree s.number c
+next_free : (c : Content) (s : NewSession) → AreWellNumbered c → IsNext (state_of c) (change.NewSession s) → IsFree s.number c
 unfolding IsWellNumbered
 next_free c s sound next = record {
   session = no_row (session_at n c.sessions) (ap is_some (sym (session_follows n c) ∙ sym one) ∙ past);
@@ -125,12 +125,12 @@ counted_new c s free counted = all_append (is_counted (c.sets ++ new)) c.session
 abbrev is_keyed : SetRow → Bool
 is_keyed row = (row.number / 100) == row.session
 
-sets_keyed : (c : Content) → IsSound c → list_all is_keyed c.sets ≡ true
+sets_keyed : (c : Content) → AreWellNumbered c → list_all is_keyed c.sets ≡ true
 unfolding state_of
 sets_keyed c sound = sym (list_all-map (λ (row : SetRecord). (row.number / 100) == row.session) set_record c.sets) ∙ (keyed (state_of c) sound).sets
 
 -- as many sets of another session pass as before
-elsewhere : (c : Content) (v session m : ℕ) (f : SetRow → SetRow) (q : SetRow → Bool) → IsSound c → (v / 100) ≡ session → (m == session) ≡ false
+elsewhere : (c : Content) (v session m : ℕ) (f : SetRow → SetRow) (q : SetRow → Bool) → AreWellNumbered c → (v / 100) ≡ session → (m == session) ≡ false
     → ((r : SetRow) → (f r).session ≡ r.session) → ((r : SetRow) → (r.session == m) ≡ false → q r ≡ false)
     → length (filter q (changed (is_set v) f c.sets)) ≡ length (filter q c.sets)
 elsewhere c v session m f q sound of apart stays off = same_passed q (is_set v) is_keyed f both c.sets (sets_keyed c sound)
@@ -141,7 +141,7 @@ elsewhere c v session m f q sound of apart stays off = same_passed q (is_set v) 
         off (f r) (rw (stays r) other) ∙ sym (off r other)
 
 -- the session's counters are right where they come with the change, and the others' are still
-set_counted : (c : Content) (v session : ℕ) (f : SetRow → SetRow) (g : SessionRow → SessionRow) → IsSound c → (v / 100) ≡ session
+set_counted : (c : Content) (v session : ℕ) (f : SetRow → SetRow) (g : SessionRow → SessionRow) → AreWellNumbered c → (v / 100) ≡ session
     → ((r : SetRow) → (f r).session ≡ r.session)
     → ((r : SessionRow) → is_counted c.sets r ≡ true → r.number ≡ session → is_counted (changed (is_set v) f c.sets) (g r) ≡ true)
     → IsCounted c → list_all (is_counted (changed (is_set v) f c.sets)) (changed (is_session session) g c.sessions) ≡ true
@@ -155,7 +155,7 @@ set_counted c v session f g sound of stays here counted =
         let passed = elsewhere c v session r.number f (is_passed_in r.number) sound of t stays (λ x off. grind (arith, nat_tests, off)) in
         grind (arith, nat_tests, e, live, passed)
 
-counted_kept : (c : Content) (k : KeptAnswers) → IsSound c → Fits (change.KeepAnswers k) → IsNextCount c (change.KeepAnswers k) → IsCounted c
+counted_kept : (c : Content) (k : KeptAnswers) → AreWellNumbered c → Fits (change.KeepAnswers k) → IsNextCount c (change.KeepAnswers k) → IsCounted c
     → IsCounted (after (change.KeepAnswers k) c)
 unfolding after
 counted_kept c k sound fits next counted = set_counted c k.set k.session (with_graded k.graded) (with_passed k.passed) sound fits (λ r. refl) here counted
@@ -170,7 +170,7 @@ counted_kept c k sound fits next counted = set_counted c k.set k.session (with_g
         let passed : k.passed ≡ passed_count r.number new = rw is next in
         grind (arith, nat_tests, e, live, passed)
 
-counted_cancelled : (c : Content) (x : CancelledSet) → IsSound c → Fits (change.CancelSet x) → IsNextCount c (change.CancelSet x) → IsCounted c
+counted_cancelled : (c : Content) (x : CancelledSet) → AreWellNumbered c → Fits (change.CancelSet x) → IsNextCount c (change.CancelSet x) → IsCounted c
     → IsCounted (after (change.CancelSet x) c)
 unfolding after
 counted_cancelled c x sound fits next counted = set_counted c x.set x.session cancelled_set (with_counts x.live x.passed) sound fits (λ r. refl) here counted
@@ -198,22 +198,22 @@ counters n c row found counted =
     let e : is_counted c.sets row ≡ true = found_all (is_session n) (is_counted c.sets) c.sessions row found counted in
     record { live = rw (← is) (grind (arith, nat_tests, e)); passed = rw (← is) (grind (arith, nat_tests, e)) }
 
-pub kept_differs : (k : KeptAnswers) (c : Content) → IsSound c → IsCounted c → (there : AreThere k.session k.set c)
-    → k.passed + one_if (has_passed there.set_row.graded) ≡ there.row.passed + one_if (is_passed k.graded.disposition) → IsNextCount c (change.KeepAnswers k)
+pub kept_differs : (k : KeptAnswers) (c : Content) → AreWellNumbered c → IsCounted c → (there : AreThere k.session k.set c)
+    → k.passed + one_if (answers_passed there.set_row.graded) ≡ there.row.passed + one_if (is_passed k.graded.disposition) → IsNextCount c (change.KeepAnswers k)
 kept_differs k c sound counted there next =
     let x = there.set_row in
     let was = counters k.session c there.row there.has_session counted in
-    let before : is_passed_in k.session x ≡ has_passed x.graded = grind (arith, nat_tests, there.live) in
+    let before : is_passed_in k.session x ≡ answers_passed x.graded = grind (arith, nat_tests, there.live) in
     let now : is_passed_in k.session (with_graded k.graded x) ≡ is_passed k.graded.disposition = grind (arith, nat_tests, there.live) in
     let sum = one_changed (is_passed_in k.session) (is_set k.set) (with_graded k.graded) c.sets x (once c sound k.set) there.has_set in
     omega (arith, rw (before, now) at sum, next, was.passed)
 
-pub cancelled_differs : (x : CancelledSet) (c : Content) → IsSound c → IsCounted c → (there : AreThere x.session x.set c)
-    → x.live + 1 ≡ there.row.live → x.passed + one_if (has_passed there.set_row.graded) ≡ there.row.passed → IsNextCount c (change.CancelSet x)
+pub cancelled_differs : (x : CancelledSet) (c : Content) → AreWellNumbered c → IsCounted c → (there : AreThere x.session x.set c)
+    → x.live + 1 ≡ there.row.live → x.passed + one_if (answers_passed there.set_row.graded) ≡ there.row.passed → IsNextCount c (change.CancelSet x)
 cancelled_differs x c sound counted there less fewer =
     let set = there.set_row in
     let was = counters x.session c there.row there.has_session counted in
-    let before : is_passed_in x.session set ≡ has_passed set.graded = grind (arith, nat_tests, there.live) in
+    let before : is_passed_in x.session set ≡ answers_passed set.graded = grind (arith, nat_tests, there.live) in
     let off : is_live_in x.session (cancelled_set set) ≡ false = grind (arith, nat_tests) in
     let off_too : is_passed_in x.session (cancelled_set set) ≡ false = grind (arith, nat_tests) in
     let lives = one_changed (is_live_in x.session) (is_set x.set) cancelled_set c.sets set (once c sound x.set) there.has_set in
@@ -227,7 +227,7 @@ uncounted : (sets : List SetRow) (n : ℕ) (f : SessionRow → SessionRow) → (
     → (rows : List SessionRow) → list_all (is_counted sets) rows ≡ true → list_all (is_counted sets) (changed (is_session n) f rows) ≡ true
 uncounted sets n f keeps rows all = all_changed (is_counted sets) (is_counted sets) (is_session n) f (λ r e t. keeps r ∙ e) (λ r e t. e) rows all
 
-pub counted_after : (it : Change) (c : Content) → IsSound c → IsNext (state_of c) it → IsNextCount c it → IsCounted c → IsCounted (after it c)
+pub counted_after : (it : Change) (c : Content) → AreWellNumbered c → IsNext (state_of c) it → IsNextCount c it → IsCounted c → IsCounted (after it c)
 unfolding after
 counted_after (change.UseStep u) c sound next count counted = counted
 counted_after (change.NewSession s) c sound next count counted = counted_new c s (next_free c s sound next) counted
@@ -235,6 +235,6 @@ counted_after (change.KeepAnswers k) c sound next count counted = counted_kept c
 counted_after (change.CancelSession n) c sound next count counted = uncounted c.sets n cancelled_session (λ r. refl) c.sessions counted
 counted_after (change.CancelSet x) c sound next count counted = counted_cancelled c x sound next.0 count counted
 counted_after (change.NewRequest r) c sound next count counted = counted
-counted_after (change.Certify r) c sound next count counted = uncounted c.sets r.certification.session (with_certify r.number) (λ r. refl) c.sessions counted
+counted_after (change.Certify r) c sound next count counted = uncounted c.sets r.certification.session (with_last_request r.number) (λ r. refl) c.sessions counted
 counted_after (change.AddReviewer r) c sound next count counted = counted
 counted_after (change.RemoveReviewer r) c sound next count counted = counted

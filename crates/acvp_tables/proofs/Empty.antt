@@ -1,7 +1,7 @@
 -- Without a row the records are well numbered.
 use Rattle.std.proofs.Common.{ℕ, refl, arith}
 use Rattle.acvp_tables.specs.Content.{no_rows}
-use Rattle.acvp_tables.specs.State.{state_of, own, IsWellNumberedFor, IsWellNumbered, IsSound}
+use Rattle.acvp_tables.specs.State.{state_of, own, IsWellNumberedFor, IsWellNumbered, AreWellNumbered}
 
 none_for : (u : ℕ) → IsWellNumberedFor u (own u (state_of no_rows))
 unfolding own state_of
@@ -31,6 +31,6 @@ none_for u = record {
   pairs_once = λ s a. omega arith;
 }
 
-pub none_sound : IsSound no_rows
+pub none_sound : AreWellNumbered no_rows
 unfolding IsWellNumbered
 none_sound = λ u. none_for u

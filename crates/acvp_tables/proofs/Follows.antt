@@ -4,7 +4,7 @@ use Rattle.std.proofs.lemmas.Bool.Decides.{nat_tests}
 use Rattle.std.proofs.lemmas.List.{map-append}
 use Rattle.acvp_tables.specs.Content.{Content}
 use Rattle.acvp_tables.specs.State.{session_record, set_record, state_of}
-use Rattle.acvp_tables.specs.Changes.{changed, after, after_order, is_session, cancelled_session, with_certify, with_passed, with_counts, is_set, with_graded, cancelled_set}
+use Rattle.acvp_tables.specs.Changes.{changed, after, after_order, is_session, cancelled_session, with_last_request, with_passed, with_counts, is_set, with_graded, cancelled_set}
 use Rattle.acvp_tables.specs.StateChanges.{after_state, after_order_state, is_session_record, cancelled_session_record, certified_record, is_set_record, answered_record, cancelled_set_record}
 use Rattle.acvp_tables.specs.declared.change.Change.{Change}
 use Rattle.acvp_tables.specs.declared.change.Change.TheVariants as change
@@ -35,7 +35,7 @@ follows c (change.CancelSet x) = simp (
   map-changed set_record (is_set x.set) cancelled_set (is_set_record x.set) cancelled_set_record (λ r. refl) (λ r. refl) c.sets,
 )
 follows c (change.NewRequest r) = refl
-follows c (change.Certify x) = simp (map-changed session_record (is_session x.certification.session) (with_certify x.number) (is_session_record x.certification.session) (certified_record x.number) (λ r. refl) (λ r. refl) c.sessions)
+follows c (change.Certify x) = simp (map-changed session_record (is_session x.certification.session) (with_last_request x.number) (is_session_record x.certification.session) (certified_record x.number) (λ r. refl) (λ r. refl) c.sessions)
 follows c (change.AddReviewer r) = refl
 follows c (change.RemoveReviewer r) = refl
 

@@ -71,7 +71,7 @@ still_certified : (old new : List RequestRow) (sessions : List SessionRecord)
     → ((row : SessionRecord) (n : ℕ) → list_any (is_for row n) old ≡ true → list_any (is_for row n) new ≡ true)
     → list_all (is_certified old) sessions ≡ true → list_all (is_certified new) sessions ≡ true
 still_certified old new sessions gives e = list_all_weaker (is_certified old) (is_certified new)
-    (λ row e. of_all_weaker (λ n. list_any (is_for row n) old) (λ n. list_any (is_for row n) new) (λ n e. gives row n e) row.certify e) sessions e
+    (λ row e. of_all_weaker (λ n. list_any (is_for row n) old) (λ n. list_any (is_for row n) new) (λ n e. gives row n e) row.last_request e) sessions e
 
 -- ---- a request is new
 

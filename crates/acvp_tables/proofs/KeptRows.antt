@@ -36,7 +36,7 @@ abbrev pub is_for : SessionRecord → ℕ → RequestRow → Bool
 is_for row n request = (request.number == n) && certifies row.number request.body
 
 abbrev pub is_certified : List RequestRow → SessionRecord → Bool
-is_certified requests row = of_all (λ n. list_any (is_for row n) requests) row.certify
+is_certified requests row = of_all (λ n. list_any (is_for row n) requests) row.last_request
 
 abbrev pub is_registered : List RequestRow → ObjectRow → Bool
 is_registered requests object = list_any (has_registered_as object) requests

@@ -5,7 +5,7 @@ use Rattle.std.specs.List.{list_all, range_with_len}
 use Rattle.std.proofs.lemmas.Bool.Decides.{nat_tests}
 use Rattle.acvp_tables.specs.Content.{Content, is_reviewer, account_numbers, reviewers_of}
 use Rattle.acvp_tables.specs.Counted.{one_if}
-use Rattle.acvp_tables.specs.State.{State, state_of, owner_of, own, is_account_number, IsWellNumbered, IsSound}
+use Rattle.acvp_tables.specs.State.{State, state_of, owner_of, own, is_account_number, IsWellNumbered, AreWellNumbered}
 use Rattle.acvp_tables.specs.Private.Ascending.{with_number, ascending}
 use Rattle.acvp_tables.specs.declared.rows.ReviewerRow.{ReviewerRow}
 use Rattle.acvp_tables.proofs.Numbers.{by_class, eqb_same, filter-within, reviewer_found}
@@ -128,7 +128,7 @@ of_sound s state well = placed_reviewers s state.reviewers
     its m = filter-within (is_pair_of s m) (λ row. owner_of row.session == owner_of s) (λ row e. grind (arith, nat_tests, e)) state.reviewers
 
 -- numbers that are so put are those of the session's reviewers
-pub reviewers_read : (s : ℕ) (c : Content) (rows : List ReviewerRow) (numbers : List ℕ) → IsSound c → rows ≡ c.reviewers
+pub reviewers_read : (s : ℕ) (c : Content) (rows : List ReviewerRow) (numbers : List ℕ) → AreWellNumbered c → rows ≡ c.reviewers
     → numbers ≡ ascending [] (map (λ row. row.account) (filter (λ row. row.session == s) rows)) → numbers ≡ reviewers_of s c.reviewers
 unfolding state_of
 reviewers_read s c rows numbers sound are put = put ∙ rw are (of_sound s (state_of c) sound)

@@ -59,8 +59,8 @@ is_session n row = row.number == n
 abbrev pub cancelled_session : SessionRow → SessionRow
 cancelled_session row = record row { cancelled = true }
 
-abbrev pub with_certify : ℕ → SessionRow → SessionRow
-with_certify request row = record row { certify = Some request }
+abbrev pub with_last_request : ℕ → SessionRow → SessionRow
+with_last_request request row = record row { last_request = Some request }
 
 abbrev pub with_passed : ℕ → SessionRow → SessionRow
 with_passed passed row = record row { passed = passed }
@@ -75,7 +75,7 @@ new_session s = record {
   sample = s.registration.sample;
   created = s.created;
   cancelled = false;
-  certify = None;
+  last_request = None;
   live = length s.registration.capabilities;
   passed = 0;
 }
@@ -85,7 +85,7 @@ sessions_after (change.NewSession s) rows = rows ++ new_session s ∷ []
 sessions_after (change.KeepAnswers k) rows = changed (is_session k.session) (with_passed k.passed) rows
 sessions_after (change.CancelSession n) rows = changed (is_session n) cancelled_session rows
 sessions_after (change.CancelSet x) rows = changed (is_session x.session) (with_counts x.live x.passed) rows
-sessions_after (change.Certify c) rows = changed (is_session c.certification.session) (with_certify c.number) rows
+sessions_after (change.Certify c) rows = changed (is_session c.certification.session) (with_last_request c.number) rows
 sessions_after _ rows = rows
 
 -- ---- vector sets

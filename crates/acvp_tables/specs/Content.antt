@@ -16,8 +16,8 @@ use Rattle.acvp_tables.specs.declared.rows.RequestBody.TheVariants as body
 use Rattle.acvp_tables.specs.declared.rows.ReviewerRow.{ReviewerRow}
 use Rattle.acvp_tables.specs.declared.summary.SetSummary.{SetSummary}
 use Rattle.acvp_tables.specs.declared.summary.RequestSummary.{RequestSummary}
-use Rattle.acvp_tables.specs.declared.summary.RequestSubject.{RequestSubject}
-use Rattle.acvp_tables.specs.declared.summary.RequestSubject.TheVariants as subject
+use Rattle.acvp_tables.specs.declared.summary.RequestPurpose.{RequestPurpose}
+use Rattle.acvp_tables.specs.declared.summary.RequestPurpose.TheVariants as purpose
 use Rattle.acvp_tables.specs.declared.summary.Counted.{Counted}
 use Rattle.acvp_tables.specs.declared.summary.Counted.TheVariants as counted
 use Rattle.acvp_registry.specs.declared.counts.Counts.{Counts}
@@ -57,15 +57,15 @@ set_summary row = record {
 abbrev pub set_verdicts : SetRow → Option (List Verdict)
 set_verdicts row = option_map (λ (g : GradedValue). g.verdicts) row.graded
 
-abbrev pub subject_of : RequestBody → RequestSubject
-subject_of (body.Registration object) = subject.Registration object.kind
-subject_of (body.Certification c) = subject.Certification c
+abbrev pub purpose_of : RequestBody → RequestPurpose
+purpose_of (body.Registration object) = purpose.Registration object.kind
+purpose_of (body.Certification c) = purpose.Certification c
 
 abbrev pub request_summary : RequestRow → RequestSummary
 request_summary row = record {
   number = row.number;
   account = row.account;
-  subject = subject_of row.body;
+  purpose = purpose_of row.body;
   status = row.status;
 }
 

@@ -19,13 +19,13 @@ is_passed disposition.Missing = false
 is_passed disposition.Expired = false
 is_passed disposition.Unreceived = false
 
-abbrev pub has_passed : Option GradedValue → Bool
-has_passed None = false
-has_passed (Some graded) = is_passed graded.disposition
+abbrev pub answers_passed : Option GradedValue → Bool
+answers_passed None = false
+answers_passed (Some graded) = is_passed graded.disposition
 
 -- a session's set that isn't cancelled and has passed
 abbrev pub is_passed_in : ℕ → SetRow → Bool
-is_passed_in session row = is_live_in session row && has_passed row.graded
+is_passed_in session row = is_live_in session row && answers_passed row.graded
 
 -- how many of a session's sets aren't cancelled, and how many of those have passed
 abbrev pub live_count : ℕ → List SetRow → ℕ

@@ -28,7 +28,7 @@ pub record SessionRecord : Type 0 where
   pub sample : Bool
   pub created : ℕ
   pub cancelled : Bool
-  pub certify : Option ℕ
+  pub last_request : Option ℕ
 
 pub record SetRecord : Type 0 where
   pub number : ℕ
@@ -53,7 +53,7 @@ session_record row = record {
   sample = row.sample;
   created = row.created;
   cancelled = row.cancelled;
-  certify = row.certify;
+  last_request = row.last_request;
 }
 
 abbrev pub set_record : SetRow → SetRecord
@@ -254,7 +254,7 @@ pub record IsWellNumberedFor (u : ℕ) (mine : State) : Type 0 where
   pub set_sessions : list_all (λ set. is_some (session_record_at set.session mine.sessions)) mine.sets ≡ true
   pub certified : list_all
       (λ row. of_all (λ n. list_any (λ request. (request.number == n)
-      && certifies row.number request.body) mine.requests) row.certify) mine.sessions ≡ true
+      && certifies row.number request.body) mine.requests) row.last_request) mine.sessions ≡ true
   pub asked : list_all (λ request. is_sound_body mine request.body) mine.requests ≡ true
   pub kept : list_all (λ row. is_sound_object mine.objects row.object) mine.objects ≡ true
   -- a session was created at a moment that is served
@@ -270,5 +270,5 @@ unfoldable pub IsWellNumbered : State → Type 0
 IsWellNumbered state = (u : ℕ) → IsWellNumberedFor u (own u state)
 
 -- the rows of a content are
-abbrev pub IsSound : Content → Type 0
-IsSound c = IsWellNumbered (state_of c)
+abbrev pub AreWellNumbered : Content → Type 0
+AreWellNumbered c = IsWellNumbered (state_of c)

@@ -17,7 +17,7 @@ abbrev pub cancelled_session_record : SessionRecord → SessionRecord
 cancelled_session_record row = record row { cancelled = true }
 
 abbrev pub certified_record : ℕ → SessionRecord → SessionRecord
-certified_record request row = record row { certify = Some request }
+certified_record request row = record row { last_request = Some request }
 
 abbrev pub session_records_after : Change → List SessionRecord → List SessionRecord
 session_records_after (change.NewSession s) rows = rows ++ session_record (new_session s) ∷ []

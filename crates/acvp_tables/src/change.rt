@@ -66,7 +66,8 @@ pub struct NewCertification {
     pub certification: Certification,
 }
 
-/// What an accepted action changes, whole.
+/// What an accepted action changes, whole. It names rows by their numbers alone: whose they are is a matter of the
+/// numbers and of the grant. Counters come with it, so that a store writes what it is given and counts nothing.
 #[derive(Drop)]
 pub enum Change {
     UseStep(UsedStep),

@@ -9,10 +9,11 @@ ghost use Rattle.acvp_tables.specs.Content.{page, counts_of, greatest_epoch_of};
 ghost use Rattle.acvp_tables.specs.State.{State, SessionRecord, SetRecord, session_record, set_record, state_of, own};
 ghost use Rattle.acvp_tables.specs.State.{seen, may_see, owner_of, first_of_account, first_of_session};
 ghost use Rattle.acvp_tables.specs.State.{session_record_at, set_record_at, sets_in, live_records, objects_in};
-ghost use Rattle.acvp_tables.specs.State.{session_records_of, record_counts, IsNumbered, IsWellNumbered, IsSound};
+ghost use Rattle.acvp_tables.specs.State.{session_records_of, record_counts, IsNumbered, IsWellNumbered};
+ghost use Rattle.acvp_tables.specs.State.{AreWellNumbered};
 ghost use Rattle.acvp_tables.specs.Changes.{after, after_order, is_set};
 ghost use Rattle.acvp_tables.specs.StateChanges.{after_state, after_order_state};
-ghost use Rattle.acvp_tables.specs.Counted.{IsCounted, IsNextCount, AreThere, one_if, has_passed, is_passed};
+ghost use Rattle.acvp_tables.specs.Counted.{IsCounted, IsNextCount, AreThere, one_if, answers_passed, is_passed};
 ghost use Rattle.acvp_tables.specs.Covers.{Covers};
 ghost use Rattle.acvp_tables.specs.Own.{account_of_change, account_of_order, Fits};
 ghost use Rattle.acvp_tables.specs.Next.{IsNext, IsNextOrder};
@@ -59,9 +60,9 @@ pub fn numbers_name()
     ensures set { (n : ℕ) (state : State) (row : SetRecord) → IsWellNumbered state
         → set_record_at n state.sets ≡ Some row → row.session ≡ n / 100 }
     ensures certification { (n m : ℕ) (state : State) (row : SessionRecord) → IsWellNumbered state
-        → session_record_at n state.sessions ≡ Some row → row.certify ≡ Some m → owner_of m ≡ owner_of n }
+        → session_record_at n state.sessions ≡ Some row → row.last_request ≡ Some m → owner_of m ≡ owner_of n }
     ensures certifications { (u : ℕ) (state : State) → IsWellNumbered state
-        → All (λ row. IfSome row.certify (λ m. owner_of m ≡ u)) (session_records_of u state.sessions) }
+        → All (λ row. IfSome row.last_request (λ m. owner_of m ≡ u)) (session_records_of u state.sessions) }
 {}
 
 /// The change that a grant is leave for is of the grant's account.
@@ -132,28 +133,28 @@ pub fn reviewers_are_added()
 
 /// A change keeps each session's counters right, where those that come with it are next; an order always does.
 pub fn counts_are_kept()
-    ensures change { (it : Change) (c : Content) → IsSound c → IsNext (state_of c) it → IsNextCount c it → IsCounted c
-        → IsCounted (after it c) }
+    ensures change { (it : Change) (c : Content) → AreWellNumbered c → IsNext (state_of c) it → IsNextCount c it
+        → IsCounted c → IsCounted (after it c) }
     ensures order { (it : OrderChange) (c : Content) → IsCounted c → IsCounted (after_order it c) }
 {}
 
 /// The counters after a change of one vector set are those that are kept, less what the set gave them, and with what it
 /// gives then.
 pub fn counts_differ_by_one()
-    ensures kept { (k : KeptAnswers) (c : Content) → IsSound c → IsCounted c → (there : AreThere k.session k.set c)
-        → k.passed + one_if (has_passed there.set_row.graded)
+    ensures kept { (k : KeptAnswers) (c : Content) → AreWellNumbered c → IsCounted c
+        → (there : AreThere k.session k.set c) → k.passed + one_if (answers_passed there.set_row.graded)
         ≡ there.row.passed + one_if (is_passed k.graded.disposition)
         → IsNextCount c (change.KeepAnswers k) }
-    ensures cancelled { (x : CancelledSet) (c : Content) → IsSound c → IsCounted c
+    ensures cancelled { (x : CancelledSet) (c : Content) → AreWellNumbered c → IsCounted c
         → (there : AreThere x.session x.set c)
         → x.live + 1 ≡ there.row.live
-        → x.passed + one_if (has_passed there.set_row.graded) ≡ there.row.passed
+        → x.passed + one_if (answers_passed there.set_row.graded) ≡ there.row.passed
         → IsNextCount c (change.CancelSet x) }
 {}
 
 /// Without a row the records are well numbered, and all counters are right.
 pub fn records_begin_well()
-    ensures numbered { IsSound no_rows }
+    ensures numbered { AreWellNumbered no_rows }
     ensures counted { IsCounted no_rows }
 {}
 
@@ -200,10 +201,10 @@ pub fn numbers_count()
 /// Where all counters are right, and a session and an uncancelled set of it are there, those of the session can be
 /// lessened by what the set gives them.
 pub fn counters_allow()
-    ensures live { (session set : ℕ) (c : Content) → IsSound c → IsCounted c → (there : AreThere session set c)
+    ensures live { (session set : ℕ) (c : Content) → AreWellNumbered c → IsCounted c → (there : AreThere session set c)
         → 1 ≤ there.row.live }
-    ensures passed { (session set : ℕ) (c : Content) → IsSound c → IsCounted c → (there : AreThere session set c)
-        → has_passed there.set_row.graded ≡ true → 1 ≤ there.row.passed }
+    ensures passed { (session set : ℕ) (c : Content) → AreWellNumbered c → IsCounted c
+        → (there : AreThere session set c) → answers_passed there.set_row.graded ≡ true → 1 ≤ there.row.passed }
 {}
 
 /// Each set's epoch is at most the greatest, and only where there is no set there is no greatest.
@@ -215,5 +216,5 @@ pub fn epochs_are_bounded()
 
 /// No two vector sets have the same number.
 pub fn sets_are_there_once()
-    ensures { (n : ℕ) (c : Content) → IsSound c → length (filter (is_set n) c.sets) ≤ 1 }
+    ensures { (n : ℕ) (c : Content) → AreWellNumbered c → length (filter (is_set n) c.sets) ≤ 1 }
 {}

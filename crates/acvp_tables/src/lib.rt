@@ -26,5 +26,5 @@ pub use rows::{
     AccountRow, Certification, ObjectRow, RequestBody, RequestRow, RequestStatus, ReviewerRow,
     SessionRow, SetRow,
 };
-pub use summary::{Counted, RequestSubject, RequestSummary, SetSummary};
+pub use summary::{Counted, RequestPurpose, RequestSummary, SetSummary};
 pub use tables::{StoreFault, Tables};

@@ -264,10 +264,12 @@ impl Tables for ListTables {
 
     ghost meaning = { record {
       stands = λ t c. c ≡ t;
-      is_live = λ _. Unit {0};
+      is_open = λ _. Unit {0};
       is_clean = λ _. Unit {0};
       leaves = λ t c d. (t ≡ c) ⊎ (t ≡ d);
     } };
+
+    ghost decides = { λ t. inl tt };
 
     ghost clean = { λ t live. live };
 

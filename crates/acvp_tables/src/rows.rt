@@ -33,7 +33,7 @@ pub struct SessionRow {
     pub cancelled: bool,
 
     /// The number of its last certification request.
-    pub certify: Option<u64>,
+    pub last_request: Option<u64>,
 
     /// How many of its vector sets aren't cancelled.
     pub live: u64,

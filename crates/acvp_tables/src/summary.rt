@@ -1,6 +1,6 @@
 //! What is read of a row without the parts of it that take memory.
 ghost use Rattle.std.specs.Prelude.{◌≡◌};
-ghost use Rattle.acvp_tables.specs.Content.{request_summary, subject_of};
+ghost use Rattle.acvp_tables.specs.Content.{request_summary, purpose_of};
 
 use crate::rows::{Certification, RequestBody, RequestRow, RequestStatus};
 use acvp_answers::Disposition;
@@ -20,7 +20,7 @@ pub struct SetSummary {
 
 /// What a request asks for: the registration of an object of a kind, or a certification.
 #[derive(Clone, Copy)]
-pub enum RequestSubject {
+pub enum RequestPurpose {
     Registration(Kind),
     Certification(Certification),
 }
@@ -30,17 +30,17 @@ pub enum RequestSubject {
 pub struct RequestSummary {
     pub number: u64,
     pub account: u16,
-    pub subject: RequestSubject,
+    pub purpose: RequestPurpose,
     pub status: RequestStatus,
 }
 
 /// What a request asks for.
-fn subject(body: &RequestBody) -> RequestSubject
-    ensures { result ≡ subject_of body.now }
+fn purpose(body: &RequestBody) -> RequestPurpose
+    ensures { result ≡ purpose_of body.now }
 {
     match body {
-        RequestBody::Registration(object) => RequestSubject::Registration(object.kind()),
-        RequestBody::Certification(certification) => RequestSubject::Certification(*certification),
+        RequestBody::Registration(object) => RequestPurpose::Registration(object.kind()),
+        RequestBody::Certification(certification) => RequestPurpose::Certification(*certification),
     }
 }
 
@@ -52,7 +52,7 @@ impl RequestSummary {
         RequestSummary {
             number: row.number,
             account: row.account,
-            subject: subject(&row.body),
+            purpose: purpose(&row.body),
             status: row.status,
         }
     }

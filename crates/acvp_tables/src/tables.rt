@@ -1,6 +1,6 @@
 //! The records of a store, however it is kept.
 
-ghost use Rattle.std.specs.Prelude.{◌≡◌, ℕ, List, Option, IfOk, map, option_map, option_and_then};
+ghost use Rattle.std.specs.Prelude.{◌≡◌, ◌⊎◌, ℕ, List, Option, IfOk, map, option_map, option_and_then};
 ghost use Rattle.acvp_tables.specs.Calls.{Finds, Reads, Changes};
 ghost use Rattle.acvp_tables.specs.Content.{Content, account_at, session_at, set_at, set_summary, set_verdicts};
 ghost use Rattle.acvp_tables.specs.Content.{live_sets, object_at, objects_of, request_at, requests_of, request_summary};
@@ -43,7 +43,8 @@ impl From<AllocError> for StoreFault {
 }
 
 /// The records of a store, however it is kept. Each read is what its definition selects, and changes nothing; lists
-/// ascend by number, since the numbers of sound contents do. Each change is made whole or not at all.
+/// ascend by number, since the numbers of well numbered rows do. No read hands out kept answers. Each change is made
+/// whole or not at all.
 pub trait Tables {
     /// The faults that its calls may answer.
     ghost faults: { StoreFault → Type 0 };
@@ -168,7 +169,7 @@ pub trait Tables {
         ensures found { Finds meaning (λ x. x) result self.old self.new (λ c. greatest_epoch_of c.sets) }
         ensures reads { Reads faults meaning result self.old self.new };
 
-    /// Makes the change that a grant is leave for, and spends the grant.
+    /// Makes the change that a grant is leave for, and spends the grant. The change stays the caller's.
     fn apply(&mut self, grant: Grant, change: &Change) -> Result<(), StoreFault>
         requires covers { Covers grant change.now }
         requires fits { Fits change.now }
@@ -178,9 +179,12 @@ pub trait Tables {
     fn order(&mut self, change: &OrderChange) -> Result<(), StoreFault>
         ensures { Changes faults meaning result self.old self.new (after_order change.now) };
 
-    /// A law: an open store has met no lie.
-    ghost clean: { (t : Self) → meaning.is_live t → meaning.is_clean t };
+    /// A law: a store is open, or it is shut.
+    ghost decides: { (t : Self) → meaning.is_open t ⊎ (meaning.is_open t → ⊥) };
+
+    /// A law: the disk of an open store is clean.
+    ghost clean: { (t : Self) → meaning.is_open t → meaning.is_clean t };
 
     /// A law: a store at rest leaves what it stands for, and that alone.
-    ghost rests: { (t : Self) (c d : Content) → meaning.is_live t → meaning.stands t c → meaning.leaves t c d };
+    ghost rests: { (t : Self) (c d : Content) → meaning.is_open t → meaning.stands t c → meaning.leaves t c d };
 }

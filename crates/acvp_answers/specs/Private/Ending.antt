@@ -1,4 +1,4 @@
--- The end of a list of members, of which the code keeps no more, and the checkpoint that a turn goes on from.
+-- The end of a list of members, of which the code keeps no more, and the seed of the next checkpoint.
 use Rattle.std.specs.Prelude.{◌≡◌, ℕ, List, [], ◌∷◌, ◌++◌, Option, None, Some}
 
 -- these three are the last members

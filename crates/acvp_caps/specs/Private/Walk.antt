@@ -11,8 +11,8 @@ pub record IsLeastFrom (p : ℕ → Bool) (start n : ℕ) : Type 0 where
   pub below : (m : ℕ) → start ≤ m → p m ≡ true → n ≤ m
 
 -- the least number from `start` on that passes a test, if there is one
-abbrev pub IsNext : (ℕ → Bool) → ℕ → Option ℕ → Type 0
-IsNext p start o = MatchOption o ((m : ℕ) → start ≤ m → p m ≡ false) (IsLeastFrom p start)
+abbrev pub IsNextMember : (ℕ → Bool) → ℕ → Option ℕ → Type 0
+IsNextMember p start o = MatchOption o ((m : ℕ) → start ≤ m → p m ≡ false) (IsLeastFrom p start)
 
 -- the lesser of two numbers, of those that are there
 abbrev pub earlier : Option ℕ → Option ℕ → Option ℕ

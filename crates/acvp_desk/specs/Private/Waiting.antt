@@ -1,5 +1,5 @@
 -- A request as far as the operator's decision goes, as the code holds it between its reads and its change.
-use Rattle.acvp_tables.specs.Content.{subject_of}
+use Rattle.acvp_tables.specs.Content.{purpose_of}
 use Rattle.acvp_tables.specs.State.{State}
 use Rattle.acvp_tables.specs.declared.rows.RequestRow.{RequestRow}
 use Rattle.acvp_desk.specs.Orders.{approved_number, is_initial}
@@ -9,6 +9,6 @@ use Rattle.acvp_desk.specs.declared.order.Waiting.{Waiting}
 abbrev pub waiting_in : State → RequestRow → Waiting
 waiting_in state row = record {
   initial = is_initial row.status;
-  kind = kind_asked (subject_of row.body);
+  kind = kind_asked (purpose_of row.body);
   approved = approved_number state row;
 }

@@ -2,8 +2,8 @@
 use Rattle.std.specs.Prelude.{◌≡◌, ◌≢◌, ◌≤◌, ℕ, List, [], ◌∷◌, ◌++◌, codes, decimal, ⊤}
 use Rattle.acvp_desk.specs.declared.order.Order.{Order}
 use Rattle.acvp_desk.specs.declared.order.Order.TheVariants.{AddAccount, DisableAccount, ApproveRequest, RejectRequest}
-use Rattle.acvp_http.specs.declared.script.Line.{Line}
-use Rattle.acvp_http.specs.declared.script.Line.TheVariants as line
+use Rattle.acvp_http.specs.declared.script.ScriptLine.{ScriptLine}
+use Rattle.acvp_http.specs.declared.script.ScriptLine.TheVariants as line
 use Rattle.acvp_http.specs.declared.script.Command.{Command}
 use Rattle.acvp_http.specs.declared.script.Command.TheVariants as command
 use Rattle.acvp_http.specs.Script.{IsNumber, IsAccountNumber, IsSecretText}
@@ -55,7 +55,7 @@ IsOrderLine moment (RejectRequest number) text =
     (rest : List ℕ) × (text ≡ command_word command.RejectRequest ++ 32 ∷ rest) × IsDecisionTail moment number rest
 
 -- what the line says
-abbrev pub IsLine : Line → List ℕ → Type 0
+abbrev pub IsLine : ScriptLine → List ℕ → Type 0
 IsLine (line.Request moment size) text =
     (rest : List ℕ) × (text ≡ command_word command.Request ++ 32 ∷ rest) × IsRequestTail moment size rest
 IsLine (line.Order moment order) text = IsOrderLine moment order text

@@ -6,7 +6,7 @@ use Rattle.acvp_http.specs.declared.receiving.ReceiveFault.TheVariants.{Memory, 
 use Rattle.acvp_http.specs.declared.connection.ServeFault.{ServeFault}
 use Rattle.acvp_http.specs.declared.connection.ServeFault.TheVariants.{Turns, Read as Unread, Write as Unwritten}
 use Rattle.acvp_http.specs.Asks.{ends_empty, head_limit}
-use Rattle.acvp_http.specs.Connection.{most_turns}
+use Rattle.acvp_http.specs.Connection.{most_request_reads}
 use Rattle.acvp_http.specs.Private.Reading.{StopsReading}
 use Rattle.acvp_http.specs.Source.{InputStream, Gives, ReadsTooOften}
 
@@ -47,5 +47,5 @@ pub record IsBodyTaken (wanted : ℕ) (left : Option (List ℕ)) (part : List �
 -- a read has failed, or there were too many
 abbrev pub StopsConnection : ServeFault → InputStream → InputStream → Type 0
 StopsConnection Unread old new = new.failed ≡ true
-StopsConnection Turns old new = (new.failed ≡ false) × ReadsTooOften most_turns old new
+StopsConnection Turns old new = (new.failed ≡ false) × ReadsTooOften most_request_reads old new
 StopsConnection Unwritten old new = ⊥

@@ -1,6 +1,6 @@
 //! Requests and replies in bytes, as the protocol writes them.
 
-use crate::cases::steps::{Asked, Numbers, cut, line_of, rule_of};
+use crate::cases::steps::{Exchange, Numbers, cut, line_of, rule_of};
 use acvp_desk::TokenField;
 use std::alloc::Global;
 use std::process::Abort;
@@ -104,7 +104,7 @@ fn push_token(rt: &impl Abort, bytes: &mut Vec<u8>, token: &TokenField<'_>) {
 pub(crate) fn target_of<'a>(
     rt: &impl Abort,
     alloc: Global,
-    asked: &Asked<'a>,
+    asked: &Exchange<'a>,
 ) -> (&'a [u8], Vec<u8>) {
     let (method, path) = cut(asked.path);
     let mut target = Vec::new(alloc);
@@ -115,7 +115,7 @@ pub(crate) fn target_of<'a>(
 }
 
 /// A request in bytes.
-pub(crate) fn request_bytes(rt: &impl Abort, alloc: Global, asked: &Asked<'_>) -> Vec<u8> {
+pub(crate) fn request_bytes(rt: &impl Abort, alloc: Global, asked: &Exchange<'_>) -> Vec<u8> {
     let (method, target) = target_of(rt, alloc, asked);
     let mut bytes = Vec::new(alloc);
     push(rt, &mut bytes, method);

@@ -5,7 +5,7 @@ ghost use Rattle.acvp_desk.specs.Orders.{IsOrder};
 use crate::cases::SECRET;
 use crate::cases::asked::{body_in, framed, refused, request_bytes, target_of};
 use crate::cases::steps::{
-    Answer, Asked, actions_in, asked_in, cut, number, path_of, reply_of, rule_of, with_answer,
+    Exchange, Expected, actions_in, asked_in, cut, number, path_of, reply_of, rule_of, with_answer,
     with_body, with_path,
 };
 use acvp_desk::{
@@ -90,7 +90,7 @@ fn typed<'a>(
     rt: &impl Abort,
     alloc: Global,
     routes: &Routes,
-    asked: &Asked<'a>,
+    asked: &Exchange<'a>,
 ) -> TypedRequest<'a> {
     let (method, target) = target_of(rt, alloc, asked);
     TypedRequest {
@@ -101,7 +101,7 @@ fn typed<'a>(
 }
 
 /// What a server answers to what is asked.
-fn hear<T: Tables>(rt: &impl Abort, server: &mut Server<T>, asked: &Asked<'_>) -> Heard {
+fn hear<T: Tables>(rt: &impl Abort, server: &mut Server<T>, asked: &Exchange<'_>) -> Heard {
     match server.door {
         Door::Desk => {
             let request = typed(rt, server.alloc, &server.routes, asked);
@@ -134,7 +134,7 @@ fn body_heard<'a>(rt: &impl Abort, heard: &'a Heard) -> &'a [u8] {
 pub(crate) fn body_of<T: Tables>(
     rt: &impl Abort,
     server: &mut Server<T>,
-    asked: &Asked<'_>,
+    asked: &Exchange<'_>,
 ) -> Vec<u8> {
     let heard = hear(rt, server, asked);
     let body = body_heard(rt, &heard).to_vec(server.alloc);
@@ -142,11 +142,11 @@ pub(crate) fn body_of<T: Tables>(
 }
 
 /// Whether the records change.
-fn changes(answer: Answer<'_>) -> bool {
+fn changes(answer: Expected<'_>) -> bool {
     match answer {
-        Answer::Shown(_) | Answer::Digested(_) | Answer::Denied(_) => false,
-        Answer::Made(_) => true,
-        Answer::Accepted(changed) => changed,
+        Expected::Shown(_) | Expected::Digested(_) | Expected::Denied(_) => false,
+        Expected::Made(_) => true,
+        Expected::Accepted(changed) => changed,
     }
 }
 
@@ -172,25 +172,25 @@ fn is_of_digest(rt: &impl Abort, body: &[u8], digest: &[u8]) {
 }
 
 /// Asserts that a body is one that the answer allows.
-fn is_body(rt: &impl Abort, body: &[u8], answer: Answer<'_>) {
+fn is_body(rt: &impl Abort, body: &[u8], answer: Expected<'_>) {
     match answer {
-        Answer::Shown(wanted) | Answer::Made(wanted) => assert_eq!(rt; body, wanted),
-        Answer::Digested(digest) => is_of_digest(rt, body, digest),
-        Answer::Accepted(_) => assert!(rt; !body.is_empty()),
-        Answer::Denied(word) => assert_eq!(rt; "a reply", word),
+        Expected::Shown(wanted) | Expected::Made(wanted) => assert_eq!(rt; body, wanted),
+        Expected::Digested(digest) => is_of_digest(rt, body, digest),
+        Expected::Accepted(_) => assert!(rt; !body.is_empty()),
+        Expected::Denied(word) => assert_eq!(rt; "a reply", word),
     }
 }
 
 /// Asserts that a rule is the answer.
-fn is_rule(rt: &impl Abort, rule: Rule, answer: Answer<'_>) {
+fn is_rule(rt: &impl Abort, rule: Rule, answer: Expected<'_>) {
     match answer {
-        Answer::Denied(word) => assert_eq!(rt; rule, rule_of(rt, word).0),
+        Expected::Denied(word) => assert_eq!(rt; rule, rule_of(rt, word).0),
         _ => assert_eq!(rt; rule.word(), "a reply"),
     }
 }
 
 /// Asserts what the desk answers.
-fn is_outcome(rt: &impl Abort, outcome: &Outcome, answer: Answer<'_>) {
+fn is_outcome(rt: &impl Abort, outcome: &Outcome, answer: Expected<'_>) {
     assert_eq!(rt; outcome.changed, changes(answer));
     match &outcome.reply {
         DeskReply::Given(reply) => is_body(rt, reply.get(256..).expect(rt, "a body"), answer),
@@ -199,10 +199,10 @@ fn is_outcome(rt: &impl Abort, outcome: &Outcome, answer: Answer<'_>) {
 }
 
 /// Asserts the bytes of a reply.
-fn is_reply(rt: &impl Abort, alloc: Global, reply: &[u8], asked: &Asked<'_>) {
+fn is_reply(rt: &impl Abort, alloc: Global, reply: &[u8], asked: &Exchange<'_>) {
     let body = body_in(reply);
     let wanted = match asked.answer {
-        Answer::Denied(word) => refused(rt, alloc, asked.moment, word),
+        Expected::Denied(word) => refused(rt, alloc, asked.moment, word),
         answer => {
             is_body(rt, body, answer);
             framed(rt, alloc, asked.moment, body)
@@ -212,7 +212,7 @@ fn is_reply(rt: &impl Abort, alloc: Global, reply: &[u8], asked: &Asked<'_>) {
 }
 
 /// Asserts what is answered to what is asked.
-pub(crate) fn asks<T: Tables>(rt: &impl Abort, server: &mut Server<T>, asked: &Asked<'_>) {
+pub(crate) fn asks<T: Tables>(rt: &impl Abort, server: &mut Server<T>, asked: &Exchange<'_>) {
     match hear(rt, server, asked) {
         Heard::Outcome(outcome) => is_outcome(rt, &outcome, asked.answer),
         Heard::Reply(reply) => is_reply(rt, server.alloc, reply.bytes(), asked),
@@ -237,7 +237,7 @@ pub(crate) fn shows<'a, T: Tables>(
     line: &'a str,
     body: &'a [u8],
 ) {
-    let asked = with_answer(asked_in(rt, line), Answer::Shown(body));
+    let asked = with_answer(asked_in(rt, line), Expected::Shown(body));
     asks(rt, server, &asked);
 }
 

@@ -199,7 +199,7 @@ pub(crate) fn number(rt: &impl Abort, word: &str) -> u64 {
 
 /// What a request must be answered.
 #[derive(Clone, Copy)]
-pub(crate) enum Answer<'a> {
+pub(crate) enum Expected<'a> {
     /// A body, with the records as they were.
     Shown(&'a [u8]),
 
@@ -225,7 +225,7 @@ pub(crate) struct Numbers {
 
 /// A request at a moment, and what it must be answered.
 #[derive(Clone, Copy)]
-pub(crate) struct Asked<'a> {
+pub(crate) struct Exchange<'a> {
     pub moment: u64,
 
     /// Its method and its path, with a mark for each number.
@@ -234,17 +234,17 @@ pub(crate) struct Asked<'a> {
     pub query: &'a [u8],
     pub token: TokenField<'a>,
     pub body: &'a [u8],
-    pub answer: Answer<'a>,
+    pub answer: Expected<'a>,
 }
 
 /// The same with another method and path.
-pub(crate) fn with_path<'a>(asked: Asked<'a>, path: &'a str) -> Asked<'a> {
-    Asked { path, ..asked }
+pub(crate) fn with_path<'a>(asked: Exchange<'a>, path: &'a str) -> Exchange<'a> {
+    Exchange { path, ..asked }
 }
 
 /// The same on another vector set.
-pub(crate) fn on_set<'a>(asked: Asked<'a>, set: u64) -> Asked<'a> {
-    Asked {
+pub(crate) fn on_set<'a>(asked: Exchange<'a>, set: u64) -> Exchange<'a> {
+    Exchange {
         numbers: Numbers {
             first: asked.numbers.first,
             second: set,
@@ -254,13 +254,13 @@ pub(crate) fn on_set<'a>(asked: Asked<'a>, set: u64) -> Asked<'a> {
 }
 
 /// The same with another body.
-pub(crate) fn with_body<'a>(asked: Asked<'a>, body: &'a [u8]) -> Asked<'a> {
-    Asked { body, ..asked }
+pub(crate) fn with_body<'a>(asked: Exchange<'a>, body: &'a [u8]) -> Exchange<'a> {
+    Exchange { body, ..asked }
 }
 
 /// The same with another answer.
-pub(crate) fn with_answer<'a>(asked: Asked<'a>, answer: Answer<'a>) -> Asked<'a> {
-    Asked { answer, ..asked }
+pub(crate) fn with_answer<'a>(asked: Exchange<'a>, answer: Expected<'a>) -> Exchange<'a> {
+    Exchange { answer, ..asked }
 }
 
 /// A token's field.
@@ -280,17 +280,17 @@ fn is_change(rt: &impl Abort, word: &str) -> bool {
 }
 
 /// An answer.
-fn answer_of<'a>(rt: &impl Abort, text: &'a str) -> Answer<'a> {
+fn answer_of<'a>(rt: &impl Abort, text: &'a str) -> Expected<'a> {
     let (kind, word) = cut(text);
     let body = text_of(rt, word).as_bytes();
     match kind {
-        "shows" => Answer::Shown(body),
-        "makes" => Answer::Made(body),
-        "digests" => Answer::Digested(body),
-        "denies" => Answer::Denied(word),
+        "shows" => Expected::Shown(body),
+        "makes" => Expected::Made(body),
+        "digests" => Expected::Digested(body),
+        "denies" => Expected::Denied(word),
         _ => {
             assert_eq!(rt; kind, "accepts");
-            Answer::Accepted(is_change(rt, word))
+            Expected::Accepted(is_change(rt, word))
         }
     }
 }
@@ -302,7 +302,7 @@ pub(crate) fn actions_in<'a>(rt: &impl Abort, line: &'a str) -> &'a str {
 }
 
 /// What a line asks, by the first of its actions.
-pub(crate) fn asked_in<'a>(rt: &impl Abort, line: &'a str) -> Asked<'a> {
+pub(crate) fn asked_in<'a>(rt: &impl Abort, line: &'a str) -> Exchange<'a> {
     let (moment, rest) = cut(line);
     let (_, rest) = cut(rest);
     let (first, rest) = cut(rest);
@@ -315,7 +315,7 @@ pub(crate) fn asked_in<'a>(rt: &impl Abort, line: &'a str) -> Asked<'a> {
         Some((name, _)) => name,
         None => actions,
     };
-    Asked {
+    Exchange {
         moment: number(rt, moment),
         path: path_of(rt, name),
         numbers: Numbers {

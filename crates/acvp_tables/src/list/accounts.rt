@@ -3,7 +3,7 @@ ghost use Rattle.std.specs.Prelude.{◌≡◌};
 ghost use Rattle.acvp_tables.specs.Changes.{is_account, with_step, disabled, new_account};
 
 use crate::change::NewAccount;
-use crate::list::walks::{Edit, Show, Test};
+use crate::list::walks::{Edit, Predicate, Show};
 use crate::rows::AccountRow;
 use std::alloc::AllocError;
 
@@ -13,7 +13,7 @@ pub(crate) struct AccountIs {
     pub number: u16,
 }
 
-impl Test<AccountRow> for AccountIs {
+impl Predicate<AccountRow> for AccountIs {
     ghost passes = { λ t row. is_account t.number row };
 
     fn test(&self, row: &AccountRow) -> bool {

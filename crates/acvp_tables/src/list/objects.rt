@@ -2,7 +2,7 @@
 ghost use Rattle.std.specs.Prelude.{◌≡◌, ◌==◌, ◌&&◌};
 ghost use Rattle.acvp_tables.specs.Content.{is_kind, kind_number};
 
-use crate::list::walks::{Show, Test};
+use crate::list::walks::{Predicate, Show};
 use crate::rows::ObjectRow;
 use acvp_registry::Kind;
 use std::alloc::AllocError;
@@ -33,7 +33,7 @@ pub(crate) struct ObjectIs {
     pub number: u64,
 }
 
-impl Test<ObjectRow> for ObjectIs {
+impl Predicate<ObjectRow> for ObjectIs {
     ghost passes = { λ t row. is_kind row.object.kind t.kind && (row.number == t.number) };
 
     fn test(&self, row: &ObjectRow) -> bool {
@@ -48,7 +48,7 @@ pub(crate) struct ObjectsOf {
     pub account: u16,
 }
 
-impl Test<ObjectRow> for ObjectsOf {
+impl Predicate<ObjectRow> for ObjectsOf {
     ghost passes = { λ t row. is_kind row.object.kind t.kind && (row.account == t.account) };
 
     fn test(&self, row: &ObjectRow) -> bool {

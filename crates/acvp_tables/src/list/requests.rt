@@ -4,7 +4,7 @@ ghost use Rattle.acvp_tables.specs.Content.{request_summary};
 ghost use Rattle.acvp_tables.specs.Changes.{is_request, with_status, new_request, new_certification, new_objects};
 
 use crate::change::{NewCertification, NewRequest};
-use crate::list::walks::{Edit, Show, Test};
+use crate::list::walks::{Edit, Predicate, Show};
 use crate::rows::{ObjectRow, RequestBody, RequestRow, RequestStatus};
 use crate::summary::RequestSummary;
 use std::alloc::AllocError;
@@ -15,7 +15,7 @@ pub(crate) struct RequestIs {
     pub number: u64,
 }
 
-impl Test<RequestRow> for RequestIs {
+impl Predicate<RequestRow> for RequestIs {
     ghost passes = { λ t row. is_request t.number row };
 
     fn test(&self, row: &RequestRow) -> bool {
@@ -29,7 +29,7 @@ pub(crate) struct RequestsOf {
     pub account: u16,
 }
 
-impl Test<RequestRow> for RequestsOf {
+impl Predicate<RequestRow> for RequestsOf {
     ghost passes = { λ t row. row.account == t.account };
 
     fn test(&self, row: &RequestRow) -> bool {

@@ -4,7 +4,7 @@ ghost use Rattle.acvp_tables.specs.Private.Ascending.{with_number, ascending};
 ghost use Rattle.acvp_tables.specs.declared.tables.StoreFault.TheVariants.{Memory};
 ghost use Rattle.acvp_tables.specs.Changes.{is_pair, with_reviewer};
 
-use crate::list::walks::{Test, any, push};
+use crate::list::walks::{Predicate, any, push};
 use crate::rows::ReviewerRow;
 use crate::tables::StoreFault;
 use std::alloc::{AllocError, Global};
@@ -16,7 +16,7 @@ pub(crate) struct ReviewerIs {
     pub account: u16,
 }
 
-impl Test<ReviewerRow> for ReviewerIs {
+impl Predicate<ReviewerRow> for ReviewerIs {
     ghost passes = { λ t row. (row.session == t.session) && (row.account == t.account) };
 
     fn test(&self, row: &ReviewerRow) -> bool {

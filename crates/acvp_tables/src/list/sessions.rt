@@ -1,10 +1,10 @@
 //! Test sessions as a list.
 ghost use Rattle.std.specs.Prelude.{◌≡◌, ◌==◌};
-ghost use Rattle.acvp_tables.specs.Changes.{is_session, cancelled_session, with_certify, with_passed, with_counts};
+ghost use Rattle.acvp_tables.specs.Changes.{is_session, cancelled_session, with_last_request, with_passed, with_counts};
 ghost use Rattle.acvp_tables.specs.Changes.{new_session};
 
 use crate::change::NewSession;
-use crate::list::walks::{Edit, Show, Test};
+use crate::list::walks::{Edit, Predicate, Show};
 use crate::rows::SessionRow;
 use std::alloc::AllocError;
 
@@ -14,7 +14,7 @@ pub(crate) struct SessionIs {
     pub number: u64,
 }
 
-impl Test<SessionRow> for SessionIs {
+impl Predicate<SessionRow> for SessionIs {
     ghost passes = { λ t row. is_session t.number row };
 
     fn test(&self, row: &SessionRow) -> bool {
@@ -28,7 +28,7 @@ pub(crate) struct SessionsOf {
     pub account: u16,
 }
 
-impl Test<SessionRow> for SessionsOf {
+impl Predicate<SessionRow> for SessionsOf {
     ghost passes = { λ t row. row.account == t.account };
 
     fn test(&self, row: &SessionRow) -> bool {
@@ -67,10 +67,10 @@ pub(crate) struct WithCertify {
 }
 
 impl Edit<SessionRow> for WithCertify {
-    ghost edited = { λ e row. with_certify e.request row };
+    ghost edited = { λ e row. with_last_request e.request row };
 
     fn edit(&self, row: &mut SessionRow) {
-        row.certify = Some(self.request);
+        row.last_request = Some(self.request);
     }
 }
 
@@ -114,7 +114,7 @@ pub(crate) fn new_session(session: &NewSession) -> SessionRow
         sample: session.registration.sample(),
         created: session.created,
         cancelled: false,
-        certify: None,
+        last_request: None,
         live: session.registration.capabilities().len() as u64,
         passed: 0,
     }

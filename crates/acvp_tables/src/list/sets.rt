@@ -6,7 +6,7 @@ ghost use Rattle.acvp_tables.specs.Changes.{changed, is_set, cancelled_set, new_
 
 use crate::change::NewSession;
 use crate::graded::Graded;
-use crate::list::walks::{Edit, Show, Test, position_of};
+use crate::list::walks::{Edit, Predicate, Show, position_of};
 use crate::rows::SetRow;
 use crate::summary::SetSummary;
 use acvp_answers::Verdict;
@@ -19,7 +19,7 @@ pub(crate) struct SetIs {
     pub number: u64,
 }
 
-impl Test<SetRow> for SetIs {
+impl Predicate<SetRow> for SetIs {
     ghost passes = { λ t row. is_set t.number row };
 
     fn test(&self, row: &SetRow) -> bool {
@@ -33,7 +33,7 @@ pub(crate) struct LiveIn {
     pub session: u64,
 }
 
-impl Test<SetRow> for LiveIn {
+impl Predicate<SetRow> for LiveIn {
     ghost passes = { λ t row. is_live_in t.session row };
 
     fn test(&self, row: &SetRow) -> bool {

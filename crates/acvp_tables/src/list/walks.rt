@@ -11,7 +11,7 @@ use crate::tables::StoreFault;
 use std::alloc::{AllocError, Global};
 
 /// A test of a row.
-pub(crate) trait Test<R> {
+pub(crate) trait Predicate<R> {
     ghost passes: { Self → R → Bool };
 
     fn test(&self, row: &R) -> bool
@@ -35,7 +35,7 @@ pub(crate) trait Edit<R> {
 }
 
 /// The first row that passes.
-pub(crate) fn first<'a, R, T: Test<R>>(rows: &'a [R], test: &T) -> Option<&'a R>
+pub(crate) fn first<'a, R, T: Predicate<R>>(rows: &'a [R], test: &T) -> Option<&'a R>
     ensures { option_map (λ row. row.now) result ≡ find (T.passes test.now) rows.now }
 {
     for row in rows {
@@ -47,7 +47,7 @@ pub(crate) fn first<'a, R, T: Test<R>>(rows: &'a [R], test: &T) -> Option<&'a R>
 }
 
 /// What is shown of the first row that passes.
-pub(crate) fn first_shown<R, Out: Drop, T: Test<R>, S: Show<R, Out>>(
+pub(crate) fn first_shown<R, Out: Drop, T: Predicate<R>, S: Show<R, Out>>(
     rows: &[R],
     test: &T,
     show: &S,
@@ -61,7 +61,7 @@ pub(crate) fn first_shown<R, Out: Drop, T: Test<R>, S: Show<R, Out>>(
 }
 
 /// Whether a row passes.
-pub(crate) fn any<R, T: Test<R>>(rows: &[R], test: &T) -> bool
+pub(crate) fn any<R, T: Predicate<R>>(rows: &[R], test: &T) -> bool
     ensures { result ≡ list_any (T.passes test.now) rows.now }
 {
     for row in rows {
@@ -73,7 +73,7 @@ pub(crate) fn any<R, T: Test<R>>(rows: &[R], test: &T) -> bool
 }
 
 /// The place of a row that passes, from 0 on.
-pub(crate) fn position_of<R, T: Test<R>>(rows: &[R], test: &T) -> Option<usize>
+pub(crate) fn position_of<R, T: Predicate<R>>(rows: &[R], test: &T) -> Option<usize>
     ensures { MatchOption result
         (list_any (T.passes test.now) rows.now ≡ false)
         (λ i. (i < length rows.now) × ((d : R) → T.passes test.now (slice_index_or rows.now i d) ≡ true)) }
@@ -89,7 +89,7 @@ pub(crate) fn position_of<R, T: Test<R>>(rows: &[R], test: &T) -> Option<usize>
 }
 
 /// How many rows pass.
-pub(crate) fn count<R, T: Test<R>>(rows: &[R], test: &T) -> u64
+pub(crate) fn count<R, T: Predicate<R>>(rows: &[R], test: &T) -> u64
     ensures { result ≡ length (filter (T.passes test.now) rows.now) }
 {
     let mut count = 0;
@@ -102,7 +102,7 @@ pub(crate) fn count<R, T: Test<R>>(rows: &[R], test: &T) -> u64
 }
 
 /// What is shown of the rows that pass.
-pub(crate) fn all<R, Out: Drop, T: Test<R>, S: Show<R, Out>>(
+pub(crate) fn all<R, Out: Drop, T: Predicate<R>, S: Show<R, Out>>(
     alloc: Global,
     rows: &[R],
     test: &T,
@@ -135,7 +135,7 @@ fn push_shown<R, Out: Drop, S: Show<R, Out>>(
 }
 
 /// What is shown of so many of the rows that pass, from the offset on.
-pub(crate) fn page<R, Out: Drop, T: Test<R>, S: Show<R, Out>>(
+pub(crate) fn page<R, Out: Drop, T: Predicate<R>, S: Show<R, Out>>(
     alloc: Global,
     rows: &[R],
     test: &T,
@@ -166,7 +166,7 @@ pub(crate) fn page<R, Out: Drop, T: Test<R>, S: Show<R, Out>>(
 }
 
 /// Edits the row where it passes.
-fn change_one<R, T: Test<R>, E: Edit<R>>(row: &mut R, test: &T, edit: &E)
+fn change_one<R, T: Predicate<R>, E: Edit<R>>(row: &mut R, test: &T, edit: &E)
     ensures { row.new ≡ (if T.passes test.now row.old then E.edited edit.now row.old else row.old) }
 {
     if test.test(row) {
@@ -175,7 +175,7 @@ fn change_one<R, T: Test<R>, E: Edit<R>>(row: &mut R, test: &T, edit: &E)
 }
 
 /// Edits the rows that pass.
-pub(crate) fn change<R, T: Test<R>, E: Edit<R>>(rows: &mut [R], test: &T, edit: &E)
+pub(crate) fn change<R, T: Predicate<R>, E: Edit<R>>(rows: &mut [R], test: &T, edit: &E)
     ensures { rows.new ≡ changed (T.passes test.now) (E.edited edit.now) rows.old }
 {
     for row in rows.iter_mut() {
@@ -184,7 +184,11 @@ pub(crate) fn change<R, T: Test<R>, E: Edit<R>>(rows: &mut [R], test: &T, edit: 
 }
 
 /// Edits the rows of a table that pass.
-pub(crate) fn change_all<R: Drop, T: Test<R>, E: Edit<R>>(rows: &mut Vec<R>, test: &T, edit: &E)
+pub(crate) fn change_all<R: Drop, T: Predicate<R>, E: Edit<R>>(
+    rows: &mut Vec<R>,
+    test: &T,
+    edit: &E,
+)
     ensures { rows.new.items ≡ changed (T.passes test.now) (E.edited edit.now) rows.old.items }
 {
     change(rows, test, edit);

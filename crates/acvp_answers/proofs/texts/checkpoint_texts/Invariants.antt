@@ -9,5 +9,5 @@ use Rattle.acvp_answers.proofs.texts.checkpoint_texts.Given as goal
 abbrev pub invariant-loop : goal.invariant-loop
 invariant-loop l =
     map string_bytes l.texts.items
-    ++ map encode_lower (checkpoints (digest_of l.name) (before_or l.seed l.last) (l.turns - l.counter))
-    ≡ checkpoint_texts l.name l.seed l.turns
+    ++ map encode_lower (checkpoints (digest_of l.name) (before_or l.seed l.last) (l.count - l.counter))
+    ≡ checkpoint_texts l.name l.seed l.count

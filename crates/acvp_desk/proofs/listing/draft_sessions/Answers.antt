@@ -1,4 +1,6 @@
+use Rattle.acvp_json.specs.ReplyData.{reply_data}
 use Rattle.acvp_desk.proofs.listing.draft_sessions.Goals as goal
 
 pub returns-clause-reply : goal.returns-clause-reply
-returns-clause-reply c = rw (c.in-Some.is, c.in-Sessions.is, ← c.listed.view_is) (rw (c.deref.ensures.value) at c.told_sessions.ensures.reply)
+unfolding reply_data
+returns-clause-reply c = rw (c.in-Some.is, ← c.found.view_is) (rw (c.deref-2.ensures.value, c.in-Ok.ensures.shown, c.deref.ensures.value) at c.told.ensures.reply)

@@ -11,7 +11,7 @@ returns-in-Ok-None g c =
     let alone = left_alone g.T.Tables.faults g.T.Tables.meaning
     (order.ApproveRequest c.args.number) c.in-Ok-None.field-0 c.args.tables.now c.find_waiting.new.tables Unknown reads
     (λ live content sound h. no_request c.args.number content (sym c.in-Ok-None.field-0-is ∙ c.in-Ok-None.ensures.found live content sound h)) in
-    record { was_live = reads.was_live; was_clean = reads.was_clean; answered = alone.0; settled = alone.1; same = reads.same; live = reads.live; kept = reads.kept; shut = λ clean off. reads.kept clean }
+    record { was_open = reads.was_open; was_clean = reads.was_clean; answered = alone.0; settled = alone.1; same = reads.same; stays_open = reads.stays_open; kept = reads.kept; shut = λ clean off. reads.kept clean }
 
 pub returns-then-not-waiting : goal.returns-then-not-waiting
 returns-then-not-waiting g c =
@@ -20,7 +20,7 @@ returns-then-not-waiting g c =
     (order.ApproveRequest c.args.number) c.in-Ok-Some.field-0 c.args.tables.now c.find_waiting.new.tables NotInitial reads
     (λ live content sound h. decided_before c.args.number c.in-Ok-Some.waiting content
     (sym c.in-Ok-Some.field-0-is ∙ c.in-Ok-Some.ensures.found live content sound h) (not_true c.in-Ok-Some.waiting.initial c.if-not-waiting.true)) in
-    record { was_live = reads.was_live; was_clean = reads.was_clean; answered = alone.0; settled = alone.1; same = reads.same; live = reads.live; kept = reads.kept; shut = λ clean off. reads.kept clean }
+    record { was_open = reads.was_open; was_clean = reads.was_clean; answered = alone.0; settled = alone.1; same = reads.same; stays_open = reads.stays_open; kept = reads.kept; shut = λ clean off. reads.kept clean }
 
 pub returns-in-Ok : goal.returns-in-Ok
 returns-in-Ok g c =

@@ -1,5 +1,4 @@
 use Rattle.acvp_desk.proofs.own_rows.certification_named.Goals as goal
 
 pub returns-in-Ok-clause-found : goal.returns-in-Ok-clause-found
-returns-in-Ok-clause-found g c =
-    let read = rw c.in-Ok.is at c.in_ok-parts.ensures.ok in rw (read.1) c.has_own_parts.ensures.found
+returns-in-Ok-clause-found g c = rw (c.in-Ok.is) c.has_own_parts.ensures.found

@@ -3,7 +3,7 @@ use Rattle.acvp_desk.proofs.own_rows.has_own_parts.Goals as goal
 
 pub returns-then-has_module-clause-found : goal.returns-then-has_module-clause-found
 returns-then-has_module-clause-found g c =
-    λ live seeds content kept h. let up = c.in_ok-has_environment.ensures.looks.was_live live in
+    λ live seeds content kept h. let up = c.in_ok-has_environment.ensures.looks.was_open live in
     rw (
       ← c.in_ok-has_module.ensures.found up seeds content kept h,
       c.if-has_module.true,
@@ -12,5 +12,5 @@ returns-then-has_module-clause-found g c =
 
 pub returns-else-has_module-clause-found : goal.returns-else-has_module-clause-found
 returns-else-has_module-clause-found g c =
-    λ live seeds content kept h. let up = c.in_ok-has_environment.ensures.looks.was_live live in
+    λ live seeds content kept h. let up = c.in_ok-has_environment.ensures.looks.was_open live in
     rw (← c.in_ok-has_module.ensures.found up seeds content kept h, c.if-has_module.false) refl

@@ -12,7 +12,8 @@ returns-in_default-clause-answered g c =
       answers_late g.T.Tables.meaning c.args.desk.now.keys c.args.moment c.refusal.result c.args.desk.now.tables
           c.args.desk.now.tables (g.S.Source.stream c.args.reader.now) c.in_default.ensures handled.served
           (shows_handled g.T.Tables.meaning g.met.T.Tables.rests c.args.moment [] c.refusal.result
-          c.args.desk.now c.args.desk.now handled),
+          c.args.desk.now c.args.desk.now handled)
+          handled.stays_open,
     )
 
 pub returns-in-Ok-clause-answered : goal.returns-in-Ok-clause-answered
@@ -24,5 +25,6 @@ returns-in-Ok-clause-answered g c =
           c.answer.new.desk.tables (g.S.Source.stream c.args.reader.now) (g.S.Source.stream c.receive.new.reader) c.in-Ok.field-0.bytes.items
           c.in-Some.ensures.0 consumed needed handled.served
           (shows_handled g.T.Tables.meaning g.met.T.Tables.rests c.args.moment c.in-Ok.field-0.bytes.items c.answer.result
-          c.args.desk.now c.answer.new.desk handled),
+          c.args.desk.now c.answer.new.desk handled)
+          handled.stays_open,
     )

@@ -3,7 +3,7 @@ use Rattle.acvp_http.specs.Private.Reading.{event_of, stopped_by}
 use Rattle.acvp_http.specs.declared.script.ScriptFault.TheVariants.{Write}
 use Rattle.acvp_http.specs.Run.{most_reads, RunsTurns}
 use Rattle.acvp_http.proofs.GrammarLemmas.{no_event_byte, no_event_lacks}
-use Rattle.acvp_http.proofs.RunLemmas.{ran_none, ran_more, in_part, ran_writes, under, stopped_at_last, goes_on, can_happen}
+use Rattle.acvp_http.proofs.RunLemmas.{ran_none, ran_more, in_part, ran_writes, shut_more, under, stopped_at_last, goes_on, can_happen}
 use Rattle.acvp_http.proofs.running.run_turns.Goals as goal
 
 pub loop-count-init : goal.loop-count-init
@@ -11,8 +11,9 @@ loop-count-init g c = record {
   reader_clear = c.requires.reader_clear;
   writer_clear = c.requires.writer_clear;
   keys = refl;
-  was_live = λ live. live;
+  was_open = λ live. live;
   was_clean = λ clean. clean;
+  shut = λ clean off content other left. left;
   ran = ran_none g.T.Tables.meaning c.args.desk.now.keys c.args.desk.now.tables (g.S.Source.stream c.args.reader.now)
       (g.K.Sink.stream c.args.writer.now);
 }
@@ -20,7 +21,7 @@ loop-count-init g c = record {
 pub returns-in_err-take_turn-clause-run : goal.returns-in_err-take_turn-clause-run
 returns-in_err-take_turn-clause-run g c =
     let (clear, (front, written, consumed)) = rw c.in-Some.is at c.in_ok-event.ensures in
-    let (unavailable, answer, shows, takes, stopped) = c.in_err-take_turn.ensures.turn in
+    let (unavailable, answer, handled, stopped) = c.in_err-take_turn.ensures.turn in
     let ends : RunsTurns g.T.Tables.meaning c.args.desk.now.keys c.args.desk.now.tables c.take_turn.new.desk.tables
     (g.S.Source.stream c.args.reader.now) (g.S.Source.stream c.next_event.new.reader)
     (g.K.Sink.stream c.args.writer.now) (g.K.Sink.stream c.take_turn.new.writer)
@@ -33,21 +34,28 @@ returns-in_err-take_turn-clause-run g c =
       unavailable = unavailable;
     }) answer front
     c.loop-count.count
-    c.loop-count.invariant.ran (omega arith) c.in_err-take_turn.ensures.was_clean written consumed shows
+    c.loop-count.invariant.ran (omega arith) written consumed
     (under g.T.Tables.meaning c.loop-count.desk.keys c.args.desk.now.keys c.loop-count.desk.tables c.take_turn.new.desk.tables _ answer
-    c.loop-count.invariant.keys takes) stopped.1 in
+    c.loop-count.invariant.keys handled) stopped.1 in
     search rules
+
+pub returns-in_err-take_turn-clause-shut : goal.returns-in_err-take_turn-clause-shut
+returns-in_err-take_turn-clause-shut g c =
+    shut_more g.T.Tables.meaning c.args.desk.now.tables c.loop-count.desk.tables c.take_turn.new.desk.tables c.in_err-take_turn.ensures.was_clean
+    c.loop-count.invariant.was_open c.loop-count.invariant.shut c.in_err-take_turn.ensures.shut
 
 pub loop-count-preserved : goal.loop-count-preserved
 loop-count-preserved g c =
     let (clear, (front, written, consumed)) = rw c.in-Some.is at c.in_ok-event.ensures in
-    let (unavailable, answer, shows, takes, done) = c.in_ok-take_turn.ensures.turn in
+    let (unavailable, answer, handled, done) = c.in_ok-take_turn.ensures.turn in
     record {
       reader_clear = clear;
       writer_clear = done.0;
       keys = c.take_turn.ensures.keys ∙ c.loop-count.invariant.keys;
-      was_live = λ live. c.loop-count.invariant.was_live (c.take_turn.ensures.was_live live);
+      was_open = λ live. c.loop-count.invariant.was_open (c.take_turn.ensures.was_open live);
       was_clean = λ clean. c.loop-count.invariant.was_clean (c.take_turn.ensures.was_clean clean);
+      shut = shut_more g.T.Tables.meaning c.args.desk.now.tables c.loop-count.desk.tables c.take_turn.new.desk.tables c.take_turn.ensures.was_clean
+          c.loop-count.invariant.was_open c.loop-count.invariant.shut c.take_turn.ensures.shut;
       ran = ran_more g.T.Tables.meaning c.args.desk.now.keys c.args.desk.now.tables c.loop-count.desk.tables c.take_turn.new.desk.tables
           (g.S.Source.stream c.args.reader.now) (g.S.Source.stream c.loop-count.reader)
           (g.S.Source.stream c.next_event.new.reader) (g.K.Sink.stream c.args.writer.now)
@@ -55,9 +63,9 @@ loop-count-preserved g c =
           (record {
             event = event_of c.in-Some.event;
             unavailable = unavailable;
-          }) answer front c.loop-count.count c.loop-count.invariant.ran c.take_turn.ensures.was_clean written consumed shows
+          }) answer front c.loop-count.count c.loop-count.invariant.ran written consumed
           (under g.T.Tables.meaning c.loop-count.desk.keys c.args.desk.now.keys c.loop-count.desk.tables c.take_turn.new.desk.tables _ answer
-          c.loop-count.invariant.keys takes) done.1;
+          c.loop-count.invariant.keys handled) done.1;
     }
 
 pub returns-in-Some-2-clause-run : goal.returns-in-Some-2-clause-run

@@ -26,7 +26,7 @@ pub returns-in-Given : goal.returns-in-Given
 returns-in-Given g c =
     handled_given g.T.Tables.meaning g.met.T.Tables.rests c.args.moment c.args.bytes.now
     (request_value c.in-Ok-parse_request.request) (c.requires.served, c.in-Ok-parse_request.ensures) c.args.date.now c.requires.dated c.args.desk.now c.handle.new.self c.handle.ensures.keys
-    c.handle.result.changed c.accepted.result c.in-Given.buffer (rw c.in-Given.is at c.handle.ensures.served) (rw c.in-Given.is at c.accepted.ensures)
+    c.handle.result.changed c.accepted.result c.records_are_kept.ensures.start c.nobody_is_accepted_without_rows.ensures c.in-Given.buffer (rw c.in-Given.is at c.handle.ensures.served) (rw c.in-Given.is at c.accepted.ensures)
 
 pub returns-in-Denied : goal.returns-in-Denied
 returns-in-Denied g c =

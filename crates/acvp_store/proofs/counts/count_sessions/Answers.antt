@@ -3,7 +3,7 @@ use mir.Val.{SFits}
 use Rattle.std.proofs.lemmas.Result.{IfOk-weaker}
 use Rattle.sqlite.specs.Held.{state}
 use Rattle.acvp_tables.specs.Content.{sessions_of}
-use Rattle.acvp_tables.specs.State.{IsSound}
+use Rattle.acvp_tables.specs.State.{AreWellNumbered}
 use Rattle.acvp_store.specs.Rows.{session_tree, HoldsSessions}
 use Rattle.acvp_store.specs.Private.Pages.{greatest}
 use Rattle.acvp_store.proofs.QueryLeaves.{clean_if_open, read}
@@ -27,6 +27,6 @@ returns-clause-found g c live =
     let was = (returns-clause-read g c).stays.was_open live in
     let first : SFits w64 c.page_of-at.result.first = search rules in
     let last : SFits w64 c.page_of-at.result.last = search rules in
-    count_found IsSound (λ d. HoldsSessions (old.now.trees session_tree) d.sessions) (greatest (c.args.account * 1000000)) c.query_all.result (λ v. v.items) c.counted.result (λ d. length (sessions_of c.args.account d.sessions)) c.counted.ensures.ok c.counted.ensures.found
+    count_found AreWellNumbered (λ d. HoldsSessions (old.now.trees session_tree) d.sessions) (greatest (c.args.account * 1000000)) c.query_all.result (λ v. v.items) c.counted.result (λ d. length (sessions_of c.args.account d.sessions)) c.counted.ensures.ok c.counted.ensures.found
     (IfOk-weaker c.query_all.result _ _ (λ rows shown. sessions_counted (c.requires was).schema.0 c.args.account old new rows.items (c.requires was).schema.1
     (rw (c.params-to_sql.ensures, c.params-to_sql-2.ensures, to_z-of_z first, to_z-of_z last, c.page_of-at.ensures.first, c.page_of-at.ensures.last) at shown)) (c.query_all.ensures.ok clean))

@@ -3,7 +3,7 @@ use Rattle.std.specs.Prelude.{filter, option_to_list}
 use mir.Val.{SFits}
 use Rattle.std.proofs.lemmas.Result.{IfOk-weaker}
 use Rattle.sqlite.specs.Held.{state}
-use Rattle.acvp_tables.specs.State.{IsSound}
+use Rattle.acvp_tables.specs.State.{AreWellNumbered}
 use Rattle.acvp_store.specs.Stands.{object_tree, object_columns, HoldsObjects, IsKeepable, FitColumns}
 use Rattle.acvp_store.proofs.ObjectRows.{is_it}
 use Rattle.acvp_tables.specs.Content.{kind_number}
@@ -35,7 +35,7 @@ returns-clause-found g c live =
     let n = c.args.number in
     let kind = c.args.kind in
     IfOk-weaker c.only.result _ _ (λ found is d sound held fit. is d sound (held, fit) ∙ first_object kind n d.objects)
-    (one_listed IsSound (λ d. HoldsObjects (old.now.trees object_tree) d.objects × FitColumns d.objects) IsKeepable object_columns c.query_all.result (λ v. v.items) c.only.result (λ d. filter (is_it kind n) d.objects) c.only.ensures.ok c.only.ensures.found
+    (one_listed AreWellNumbered (λ d. HoldsObjects (old.now.trees object_tree) d.objects × FitColumns d.objects) IsKeepable object_columns c.query_all.result (λ v. v.items) c.only.result (λ d. filter (is_it kind n) d.objects) c.only.ensures.ok c.only.ensures.found
     (IfOk-weaker c.query_all.result _ _ (λ rows shown d sound held. object_found (c.requires was).schema.0 kind n c.key.result c.key.ensures.fits c.key.ensures.too_large old new rows.items (c.requires was).schema.1 (rw (c.params-to_sql.ensures, c.params-to_sql-2.ensures, to_z-of_z fit, c.kind_number.ensures) at shown) d.objects held.0 held.1) (c.query_all.ensures.ok clean)))
 
 pub returns-clause-judged : goal.returns-clause-judged

@@ -5,7 +5,7 @@ use Rattle.std.specs.Prelude.{option_to_list}
 use Rattle.sqlite.specs.Held.{state}
 use Rattle.acvp_tables.specs.Content.{Content, request_at}
 use Rattle.acvp_tables.specs.declared.rows.RequestRow.{RequestRow}
-use Rattle.acvp_tables.specs.State.{IsSound}
+use Rattle.acvp_tables.specs.State.{AreWellNumbered}
 use Rattle.acvp_store.specs.Stands.{request_tree, request_key, HoldsRequests}
 use Rattle.acvp_store.specs.Private.Columns.{request_columns}
 use Rattle.acvp_store.specs.Private.Requests.{request_shown, IsReadable}
@@ -35,9 +35,9 @@ returns-clause-found g c live =
     let fit : SFits w64 c.key.result = search rules in
     let was = (returns-clause-read g c).stays.was_open live in
     let n = c.args.number in
-    summary_told IsSound (λ d. HoldsRequests (old.now.trees request_tree) d.requests) c.only.result c.summarized.result (λ (d : Content). request_at n d.requests) c.summarized.ensures.ok c.summarized.ensures.told
+    summary_told AreWellNumbered (λ d. HoldsRequests (old.now.trees request_tree) d.requests) c.only.result c.summarized.result (λ (d : Content). request_at n d.requests) c.summarized.ensures.ok c.summarized.ensures.told
     (IfOk-weaker c.only.result _ _ (λ found is d sound held. is d sound held ∙ request_is_at n d.requests)
-    (one_listed IsSound (λ d. HoldsRequests (old.now.trees request_tree) d.requests) (λ (r : RequestRow). IsReadable r.body) request_shown c.query_all.result (λ v. v.items) c.only.result (λ (d : Content). keyed request_key n d.requests) c.only.ensures.ok c.only.ensures.found
+    (one_listed AreWellNumbered (λ d. HoldsRequests (old.now.trees request_tree) d.requests) (λ (r : RequestRow). IsReadable r.body) request_shown c.query_all.result (λ v. v.items) c.only.result (λ (d : Content). keyed request_key n d.requests) c.only.ensures.ok c.only.ensures.found
     (IfOk-weaker c.query_all.result _ _ (λ rows shown d sound held. request_found (c.requires was).schema.0 n c.key.result c.key.ensures.fits c.key.ensures.too_large old new rows.items (c.requires was).schema.1 (rw (c.params-to_sql.ensures, to_z-of_z fit) at shown) d sound held) (c.query_all.ensures.ok clean))))
 
 pub returns-clause-judged : goal.returns-clause-judged

@@ -3,8 +3,8 @@ use mir.Val.{SFits}
 use Rattle.std.proofs.lemmas.Result.{IfOk-weaker}
 use Rattle.sqlite.specs.Held.{state}
 use Rattle.acvp_store.specs.Stands.{request_tree, HoldsRequests}
-use Rattle.acvp_store.specs.Private.Summaries.{SubjectReads, summary_shown}
-use Rattle.acvp_tables.specs.State.{IsSound}
+use Rattle.acvp_store.specs.Private.Summaries.{PurposeReads, summary_shown}
+use Rattle.acvp_tables.specs.State.{AreWellNumbered}
 use Rattle.acvp_store.proofs.QueryLeaves.{clean_if_open, read}
 use Rattle.acvp_store.proofs.FoundRow.{read_as}
 use Rattle.acvp_store.proofs.RowLists.{all_listed}
@@ -28,6 +28,6 @@ returns-clause-found g c live =
     let first : SFits w64 c.page_of-at.result.first = search rules in
     let last : SFits w64 c.page_of-at.result.last = search rules in
     let limit : SFits w64 c.page_of-at.result.limit = search rules in
-    all_listed IsSound (λ d. HoldsRequests (old.now.trees request_tree) d.requests) (λ s. SubjectReads s.subject) summary_shown c.query_all.result (λ v. v.items) c.listed.result (λ v. v.items) _ c.listed.ensures.ok c.listed.ensures.found
+    all_listed AreWellNumbered (λ d. HoldsRequests (old.now.trees request_tree) d.requests) (λ s. PurposeReads s.purpose) summary_shown c.query_all.result (λ v. v.items) c.listed.result (λ v. v.items) _ c.listed.ensures.ok c.listed.ensures.found
     (IfOk-weaker c.query_all.result _ _ (λ rows shown d sound held. request_page (c.requires was).schema.0 c.args.account c.args.offset c.args.limit old new rows.items (c.requires was).schema.1
     (rw (c.params-to_sql.ensures, c.params-to_sql-2.ensures, c.params-to_sql-3.ensures, to_z-of_z first, to_z-of_z last, to_z-of_z limit, c.page_of-at.ensures.first, c.page_of-at.ensures.last, c.page_of-at.ensures.limit) at shown) d sound held) (c.query_all.ensures.ok clean))

@@ -5,7 +5,7 @@ use mir.Val.{SFits}
 use Rattle.std.proofs.lemmas.Result.{IfOk-weaker}
 use Rattle.sqlite.specs.Held.{state}
 use Rattle.acvp_store.specs.Rows.{session_tree, session_shown, HoldsSessions}
-use Rattle.acvp_tables.specs.State.{IsSound}
+use Rattle.acvp_tables.specs.State.{AreWellNumbered}
 use Rattle.acvp_store.proofs.QueryLeaves.{clean_if_open, read}
 use Rattle.acvp_store.proofs.FoundRow.{read_as}
 use Rattle.acvp_store.proofs.RowLists.{all_listed}
@@ -29,7 +29,7 @@ returns-clause-found g c live =
     let first : SFits w64 c.page_of-at.result.first = search rules in
     let last : SFits w64 c.page_of-at.result.last = search rules in
     let limit : SFits w64 c.page_of-at.result.limit = search rules in
-    all_listed IsSound (λ d. HoldsSessions (old.now.trees session_tree) d.sessions) (λ _. ⊤) session_shown c.query_all.result (λ v. v.items) c.listed.result (λ v. v.items) _ c.listed.ensures.ok c.listed.ensures.found
+    all_listed AreWellNumbered (λ d. HoldsSessions (old.now.trees session_tree) d.sessions) (λ _. ⊤) session_shown c.query_all.result (λ v. v.items) c.listed.result (λ v. v.items) _ c.listed.ensures.ok c.listed.ensures.found
     (IfOk-weaker c.query_all.result _ _ (λ rows shown d sound held. (
       all_of (λ _. ⊤) (λ _. tt) _,
       session_page (c.requires was).schema.0 c.args.account c.args.offset c.args.limit old new rows.items (c.requires was).schema.1

@@ -4,9 +4,10 @@ use Rattle.sqlite.specs.Effect.{Database}
 use Rattle.sqlite.specs.Held.{state}
 use Rattle.acvp_store.specs.Migrated.{IsAfterMigration}
 use Rattle.acvp_store.specs.Schema.{Third}
+use Rattle.acvp_store.specs.Private.Clean.{open_is_clean}
 use Rattle.acvp_store.specs.Private.Migration.{version_of, IsEarlierOf}
 use Rattle.acvp_store.proofs.Known.{unknown, not_known, left_as_committed, of_fault}
-use Rattle.acvp_store.proofs.OneSchema.{is_of, stands_migrated, of_both, as_committed, as_left}
+use Rattle.acvp_store.proofs.OneSchema.{is_of, stands_migrated, of_both, of_success, as_committed, as_left}
 use Rattle.acvp_store.proofs.store.migrate.Goals as goal
 
 pub returns-then-not-is_autocommit-clause-left : goal.returns-then-not-is_autocommit-clause-left
@@ -30,7 +31,7 @@ returns-in-Ok-None-clause-schema g c = IfErr-weaker c.adopt.result _ _ (λ e is 
 pub returns-in-Ok-None-clause-settled : goal.returns-in-Ok-None-clause-settled
 returns-in-Ok-None-clause-settled g c = IfOk-weaker c.adopt.result _ _ (λ t is clean open_before db may.
     let live = (is clean).1 in
-    g.met.S.Store.settled t.store db live.is_open may ∙ ap (λ (d : Database). d.trees) (sym live.store.ready.settled)) c.adopt.ensures.live
+    g.met.S.Store.settled t.store db live.is_open may ∙ ap (λ (d : Database). d.trees) (sym live.store.ready.settled)) c.adopt.ensures.stays_open
 
 pub returns-in-Ok-None-clause-left : goal.returns-in-Ok-None-clause-left
 returns-in-Ok-None-clause-left g c =
@@ -43,7 +44,7 @@ returns-in-Ok-Some-clause-schema g c = IfErr-weaker c.migrate_from.result _ _ (�
 pub returns-in-Ok-Some-clause-settled : goal.returns-in-Ok-Some-clause-settled
 returns-in-Ok-Some-clause-settled g c = IfOk-weaker c.migrate_from.result _ _ (λ t is clean open_before db may.
     let live = (is clean).1 in
-    g.met.S.Store.settled t.store db live.is_open may ∙ ap (λ (d : Database). d.trees) (sym live.store.ready.settled)) c.migrate_from.ensures.live
+    g.met.S.Store.settled t.store db live.is_open may ∙ ap (λ (d : Database). d.trees) (sym live.store.ready.settled)) c.migrate_from.ensures.stays_open
 
 pub returns-in-Err-clause-left : goal.returns-in-Err-clause-left
 returns-in-Err-clause-left g c =
@@ -53,7 +54,8 @@ returns-in-Err-clause-left g c =
 pub returns-in-Ok-None-clause-found : goal.returns-in-Ok-None-clause-found
 returns-in-Ok-None-clause-found g c =
     let old = state g.S.Store c.args.connection in
-    IfOk-weaker c.adopt.result _ _ (λ t is live. stands_migrated g.S.Store t old (c.in-Ok-None.ensures.sound (is live).was_open) (is live)) (returns-in-Ok-None-clause-migrated g c)
+    of_success c.adopt.result _ _ _ (λ t is lives live. stands_migrated g.S.Store t old (c.in-Ok-None.ensures.sound (is live).was_open) (is live)
+    (λ up. (lives (open_is_clean (g.met.S.Store.shut_if_dirty t.store) up)).1.store)) (returns-in-Ok-None-clause-migrated g c) c.adopt.ensures.stays_open
 
 pub returns-in-Ok-None-clause-recognized : goal.returns-in-Ok-None-clause-recognized
 returns-in-Ok-None-clause-recognized g c =
@@ -63,7 +65,8 @@ returns-in-Ok-None-clause-recognized g c =
 pub returns-in-Ok-Some-clause-found : goal.returns-in-Ok-Some-clause-found
 returns-in-Ok-Some-clause-found g c =
     let old = state g.S.Store c.args.connection in
-    IfOk-weaker c.migrate_from.result _ _ (λ t is live. stands_migrated g.S.Store t old (c.in-Ok-Some.ensures.sound (is live).was_open) (is live)) c.migrate_from.ensures.migrated
+    of_success c.migrate_from.result _ _ _ (λ t is lives live. stands_migrated g.S.Store t old (c.in-Ok-Some.ensures.sound (is live).was_open) (is live)
+    (λ up. (lives (open_is_clean (g.met.S.Store.shut_if_dirty t.store) up)).1.store)) c.migrate_from.ensures.migrated c.migrate_from.ensures.stays_open
 
 pub returns-in-Ok-Some-clause-recognized : goal.returns-in-Ok-Some-clause-recognized
 returns-in-Ok-Some-clause-recognized g c =

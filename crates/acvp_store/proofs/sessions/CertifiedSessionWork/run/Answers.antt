@@ -1,7 +1,7 @@
 use Rattle.std.proofs.Common.{ap, [], ◌∷◌, rules, w64, to_z-of_z}
 use mir.Val.{SFits}
 use Rattle.sqlite.specs.Held.{state}
-use Rattle.acvp_tables.specs.Changes.{changed, is_session, with_certify}
+use Rattle.acvp_tables.specs.Changes.{changed, is_session, with_last_request}
 use Rattle.acvp_store.specs.Alters.{Alters}
 use Rattle.acvp_store.specs.Rows.{session_tree, HoldsSessions}
 use Rattle.acvp_store.specs.Connection.{UnderStore}
@@ -20,7 +20,7 @@ returns-clause-inside g c =
     let s = c.args.self.now in
     let fit_number : SFits w64 c.in_ok-number.number = search rules in
     let fit_request : SFits w64 c.in_ok-request.request = search rules in
-    let Change = λ (layout : Layout). Alters layout session_tree HoldsSessions (changed (is_session s.number) (with_certify s.request)) in
+    let Change = λ (layout : Layout). Alters layout session_tree HoldsSessions (changed (is_session s.number) (with_last_request s.request)) in
     inside_as c.execute.result c.done.result old new (UnderStore Change) c.done.ensures
     (inside_store c.execute.result old new Change (λ layout. inside (schema_of layout) certify_session (whole s.number ∷ whole s.request ∷ []) old new (clean_if_open new.is_clean new.is_open (g.met.S.Store.shut_if_dirty c.execute.new.self.conn.now.store))
     _ (certify_is layout) (certify_plain layout) (λ count w. w) (Change layout) (certify_effect layout old s.number s.request) c.execute.result

@@ -13,7 +13,7 @@ returns-in-Ok-true g c =
     let old = c.self.inside.connection in
     let read = reads g.S.Store old c.find_reviewer.new.conn c.self.invariant (λ db live may. g.met.S.Store.settled old.store db live may) _ c.in-Ok-true.ensures.read in
     rw (← c.self.view_is) (read_alone g.S.Store old c.find_reviewer.new.conn c.find_reviewer.new.conn (after (change.AddReviewer r)) c.in-Ok-true.field-0 tt read
-    (λ live content sound st. reviewer_there r content (sym (c.in-Ok-true.ensures.found live.is_open st.0 st.1 content.reviewers st.2.reviewers) ∙ c.in-Ok-true.field-0-test)))
+    (λ live content sound st. reviewer_there r content (sym (c.in-Ok-true.ensures.found live st.0 st.1 content.reviewers st.2.reviewers) ∙ c.in-Ok-true.field-0-test)))
 
 pub returns-in-Ok-false : goal.returns-in-Ok-false
 returns-in-Ok-false g c =

@@ -1,0 +1,65 @@
+//! The files that a command reads: of keys, and of an account's secret.
+ghost use Rattle.std.specs.Prelude.{MatchResult};
+ghost use Rattle.acvp_commands.specs.Files.{HasNoKeys, HasNoSecret, HoldsKeys, HoldsSecret};
+
+use crate::fault::Fault;
+use crate::keys::{bytes_of, read_keys};
+use acvp_desk::Keys;
+use std::alloc::AllocGlobal;
+use std::rt::Files;
+use std::{fs, io};
+
+/// Where files are read from.
+pub trait TextFiles {
+    ghost use Rattle.std.specs.Prelude.{ℕ, List};
+
+    /// What a file of a path was found to hold.
+    ghost holds: { Self → List ℕ → List ℕ → Type 0 };
+
+    /// That a file of a path couldn't be read.
+    ghost fails: { Self → List ℕ → Type 0 };
+
+    /// All that a file holds.
+    fn text_of(&self, path: &str) -> io::Result<Vec<u8>>
+        ensures { MatchResult result (λ text. holds self.now path.now text.items) (λ _. fails self.now path.now) };
+}
+
+/// The files of the machine.
+#[derive(Drop)]
+pub struct SystemFiles<'a, R>(pub &'a R);
+
+impl<'a, R: Files + AllocGlobal> TextFiles for SystemFiles<'a, R> {
+    ghost use Rattle.std.specs.Prelude.{⊤};
+
+    // No contract can say what a file of the machine holds.
+    ghost holds = { λ _ _ _. ⊤ };
+
+    ghost fails = { λ _ _. ⊤ };
+
+    fn text_of(&self, path: &str) -> io::Result<Vec<u8>> {
+        let SystemFiles(rt) = self;
+        fs::read(*rt, path)
+    }
+}
+
+/// The keys in a file.
+pub fn keys_in<F: TextFiles>(files: &F, path: &str) -> Result<Keys, Fault>
+    ensures { MatchResult result (HoldsKeys (F.holds files.now) path.now)
+        (HasNoKeys (F.holds files.now) (F.fails files.now) path.now) }
+{
+    match files.text_of(path) {
+        Ok(text) => read_keys(&text).ok_or(Fault::Keys),
+        Err(error) => Err(Fault::Keys.of_system(&error)),
+    }
+}
+
+/// The secret of an account, in a file.
+pub fn secret_in<F: TextFiles>(files: &F, path: &str) -> Result<[u8; 32], Fault>
+    ensures { MatchResult result (HoldsSecret (F.holds files.now) path.now)
+        (HasNoSecret (F.holds files.now) (F.fails files.now) path.now) }
+{
+    match files.text_of(path) {
+        Ok(text) => bytes_of(&text).ok_or(Fault::Secret),
+        Err(error) => Err(Fault::Secret.of_system(&error)),
+    }
+}
