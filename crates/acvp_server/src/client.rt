@@ -153,6 +153,21 @@ impl Read for Incoming {
     }
 }
 
+/// What came of a client at a stage, where it is whole.
+fn came(stage: Stage, whole: bool) -> Incoming {
+    match stage {
+        Stage::Coming(bytes, _needed) => {
+            if whole {
+                Incoming::Bytes(Cursor::new(bytes))
+            } else {
+                Incoming::Broken
+            }
+        }
+        Stage::Going(_reply, _gone) => Incoming::Broken,
+        Stage::Ended(_dropped) => Incoming::Broken,
+    }
+}
+
 /// Where a reply goes: to the client as far as it takes it at once, and the rest is kept.
 #[derive(Drop)]
 pub(crate) struct Outgoing {
@@ -202,12 +217,8 @@ impl Client {
     /// The two ends of a client whose request is whole, or broken.
     pub(crate) fn ends(self, alloc: Global, whole: bool) -> (Incoming, Outgoing) {
         let Client { stream, stage } = self;
-        let input = match stage {
-            Stage::Coming(bytes, _) if whole => Incoming::Bytes(Cursor::new(bytes)),
-            _ => Incoming::Broken,
-        };
         let rest = Vec::new(alloc);
-        (input, Outgoing { stream, rest })
+        (came(stage, whole), Outgoing { stream, rest })
     }
 
     /// Whether its reply is out.

@@ -70,6 +70,26 @@ fn is_over<C: Clock>(since: Option<Instant>, seconds: u64, clock: &C) -> bool {
     }
 }
 
+impl Visit {
+    /// Moves what can be moved of the client, and says what is next.
+    fn advance<C: Clock>(&mut self, clock: &C) -> Next {
+        let was_ended = self.client.is_ended();
+        let next = self.client.advance();
+        if self.client.is_ended() && !was_ended {
+            self.since = time_of(clock);
+        }
+        next
+    }
+}
+
+/// Whether a request was coming at this place, and what is next of its client.
+fn advance_at<C: Clock>(place: &mut Option<Visit>, clock: &C) -> Option<(bool, Next)> {
+    match place {
+        Some(visit) => Some((visit.client.is_coming(), visit.advance(clock))),
+        None => None,
+    }
+}
+
 impl Clients {
     /// As many places as there may be clients.
     fn new(alloc: Global) -> Result<Clients, Fault> {
@@ -114,16 +134,13 @@ impl Clients {
         if self.is_ready(place) {
             return;
         }
-        let Some(Some(visit)) = self.visits.get_mut(place) else {
-            return;
+        let moved = match self.visits.get_mut(place) {
+            Some(visit) => advance_at(visit, clock),
+            None => None,
         };
-        let coming = visit.client.is_coming();
-        let was_ended = visit.client.is_ended();
-        let next = visit.client.advance();
-        if visit.client.is_ended() && !was_ended {
-            visit.since = time_of(clock);
+        if let Some((coming, next)) = moved {
+            self.sort(place, coming, next);
         }
-        self.sort(place, coming, next);
     }
 
     /// Gives up the clients that take too long.
@@ -288,8 +305,9 @@ impl<'a, C: Clock> Listener for Port<'a, C> {
 
     fn accept(&mut self) -> Result<Taken<Flagged<Incoming>, Flagged<Outgoing>>, Fault> {
         for _ in 0..u64::MAX {
-            self.take_all()?;
-            self.wait()?;
+            if self.take_all().is_err() || self.wait().is_err() {
+                return Err(Fault::Accept);
+            }
             if let Some((client, whole)) = self.next_client() {
                 let (input, output) = client.ends(self.alloc, whole);
                 return Ok(Taken {
