@@ -239,7 +239,7 @@ def certified(lab):
     status, thing = lab.login(7, code)
     expect("a login", status, 200)
     token = thing["accessToken"]
-    lab.fails("unavailable", "account-disable", "--db", lab.db, "--account", "1", what="while it is served")
+    lab.fails("unavailable", "migrate", "--db", lab.db, what="while it is served")
     session = lab.must("POST", "/testSessions", token, REGISTRATION)
     bound, path, (set_path,) = session["accessToken"], short(session["url"]), map(short, session["vectorSetUrls"])
     lab.kill()
@@ -464,35 +464,6 @@ def clients_that_break_off(lab):
         connection.sendall(whole[30:])
         expect("a client that stops half way", shown(read_all(connection)), (401, {"error": "tokenMissing"}))
     lab.served(12)
-
-
-def many_clients_at_once(lab):
-    """Beside clients that send nothing, or a byte now and then, and such as end at once, each other client is answered
-    as if it were alone, and so are the slow ones when they are whole."""
-    whole = request("GET", "/account")
-    refusal = (401, {"error": "tokenMissing"})
-    lab.serve(20 + 50 + 20 + 60)
-    silent = [lab.connect() for _ in range(20)]
-    slow = [lab.connect() for _ in range(50)]
-    for at in range(len(whole) - 1):
-        for connection in slow:
-            connection.send(whole[at:at + 1])
-        if at < 20:
-            reset(lab.connect())
-        if at % 2 == 0 and at < 120:
-            began = time.time()
-            expect("a client beside many", lab.call("GET", "/account"), refusal)
-            expect("a client beside many, in a second", time.time() - began < 1, True)
-    for _ in range(max(0, 60 - len(range(0, min(120, len(whole) - 1), 2)))):
-        expect("a client beside many", lab.call("GET", "/account"), refusal)
-    for connection in slow:
-        connection.send(whole[-1:])
-    for connection in slow:
-        expect("a slow client", shown(read_all(connection)), refusal)
-        connection.close()
-    for connection in silent:
-        connection.close()
-    lab.served(20 + 50 + 20 + 60)
 
 
 def moment_of(reply):
@@ -792,9 +763,8 @@ def made(program, folder):
 
 
 PARTS = [refused_lines, files_that_are_none, made_once, orders, faults_in_their_order, no_connection_can_be_taken, certified,
-         rows_of_each_kind, rows_that_stand_for_nothing, keys_that_change, clients_that_break_off, many_clients_at_once,
-         at_its_address_and_moment,
-         large_bodies, backlog, by_curl, documents, whole_validation]
+         rows_of_each_kind, rows_that_stand_for_nothing, keys_that_change, clients_that_break_off,
+         at_its_address_and_moment, large_bodies, backlog, by_curl, documents, whole_validation]
 
 
 def main():

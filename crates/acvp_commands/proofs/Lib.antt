@@ -1,5 +1,8 @@
 pub mod KeysLemmas
 pub mod NumbersLemmas
-pub mod ConnectionLemmas
+pub mod VisitLemmas
 pub mod AskedLemmas
 pub mod FilesLemmas
+pub mod SecretLemmas
+pub mod ClosedFiles
+pub mod LeftFiles

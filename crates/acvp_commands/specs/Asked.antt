@@ -1,9 +1,10 @@
 -- What the command line asks for.
 use Rattle.std.specs.Prelude.{◌≡◌, ◌≢◌, ◌⊎◌, ℕ, List, [], codes, Option, Some, None, unwrap_or, true, ⊤}
-use Rattle.clap.specs.Words.{first_value}
-use Rattle.clap.specs.declared.parser.matches.Found.{Found}
+use Rattle.clap.specs.Words.{Row, first_of, found_of, rows_of}
+use Rattle.clap.specs.declared.parser.matches.ArgMatches.{ArgMatches}
 use Rattle.acvp_tables.specs.State.{is_account_number}
 use Rattle.acvp_commands.specs.Numbers.{IsNumber, most_account, most_request, most_port, most_count}
+use Rattle.acvp_commands.specs.Numbers.{most_patience}
 use Rattle.acvp_commands.specs.declared.asked.BadNumber.{BadNumber}
 use Rattle.acvp_commands.specs.declared.asked.BadNumber.TheVariants as bad
 use Rattle.acvp_commands.specs.declared.asked.Deed.{Deed}
@@ -13,46 +14,76 @@ use Rattle.acvp_commands.specs.declared.asked.Invocation.TheVariants.{On, Script
 
 -- ---- the options
 
--- the value of an option; the command line gives each that its subcommand wants
-abbrev pub value_of : Found → List ℕ → List ℕ
-value_of found option = unwrap_or (first_value found option) []
+-- the options that were read of a command, or of a subcommand
+abbrev pub options_of : ArgMatches → List Row
+options_of matches = rows_of (found_of matches)
+
+-- the value of an option among those that were read; the command line gives each that its subcommand wants
+abbrev pub value_of : List Row → List ℕ → List ℕ
+value_of options option = unwrap_or (first_of option options) []
 
 -- the text is no number from 1 to the most
 abbrev pub IsNoNumber : ℕ → List ℕ → Type 0
 IsNoNumber most text = (n : ℕ) → IsNumber most text n → ⊥
 
+-- what is told of a text that is none
+abbrev pub bad_number_text : BadNumber → List ℕ
+bad_number_text bad.Account = codes "--account wants a whole number from 1 to 9999, as 7"
+bad_number_text bad.Request = codes "--request wants a whole number from 1 to 9999999999, as 7000001"
+bad_number_text bad.Port = codes "--port wants a whole number from 1 to 65535, as 8080"
+bad_number_text bad.Count = codes "--count wants a whole number from 1 to 1000000, as 1000"
+bad_number_text bad.Patience = codes "--patience wants a whole number of seconds from 1 to 3600, as 30"
+
 -- ---- the subcommands
 
-abbrev pub AsksToServe : Found → Deed → Type 0
-AsksToServe found (deed.Serve keys port count) =
-    (keys.now ≡ value_of found (codes "keys")) × IsNumber most_port (value_of found (codes "port")) port
-    × IsNumber most_count (value_of found (codes "count")) count
-AsksToServe found _ = ⊥
+-- after how many connections it ends, where that is asked for
+abbrev pub AsksCount : Option (List ℕ) → Option ℕ → Type 0
+AsksCount None count = count ≡ None
+AsksCount (Some text) None = ⊥
+AsksCount (Some text) (Some n) = IsNumber most_count text n
 
-abbrev pub RefusesToServe : Found → BadNumber → Type 0
-RefusesToServe found bad.Port = IsNoNumber most_port (value_of found (codes "port"))
-RefusesToServe found bad.Count = IsNoNumber most_count (value_of found (codes "count"))
-RefusesToServe found _ = ⊥
+-- how many seconds a client has: 30 where nothing else is asked for
+abbrev pub AsksPatience : Option (List ℕ) → ℕ → Type 0
+AsksPatience None seconds = seconds ≡ 30
+AsksPatience (Some text) seconds = IsNumber most_patience text seconds
+
+abbrev pub AsksToServe : List Row → Deed → Type 0
+AsksToServe options (deed.Serve keys service) =
+    (keys.now ≡ value_of options (codes "keys")) × IsNumber most_port (value_of options (codes "port")) service.port
+    × AsksCount (first_of (codes "count") options) service.count
+    × AsksPatience (first_of (codes "patience") options) service.patience
+AsksToServe options _ = ⊥
+
+-- an option that may be left out has a value that is no number
+abbrev pub RefusesOption : ℕ → Option (List ℕ) → Type 0
+RefusesOption most None = ⊥
+RefusesOption most (Some text) = IsNoNumber most text
+
+abbrev pub RefusesToServe : List Row → BadNumber → Type 0
+RefusesToServe options bad.Port = IsNoNumber most_port (value_of options (codes "port"))
+RefusesToServe options bad.Count = RefusesOption most_count (first_of (codes "count") options)
+RefusesToServe options bad.Patience = RefusesOption most_patience (first_of (codes "patience") options)
+RefusesToServe options _ = ⊥
 
 -- the subcommand of a name asks for it by its options, beside the database's
-abbrev pub AsksDeed : List ℕ → Found → Deed → Type 0
-AsksDeed name found deed.Init = name ≡ codes "init"
-AsksDeed name found deed.Migrate = name ≡ codes "migrate"
-AsksDeed name found (deed.AddAccount account secret) =
-    (name ≡ codes "account-add") × IsNumber most_account (value_of found (codes "account")) account
-    × (secret.now ≡ value_of found (codes "secret"))
-AsksDeed name found (deed.DisableAccount account) =
-    (name ≡ codes "account-disable") × IsNumber most_account (value_of found (codes "account")) account
-AsksDeed name found (deed.ApproveRequest request) =
-    (name ≡ codes "request-approve") × IsNumber most_request (value_of found (codes "request")) request
-AsksDeed name found (deed.RejectRequest request) =
-    (name ≡ codes "request-reject") × IsNumber most_request (value_of found (codes "request")) request
-AsksDeed name found (deed.Serve keys port count) =
-    (name ≡ codes "serve") × AsksToServe found (deed.Serve keys port count)
+abbrev pub AsksDeed : List ℕ → List Row → Deed → Type 0
+AsksDeed name options deed.Init = name ≡ codes "init"
+AsksDeed name options deed.Migrate = name ≡ codes "migrate"
+AsksDeed name options (deed.AddAccount account secret) =
+    (name ≡ codes "account-add") × IsNumber most_account (value_of options (codes "account")) account
+    × (secret.now ≡ value_of options (codes "secret"))
+AsksDeed name options (deed.DisableAccount account) =
+    (name ≡ codes "account-disable") × IsNumber most_account (value_of options (codes "account")) account
+AsksDeed name options (deed.ApproveRequest request) =
+    (name ≡ codes "request-approve") × IsNumber most_request (value_of options (codes "request")) request
+AsksDeed name options (deed.RejectRequest request) =
+    (name ≡ codes "request-reject") × IsNumber most_request (value_of options (codes "request")) request
+AsksDeed name options (deed.Serve keys service) =
+    (name ≡ codes "serve") × AsksToServe options (deed.Serve keys service)
 
-abbrev pub AsksFor : List ℕ → Found → Invocation → Type 0
-AsksFor name found (On db it) = (db.now ≡ value_of found (codes "db")) × AsksDeed name found it
-AsksFor name found (Script keys) = (name ≡ codes "script") × (keys.now ≡ value_of found (codes "keys"))
+abbrev pub AsksFor : List ℕ → List Row → Invocation → Type 0
+AsksFor name options (On db it) = (db.now ≡ value_of options (codes "db")) × AsksDeed name options it
+AsksFor name options (Script keys) = (name ≡ codes "script") × (keys.now ≡ value_of options (codes "keys"))
 
 -- none of the subcommands has the name
 abbrev pub IsNoName : List ℕ → Type 0
@@ -62,28 +93,31 @@ IsNoName name =
     × (name ≢ codes "serve") × (name ≢ codes "script")
 
 -- the subcommand of a name wants a number, and its option's text is none
-abbrev pub RefusesDeed : List ℕ → Found → BadNumber → Type 0
-RefusesDeed name found bad.Account =
+abbrev pub RefusesDeed : List ℕ → List Row → BadNumber → Type 0
+RefusesDeed name options bad.Account =
     ((name ≡ codes "account-add") ⊎ (name ≡ codes "account-disable"))
-    × IsNoNumber most_account (value_of found (codes "account"))
-RefusesDeed name found bad.Request =
+    × IsNoNumber most_account (value_of options (codes "account"))
+RefusesDeed name options bad.Request =
     ((name ≡ codes "request-approve") ⊎ (name ≡ codes "request-reject"))
-    × IsNoNumber most_request (value_of found (codes "request"))
-RefusesDeed name found bad.Port = (name ≡ codes "serve") × RefusesToServe found bad.Port
-RefusesDeed name found bad.Count = (name ≡ codes "serve") × RefusesToServe found bad.Count
+    × IsNoNumber most_request (value_of options (codes "request"))
+RefusesDeed name options bad.Port = (name ≡ codes "serve") × RefusesToServe options bad.Port
+RefusesDeed name options bad.Count = (name ≡ codes "serve") × RefusesToServe options bad.Count
+RefusesDeed name options bad.Patience = (name ≡ codes "serve") × RefusesToServe options bad.Patience
 
--- the subcommand that was read asks for it, by some options of its own
-abbrev pub IsAsked : Option (List ℕ) → Invocation → Type 0
-IsAsked read it = (name : List ℕ) × (found : Found) × (read ≡ Some name) × AsksFor name found it
+-- the subcommand that was read asks for it, by the options that were read of it
+abbrev pub IsAsked : Option (List ℕ × List Row) → Invocation → Type 0
+IsAsked None it = ⊥
+IsAsked (Some (name, options)) it = AsksFor name options it
 
 -- or it is refused
-abbrev pub IsRefused : Option (List ℕ) → BadNumber → Type 0
-IsRefused read bad = (name : List ℕ) × (found : Found) × (read ≡ Some name) × RefusesDeed name found bad
+abbrev pub IsRefused : Option (List ℕ × List Row) → BadNumber → Type 0
+IsRefused None bad = ⊥
+IsRefused (Some (name, options)) bad = RefusesDeed name options bad
 
 -- no subcommand was read, or none of the program's
-abbrev pub IsNothingAsked : Option (List ℕ) → Type 0
+abbrev pub IsNothingAsked : Option (List ℕ × List Row) → Type 0
 IsNothingAsked None = ⊤
-IsNothingAsked (Some name) = IsNoName name
+IsNothingAsked (Some (name, options)) = IsNoName name
 
 -- ---- accounts
 

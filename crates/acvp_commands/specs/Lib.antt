@@ -1,11 +1,12 @@
 pub mod Asked
-pub mod Connections
 pub mod Faults
 pub mod Files
+pub mod Hosting
 pub mod KeysFile
 pub mod Lines
 pub mod Listening
 pub mod Numbers
 pub mod Ordered
 pub mod Private
+pub mod Reopened
 pub mod Work

@@ -13,6 +13,9 @@ most_port = 65535
 abbrev pub most_count : ℕ
 most_count = 1000000
 
+abbrev pub most_patience : ℕ
+most_patience = 3600
+
 -- the text is the decimal of this number, without a sign and without leading zeros, and the number is from 1 to the
 -- most
 abbrev pub IsNumber : ℕ → List ℕ → ℕ → Type 0

@@ -1,14 +1,13 @@
 //! Work on the database in a file, over any store.
-ghost use Rattle.std.specs.Prelude.{◌≡◌, IfOk, IsTrue};
-ghost use Rattle.sqlite.specs.Held.{state};
+ghost use Rattle.std.specs.Prelude.{◌≡◌, IfOk, MatchResult};
 ghost use Rattle.acvp_desk.specs.Orders.{IsOrder};
-ghost use Rattle.acvp_store.specs.Migrated.{IsMigrated};
 ghost use Rattle.acvp_commands.specs.Ordered.{IsCarriedOut};
-ghost use Rattle.acvp_commands.specs.Work.{IsDone, IsMade, IsTaken, IsTakenOver, IsTask, IsTaskDone, IsWork};
+ghost use Rattle.acvp_commands.specs.Work.{IsDone, IsMade, IsMoved, IsNotMade, IsNotMoved, IsNotTaken, IsTaken};
+ghost use Rattle.acvp_commands.specs.Work.{IsTakenOver, IsTask, IsTaskDone, IsWork};
 ghost use Rattle.acvp_commands.specs.declared.work.Task.TheVariants as task;
 
 use crate::fault::Fault;
-use crate::host::{Host, desk_over, serve};
+use crate::host::{Host, Service, desk_at, serve};
 use crate::lines::Message;
 use crate::orders::carry_out;
 use crate::work::{Task, Work};
@@ -18,6 +17,20 @@ use acvp_tables::Tables;
 use sqlite::{Alter, Connection};
 use std::alloc::Global;
 
+/// Makes the tables in a store that has none. Where they aren't made, the connection is handed back.
+fn made_in<S: Alter + Drop>(
+    alloc: Global,
+    connection: Connection<S>,
+) -> Result<SqlTables<S>, (Connection<S>, Fault)>
+    ensures { MatchResult result (λ tables. IsMade S.Store connection tables)
+        (λ refused. IsNotMade S.Store connection refused.0 refused.1) }
+{
+    match create(alloc, connection) {
+        Ok(tables) => Ok(tables),
+        Err((connection, fault)) => Err((connection, Fault::from(fault))),
+    }
+}
+
 /// Makes the tables in a store that has none.
 pub fn make_tables<S: Alter + Drop>(
     alloc: Global,
@@ -25,76 +38,68 @@ pub fn make_tables<S: Alter + Drop>(
 ) -> Result<SqlTables<S>, Fault>
     ensures { IfOk result (λ tables. IsMade S.Store connection tables) }
 {
-    match create(alloc, connection) {
+    match made_in(alloc, connection) {
         Ok(tables) => Ok(tables),
-        Err((_, fault)) => Err(Fault::from(fault)),
+        Err((_, fault)) => Err(fault),
     }
 }
 
-/// Takes over the tables in a store.
-fn take_over<S: Alter + Drop>(
+/// Takes over the tables in a store. Where they aren't taken over, the connection is handed back.
+fn taken_from<S: Alter + Drop>(
     alloc: Global,
     connection: Connection<S>,
-) -> Result<SqlTables<S>, Fault>
-    ensures { IfOk result (IsTaken S.Store connection) }
+) -> Result<SqlTables<S>, (Connection<S>, Fault)>
+    ensures { MatchResult result (λ tables. IsTaken S.Store connection tables)
+        (λ refused. IsNotTaken S.Store connection refused.0 refused.1) }
 {
     match adopt(alloc, connection) {
         Ok(tables) => Ok(tables),
-        Err((_, fault)) => Err(Fault::from(fault)),
+        Err((connection, fault)) => Err((connection, Fault::from(fault))),
     }
 }
 
-/// Moves the tables in a store from an earlier schema to today's, and gives the connection back.
-fn move_tables_over<S: Alter + Drop>(
+/// Moves the tables in a store from an earlier schema to today's. Where they aren't moved, the connection is handed
+/// back.
+fn moved_in<S: Alter + Drop>(
     alloc: Global,
     connection: Connection<S>,
-) -> Result<Connection<S>, Fault>
-    ensures { IfOk result (λ moved. IsTrue (state S.Store moved).is_open
-        → IsMigrated (state S.Store connection) (state S.Store moved)) }
+) -> Result<SqlTables<S>, (Connection<S>, Fault)>
+    ensures { MatchResult result (λ tables. IsMoved S.Store connection tables)
+        (λ refused. IsNotMoved S.Store connection refused.0 refused.1) }
 {
     match migrate(alloc, connection) {
-        Ok(tables) => Ok(tables.into_connection()),
-        Err((_, fault)) => Err(Fault::from(fault)),
+        Ok(tables) => Ok(tables),
+        Err((connection, fault)) => Err((connection, Fault::from(fault))),
     }
 }
 
-/// Makes the tables in a store that has none, and gives the connection back.
-fn make_tables_over<S: Alter + Drop>(
-    alloc: Global,
-    connection: Connection<S>,
-) -> Result<Connection<S>, Fault>
-    ensures { IfOk result (λ made. IsMade S.Store connection made) }
-{
-    let tables = make_tables(alloc, connection)?;
-    Ok(tables.into_connection())
-}
-
-/// Serves connections over tables, and gives these back with how that ended.
+/// Serves at a desk over tables, and gives these back with how that ended.
 fn serve_over<T: Tables + Drop, H: Host>(
     host: &H,
     tables: T,
     keys: Keys,
-    port: u16,
-    count: u64,
-) -> Result<(T, Result<Message, Fault>), Fault>
-    ensures { IfOk result (λ done. IsTaskDone T.meaning (task.Serve keys port count) tables done.0 done.1) }
+    service: Service,
+) -> (T, Result<Message, Fault>)
+    ensures { IsTaskDone T.meaning H.hosting H.Port.listening H.Port.Input.stream H.Port.Output.stream host.now
+        (task.Serve keys service) tables result.0 result.1 }
 {
-    let mut desk = desk_over(host.alloc(), keys, tables)?;
-    let outcome = serve(host, &mut desk, port, count);
-    Ok((desk.into_tables(), outcome))
+    match desk_at(host.alloc(), keys, tables) {
+        Ok(mut desk) => {
+            let outcome = serve(host, &mut desk, service);
+            (desk.into_tables(), outcome)
+        }
+        Err((tables, fault)) => (tables, Err(fault)),
+    }
 }
 
-/// Carries an order out on tables, and gives these back with its line. Of a refused order nothing is given back.
-fn ordered_over<T: Tables + Drop>(
-    tables: T,
-    order: &Order,
-) -> Result<(T, Result<Message, Fault>), Fault>
+/// Carries an order out on tables, and gives these back with its line or its fault.
+fn ordered_over<T: Tables + Drop>(tables: T, order: &Order) -> (T, Result<Message, Fault>)
     requires { IsOrder order.now }
-    ensures { IfOk result (λ done. IsCarriedOut T.meaning done.1 tables done.0 order.now) }
+    ensures { IsCarriedOut T.meaning result.1 tables result.0 order.now }
 {
     let mut tables = tables;
-    let line = carry_out(&mut tables, order)?;
-    Ok((tables, Ok(line)))
+    let outcome = carry_out(&mut tables, order);
+    (tables, outcome)
 }
 
 /// Does this on tables, and gives these back with how it ended.
@@ -102,13 +107,14 @@ fn done_on<T: Tables + Drop, H: Host>(
     host: &H,
     tables: T,
     task: Task,
-) -> Result<(T, Result<Message, Fault>), Fault>
+) -> (T, Result<Message, Fault>)
     requires { IsTask task }
-    ensures { IfOk result (λ done. IsTaskDone T.meaning task tables done.0 done.1) }
+    ensures { IsTaskDone T.meaning H.hosting H.Port.listening H.Port.Input.stream H.Port.Output.stream host.now task
+        tables result.0 result.1 }
 {
     match task {
         Task::Order(order) => ordered_over(tables, &order),
-        Task::Serve { keys, port, count } => serve_over(host, tables, keys, port, count),
+        Task::Serve { keys, service } => serve_over(host, tables, keys, service),
     }
 }
 
@@ -117,13 +123,18 @@ fn taken_over<S: Alter + Drop, H: Host>(
     host: &H,
     connection: Connection<S>,
     task: Task,
-) -> Result<(Connection<S>, Result<Message, Fault>), Fault>
+) -> (Connection<S>, Result<Message, Fault>)
     requires { IsTask task }
-    ensures { IfOk result (λ done. IsTakenOver S.Store task connection done.0 done.1) }
+    ensures { IsTakenOver S.Store H.hosting H.Port.listening H.Port.Input.stream H.Port.Output.stream host.now task
+        connection result.0 result.1 }
 {
-    let tables = take_over(host.alloc(), connection)?;
-    let (tables, outcome) = done_on(host, tables, task)?;
-    Ok((tables.into_connection(), outcome))
+    match taken_from(host.alloc(), connection) {
+        Ok(tables) => {
+            let (tables, outcome) = done_on(host, tables, task);
+            (tables.into_connection(), outcome)
+        }
+        Err((connection, fault)) => (connection, Err(fault)),
+    }
 }
 
 /// Does this over a store, and gives the connection back with how it ended.
@@ -131,19 +142,20 @@ pub fn done_over<S: Alter + Drop, H: Host>(
     host: &H,
     connection: Connection<S>,
     work: Work,
-) -> Result<(Connection<S>, Result<Message, Fault>), Fault>
+) -> (Connection<S>, Result<Message, Fault>)
     requires { IsWork work }
-    ensures { IfOk result (λ done. IsDone S.Store work connection done.0 done.1) }
+    ensures { IsDone S.Store H.hosting H.Port.listening H.Port.Input.stream H.Port.Output.stream host.now work
+        connection result.0 result.1 }
 {
     match work {
-        Work::Make => Ok((
-            make_tables_over(host.alloc(), connection)?,
-            Ok(Message::Ready),
-        )),
-        Work::Move => Ok((
-            move_tables_over(host.alloc(), connection)?,
-            Ok(Message::Migrated),
-        )),
+        Work::Make => match made_in(host.alloc(), connection) {
+            Ok(tables) => (tables.into_connection(), Ok(Message::Ready)),
+            Err((connection, fault)) => (connection, Err(fault)),
+        },
+        Work::Move => match moved_in(host.alloc(), connection) {
+            Ok(tables) => (tables.into_connection(), Ok(Message::Migrated)),
+            Err((connection, fault)) => (connection, Err(fault)),
+        },
         Work::Take(task) => taken_over(host, connection, task),
     }
 }

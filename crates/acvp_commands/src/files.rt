@@ -12,16 +12,19 @@ use std::{fs, io};
 /// Where files are read from.
 pub trait TextFiles {
     ghost use Rattle.std.specs.Prelude.{ℕ, List};
+    ghost use Rattle.std.specs.IoError.{error_kind};
+    ghost use Rattle.std.specs.declared.io.ErrorKind.{ErrorKind};
 
     /// What a file of a path was found to hold.
     ghost holds: { Self → List ℕ → List ℕ → Type 0 };
 
-    /// That a file of a path couldn't be read.
-    ghost fails: { Self → List ℕ → Type 0 };
+    /// That a file of a path couldn't be read, and for what kind of reason.
+    ghost fails: { Self → List ℕ → ErrorKind → Type 0 };
 
     /// All that a file holds.
     fn text_of(&self, path: &str) -> io::Result<Vec<u8>>
-        ensures { MatchResult result (λ text. holds self.now path.now text.items) (λ _. fails self.now path.now) };
+        ensures { MatchResult result (λ text. holds self.now path.now text.items)
+            (λ error. fails self.now path.now (error_kind error)) };
 }
 
 /// The files of the machine.
@@ -34,7 +37,7 @@ impl<'a, R: Files + AllocGlobal> TextFiles for SystemFiles<'a, R> {
     // No contract can say what a file of the machine holds.
     ghost holds = { λ _ _ _. ⊤ };
 
-    ghost fails = { λ _ _. ⊤ };
+    ghost fails = { λ _ _ _. ⊤ };
 
     fn text_of(&self, path: &str) -> io::Result<Vec<u8>> {
         let SystemFiles(rt) = self;

@@ -1,7 +1,7 @@
 //! What the program asks of the machine, and serving at a desk.
-ghost use Rattle.std.specs.Prelude.{◌≡◌, ⊤, Ok, IfOk};
+ghost use Rattle.std.specs.Prelude.{◌≡◌, ⊤, Ok, IfErr, IfOk};
 ghost use Rattle.acvp_desk.specs.Serves.{Looks};
-ghost use Rattle.acvp_commands.specs.Work.{IsServed};
+ghost use Rattle.acvp_commands.specs.Work.{IsNoDesk, IsServed, IsServedAt};
 
 use crate::fault::Fault;
 use crate::lines::Message;
@@ -11,52 +11,92 @@ use acvp_http::Routes;
 use acvp_tables::Tables;
 use std::alloc::Global;
 
+/// How a port is served.
+#[derive(Clone, Copy)]
+pub struct Service {
+    /// The port of this machine.
+    pub port: u16,
+
+    /// After how many connections it ends, where it does.
+    pub count: Option<u64>,
+
+    /// How many seconds a request may take to come, and a reply to go.
+    pub patience: u64,
+}
+
 /// The machine.
 pub trait Host {
-    /// A port, at which connections wait.
+    ghost use Rattle.std.specs.Prelude.{MatchResult};
+    ghost use Rattle.acvp_commands.specs.Hosting.{Hosting};
+
+    /// A port, at which connections and orders arrive.
     type Port: Listener + Drop;
+
+    /// What it is to open a port, to finish it, and to print a line.
+    ghost hosting: { Hosting Self Self.Port };
 
     fn alloc(&self) -> Global;
 
-    /// The port of a number.
-    fn listen(&self, port: u16) -> Result<Self::Port, Fault>;
+    /// Opens a port, and whatever orders are taken from.
+    fn listen(&self, service: Service) -> Result<Self::Port, Fault>
+        ensures { MatchResult result (hosting.opens self.now service) (hosting.refuses self.now service) };
 
-    /// Lets what was sent on a port's connections reach their clients.
-    fn finish(&self, port: &mut Self::Port);
+    /// Lets what was sent on a port's connections reach their clients, and takes no order any more.
+    fn finish(&self, port: &mut Self::Port)
+        ensures { hosting.finishes self.now port.old port.new };
 
     /// Prints a line.
-    fn print(&self, message: Message) -> Result<(), Fault>;
+    fn print(&self, message: Message) -> Result<(), Fault>
+        ensures { MatchResult result (λ _. hosting.prints self.now message) (hosting.fails self.now message) };
 }
 
-/// Listens on a port, says so, and serves so many connections.
-fn listen_and_serve<T: Tables, H: Host>(
+/// Says that a port is open, and serves what arrives there.
+fn serve_port<T: Tables, H: Host>(
     host: &H,
     routes: &Routes,
     desk: &mut Desk<T>,
-    port: u16,
-    count: u64,
+    port: &mut H::Port,
+    service: Service,
 ) -> Result<Message, Fault>
-    ensures { IsServed T.meaning desk.old.keys count desk.old.tables desk.new.tables result }
+    ensures keys { desk.new.keys ≡ desk.old.keys }
+    ensures served { IsServedAt T.meaning H.hosting H.Port.listening H.Port.Input.stream H.Port.Output.stream host.now
+        desk.old.keys service port.old desk.old.tables port.new desk.new.tables result }
 {
-    let mut listener = host.listen(port)?;
-    host.print(Message::Listening(port))?;
-    let served = serve_connections(host.alloc(), routes, desk, &mut listener, count);
-    host.finish(&mut listener);
-    served?;
-    Ok(Message::Served(count))
+    host.print(Message::Listening(service.port))?;
+    let served = serve_connections(host.alloc(), routes, desk, port, service.count)?;
+    Ok(Message::Served(served))
 }
 
-/// Serves so many connections at a desk.
+/// Opens a port, and serves it at a desk.
 pub(crate) fn serve<T: Tables, H: Host>(
     host: &H,
     desk: &mut Desk<T>,
-    port: u16,
-    count: u64,
+    service: Service,
 ) -> Result<Message, Fault>
-    ensures { IsServed T.meaning desk.old.keys count desk.old.tables desk.new.tables result }
+    ensures { IsServed T.meaning H.hosting H.Port.listening H.Port.Input.stream H.Port.Output.stream host.now
+        desk.old.keys service desk.old.tables desk.new.tables result }
 {
     let routes = Routes::new(host.alloc())?;
-    listen_and_serve(host, &routes, desk, port, count)
+    let mut port = host.listen(service)?;
+    let outcome = serve_port(host, &routes, desk, &mut port, service);
+    host.finish(&mut port);
+    outcome
+}
+
+/// The desk over these records, which are handed back where there is none.
+pub(crate) fn desk_at<T: Tables + Drop>(
+    alloc: Global,
+    keys: Keys,
+    tables: T,
+) -> Result<Desk<T>, (T, Fault)>
+    ensures keys { IfOk result (λ desk. desk.keys ≡ keys) }
+    ensures looks { IfOk result (λ desk. Looks T.meaning {X = ⊤} {E = ⊤} (Ok tt) tables desk.tables) }
+    ensures refused { IfErr result (λ refused. IsNoDesk T.meaning keys tables refused.0 refused.1) }
+{
+    match Desk::new(alloc, keys, tables) {
+        Ok(desk) => Ok(desk),
+        Err((tables, fault)) => Err((tables, Fault::from(fault))),
+    }
 }
 
 /// The desk over these records.
@@ -64,8 +104,8 @@ pub fn desk_over<T: Tables + Drop>(alloc: Global, keys: Keys, tables: T) -> Resu
     ensures keys { IfOk result (λ desk. desk.keys ≡ keys) }
     ensures looks { IfOk result (λ desk. Looks T.meaning {X = ⊤} {E = ⊤} (Ok tt) tables desk.tables) }
 {
-    match Desk::new(alloc, keys, tables) {
+    match desk_at(alloc, keys, tables) {
         Ok(desk) => Ok(desk),
-        Err((_, fault)) => Err(Fault::from(fault)),
+        Err((_, fault)) => Err(fault),
     }
 }

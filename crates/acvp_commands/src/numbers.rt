@@ -1,6 +1,7 @@
 //! The whole numbers of the command line.
 ghost use Rattle.std.specs.Prelude.{◌≡◌, ◌<◌, ◌^◌, ℕ, MatchOption};
 ghost use Rattle.acvp_commands.specs.Numbers.{IsNumber, most_account, most_request, most_port, most_count};
+ghost use Rattle.acvp_commands.specs.Numbers.{most_patience};
 
 use acvp_registry::plain_number;
 
@@ -15,6 +16,9 @@ const MOST_PORT: u16 = 65535;
 
 /// The most connections of one run.
 const MOST_COUNT: u64 = 1000000;
+
+/// The most seconds that a client may have.
+const MOST_PATIENCE: u64 = 3600;
 
 /// The number from 1 to the most that a text is the plain decimal of.
 fn number_within(text: &str, most: u64) -> Option<u64>
@@ -65,4 +69,12 @@ pub fn connection_count(text: &str) -> Option<u64>
     ensures { MatchOption result ((n : ℕ) → IsNumber most_count text.now n → ⊥) (λ n. IsNumber most_count text.now n) }
 {
     number_within(text, MOST_COUNT)
+}
+
+/// How many seconds a client has.
+pub fn patience_number(text: &str) -> Option<u64>
+    ensures { MatchOption result ((n : ℕ) → IsNumber most_patience text.now n → ⊥)
+        (λ n. IsNumber most_patience text.now n) }
+{
+    number_within(text, MOST_PATIENCE)
 }

@@ -1,14 +1,23 @@
-//! Serving: connections, one after another, over the records.
-ghost use Rattle.std.specs.Prelude.{◌≡◌, ◌/◌, false, IfOk, MatchResult};
+//! Serving: connections and orders, one after another, over the records.
+ghost use Rattle.std.specs.Prelude.{◌≡◌, ◌/◌, ◌↔◌, true, false, IsTrue, MatchResult, Some};
+ghost use Rattle.std.specs.List.{All};
 ghost use Rattle.std.specs.Time.{system_time_nanos};
 ghost use Rattle.acvp_desk.specs.Answer.{end_of_moments};
-ghost use Rattle.acvp_commands.specs.Connections.{EndsServing, ServesConnection, ServesConnections};
-ghost use Rattle.acvp_commands.specs.Listening.{ServesNext, ServesUntil};
+ghost use Rattle.acvp_http.specs.Connection.{ServesOne, is_read_end, is_write_end};
+ghost use Rattle.acvp_http.specs.Event.{CanHappen, Turn};
+ghost use Rattle.acvp_http.specs.Serve.{GoesThrough};
+ghost use Rattle.acvp_http.specs.declared.connection.ServeFault.{ServeFault};
+ghost use Rattle.acvp_commands.specs.Listening.{IsOrderOf, IsRequestOf, ServesUntil, ServesVisit, Visit};
 ghost use Rattle.acvp_commands.specs.declared.fault.Fault.TheVariants.{Accept};
 
 use crate::fault::Fault;
+use crate::lines::Message;
+use crate::orders::outcome_of;
 use acvp_desk::{Desk, END_OF_MOMENTS};
-use acvp_http::{Routes, Sink, Source, serve_one};
+use acvp_http::{
+    Routes, ServeFault, Sink, Source, handle_order, order_in, serve_one, turns_are_promised,
+    turns_leave,
+};
 use acvp_tables::Tables;
 use std::alloc::Global;
 use std::io;
@@ -27,9 +36,19 @@ pub struct Taken<I, O> {
     pub moment: u64,
 }
 
-/// Where connections are taken from.
+/// What arrives at a listener.
+#[derive(Drop)]
+pub enum Arrival<I, O, A> {
+    /// A connection, of which nothing was read and to which nothing was written.
+    Connection(Taken<I, O>),
+
+    /// A line that is to be an operator's order, with its line feed, and who is told what comes of it.
+    Order(Vec<u8>, A),
+}
+
+/// Where connections and orders are taken from.
 pub trait Listener {
-    ghost use Rattle.acvp_commands.specs.Listening.{Listening};
+    ghost use Rattle.acvp_commands.specs.Listening.{IsClear, Listening};
 
     /// What comes of a connection.
     type Input: Source;
@@ -37,19 +56,26 @@ pub trait Listener {
     /// Where its reply goes.
     type Output: Sink;
 
-    /// What it is to take a connection, to find that none can be taken, and to hand one back.
-    ghost listening: { Listening Self Self.Input Self.Output };
+    /// Who gives an order.
+    type Asker;
 
-    /// Takes the next connection, of which nothing was read and to which nothing was written.
-    fn accept(&mut self) -> Result<Taken<Self::Input, Self::Output>, Fault>
-        ensures taken { MatchResult result (λ taken. listening.takes self.old self.new taken)
-            (λ fault. (fault ≡ Accept) × listening.stops self.old self.new) }
-        ensures reader_clear { IfOk result (λ taken. (Self.Input.stream taken.input).failed ≡ false) }
-        ensures writer_clear { IfOk result (λ taken. (Self.Output.stream taken.output).failed ≡ false) };
+    /// What it is to take what arrives, to find that nothing can be taken, and to hand a connection back or tell an
+    /// order's outcome.
+    ghost listening: { Listening Self Self.Input Self.Output Self.Asker };
+
+    /// Takes what arrives next.
+    fn accept(&mut self) -> Result<Arrival<Self::Input, Self::Output, Self::Asker>, Fault>
+        ensures taken { MatchResult result (λ arrival. listening.takes self.old self.new arrival
+            × IsClear Self.Input.stream Self.Output.stream arrival)
+            (λ fault. (fault ≡ Accept) × listening.stops self.old self.new) };
 
     /// Ends a connection, whose whole reply is sent or not.
     fn end(&mut self, input: Self::Input, output: Self::Output, sent: bool)
         ensures { listening.ends self.old self.new input output sent };
+
+    /// Tells who gave an order what came of it.
+    fn tell(&mut self, asker: Self::Asker, outcome: Result<Message, Fault>)
+        ensures { listening.tells self.old self.new asker outcome };
 }
 
 /// The seconds since 1970 that the clock gave; where it gave no time, a moment that isn't served.
@@ -70,50 +96,116 @@ pub fn moment_of<C: Clock>(clock: &C) -> u64 {
     seconds_of(SystemTime::now(clock))
 }
 
-/// Takes a connection and serves its one request, at the moment that came with it: it is answered, or it comes to
-/// nothing.
+/// Serves the one request of a connection, at a moment: it is answered, or it comes to nothing.
+fn serve_request<T: Tables, S: Source, K: Sink>(
+    alloc: Global,
+    routes: &Routes,
+    desk: &mut Desk<T>,
+    input: &mut S,
+    output: &mut K,
+    moment: u64,
+) -> Result<(), ServeFault>
+    requires reader_clear { (S.stream input.old).failed ≡ false }
+    requires writer_clear { (K.stream output.old).failed ≡ false }
+    ensures keys { desk.new.keys ≡ desk.old.keys }
+    ensures serves { ServesOne T.meaning desk.old.keys moment (S.stream input.old) (S.stream input.new)
+        (K.stream output.old) (K.stream output.new) desk.old.tables desk.new.tables result }
+    ensures read_fault { (S.stream input.new).failed ≡ is_read_end result }
+    ensures write_fault { (K.stream output.new).failed ≡ is_write_end result }
+    ensures turn { (visit : Visit) × (visit.is_connection ≡ true)
+        × IsRequestOf moment (S.stream input.old) (S.stream input.new) (K.stream output.old) (K.stream output.new) visit
+        × GoesThrough T.meaning desk.old.keys visit.turns visit.answers desk.old.tables desk.new.tables
+        × All (λ (turn : Turn). CanHappen turn.event) visit.turns }
+{
+    serve_one(alloc, routes, desk, input, output, moment)
+}
+
+/// Carries out the order that a line is, and says what came of it.
+fn order_at<T: Tables>(desk: &mut Desk<T>, line: &[u8]) -> Result<Message, Fault>
+    ensures keys { desk.new.keys ≡ desk.old.keys }
+    ensures turn { (visit : Visit) × (visit.is_connection ≡ false) × IsOrderOf line.now result visit
+        × GoesThrough T.meaning desk.old.keys visit.turns visit.answers desk.old.tables desk.new.tables
+        × All (λ (turn : Turn). CanHappen turn.event) visit.turns }
+{
+    match order_in(line) {
+        Some((moment, order)) => {
+            let reply = handle_order(desk, moment, &order);
+            outcome_of(&order, reply)
+        }
+        None => Err(Fault::Syntax),
+    }
+}
+
+/// Takes what arrives next and serves it: a connection's one request at the moment that came with it, or an order. Says
+/// whether it was a connection.
 fn serve_next<T: Tables, L: Listener>(
     alloc: Global,
     routes: &Routes,
     desk: &mut Desk<T>,
     listener: &mut L,
-) -> Result<(), Fault>
+) -> Result<bool, Fault>
     ensures keys { desk.new.keys ≡ desk.old.keys }
-    ensures was_open { T.meaning.is_open desk.new.tables → T.meaning.is_open desk.old.tables }
-    ensures was_clean { T.meaning.is_clean desk.new.tables → T.meaning.is_clean desk.old.tables }
     ensures next { MatchResult result
-        (λ _. ServesNext T.meaning L.listening L.Input.stream L.Output.stream desk.old.keys listener.old desk.old.tables
-        listener.new desk.new.tables)
+        (λ connection. (visit : Visit) × (visit.is_connection ≡ connection)
+        × ServesVisit T.meaning L.listening L.Input.stream L.Output.stream desk.old.keys visit listener.old
+        desk.old.tables listener.new desk.new.tables)
         (λ fault. (fault ≡ Accept) × L.listening.stops listener.old listener.new × (desk.new ≡ desk.old)) }
 {
-    let Taken {
-        mut input,
-        mut output,
-        moment,
-    } = listener.accept()?;
-    let served = serve_one(alloc, routes, desk, &mut input, &mut output, moment);
-    listener.end(input, output, served.is_ok());
-    Ok(())
+    match listener.accept()? {
+        Arrival::Connection(taken) => {
+            let Taken {
+                mut input,
+                mut output,
+                moment,
+            } = taken;
+            let served = serve_request(alloc, routes, desk, &mut input, &mut output, moment);
+            listener.end(input, output, served.is_ok());
+            Ok(true)
+        }
+        Arrival::Order(line, asker) => {
+            let outcome = order_at(desk, &line);
+            listener.tell(asker, outcome);
+            Ok(false)
+        }
+    }
 }
 
-/// Serves so many connections, one after another, each at the moment that it was taken at. It stops where no connection
-/// can be taken.
+/// Whether so many connections were asked for.
+fn are_all(count: Option<u64>, served: u64) -> bool
+    ensures { IsTrue result ↔ (count ≡ Some served) }
+{
+    match count {
+        Some(most) => most == served,
+        None => false,
+    }
+}
+
+/// Serves connections and orders as they arrive, one after another. Where so many connections are asked for, it ends
+/// behind the last of them, and says how many there were. Else it ends only where nothing can be taken any more.
 pub fn serve_connections<T: Tables, L: Listener>(
     alloc: Global,
     routes: &Routes,
     desk: &mut Desk<T>,
     listener: &mut L,
-    count: u64,
-) -> Result<(), Fault>
+    count: Option<u64>,
+) -> Result<u64, Fault>
     ensures keys { desk.new.keys ≡ desk.old.keys }
     ensures was_open { T.meaning.is_open desk.new.tables → T.meaning.is_open desk.old.tables }
     ensures was_clean { T.meaning.is_clean desk.new.tables → T.meaning.is_clean desk.old.tables }
-    ensures taken { ServesUntil T.meaning L.listening L.Input.stream L.Output.stream desk.old.keys count listener.old
+    ensures served { ServesUntil T.meaning L.listening L.Input.stream L.Output.stream desk.old.keys count listener.old
         desk.old.tables listener.new desk.new.tables result }
-    ensures served { EndsServing T.meaning desk.old.keys count desk.old.tables desk.new.tables result }
 {
-    for _served in 0..count {
-        serve_next(alloc, routes, desk, listener)?;
+    desk.newest_epoch();
+    turns_are_promised::<T>();
+    turns_leave::<T>();
+    let mut served = 0;
+    for _arrived in 0..u64::MAX {
+        if are_all(count, served) {
+            return Ok(served);
+        }
+        if serve_next(alloc, routes, desk, listener)? {
+            served += 1;
+        }
     }
-    Ok(())
+    Err(Fault::Limit)
 }

@@ -6,6 +6,7 @@ ghost use Rattle.acvp_commands.specs.Work.{IsWork, IsWorkOf, LacksFile};
 use crate::asked::Deed;
 use crate::fault::Fault;
 use crate::files::{TextFiles, keys_in, secret_in};
+use crate::host::Service;
 use acvp_desk::{Keys, Order};
 
 /// What is done on tables that are taken over.
@@ -14,8 +15,8 @@ pub enum Task {
     /// An order of the operator is carried out.
     Order(Order),
 
-    /// So many connections of a port are served, under these keys.
-    Serve { keys: Keys, port: u16, count: u64 },
+    /// A port is served, under these keys.
+    Serve { keys: Keys, service: Service },
 }
 
 /// What is done with the database in a file.
@@ -48,9 +49,9 @@ pub fn work_of<F: TextFiles>(files: &F, deed: Deed<'_>) -> Result<Work, Fault>
         Deed::DisableAccount { account } => Order::DisableAccount { account },
         Deed::ApproveRequest { request } => Order::ApproveRequest { request },
         Deed::RejectRequest { request } => Order::RejectRequest { request },
-        Deed::Serve { keys, port, count } => {
+        Deed::Serve { keys, service } => {
             let keys = keys_in(files, keys)?;
-            return Ok(Work::Take(Task::Serve { keys, port, count }));
+            return Ok(Work::Take(Task::Serve { keys, service }));
         }
     };
     Ok(Work::Take(Task::Order(order)))

@@ -99,7 +99,7 @@ registration_said body holds = mapped _ (object_of body) (object_there registrat
 
 -- ---- something is asked
 
-asked_on : (a : Ask) (keys : Keys) (moment : ℕ) (r : RequestValue) → first_broken (first_conditions_on a r) ≡ None → is_some (asker_on a keys moment r) ≡ true
+pub asked_on : (a : Ask) (keys : Keys) (moment : ℕ) (r : RequestValue) → first_broken (first_conditions_on a r) ≡ None → is_some (asker_on a keys moment r) ≡ true
 asked_on request.Login keys moment r holds = mapped Login _ (mapped _ (login_at r.body) (login_said r.body holds))
 asked_on (request.Caller it) keys moment r holds = refl
 

@@ -1,7 +1,6 @@
--- Without a row no request is accepted.
-use Rattle.std.proofs.Common.{◌≡◌, ℕ, List, [], ◌∷◌, ◌++◌, true, Option, None, Some, Ok, refl}
+-- Without a row each request is refused.
+use Rattle.std.proofs.Common.{◌≡◌, ℕ, List, [], ◌∷◌, ◌++◌, true, Option, None, Some, Err, refl}
 use Rattle.std.specs.Prelude.{is_some, option_and_then, option_map, if◌then◌else◌, ◌&&◌}
-use Rattle.acvp_json.specs.Data.{Data}
 use Rattle.acvp_mac.specs.Conditions.{Condition, first_broken, judged, unless}
 use Rattle.acvp_policy.specs.Conditions.{account_enabled, code_accepted, is_enabled, is_reviewer, is_some_and, renewal_allowed, token_lasts, token_read, token_shaped, token_signed, token_there, without_session}
 use Rattle.acvp_policy.specs.Policy.{caller_conditions, claims_conditions, policy, resource_conditions, session_conditions}
@@ -14,7 +13,7 @@ use Rattle.acvp_policy.specs.declared.rule.Rule.TheVariants as rule
 use Rattle.acvp_tables.specs.Content.{account_at, no_rows}
 use Rattle.acvp_tables.specs.State.{state_of}
 use Rattle.acvp_tables.specs.declared.rows.AccountRow.{AccountRow}
-use Rattle.acvp_desk.specs.Answer.{answer, asker_of, facts_in, first_conditions, found_of, later_conditions, later_of, own_conditions, policy_conditions, reply_to, standing_of, who}
+use Rattle.acvp_desk.specs.Answer.{answer, asker_of, conditions, facts_in, first_conditions, first_conditions_on, found_of, later_conditions, later_of, own_conditions, policy_conditions, reply_to, standing_of, who}
 use Rattle.acvp_desk.specs.Login.{user_facts}
 use Rattle.acvp_desk.specs.Request.{RequestValue}
 use Rattle.acvp_desk.specs.Place.{action_at, wish_at}
@@ -25,7 +24,8 @@ use Rattle.acvp_desk.specs.declared.found.Found.{Found}
 use Rattle.acvp_desk.specs.declared.found.Found.TheVariants as found
 use Rattle.acvp_desk.specs.declared.keys.Keys.{Keys}
 use Rattle.acvp_desk.proofs.AdmittedCaller.{no_login}
-use Rattle.acvp_desk.proofs.FirstBroken.{back_held, first_held, held, whole_held}
+use Rattle.acvp_desk.proofs.FirstBroken.{back_held, first_held, whole_held}
+use Rattle.acvp_desk.proofs.Objects.{asked_on}
 
 -- ---- no account is there
 
@@ -75,22 +75,32 @@ refused moment (found.Caller it) none held_all =
     let a = action_at it.place in
     absent it.account none (enabled_by (scope_of a) f (no_login (wish_at it.place)) (whole_held (claims_conditions (scope_of a) f) (resource_conditions a f) held_all))
 
--- ---- so nothing is shown
+-- ---- so each is refused
 
-shows_nothing : (b : Option Rule) (shown : Data) → unless b None ≡ Ok (Some shown) → ⊥
-shows_nothing None shown is = cc
-shows_nothing (Some fault) shown is = cc
+not_there : {X : Type 0} (x : Option X) → x ≡ None → is_some x ≡ true → ⊥
+not_there None none there = cc
+not_there (Some x) none there = cc
 
-accepted_by : (keys : Keys) (moment : ℕ) (r : RequestValue) (shown : Data) (asked : Option Asker)
-    → judged (first_conditions moment r ++ later_of keys.seed moment r asked (state_of no_rows)) (reply_to keys moment r asked (state_of no_rows)) ≡ Ok (Some shown) → ⊥
-accepted_by keys moment r shown None is = shows_nothing (first_broken (first_conditions moment r ++ [])) shown is
-accepted_by keys moment r shown (Some it) is =
+breaks_one : (keys : Keys) (moment : ℕ) (r : RequestValue) (asked : Option Asker) → asker_of keys moment r ≡ asked
+    → first_broken (first_conditions moment r ++ later_of keys.seed moment r asked (state_of no_rows)) ≡ None → ⊥
+breaks_one keys moment r None named none =
+    not_there (asker_of keys moment r) named
+    (asked_on r.ask keys moment r (back_held (_ ∷ []) (first_conditions_on r.ask r) (whole_held (first_conditions moment r) [] none)))
+breaks_one keys moment r (Some it) named none =
     let there = found_of keys.seed r.body it (state_of no_rows) in
     let later = later_conditions keys.seed moment r.body there in
-    let all_held = held (first_conditions moment r ++ later) (reply_to keys moment r (Some it) (state_of no_rows)) (Some shown) is in
     refused moment there (none_found keys.seed r.body it)
-    (whole_held (policy_conditions moment there) (own_conditions keys.seed r.body there) (back_held (first_conditions moment r) later all_held))
+    (whole_held (policy_conditions moment there) (own_conditions keys.seed r.body there) (back_held (first_conditions moment r) later none))
 
-pub nobody_accepted : (keys : Keys) (moment : ℕ) (r : RequestValue) (shown : Data) → answer keys moment r (state_of no_rows) ≡ Ok (Some shown) → ⊥
+first_refused : {F X : Type 0} (all : List (Condition F)) (value : X) → (first_broken all ≡ None → ⊥) → (fault : F) × (judged all value ≡ Err fault)
+first_refused {F = F} all value breaks = go (first_broken all) breaks
+  where
+    go : (b : Option F) → (b ≡ None → ⊥) → (fault : F) × (unless b value ≡ Err fault)
+    go None breaks = absurd (breaks refl)
+    go (Some fault) breaks = (fault, refl)
+
+pub nobody_accepted : (keys : Keys) (moment : ℕ) (r : RequestValue) → (rule : Rule) × (answer keys moment r (state_of no_rows) ≡ Err rule)
 unfolding answer
-nobody_accepted keys moment r shown is = accepted_by keys moment r shown (asker_of keys moment r) is
+nobody_accepted keys moment r =
+    first_refused (conditions keys moment r (state_of no_rows)) (reply_to keys moment r (asker_of keys moment r) (state_of no_rows))
+    (breaks_one keys moment r (asker_of keys moment r) refl)

@@ -161,3 +161,14 @@ event_front (request m bytes) front written =
 event_front (order m o) front written =
     let parts = order_parts m o front written in
     (line.Order m o, parts.0, [], parts.1, parts.2)
+
+-- an order's line and its line feed are the order, written
+pub order_written : (m : ℕ) (o : Order) (text : List ℕ) → IsLine (line.Order m o) text → IsWritten (order m o) (text ++ 10 ∷ [])
+order_written m (kind.AddAccount account secret) text (rest, is, (named, (digits, hex, (number, is')))) =
+    (number, named, (digits, hex, rw (is, is') (sym (ap (λ more. codes "account-add " ++ more) (regroup_add (decimal m) (decimal account) digits)))))
+order_written m (kind.DisableAccount account) text (rest, is, (named, (number, is'))) =
+    (number, named, rw (is, is') (sym (ap (λ more. codes "account-disable " ++ more) (regroup_number (decimal m) (decimal account)))))
+order_written m (kind.ApproveRequest decided) text (rest, is, (named, (number, is'))) =
+    (number, named, rw (is, is') (sym (ap (λ more. codes "request-approve " ++ more) (regroup_number (decimal m) (decimal decided)))))
+order_written m (kind.RejectRequest decided) text (rest, is, (named, (number, is'))) =
+    (number, named, rw (is, is') (sym (ap (λ more. codes "request-reject " ++ more) (regroup_number (decimal m) (decimal decided)))))

@@ -1,5 +1,5 @@
 -- What handling the bytes of a request does, for any tables.
-use Rattle.std.proofs.Common.{◌≡◌, inl, inr, ℕ, List, Bool, Some, Ok, [], drop, refl, Vec}
+use Rattle.std.proofs.Common.{◌≡◌, inl, inr, ℕ, List, Bool, Some, Result, Ok, Err, [], drop, refl, Vec}
 use Rattle.std.specs.Global.{Global}
 use Rattle.acvp_policy.specs.declared.rule.Rule.{Rule}
 use Rattle.acvp_tables.specs.Content.{Content, no_rows}
@@ -18,6 +18,10 @@ use Rattle.acvp_http.specs.Handled.{Handles}
 use Rattle.acvp_http.specs.Reply.{refusal, framed, IsDateOf}
 use Rattle.acvp_http.specs.Serve.{RefusesAtOnce, AsksTheDesk, ShowsRequest}
 use Rattle.acvp_http.proofs.ServeLemmas.{taken_at_once, taken_denied, taken_given, shown_denied, live_denied}
+
+-- what is refused isn't accepted
+pub told_apart : {X F : Type 0} {told : Result X F} {x : X} → told ≡ Ok x → (fault : F) × (told ≡ Err fault) → ⊥
+told_apart is (fault, refused) = cc
 
 module _ {T : Type 0} (meaning : Meaning T)
     (rests : (t : T) (c d : Content) → meaning.is_open t → meaning.stands t c → meaning.leaves t c d) (m : ℕ) (bytes : List ℕ) where

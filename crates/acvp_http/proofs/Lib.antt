@@ -10,6 +10,7 @@ pub mod WalkLemmas
 pub mod TableLemmas
 pub mod NumberLemmas
 pub mod RowLemmas
+pub mod OrderLemmas
 pub mod PathLemmas
 pub mod MethodLemmas
 pub mod RequestLemmas

@@ -1,9 +1,10 @@
--- The life of the records over several runs of the server, with a stop behind each. Of a stop within a turn nothing is
--- said.
-use Rattle.std.specs.Prelude.{◌≡◌, ◌⊎◌, ℕ, List, [], ◌∷◌, ◌++◌, true, ⊤}
+-- The life of the records over several runs of the server, each of which ends by a stop or by a close. Of a stop
+-- within a turn nothing is said.
+use Rattle.std.specs.Prelude.{◌≡◌, ◌⊎◌, ℕ, ◌≤◌, List, [], ◌∷◌, ◌++◌, length, true, ⊤}
 use Rattle.std.specs.List.{All}
 use Rattle.acvp_tables.specs.Content.{Content}
 use Rattle.acvp_tables.specs.Meaning.{Meaning}
+use Rattle.acvp_desk.specs.Kept.{IsKept}
 use Rattle.acvp_desk.specs.declared.keys.Keys.{Keys}
 use Rattle.acvp_http.specs.Event.{EventAnswer, CanHappen, Turn}
 use Rattle.acvp_http.specs.Serve.{GoesThrough, HasEffect, Runs}
@@ -14,11 +15,13 @@ pub record Run : Type 0 where
   pub turns : List Turn
   pub answers : List EventAnswer
 
--- each run has the seeds of the one before, and maybe more behind them
+-- Each run has the seeds of the one before, and maybe more behind them. It has one at least, as the keys of every
+-- server do.
 abbrev pub AddsSeeds : List (List ℕ) → List Run → Type 0
 AddsSeeds seeds [] = ⊤
 AddsSeeds seeds (run ∷ runs) =
-    ((more : List (List ℕ)) × (run.keys.seed ≡ seeds ++ more)) × AddsSeeds run.keys.seed runs
+    ((more : List (List ℕ)) × (run.keys.seed ≡ seeds ++ more)) × (1 ≤ length run.keys.seed)
+    × AddsSeeds run.keys.seed runs
 
 -- ---- over records
 
@@ -29,13 +32,20 @@ Passes run next start = (start ≡ next)
     ⊎ ((earlier : List Turn) × (turn : Turn) × (later : List Turn) × (run.turns ≡ earlier ++ turn ∷ later)
     × (turn.unavailable ≡ true) × HasEffect run.keys turn.event next start)
 
+-- A run goes over these records to the next, as the definitions say. It has a seed, the records before it are kept
+-- under its seeds, and each of its events can happen: so what `headline` and `isolation` say holds of it.
+pub record GoesOver (run : Run) (old next : Content) : Type 0 where
+  pub seeded : 1 ≤ length run.keys.seed
+  pub kept : IsKept run.keys.seed old
+  pub can : All (λ turn. CanHappen turn.event) run.turns
+  pub runs : Runs run.keys run.turns old next run.answers
+
 -- The runs, one after another: the records before the first and those after the last. Each run goes over the records
--- that are there when it begins, as the definitions say.
+-- that are there when it begins.
 abbrev pub Life : List Run → Content → Content → Type 0
 Life [] old new = new ≡ old
 Life (run ∷ runs) old new =
-    (next : Content) × (start : Content) × Runs run.keys run.turns old next run.answers × Passes run next start
-    × Life runs start new
+    (next : Content) × (start : Content) × GoesOver run old next × Passes run next start × Life runs start new
 
 -- ---- over tables
 
@@ -46,9 +56,15 @@ module _ {T : Type 0} (meaning : Meaning T) where
   abbrev pub Reopens : T → T → Type 0
   Reopens old new = is_open new × ((c d : Content) → leaves old c d → stands new c ⊎ stands new d)
 
-  -- The tables went through the runs, each from what was opened after the one before, while the disk was clean.
+  -- an open has found what a close left of other tables, and it was taken over
+  abbrev pub GoesOn : T → T → Type 0
+  GoesOn old new = is_open old × is_open new × ((c : Content) → stands old c → stands new c)
+
+  -- The tables went through the runs, each from what was opened after the one before, which ended by a crash or by a
+  -- close, while the disk was clean.
   abbrev pub Lives : List Run → T → T → Type 0
   Lives [] old new = new ≡ old
   Lives (run ∷ runs) old new =
       (last : T) × (opened : T) × GoesThrough meaning run.keys run.turns run.answers old last × is_clean last
-      × All (λ turn. CanHappen turn.event) run.turns × Reopens last opened × Lives runs opened new
+      × All (λ turn. CanHappen turn.event) run.turns × (Reopens last opened ⊎ GoesOn last opened)
+      × Lives runs opened new

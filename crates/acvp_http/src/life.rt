@@ -2,17 +2,19 @@
 ghost use Rattle.std.specs.Prelude.{ℕ, List};
 ghost use Rattle.acvp_tables.specs.Content.{Content};
 ghost use Rattle.acvp_desk.specs.Kept.{IsKept};
-ghost use Rattle.acvp_http.specs.Life.{AddsSeeds, Life, Lives, Run};
+ghost use Rattle.acvp_http.specs.Life.{AddsSeeds, GoesOver, Life, Lives, Run};
+ghost use Rattle.acvp_http.specs.Promise.{IsPromised};
 
+use crate::promise::{headline, isolation};
 use crate::running::turns_leave;
 use acvp_desk::{records_are_kept, records_outlast_keys};
 use acvp_tables::Tables;
 
-/// Over several runs, each of which may end by a crash behind any of its turns, the records go on from run to run.
-/// Tables that were open and stood for records go through the runs, each over what an open found after the one before.
-/// Then each run goes over the records that the ones before it left, as the definitions say: so what `headline`
-/// says holds of each. Between two runs nothing is lost of what was answered, and at most the effect of one event
-/// more is there, which was unavailable. A later run may have more seeds, behind those of the earlier.
+/// Over several runs, each of which ends by a close, or by a crash behind any of its turns, the records go on from run
+/// to run. Tables that were open and stood for records go through the runs, each over what an open found after the one
+/// before. Then each run goes over the records that the ones before it left, which are kept under its own seeds: so it
+/// is as `runs_are_promised` says. Between two runs nothing is lost of what was answered, and at most the effect of one
+/// event more is there, which was unavailable. A later run may have more seeds, behind those of the earlier.
 pub fn records_live_on<T: Tables>()
     ensures { (runs : List Run) (seeds : List (List ℕ)) (old new : T) (c : Content) → AddsSeeds seeds runs
         → Lives T.meaning runs old new → T.meaning.is_open old → IsKept seeds c → T.meaning.stands old c
@@ -21,4 +23,13 @@ pub fn records_live_on<T: Tables>()
     turns_leave::<T>();
     records_are_kept();
     records_outlast_keys();
+}
+
+/// What is promised of each run of a life: the headline and isolation, over the records that it goes over.
+pub fn runs_are_promised()
+    ensures { (run : Run) (old next : Content) → GoesOver run old next
+        → IsPromised run.keys run.turns run.answers old next }
+{
+    headline();
+    isolation();
 }

@@ -1,9 +1,12 @@
 //! A script from its bytes to the bytes of the replies.
-ghost use Rattle.std.specs.Prelude.{◌≡◌, Bool, List, false};
-ghost use Rattle.acvp_http.specs.Event.{EventAnswer, CanHappen, Turn};
+ghost use Rattle.std.specs.Prelude.{◌≡◌, ◌≤◌, Bool, List, false, length};
+ghost use Rattle.std.specs.List.{All};
+ghost use Rattle.acvp_http.specs.Event as event;
+ghost use Rattle.acvp_http.specs.Event.{EventAnswer, CanHappen, Turn, ordered};
 ghost use Rattle.acvp_desk.specs.declared.keys.Keys.{Keys};
 ghost use Rattle.acvp_http.specs.Left.{LeavesRun};
 ghost use Rattle.acvp_http.specs.Private.Reading.{event_of};
+ghost use Rattle.acvp_http.specs.Promise.{GoesAsPromised};
 ghost use Rattle.acvp_http.specs.Run.{RunsScript, RunsTurns, is_read_answer, is_write_answer};
 ghost use Rattle.acvp_http.specs.Script.{answer_text};
 ghost use Rattle.acvp_http.specs.Serve.{GoesByTurns, GoesThrough, HandlesTurn, LeavesShut};
@@ -16,13 +19,25 @@ use crate::script::ScriptFault;
 use crate::serve::handle_bytes;
 use crate::source::{Sink, Source, WriteFault};
 use crate::writing::{write_order, write_replied};
-use acvp_desk::{Desk, records_are_kept};
+use acvp_desk::{Desk, Order, OrderReply, records_are_kept};
 use acvp_tables::Tables;
 use std::alloc::Global;
 
 const MOST_EVENTS: u64 = 100000;
 
 const MOST_READS: u64 = 1000000000;
+
+/// Carries an operator's order out at a desk.
+pub fn handle_order<T: Tables>(desk: &mut Desk<T>, moment: u64, order: &Order) -> OrderReply
+    requires { CanHappen (event.order moment order.now) }
+    ensures keys { desk.new.keys ≡ desk.old.keys }
+    ensures turn { (unavailable : Bool) × HandlesTurn T.meaning desk.old.keys
+        (record { event = event.order moment order.now; unavailable = unavailable }) (ordered result) desk.old.tables
+        desk.new.tables }
+{
+    records_are_kept();
+    desk.order(moment, order)
+}
 
 /// Handles an event, and writes its answer.
 fn take_turn<T: Tables, K: Sink>(
@@ -48,8 +63,7 @@ fn take_turn<T: Tables, K: Sink>(
             write_replied(writer, reply.bytes())
         }
         ScriptEvent::Order { moment, order } => {
-            records_are_kept();
-            let reply = desk.order(*moment, order);
+            let reply = handle_order(desk, *moment, order);
             write_order(writer, reply)
         }
     }
@@ -62,6 +76,19 @@ pub fn turns_make_a_run<T: Tables>()
         → GoesThrough T.meaning keys turns answers old new
         → GoesByTurns T.meaning keys turns answers old new }
 {}
+
+/// What is promised of tables that went through turns, one by one: what `headline` and `isolation` say, of every
+/// content that they stood for.
+pub fn turns_are_promised<T: Tables>()
+    ensures { (keys : Keys) (turns : List Turn) (answers : List EventAnswer) (old new : T)
+        → 1 ≤ length keys.seed → All (λ turn. CanHappen turn.event) turns
+        → GoesThrough T.meaning keys turns answers old new
+        → GoesAsPromised T.meaning keys turns answers old new }
+{
+    headline();
+    isolation();
+    turns_make_a_run::<T>();
+}
 
 /// What a crash finds after tables that were open went through turns, one by one: the records after all turns alone;
 /// or, where a turn that was unavailable shut them, these or those with its effect.
@@ -130,9 +157,7 @@ pub fn run<T: Tables, S: Source, K: Sink>(
     ensures write_fault { (K.stream writer.new).failed ≡ is_write_answer result }
 {
     desk.newest_epoch();
-    headline();
-    isolation();
-    turns_make_a_run::<T>();
+    turns_are_promised::<T>();
     turns_leave::<T>();
     run_turns(alloc, routes, desk, reader, writer)
 }

@@ -1,6 +1,8 @@
 //! The lines of a script.
-ghost use Rattle.std.specs.Prelude.{◌≡◌, ◌≢◌, ◌++◌, ◌∷◌, ◌≤◌, ℕ, List, MatchOption, decimal};
-ghost use Rattle.acvp_http.specs.Script.{IsAccountNumber, IsSecretText};
+ghost use Rattle.std.specs.Prelude.{◌≡◌, ◌≢◌, ◌++◌, ◌∷◌, ◌≤◌, [], ℕ, List, IfSome, MatchOption, decimal};
+ghost use Rattle.acvp_desk.specs.declared.order.Order.{Order};
+ghost use Rattle.acvp_http.specs.Event.{CanHappen, order};
+ghost use Rattle.acvp_http.specs.Script.{IsAccountNumber, IsSecretText, IsWritten};
 ghost use Rattle.acvp_http.specs.Private.Lines.{Lacks, IsMoment, IsRequestTail, IsAddTail, IsDisableTail};
 ghost use Rattle.acvp_http.specs.Private.Lines.{IsDecisionTail, IsLine, command_word};
 ghost use Rattle.acvp_http.specs.declared.script.ScriptLine.{ScriptLine};
@@ -225,5 +227,28 @@ pub(crate) fn read_line(line: &[u8]) -> Option<ScriptLine>
             let order = Order::RejectRequest { request };
             Some(ScriptLine::Order { moment, order })
         }
+    }
+}
+
+/// The line that a text is, without its line feed.
+fn whole_line(text: &[u8]) -> Option<&[u8]>
+    ensures { MatchOption result ((line : List ℕ) → text.now ≢ line ++ 10 ∷ []) (λ line. text.now ≡ line.now ++ 10 ∷ []) }
+{
+    text.strip_suffix(b"\n")
+}
+
+/// The order that a text is, with its line feed, and the moment that it gives.
+pub fn order_in(text: &[u8]) -> Option<(u64, Order)>
+    ensures said { MatchOption result ((moment : ℕ) (it : Order) → IsWritten (order moment it) text.now → ⊥)
+        (λ said. IsWritten (order said.0 said.1) text.now) }
+    ensures happens { IfSome result (λ said. CanHappen (order said.0 said.1)) }
+{
+    let line = whole_line(text)?;
+    match read_line(line)? {
+        ScriptLine::Order { moment, order } => Some((moment, order)),
+        ScriptLine::Request {
+            moment: _,
+            length: _,
+        } => None,
     }
 }

@@ -20,6 +20,14 @@ impl Held {
             database: Vec::new(alloc),
         }
     }
+
+    /// The same.
+    pub(crate) fn copied(&self, rt: &impl Abort, alloc: Global) -> Held {
+        Held {
+            log: copied(rt, alloc, &self.log),
+            database: copied(rt, alloc, &self.database),
+        }
+    }
 }
 
 /// The disk that fails, from the call behind so many on.
@@ -37,6 +45,9 @@ pub(crate) enum Stop {
 
 /// Disks in memory, which may fail.
 pub(crate) type Disks = Files<Fuse<Memory>>;
+
+/// A connection to the database on them.
+pub(crate) type MemoryFile = Connection<FileStore<Fuse<Memory>>>;
 
 /// A disk that holds these bytes, and fails behind so many calls.
 fn disk(rt: &impl Abort, alloc: Global, bytes: &[u8], calls: u64) -> Fuse<Memory> {
@@ -65,10 +76,7 @@ pub(crate) fn disks(rt: &impl Abort, alloc: Global, held: &Held, stop: Stop) -> 
 }
 
 /// The database on disks, or they again.
-pub(crate) fn opened(
-    alloc: Global,
-    files: Disks,
-) -> Result<Connection<FileStore<Fuse<Memory>>>, Disks> {
+pub(crate) fn opened(alloc: Global, files: Disks) -> Result<MemoryFile, Disks> {
     if !files.may_be_used() {
         return Err(files);
     }
@@ -79,11 +87,16 @@ pub(crate) fn opened(
 }
 
 /// The disks once the log is copied into the database file, as far as they let it.
-pub(crate) fn closed(connection: Connection<FileStore<Fuse<Memory>>>) -> Disks {
+pub(crate) fn closed(connection: MemoryFile) -> Disks {
     match connection.close_files() {
         Ok(files) => files,
         Err((_, store)) => store.close(),
     }
+}
+
+/// The disks as they are: nothing that was committed is copied from the log any more.
+pub(crate) fn abandoned(connection: MemoryFile) -> Disks {
+    connection.into_store().close()
 }
 
 /// Whether a disk fails from now on.

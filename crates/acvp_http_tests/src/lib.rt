@@ -9,6 +9,8 @@ mod connections;
 #[cfg(test)]
 mod disks;
 #[cfg(test)]
+mod lives;
+#[cfg(test)]
 mod over_both_forms;
 #[cfg(test)]
 mod requests;

@@ -1,14 +1,14 @@
 //! Stops: while events are under way over a file, a disk fails from a call on, at each call in turn. Opened anew and
 //! adopted, the file has the rows after the events that were acknowledged, or after the next one, too.
 
-use crate::cases::server::{keys, new_desk};
+use crate::cases::server::{keys, keys_of, new_desk};
 use crate::disks::{
     Disks, Held, Stop, all_written, closed, disks, have_stopped, left_by_a_crash, opened,
 };
 use crate::rows::{rows, rows_alone};
 use crate::scripts::run_over;
 use crate::validation::{AFTERWARDS, AGAIN, ON_THE_SECOND_SESSION, REFUSED, VALIDATION};
-use acvp_desk::Desk;
+use acvp_desk::{Desk, Keys};
 use acvp_store::{SqlTables, adopt, create, migrate};
 use acvp_store_tests::earlier_schemas::{FIRST_SCHEMA, SECOND_SCHEMA};
 use acvp_tables::Tables;
@@ -16,9 +16,25 @@ use sqlite::{Alter, Connection};
 use std::alloc::Global;
 use std::process::Abort;
 
+/// The keys of a run: of zeros, then with a second token key of ones, and then with a second seed of ones.
+#[derive(Clone, Copy)]
+pub(crate) enum RunKeys {
+    First,
+    WithSecondToken,
+    WithSecondSeed,
+}
+
+/// A script with so many events, under the keys of a run.
+#[derive(Clone, Copy)]
+pub(crate) struct Script<'a> {
+    pub keys: RunKeys,
+    pub text: &'a [u8],
+    pub events: u64,
+}
+
 /// What happens to a file.
 #[derive(Clone, Copy)]
-enum Work<'a> {
+pub(crate) enum Work<'a> {
     /// The tables are made.
     Creates,
 
@@ -34,8 +50,8 @@ enum Work<'a> {
     /// Nothing: the schema and all rows are read, whether it is a store or not.
     IsRead,
 
-    /// A script with an event is run over a store, and its output is read.
-    PutsOut(&'a [u8]),
+    /// A script is run over a store, and its output is read.
+    PutsOut(Script<'a>),
 
     /// The rows of a store are read, without the schema.
     HasRows,
@@ -44,9 +60,9 @@ enum Work<'a> {
 /// What comes of some work: how many events were acknowledged, or whether there is a store, as 1 or 0; and what was
 /// read.
 #[derive(Drop)]
-struct Came {
-    done: usize,
-    bytes: Vec<u8>,
+pub(crate) struct Came {
+    pub done: usize,
+    pub bytes: Vec<u8>,
 }
 
 impl<'a> Work<'a> {
@@ -68,7 +84,7 @@ impl<'a> Work<'a> {
 }
 
 /// Whether the output of a script with one event says that it was done or accepted.
-fn acknowledges(output: &[u8]) -> bool {
+pub(crate) fn acknowledges(output: &[u8]) -> bool {
     for place in 0..output.len() {
         if output[place..].starts_with(b"\nHTTP/1.1 200 ") {
             return true;
@@ -77,31 +93,50 @@ fn acknowledges(output: &[u8]) -> bool {
     output.starts_with(b"order done")
 }
 
-/// The output of a script with one event.
+/// The keys of a run.
+fn keys_in(rt: &impl Abort, run: RunKeys) -> Keys {
+    let both = [Some([0; 32]), Some([1; 32])];
+    match run {
+        RunKeys::First => keys(rt),
+        RunKeys::WithSecondToken => keys_of(rt, &both, &[[0; 32]]),
+        RunKeys::WithSecondSeed => keys_of(rt, &both, &[[0; 32], [1; 32]]),
+    }
+}
+
+/// The output of a script.
 fn output_of<T: Tables>(
     rt: &impl Abort,
     alloc: Global,
     desk: &mut Desk<T>,
-    script: &[u8],
+    script: Script<'_>,
 ) -> Vec<u8> {
-    let outcome = run_over(rt, alloc, desk, script, Vec::new(alloc));
-    assert!(rt; outcome.answer == Ok(1));
+    let outcome = run_over(rt, alloc, desk, script.text, Vec::new(alloc));
+    assert!(rt; outcome.answer == Ok(script.events));
     outcome.writer
 }
 
-/// The tables after a script with one event, and its output.
+/// The tables after a script, and its output.
 fn run_script<T: Tables + Drop>(
     rt: &impl Abort,
     alloc: Global,
     tables: T,
-    script: &[u8],
+    script: Script<'_>,
 ) -> (T, Vec<u8>) {
-    match new_desk(alloc, keys(rt), tables) {
+    match new_desk(alloc, keys_in(rt, script.keys), tables) {
         Ok(mut desk) => {
             let output = output_of(rt, alloc, &mut desk, script);
             (desk.into_tables(), output)
         }
         Err((tables, _)) => (tables, Vec::new(alloc)),
+    }
+}
+
+/// A script with one event, under keys of zeros.
+fn one_event(text: &[u8]) -> Script<'_> {
+    Script {
+        keys: RunKeys::First,
+        text,
+        events: 1,
     }
 }
 
@@ -112,7 +147,7 @@ fn scripted<T: Tables + Drop>(
     tables: T,
     script: &[u8],
 ) -> (T, bool) {
-    let (tables, output) = run_script(rt, alloc, tables, script);
+    let (tables, output) = run_script(rt, alloc, tables, one_event(script));
     let done = acknowledges(&output);
     (tables, done)
 }
@@ -232,7 +267,7 @@ fn over_the_store<S: Alter + Drop>(
 }
 
 /// The connection to a database after some work, and what comes of it.
-fn happens<S: Alter + Drop>(
+pub(crate) fn happens<S: Alter + Drop>(
     rt: &impl Abort,
     alloc: Global,
     connection: Connection<S>,
@@ -275,7 +310,7 @@ fn are_the_same(one: &Came, other: &Came) -> bool {
 }
 
 /// What is found when the files are opened anew.
-fn looked_at(rt: &impl Abort, alloc: Global, held: &Held) -> Came {
+pub(crate) fn looked_at(rt: &impl Abort, alloc: Global, held: &Held) -> Came {
     let found = opened_anew(rt, alloc, held, Work::IsRead);
     // An empty database has the lines of what isn't there, and files that are no database have none.
     assert!(rt; !found.bytes.is_empty());
@@ -283,7 +318,7 @@ fn looked_at(rt: &impl Abort, alloc: Global, held: &Held) -> Came {
 }
 
 /// What the files hold after work that meets no stop.
-fn after(rt: &impl Abort, alloc: Global, held: &Held, work: Work<'_>) -> Held {
+pub(crate) fn after(rt: &impl Abort, alloc: Global, held: &Held, work: Work<'_>) -> Held {
     let (files, came) = tried(rt, alloc, disks(rt, alloc, held, Stop::Never), work);
     assert_eq!(rt; came.done, work.events());
     all_written(rt, alloc, &files)
@@ -428,7 +463,7 @@ fn a_code_is_used_when_the_file_is_opened_anew(rt: HostRuntime) {
     let held = after(&rt, alloc, &Held::nothing(alloc), Work::Creates);
     let logged_in = Work::Scripts(VALIDATION).up_to(2);
     let held = after(&rt, alloc, &held, logged_in);
-    gives(&rt, alloc, &held, Work::PutsOut(AGAIN), REFUSED);
+    gives(&rt, alloc, &held, Work::PutsOut(one_event(AGAIN)), REFUSED);
 }
 
 #[test]

@@ -1,15 +1,81 @@
-//! One client of a port: its request comes, is served, and its reply goes out, without anybody waiting for it.
+//! One client of a port, or of the socket of orders: what it asks for comes, is served, and the answer goes out, without
+//! anybody waiting for it.
 use acvp_http::{HEAD_BYTES, needed_bytes};
-use mio::net::TcpStream;
+use mio::net::{TcpStream, UnixStream};
 use std::alloc::Global;
 use std::io::{self, Cursor, ErrorKind, Read, Write};
 use std::net::Shutdown;
+
+/// The most bytes of an order's line.
+const LINE_BYTES: usize = 128;
 
 /// The most bytes that are taken of a connection behind its reply.
 const MOST_DROPPED: usize = 4194304;
 
 /// How many bytes are read at once.
 const CHUNK: usize = 8192;
+
+/// The connection of a client.
+#[derive(Drop)]
+pub(crate) enum Wire {
+    /// Of the port: a request comes.
+    Request(TcpStream),
+
+    /// Of the socket of orders: a line comes.
+    Order(UnixStream),
+}
+
+impl Wire {
+    fn read(&self, buf: &mut [u8]) -> Movement {
+        match self {
+            Wire::Request(stream) => {
+                let mut reader = stream;
+                moved(reader.read(buf))
+            }
+            Wire::Order(stream) => {
+                let mut reader = stream;
+                moved(reader.read(buf))
+            }
+        }
+    }
+
+    fn write(&self, bytes: &[u8]) -> Movement {
+        match self {
+            Wire::Request(stream) => {
+                let mut writer = stream;
+                moved(writer.write(bytes))
+            }
+            Wire::Order(stream) => {
+                let mut writer = stream;
+                moved(writer.write(bytes))
+            }
+        }
+    }
+
+    /// Ends this side, and says whether that could be done.
+    fn end(&self) -> bool {
+        match self {
+            Wire::Request(stream) => stream.shutdown(Shutdown::Write).is_ok(),
+            Wire::Order(stream) => stream.shutdown(Shutdown::Write).is_ok(),
+        }
+    }
+
+    /// The most bytes that come before it is known how many are needed.
+    fn most_unknown(&self) -> usize {
+        match self {
+            Wire::Request(_) => HEAD_BYTES,
+            Wire::Order(_) => LINE_BYTES,
+        }
+    }
+
+    /// How many bytes are needed, where those that came tell it. The last of them hold a line feed.
+    fn needed(&self, bytes: &[u8]) -> Option<usize> {
+        match self {
+            Wire::Request(_) => needed_bytes(bytes),
+            Wire::Order(_) => Some(bytes.len()),
+        }
+    }
+}
 
 /// How far a client is.
 #[derive(Drop)]
@@ -40,7 +106,7 @@ pub(crate) enum Next {
 /// A connection, and how far it is.
 #[derive(Drop)]
 pub(crate) struct Client {
-    stream: TcpStream,
+    wire: Wire,
     stage: Stage,
 }
 
@@ -69,26 +135,25 @@ fn moved(answer: io::Result<usize>) -> Movement {
     }
 }
 
-/// Takes what comes of a request, until it is whole.
-fn take_more(stream: &TcpStream, bytes: &mut Vec<u8>, needed: &mut Option<usize>) -> Next {
-    let mut reader = stream;
+/// Takes what comes of a request or an order, until it is whole.
+fn take_more(wire: &Wire, bytes: &mut Vec<u8>, needed: &mut Option<usize>) -> Next {
     let mut chunk = [0; CHUNK];
     for _ in 0..u32::MAX {
-        let most = needed.unwrap_or(HEAD_BYTES);
+        let most = needed.unwrap_or(wire.most_unknown());
         let room = most.saturating_sub(bytes.len()).min(CHUNK);
         if room == 0 {
             return Next::IsWhole;
         }
-        match moved(reader.read(&mut chunk[..room])) {
+        match wire.read(&mut chunk[..room]) {
             Movement::Bytes(0) => return Next::IsWhole,
             Movement::Bytes(count) => {
                 let part = &chunk[..count.min(CHUNK)];
                 if bytes.extend_from_slice(part).is_err() {
                     return Next::IsGone;
                 }
-                // Only a line feed ends a head.
+                // Only a line feed ends a head, or a line.
                 if needed.is_none() && part.contains(&b'\n') {
-                    *needed = needed_bytes(bytes);
+                    *needed = wire.needed(bytes);
                 }
             }
             Movement::Again => {}
@@ -100,8 +165,7 @@ fn take_more(stream: &TcpStream, bytes: &mut Vec<u8>, needed: &mut Option<usize>
 }
 
 /// Lets more of a reply go. Says that it is whole where nothing of it is left.
-fn let_go(stream: &TcpStream, reply: &[u8], gone: &mut usize) -> Next {
-    let mut writer = stream;
+fn let_go(wire: &Wire, reply: &[u8], gone: &mut usize) -> Next {
     for _ in 0..u32::MAX {
         let Some(rest) = reply.get(*gone..) else {
             return Next::IsWhole;
@@ -109,7 +173,7 @@ fn let_go(stream: &TcpStream, reply: &[u8], gone: &mut usize) -> Next {
         if rest.is_empty() {
             return Next::IsWhole;
         }
-        match moved(writer.write(rest)) {
+        match wire.write(rest) {
             Movement::Bytes(0) | Movement::Failed => return Next::IsGone,
             Movement::Bytes(count) => *gone = gone.saturating_add(count),
             Movement::Again => {}
@@ -120,11 +184,10 @@ fn let_go(stream: &TcpStream, reply: &[u8], gone: &mut usize) -> Next {
 }
 
 /// Takes what still comes of a connection, and drops it.
-fn drop_more(stream: &TcpStream, dropped: &mut usize) -> Next {
-    let mut reader = stream;
+fn drop_more(wire: &Wire, dropped: &mut usize) -> Next {
     let mut chunk = [0; CHUNK];
     for _ in 0..u32::MAX {
-        match moved(reader.read(&mut chunk)) {
+        match wire.read(&mut chunk) {
             Movement::Bytes(0) | Movement::Failed => return Next::IsGone,
             Movement::Bytes(count) => *dropped = dropped.saturating_add(count),
             Movement::Again => {}
@@ -153,33 +216,27 @@ impl Read for Incoming {
     }
 }
 
-/// What came of a client at a stage, where it is whole.
-fn came(stage: Stage, whole: bool) -> Incoming {
+/// What came of a client at a stage.
+fn came(alloc: Global, stage: Stage) -> Vec<u8> {
     match stage {
-        Stage::Coming(bytes, _needed) => {
-            if whole {
-                Incoming::Bytes(Cursor::new(bytes))
-            } else {
-                Incoming::Broken
-            }
-        }
-        Stage::Going(_reply, _gone) => Incoming::Broken,
-        Stage::Ended(_dropped) => Incoming::Broken,
+        Stage::Coming(bytes, _needed) => bytes,
+        Stage::Going(_reply, _gone) => Vec::new(alloc),
+        Stage::Ended(_dropped) => Vec::new(alloc),
     }
 }
 
-/// Where a reply goes: to the client as far as it takes it at once, and the rest is kept.
+/// Where an answer goes: to the client as far as it takes it at once, and the rest is kept.
 #[derive(Drop)]
 pub(crate) struct Outgoing {
-    stream: TcpStream,
+    wire: Wire,
     rest: Vec<u8>,
 }
 
 impl Write for Outgoing {
     fn write(&mut self, buf: &[u8]) -> io::Result<usize> {
-        let Outgoing { stream, rest } = self;
+        let Outgoing { wire, rest } = self;
         if rest.is_empty() {
-            match moved(stream.write(buf)) {
+            match wire.write(buf) {
                 Movement::Bytes(count) => return Ok(count.min(buf.len())),
                 Movement::Failed => return Err(ErrorKind::BrokenPipe.into()),
                 Movement::None | Movement::Again => {}
@@ -196,59 +253,84 @@ impl Write for Outgoing {
     }
 }
 
+/// What a client asks for, and where the answer goes.
+pub(crate) enum Errand {
+    Request(Incoming, Outgoing),
+    Order(Vec<u8>, Outgoing),
+}
+
+/// The same, where all that it asks for came, or its connection is broken.
+fn errand_of(alloc: Global, wire: Wire, bytes: Vec<u8>, whole: bool) -> Errand {
+    let rest = Vec::new(alloc);
+    match wire {
+        Wire::Request(stream) => {
+            let input = if whole {
+                Incoming::Bytes(Cursor::new(bytes))
+            } else {
+                Incoming::Broken
+            };
+            let wire = Wire::Request(stream);
+            Errand::Request(input, Outgoing { wire, rest })
+        }
+        Wire::Order(stream) => {
+            let wire = Wire::Order(stream);
+            Errand::Order(bytes, Outgoing { wire, rest })
+        }
+    }
+}
+
 impl Client {
     /// A client of which nothing came yet.
-    pub(crate) fn new(alloc: Global, stream: TcpStream) -> Client {
+    pub(crate) fn new(alloc: Global, wire: Wire) -> Client {
         Client {
-            stream,
+            wire,
             stage: Stage::Coming(Vec::new(alloc), None),
         }
     }
 
-    /// A client whose reply was written, but for what is kept of it.
+    /// A client whose answer was written, but for what is kept of it.
     pub(crate) fn answered(output: Outgoing) -> Client {
-        let Outgoing { stream, rest } = output;
+        let Outgoing { wire, rest } = output;
         Client {
-            stream,
+            wire,
             stage: Stage::Going(rest, 0),
         }
     }
 
-    /// The two ends of a client whose request is whole, or broken.
-    pub(crate) fn ends(self, alloc: Global, whole: bool) -> (Incoming, Outgoing) {
-        let Client { stream, stage } = self;
-        let rest = Vec::new(alloc);
-        (came(stage, whole), Outgoing { stream, rest })
+    /// What a client asks for that is whole, or broken.
+    pub(crate) fn into_errand(self, alloc: Global, whole: bool) -> Errand {
+        let Client { wire, stage } = self;
+        errand_of(alloc, wire, came(alloc, stage), whole)
     }
 
-    /// Whether its reply is out.
+    /// Whether its answer is out.
     pub(crate) fn is_ended(&self) -> bool {
         matches!(self.stage, Stage::Ended(_))
     }
 
-    /// Whether its request still comes.
+    /// Whether what it asks for still comes.
     pub(crate) fn is_coming(&self) -> bool {
         matches!(self.stage, Stage::Coming(_, _))
     }
 
-    /// Moves what can be moved now, and says what is next. Once its reply is out, this side is ended first, and what
+    /// Moves what can be moved now, and says what is next. Once its answer is out, this side is ended first, and what
     /// still comes is taken: were the connection closed while bytes of it are unread, the system would reset it, and
     /// what the client hasn't read yet would be gone.
     pub(crate) fn advance(&mut self) -> Next {
-        let Client { stream, stage } = self;
+        let Client { wire, stage } = self;
         let next = match stage {
-            Stage::Coming(bytes, needed) => return take_more(stream, bytes, needed),
-            Stage::Going(reply, gone) => let_go(stream, reply, gone),
-            Stage::Ended(dropped) => return drop_more(stream, dropped),
+            Stage::Coming(bytes, needed) => return take_more(wire, bytes, needed),
+            Stage::Going(reply, gone) => let_go(wire, reply, gone),
+            Stage::Ended(dropped) => return drop_more(wire, dropped),
         };
         if next != Next::IsWhole {
             return next;
         }
-        if stream.shutdown(Shutdown::Write).is_err() {
+        if !wire.end() {
             return Next::IsGone;
         }
         let mut dropped = 0;
-        let next = drop_more(stream, &mut dropped);
+        let next = drop_more(wire, &mut dropped);
         self.stage = Stage::Ended(dropped);
         next
     }

@@ -2,7 +2,7 @@
 use clap::{Arg, ArgAction, Command};
 use std::alloc::{AllocError, Global};
 
-/// An option that a subcommand wants.
+/// An option that a subcommand has.
 struct Wanted {
     /// Its name.
     name: &'static str,
@@ -12,6 +12,9 @@ struct Wanted {
 
     /// What its value is.
     help: &'static str,
+
+    /// Whether it may be left out.
+    is_optional: bool,
 }
 
 /// A subcommand.
@@ -25,7 +28,7 @@ struct Subcommand {
     /// An example of it.
     example: &'static str,
 
-    /// The options that it wants.
+    /// The options that it has.
     options: &'static [Wanted],
 }
 
@@ -33,42 +36,56 @@ const DB_OPTION: Wanted = Wanted {
     name: "db",
     value: "FILE",
     help: "The file of the records, as laboratory.db",
+    is_optional: false,
 };
 
 const KEYS_OPTION: Wanted = Wanted {
     name: "keys",
     value: "FILE",
     help: "The file of the token keys and the generator's seeds, as keys.txt: lines of 64 hex digits",
+    is_optional: false,
 };
 
 const ACCOUNT_OPTION: Wanted = Wanted {
     name: "account",
     value: "N",
     help: "The account's number, 1 to 9999, as 7",
+    is_optional: false,
 };
 
 const REQUEST_OPTION: Wanted = Wanted {
     name: "request",
     value: "N",
     help: "The request's number, 1 to 9999999999, as 7000001",
+    is_optional: false,
 };
 
 const SECRET_OPTION: Wanted = Wanted {
     name: "secret",
     value: "FILE",
     help: "The file of the account's secret, as secret.txt: one line of 64 hex digits",
+    is_optional: false,
 };
 
 const PORT_OPTION: Wanted = Wanted {
     name: "port",
     value: "P",
     help: "The port of 127.0.0.1, 1 to 65535, as 8080",
+    is_optional: false,
 };
 
 const COUNT_OPTION: Wanted = Wanted {
     name: "count",
     value: "C",
-    help: "After how many connections it ends, 1 to 1000000, as 1000",
+    help: "After how many connections it ends, 1 to 1000000, as 1000; without it, it goes on",
+    is_optional: true,
+};
+
+const PATIENCE_OPTION: Wanted = Wanted {
+    name: "patience",
+    value: "SECONDS",
+    help: "How many seconds a client has for its request, and for taking the reply, 1 to 3600; 30 without it",
+    is_optional: true,
 };
 
 /// The program's subcommands.
@@ -111,9 +128,15 @@ static SUBCOMMANDS: [Subcommand; 8] = [
     },
     Subcommand {
         name: "serve",
-        about: "Serves connections of this machine over the records, one after another",
-        example: "Example: acvp_server serve --db laboratory.db --keys keys.txt --port 8080 --count 1000",
-        options: &[DB_OPTION, KEYS_OPTION, PORT_OPTION, COUNT_OPTION],
+        about: "Serves connections of this machine over the records, and carries orders out meanwhile",
+        example: "Example: acvp_server serve --db laboratory.db --keys keys.txt --port 8080",
+        options: &[
+            DB_OPTION,
+            KEYS_OPTION,
+            PORT_OPTION,
+            COUNT_OPTION,
+            PATIENCE_OPTION,
+        ],
     },
     Subcommand {
         name: "script",
@@ -129,7 +152,7 @@ fn option<'a>(alloc: Global, wanted: &Wanted) -> Arg<'a> {
         .long(wanted.name)
         .value_name(wanted.value)
         .help(wanted.help)
-        .required(true)
+        .required(!wanted.is_optional)
         .action(ArgAction::Set)
 }
 

@@ -1,13 +1,16 @@
 //! The records in a file, whose tables are made, or taken over where they are there, or moved to today's schema; or in
 //! memory. What is done over any store is apart from what opens and closes the file.
-ghost use Rattle.std.specs.Prelude.{◌≡◌};
+ghost use Rattle.std.specs.Prelude.{◌≡◌, IfSome};
+ghost use Rattle.sqlite.specs.Closing.{IsCopied};
+ghost use Rattle.sqlite_wal.specs.Reads.{AreClean};
 ghost use Rattle.acvp_commands.specs.Work.{IsWork};
 ghost use Rattle.acvp_server.specs.Faults.{fault_of_open};
 
 use crate::host::Machine;
-use acvp_commands::{Fault, Message, Work, done_over, make_tables};
+use crate::socket::relayed;
+use acvp_commands::{Fault, Message, Task, Work, done_over, make_tables};
 use acvp_store::SqlTables;
-use sqlite::{Connection, Error, ErrorCode, FileFrom, FileStore, MemStore, Start};
+use sqlite::{Connection, Error, ErrorCode, FileFrom, FileStore, Files, MemStore, Start};
 use sqlite_disk::Disk;
 use std::alloc::Global;
 use std::fs;
@@ -25,15 +28,33 @@ fn fault_of_database(error: Error) -> Fault
     }
 }
 
+/// Why there is no connection to a database.
+#[derive(Clone, Copy)]
+pub(crate) enum Unopened {
+    /// Another process has it.
+    Taken,
+
+    /// It can't be opened.
+    Failed(Fault),
+}
+
+/// Why a database can't be opened.
+fn unopened(error: Error) -> Unopened {
+    if matches!(error, Error::SqliteFailure(ErrorCode::DatabaseBusy)) {
+        return Unopened::Taken;
+    }
+    Unopened::Failed(fault_of_database(error))
+}
+
 /// A connection to the database in a file, which is made where there is none.
 pub(crate) fn connect<S: Start>(
     rt: &HostRuntime,
     path: &str,
     start: S,
-) -> Result<FileConnection<S>, Fault> {
+) -> Result<FileConnection<S>, Unopened> {
     match Connection::open_from(rt, path, false, start) {
         Ok(connection) => Ok(connection),
-        Err((error, _)) => Err(fault_of_database(error)),
+        Err((error, _)) => Err(unopened(error)),
     }
 }
 
@@ -42,25 +63,76 @@ pub(crate) fn connect_existing<S: Start>(
     rt: &HostRuntime,
     path: &str,
     start: S,
-) -> Result<FileConnection<S>, Fault> {
+) -> Result<FileConnection<S>, Unopened> {
     match fs::exists(rt, path) {
         Ok(true) => connect(rt, path, start),
-        Ok(false) => Err(Fault::Unavailable),
-        Err(error) => Err(Fault::Unavailable.of_system(&error)),
+        Ok(false) => Err(Unopened::Failed(Fault::Unavailable)),
+        Err(error) => Err(Unopened::Failed(Fault::Unavailable.of_system(&error))),
     }
 }
 
-/// Copies what the log beside the file holds into the file, and closes both. What was committed is kept also where this
-/// fails: the log then stays, and the next command reads it.
-pub(crate) fn close<D: Disk + Drop>(connection: Connection<FileStore<D>>) {
-    match connection.close() {
-        Ok(()) | Err(_) => {}
+/// Copies what the log beside the file holds into the file, and hands both back: what was committed is in the file
+/// then, as it reads and as a crash leaves it. Nothing where that fails: what was committed is kept also then, the log
+/// stays, and the next command reads it.
+fn copied<D: Disk + Drop>(connection: Connection<FileStore<D>>) -> Option<Files<D>>
+    ensures { IfSome result (λ files. AreClean D.Disk files.log files.db → IsCopied connection files) }
+{
+    match connection.close_files() {
+        Ok(files) => Some(files),
+        Err((_, store)) => {
+            drop(store.close());
+            None
+        }
     }
+}
+
+/// Closes the file and the log beside it, once the one is copied into the other.
+pub(crate) fn close<D: Disk + Drop>(connection: Connection<FileStore<D>>) {
+    drop(copied(connection));
 }
 
 /// Makes the tables of records that are kept in memory alone.
 pub(crate) fn tables_in_memory(alloc: Global) -> Result<SqlTables<MemStore>, Fault> {
     make_tables(alloc, Connection::open_in_memory(alloc)?)
+}
+
+/// What a command says at its end.
+#[derive(Drop)]
+pub(crate) enum Said {
+    /// A line of its own.
+    Line(Message),
+
+    /// The line of the server that has the database, and carried the order out.
+    Relayed(String),
+}
+
+/// Does this over a connection to the database in a file. Where it is done, or was served, the connection is closed; a
+/// command that is refused leaves the file and its log as they are.
+fn done_and_closed<S: Start>(
+    rt: &HostRuntime,
+    path: &str,
+    connection: FileConnection<S>,
+    work: Work,
+) -> Result<Said, Fault>
+    requires { IsWork work }
+{
+    let machine = Machine { rt, database: path };
+    let serves = matches!(work, Work::Take(Task::Serve { .. }));
+    let (connection, outcome) = done_over(&machine, connection, work);
+    if outcome.is_ok() || serves {
+        close(connection);
+    }
+    Ok(Said::Line(outcome?))
+}
+
+/// Has an order carried out by the server that has the database. Other work needs the database itself.
+fn done_by_server(rt: &HostRuntime, path: &str, work: &Work) -> Result<Said, Fault>
+    requires { IsWork work.now }
+{
+    match work {
+        Work::Take(Task::Order(order)) => Ok(Said::Relayed(relayed(rt, path, order)?)),
+        _ => Err(Fault::Unavailable),
+    }
 }
 
 /// Does this with the database in a file, and gives the line that says so. Only tables that are made may be in a file
@@ -70,14 +142,16 @@ pub(crate) fn done_in<S: Start>(
     path: &str,
     start: S,
     work: Work,
-) -> Result<Message, Fault>
+) -> Result<Said, Fault>
     requires { IsWork work }
 {
     let opened = match work {
         Work::Make => connect(rt, path, start),
         Work::Move | Work::Take(_) => connect_existing(rt, path, start),
     };
-    let (connection, outcome) = done_over(&Machine(rt), opened?, work)?;
-    close(connection);
-    outcome
+    match opened {
+        Ok(connection) => done_and_closed(rt, path, connection, work),
+        Err(Unopened::Taken) => done_by_server(rt, path, &work),
+        Err(Unopened::Failed(fault)) => Err(fault),
+    }
 }

@@ -1,32 +1,46 @@
 //! The machine: its ports, and what it prints.
 use crate::port::{Port, port_on};
 use crate::printing::print_line;
-use acvp_commands::{Fault, Host, Message};
-use std::alloc::Global;
+use acvp_commands::{Fault, Host, Message, Service};
+use std::alloc::{AllocGlobal, Global};
+use std::fs::Files;
+use std::net::Net;
+use std::time::Clock;
 
-/// The machine that the program runs on.
+/// The machine that the program runs on, and the path of the database that is open.
 #[derive(Drop)]
-pub(crate) struct Machine<'a>(pub &'a HostRuntime);
+pub(crate) struct Machine<'a, R> {
+    pub rt: &'a R,
+    pub database: &'a str,
+}
 
-impl<'a> Host for Machine<'a> {
-    type Port = Port<'a, HostRuntime>;
+impl<'a, R: AllocGlobal + Clock + Files + Net + Print> Host for Machine<'a, R> {
+    ghost use Rattle.std.specs.Prelude.{⊤};
+
+    type Port = Port<'a, R>;
+
+    // No contract can say what the machine does.
+    ghost hosting = { record {
+      opens = λ _ _ _. ⊤;
+      refuses = λ _ _ _. ⊤;
+      finishes = λ _ _ _. ⊤;
+      prints = λ _ _. ⊤;
+      fails = λ _ _ _. ⊤;
+    } };
 
     fn alloc(&self) -> Global {
-        let Machine(rt) = self;
-        rt.alloc()
+        self.rt.alloc()
     }
 
-    fn listen(&self, port: u16) -> Result<Port<'a, HostRuntime>, Fault> {
-        let Machine(rt) = self;
-        port_on(*rt, rt.alloc(), port)
+    fn listen(&self, service: Service) -> Result<Port<'a, R>, Fault> {
+        port_on(self.rt, self.rt.alloc(), self.database, service)
     }
 
-    fn finish(&self, port: &mut Port<'a, HostRuntime>) {
+    fn finish(&self, port: &mut Port<'a, R>) {
         port.finish();
     }
 
     fn print(&self, message: Message) -> Result<(), Fault> {
-        let Machine(rt) = self;
-        print_line(*rt, message)
+        print_line(self.rt, message)
     }
 }

@@ -10,29 +10,58 @@ mod host;
 mod port;
 mod printing;
 mod script;
+mod socket;
 
 use crate::command::command;
-use crate::database::done_in;
+use crate::database::{Said, done_in};
 use crate::printing::print_line;
 use crate::script::script;
-use acvp_commands::{Fault, Invocation, SystemFiles, asked_by, work_of};
+use acvp_commands::{Fault, Invocation, SystemFiles, asked_by, exit_status, work_of};
 use clap::Error;
 use clap::error::ErrorKind;
 use sqlite::Wary;
 use std::io;
 use std::process::ExitCode;
 
-/// Carries out what the command line asks for, and prints the line that says so, where there is one.
-fn run(rt: &HostRuntime, asked: Invocation<'_>) -> Result<(), Fault>
+/// Prints the line of a server, and says whether it is that of an order that is done. A fault is told on standard error.
+fn relay(rt: &HostRuntime, line: &str) -> Result<bool, Fault> {
+    if line.starts_with("fault: ") {
+        return match eprintln!(rt; "{line}") {
+            Ok(()) | Err(_) => Ok(false),
+        };
+    }
+    match println!(rt; "{line}") {
+        Ok(()) => Ok(true),
+        Err(_) => Err(Fault::Write),
+    }
+}
+
+/// Prints what a command says at its end, and says whether it has done what it was asked for.
+fn say(rt: &HostRuntime, said: Said) -> Result<bool, Fault> {
+    match said {
+        Said::Line(message) => {
+            print_line(rt, message)?;
+            Ok(true)
+        }
+        Said::Relayed(line) => relay(rt, line.as_str()),
+    }
+}
+
+/// Carries out what the command line asks for, prints the line that says so, where there is one, and says whether it is
+/// done.
+fn run(rt: &HostRuntime, asked: Invocation<'_>) -> Result<bool, Fault>
     requires { NamesAccount asked }
 {
     match asked {
         Invocation::On(db, deed) => {
             let work = work_of(&SystemFiles(rt), deed)?;
-            let line = done_in(rt, db, Wary, work)?;
-            print_line(rt, line)
+            let said = done_in(rt, db, Wary, work)?;
+            say(rt, said)
         }
-        Invocation::Script(keys) => script(rt, keys),
+        Invocation::Script(keys) => {
+            script(rt, keys)?;
+            Ok(true)
+        }
     }
 }
 
@@ -70,6 +99,15 @@ fn failed(rt: &impl Eprint, fault: Fault) -> ExitCode {
     }
 }
 
+/// The exit status of a command that has ended so. A fault of its own is told.
+fn ended(rt: &HostRuntime, outcome: Result<bool, Fault>) -> ExitCode {
+    let status = exit_status(&outcome);
+    if let Err(fault) = outcome {
+        let _ = failed(rt, fault);
+    }
+    ExitCode::from(status)
+}
+
 /// Carries out a command line whose words are these.
 fn execute_words(rt: &HostRuntime, words: &[String]) -> ExitCode {
     let Ok(command) = command(rt.alloc()) else {
@@ -83,10 +121,7 @@ fn execute_words(rt: &HostRuntime, words: &[String]) -> ExitCode {
         Err(error) => return refused(rt, &error),
     };
     match asked_by(&matches) {
-        Ok(Some(asked)) => match run(rt, asked) {
-            Ok(()) => ExitCode::SUCCESS,
-            Err(fault) => failed(rt, fault),
-        },
+        Ok(Some(asked)) => ended(rt, run(rt, asked)),
         Ok(None) => ExitCode::from(2),
         Err(bad) => refused_for(rt, bad.message()),
     }

@@ -1,25 +1,30 @@
-//! A port of this machine, with many connections at once.
-use crate::client::{Client, Incoming, Next, Outgoing};
-use acvp_commands::{Fault, Listener, Taken, moment_of};
+//! A port of this machine and the socket of orders, with many clients at once.
+use crate::client::{Client, Errand, Incoming, Next, Outgoing, Wire};
+use crate::socket::{FileNumber, close_socket, open_socket};
+use acvp_commands::{Arrival, Fault, Listener, Message, Service, Taken, moment_of};
 use acvp_http::Flagged;
-use mio::net::TcpListener;
+use mio::event::Source;
+use mio::net::{TcpListener, TcpStream, UnixListener};
 use mio::{Events, Interest, Poll, Token};
-use std::alloc::Global;
+use std::alloc::{AllocError, Global};
 use std::collections::VecDeque;
-use std::io::{self, ErrorKind};
+use std::fs::Files;
+use std::io::{self, ErrorKind, Write};
 use std::net::{Ipv4Addr, Net, SocketAddr};
 use std::time::{Clock, Duration, Instant};
 
-/// The most connections at once.
-const MOST_CLIENTS: usize = 256;
+/// The most connections to the port at once. The places behind theirs are of those who give orders.
+const MOST_CONNECTIONS: usize = 256;
 
-/// The token of the listener; the others are places of clients.
-const LISTENER: usize = MOST_CLIENTS;
+/// The most clients at once.
+const MOST_CLIENTS: usize = MOST_CONNECTIONS + 16;
 
-/// How many seconds a request may take to come, and a reply to go.
-const PATIENCE: u64 = 30;
+/// The tokens of the port and of the socket of orders; the others are places of clients.
+const PORT: usize = MOST_CLIENTS;
 
-/// How many seconds a client whose reply is out may keep its side open.
+const ORDERS: usize = MOST_CLIENTS + 1;
+
+/// How many seconds a client whose answer is out may keep its side open.
 const LINGER: u64 = 2;
 
 /// A client, and since when it is at its stage.
@@ -37,15 +42,33 @@ struct Clients {
     ready: VecDeque<(usize, bool)>,
 }
 
-/// A port of this machine, and the clock that says when a request is whole.
+/// What listens, and what waits for it and for the clients.
 #[derive(Drop)]
-pub(crate) struct Port<'a, C: Clock> {
-    alloc: Global,
-    clock: &'a C,
+struct Doors {
     poll: Poll,
     events: Events<Global>,
-    listener: TcpListener,
+
+    /// None once serving ends.
+    port: Option<TcpListener>,
+    orders: UnixListener,
+}
+
+/// A port of this machine, the socket of orders, and the clock that says when a request is whole.
+#[derive(Drop)]
+pub(crate) struct Port<'a, R> {
+    alloc: Global,
+    rt: &'a R,
+    doors: Doors,
     clients: Clients,
+
+    /// The path of the database, beside which the socket is.
+    database: &'a str,
+
+    /// Which file the socket is.
+    socket: FileNumber,
+
+    /// How many seconds a client has for what it asks for, and for taking the answer.
+    patience: u64,
 
     /// The place of the client that is being served.
     serving: usize,
@@ -103,9 +126,26 @@ impl Clients {
         Ok(Clients { visits, ready })
     }
 
-    /// A place without a client.
-    fn free_place(&self) -> Option<usize> {
-        self.visits.iter().position(|visit| visit.is_none())
+    /// Whether there is no client at a place.
+    fn is_free(&self, place: usize) -> bool {
+        matches!(self.visits.get(place), Some(None))
+    }
+
+    /// A place for a new connection to the port, where one is free.
+    fn place_for_request(&self) -> Option<usize> {
+        (0..MOST_CONNECTIONS).find(|place| self.is_free(*place))
+    }
+
+    /// A place for somebody who gives an order, where one is free.
+    fn place_for_order(&self) -> Option<usize> {
+        (MOST_CONNECTIONS..MOST_CLIENTS).find(|place| self.is_free(*place))
+    }
+
+    /// Puts a client at a place.
+    fn put(&mut self, place: usize, client: Client, since: Option<Instant>) {
+        if let Some(free) = self.visits.get_mut(place) {
+            *free = Some(Visit { client, since });
+        }
     }
 
     /// Whether the client of a place waits to be served.
@@ -144,17 +184,17 @@ impl Clients {
     }
 
     /// Gives up the clients that take too long.
-    fn give_up<C: Clock>(&mut self, clock: &C) {
+    fn give_up<C: Clock>(&mut self, patience: u64, clock: &C) {
         for place in 0..MOST_CLIENTS {
             let Some(Some(visit)) = self.visits.get(place) else {
                 continue;
             };
-            let patience = if visit.client.is_ended() {
+            let most = if visit.client.is_ended() {
                 LINGER
             } else {
-                PATIENCE
+                patience
             };
-            if is_over(visit.since, patience, clock) && !self.is_ready(place) {
+            if is_over(visit.since, most, clock) && !self.is_ready(place) {
                 let coming = visit.client.is_coming();
                 self.sort(place, coming, Next::IsGone);
             }
@@ -167,42 +207,75 @@ impl Clients {
     }
 }
 
-/// The port of a number.
-pub(crate) fn port_on<R: Clock + Net>(
+/// Has one that listens be waited for.
+fn watch(poll: &Poll, source: &mut impl Source, token: usize) -> io::Result<()> {
+    poll.registry()
+        .register(source, Token(token), Interest::READABLE)
+}
+
+/// What listens at a port of this machine, and at the socket of orders.
+fn doors_at<R: Files + Net>(
     rt: &R,
     alloc: Global,
     number: u16,
-) -> Result<Port<'_, R>, Fault> {
+    mut orders: UnixListener,
+) -> io::Result<Result<Doors, Fault>> {
     let address = SocketAddr::from((Ipv4Addr::LOCALHOST, number));
-    match bound(rt, alloc, address) {
-        Ok(Ok((listener, poll, events))) => Ok(Port {
-            alloc,
-            clock: rt,
+    let mut port = TcpListener::bind(rt, address)?;
+    let poll = Poll::new(rt)?;
+    watch(&poll, &mut port, PORT)?;
+    watch(&poll, &mut orders, ORDERS)?;
+    match Events::with_capacity(alloc, MOST_CLIENTS + 2) {
+        Ok(events) => Ok(Ok(Doors {
             poll,
             events,
-            listener,
-            clients: Clients::new(alloc)?,
-            serving: MOST_CLIENTS,
-            swept: None,
-        }),
-        Ok(Err(fault)) => Err(fault),
-        Err(error) => Err(Fault::Bind.of_system(&error)),
+            port: Some(port),
+            orders,
+        })),
+        Err(_) => Ok(Err(Fault::Memory)),
     }
 }
 
-/// A listener that is waited for, and what is waited with.
-fn bound(
-    net: &impl Net,
+/// The port of a number, and the socket beside a database.
+pub(crate) fn port_on<'a, R: Clock + Files + Net>(
+    rt: &'a R,
     alloc: Global,
-    address: SocketAddr,
-) -> io::Result<Result<(TcpListener, Poll, Events<Global>), Fault>> {
-    let mut listener = TcpListener::bind(net, address)?;
-    let poll = Poll::new(net)?;
-    poll.registry()
-        .register(&mut listener, Token(LISTENER), Interest::READABLE)?;
-    match Events::with_capacity(alloc, MOST_CLIENTS + 1) {
-        Ok(events) => Ok(Ok((listener, poll, events))),
-        Err(_) => Ok(Err(Fault::Memory)),
+    database: &'a str,
+    service: Service,
+) -> Result<Port<'a, R>, Fault> {
+    let clients = Clients::new(alloc)?;
+    let (orders, socket) = open_socket(rt, alloc, database)?;
+    match doors_at(rt, alloc, service.port, orders) {
+        Ok(Ok(doors)) => Ok(Port {
+            alloc,
+            rt,
+            doors,
+            clients,
+            database,
+            socket,
+            patience: service.patience,
+            serving: MOST_CLIENTS,
+            swept: None,
+        }),
+        Ok(Err(fault)) => {
+            close_socket(rt, alloc, database, socket);
+            Err(fault)
+        }
+        Err(error) => {
+            close_socket(rt, alloc, database, socket);
+            Err(Fault::Bind.of_system(&error))
+        }
+    }
+}
+
+/// The next connection that waits at the port, while it is open.
+fn taken_at(port: &Option<TcpListener>) -> io::Result<TcpStream> {
+    match port {
+        Some(port) => {
+            let (stream, _) = port.accept()?;
+            Ok(stream)
+        }
+        None => Err(ErrorKind::WouldBlock.into()),
     }
 }
 
@@ -214,60 +287,77 @@ fn is_passing(error: &io::Error) -> bool {
     )
 }
 
-impl<'a, C: Clock> Port<'a, C> {
-    /// Takes the connections that wait. One that has no place is closed.
-    fn take_all(&mut self) -> Result<(), Fault> {
+impl<'a, R: Clock + Files> Port<'a, R> {
+    /// Lets a client in at a place.
+    fn let_in(&mut self, place: usize, wire: Wire) {
+        let client = Client::new(self.alloc, wire);
+        self.clients.put(place, client, time_of(self.rt));
+        self.clients.advance(place, self.rt);
+    }
+
+    /// Takes the connections that wait at the port. One that has no place is closed.
+    fn take_requests(&mut self) -> Result<(), Fault> {
         for _ in 0..u32::MAX {
-            let mut stream = match self.listener.accept() {
-                Ok((stream, _)) => stream,
+            let mut stream = match taken_at(&self.doors.port) {
+                Ok(stream) => stream,
                 Err(error) if error.kind() == ErrorKind::WouldBlock => return Ok(()),
                 Err(error) if is_passing(&error) => continue,
                 Err(_) => return Err(Fault::Accept),
             };
-            let Some(place) = self.clients.free_place() else {
+            let Some(place) = self.clients.place_for_request() else {
                 continue;
             };
-            let watched = self.poll.registry().register(
-                &mut stream,
-                Token(place),
-                Interest::READABLE | Interest::WRITABLE,
-            );
-            if watched.is_ok()
-                && let Some(free) = self.clients.visits.get_mut(place)
-            {
-                *free = Some(Visit {
-                    client: Client::new(self.alloc, stream),
-                    since: time_of(self.clock),
-                });
+            let both = Interest::READABLE | Interest::WRITABLE;
+            let registry = self.doors.poll.registry();
+            if registry.register(&mut stream, Token(place), both).is_ok() {
+                self.let_in(place, Wire::Request(stream));
             }
         }
         Ok(())
     }
 
-    /// Waits until something can be moved, or a second is over, and moves it. Nothing is waited for while a request is
-    /// ready to be served.
-    fn wait(&mut self) -> Result<(), Fault> {
-        let most = u64::from(self.clients.ready.is_empty());
-        if self
-            .poll
-            .poll(&mut self.events, Some(Duration::from_secs(most)))
-            .is_err()
-        {
-            return Err(Fault::Accept);
-        }
-        for event in &self.events {
-            let Token(place) = event.token();
-            // The listener's is the place of no client.
-            self.clients.advance(place, self.clock);
-        }
-        if is_over(self.swept, 1, self.clock) {
-            self.clients.give_up(self.clock);
-            self.swept = time_of(self.clock);
+    /// Takes those that wait at the socket of orders. One that has no place is closed.
+    fn take_orders(&mut self) -> Result<(), Fault> {
+        for _ in 0..u32::MAX {
+            let mut stream = match self.doors.orders.accept() {
+                Ok((stream, _)) => stream,
+                Err(error) if error.kind() == ErrorKind::WouldBlock => return Ok(()),
+                Err(error) if is_passing(&error) => continue,
+                Err(_) => return Err(Fault::Accept),
+            };
+            let Some(place) = self.clients.place_for_order() else {
+                continue;
+            };
+            let both = Interest::READABLE | Interest::WRITABLE;
+            let registry = self.doors.poll.registry();
+            if registry.register(&mut stream, Token(place), both).is_ok() {
+                self.let_in(place, Wire::Order(stream));
+            }
         }
         Ok(())
     }
 
-    /// The client whose request became whole, or broken, before all others.
+    /// Waits until something can be moved, or a second is over, and moves it. Nothing is waited for while somebody is
+    /// ready to be served.
+    fn wait(&mut self) -> Result<(), Fault> {
+        let most = u64::from(self.clients.ready.is_empty());
+        let Doors { poll, events, .. } = &mut self.doors;
+        if poll.poll(events, Some(Duration::from_secs(most))).is_err() {
+            return Err(Fault::Accept);
+        }
+        for event in &self.doors.events {
+            let Token(place) = event.token();
+            // Those of what listens are places of no client.
+            self.clients.advance(place, self.rt);
+        }
+        if is_over(self.swept, 1, self.rt) {
+            self.clients.give_up(self.patience, self.rt);
+            self.swept = time_of(self.rt);
+        }
+        Ok(())
+    }
+
+    /// The client whose request or order became whole, or broken, before all others.
     fn next_client(&mut self) -> Option<(Client, bool)> {
         let (place, whole) = self.clients.ready.pop_front()?;
         let visit = self.clients.visits.get_mut(place)?.take()?;
@@ -275,8 +365,18 @@ impl<'a, C: Clock> Port<'a, C> {
         Some((visit.client, whole))
     }
 
-    /// Lets the replies that are under way go out, as long as their clients take them.
+    /// Has an answer go out to the client that was served, as far as it isn't out yet.
+    fn let_out(&mut self, output: Outgoing) {
+        let place = self.serving;
+        self.clients
+            .put(place, Client::answered(output), time_of(self.rt));
+        self.clients.advance(place, self.rt);
+    }
+
+    /// Lets the answers that are under way go out, as long as their clients take them. Nothing is taken any more.
     pub(crate) fn finish(&mut self) {
+        close_socket(self.rt, self.alloc, self.database, self.socket);
+        self.doors.port = None;
         self.clients.ready.clear();
         for place in 0..MOST_CLIENTS {
             if let Some(Some(visit)) = self.clients.visits.get(place)
@@ -293,28 +393,48 @@ impl<'a, C: Clock> Port<'a, C> {
     }
 }
 
-impl<'a, C: Clock> Listener for Port<'a, C> {
+/// The text of what came of an order, with its line feed: what its command prints.
+fn outcome_text(alloc: Global, outcome: Result<Message, Fault>) -> Result<String, AllocError> {
+    match outcome {
+        Ok(message) => {
+            let text = message.text(alloc)?;
+            format!(in alloc; "{text}\n")
+        }
+        Err(fault) => format!(in alloc; "fault: {fault}\n"),
+    }
+}
+
+impl<'a, R: Clock + Files> Listener for Port<'a, R> {
     ghost use Rattle.std.specs.Prelude.{⊤};
 
     type Input = Flagged<Incoming>;
 
     type Output = Flagged<Outgoing>;
 
-    // No contract can say what a socket gives or takes.
-    ghost listening = { record { takes = λ _ _ _. ⊤; stops = λ _ _. ⊤; ends = λ _ _ _ _ _. ⊤ } };
+    type Asker = Outgoing;
 
-    fn accept(&mut self) -> Result<Taken<Flagged<Incoming>, Flagged<Outgoing>>, Fault> {
+    // No contract can say what a socket gives or takes.
+    ghost listening = { record { takes = λ _ _ _. ⊤; stops = λ _ _. ⊤; ends = λ _ _ _ _ _. ⊤; tells = λ _ _ _ _. ⊤ } };
+
+    fn accept(&mut self) -> Result<Arrival<Flagged<Incoming>, Flagged<Outgoing>, Outgoing>, Fault> {
         for _ in 0..u64::MAX {
-            if self.take_all().is_err() || self.wait().is_err() {
+            if self.take_requests().is_err()
+                || self.take_orders().is_err()
+                || self.wait().is_err()
+            {
                 return Err(Fault::Accept);
             }
             if let Some((client, whole)) = self.next_client() {
-                let (input, output) = client.ends(self.alloc, whole);
-                return Ok(Taken {
-                    input: Flagged::new(input),
-                    output: Flagged::new(output),
-                    moment: moment_of(self.clock),
-                });
+                match client.into_errand(self.alloc, whole) {
+                    Errand::Request(input, output) => {
+                        return Ok(Arrival::Connection(Taken {
+                            input: Flagged::new(input),
+                            output: Flagged::new(output),
+                            moment: moment_of(self.rt),
+                        }));
+                    }
+                    Errand::Order(line, output) => return Ok(Arrival::Order(line, output)),
+                }
             }
         }
         Err(Fault::Accept)
@@ -322,17 +442,17 @@ impl<'a, C: Clock> Listener for Port<'a, C> {
 
     fn end(&mut self, input: Flagged<Incoming>, output: Flagged<Outgoing>, sent: bool) {
         let _ = input;
-        if !sent {
-            return;
+        if sent {
+            self.let_out(output.into_inner());
         }
-        let place = self.serving;
-        let client = Client::answered(output.into_inner());
-        if let Some(free) = self.clients.visits.get_mut(place) {
-            *free = Some(Visit {
-                client,
-                since: time_of(self.clock),
-            });
+    }
+
+    fn tell(&mut self, asker: Outgoing, outcome: Result<Message, Fault>) {
+        let mut output = asker;
+        if let Ok(text) = outcome_text(self.alloc, outcome)
+            && output.write_all(text.as_bytes()).is_ok()
+        {
+            self.let_out(output);
         }
-        self.clients.advance(place, self.clock);
     }
 }

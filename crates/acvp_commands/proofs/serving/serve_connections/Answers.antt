@@ -1,30 +1,88 @@
-use Rattle.std.proofs.Common.{◌∙◌, rules}
-use Rattle.acvp_commands.proofs.ConnectionLemmas.{all_connected, one_more_connection}
+use Rattle.std.proofs.Common.{rules, arith, ap, ◌∙◌}
+use Rattle.acvp_desk.specs.Desk.{DeskValue}
+use Rattle.acvp_commands.proofs.VisitLemmas.{served_few, served_more, served_open, until_count, until_limit, until_stopped}
+use Rattle.acvp_commands.proofs.serving.serve_connections.Goals.{then-branch, else-branch}
 use Rattle.acvp_commands.proofs.serving.serve_connections.Goals as goal
 
-pub loop-served-preserved : goal.loop-served-preserved
-loop-served-preserved g c = record {
-  keys = c.serve_next.ensures.keys ∙ c.loop-served.invariant.keys;
-  was_open = λ live. c.loop-served.invariant.was_open (c.serve_next.ensures.was_open live);
-  was_clean = λ clean. c.loop-served.invariant.was_clean (c.serve_next.ensures.was_clean clean);
-  taken = one_more_connection g.T.Tables.meaning g.L.Listener.listening g.L.Input.Source.stream
-      g.L.Output.Sink.stream c.args.desk.now.keys c.loop-served.desk.keys c.loop-served._served _
-      c.args.desk.now.tables _ c.loop-served.desk.tables _ c.serve_next.new.desk.tables
-      c.loop-served.invariant.taken c.loop-served.invariant.keys c.serve_next.ensures.was_clean
-      c.in_ok-serve_next.ensures.next;
-}
+pub returns-then-are_all-clause-was_open : goal.returns-then-are_all-clause-was_open
+returns-then-are_all-clause-was_open g c =
+    (served_open g.T.Tables.meaning g.L.Listener.listening g.L.Input.Source.stream g.L.Output.Sink.stream c.args.desk.now.keys
+    c.loop-arrived._arrived c.loop-arrived.served c.args.listener.now c.args.desk.now.tables c.loop-arrived.listener c.loop-arrived.desk.tables
+    c.loop-arrived.invariant.served).0
+
+pub returns-then-are_all-clause-was_clean : goal.returns-then-are_all-clause-was_clean
+returns-then-are_all-clause-was_clean g c =
+    (served_open g.T.Tables.meaning g.L.Listener.listening g.L.Input.Source.stream g.L.Output.Sink.stream c.args.desk.now.keys
+    c.loop-arrived._arrived c.loop-arrived.served c.args.listener.now c.args.desk.now.tables c.loop-arrived.listener c.loop-arrived.desk.tables
+    c.loop-arrived.invariant.served).1
+
+pub returns-in_err-serve_next-clause-was_open : goal.returns-in_err-serve_next-clause-was_open
+returns-in_err-serve_next-clause-was_open g c =
+    let same = ap (λ (desk : DeskValue g.row.T.Denot). desk.tables) c.in_err-serve_next.ensures.next.2 in
+    λ live. (served_open g.T.Tables.meaning g.L.Listener.listening g.L.Input.Source.stream g.L.Output.Sink.stream c.args.desk.now.keys
+    c.loop-arrived._arrived c.loop-arrived.served c.args.listener.now c.args.desk.now.tables c.loop-arrived.listener c.loop-arrived.desk.tables
+    c.loop-arrived.invariant.served).0 (rw same at live)
+
+pub returns-in_err-serve_next-clause-was_clean : goal.returns-in_err-serve_next-clause-was_clean
+returns-in_err-serve_next-clause-was_clean g c =
+    let same = ap (λ (desk : DeskValue g.row.T.Denot). desk.tables) c.in_err-serve_next.ensures.next.2 in
+    λ clean. (served_open g.T.Tables.meaning g.L.Listener.listening g.L.Input.Source.stream g.L.Output.Sink.stream c.args.desk.now.keys
+    c.loop-arrived._arrived c.loop-arrived.served c.args.listener.now c.args.desk.now.tables c.loop-arrived.listener c.loop-arrived.desk.tables
+    c.loop-arrived.invariant.served).1 (rw same at clean)
 
 pub returns-in_err-serve_next-clause-served : goal.returns-in_err-serve_next-clause-served
 returns-in_err-serve_next-clause-served g c =
-    let connected = all_connected g.T.Tables.meaning g.L.Listener.listening g.L.Input.Source.stream
-    g.L.Output.Sink.stream c.args.desk.now.keys c.loop-served._served c.args.listener.now c.args.desk.now.tables
-    c.loop-served.listener c.loop-served.desk.tables c.loop-served.invariant.taken in
     let (accepts, stops, same) = c.in_err-serve_next.ensures.next in
+    let stopped = until_stopped g.T.Tables.meaning g.L.Listener.listening g.L.Input.Source.stream g.L.Output.Sink.stream c.turns_are_promised.ensures
+    c.turns_leave.ensures c.args.desk.now.keys (omega (arith, c.newest_epoch.ensures)) c.args.count
+    c.loop-arrived._arrived c.loop-arrived.served c.args.listener.now c.args.desk.now.tables c.loop-arrived.listener c.serve_next.new.listener
+    c.loop-arrived.desk.tables c.serve_next.new.desk.tables c.in_err-serve_next.field-0.0
+    c.loop-arrived.invariant.served (ap (λ (desk : DeskValue g.row.T.Denot). desk.tables) same) accepts stops in
     search rules
+
+pub overflow_add-served : goal.overflow_add-served
+overflow_add-served g c =
+    let few = served_few g.T.Tables.meaning g.L.Listener.listening g.L.Input.Source.stream g.L.Output.Sink.stream c.args.desk.now.keys
+    c.loop-arrived._arrived c.loop-arrived.served c.args.listener.now c.args.desk.now.tables c.loop-arrived.listener c.loop-arrived.desk.tables
+    c.loop-arrived.invariant.served in
+    omega (arith, few, c.loop-arrived-test.true)
+
+pub loop-arrived-preserved : goal.loop-arrived-preserved
+loop-arrived-preserved g c =
+    let (visit, is_connection, serves) = c.in_ok-serve_next.ensures.next in record {
+      keys = c.serve_next.ensures.keys ∙ c.loop-arrived.invariant.keys;
+      served = served_more g.T.Tables.meaning g.L.Listener.listening g.L.Input.Source.stream g.L.Output.Sink.stream
+          c.args.desk.now.keys c.loop-arrived.desk.keys c.loop-arrived._arrived c.loop-arrived.served c.if-branch.served
+          visit c.args.listener.now c.args.desk.now.tables c.loop-arrived.listener c.loop-arrived.desk.tables c.serve_next.new.listener
+          c.serve_next.new.desk.tables c.loop-arrived.invariant.served c.loop-arrived.invariant.keys serves
+          (elim c.if-branch.branch [
+            | then-branch w ↦ w.served-is ∙ rw (is_connection, w.if-branch.true) (omega arith)
+            | else-branch w ↦ w.served-is ∙ rw (is_connection, w.if-branch.false) (omega arith)
+          ]);
+    }
+
+pub returns-clause-was_open : goal.returns-clause-was_open
+returns-clause-was_open g c =
+    (served_open g.T.Tables.meaning g.L.Listener.listening g.L.Input.Source.stream g.L.Output.Sink.stream c.args.desk.now.keys
+    c.loop-arrived._arrived c.loop-arrived.served c.args.listener.now c.args.desk.now.tables c.loop-arrived.listener c.loop-arrived.desk.tables
+    c.loop-arrived.invariant.served).0
+
+pub returns-clause-was_clean : goal.returns-clause-was_clean
+returns-clause-was_clean g c =
+    (served_open g.T.Tables.meaning g.L.Listener.listening g.L.Input.Source.stream g.L.Output.Sink.stream c.args.desk.now.keys
+    c.loop-arrived._arrived c.loop-arrived.served c.args.listener.now c.args.desk.now.tables c.loop-arrived.listener c.loop-arrived.desk.tables
+    c.loop-arrived.invariant.served).1
 
 pub returns-clause-served : goal.returns-clause-served
 returns-clause-served g c =
-    let connected = all_connected g.T.Tables.meaning g.L.Listener.listening g.L.Input.Source.stream
-    g.L.Output.Sink.stream c.args.desk.now.keys c.loop-served._served c.args.listener.now c.args.desk.now.tables
-    c.loop-served.listener c.loop-served.desk.tables c.loop-served.invariant.taken in
-    search rules
+    until_limit g.T.Tables.meaning g.L.Listener.listening g.L.Input.Source.stream g.L.Output.Sink.stream c.turns_are_promised.ensures
+    c.turns_leave.ensures c.args.desk.now.keys (omega (arith, c.newest_epoch.ensures)) c.args.count
+    c.loop-arrived._arrived c.loop-arrived.served c.args.listener.now c.args.desk.now.tables c.loop-arrived.listener c.loop-arrived.desk.tables
+    c.loop-arrived.invariant.served (omega (arith, c.loop-arrived-test.false))
+
+pub returns-then-are_all-clause-served : goal.returns-then-are_all-clause-served
+returns-then-are_all-clause-served g c =
+    until_count g.T.Tables.meaning g.L.Listener.listening g.L.Input.Source.stream g.L.Output.Sink.stream c.turns_are_promised.ensures
+    c.turns_leave.ensures c.args.desk.now.keys (omega (arith, c.newest_epoch.ensures)) c.args.count
+    c.loop-arrived._arrived c.loop-arrived.served c.args.listener.now c.args.desk.now.tables c.loop-arrived.listener c.loop-arrived.desk.tables
+    c.loop-arrived.invariant.served (c.are_all.ensures.0 c.if-are_all.true)

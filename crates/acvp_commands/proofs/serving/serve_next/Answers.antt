@@ -1,13 +1,45 @@
 use Rattle.acvp_commands.proofs.serving.serve_next.Goals as goal
 
-pub returns-clause-next : goal.returns-clause-next
-returns-clause-next g c = (
-  c.in_ok-input.field-0,
-  c.accept.new.self,
-  c.serve_one-served.new.reader,
-  c.serve_one-served.new.writer,
-  c.serve_one-served.result,
-  c.in_ok-input.ensures.taken,
-  c.serve_one-served.ensures.serves,
-  rw c.is_ok.ensures.value at c.end.ensures,
-)
+pub returns-in-Connection-clause-next : goal.returns-in-Connection-clause-next
+returns-in-Connection-clause-next g c =
+    let (visit, is_connection, turn, goes, happen) = c.serve_request-served.ensures.turn in (
+      visit,
+      is_connection,
+      record {
+        served = rw is_connection (record {
+          taken = c.in-Connection.taken;
+          mid = c.accept.new.self;
+          input = c.serve_request-served.new.input;
+          output = c.serve_request-served.new.output;
+          result = c.serve_request-served.result;
+          takes = (rw c.in-Connection.is at c.in_ok-taken.ensures.taken).0;
+          serves = c.serve_request-served.ensures.serves;
+          read = c.serve_request-served.ensures.read_fault;
+          written = c.serve_request-served.ensures.write_fault;
+          turn = turn;
+          ends = rw c.is_ok.ensures.value at c.end.ensures;
+        });
+        goes = goes;
+        happen = happen;
+      },
+    )
+
+pub returns-in-Order-clause-next : goal.returns-in-Order-clause-next
+returns-in-Order-clause-next g c =
+    let (visit, is_order, turn, goes, happen) = c.order_at-outcome.ensures.turn in (
+      visit,
+      is_order,
+      record {
+        served = rw is_order (record {
+          line = c.in-Order.line;
+          asker = c.in-Order.asker;
+          mid = c.accept.new.self;
+          outcome = c.order_at-outcome.result;
+          takes = (rw c.in-Order.is at c.in_ok-taken.ensures.taken).0;
+          turn = rw c.deref.ensures.value at turn;
+          tells = c.tell.ensures;
+        });
+        goes = goes;
+        happen = happen;
+      },
+    )

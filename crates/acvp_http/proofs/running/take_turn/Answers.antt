@@ -1,6 +1,5 @@
 use Rattle.acvp_http.specs.Event.{replied, ordered}
 use Rattle.acvp_http.proofs.HandledLemmas.{shows_handled}
-use Rattle.acvp_http.proofs.TurnLemmas.{order_taken}
 use Rattle.acvp_http.proofs.running.take_turn.Goals as goal
 
 pub returns-in-Request-clause-turn : goal.returns-in-Request-clause-turn
@@ -25,10 +24,5 @@ returns-in-Request-clause-turn g c =
 
 pub returns-in-Order-clause-turn : goal.returns-in-Order-clause-turn
 returns-in-Order-clause-turn g c =
-    let (unavailable, handled) =
-    order_taken g.T.Tables.meaning c.args.desk.now.keys
-    c.in-Order.moment c.in-Order.order c.args.desk.now.tables c.order-reply.new.self.tables
-    (λ content kept. c.records_are_kept.ensures.order c.args.desk.now.keys.seed c.in-Order.order content
-    (rw c.in-Order.is at c.requires.event).0 (rw c.in-Order.is at c.requires.event).1 kept)
-    c.order-reply.result c.order-reply.ensures.answered in
-    (unavailable, ordered c.order-reply.result, rw c.in-Order.is handled, c.write_order.ensures)
+    let (unavailable, handled) = c.handle_order-reply.ensures.turn in
+    (unavailable, ordered c.handle_order-reply.result, rw c.in-Order.is handled, c.write_order.ensures)

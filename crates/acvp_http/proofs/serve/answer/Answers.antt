@@ -1,6 +1,6 @@
 use Rattle.acvp_desk.specs.Request.{request_value}
 use Rattle.acvp_http.specs.Asks.{refused, wrong_method}
-use Rattle.acvp_http.proofs.HandledLemmas.{handled_at_once, handled_denied, handled_given}
+use Rattle.acvp_http.proofs.HandledLemmas.{handled_at_once, handled_denied, handled_given, told_apart}
 use Rattle.acvp_http.proofs.ServeLemmas.{refused_early}
 use Rattle.acvp_http.proofs.serve.answer.Goals as goal
 
@@ -26,7 +26,7 @@ pub returns-in-Given : goal.returns-in-Given
 returns-in-Given g c =
     handled_given g.T.Tables.meaning g.met.T.Tables.rests c.args.moment c.args.bytes.now
     (request_value c.in-Ok-parse_request.request) (c.requires.served, c.in-Ok-parse_request.ensures) c.args.date.now c.requires.dated c.args.desk.now c.handle.new.self c.handle.ensures.keys
-    c.handle.result.changed c.accepted.result c.records_are_kept.ensures.start c.nobody_is_accepted_without_rows.ensures c.in-Given.buffer (rw c.in-Given.is at c.handle.ensures.served) (rw c.in-Given.is at c.accepted.ensures)
+    c.handle.result.changed c.accepted.result c.records_are_kept.ensures.start (λ keys m r shown is. told_apart is (c.nobody_is_accepted_without_rows.ensures keys m r)) c.in-Given.buffer (rw c.in-Given.is at c.handle.ensures.served) (rw c.in-Given.is at c.accepted.ensures)
 
 pub returns-in-Denied : goal.returns-in-Denied
 returns-in-Denied g c =

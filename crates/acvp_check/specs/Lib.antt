@@ -1,0 +1,5 @@
+pub mod Conditions
+pub mod Order
+pub mod Owners
+pub mod Rows
+pub mod Whole

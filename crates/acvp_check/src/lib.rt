@@ -1,0 +1,24 @@
+//! Whether the rows of a file are records that are kept: the conditions on one account's rows.
+#![tactic(auto)]
+
+mod account;
+mod finding;
+mod laws;
+mod numbers;
+mod objects;
+mod owners;
+mod requests;
+mod reviewers;
+mod rows;
+mod sessions;
+mod sets;
+mod verdicts;
+mod walks;
+
+pub use account::judge_account;
+pub use finding::{Finding, RowKey, Wrong};
+pub use laws::{
+    numbers_select, ordered_records_are_kept, whole_records_are_kept, wrong_records_are_not_kept,
+};
+pub use owners::owners_wrong;
+pub use rows::Rows;
