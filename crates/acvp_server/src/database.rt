@@ -39,7 +39,7 @@ pub(crate) enum Unopened {
 }
 
 /// Why a database can't be opened.
-fn unopened(error: Error) -> Unopened {
+fn why_unopened(error: Error) -> Unopened {
     if matches!(error, Error::SqliteFailure(ErrorCode::DatabaseBusy)) {
         return Unopened::Taken;
     }
@@ -54,7 +54,7 @@ pub(crate) fn connect<S: Start>(
 ) -> Result<FileConnection<S>, Unopened> {
     match Connection::open_from(rt, path, false, start) {
         Ok(connection) => Ok(connection),
-        Err((error, _)) => Err(unopened(error)),
+        Err((error, _)) => Err(why_unopened(error)),
     }
 }
 
