@@ -1,9 +1,12 @@
 -- Where connections and orders come from, and how they are served, one after another.
-use Rattle.std.specs.Prelude.{◌≡◌, ◌⊎◌, ◌+◌, ◌-◌, ◌^◌, ℕ, Bool, false, MatchBool, is_ok, if◌then◌else◌, ⊤}
+use Rattle.std.specs.Prelude.{◌≡◌, ◌⊎◌, ◌+◌, ◌-◌, ◌/◌, ◌^◌, ℕ, Bool, false, MatchBool, is_ok, if◌then◌else◌, ⊤}
 use Rattle.std.specs.Prelude.{List, [], ◌∷◌, length, Option, Some, Result, Ok, Err, Vec}
 use Rattle.std.specs.Global.{Global}
 use Rattle.std.specs.List.{All, flat_map}
+use Rattle.std.specs.Time.{system_time_nanos}
+use Rattle.std.specs.declared.time.SystemTime.{SystemTime}
 use Rattle.acvp_tables.specs.Meaning.{Meaning}
+use Rattle.acvp_desk.specs.Answer.{end_of_moments}
 use Rattle.acvp_desk.specs.declared.keys.Keys.{Keys}
 use Rattle.acvp_desk.specs.declared.order.Order.{Order}
 use Rattle.acvp_desk.specs.declared.order.OrderReply.{OrderReply}
@@ -43,6 +46,11 @@ IsClear held sent (arrival.Connection taken) =
 IsClear held sent (arrival.Order line asker) = ⊤
 
 -- ---- one arrival
+
+-- The moment of what a clock gave: its whole seconds since 1970, or one that isn't served where it gave no time.
+abbrev pub IsMomentOf : {E : Type 0} → Result SystemTime E → ℕ → Type 0
+IsMomentOf (Ok time) moment = moment ≡ system_time_nanos time / 1000000000
+IsMomentOf (Err error) moment = moment ≡ end_of_moments
 
 -- What an arrival came to: whether it was a connection, and the turn that it was with its answer, or none.
 pub record Visit : Type 0 where
@@ -85,20 +93,22 @@ answers_of visits = flat_map (λ (visit : Visit). visit.answers) visits
 
 module _ {T L I O A : Type 0} (meaning : Meaning T) (listening : Listening L I O A) (held : I → InputStream)
     (sent : O → OutputStream) where
-  -- a connection was taken, what came of it was served at the moment that came with it, and it was ended
+  -- a connection was taken, what came of it was served at the moment that the clock gave then, and it was ended
   pub record ServesConnection (keys : Keys) (visit : Visit) (before : L) (old : T) (after : L) (new : T) : Type 0 where
     pub taken : Taken I O
     pub mid : L
     pub input : I
     pub output : O
     pub result : Result (Unit {0}) ServeFault
+    pub moment : ℕ
     pub takes : listening.takes before mid (arrival.Connection taken)
-    pub serves : ServesOne meaning keys taken.moment (held taken.input) (held input) (sent taken.output) (sent output)
+    pub clock : IsMomentOf taken.now moment
+    pub serves : ServesOne meaning keys moment (held taken.input) (held input) (sent taken.output) (sent output)
         old new result
     -- it wasn't read to its end, or not written, only where that has failed
     pub read : (held input).failed ≡ is_read_end result
     pub written : (sent output).failed ≡ is_write_end result
-    pub turn : IsRequestOf taken.moment (held taken.input) (held input) (sent taken.output) (sent output) visit
+    pub turn : IsRequestOf moment (held taken.input) (held input) (sent taken.output) (sent output) visit
     pub ends : listening.ends mid after input output (is_ok result)
 
   -- a line was taken, and who gave it was told what came of it

@@ -89,32 +89,34 @@ module _ {T : Type 0} (meaning : Meaning T) where
   IsNoDesk keys old new fault = (refused : NewFault) × RefusesKeys keys refused old new × (fault ≡ fault_of_desk refused)
 
 module _ {T H P I O A : Type 0} (meaning : Meaning T) (hosting : Hosting H P) (listening : ListeningOf P I O A)
-    (held : I → InputStream) (sent : O → OutputStream) (host : H) where
+    (held : I → InputStream) (sent : O → OutputStream) where
   -- It was said that the port is open, and then it was served. In the end it is said how many connections there were.
-  abbrev pub IsServedAt : Keys → Service → P → T → P → T → Result Message Fault → Type 0
-  IsServedAt keys service before old after new (Ok message) =
-      hosting.prints host (Listening service.port)
+  abbrev pub IsServedAt : Keys → Service → H → H → P → T → P → T → Result Message Fault → Type 0
+  IsServedAt keys service opened told before old after new (Ok message) =
+      hosting.prints opened told (Listening service.port)
       × ((served : ℕ) × ServesUntil meaning listening held sent keys service.count before old after new (Ok served)
       × (message ≡ Served served))
-  IsServedAt keys service before old after new (Err fault) =
-      (hosting.fails host (Listening service.port) fault × (after ≡ before) × (new ≡ old))
-      ⊎ (hosting.prints host (Listening service.port)
+  IsServedAt keys service opened told before old after new (Err fault) =
+      (hosting.fails opened told (Listening service.port) fault × (after ≡ before) × (new ≡ old))
+      ⊎ (hosting.prints opened told (Listening service.port)
       × ServesUntil meaning listening held sent keys service.count before old after new (Err fault))
 
-  -- The port was opened, served and finished, whatever came of it. Or it couldn't be opened, or there was no memory, and
-  -- then nothing changed.
-  abbrev pub IsServed : Keys → Service → T → T → Result Message Fault → Type 0
-  IsServed keys service old new outcome =
-      ((before : P) × (after : P) × (last : P) × hosting.opens host service before
-      × IsServedAt keys service before old after new outcome × hosting.finishes host after last)
-      ⊎ ((new ≡ old) × ((fault : Fault) × (outcome ≡ Err fault) × (hosting.refuses host service fault ⊎ (fault ≡ Memory))))
+  -- The port was opened, served and finished, whatever came of it. Or it couldn't be opened, or there was no memory
+  -- before that, and then nothing changed.
+  abbrev pub IsServed : Keys → Service → H → H → T → T → Result Message Fault → Type 0
+  IsServed keys service first last old new outcome =
+      ((opened : H) × (told : H) × (before : P) × (after : P) × (ended : P) × hosting.opens first opened service before
+      × IsServedAt keys service opened told before old after new outcome × hosting.finishes told last after ended)
+      ⊎ ((new ≡ old) × ((fault : Fault) × (outcome ≡ Err fault)
+      × (hosting.refuses first last service fault ⊎ ((last ≡ first) × (fault ≡ Memory)))))
 
   -- The order was carried out once. Or the tables were looked at, and then served or found to be of other keys.
-  abbrev pub IsTaskDone : Task → T → T → Result Message Fault → Type 0
-  IsTaskDone (task.Order order) old new outcome = IsCarriedOut meaning outcome old new order
-  IsTaskDone (task.Serve keys service) old new outcome =
-      ((mid : T) × Looks meaning {X = ⊤} {E = ⊤} (Ok tt) old mid × IsServed keys service mid new outcome)
-      ⊎ ((fault : Fault) × IsNoDesk meaning keys old new fault × (outcome ≡ Err fault))
+  abbrev pub IsTaskDone : Task → H → H → T → T → Result Message Fault → Type 0
+  IsTaskDone (task.Order order) first last old new outcome =
+      IsCarriedOut meaning outcome old new order × (last ≡ first)
+  IsTaskDone (task.Serve keys service) first last old new outcome =
+      ((mid : T) × Looks meaning {X = ⊤} {E = ⊤} (Ok tt) old mid × IsServed keys service first last mid new outcome)
+      ⊎ ((fault : Fault) × IsNoDesk meaning keys old new fault × (outcome ≡ Err fault) × (last ≡ first))
 
 module _ {S : Type 0} (g : Ghosts S) where
   -- the tables of a new store are there, where there was none
@@ -163,18 +165,18 @@ module _ {S : Type 0} (g : Ghosts S) where
     pub left : LeavesSo (state g old) (state g new) (IsOldOrMigrated (state g old).committed.trees)
 
 module _ {S H P I O A : Type 0} (g : Ghosts S) (hosting : Hosting H P) (listening : ListeningOf P I O A)
-    (held : I → InputStream) (sent : O → OutputStream) (host : H) where
+    (held : I → InputStream) (sent : O → OutputStream) where
   -- the tables were taken over, and on them the task was done; or they weren't
-  abbrev pub IsTakenOver : Task → Held S → Held S → Result Message Fault → Type 0
-  IsTakenOver it old new outcome =
+  abbrev pub IsTakenOver : Task → H → H → Held S → Held S → Result Message Fault → Type 0
+  IsTakenOver it first last old new outcome =
       ((mid : Held S) × IsTaken g old mid
-      × IsTaskDone (meaning_of g) hosting listening held sent host it mid new outcome)
-      ⊎ ((fault : Fault) × IsNotTaken g old new fault × (outcome ≡ Err fault))
+      × IsTaskDone (meaning_of g) hosting listening held sent it first last mid new outcome)
+      ⊎ ((fault : Fault) × IsNotTaken g old new fault × (outcome ≡ Err fault) × (last ≡ first))
 
-  -- what comes of each work, and its outcome
-  abbrev pub IsDone : Work → Held S → Held S → Result Message Fault → Type 0
-  IsDone Make old new (Ok message) = IsMade g old new × (message ≡ Ready)
-  IsDone Make old new (Err fault) = IsNotMade g old new fault
-  IsDone Move old new (Ok message) = IsMoved g old new × (message ≡ Migrated)
-  IsDone Move old new (Err fault) = IsNotMoved g old new fault
-  IsDone (Take it) old new outcome = IsTakenOver it old new outcome
+  -- what comes of each work, and its outcome; only serving asks something of the machine
+  abbrev pub IsDone : Work → H → H → Held S → Held S → Result Message Fault → Type 0
+  IsDone Make first last old new (Ok message) = IsMade g old new × (message ≡ Ready) × (last ≡ first)
+  IsDone Make first last old new (Err fault) = IsNotMade g old new fault × (last ≡ first)
+  IsDone Move first last old new (Ok message) = IsMoved g old new × (message ≡ Migrated) × (last ≡ first)
+  IsDone Move first last old new (Err fault) = IsNotMoved g old new fault × (last ≡ first)
+  IsDone (Take it) first last old new outcome = IsTakenOver it first last old new outcome

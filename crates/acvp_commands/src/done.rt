@@ -75,13 +75,13 @@ fn moved_in<S: Alter + Drop>(
 
 /// Serves at a desk over tables, and gives these back with how that ended.
 fn serve_over<T: Tables + Drop, H: Host>(
-    host: &H,
+    host: &mut H,
     tables: T,
     keys: Keys,
     service: Service,
 ) -> (T, Result<Message, Fault>)
-    ensures { IsTaskDone T.meaning H.hosting H.Port.listening H.Port.Input.stream H.Port.Output.stream host.now
-        (task.Serve keys service) tables result.0 result.1 }
+    ensures { IsTaskDone T.meaning H.hosting H.Port.listening H.Port.Input.stream H.Port.Output.stream
+        (task.Serve keys service) host.old host.new tables result.0 result.1 }
 {
     match desk_at(host.alloc(), keys, tables) {
         Ok(mut desk) => {
@@ -104,13 +104,13 @@ fn ordered_over<T: Tables + Drop>(tables: T, order: &Order) -> (T, Result<Messag
 
 /// Does this on tables, and gives these back with how it ended.
 fn done_on<T: Tables + Drop, H: Host>(
-    host: &H,
+    host: &mut H,
     tables: T,
     task: Task,
 ) -> (T, Result<Message, Fault>)
     requires { IsTask task }
-    ensures { IsTaskDone T.meaning H.hosting H.Port.listening H.Port.Input.stream H.Port.Output.stream host.now task
-        tables result.0 result.1 }
+    ensures { IsTaskDone T.meaning H.hosting H.Port.listening H.Port.Input.stream H.Port.Output.stream task
+        host.old host.new tables result.0 result.1 }
 {
     match task {
         Task::Order(order) => ordered_over(tables, &order),
@@ -120,13 +120,13 @@ fn done_on<T: Tables + Drop, H: Host>(
 
 /// Takes over the tables in a store, does this on them, and gives the connection back with how it ended.
 fn taken_over<S: Alter + Drop, H: Host>(
-    host: &H,
+    host: &mut H,
     connection: Connection<S>,
     task: Task,
 ) -> (Connection<S>, Result<Message, Fault>)
     requires { IsTask task }
-    ensures { IsTakenOver S.Store H.hosting H.Port.listening H.Port.Input.stream H.Port.Output.stream host.now task
-        connection result.0 result.1 }
+    ensures { IsTakenOver S.Store H.hosting H.Port.listening H.Port.Input.stream H.Port.Output.stream task
+        host.old host.new connection result.0 result.1 }
 {
     match taken_from(host.alloc(), connection) {
         Ok(tables) => {
@@ -139,13 +139,13 @@ fn taken_over<S: Alter + Drop, H: Host>(
 
 /// Does this over a store, and gives the connection back with how it ended.
 pub fn done_over<S: Alter + Drop, H: Host>(
-    host: &H,
+    host: &mut H,
     connection: Connection<S>,
     work: Work,
 ) -> (Connection<S>, Result<Message, Fault>)
     requires { IsWork work }
-    ensures { IsDone S.Store H.hosting H.Port.listening H.Port.Input.stream H.Port.Output.stream host.now work
-        connection result.0 result.1 }
+    ensures { IsDone S.Store H.hosting H.Port.listening H.Port.Input.stream H.Port.Output.stream work
+        host.old host.new connection result.0 result.1 }
 {
     match work {
         Work::Make => match made_in(host.alloc(), connection) {

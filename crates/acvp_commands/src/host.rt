@@ -38,29 +38,31 @@ pub trait Host {
     fn alloc(&self) -> Global;
 
     /// Opens a port, and whatever orders are taken from.
-    fn listen(&self, service: Service) -> Result<Self::Port, Fault>
-        ensures { MatchResult result (hosting.opens self.now service) (hosting.refuses self.now service) };
+    fn listen(&mut self, service: Service) -> Result<Self::Port, Fault>
+        ensures { MatchResult result (hosting.opens self.old self.new service)
+            (hosting.refuses self.old self.new service) };
 
     /// Lets what was sent on a port's connections reach their clients, and takes no order any more.
-    fn finish(&self, port: &mut Self::Port)
-        ensures { hosting.finishes self.now port.old port.new };
+    fn finish(&mut self, port: &mut Self::Port)
+        ensures { hosting.finishes self.old self.new port.old port.new };
 
     /// Prints a line.
-    fn print(&self, message: Message) -> Result<(), Fault>
-        ensures { MatchResult result (λ _. hosting.prints self.now message) (hosting.fails self.now message) };
+    fn print(&mut self, message: Message) -> Result<(), Fault>
+        ensures { MatchResult result (λ _. hosting.prints self.old self.new message)
+            (hosting.fails self.old self.new message) };
 }
 
 /// Says that a port is open, and serves what arrives there.
 fn serve_port<T: Tables, H: Host>(
-    host: &H,
+    host: &mut H,
     routes: &Routes,
     desk: &mut Desk<T>,
     port: &mut H::Port,
     service: Service,
 ) -> Result<Message, Fault>
     ensures keys { desk.new.keys ≡ desk.old.keys }
-    ensures served { IsServedAt T.meaning H.hosting H.Port.listening H.Port.Input.stream H.Port.Output.stream host.now
-        desk.old.keys service port.old desk.old.tables port.new desk.new.tables result }
+    ensures served { IsServedAt T.meaning H.hosting H.Port.listening H.Port.Input.stream H.Port.Output.stream
+        desk.old.keys service host.old host.new port.old desk.old.tables port.new desk.new.tables result }
 {
     host.print(Message::Listening(service.port))?;
     let served = serve_connections(host.alloc(), routes, desk, port, service.count)?;
@@ -69,12 +71,12 @@ fn serve_port<T: Tables, H: Host>(
 
 /// Opens a port, and serves it at a desk.
 pub(crate) fn serve<T: Tables, H: Host>(
-    host: &H,
+    host: &mut H,
     desk: &mut Desk<T>,
     service: Service,
 ) -> Result<Message, Fault>
-    ensures { IsServed T.meaning H.hosting H.Port.listening H.Port.Input.stream H.Port.Output.stream host.now
-        desk.old.keys service desk.old.tables desk.new.tables result }
+    ensures { IsServed T.meaning H.hosting H.Port.listening H.Port.Input.stream H.Port.Output.stream
+        desk.old.keys service host.old host.new desk.old.tables desk.new.tables result }
 {
     let routes = Routes::new(host.alloc())?;
     let mut port = host.listen(service)?;

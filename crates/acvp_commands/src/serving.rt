@@ -7,7 +7,7 @@ ghost use Rattle.acvp_http.specs.Connection.{ServesOne, is_read_end, is_write_en
 ghost use Rattle.acvp_http.specs.Event.{CanHappen, Turn};
 ghost use Rattle.acvp_http.specs.Serve.{GoesThrough};
 ghost use Rattle.acvp_http.specs.declared.connection.ServeFault.{ServeFault};
-ghost use Rattle.acvp_commands.specs.Listening.{IsOrderOf, IsRequestOf, ServesUntil, ServesVisit, Visit};
+ghost use Rattle.acvp_commands.specs.Listening.{IsMomentOf, IsOrderOf, IsRequestOf, ServesUntil, ServesVisit, Visit};
 ghost use Rattle.acvp_commands.specs.declared.fault.Fault.TheVariants.{Accept};
 
 use crate::fault::Fault;
@@ -32,8 +32,8 @@ pub struct Taken<I, O> {
     /// Where its reply goes.
     pub output: O,
 
-    /// When it was taken, in seconds since 1970.
-    pub moment: u64,
+    /// What the clock gave when it was taken.
+    pub now: io::Result<SystemTime>,
 }
 
 /// What arrives at a listener.
@@ -80,7 +80,7 @@ pub trait Listener {
 
 /// The seconds since 1970 that the clock gave; where it gave no time, a moment that isn't served.
 fn seconds_of(now: io::Result<SystemTime>) -> u64
-    ensures { MatchResult now (λ time. result ≡ system_time_nanos time / 1_000_000_000) (λ _. result ≡ end_of_moments) }
+    ensures { IsMomentOf now result }
 {
     let Ok(time) = now else {
         return END_OF_MOMENTS;
@@ -156,8 +156,9 @@ fn serve_next<T: Tables, L: Listener>(
             let Taken {
                 mut input,
                 mut output,
-                moment,
+                now,
             } = taken;
+            let moment = seconds_of(now);
             let served = serve_request(alloc, routes, desk, &mut input, &mut output, moment);
             listener.end(input, output, served.is_ok());
             Ok(true)

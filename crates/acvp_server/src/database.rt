@@ -116,9 +116,9 @@ fn done_and_closed<S: Start>(
 ) -> Result<Said, Fault>
     requires { IsWork work }
 {
-    let machine = Machine { rt, database: path };
+    let mut machine = Machine { rt, database: path };
     let serves = matches!(work, Work::Take(Task::Serve { .. }));
-    let (connection, outcome) = done_over(&machine, connection, work);
+    let (connection, outcome) = done_over(&mut machine, connection, work);
     if outcome.is_ok() || serves {
         close(connection);
     }

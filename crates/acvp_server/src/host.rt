@@ -21,26 +21,26 @@ impl<'a, R: AllocGlobal + Clock + Files + Net + Print> Host for Machine<'a, R> {
 
     // No contract can say what the machine does.
     ghost hosting = { record {
-      opens = λ _ _ _. ⊤;
-      refuses = λ _ _ _. ⊤;
-      finishes = λ _ _ _. ⊤;
-      prints = λ _ _. ⊤;
-      fails = λ _ _ _. ⊤;
+      opens = λ _ _ _ _. ⊤;
+      refuses = λ _ _ _ _. ⊤;
+      prints = λ _ _ _. ⊤;
+      fails = λ _ _ _ _. ⊤;
+      finishes = λ _ _ _ _. ⊤;
     } };
 
     fn alloc(&self) -> Global {
         self.rt.alloc()
     }
 
-    fn listen(&self, service: Service) -> Result<Port<'a, R>, Fault> {
+    fn listen(&mut self, service: Service) -> Result<Port<'a, R>, Fault> {
         port_on(self.rt, self.rt.alloc(), self.database, service)
     }
 
-    fn finish(&self, port: &mut Port<'a, R>) {
+    fn finish(&mut self, port: &mut Port<'a, R>) {
         port.finish();
     }
 
-    fn print(&self, message: Message) -> Result<(), Fault> {
+    fn print(&mut self, message: Message) -> Result<(), Fault> {
         print_line(self.rt, message)
     }
 }

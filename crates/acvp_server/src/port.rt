@@ -1,7 +1,7 @@
 //! A port of this machine and the socket of orders, with many clients at once.
 use crate::client::{Client, Errand, Incoming, Next, Outgoing, Wire};
 use crate::socket::{FileNumber, close_socket, open_socket};
-use acvp_commands::{Arrival, Fault, Listener, Message, Service, Taken, moment_of};
+use acvp_commands::{Arrival, Fault, Listener, Message, Service, Taken};
 use acvp_http::Flagged;
 use mio::event::Source;
 use mio::net::{TcpListener, TcpStream, UnixListener};
@@ -11,7 +11,7 @@ use std::collections::VecDeque;
 use std::fs::Files;
 use std::io::{self, ErrorKind, Write};
 use std::net::{Ipv4Addr, Net, SocketAddr};
-use std::time::{Clock, Duration, Instant};
+use std::time::{Clock, Duration, Instant, SystemTime};
 
 /// The most connections to the port at once. The places behind theirs are of those who give orders.
 const MOST_CONNECTIONS: usize = 256;
@@ -53,7 +53,7 @@ struct Doors {
     orders: UnixListener,
 }
 
-/// A port of this machine, the socket of orders, and the clock that says when a request is whole.
+/// A port of this machine, the socket of orders, and the clock that says when a request is handed on.
 #[derive(Drop)]
 pub(crate) struct Port<'a, R> {
     alloc: Global,
@@ -430,7 +430,7 @@ impl<'a, R: Clock + Files> Listener for Port<'a, R> {
                         return Ok(Arrival::Connection(Taken {
                             input: Flagged::new(input),
                             output: Flagged::new(output),
-                            moment: moment_of(self.rt),
+                            now: SystemTime::now(self.rt),
                         }));
                     }
                     Errand::Order(line, output) => return Ok(Arrival::Order(line, output)),
