@@ -8,8 +8,8 @@ COMMAND runs the server in script mode with a keys file, as in `acvp_server scri
 each event through a pipe, stands for the network and the clock, and reads the reply before it goes on.
 
 With --port the client speaks to PROGRAM, as `acvp_server`, over sockets of port P. It has PROGRAM serve the records in
-FILE, which `acvp_server init` has made, under the keys in KEYS, and ends it whenever the operator has an order, which
-is a command of PROGRAM. The account is the lowest of 7 to 9999 that isn't there.
+FILE, which `acvp_server init` has made, under the keys in KEYS. The operator's orders are commands of PROGRAM, which it
+carries out while it serves. The account is the lowest of 7 to 9999 that isn't there.
 
 It prints what happens, and stops with status 1 where anything isn't as it must be."""
 import hashlib
@@ -94,8 +94,7 @@ class Server:
 
 
 class SocketServer(Server):
-    """The server behind a port, over records in a file; it serves but for the moments in which an order is carried
-    out."""
+    """The server behind a port, over records in a file."""
 
     def __init__(self, port, program, file, keys):
         self.port, self.program, self.file, self.keys = port, program, file, keys
@@ -116,7 +115,6 @@ class SocketServer(Server):
 
     def order(self, text):
         """Carries an order of the operator out, written as in a script, and gives the answer that it has there."""
-        self.end()
         word, _, number, *secret = text.split(" ")
         options = ["--account" if word.startswith("account") else "--request", number]
         with tempfile.NamedTemporaryFile("w") as file:

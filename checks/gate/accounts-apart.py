@@ -69,7 +69,8 @@ def left_by(command, events):
             for told in each_told(running, events):
                 assert told == "order done" or shown(told)[0] == 200, told
             running.end()
-            shutil.copytree(os.path.dirname(running.file), folder, dirs_exist_ok=True)
+            shutil.copytree(os.path.dirname(running.file), folder, dirs_exist_ok=True,
+                            ignore=shutil.ignore_patterns("*-orders"))
         yield folder
 
 

@@ -427,7 +427,7 @@ class Serving(Served):
 def copied(base, room):
     """The file of a folder, in a copy of the folder."""
     shutil.rmtree(room, ignore_errors=True)
-    shutil.copytree(base, room)
+    shutil.copytree(base, room, ignore=shutil.ignore_patterns("*-orders"))
     return os.path.join(room, "laboratory.db")
 
 

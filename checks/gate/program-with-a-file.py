@@ -66,7 +66,11 @@ def options_of(db="absent.db"):
     return {"init": ["--db", db], "migrate": ["--db", db], "account-add": ["--db", db, "--account", "7", "--secret", "secret"],
             "account-disable": ["--db", db, "--account", "7"], "request-approve": ["--db", db, "--request", "7000001"],
             "request-reject": ["--db", db, "--request", "7000001"],
-            "serve": ["--db", db, "--keys", "keys.txt", "--port", "8080", "--count", "1"], "script": ["--keys", "keys.txt"]}
+            "serve": ["--db", db, "--keys", "keys.txt", "--port", "8080", "--count", "1", "--patience", "30"],
+            "script": ["--keys", "keys.txt"]}
+
+
+OPTIONAL = ["--count", "--patience"]
 
 
 def refused_lines(lab):
@@ -79,7 +83,8 @@ def refused_lines(lab):
     for command, option, more in [("account-add", "--account", ["10000", "65543"]), ("account-disable", "--account", ["10000"]),
                                   ("request-approve", "--request", ["10000000000"]),
                                   ("request-reject", "--request", ["10000000000"]),
-                                  ("serve", "--port", ["65536"]), ("serve", "--count", ["1000001"])]:
+                                  ("serve", "--port", ["65536"]), ("serve", "--count", ["1000001"]),
+                                  ("serve", "--patience", ["3601"])]:
         options = options_of()[command]
         place = options.index(option)
         for number in bad + more:
@@ -91,7 +96,8 @@ def refused_lines(lab):
     refused(b"\xff")
     for command, options in options_of().items():
         for place in range(0, len(options), 2):
-            refused(command, *options[:place], *options[place + 2:])
+            if options[place] not in OPTIONAL:
+                refused(command, *options[:place], *options[place + 2:])
             refused(command, *options, *options[place:place + 2])
         refused(command, *options, "more")
         refused(command, *options, "--more")

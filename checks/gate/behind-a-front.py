@@ -1,0 +1,174 @@
+"""The examples of a front and of a service: nginx with TLS and certificates of clients before the program, as
+examples/nginx.conf has it, and what systemd says of examples/acvp_server.service. What isn't installed is skipped.
+
+    behind-a-front.py PROGRAM"""
+import http.client
+import json
+import os
+import re
+import shutil
+import socket
+import ssl
+import subprocess
+import sys
+import tempfile
+import time
+
+from laboratory import Laboratory, compact, expect, free_port, within_a_step
+import laboratory
+from validation import answers
+
+TOP = os.path.dirname(os.path.dirname(os.path.dirname(os.path.abspath(__file__))))
+REGISTRATION = {"algorithms": [{"algorithm": "SHA2-256", "messageLength": [8], "revision": "1.0"}]}
+
+
+def openssl(lab, *args):
+    subprocess.run(["openssl", *args], cwd=lab.folder, check=True, capture_output=True)
+
+
+def certificates(lab):
+    """An authority, the server's certificate and a client's."""
+    for name, subject in [("authority", "/CN=laboratory"), ("stranger", "/CN=stranger")]:
+        openssl(lab, "req", "-x509", "-newkey", "ec", "-pkeyopt", "ec_paramgen_curve:prime256v1", "-nodes", "-days", "2",
+                "-keyout", f"{name}-key.pem", "-out", f"{name}.pem", "-subj", subject)
+    for name, by in [("server", "authority"), ("client", "authority"), ("other", "stranger")]:
+        lab.write(lab.path(f"{name}.ext"), "subjectAltName=IP:127.0.0.1\n")
+        openssl(lab, "req", "-newkey", "ec", "-pkeyopt", "ec_paramgen_curve:prime256v1", "-nodes", "-keyout", f"{name}-key.pem",
+                "-out", f"{name}.csr", "-subj", f"/CN={name}")
+        openssl(lab, "x509", "-req", "-in", f"{name}.csr", "-CA", f"{by}.pem", "-CAkey", f"{by}-key.pem", "-CAcreateserial",
+                "-days", "2", "-out", f"{name}.pem", "-extfile", f"{name}.ext")
+    shutil.copy(lab.path("authority.pem"), lab.path("clients.pem"))
+
+
+def configured(lab, port):
+    """The example, with the files and ports of this check in place of its own."""
+    with open(os.path.join(TOP, "examples", "nginx.conf")) as file:
+        text = file.read()
+    for old, new in [("/etc/acvp/", lab.folder + "/"), ("/run/acvp-nginx.pid", lab.path("nginx.pid")), ("/var/lib/nginx/", lab.folder + "/"),
+                     ("listen 443 ssl;", f"listen 127.0.0.1:{port} ssl;"), ("http://127.0.0.1:8080", f"http://127.0.0.1:{lab.port}")]:
+        expect(f"{old} in the example", old in text, True)
+        text = text.replace(old, new)
+    # the paths of nginx's own package, which another user may not write to
+    places = "".join(f"    {kind}_temp_path {lab.path(kind)};\n" for kind in ("fastcgi", "uwsgi", "scgi"))
+    text = text.replace("http {\n", "http {\n" + places, 1)
+    who = "user root;\n" if os.geteuid() == 0 else ""
+    return lab.write(lab.path("nginx.conf"), "daemon off;\n" + who + text)
+
+
+class Front:
+    """A client of the front, with a certificate or without one."""
+
+    def __init__(self, lab, port, certificate="client"):
+        self.port = port
+        self.context = ssl.create_default_context(cafile=lab.path("authority.pem"))
+        if certificate:
+            self.context.load_cert_chain(lab.path(f"{certificate}.pem"), lab.path(f"{certificate}-key.pem"))
+
+    def call(self, method, path, token=None, thing=None, body=None):
+        connection = http.client.HTTPSConnection("127.0.0.1", self.port, context=self.context, timeout=60)
+        if thing is not None:
+            body = compact([{"acvVersion": "1.0"}, thing])
+        headers = {"Authorization": f"Bearer {token}"} if token else {}
+        connection.request(method, path, body, headers)
+        reply = connection.getresponse()
+        text = reply.read()
+        connection.close()
+        expect("the type of a reply", reply.headers["Content-Type"], "application/json")
+        return reply.status, json.loads(text)[1]
+
+    def must(self, method, path, token=None, thing=None):
+        status, thing = self.call(method, path, token, thing)
+        if status != 200:
+            raise SystemExit(f"{method} {path} is answered {status} {thing}")
+        return thing
+
+
+def waits(port):
+    for _ in range(200):
+        with socket.socket() as there:
+            if there.connect_ex(("127.0.0.1", port)) == 0:
+                return
+        time.sleep(0.05)
+    raise SystemExit("nginx doesn't listen")
+
+
+def over_tls(lab, port):
+    """A session passes through the front, beside a client that stops half way; what isn't a request of a client's is
+    told in the protocol's envelope."""
+    client = Front(lab, port)
+    slow = client.context.wrap_socket(socket.create_connection(("127.0.0.1", port)), server_hostname="127.0.0.1")
+    slow.sendall(b"POST /acvp/v1/login HTTP/1.1\r\nHost: x\r\nContent-Length: 100\r\n\r\n[")
+    expect("the version of TLS", slow.version(), "TLSv1.3")
+    within_a_step(5)
+    began = time.time()
+    token = client.must("POST", "/acvp/v1/login", thing={"password": lab.code(7), "user": "7"})["accessToken"]
+    session = client.must("POST", "/acvp/v1/testSessions", token, REGISTRATION)
+    bound, of_set = session["accessToken"], session["vectorSetUrls"][0]
+    client.must("POST", of_set + "/results", bound, answers(client.must("GET", of_set, bound)))
+    expect("the results over TLS", client.must("GET", session["url"] + "/results", bound)["passed"], True)
+    expect("a validation beside a slow client, in ten seconds", time.time() - began < 10, True)
+    slow.close()
+    expect("a path that is none of the server's", client.call("GET", "/other"), (404, {"error": "noResource"}))
+    expect("a body that is too large", client.call("POST", "/acvp/v1/login", body=b" " * 2097153)[0], 413)
+    for certificate, what in [(None, "no certificate"), ("other", "another authority's")]:
+        expect(what, Front(lab, port, certificate).call("GET", "/acvp/v1/account"), (400, {"error": "badRequest"}))
+    tries = [client.call("POST", "/acvp/v1/login", thing={"password": "00000000", "user": "7"})[0] for _ in range(20)]
+    expect("logins that are tried on and on", (tries[0], tries[-1]), (403, 429))
+    lab.kill()
+    expect("a server that isn't there", client.call("GET", "/acvp/v1/account"), (503, {"error": "unavailable"}))
+
+
+def front(program):
+    missing = [tool for tool in ("nginx", "openssl") if not shutil.which(tool)]
+    if missing:
+        print(f"skipped: a front before the program (apt-get install {' '.join(missing)})")
+        return
+    with tempfile.TemporaryDirectory() as folder:
+        lab = Laboratory(program, folder)
+        lab.does("ready", "init", "--db", lab.db)
+        certificates(lab)
+        lab.serve(count=None)
+        lab.add(7)
+        port = free_port()
+        nginx = subprocess.Popen(["nginx", "-p", folder, "-c", configured(lab, port)], stderr=subprocess.PIPE)
+        try:
+            waits(port)
+            over_tls(lab, port)
+        except BaseException:
+            nginx.terminate()
+            print(nginx.communicate()[1].decode(), file=sys.stderr)
+            raise
+        finally:
+            nginx.terminate()
+            nginx.wait()
+            lab.kill()
+
+
+def service(program):
+    if not shutil.which("systemd-analyze"):
+        print("skipped: what systemd says of the service (apt-get install systemd)")
+        return
+    with open(os.path.join(TOP, "examples", "acvp_server.service")) as file:
+        text = file.read()
+    with tempfile.TemporaryDirectory() as folder:
+        place = os.path.join(folder, "acvp_server.service")
+        with open(place, "w") as file:
+            file.write(text.replace("/usr/local/bin/acvp_server", program))
+        done = subprocess.run(["systemd-analyze", "verify", place], capture_output=True, text=True)
+        expect("what systemd says of the service", (done.returncode, done.stdout), (0, ""))
+        done = subprocess.run(["systemd-analyze", "security", "--offline=true", place], capture_output=True, text=True)
+        level = re.search(r"exposure level for .*: ([0-9.]+)", done.stdout)
+        if level is None:
+            print("skipped: how exposed the service is, which this systemd doesn't say of a file")
+        else:
+            expect(f"how exposed the service is: {level.group(1)}", float(level.group(1)) < 2, True)
+
+
+def main():
+    program = os.path.abspath(sys.argv[1])
+    front(program)
+    service(program)
+    print(f"{laboratory.checked} comparisons")
+
+
+main()
