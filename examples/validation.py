@@ -3,6 +3,7 @@
 
     examples/validation.py COMMAND..
     examples/validation.py --port P PROGRAM FILE KEYS
+    examples/validation.py --url URL ACCOUNT SECRET [AUTHORITY [CERTIFICATE KEY]]
 
 COMMAND runs the server in script mode with a keys file, as in `acvp_server script --keys keys.txt`. The client hands it
 each event through a pipe, stands for the network and the clock, and reads the reply before it goes on.
@@ -11,16 +12,24 @@ With --port the client speaks to PROGRAM, as `acvp_server`, over sockets of port
 FILE, which `acvp_server init` has made, under the keys in KEYS. The operator's orders are commands of PROGRAM, which it
 carries out while it serves. The account is the lowest of 7 to 9999 that isn't there.
 
+With --url the client speaks to the address of a server, or of what stands in front of it, as
+https://laboratory.example/acvp/v1, for an account whose secret is in the file SECRET. AUTHORITY is the certificate of
+who signed the front's, and CERTIFICATE and KEY are the client's own. It ends once its test session has passed, since the
+operator isn't there.
+
 It prints what happens, and stops with status 1 where anything isn't as it must be."""
+import contextlib
 import hashlib
 import hmac
 import json
 import os
 import socket
+import ssl
 import subprocess
 import sys
 import tempfile
 import time
+from urllib.parse import urlsplit
 
 HASHES = {"SHA2-256": "sha256", "HMAC-SHA2-256": "sha256"}
 REGISTRATION = {"algorithms": [
@@ -39,6 +48,7 @@ def tell(who, what, outcome=""):
 
 class Server:
     """The server behind a pipe, as its operator and its network see it."""
+    host = "laboratory.example"
 
     def __init__(self, command):
         self.process = subprocess.Popen(command, stdin=subprocess.PIPE, stdout=subprocess.PIPE)
@@ -70,7 +80,7 @@ class Server:
 
     def call(self, method, path, token=None, thing=None):
         """Sends a request, and gives the status and the second object of the reply's body."""
-        lines = [f"{method} /acvp/v1{path} HTTP/1.1", "Host: laboratory.example"]
+        lines = [f"{method} /acvp/v1{path} HTTP/1.1", f"Host: {self.host}", "Connection: close"]
         body = b""
         if token is not None:
             lines.append(f"Authorization: Bearer {token}")
@@ -131,6 +141,32 @@ class SocketServer(Server):
         with socket.create_connection(("127.0.0.1", self.port)) as connection:
             connection.sendall(text)
             return b"".join(iter(lambda: connection.recv(65536), b""))
+
+
+class RemoteServer(Server):
+    """The server at an address, as a client alone sees it."""
+
+    def __init__(self, url, authority=None, certificate=None, key=None):
+        address = urlsplit(url)
+        if address.scheme not in ("http", "https") or address.path.rstrip("/") != "/acvp/v1":
+            stop(f"{url} is no address that ends in /acvp/v1")
+        self.process, self.host, self.context = None, address.hostname, None
+        self.port = address.port or (443 if address.scheme == "https" else 80)
+        if address.scheme == "https":
+            self.context = ssl.create_default_context(cafile=authority)
+            if certificate is not None:
+                self.context.load_cert_chain(certificate, key)
+
+    def ask(self, text):
+        with contextlib.ExitStack() as opened:
+            connection = opened.enter_context(socket.create_connection((self.host, self.port), timeout=60))
+            if self.context is not None:
+                connection = opened.enter_context(self.context.wrap_socket(connection, server_hostname=self.host))
+            connection.sendall(text)
+            return b"".join(iter(lambda: connection.recv(65536), b""))
+
+    def end(self):
+        pass
 
 
 def one_time_code(secret, moment):
@@ -286,10 +322,22 @@ def session_passed(server, token):
     return session["url"], bound
 
 
+def validated_at(url, account, secret, *files):
+    """Has a test session pass at an address."""
+    with open(secret) as file:
+        secret = bytes.fromhex(file.read().strip())
+    server = RemoteServer(url, *files)
+    session, _ = session_passed(server, logged_in(server, int(account), secret))
+    tell("client", "has a test session that may be certified", session)
+
+
 def main():
+    if sys.argv[1:2] == ["--url"] and len(sys.argv) in (5, 6, 8):
+        validated_at(*sys.argv[2:])
+        return
     if sys.argv[1:2] == ["--port"] and len(sys.argv) == 6:
         server = SocketServer(int(sys.argv[2]), *sys.argv[3:])
-    elif len(sys.argv) > 1 and sys.argv[1] != "--port":
+    elif len(sys.argv) > 1 and sys.argv[1] not in ("--port", "--url"):
         server = Server(sys.argv[1:])
     else:
         sys.exit(__doc__)

@@ -108,6 +108,11 @@ def over_tls(lab, port):
     expect("the results over TLS", client.must("GET", session["url"] + "/results", bound)["passed"], True)
     expect("a validation beside a slow client, in ten seconds", time.time() - began < 10, True)
     slow.close()
+    certificate = [lab.path(name) for name in ("authority.pem", "client.pem", "client-key.pem")]
+    done = subprocess.run([sys.executable, os.path.join(TOP, "examples", "validation.py"), "--url", f"https://127.0.0.1:{port}/acvp/v1", "8",
+                           lab.path("secret-8"), *certificate], capture_output=True, text=True, timeout=120)
+    expect("the example's validation over TLS", (done.returncode, done.stderr), (0, ""))
+    expect("its last line", done.stdout.split("\n")[-2].split()[-1], "/acvp/v1/testSessions/8000001")
     expect("a path that is none of the server's", client.call("GET", "/other"), (404, {"error": "noResource"}))
     expect("a body that is too large", client.call("POST", "/acvp/v1/login", body=b" " * 2097153)[0], 413)
     for certificate, what in [(None, "no certificate"), ("other", "another authority's")]:
@@ -129,6 +134,7 @@ def front(program):
         certificates(lab)
         lab.serve(count=None)
         lab.add(7)
+        lab.add(8)
         port = free_port()
         nginx = subprocess.Popen(["nginx", "-p", folder, "-c", configured(lab, port)], stderr=subprocess.PIPE)
         try:

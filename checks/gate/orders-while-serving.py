@@ -1,8 +1,8 @@
 """Serving that no client holds up, and orders that are carried out while it serves.
 
-    orders-while-serving.py PROGRAM [STOPS]
+    orders-while-serving.py PROGRAM SHIM [STOPS]
 
-STOPS is how often serving is killed while clients and the operator write: 40 without it."""
+SHIM is the library that fails the taking of connections. STOPS is how often serving is killed while clients and the operator write: 40 without it."""
 import os
 import random
 import socket
@@ -252,8 +252,20 @@ def two_hundred_clients(lab):
     lab.kill()
 
 
+def gone_after(connection, begun):
+    """How many seconds it takes until what is sent to a connection meets a reset, of a side that ended."""
+    for _ in range(100):
+        time.sleep(0.1)
+        try:
+            connection.send(b"x")
+        except OSError:
+            return time.time() - begun
+    return None
+
+
 def patience(lab):
-    """Who doesn't send its request, or take its reply, in the time that it has is let go. So is the 257th client."""
+    """Who takes more time than it has is let go, for its request, the reply and its close together. So is the 257th
+    client."""
     lab.serve(count=None, more=["--patience", "2"])
     began = time.time()
     half = lab.connect()
@@ -262,6 +274,15 @@ def patience(lab):
         for connection in (silent, half):
             expect("what a client is sent that is too slow", read_all(connection), b"")
             expect("after two seconds", 1.5 < time.time() - began < 8, True)
+    # the last of its time goes by behind the reply; one that has more is waited for two seconds then
+    for before, least, most in ((1.2, 0.3, 2.2), (0, 1.8, 3.5)):
+        with lab.connect() as late:
+            time.sleep(before)
+            late.sendall(request("GET", "/account"))
+            expect("the reply to a late request", late.recv(65536)[:12], b"HTTP/1.1 401")
+            told_at = time.time()
+            left = gone_after(late, told_at)
+            expect(f"{left} seconds behind a reply after {before}", least <= left <= most, True)
     many = [lab.connect() for _ in range(256)]
     with lab.connect() as one_more:
         expect("what the 257th client is sent", one_more.recv(1), b"")
@@ -273,6 +294,36 @@ def patience(lab):
         status, output, faults = lab.run("serve", "--db", lab.db, "--keys", lab.keys, "--port", "1", f"--patience={wrong}")
         expect(f"a patience of {wrong!r}", (status, output, "--patience" in faults), (2, "", True))
     lab.kill()
+
+
+def errors_of_the_network(lab, shim):
+    """An error of the network that accept(2) passes on is told, and the connection is taken a second later; other errors
+    end serving."""
+    passing = [100, 71, 92, 112, 64, 113, 95, 101]
+    os.environ.update({"LD_PRELOAD": shim, "FAIL_ACCEPT": ",".join(map(str, [103, *passing[:2]]))})
+    try:
+        lab.serve(count=1)
+        began = time.time()
+        expect("a client behind two errors", lab.call("GET", "/account"), MISSING)
+        expect("the pauses behind them", 1.5 < time.time() - began < 6, True)
+        output, faults = lab.process.communicate(timeout=60)
+        expect("what is told of them", (lab.process.returncode, output, faults.count(b"a connection isn't taken, and serving goes on: ")),
+               (0, b"served 1\n", 2))
+        for number in passing[2:]:
+            os.environ["FAIL_ACCEPT"] = str(number)
+            lab.serve(count=1)
+            expect(f"a client behind error {number}", lab.call("GET", "/account"), MISSING)
+            output, faults = lab.process.communicate(timeout=60)
+            expect(f"what is told of error {number}", (output, faults.count(b"\n")), (b"served 1\n", 1))
+        for number in (24, 23, 22):
+            os.environ["FAIL_ACCEPT"] = str(number)
+            lab.serve(count=1)
+            with lab.connect():
+                output, faults = lab.process.communicate(timeout=60)
+            expect(f"the end behind error {number}", (lab.process.returncode, output, faults), (1, b"", b"fault: accept\n"))
+    finally:
+        del os.environ["LD_PRELOAD"], os.environ["FAIL_ACCEPT"]
+        lab.process = None
 
 
 # ---- stops
@@ -382,13 +433,16 @@ def stops_with_orders(lab, count):
 
 
 def main():
-    program, count = os.path.abspath(sys.argv[1]), int(sys.argv[2]) if len(sys.argv) > 2 else 40
+    program, shim, count = os.path.abspath(sys.argv[1]), os.path.abspath(sys.argv[2]), int((sys.argv[3:] or ["40"])[0])
     began = time.time()
 
     def stops(lab):
         stops_with_orders(lab, count)
 
-    for part in (a_validation_without_an_outage, lines_at_the_socket, the_socket, two_hundred_clients, patience, stops):
+    def network(lab):
+        errors_of_the_network(lab, shim)
+
+    for part in (a_validation_without_an_outage, lines_at_the_socket, the_socket, two_hundred_clients, patience, network, stops):
         with tempfile.TemporaryDirectory() as folder:
             lab = Laboratory(program, folder)
             lab.does("ready", "init", "--db", lab.db)

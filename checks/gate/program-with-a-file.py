@@ -620,7 +620,7 @@ def documents(lab):
     other.kill()
     rest = [line for line in lines[place:] if "account-disable" not in line]
     output = shell(other, rest, folder)
-    wanted = ["request 7000001 approved /acvp/v1/vendors/7000001\n", "request 7000002 rejected\n", "schema 3\n"]
+    wanted = ["request 7000001 approved /acvp/v1/vendors/7000001\n", "request 7000002 rejected\n", "backed up\n", "restored\n", "schema 3\n"]
     if shutil.which("sqlite3"):
         wanted += ['vendor  {"name":"Vendor two"}', "ok\n"]
     for part in wanted:
@@ -632,12 +632,11 @@ def documents(lab):
     other.serve(keys=os.path.join(folder, "ring-4.txt"))
     expect("a token of the key that is retired", other.call("GET", "/account", token)[0], 401)
     other.kill()
-    if shutil.which("sqlite3"):
-        other.db = os.path.join(folder, "backup.db")
-        other.serve(keys=os.path.join(folder, "ring.txt"))
-        expect("a token over the backup", other.must("GET", "/account", token)["requests"], 2)
-        other.kill()
-        other.db = os.path.join(folder, "laboratory.db")
+    other.db = os.path.join(folder, "backup.db")
+    other.serve(keys=os.path.join(folder, "ring.txt"))
+    expect("a token over the backup", other.must("GET", "/account", token)["requests"], 2)
+    other.kill()
+    other.db = os.path.join(folder, "laboratory.db")
     disable = [line for line in lines if "account-disable" in line]
     expect("what disabling prints", shell(other, disable, folder), "account 7 disabled\n")
 

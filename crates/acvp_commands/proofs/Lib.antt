@@ -6,3 +6,4 @@ pub mod FilesLemmas
 pub mod SecretLemmas
 pub mod ClosedFiles
 pub mod LeftFiles
+pub mod FileLifeLemmas

@@ -1,5 +1,6 @@
 pub mod Asked
 pub mod Faults
+pub mod FileLife
 pub mod Files
 pub mod Hosting
 pub mod KeysFile

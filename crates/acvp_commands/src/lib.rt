@@ -22,7 +22,10 @@ pub use fault::Fault;
 pub use files::{SystemFiles, TextFiles, keys_in, secret_in};
 pub use host::{Host, Service, desk_over};
 pub use keys::{bytes_of, read_keys};
-pub use life::{closed_files_are_found, files_live_on, left_files_are_found, runs_follow};
+pub use life::{
+    closed_files_are_found, commands_are_runs, files_live_on, left_files_are_found, runs_follow,
+    tables_live_on,
+};
 pub use lines::Message;
 pub use numbers::{account_number, connection_count, patience_number, port_number, request_number};
 pub use orders::{carry_out, order_line};

@@ -12,7 +12,7 @@ use Rattle.acvp_policy.specs.declared.facts.Facts.{Facts}
 use Rattle.acvp_policy.specs.declared.rule.Rule.{Rule}
 use Rattle.acvp_policy.specs.declared.rule.Rule.TheVariants as rule
 use Rattle.acvp_tables.specs.declared.rows.AccountRow.{AccountRow}
-use Rattle.acvp_desk.specs.Answer.{action_of, standing_of, unfound_facts}
+use Rattle.acvp_desk.specs.Answer.{action_of, standing_of}
 use Rattle.acvp_desk.specs.Private.Changeable.{IfChangeable}
 use Rattle.acvp_desk.specs.Wish.{action_of_wish}
 use Rattle.acvp_desk.specs.declared.ask.Asker.{Asker}
@@ -27,6 +27,7 @@ use Rattle.acvp_desk.specs.declared.wish.SessionWish.TheVariants as on_session
 use Rattle.acvp_desk.specs.declared.wish.SetWish.TheVariants as on_set
 use Rattle.acvp_desk.specs.declared.wish.Wish.{Wish}
 use Rattle.acvp_desk.specs.declared.wish.Wish.TheVariants.{Account, Algorithm, Session, Reviewer, Set, NewSession, CancelSet, ListSessions, Certify, Registry}
+use Rattle.acvp_desk.specs.Private.Unfound.{unfound_facts}
 use Rattle.acvp_desk.proofs.FirstBroken.{first_held, back_held, held}
 
 caller_enabled : (f : Facts) (rest : List (Bool × Rule)) → first_broken (caller_conditions f ++ rest) ≡ None → is_enabled f.standing ≡ true

@@ -15,7 +15,7 @@ use Rattle.acvp_tables.specs.declared.change.Change.TheVariants as change
 use Rattle.acvp_tables.specs.declared.rows.SetRow.{SetRow}
 use Rattle.acvp_desk.specs.Kept.{IsGradedSet, IsRightly, IsKept}
 use Rattle.acvp_desk.specs.Place.{set_outcome, set_outcomes}
-use Rattle.acvp_desk.specs.Replies.{cancelled_set, has_passed, is_other}
+use Rattle.acvp_desk.specs.Replies.{cancelled_set, outcome_passed, is_other}
 use Rattle.acvp_desk.specs.Sets.{facts_of_set, if_in_session, set_facts, set_passes}
 use Rattle.acvp_desk.specs.declared.found.SetOutcome.{SetOutcome}
 use Rattle.acvp_desk.proofs.PassedSession.{graded_passes}
@@ -61,7 +61,7 @@ live_left seeds session n (row ∷ sets) = go (row.session == session) (row.canc
     go false cancelled false a b c later = rw (a, c, a) later
 
 passed_left : (seeds : List (List ℕ)) (session n : ℕ) (sets : List SetRow) → All (IsGradedSet seeds) sets
-    → length (filter (λ set. is_other n set && has_passed set) (outcomes seeds session sets)) ≡ passed_count session (changed (is_set n) with_cancelled sets)
+    → length (filter (λ set. is_other n set && outcome_passed set) (outcomes seeds session sets)) ≡ passed_count session (changed (is_set n) with_cancelled sets)
 passed_left seeds session n [] graded = refl
 passed_left seeds session n (row ∷ sets) graded =
     go (is_live_in session row) (row.number == n) (row.session == session) (grades_pass row.graded) refl refl refl refl
@@ -70,8 +70,8 @@ passed_left seeds session n (row ∷ sets) graded =
   where
     go : (live same of passes : Bool) → is_live_in session row ≡ live → (row.number == n) ≡ same → (row.session == session) ≡ of → grades_pass row.graded ≡ passes
         → set_passes seeds (set_record row) ≡ grades_pass row.graded
-        → length (filter (λ set. is_other n set && has_passed set) (outcomes seeds session sets)) ≡ passed_count session (changed (is_set n) with_cancelled sets)
-        → length (filter (λ set. is_other n set && has_passed set) (outcomes seeds session (row ∷ sets))) ≡ passed_count session (changed (is_set n) with_cancelled (row ∷ sets))
+        → length (filter (λ set. is_other n set && outcome_passed set) (outcomes seeds session sets)) ≡ passed_count session (changed (is_set n) with_cancelled sets)
+        → length (filter (λ set. is_other n set && outcome_passed set) (outcomes seeds session (row ∷ sets))) ≡ passed_count session (changed (is_set n) with_cancelled (row ∷ sets))
     go true true true passes a b c d e later = rw (a, b, c) later
     go true true false passes a b c d e later = rw (a, b, c) later
     go true false of true a b c d e later = rw (a, b, a, e, d) (ap (λ k. suc k) later)

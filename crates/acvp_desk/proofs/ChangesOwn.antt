@@ -18,8 +18,8 @@ use Rattle.acvp_tables.specs.StateChanges.{after_state}
 use Rattle.acvp_tables.specs.declared.change.Change.{Change}
 use Rattle.acvp_tables.specs.declared.change.Change.TheVariants as change
 use Rattle.acvp_tables.specs.declared.rows.AccountRow.{AccountRow}
-use Rattle.acvp_desk.specs.Answer.{accepted_change, account_found, action_in, answer, asker_of, change_by, change_of, change_on, effect, facts_in, first_conditions, first_conditions_on, found_of, later_conditions, later_of, own_conditions, policy_conditions, reply_to, state_after, who}
-use Rattle.acvp_desk.specs.Isolation.{is_who, own_after_request, who_of}
+use Rattle.acvp_desk.specs.Answer.{accepted_change, account_found, action_in, answer, asker_of, change_by, change_of, change_on, effect, facts_in, first_conditions, first_conditions_on, found_of, later_conditions, later_of, own_conditions, policy_conditions, reply_to, state_after, who, who_of}
+use Rattle.acvp_desk.specs.Isolation.{is_who, own_after_request}
 use Rattle.acvp_desk.specs.Login.{login_step}
 use Rattle.acvp_desk.specs.Request.{RequestValue}
 use Rattle.acvp_desk.specs.declared.ask.Asker.{Asker}

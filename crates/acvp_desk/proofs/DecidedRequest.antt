@@ -16,7 +16,7 @@ use Rattle.acvp_tables.specs.declared.rows.RequestBody.TheVariants as body
 use Rattle.acvp_tables.specs.declared.rows.RequestRow.{RequestRow}
 use Rattle.acvp_tables.specs.declared.rows.RequestStatus.{RequestStatus}
 use Rattle.acvp_tables.specs.declared.rows.RequestStatus.TheVariants as status
-use Rattle.acvp_desk.specs.Orders.{approved_as, approved_number, count_of, if_initial, is_initial, waiting_request}
+use Rattle.acvp_desk.specs.Orders.{approved_as, approved_number, count_of_kind, if_initial, is_initial, waiting_request}
 
 -- what is found among rows that pass a test passes it
 pub found_passes : {X : Type 0} (p q : X → Bool) (xs : List X) (x : X) → find p xs ≡ Some x → list_all q xs ≡ true → q x ≡ true
@@ -34,7 +34,7 @@ unfolding object_fault is_fit
 no_certification vendor object is sound = absurd (let sound = rw is at sound in cc)
 
 counted : (objects : (u : ℕ) (kind : Kind) (state : State) → objects_in kind (own u state).objects ≡ objects_of kind u state.objects)
-    → (state : State) (u : ℕ) (kind : Kind) → (kind ≡ Certification → ⊥) → count_of kind (record_counts u state) ≡ length (objects_in kind (own u state).objects)
+    → (state : State) (u : ℕ) (kind : Kind) → (kind ≡ Certification → ⊥) → count_of_kind kind (record_counts u state) ≡ length (objects_in kind (own u state).objects)
 counted objects state u Vendor other = ap length (sym (objects u Vendor state))
 counted objects state u Module other = ap length (sym (objects u Module state))
 counted objects state u Environment other = ap length (sym (objects u Environment state))
@@ -50,7 +50,7 @@ few_pass p (x ∷ xs) = go (p x) (few_pass p xs)
 
 -- in sound records an account has at most 999999 objects of a kind
 pub few_of_kind : (objects : (u : ℕ) (kind : Kind) (state : State) → objects_in kind (own u state).objects ≡ objects_of kind u state.objects)
-    → (state : State) → IsWellNumbered state → (u : ℕ) (kind : Kind) → count_of kind (record_counts u state) ≤ 999999
+    → (state : State) → IsWellNumbered state → (u : ℕ) (kind : Kind) → count_of_kind kind (record_counts u state) ≤ 999999
 unfolding IsWellNumbered
 few_of_kind objects state well u kind = go kind
   where
@@ -61,7 +61,7 @@ few_of_kind objects state well u kind = go kind
         let fewer = few_pass (has_registered kind) (own u state).requests in
         omega (arith, asked, most, fewer)
 
-    go : (kind : Kind) → count_of kind (record_counts u state) ≤ 999999
+    go : (kind : Kind) → count_of_kind kind (record_counts u state) ≤ 999999
     go Vendor = rw (objects u Vendor state) at (few Vendor)
     go Module = rw (objects u Module state) at (few Module)
     go Environment = rw (objects u Environment state) at (few Environment)
@@ -120,7 +120,7 @@ module _ (requests : (u n : ℕ) (state : State) → IsWellNumbered state → re
 
 -- how many of a kind are registered, by the count of its objects
 pub registered_as : (kind : Kind) (u : ℕ) (c : Content) (count registered : ℕ) → record_counts u (state_of c) ≡ counts_of u c → count ≡ rows_of (Objects kind) u c
-    → (kind ≢ Certification → registered ≡ count) → (kind ≡ Certification → registered ≡ 0) → registered ≡ count_of kind (record_counts u (state_of c))
+    → (kind ≢ Certification → registered ≡ count) → (kind ≡ Certification → registered ≡ 0) → registered ≡ count_of_kind kind (record_counts u (state_of c))
 registered_as Vendor u c count registered follows is some none = some (λ e. let impossible = e in cc) ∙ is ∙ ap (λ n. n.vendors) (sym follows)
 registered_as Module u c count registered follows is some none = some (λ e. let impossible = e in cc) ∙ is ∙ ap (λ n. n.modules) (sym follows)
 registered_as Environment u c count registered follows is some none = some (λ e. let impossible = e in cc) ∙ is ∙ ap (λ n. n.environments) (sym follows)

@@ -26,13 +26,13 @@ use Rattle.acvp_registry.specs.Object.{KeptObject}
 use Rattle.acvp_tables.specs.declared.change.Change.{Change}
 use Rattle.acvp_tables.specs.declared.change.Change.TheVariants as change
 use Rattle.acvp_tables.specs.declared.rows.AccountRow.{AccountRow}
-use Rattle.acvp_desk.specs.Answer.{action_in, change_of, facts_in, facts_on_login, is_fit, login_change, own_conditions, policy_conditions, CoversAny}
-use Rattle.acvp_desk.specs.Asked.{requested_conditions, certification_change, registration_change}
+use Rattle.acvp_desk.specs.Answer.{action_in, change_of, facts_in, facts_on_login, login_change, own_conditions, policy_conditions}
+use Rattle.acvp_desk.specs.Asked.{requested_conditions, certification_change, object_change}
 use Rattle.acvp_desk.specs.Bodies.{body_conditions, registration_rule}
 use Rattle.acvp_desk.specs.Login.{login_step, user_facts}
 use Rattle.acvp_desk.specs.NewSessions.{new_session_in}
 use Rattle.acvp_desk.specs.OwnConditions.{new_session_conditions, place_conditions}
-use Rattle.acvp_desk.specs.Place.{is_of_registry, action_at, is_within, session_wish, subject_at}
+use Rattle.acvp_desk.specs.Place.{action_at, session_wish, subject_at}
 use Rattle.acvp_desk.specs.Registries.{new_action}
 use Rattle.acvp_desk.specs.Replies.{answers_change, cancelled_set, place_change, prompts_from, session_change, set_change, submission_change}
 use Rattle.acvp_desk.specs.Reviewers.{reviewer_at}
@@ -40,7 +40,7 @@ use Rattle.acvp_desk.specs.Sets.{set_wish}
 use Rattle.acvp_desk.specs.Submissions.{answers_at, graded_on, kept_answers}
 use Rattle.acvp_desk.specs.Wish.{action_on_session, action_on_set}
 use Rattle.acvp_desk.specs.declared.ask.LoginAsk.{LoginAsk}
-use Rattle.acvp_desk.specs.declared.found.Asked.{Asked}
+use Rattle.acvp_desk.specs.declared.found.Grounds.{Grounds}
 use Rattle.acvp_desk.specs.declared.found.Found.{Found}
 use Rattle.acvp_desk.specs.declared.found.Found.TheVariants as found
 use Rattle.acvp_desk.specs.declared.found.Place.{Place}
@@ -54,6 +54,8 @@ use Rattle.acvp_desk.specs.declared.found.SetPlace.TheVariants as in_set
 use Rattle.acvp_desk.specs.declared.found.Submission.{Submission}
 use Rattle.acvp_desk.specs.declared.keys.Keys.{Keys}
 use Rattle.acvp_desk.specs.declared.wish.Registry.{Registry as RegistryOf}
+use Rattle.acvp_desk.specs.Private.Covered.{CoversAny}
+use Rattle.acvp_desk.specs.Private.Within.{is_fit, is_of_registry, is_within}
 use Rattle.acvp_desk.proofs.Allowed.{cancelled_there, certification_owned, set_there}
 use Rattle.acvp_desk.proofs.FirstBroken.{back_held, broken, first_held, held}
 use Rattle.acvp_desk.proofs.NextRequest.{certification_covered, few_asked, registration_covered}
@@ -185,16 +187,16 @@ set_covers owns seeds session n body (in_set.Resubmit None) f g names fits decid
 set_covers owns seeds session n body (in_set.Resubmit (Some s)) f g names fits decided is = submission_covers owns seeds session n body action.Resubmit f g (inr refl) names fits decided is s
 
 -- a registration
-registration_covers : (of : RegistryOf) (u : ℕ) (object : Result KeptObject Rule) (asked : Asked) (f : Facts) (g : Granted) → f.subject ≡ subject.Account
+registration_covers : (of : RegistryOf) (u : ℕ) (object : Result KeptObject Rule) (asked : Grounds) (f : Facts) (g : Granted) → f.subject ≡ subject.Account
     → is_of_registry (in_registry.New of object asked) ≡ true → first_broken (requested_conditions object asked) ≡ None → u ≡ account_of_claims (claims_of f.token)
-    → g ≡ granted (new_action of) f → CoversAny g (registration_change u object asked)
+    → g ≡ granted (new_action of) f → CoversAny g (object_change u object asked)
 unfolding granted
 registration_covers of u (Err broken) asked f g on kind own acts is = tt
 registration_covers of u (Ok object) asked f g on kind own acts is =
     registration_covered of u object asked g kind (ap (λ x. x.action) is) (rw (is, on) refl) (rw (is, on, acts) refl) (few_asked asked own)
 
 -- a certification
-certify_covers : (owns : Owns) (u n : ℕ) (parts : Result CertifyBody Rule) (asked : Asked) (f : Facts) (g : Granted) → resource_of f.subject ≡ resource.Session n
+certify_covers : (owns : Owns) (u n : ℕ) (parts : Result CertifyBody Rule) (asked : Grounds) (f : Facts) (g : Granted) → resource_of f.subject ≡ resource.Session n
     → first_broken (requested_conditions parts asked) ≡ None → u ≡ account_of_claims (claims_of f.token)
     → Ok g ≡ decision action.Certify f → g ≡ granted action.Certify f → CoversAny g (certification_change u n parts asked)
 unfolding granted

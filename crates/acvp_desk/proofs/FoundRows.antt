@@ -1,6 +1,6 @@
 -- What is found is what the records hold; and what a caller is refused, whatever is found.
 use Rattle.std.proofs.Common.{◌≡◌, ℕ, List, map, Bool, ◌&&◌, ◌==◌, nat_le, Option, None, Some, refl, sym, ap, ◌∙◌, ◌≤◌, zero, suc, length, [], ◌∷◌, arith}
-use Rattle.std.specs.Prelude.{take, option_map, option_and_then, Err}
+use Rattle.std.specs.Prelude.{take, option_map, option_and_then, is_none, true, false, Result, Ok, Err, IfOk}
 use Rattle.acvp_mac.specs.Conditions.{first_broken}
 use Rattle.acvp_policy.specs.Callers.{AgreeOnCaller}
 use Rattle.acvp_policy.specs.Conditions.{claims_of}
@@ -11,6 +11,8 @@ use Rattle.acvp_policy.specs.Scope.{scope_of}
 use Rattle.acvp_policy.specs.declared.action.Action.{Action}
 use Rattle.acvp_policy.specs.declared.facts.Facts.{Facts}
 use Rattle.acvp_policy.specs.declared.rule.Rule.{Rule}
+use Rattle.acvp_policy.specs.declared.facts.Token.TheVariants as token
+use Rattle.acvp_token.specs.declared.Claims.{Claims}
 use Rattle.acvp_policy.specs.declared.facts.CertificationStatus.{CertificationStatus}
 use Rattle.acvp_policy.specs.declared.facts.SessionFacts.{SessionFacts}
 use Rattle.acvp_tables.specs.State.{State, state_of, session_record, set_record, SetRecord, session_record_at, live_records}
@@ -19,9 +21,9 @@ use Rattle.acvp_tables.specs.declared.rows.SetRow.{SetRow}
 use Rattle.acvp_tables.specs.declared.summary.SetSummary.{SetSummary}
 use Rattle.acvp_tables.specs.Content.{Content, live_sets, session_at, account_at, set_summary}
 use Rattle.acvp_tables.specs.declared.rows.AccountRow.{AccountRow}
-use Rattle.acvp_desk.specs.Answer.{account_found, action_of, facts_in, facts_on_caller, found_of, policy_conditions, reviewer_found, standing_of, unfound_facts, who}
+use Rattle.acvp_desk.specs.Answer.{account_found, action_of, facts_in, facts_on_caller, found_of, policy_conditions, is_reviewing, standing_of, who}
 use Rattle.acvp_desk.specs.Kept.{IsKept}
-use Rattle.acvp_desk.specs.Place.{action_at, certification_of, place_of, session_facts, set_numbers, set_outcome, set_outcomes, subject_at, unfound, wish_at}
+use Rattle.acvp_desk.specs.Place.{reviewed, action_at, certification_of, place_of, session_facts, set_numbers, set_outcome, set_outcomes, subject_at, wish_at}
 use Rattle.acvp_desk.specs.Private.Admitted.{IsAdmitted}
 use Rattle.acvp_desk.specs.declared.ask.Asker.{Asker}
 use Rattle.acvp_desk.specs.declared.ask.Asker.TheVariants.{Login, Caller}
@@ -32,6 +34,7 @@ use Rattle.acvp_desk.specs.declared.wish.CallerAsk.{CallerAsk}
 use Rattle.acvp_desk.specs.Wish.{action_of_wish}
 use Rattle.acvp_desk.proofs.Decision.{denied_by}
 use Rattle.acvp_desk.specs.declared.found.SetOutcome.{SetOutcome}
+use Rattle.acvp_desk.specs.Private.Unfound.{unfound, unfound_facts}
 use Rattle.acvp_desk.proofs.PassedSession.{counters_tell, outcome_of, outcomes_among}
 use Rattle.acvp_desk.proofs.Wishes.{action_asked, place_names, wish_names}
 
@@ -81,15 +84,27 @@ account_is it c account number is found = rw (← is) found
 
 -- ---- the caller
 
+pub if_ok : {X E : Type 0} {P Q : X → Type 0} (result : Result X E) → ((x : X) → P x → Q x) → IfOk result P → IfOk result Q
+if_ok (Ok x) follows said = follows x said
+if_ok (Err fault) follows said = tt
+
+and_true : (b : Bool) → b ≡ (b && true)
+and_true true = refl
+and_true false = refl
+
+pub reviewer_is : (it : Asker) (caller : CallerAsk) (claims : Claims) (reviews : Bool) (s : State) → it ≡ Caller caller → caller.token ≡ token.Verified claims
+    → is_none claims.session ≡ true → reviews ≡ reviewed caller.wish claims.account s → reviews ≡ is_reviewing it s
+reviewer_is it caller claims reviews s is verified unbound found = rw (is, verified, unbound) (found ∙ and_true (reviewed caller.wish claims.account s))
+
 callers_agree : (moment : ℕ) (body : List ℕ) (it : Asker) (account : Option AccountRow) (reviewer : Bool) (seeds : List (List ℕ)) (s : State) → account ≡ account_found it s
-    → reviewer ≡ reviewer_found it s → AgreeOnCaller (unfound_facts moment it account reviewer) (facts_in moment (found_of seeds body it s))
+    → reviewer ≡ is_reviewing it s → AgreeOnCaller (unfound_facts moment it account reviewer) (facts_in moment (found_of seeds body it s))
 unfolding found_of
 callers_agree moment body (Login login) account reviewer seeds s is reviews = record { token = refl; standing = refl; reviewer = refl; numbers = refl }
 callers_agree moment body (Caller caller) account reviewer seeds s is reviews =
     record { token = refl; standing = ap standing_of is; reviewer = reviews; numbers = sym (wish_names seeds (account_of_claims (claims_of caller.token)) body s caller.wish) }
 
 pub refused_caller : (moment : ℕ) (body : List ℕ) (it : Asker) (account : Option AccountRow) (reviewer : Bool) (seeds : List (List ℕ)) (s : State) (rule : Rule) (a : Action) (f : Facts)
-    → account ≡ account_found it s → reviewer ≡ reviewer_found it s → a ≡ action_of it → f ≡ unfound_facts moment it account reviewer
+    → account ≡ account_found it s → reviewer ≡ is_reviewing it s → a ≡ action_of it → f ≡ unfound_facts moment it account reviewer
     → ((found : Facts) → AgreeOnCaller f found → decision a found ≡ Err rule) → first_broken (policy_conditions moment (found_of seeds body it s)) ≡ Some rule
 refused_caller moment body it account reviewer seeds s rule a f is reviews action facts refused =
     denied_by moment (found_of seeds body it s) a (facts_in moment (found_of seeds body it s)) rule (action ∙ sym (action_asked seeds body it s)) refl
@@ -122,7 +137,7 @@ unfolding found_of
 login_found it login account seeds body s is account_is = rw (account_is, is) refl
 
 pub caller_found : (it : Asker) (caller : CallerAsk) (account : Option AccountRow) (reviewer : Bool) (place : Place) (u : ℕ) (seeds : List (List ℕ)) (body : List ℕ) (s : State) → it ≡ Caller caller
-    → u ≡ account_of_claims (claims_of caller.token) → account ≡ account_found it s → reviewer ≡ reviewer_found it s → place ≡ place_of seeds u body s caller.wish
+    → u ≡ account_of_claims (claims_of caller.token) → account ≡ account_found it s → reviewer ≡ is_reviewing it s → place ≡ place_of seeds u body s caller.wish
     → found.Caller (record { token = caller.token; account = account; reviewer = reviewer; place = place }) ≡ found_of seeds body it s
 unfolding found_of
 caller_found it caller account reviewer place u seeds body s is acts account_is reviews found = rw (found, acts, account_is, reviews, is) refl

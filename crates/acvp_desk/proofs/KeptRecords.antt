@@ -45,14 +45,14 @@ use Rattle.acvp_desk.specs.declared.wish.Wish.TheVariants.{Account, Algorithm, S
 use Rattle.acvp_desk.specs.declared.wish.Registry.{Registry as RegistryOf}
 use Rattle.acvp_desk.specs.declared.wish.RegistryWish.{RegistryWish}
 use Rattle.acvp_desk.specs.declared.wish.RegistryWish.TheVariants as on_registry
-use Rattle.acvp_desk.specs.Asked.{requested_conditions, certification_asked, certification_change, certification_made, certified_in, object_in, registration_asked, registration_change, request_made}
+use Rattle.acvp_desk.specs.Asked.{requested_conditions, certification_grounds, certification_change, certification_made, certified_in, object_in, object_grounds, object_change, request_made}
 use Rattle.acvp_desk.specs.Registries.{action_on_registry, kind_of}
 use Rattle.acvp_json.specs.declared.certify_body.CertifyBody.{CertifyBody}
 use Rattle.acvp_policy.specs.Resource.{resource_of}
 use Rattle.acvp_registry.specs.Object.{KeptObject}
 use Rattle.acvp_registry.specs.declared.kind.Kind.{Kind}
 use Rattle.acvp_tables.specs.declared.rows.ObjectRow.{ObjectRow}
-use Rattle.acvp_desk.specs.OwnConditions.{new_session_conditions, place_conditions, registry_conditions, session_conditions}
+use Rattle.acvp_desk.specs.OwnConditions.{new_session_conditions, place_conditions, registry_place_conditions, session_place_conditions}
 use Rattle.acvp_desk.specs.Place.{place_of, registry_place, session_facts, session_place, set_outcomes, subject_at}
 use Rattle.acvp_desk.specs.Replies.{cancelled_set, place_change, registry_change, session_change, set_change}
 use Rattle.acvp_desk.specs.Reviewers.{reviewer_at, has_room}
@@ -64,7 +64,7 @@ use Rattle.acvp_desk.specs.declared.wish.SetWish.TheVariants as on_set
 use Rattle.acvp_desk.specs.declared.ask.LoginAsk.{LoginAsk}
 use Rattle.acvp_desk.specs.declared.wish.CallerAsk.{CallerAsk}
 use Rattle.acvp_token.specs.declared.Claims.{Claims}
-use Rattle.acvp_desk.specs.declared.found.Asked.{Asked}
+use Rattle.acvp_desk.specs.declared.found.Grounds.{Grounds}
 use Rattle.acvp_desk.specs.declared.keys.Keys.{Keys}
 use Rattle.acvp_desk.specs.declared.order.Order.{Order}
 use Rattle.acvp_desk.specs.declared.order.Order.TheVariants as order
@@ -156,7 +156,7 @@ module _ (follows : (c : Content) (it : Change) → state_of (after it c) ≡ af
 
   session_kept : (seeds : List (List ℕ)) (n : ℕ) (body : List ℕ) (f : Facts) (it : SessionWish) (c : Content)
       → session_found f.subject ≡ session_facts seeds (state_of c) n
-      → first_broken (policy (action_on_session it) f) ≡ None → first_broken (session_conditions body (session_place seeds n (state_of c) it)) ≡ None
+      → first_broken (policy (action_on_session it) f) ≡ None → first_broken (session_place_conditions body (session_place seeds n (state_of c) it)) ≡ None
       → IsKept seeds c → IsKept seeds (content_after (session_change n body (session_place seeds n (state_of c) it)) c)
   session_kept seeds n body f Read c names allowed held kept = kept
   session_kept seeds n body f Cancel c names allowed held kept = cancelled_kept seeds n c kept
@@ -235,16 +235,16 @@ module _ (follows : (c : Content) (it : Change) → state_of (after it c) ≡ af
 
   -- where an object is asked to be registered
   registration_kept : (seeds : List (List ℕ)) (of : RegistryOf) (u : ℕ) (bytes : List ℕ) (c : Content) → is_some (account_at u (state_of c).accounts) ≡ true
-      → first_broken (requested_conditions (object_in (kind_of of) bytes) (registration_asked u (object_in (kind_of of) bytes) (state_of c))) ≡ None
-      → IsKept seeds c → IsKept seeds (content_after (registration_change u (object_in (kind_of of) bytes) (registration_asked u (object_in (kind_of of) bytes) (state_of c))) c)
+      → first_broken (requested_conditions (object_in (kind_of of) bytes) (object_grounds u (object_in (kind_of of) bytes) (state_of c))) ≡ None
+      → IsKept seeds c → IsKept seeds (content_after (object_change u (object_in (kind_of of) bytes) (object_grounds u (object_in (kind_of of) bytes) (state_of c))) c)
   unfolding after
   registration_kept seeds of u bytes c there held kept = go (object_in (kind_of of) bytes) refl held
     where
-      asked : Asked
-      asked = registration_asked u (object_in (kind_of of) bytes) (state_of c)
+      asked : Grounds
+      asked = object_grounds u (object_in (kind_of of) bytes) (state_of c)
 
       go : (object : Result KeptObject Rule) → object_in (kind_of of) bytes ≡ object → first_broken (requested_conditions object asked) ≡ None
-          → IsKept seeds (content_after (registration_change u object asked) c)
+          → IsKept seeds (content_after (object_change u object asked) c)
       go (Err broken) e fit = kept
       go (Ok object) e fit =
           simply_kept seeds (change.NewRequest (request_made u asked object)) c refl (
@@ -254,13 +254,13 @@ module _ (follows : (c : Content) (it : Change) → state_of (after it c) ≡ af
 
   -- where a session is asked to be certified
   certification_kept : (seeds : List (List ℕ)) (u n : ℕ) (bytes : List ℕ) (c : Content) → is_some (account_at u (state_of c).accounts) ≡ true → owner_of n ≡ u
-      → is_some (session_facts seeds (state_of c) n) ≡ true → first_broken (requested_conditions (certified_in bytes) (certification_asked u (certified_in bytes) (state_of c))) ≡ None
-      → IsKept seeds c → IsKept seeds (content_after (certification_change u n (certified_in bytes) (certification_asked u (certified_in bytes) (state_of c))) c)
+      → is_some (session_facts seeds (state_of c) n) ≡ true → first_broken (requested_conditions (certified_in bytes) (certification_grounds u (certified_in bytes) (state_of c))) ≡ None
+      → IsKept seeds c → IsKept seeds (content_after (certification_change u n (certified_in bytes) (certification_grounds u (certified_in bytes) (state_of c))) c)
   unfolding after
   certification_kept seeds u n bytes c there owned found held kept = go (certified_in bytes) refl held
     where
-      asked : Asked
-      asked = certification_asked u (certified_in bytes) (state_of c)
+      asked : Grounds
+      asked = certification_grounds u (certified_in bytes) (state_of c)
 
       go : (parts : Result CertifyBody Rule) → certified_in bytes ≡ parts → first_broken (requested_conditions parts asked) ≡ None
           → IsKept seeds (content_after (certification_change u n parts asked) c)
@@ -271,7 +271,7 @@ module _ (follows : (c : Content) (it : Change) → state_of (after it c) ≡ af
 
   registry_kept : (seeds : List (List ℕ)) (u : ℕ) (body : List ℕ) (f : Facts) (it : RegistryWish) (c : Content)
       → (is_enabled f.standing ≡ true → is_some (account_at u (state_of c).accounts) ≡ true)
-      → first_broken (policy (action_on_registry it) f) ≡ None → first_broken (registry_conditions (registry_place u body (state_of c) it)) ≡ None
+      → first_broken (policy (action_on_registry it) f) ≡ None → first_broken (registry_place_conditions (registry_place u body (state_of c) it)) ≡ None
       → IsKept seeds c → IsKept seeds (content_after (registry_change u (registry_place u body (state_of c) it)) c)
   registry_kept seeds u body f (on_registry.Read of n) c acts allowed held kept = kept
   registry_kept seeds u body f (on_registry.New of) c acts allowed held kept = registration_kept seeds of u body c (acts (registration_allowed of f allowed).1) held kept

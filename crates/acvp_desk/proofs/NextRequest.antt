@@ -25,24 +25,25 @@ use Rattle.acvp_tables.specs.State.{State, own, owner_of, is_account_there, is_s
 use Rattle.acvp_tables.specs.declared.change.Change.TheVariants as change
 use Rattle.acvp_tables.specs.declared.rows.ObjectRow.{ObjectRow}
 use Rattle.acvp_tables.specs.declared.rows.RequestBody.TheVariants as body
-use Rattle.acvp_desk.specs.Answer.{CoversAny}
-use Rattle.acvp_desk.specs.Asked.{certified_conditions, judged_read, asked_conditions, certification_asked, certification_change, certification_made, certified_in, has_own_parts, has_own_vendor, kept_as, object_in, registered_conditions, registration_asked, registration_change, request_made}
+use Rattle.acvp_desk.specs.Asked.{certified_conditions, judged_read, grounds_conditions, certification_grounds, certification_change, certification_made, certified_in, has_own_parts, has_own_vendor, kept_as, object_in, registered_conditions, object_grounds, object_change, request_made}
 use Rattle.acvp_desk.specs.Bodies.{object_rule, object_conditions as conditions_on, rule_of}
-use Rattle.acvp_desk.specs.Place.{is_of_registry, session_facts}
+use Rattle.acvp_desk.specs.Place.{session_facts}
 use Rattle.acvp_desk.specs.Registries.{kind_of, new_action, own_object}
-use Rattle.acvp_desk.specs.declared.found.Asked.{Asked}
+use Rattle.acvp_desk.specs.declared.found.Grounds.{Grounds}
 use Rattle.acvp_desk.specs.declared.wish.Registry.{Registry}
 use Rattle.acvp_desk.specs.declared.wish.Registry.TheVariants as registry
+use Rattle.acvp_desk.specs.Private.Covered.{CoversAny}
+use Rattle.acvp_desk.specs.Private.Within.{is_of_registry}
 use Rattle.acvp_desk.proofs.FirstBroken.{back_held, first_held, front_held}
 use Rattle.acvp_desk.proofs.NextSession.{number_of, renamed_held, left_true, right_true}
 use Rattle.acvp_desk.proofs.NextReviewer.{own_session}
 
 -- ---- what the conditions say
 
-pub all_named : (asked : Asked) → first_broken (asked_conditions asked) ≡ None → asked.named ≡ true
+pub all_named : (asked : Grounds) → first_broken (grounds_conditions asked) ≡ None → asked.named ≡ true
 all_named asked held = first_held asked.named rule.NoReference ((nat_lt asked.requests 999999, rule.AccountFull) ∷ []) held
 
-pub few_asked : (asked : Asked) → first_broken (asked_conditions asked) ≡ None → nat_lt asked.requests 999999 ≡ true
+pub few_asked : (asked : Grounds) → first_broken (grounds_conditions asked) ≡ None → nat_lt asked.requests 999999 ≡ true
 few_asked asked held = first_held (nat_lt asked.requests 999999) rule.AccountFull [] (back_held ((asked.named, rule.NoReference) ∷ []) ((nat_lt asked.requests 999999, rule.AccountFull) ∷ []) held)
 
 -- what is read of a body whose envelope holds
@@ -95,7 +96,7 @@ kept_of kind bytes object is = go (first_broken (registered_conditions kind byte
         at d (rw there at (back_held (map (with_fault rule_of) (envelope_conditions bytes)) (map (with_fault object_rule) (conditions_on (object_conditions kind) (object_of bytes))) held)) is
 
 -- what is read of it is of the registry's kind
-pub is_of_its_kind : (of : Registry) (bytes : List ℕ) (read : Result KeptObject Rule) (asked : Asked) → read ≡ object_in (kind_of of) bytes → is_of_registry (in_registry.New of read asked) ≡ true
+pub is_of_its_kind : (of : Registry) (bytes : List ℕ) (read : Result KeptObject Rule) (asked : Grounds) → read ≡ object_in (kind_of of) bytes → is_of_registry (in_registry.New of read asked) ≡ true
 is_of_its_kind of bytes (Err broken) asked is = refl
 is_of_its_kind of bytes (Ok object) asked is =
     let kept = kept_of (kind_of of) bytes object (sym is) in
@@ -125,12 +126,12 @@ of_the_kind Certification registry.Vendors same = absurd (cc)
 of_the_kind Certification registry.Modules same = absurd (cc)
 of_the_kind Certification registry.Environments same = absurd (cc)
 
-pub registration_covered : (of : Registry) (u : ℕ) (object : KeptObject) (asked : Asked) (g : Granted) → is_kind object.kind (kind_of of) ≡ true → g.action ≡ new_action of → g.resource ≡ resource.Account
-    → g.account ≡ u → nat_lt asked.requests 999999 ≡ true → CoversAny g (registration_change u (Ok object) asked)
+pub registration_covered : (of : Registry) (u : ℕ) (object : KeptObject) (asked : Grounds) (g : Granted) → is_kind object.kind (kind_of of) ≡ true → g.action ≡ new_action of → g.resource ≡ resource.Account
+    → g.account ≡ u → nat_lt asked.requests 999999 ≡ true → CoversAny g (object_change u (Ok object) asked)
 registration_covered of u object asked g kind acts on is few =
     ((acts ∙ asks_for of ∙ ap request_action (sym (of_the_kind object.kind of kind)), on, is), number_of u asked.requests few)
 
-pub certification_covered : (u session : ℕ) (parts : CertifyBody) (asked : Asked) (g : Granted) → g.action ≡ action.Certify → g.resource ≡ resource.Session session
+pub certification_covered : (u session : ℕ) (parts : CertifyBody) (asked : Grounds) (g : Granted) → g.action ≡ action.Certify → g.resource ≡ resource.Session session
     → g.account ≡ u → g.account ≡ account_of_session session → nat_lt asked.requests 999999 ≡ true → CoversAny g (certification_change u session (Ok parts) asked)
 certification_covered u session parts asked g acts on is own few = ((acts, on, is, own), (sym is ∙ own, number_of u asked.requests few))
 
@@ -164,7 +165,7 @@ module _ (accounts : (u n : ℕ) (state : State) → account_at n (own u state).
       go None e = refl
       go (Some n) e = own_there Vendor n e
 
-  sound_registration : (kind : Kind) (bytes : List ℕ) (object : KeptObject) → object_in kind bytes ≡ Ok object → (registration_asked u (object_in kind bytes) state).named ≡ true
+  sound_registration : (kind : Kind) (bytes : List ℕ) (object : KeptObject) → object_in kind bytes ≡ Ok object → (object_grounds u (object_in kind bytes) state).named ≡ true
       → is_sound_body (own u state) (body.Registration object) ≡ true
   sound_registration kind bytes object is named =
       let kept = kept_of kind bytes object is in
@@ -172,14 +173,14 @@ module _ (accounts : (u n : ℕ) (state : State) → account_at n (own u state).
       rw (kept.fits, vendor_there object vendor) refl
 
   pub next_registration : (kind : Kind) (bytes : List ℕ) (object : KeptObject) → is_some (account_at u state.accounts) ≡ true → object_in kind bytes ≡ Ok object
-      → first_broken (asked_conditions (registration_asked u (object_in kind bytes) state)) ≡ None
-      → IsNextFor (own u state) (change.NewRequest (request_made u (registration_asked u (object_in kind bytes) state) object))
+      → first_broken (grounds_conditions (object_grounds u (object_in kind bytes) state)) ≡ None
+      → IsNextFor (own u state) (change.NewRequest (request_made u (object_grounds u (object_in kind bytes) state) object))
   unfolding own
   next_registration kind bytes object there is held =
-      let few = few_asked (registration_asked u (object_in kind bytes) state) held in
-      (own_account there, (refl, grind (arith, nat_tests, few)), sound_registration kind bytes object is (all_named (registration_asked u (object_in kind bytes) state) held))
+      let few = few_asked (object_grounds u (object_in kind bytes) state) held in
+      (own_account there, (refl, grind (arith, nat_tests, few)), sound_registration kind bytes object is (all_named (object_grounds u (object_in kind bytes) state) held))
 
-  sound_certification : (bytes : List ℕ) (session : ℕ) (parts : CertifyBody) → certified_in bytes ≡ Ok parts → (certification_asked u (certified_in bytes) state).named ≡ true
+  sound_certification : (bytes : List ℕ) (session : ℕ) (parts : CertifyBody) → certified_in bytes ≡ Ok parts → (certification_grounds u (certified_in bytes) state).named ≡ true
       → is_some (session_record_at session (own u state).sessions) ≡ true
       → is_sound_body (own u state) (body.Certification (record { «module» = parts.module; environment = parts.environment; session = session })) ≡ true
   sound_certification bytes session parts is named there =
@@ -191,11 +192,11 @@ module _ (accounts : (u n : ℕ) (state : State) → account_at n (own u state).
   pub next_certification : (sessions : (u n : ℕ) (state : State) → IsWellNumbered state → session_record_at n (own u state).sessions ≡ (if owner_of n == u then session_record_at n state.sessions else None))
       → (seeds : List (List ℕ)) (bytes : List ℕ) (session : ℕ) (parts : CertifyBody) → is_some (account_at u state.accounts) ≡ true → owner_of session ≡ u
       → is_some (session_facts seeds state session) ≡ true → certified_in bytes ≡ Ok parts
-      → first_broken (asked_conditions (certification_asked u (certified_in bytes) state)) ≡ None
-      → IsNextFor (own u state) (change.Certify (certification_made u session (certification_asked u (certified_in bytes) state) parts))
+      → first_broken (grounds_conditions (certification_grounds u (certified_in bytes) state)) ≡ None
+      → IsNextFor (own u state) (change.Certify (certification_made u session (certification_grounds u (certified_in bytes) state) parts))
   unfolding own
   next_certification sessions seeds bytes session parts there owned found is held =
-      let few = few_asked (certification_asked u (certified_in bytes) state) held in
+      let few = few_asked (certification_grounds u (certified_in bytes) state) held in
       let mine : is_some (session_record_at session (own u state).sessions) ≡ true =
       own_session seeds session state (session_record_at session (own u state).sessions) (rw (← owned) (sessions (owner_of session) session state well)) found in
-      (own_account there, (refl, grind (arith, nat_tests, few)), sound_certification bytes session parts is (all_named (certification_asked u (certified_in bytes) state) held) mine)
+      (own_account there, (refl, grind (arith, nat_tests, few)), sound_certification bytes session parts is (all_named (certification_grounds u (certified_in bytes) state) held) mine)

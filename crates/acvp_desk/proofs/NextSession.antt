@@ -21,10 +21,10 @@ use Rattle.acvp_tables.specs.Next.{IsNextFor}
 use Rattle.acvp_tables.specs.State.{State, own, owner_of, first_of_account, is_account_there, record_counts}
 use Rattle.acvp_tables.specs.declared.change.Change.TheVariants as change
 use Rattle.acvp_tables.specs.declared.rows.SetRow.{SetRow}
-use Rattle.acvp_desk.specs.Answer.{CoversAny}
 use Rattle.acvp_desk.specs.Bodies.{body_conditions, object_conditions, registration_rule, rule_of}
 use Rattle.acvp_desk.specs.Kept.{IsGradedSet}
 use Rattle.acvp_desk.specs.NewSessions.{newest_epoch, new_session_in, registration_in, session_made}
+use Rattle.acvp_desk.specs.Private.Covered.{CoversAny}
 use Rattle.acvp_desk.proofs.FirstBroken.{back_held, first_held, whole_held}
 
 -- ---- what is registered

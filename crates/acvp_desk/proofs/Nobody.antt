@@ -15,8 +15,7 @@ use Rattle.acvp_policy.specs.declared.facts.Token.TheVariants as token
 use Rattle.acvp_policy.specs.declared.rule.Rule.{Rule}
 use Rattle.acvp_policy.specs.declared.rule.Rule.TheVariants as rule
 use Rattle.acvp_tables.specs.State.{State}
-use Rattle.acvp_desk.specs.Answer.{accepted_change, answer, asker_of, change_by, change_on, effect, end_of_moments, facts_in, first_conditions, first_conditions_on, found_of, found_of_caller, later_conditions, later_of, own_conditions, policy_conditions, reply_to, state_after, who}
-use Rattle.acvp_desk.specs.Isolation.{who_of}
+use Rattle.acvp_desk.specs.Answer.{accepted_change, answer, asker_of, change_by, change_on, effect, end_of_moments, facts_in, first_conditions, first_conditions_on, found_of, found_of_caller, later_conditions, later_of, own_conditions, policy_conditions, reply_to, state_after, who, who_of}
 use Rattle.acvp_desk.specs.Request.{RequestValue}
 use Rattle.acvp_desk.specs.Place.{action_at, wish_at}
 use Rattle.acvp_desk.specs.declared.ask.Asker.{Asker}

@@ -22,12 +22,12 @@ use Rattle.acvp_registry.specs.declared.kind.Kind.TheVariants.{Vendor, Module, E
 use Rattle.acvp_tables.specs.Content.{Content, request_summary, reviewers_of, set_at}
 use Rattle.acvp_tables.specs.State.{State, SetRecord, record_counts, set_record, set_record_at, state_of}
 use Rattle.acvp_tables.specs.declared.rows.SetRow.{SetRow}
-use Rattle.acvp_desk.specs.Answer.{account_found, answer, asker_of, asker_on, conditions, facts_on_caller, first_conditions, first_conditions_on, found_of, later_of, policy_conditions, reply_to, reviewer_found}
+use Rattle.acvp_desk.specs.Answer.{account_found, answer, asker_of, asker_on, conditions, facts_on_caller, first_conditions, first_conditions_on, found_of, later_of, policy_conditions, reply_to, is_reviewing}
 use Rattle.acvp_desk.specs.Bodies.{body_conditions, object_conditions, registration_rule, rule_of}
 use Rattle.acvp_desk.specs.Kept.{IsGraded, IsGradedSet, IsKept}
 use Rattle.acvp_desk.specs.Login.{login_at}
 use Rattle.acvp_desk.specs.NewSessions.{new_session_in, registration_in}
-use Rattle.acvp_desk.specs.OwnConditions.{page_conditions, place_conditions, registry_conditions, session_conditions}
+use Rattle.acvp_desk.specs.OwnConditions.{page_conditions, place_conditions, registry_place_conditions, session_place_conditions}
 use Rattle.acvp_desk.specs.Place.{action_at, place_of, registry_place, session_facts, session_place, sessions_page, subject_at}
 use Rattle.acvp_desk.specs.Registries.{action_on_registry, kind_of, objects_page, own_object, own_request, requests_page}
 use Rattle.acvp_desk.specs.Replies.{algorithm_at, place_reply, prompts_from, prompts_reply, received_reply, session_reply, set_reply}
@@ -155,7 +155,7 @@ set_results_shown seeds moment n facts row (Some verdicts) there = refl
 
 -- answers to it are kept, where it isn't cancelled
 submission_shown : (seeds : List (List ℕ)) (session n : ℕ) (sets : List SetRecord) (row : SetRecord) → set_record_at n sets ≡ Some row
-    → (row.session == session) ≡ true → row.cancelled ≡ false → is_some (option_map (received_reply n) (submission_for seeds session n sets)) ≡ true
+    → (row.session == session) ≡ true → row.cancelled ≡ false → is_some (option_map (λ _. received_reply n) (submission_for seeds session n sets)) ≡ true
 unfolding submission_for
 submission_shown seeds session n sets row found of live = rw (found, of, live) refl
 
@@ -194,7 +194,7 @@ module _ (follows : (n : ℕ) (c : Content) → set_record_at n (state_of c).set
   place_on it = place_of keys.seed u r.body state it
 
   abbrev facts_on : Wish → Facts
-  facts_on it = facts_on_caller moment caller.token (account_found (Caller caller) state) (reviewer_found (Caller caller) state) (subject_at (place_on it))
+  facts_on it = facts_on_caller moment caller.token (account_found (Caller caller) state) (is_reviewing (Caller caller) state) (subject_at (place_on it))
 
   -- its object
   abbrev shown : Wish → Option Data
@@ -228,10 +228,10 @@ module _ (follows : (n : ℕ) (c : Content) → set_record_at n (state_of c).set
           (not_cancelled (set_facts (session_facts keys.seed state session) session n state.sets) of row is (live_to_resubmit (facts_on (wish.Set session n on_set.Resubmit)) holds)))
 
   session_shown_on : (n : ℕ) (it : SessionWish) → first_broken (policy (action_on_session it) (facts_on (wish.Session n it))) ≡ None
-      → first_broken (session_conditions r.body (session_place keys.seed n state it)) ≡ None → is_some (shown (wish.Session n it)) ≡ true
+      → first_broken (session_place_conditions r.body (session_place keys.seed n state it)) ≡ None → is_some (shown (wish.Session n it)) ≡ true
   session_shown_on n it holds own = given _ (session_facts keys.seed state n) (session_there it (facts_on (wish.Session n it)) holds) (go it own)
     where
-      go : (it : SessionWish) → first_broken (session_conditions r.body (session_place keys.seed n state it)) ≡ None
+      go : (it : SessionWish) → first_broken (session_place_conditions r.body (session_place keys.seed n state it)) ≡ None
           → (facts : SessionFacts) → is_some (session_reply moment n r.body (session_place keys.seed n state it) facts) ≡ true
       go on_session.Read own facts = refl
       go on_session.Cancel own facts = refl
@@ -247,7 +247,7 @@ module _ (follows : (n : ℕ) (c : Content) → set_record_at n (state_of c).set
   new_shown (seed ∷ seeds) seeded said sessions = mapped _ (registration_in r.body) said
 
   registry_shown : (it : RegistryWish) → first_broken (policy (action_on_registry it) (facts_on (wish.Registry it))) ≡ None
-      → first_broken (registry_conditions (registry_place u r.body state it)) ≡ None → is_some (shown (wish.Registry it)) ≡ true
+      → first_broken (registry_place_conditions (registry_place u r.body state it)) ≡ None → is_some (shown (wish.Registry it)) ≡ true
   registry_shown (on_registry.Read registry.Vendors n) holds own =
       mapped _ (own_object Vendor u n state.objects) (first_held (is_some (own_object Vendor u n state.objects)) rule.NoResource [] (on_resource action.ReadVendor (facts_on (wish.Registry (on_registry.Read registry.Vendors n))) holds))
   registry_shown (on_registry.Read registry.Modules n) holds own =

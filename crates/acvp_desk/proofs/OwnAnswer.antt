@@ -21,9 +21,8 @@ use Rattle.acvp_policy.specs.declared.facts.Facts.{Facts}
 use Rattle.acvp_policy.specs.declared.rule.Rule.{Rule}
 use Rattle.acvp_tables.specs.Content.{account_at}
 use Rattle.acvp_tables.specs.State.{State, own, owner_of, IsWellNumbered}
-use Rattle.acvp_desk.specs.Answer.{accepted_change, account_found, asker_of, change_of, facts_in, first_conditions_on, found_of, reviewer_found, standing_of, who}
-use Rattle.acvp_desk.specs.Isolation.{who_of}
-use Rattle.acvp_desk.specs.Place.{place_of, unfound}
+use Rattle.acvp_desk.specs.Answer.{accepted_change, account_found, asker_of, change_of, facts_in, first_conditions_on, found_of, is_reviewing, standing_of, who, who_of}
+use Rattle.acvp_desk.specs.Place.{place_of}
 use Rattle.acvp_desk.specs.Replies.{set_change}
 use Rattle.acvp_desk.specs.Request.{RequestValue}
 use Rattle.acvp_desk.specs.Sets.{results_place, set_source, verdicts_in_session}
@@ -38,10 +37,11 @@ use Rattle.acvp_desk.specs.declared.wish.SessionWish.TheVariants as on_session
 use Rattle.acvp_desk.specs.declared.wish.SetWish.TheVariants as on_set
 use Rattle.acvp_desk.specs.declared.wish.Wish.{Wish}
 use Rattle.acvp_desk.specs.declared.wish.Wish.TheVariants as wish
+use Rattle.acvp_desk.specs.Private.Unfound.{unfound}
 use Rattle.acvp_desk.proofs.Alike.{AreAlike, changes_alike, unchanged_by}
 use Rattle.acvp_desk.proofs.FirstBroken.{front_broken}
 use Rattle.acvp_desk.proofs.OwnPlace.{IsOnOwn}
-use Rattle.acvp_desk.proofs.Wishes.{no_login_at, not_reviewed, policy_asked, reads_results, wish_names}
+use Rattle.acvp_desk.proofs.Wishes.{no_login_at, not_reviewing, policy_asked, reads_results, wish_names}
 
 -- ---- whose a request is
 
@@ -70,7 +70,7 @@ module _ (account_told : (u n : ℕ) (state : State) → account_at n (own u sta
 
 -- facts of two records in which the same row is found of the caller, who is a reviewer in both or in neither
 pub agree_on_caller : (moment : ℕ) (seeds : List (List ℕ)) (body : List ℕ) (caller : CallerAsk) (one other : State) → account_found (Caller caller) one ≡ account_found (Caller caller) other
-    → reviewer_found (Caller caller) one ≡ reviewer_found (Caller caller) other
+    → is_reviewing (Caller caller) one ≡ is_reviewing (Caller caller) other
     → AgreeOnCaller (facts_in moment (found_of seeds body (Caller caller) one)) (facts_in moment (found_of seeds body (Caller caller) other))
 unfolding found_of
 agree_on_caller moment seeds body caller one other accounts reviewers = record {
@@ -83,7 +83,7 @@ agree_on_caller moment seeds body caller one other accounts reviewers = record {
 module _ (agree : (s : Scope) (one other : Facts) → AgreeOnCaller one other → claims_conditions s one ≡ claims_conditions s other) where
   -- a rule on callers refuses both, or none does
   pub refused_or_admitted : (moment : ℕ) (seeds : List (List ℕ)) (body : List ℕ) (caller : CallerAsk) (one other : State) → account_found (Caller caller) one ≡ account_found (Caller caller) other
-      → reviewer_found (Caller caller) one ≡ reviewer_found (Caller caller) other
+      → is_reviewing (Caller caller) one ≡ is_reviewing (Caller caller) other
       → (first_broken (claims_conditions (scope_of (action_of_wish caller.wish)) (facts_in moment (found_of seeds body (Caller caller) other))) ≡ None
       → AreAlike moment (found_of seeds body (Caller caller) one) (found_of seeds body (Caller caller) other))
       → AreAlike moment (found_of seeds body (Caller caller) one) (found_of seeds body (Caller caller) other)
@@ -202,8 +202,8 @@ module _ (account_told : (u n : ℕ) (state : State) → account_at n (own u sta
       rw (
         acts,
         own_account_found account_told (Caller caller) u state named,
-        not_reviewed caller.wish u (own u state) off,
-        not_reviewed caller.wish u state off,
+        not_reviewing (claims_of caller.token) caller.wish (own u state) off,
+        not_reviewing (claims_of caller.token) caller.wish state off,
         place,
       ) refl
 
@@ -214,7 +214,7 @@ module _ (account_told : (u n : ℕ) (state : State) → account_at n (own u sta
   caller_alike moment seeds body caller u state well named off =
       let acted = account_of_claims (claims_of caller.token) in
       refused_or_admitted agree moment seeds body caller (own u state) state (own_account_found account_told (Caller caller) u state named)
-      (not_reviewed caller.wish acted (own u state) off ∙ sym (not_reviewed caller.wish acted state off))
+      (not_reviewing (claims_of caller.token) caller.wish (own u state) off ∙ sym (not_reviewing (claims_of caller.token) caller.wish state off))
       (λ held. inl (caller_found seeds body caller u state well named off
       (on_own owns caller.wish (facts_in moment (found_of seeds body (Caller caller) state)) u off
       (wish_names seeds acted body state caller.wish) (acts_as moment seeds body caller u state named) held)))

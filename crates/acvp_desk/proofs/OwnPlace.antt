@@ -17,7 +17,7 @@ use Rattle.acvp_tables.specs.Content.{is_reviewer, object_at, objects_of, page, 
 use Rattle.acvp_tables.specs.State.{State, SessionRecord, SetRecord, own, owner_of, session_record_at, session_records_of, set_record_at, live_records, record_counts, IsWellNumbered}
 use Rattle.acvp_tables.specs.declared.rows.ObjectRow.{ObjectRow}
 use Rattle.acvp_tables.specs.declared.rows.RequestRow.{RequestRow}
-use Rattle.acvp_desk.specs.Asked.{certification_asked, certified_in, has_own_parts, has_own_vendor, object_in, registration_asked}
+use Rattle.acvp_desk.specs.Asked.{certification_grounds, certified_in, has_own_parts, has_own_vendor, object_in, object_grounds}
 use Rattle.acvp_desk.specs.Place.{certification_of, facts_of_session, listed_session, place_of, registry_place, reviewed_facts, session_facts, session_passes, session_place, sessions_page}
 use Rattle.acvp_desk.specs.Registries.{kind_of, own_object, own_request}
 use Rattle.acvp_desk.specs.Sets.{if_in_session, if_live_in, set_facts, set_in_session, set_place, submission_for, source_of, submission_to, set_passes}
@@ -202,11 +202,11 @@ module _ (session_told : (u n : ℕ) (state : State) → IsWellNumbered state �
   own_parts : (parts : CertifyBody) → has_own_parts u mine.objects parts ≡ has_own_parts u state.objects parts
   own_parts parts = rw (own_object_told Module parts.module, own_object_told Environment parts.environment) refl
 
-  own_registration : (object : Result KeptObject Rule) → registration_asked u object mine ≡ registration_asked u object state
+  own_registration : (object : Result KeptObject Rule) → object_grounds u object mine ≡ object_grounds u object state
   own_registration (Err broken) = rw (requests_told u state) refl
   own_registration (Ok object) = rw (requests_told u state, own_vendor object) refl
 
-  own_certification_asked : (parts : Result CertifyBody Rule) → certification_asked u parts mine ≡ certification_asked u parts state
+  own_certification_asked : (parts : Result CertifyBody Rule) → certification_grounds u parts mine ≡ certification_grounds u parts state
   own_certification_asked (Err broken) = rw (requests_told u state) refl
   own_certification_asked (Ok parts) = rw (requests_told u state, own_parts parts) refl
 

@@ -4,6 +4,7 @@ use Rattle.std.specs.Prelude.{option_map, IfSome}
 use Rattle.std.specs.List.{All, list_all}
 use Rattle.std.proofs.lemmas.Bool.Decides.{nat_tests}
 use Rattle.std.proofs.lemmas.List.Elements.{All-head, All-tail}
+use Rattle.acvp_answers.specs.Verdicts.{disposition_of}
 use Rattle.acvp_policy.specs.Conditions.{is_some_and}
 use Rattle.acvp_tables.specs.Content.{Content, is_live_in, live_sets, session_at, set_summary}
 use Rattle.acvp_tables.specs.Counted.{is_counted, is_passed, answers_passed, live_count, passed_count}
@@ -14,7 +15,7 @@ use Rattle.acvp_tables.specs.declared.rows.SetRow.{SetRow}
 use Rattle.acvp_tables.specs.declared.summary.SetSummary.{SetSummary}
 use Rattle.acvp_desk.specs.Kept.{IsGradedSet, IsRightly, IsKept}
 use Rattle.acvp_desk.specs.Place.{set_outcome, session_passes, is_any}
-use Rattle.acvp_desk.specs.Sets.{disposition_under, set_disposition, set_passes}
+use Rattle.acvp_desk.specs.Sets.{set_disposition, set_passes, verdicts_on_set, verdicts_under}
 use Rattle.acvp_desk.specs.declared.found.SetOutcome.{SetOutcome}
 
 -- what holds of each row holds of the one that is found
@@ -30,14 +31,14 @@ found_holds {R = R} p q (r ∷ rows) x found all = go (p r) (q r) refl refl (fou
 
 -- a set's stored disposition passes where its answers do
 disposed_at : (row : SetRow) (seed : List ℕ) (graded : Option GradedValue) → IfSome graded (IsRightly seed row)
-    → option_map (λ (g : GradedValue). g.disposition) graded ≡ disposition_under (set_record row) (Some seed) (option_map (λ (g : GradedValue). g.answers) graded)
+    → option_map (λ (g : GradedValue). g.disposition) graded ≡ option_map disposition_of (verdicts_under (set_record row) (Some seed) (option_map (λ (g : GradedValue). g.answers) graded))
 disposed_at row seed None rightly = refl
 disposed_at row seed (Some g) rightly = ap Some (rw rightly.verdicts at rightly.disposition)
 
 -- what is kept of a set is what its answers come to
 graded_disposition : (seeds : List (List ℕ)) (row : SetRow) → IsGradedSet seeds row
     → option_map (λ (g : GradedValue). g.disposition) row.graded ≡ set_disposition seeds (set_record row)
-unfolding IsGradedSet set_disposition
+unfolding IsGradedSet set_disposition verdicts_on_set
 graded_disposition seeds row right = rw (right.1) (disposed_at row right.0 row.graded right.2)
 
 pub passed_is : (graded : Option GradedValue) → answers_passed graded ≡ is_some_and (option_map (λ (g : GradedValue). g.disposition) graded) is_passed

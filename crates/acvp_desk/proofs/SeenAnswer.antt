@@ -1,6 +1,6 @@
 -- An account is answered alike in all records in which it sees the same.
 use Rattle.std.proofs.Common.{◌≡◌, ◌⊎◌, inl, inr, ℕ, ◌/◌, List, [], ◌∷◌, ◌++◌, map, Bool, true, false, ◌==◌, Option, None, Some, Result, Err, refl, sym, ap, ◌∙◌, arith}
-use Rattle.std.specs.Prelude.{◌||◌, not, is_some, option_and_then, option_map, if◌then◌else◌, ⊤}
+use Rattle.std.specs.Prelude.{◌||◌, ◌&&◌, not, is_none, is_some, option_and_then, option_map, if◌then◌else◌, ⊤}
 use Rattle.std.proofs.lemmas.Bool.Decides.{nat_tests}
 use Rattle.acvp_answers.specs.Standards.{standard_of}
 use Rattle.acvp_answers.specs.Verdicts.{verdicts_of}
@@ -28,9 +28,9 @@ use Rattle.acvp_policy.specs.declared.rule.Rule.{Rule}
 use Rattle.acvp_policy.specs.declared.rule.Rule.TheVariants as rule
 use Rattle.acvp_tables.specs.Content.{account_at, is_reviewer}
 use Rattle.acvp_tables.specs.State.{State, SessionRecord, SetRecord, own, seen, may_see, owner_of, session_record_at, set_record_at, live_records, IsWellNumbered}
-use Rattle.acvp_desk.specs.Answer.{account_found, answer, asker_of, facts_in, first_conditions, first_conditions_on, found_of, later_conditions, later_of, own_conditions, policy_conditions, reply_of, reply_to, reviewer_found, who}
-use Rattle.acvp_desk.specs.Isolation.{who_of, SeesTheSame}
-use Rattle.acvp_desk.specs.OwnConditions.{set_conditions}
+use Rattle.acvp_desk.specs.Answer.{account_found, answer, asker_of, facts_in, first_conditions, first_conditions_on, found_of, later_conditions, later_of, own_conditions, policy_conditions, reply_of, reply_to, is_reviewing, who, who_of}
+use Rattle.acvp_desk.specs.Isolation.{SeesTheSame}
+use Rattle.acvp_desk.specs.OwnConditions.{set_place_conditions}
 use Rattle.acvp_desk.specs.Place.{facts_of_session, place_of, reviewed, session_facts, session_passes, set_outcome, set_outcomes, subject_at}
 use Rattle.acvp_desk.specs.Replies.{disposition_at, prompts_from, result_shown, session_reply, set_reply}
 use Rattle.acvp_desk.specs.Request.{RequestValue}
@@ -52,9 +52,9 @@ use Rattle.acvp_desk.proofs.Alike.{answers_alike}
 use Rattle.acvp_desk.proofs.Elsewhere.{no_set_in}
 use Rattle.acvp_desk.proofs.FirstBroken.{front_broken}
 use Rattle.acvp_desk.proofs.Nobody.{earlier_or, judged_err, refused_by}
-use Rattle.acvp_desk.proofs.OwnAnswer.{acting, acts_as, agree_on_caller, asked_by, caller_alike, login_own, own_account_found}
+use Rattle.acvp_desk.proofs.OwnAnswer.{acts_as, agree_on_caller, asked_by, caller_alike, login_own, own_account_found}
 use Rattle.acvp_desk.proofs.OwnPlace.{IsOnOwn, found_number}
-use Rattle.acvp_desk.proofs.Wishes.{policy_asked, reads_results}
+use Rattle.acvp_desk.proofs.Wishes.{policy_asked, reads_results, reviews_unbound}
 
 -- ---- who may see a session
 
@@ -200,7 +200,7 @@ set_results_same seeds moment n (Some a) (Some b) (Some verdicts) source agree =
 set_results_same seeds moment n None (Some b) verdicts source agree = absurd agree
 set_results_same seeds moment n (Some a) None verdicts source agree = absurd agree
 
-none_asked : (seeds : List (List ℕ)) (n : ℕ) (body : List ℕ) (verdicts : Option (List Verdict)) (source : Option SetSource) → set_conditions seeds n body (results_place verdicts source) ≡ []
+none_asked : (seeds : List (List ℕ)) (n : ℕ) (body : List ℕ) (verdicts : Option (List Verdict)) (source : Option SetSource) → set_place_conditions seeds n body (results_place verdicts source) ≡ []
 none_asked seeds n body None source = refl
 none_asked seeds n body (Some verdicts) source = refl
 
@@ -280,6 +280,10 @@ module _ (agree : (s : Scope) (one other : Facts) → AgreeOnCaller one other �
 
 -- ---- all of it
 
+one_of_both : (a b : Bool) → (a && b) ≡ true → a ≡ true
+one_of_both true b both = refl
+one_of_both false b both = absurd (cc)
+
 module _ (set_names : (n : ℕ) (state : State) (row : SetRecord) → IsWellNumbered state → set_record_at n state.sets ≡ Some row → row.session ≡ n / 100)
     (account_told : (u n : ℕ) (state : State) → account_at n (own u state).accounts ≡ (if n == u then account_at n state.accounts else None))
     (place_told : (seeds : List (List ℕ)) (u : ℕ) (state : State) → IsWellNumbered state → (body : List ℕ) (it : Wish) → IsOnOwn u it → place_of seeds u body (own u state) it ≡ place_of seeds u body state it)
@@ -292,11 +296,11 @@ module _ (set_names : (n : ℕ) (state : State) (row : SetRecord) → IsWellNumb
       sym (own_account_found account_told it u one named) ∙ ap (account_found it) same.owned ∙ own_account_found account_told it u other named
 
   -- who isn't refused sees the session
-  sees : (a : Action) (f : Facts) (n : ℕ) → account_of f ≡ u → f.reviewer ≡ is_reviewer n u one.reviewers → first_broken (claims_conditions (scope_of a) f) ≡ None
+  sees : (a : Action) (f : Facts) (n : ℕ) (unbound : Bool) → account_of f ≡ u → f.reviewer ≡ (is_reviewer n u one.reviewers && unbound) → first_broken (claims_conditions (scope_of a) f) ≡ None
       → IsOfItsKind a (resource_of f.subject) → IsOfSession n (resource_of f.subject) → may_see u (owner_of n) n one ≡ true
-  sees a f n acts reviewer held kind of = elim (owns a f n held kind of) [
+  sees a f n unbound acts reviewer held kind of = elim (owns a f n held kind of) [
     | inl own ↦ seen_by_own n u one (own ∙ acts)
-    | inr review ↦ seen_by_review n u one (sym reviewer ∙ review.reviewer)
+    | inr review ↦ seen_by_review n u one (one_of_both (is_reviewer n u one.reviewers) unbound (sym reviewer ∙ review.reviewer))
   ]
 
   -- on results of a session, or of a vector set of it, both are refused, or the session is seen in both
@@ -323,21 +327,21 @@ module _ (set_names : (n : ℕ) (state : State) (row : SetRecord) → IsWellNumb
       g : Facts
       g = facts_in moment (found_of keys.seed r.body (Caller caller) other)
 
-      acted : account_of_claims (claims_of token) ≡ u
-      acted = acting (claims_of token) u named
+      unbound : Bool
+      unbound = is_some_and (claims_of token) (λ c. is_none c.session)
 
-      reviewer : (state : State) → reviewer_found (Caller caller) state ≡ is_reviewer n u state.reviewers
-      reviewer state = rw acted (reviews state)
+      reviewer : (state : State) → is_reviewing (Caller caller) state ≡ (is_reviewer n u state.reviewers && unbound)
+      reviewer state = reviews_unbound (claims_of token) u it state named ∙ ap (λ b. b && unbound) (reviews state)
 
       callers : AgreeOnCaller f g
-      callers = agree_on_caller moment keys.seed r.body caller one other (accounts_same (Caller caller) named) (reviewer one ∙ same.reviews n ∙ sym (reviewer other))
+      callers = agree_on_caller moment keys.seed r.body caller one other (accounts_same (Caller caller) named) (reviewer one ∙ ap (λ b. b && unbound) (same.reviews n) ∙ sym (reviewer other))
 
       go : (b : Option Rule) → first_broken (claims_conditions (scope_of a) f) ≡ b → told agree keys moment r token one other it one ≡ told agree keys moment r token one other it other
       go (Some refusal) broken =
           refused agree keys moment r token one other it refusal one broken
           ∙ sym (refused agree keys moment r token one other it refusal other (ap first_broken (sym (agree (scope_of a) f g callers)) ∙ broken))
       go None held =
-          shown callers (sees a f n (acts_as moment keys.seed r.body caller u one named) (reviewer one) held kind of)
+          shown callers (sees a f n unbound (acts_as moment keys.seed r.body caller u one named) (reviewer one) held kind of)
 
   session_results : (token : Token) (n : ℕ) → who (Caller (record { token = token; wish = wish.Session n on_session.Results })) ≡ Some u
       → told agree keys moment r token one other (wish.Session n on_session.Results) one ≡ told agree keys moment r token one other (wish.Session n on_session.Results) other

@@ -1,7 +1,7 @@
 -- The exits of serving, each once for all actions.
 use Rattle.std.proofs.Common.{◌≡◌, ◌⊎◌, ℕ, List, length, Option, None, Some, Ok, Err, inl, inr, refl, sym, ap, subst, ◌∙◌, Vec, true, false, is_some, ◌≤◌, ◌<◌, arith}
 use Rattle.std.specs.Global.{Global}
-use Rattle.std.specs.Prelude.{option_map, option_and_then, IfSome}
+use Rattle.std.specs.Prelude.{[], ◌∷◌, if◌then◌else◌, nat_lt, option_map, option_and_then, IfSome, IsSome}
 use Rattle.acvp_json.specs.Data.{Data}
 use Rattle.acvp_mac.specs.Conditions.{first_broken}
 use Rattle.acvp_policy.specs.declared.rule.Rule.{Rule}
@@ -13,7 +13,7 @@ use Rattle.acvp_tables.specs.Meaning.{Meaning}
 use Rattle.acvp_tables.specs.State.{state_of}
 use Rattle.acvp_tables.specs.declared.change.Change.{Change}
 use Rattle.acvp_tables.specs.declared.change.Change.TheVariants.{UseStep}
-use Rattle.acvp_desk.specs.Answer.{end_of_moments, first_conditions, asker_of, found_of, later_conditions, own_conditions, policy_conditions, reply_of, answer, accepted_change, change_of, content_after, content_effect, spare, Gives, IsReply}
+use Rattle.acvp_desk.specs.Answer.{end_of_moments, first_conditions, asker_of, found_of, later_conditions, own_conditions, policy_conditions, reply_of, answer, accepted_change, change_of, content_after, content_effect, first_conditions_on, spare, who, who_of, Gives, IsReply}
 use Rattle.acvp_desk.specs.Kept.{IsKept}
 use Rattle.acvp_desk.specs.Serves.{Looks, Serves}
 use Rattle.acvp_desk.specs.Login.{login_step}
@@ -24,7 +24,7 @@ use Rattle.acvp_desk.specs.declared.found.Found.TheVariants.{Login, Caller}
 use Rattle.acvp_desk.specs.declared.keys.Keys.{Keys}
 use Rattle.acvp_desk.specs.Request.{RequestValue}
 use Rattle.acvp_desk.proofs.AnswerParts.{refused_first, refused_later, answered, makes}
-use Rattle.acvp_desk.proofs.FirstBroken.{front_broken}
+use Rattle.acvp_desk.proofs.FirstBroken.{back_held, front_broken}
 
 -- what is given has room for its head
 roomy : (buffer : List ℕ) (shown : Option Data) → IsReply buffer shown → spare ≤ length buffer
@@ -41,6 +41,21 @@ was_changeable keys m body (Login login account) P made is said =
     if_there (λ row. option_map (λ step. UseStep (record { account = row.number; step = step })) (login_step m login row)) account made P is said
 was_changeable keys m body (Caller it) P made is said = said
 
+-- what is asked by a request of nobody names no account
+nobody_asks : (keys : Keys) (m : ℕ) (r : RequestValue) (it : Asker) → first_broken (first_conditions m r) ≡ None → asker_of keys m r ≡ Some it → who_of keys m r ≡ None → who it ≡ None
+nobody_asks keys m r it held asked none = sym (ap (option_and_then who) asked) ∙ go (first_broken (first_conditions_on r.ask r)) first none
+  where
+    first : first_broken (first_conditions_on r.ask r) ≡ None
+    first = back_held ((nat_lt m end_of_moments, rule.ClockOutOfRange) ∷ []) (first_conditions_on r.ask r) held
+
+    go : (b : Option Rule) → b ≡ None → (if is_some b then None else option_and_then who (asker_of keys m r)) ≡ None → option_and_then who (asker_of keys m r) ≡ None
+    go None e named = named
+    go (Some refusal) e named = absurd (cc)
+
+somebody : (w : Option ℕ) → IsSome w → w ≡ None → ⊥
+somebody None some none = cc
+somebody (Some u) some none = cc
+
 module _ {T : Type 0} (meaning : Meaning T) (keys : Keys) (m : ℕ) (r : RequestValue)
     (stay : (c : Content) → IsKept keys.seed c → IsKept keys.seed (content_effect keys m r c)) where
   open meaning use {stands, is_open, is_clean, leaves}
@@ -53,6 +68,8 @@ module _ {T : Type 0} (meaning : Meaning T) (keys : Keys) (m : ℕ) (r : Request
     was_open = λ live. live;
     was_clean = λ clean. clean;
     clock = λ past. ap (λ rule. Err rule) (late past);
+    late = λ past. refl;
+    nobody = λ none. refl;
     room = tt;
     given = tt;
     denied = λ clean c kept h. elim why [ inl fault ↦ inl fault | inr broken ↦ inr (refused_first keys m r (state_of c) told broken) ];
@@ -66,14 +83,16 @@ module _ {T : Type 0} (meaning : Meaning T) (keys : Keys) (m : ℕ) (r : Request
 
   -- refused on the caller, before anything is looked at that the path names
   pub refused_caller : m < end_of_moments → (it : Asker) → first_broken (first_conditions m r) ≡ None → asker_of keys m r ≡ Some it → (old mid : T) (told : Rule) {X : Type 0}
-      → Looks meaning {X = X} {E = Rule} (Err told) old mid
+      → Looks meaning {X = X} {E = Rule} (Err told) old mid → (who it ≡ None → mid ≡ old)
       → (told ≡ rule.Unavailable) ⊎ ((is_clean mid → is_open old → is_open mid)
       × (is_clean mid → (seeds : List (List ℕ)) (c : Content) → IsKept seeds c → (is_open old → stands old c) → first_broken (policy_conditions m (found_of seeds r.body it (state_of c))) ≡ Some told))
       → Serves meaning (Err told) old mid keys m r
-  refused_caller served it held asked old mid told looks why = record {
+  refused_caller served it held asked old mid told looks alone why = record {
     was_open = looks.was_open;
     was_clean = looks.was_clean;
     clock = λ past. absurd (omega (arith, served, past));
+    late = λ past. absurd (omega (arith, served, past));
+    nobody = λ none. alone (nobody_asks keys m r it held asked none);
     room = tt;
     given = tt;
     denied = λ clean c kept h.
@@ -91,7 +110,7 @@ module _ {T : Type 0} (meaning : Meaning T) (keys : Keys) (m : ℕ) (r : Request
   }
 
   module _ (served : m < end_of_moments) (it : Asker) (held : first_broken (first_conditions m r) ≡ None) (asked : asker_of keys m r ≡ Some it) (old mid : T) (f : Found) {E : Type 0}
-      (looks : Looks meaning {X = Found} {E = E} (Ok f) old mid)
+      (looks : Looks meaning {X = Found} {E = E} (Ok f) old mid) (alone : who it ≡ None → mid ≡ old)
       (finds : is_clean mid → (seeds : List (List ℕ)) (c : Content) → IsKept seeds c → (is_open old → stands old c) → f ≡ found_of seeds r.body it (state_of c)) where
     -- refused on what was found
     pub refused : (told : Rule) → (told ≡ rule.Unavailable) ⊎ (first_broken (later_conditions keys.seed m r.body f) ≡ Some told)
@@ -100,6 +119,8 @@ module _ {T : Type 0} (meaning : Meaning T) (keys : Keys) (m : ℕ) (r : Request
       was_open = looks.was_open;
       was_clean = looks.was_clean;
       clock = λ past. absurd (omega (arith, served, past));
+      late = λ past. absurd (omega (arith, served, past));
+      nobody = λ none. alone (nobody_asks keys m r it held asked none);
       room = tt;
       given = tt;
       denied = λ clean c kept h.
@@ -130,6 +151,8 @@ module _ {T : Type 0} (meaning : Meaning T) (keys : Keys) (m : ℕ) (r : Request
         was_open = looks.was_open;
         was_clean = looks.was_clean;
         clock = λ past. absurd (omega (arith, served, past));
+        late = λ past. absurd (omega (arith, served, past));
+        nobody = λ none. alone (nobody_asks keys m r it held asked none);
         room = roomy bytes.items (reply_of keys m r.body f) reply;
         given = λ clean c kept h. (
           gives clean c kept h,
@@ -147,7 +170,7 @@ module _ {T : Type 0} (meaning : Meaning T) (keys : Keys) (m : ℕ) (r : Request
         shut = λ clean off. looks.kept clean;
       }
 
-      module _ (it_changes : Change) (is : Some it_changes ≡ change_of keys m r.body f) (said : IfChangeable f (is_clean mid → is_open old)) (new : T) {X Fault : Type 0} (faults : Fault → Type 0) where
+      module _ (it_changes : Change) (is : Some it_changes ≡ change_of keys m r.body f) (said : IfChangeable f (is_clean mid → is_open old)) (named : IfChangeable f (IsSome (who it))) (new : T) {X Fault : Type 0} (faults : Fault → Type 0) where
         -- given with its change
         pub given_changed : (x : X) → Changes faults meaning {X = X} (Ok x) mid new (after it_changes)
             → Serves meaning (Ok (record { reply = bytes; changed = true })) old new keys m r
@@ -155,6 +178,8 @@ module _ {T : Type 0} (meaning : Meaning T) (keys : Keys) (m : ℕ) (r : Request
           was_open = λ live. looks.was_open (changes.was_open live);
           was_clean = λ clean. looks.was_clean (changes.was_clean clean);
           clock = λ past. absurd (omega (arith, served, past));
+          late = λ past. absurd (omega (arith, served, past));
+          nobody = λ none. absurd (somebody (who it) (was_changeable keys m r.body f (IsSome (who it)) it_changes is named) (nobody_asks keys m r it held asked none));
           room = roomy bytes.items (reply_of keys m r.body f) reply;
           given = λ clean c kept h. let before = changes.was_clean clean in (
             gives before c kept h,
@@ -180,6 +205,8 @@ module _ {T : Type 0} (meaning : Meaning T) (keys : Keys) (m : ℕ) (r : Request
           was_open = λ live. looks.was_open (changes.was_open live);
           was_clean = λ clean. looks.was_clean (changes.was_clean clean);
           clock = λ past. absurd (omega (arith, served, past));
+          late = λ past. absurd (omega (arith, served, past));
+          nobody = λ none. absurd (somebody (who it) (was_changeable keys m r.body f (IsSome (who it)) it_changes is named) (nobody_asks keys m r it held asked none));
           room = tt;
           given = tt;
           denied = λ clean c kept h. inl refl;

@@ -5,8 +5,8 @@ use Rattle.acvp_policy.specs.declared.rule.Rule.{Rule}
 use Rattle.acvp_tables.specs.Content.{Content}
 use Rattle.acvp_tables.specs.Meaning.{Meaning}
 use Rattle.acvp_tables.specs.State.{State, own, state_of, IsWellNumbered}
-use Rattle.acvp_desk.specs.Answer.{accepted_change, answer, content_effect, effect, Gives}
-use Rattle.acvp_desk.specs.Isolation.{own_after_request, who_of, IsServedApart, IsToldBySeen, SeesAlike, SeesTheSame}
+use Rattle.acvp_desk.specs.Answer.{accepted_change, answer, content_effect, effect, Gives, who_of}
+use Rattle.acvp_desk.specs.Isolation.{own_after_request, IsServedApart, IsToldBySeen, SeesAlike, SeesTheSame}
 use Rattle.acvp_desk.specs.Kept.{IsKept}
 use Rattle.acvp_desk.specs.Request.{RequestValue}
 use Rattle.acvp_desk.specs.Serves.{Serves, result_of}

@@ -20,7 +20,7 @@ use Rattle.acvp_tables.specs.State.{State, SetRecord, state_of, set_record, set_
 use Rattle.acvp_tables.specs.declared.rows.SetRow.{SetRow}
 use Rattle.acvp_desk.specs.Kept.{IsGradedSet, IsRightly, IsKept}
 use Rattle.acvp_tables.specs.declared.summary.SetSummary.{SetSummary}
-use Rattle.acvp_desk.specs.Private.SetRows.{facts_in, source_from}
+use Rattle.acvp_desk.specs.Private.SetRows.{set_facts_from, source_from}
 use Rattle.acvp_desk.specs.Sets.{facts_of_set, if_in_session, set_facts, set_in_session, source_of, verdicts_under, verdicts_on_set}
 use Rattle.acvp_desk.proofs.Elsewhere.{no_set_in}
 
@@ -57,10 +57,10 @@ module _ (follows : (n : ℕ) (c : Content) → set_record_at n (state_of c).set
 
   -- how it stands in a session
   facts_found : (c : Content) (session n : ℕ) (of : SessionFacts) (row : Option SetSummary) → row ≡ option_map set_summary (set_at n c.sets)
-      → facts_in session of row ≡ option_map (facts_of_set of) (set_in_session session n (state_of c).sets)
+      → set_facts_from session of row ≡ option_map (facts_of_set of) (set_in_session session n (state_of c).sets)
   facts_found c session n of row read = rw (read, follows n c) (go (set_at n c.sets))
     where
-      go : (kept : Option SetRow) → facts_in session of (option_map set_summary kept) ≡ option_map (facts_of_set of) (option_and_then (if_in_session session) (option_map set_record kept))
+      go : (kept : Option SetRow) → set_facts_from session of (option_map set_summary kept) ≡ option_map (facts_of_set of) (option_and_then (if_in_session session) (option_map set_record kept))
       go None = refl
       go (Some kept) = on (kept.session == session) refl
         where
@@ -69,12 +69,12 @@ module _ (follows : (n : ℕ) (c : Content) → set_record_at n (state_of c).set
           answered (Some g) = refl
 
           on : (b : Bool) → (kept.session == session) ≡ b
-              → facts_in session of (Some (set_summary kept)) ≡ option_map (facts_of_set of) (if_in_session session (set_record kept))
+              → set_facts_from session of (Some (set_summary kept)) ≡ option_map (facts_of_set of) (if_in_session session (set_record kept))
           on true is = rw (is, answered kept.graded) refl
           on false is = rw is refl
 
   pub facts_stand : (c : Content) (session n : ℕ) (facts : Option SessionFacts) (of : SessionFacts) (row : Option SetSummary) → Some of ≡ facts
-      → row ≡ option_map set_summary (set_at n c.sets) → facts_in session of row ≡ set_facts facts session n (state_of c).sets
+      → row ≡ option_map set_summary (set_at n c.sets) → set_facts_from session of row ≡ set_facts facts session n (state_of c).sets
   unfolding set_facts
   facts_stand c session n facts of row some read = rw (← some) (facts_found c session n of row read)
 

@@ -50,7 +50,7 @@ use Rattle.acvp_desk.specs.declared.found.RegistryPlace.TheVariants as in_regist
 use Rattle.acvp_desk.specs.declared.found.SessionPlace.TheVariants as in_session
 use Rattle.acvp_desk.specs.declared.found.SetPlace.TheVariants as in_set
 use Rattle.acvp_desk.specs.declared.found.Submission.{Submission}
-use Rattle.acvp_desk.specs.declared.found.Asked.{Asked}
+use Rattle.acvp_desk.specs.declared.found.Grounds.{Grounds}
 use Rattle.acvp_desk.specs.declared.keys.Keys.{Keys}
 use Rattle.acvp_desk.specs.declared.wish.RegistryWish.TheVariants as on_registry
 use Rattle.acvp_desk.specs.declared.wish.AccountWish.TheVariants as on_account
@@ -248,7 +248,7 @@ parts_told : (body : List ℕ) → is_told (certified_in body) ≡ true
 unfolding certified_in
 parts_told body = judged_told (certified_conditions body) (option_and_then certify_body_of (object_of body)) (body_lacks is_memory rule_of rule_lacks certify_body_conditions (λ d. refl) body)
 
-read_lacks : {X : Type 0} (read : Result X Rule) (asked : Asked) → is_told read ≡ true → lacks is_unavailable (requested_conditions read asked) ≡ true
+read_lacks : {X : Type 0} (read : Result X Rule) (asked : Grounds) → is_told read ≡ true → lacks is_unavailable (requested_conditions read asked) ≡ true
 read_lacks (Ok x) asked told = refl
 read_lacks (Err broken) asked told = rw told refl
 

@@ -1,17 +1,18 @@
 -- What is found of a wish is of what is asked: by the action, by what its path names, and by numbers that fit.
 use Rattle.std.proofs.Common.{◌≡◌, ℕ, ◌/◌, List, Bool, true, false, Option, None, Some, refl, ap, ◌∙◌, ◌<◌, arith}
-use Rattle.std.specs.Prelude.{not, nat_le, is_some, ◌&&◌, ◌||◌, ◌==◌}
+use Rattle.std.specs.Prelude.{not, nat_le, is_none, is_some, option_map, ◌&&◌, ◌||◌, ◌==◌}
 use Rattle.std.proofs.lemmas.Bool.Decides.{nat_tests}
 use Rattle.acvp_answers.specs.declared.verdict.Verdict.{Verdict}
-use Rattle.acvp_policy.specs.Conditions.{login_of}
+use Rattle.acvp_token.specs.declared.Claims.{Claims}
+use Rattle.acvp_policy.specs.Conditions.{is_some_and, login_of}
 use Rattle.acvp_policy.specs.Policy.{policy}
 use Rattle.acvp_policy.specs.Resource.{resource_of}
 use Rattle.acvp_policy.specs.declared.facts.SessionFacts.{SessionFacts}
 use Rattle.acvp_policy.specs.declared.facts.SetFacts.{SetFacts}
 use Rattle.acvp_tables.specs.Content.{is_reviewer}
 use Rattle.acvp_tables.specs.State.{State, SetRecord, own, owner_of, set_record_at, IsWellNumbered}
-use Rattle.acvp_desk.specs.Answer.{action_in, action_of, facts_in, found_of, is_fit, policy_conditions}
-use Rattle.acvp_desk.specs.Place.{is_within, place_of, reviewed, reviewed_facts, session_facts, subject_at, unfound, wish_at}
+use Rattle.acvp_desk.specs.Answer.{action_in, action_of, facts_in, found_of, policy_conditions, reviews_as}
+use Rattle.acvp_desk.specs.Place.{place_of, reviewed, reviewed_facts, session_facts, subject_at, wish_at}
 use Rattle.acvp_desk.specs.Sets.{results_place, set_facts, set_place, set_source, set_wish, verdicts_in_session}
 use Rattle.acvp_desk.specs.Wish.{action_of_wish}
 use Rattle.acvp_desk.specs.declared.ask.Asker.{Asker}
@@ -29,6 +30,8 @@ use Rattle.acvp_desk.specs.declared.wish.Wish.{Wish}
 use Rattle.acvp_desk.specs.declared.wish.Wish.TheVariants as wish
 use Rattle.acvp_desk.specs.Registries.{kind_of}
 use Rattle.acvp_desk.specs.Asked.{object_in}
+use Rattle.acvp_desk.specs.Private.Unfound.{unfound}
+use Rattle.acvp_desk.specs.Private.Within.{is_fit, is_within}
 use Rattle.acvp_desk.proofs.CancelledSet.{number_fits}
 use Rattle.acvp_desk.proofs.NextReviewer.{none_reviews}
 use Rattle.acvp_desk.proofs.NextRequest.{is_of_its_kind}
@@ -60,6 +63,16 @@ not_reviewed (wish.CancelSet session n) u state off = refl
 not_reviewed (wish.ListSessions at) u state off = refl
 not_reviewed (wish.Certify n) u state off = refl
 not_reviewed (wish.Registry it) u state off = refl
+
+pub not_reviewing : (claims : Option Claims) (it : Wish) (state : State) → reads_results it ≡ false → reviews_as claims it state ≡ false
+not_reviewing None it state off = refl
+not_reviewing (Some claims) it state off = rw (not_reviewed it claims.account state off) refl
+
+-- on these who is a reviewer has a token that is bound to no session
+pub reviews_unbound : (claims : Option Claims) (u : ℕ) (it : Wish) (state : State) → option_map (λ (c : Claims). c.account) claims ≡ Some u
+    → reviews_as claims it state ≡ (reviewed it u state && is_some_and claims (λ c. is_none c.session))
+reviews_unbound None u it state named = absurd (cc)
+reviews_unbound (Some claims) u it state named = let same : claims.account ≡ u = cc in rw same refl
 
 -- ---- what was asked
 

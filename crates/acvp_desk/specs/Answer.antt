@@ -1,16 +1,17 @@
 -- What a request is answered, and what it changes.
-use Rattle.std.specs.Prelude.{◌≡◌, ◌⊎◌, ℕ, ◌≤◌, Bool, false, List, [], ◌∷◌, ◌++◌, length, drop, nat_lt, true, Option}
-use Rattle.std.specs.Prelude.{Some, None, option_map, option_and_then, if◌then◌else◌, Result, Ok, Err, ⊤}
+use Rattle.std.specs.Prelude.{◌≡◌, ◌⊎◌, ℕ, ◌≤◌, Bool, false, List, [], ◌∷◌, ◌++◌, length, drop, nat_lt, Option}
+use Rattle.std.specs.Prelude.{Some, None, option_map, option_and_then, is_none, is_some, ◌&&◌, if◌then◌else◌, Result}
+use Rattle.std.specs.Prelude.{Ok, Err}
 use Rattle.acvp_json.specs.Data.{Data}
-use Rattle.acvp_mac.specs.Conditions.{Condition, judged}
+use Rattle.acvp_mac.specs.Conditions.{Condition, first_broken, judged}
 use Rattle.acvp_token.specs.Keys.{Ring}
 use Rattle.acvp_token.specs.TokenText.{ring_token_text}
+use Rattle.acvp_token.specs.declared.Claims.{Claims}
 use Rattle.acvp_json.specs.LoginBody.{login_body_conditions}
 use Rattle.acvp_json.specs.ReplyData.{token_data}
 use Rattle.acvp_json.specs.Written.{body_of}
 use Rattle.acvp_policy.specs.Conditions.{claims_of}
 use Rattle.acvp_policy.specs.Decision.{account_of_claims}
-use Rattle.acvp_policy.specs.Granted.{Granted}
 use Rattle.acvp_policy.specs.Policy.{policy}
 use Rattle.acvp_policy.specs.declared.action.Action.{Action}
 use Rattle.acvp_policy.specs.declared.action.Action.TheVariants as action
@@ -25,8 +26,6 @@ use Rattle.acvp_policy.specs.declared.rule.Rule.{Rule}
 use Rattle.acvp_policy.specs.declared.rule.Rule.TheVariants as rule
 use Rattle.acvp_tables.specs.Changes.{after}
 use Rattle.acvp_tables.specs.Content.{Content, account_at}
-use Rattle.acvp_tables.specs.Covers.{Covers}
-use Rattle.acvp_tables.specs.Own.{Fits}
 use Rattle.acvp_tables.specs.State.{State, state_of}
 use Rattle.acvp_tables.specs.StateChanges.{after_state}
 use Rattle.acvp_tables.specs.declared.change.Change.{Change}
@@ -45,7 +44,7 @@ use Rattle.acvp_desk.specs.declared.request.Ask.{Ask}
 use Rattle.acvp_desk.specs.declared.request.Ask.TheVariants as request
 use Rattle.acvp_desk.specs.declared.wish.CallerAsk.{CallerAsk}
 use Rattle.acvp_desk.specs.declared.wish.Wish.{Wish}
-use Rattle.acvp_desk.specs.Place.{action_at, is_within, place_of, reviewed, subject_at, unfound}
+use Rattle.acvp_desk.specs.Place.{action_at, place_of, reviewed, subject_at}
 use Rattle.acvp_desk.specs.OwnConditions.{place_conditions}
 use Rattle.acvp_desk.specs.Replies.{place_reply, place_change}
 use Rattle.acvp_desk.specs.Request.{RequestValue}
@@ -87,20 +86,32 @@ abbrev pub who : Asker → Option ℕ
 who (ask.Login login) = login.user
 who (ask.Caller caller) = option_map (λ claims. claims.account) (claims_of caller.token)
 
+-- the account that a request is of: of a login whose body is read the one that it names, and of each other the one that
+-- its token's claims name; none where there is none
+abbrev pub who_of : Keys → ℕ → RequestValue → Option ℕ
+who_of keys moment r =
+    if is_some (first_broken (first_conditions_on r.ask r)) then None else option_and_then who (asker_of keys moment r)
+
 abbrev pub account_found : Asker → State → Option AccountRow
 account_found it state = option_and_then (λ n. account_at n state.accounts) (who it)
 
--- whether the account that acts reviews the session of the path, where that is asked
-abbrev pub reviewer_found : Asker → State → Bool
-reviewer_found (ask.Login login) state = false
-reviewer_found (ask.Caller caller) state = reviewed caller.wish (account_of_claims (claims_of caller.token)) state
+-- the account of the claims reviews the session of the path, on the actions that reviewers are let in to; and the
+-- claims are bound to no session
+abbrev pub reviews_as : Option Claims → Wish → State → Bool
+reviews_as None it state = false
+reviews_as (Some claims) it state = reviewed it claims.account state && is_none claims.session
+
+-- whether who asks is a reviewer
+abbrev pub is_reviewing : Asker → State → Bool
+is_reviewing (ask.Login login) state = false
+is_reviewing (ask.Caller caller) state = reviews_as (claims_of caller.token) caller.wish state
 
 -- by the body, too, where it names rows
 abbrev pub found_of_caller : List (List ℕ) → List ℕ → CallerAsk → State → FoundCaller
 found_of_caller seeds body caller state = record {
   token = caller.token;
   account = account_found (ask.Caller caller) state;
-  reviewer = reviewer_found (ask.Caller caller) state;
+  reviewer = is_reviewing (ask.Caller caller) state;
   place = place_of seeds (account_of_claims (claims_of caller.token)) body state caller.wish;
 }
 
@@ -132,12 +143,6 @@ facts_on_caller moment token account reviewer subject = record {
   subject = subject;
 }
 
--- before anything is looked at that the path names
-abbrev pub unfound_facts : ℕ → Asker → Option AccountRow → Bool → Facts
-unfound_facts moment (ask.Login login) account reviewer = facts_on_login moment login account
-unfound_facts moment (ask.Caller caller) account reviewer =
-    facts_on_caller moment caller.token account reviewer (unfound caller.wish)
-
 abbrev pub facts_in : ℕ → Found → Facts
 facts_in moment (found.Login login account) = facts_on_login moment login account
 facts_in moment (found.Caller it) = facts_on_caller moment it.token it.account it.reviewer (subject_at it.place)
@@ -149,11 +154,6 @@ action_in (found.Caller it) = action_at it.place
 -- the account that acts
 abbrev pub acting : FoundCaller → ℕ
 acting it = account_of_claims (claims_of it.token)
-
--- what is found of a caller is of what the path names
-abbrev pub is_fit : Found → Bool
-is_fit (found.Login login account) = true
-is_fit (found.Caller it) = is_within it.place
 
 -- ---- the answer
 
@@ -257,8 +257,3 @@ Gives buffer (Err rule) = ⊥
 -- a refusal for want of memory or of the store, or by this rule
 abbrev pub Refuses : {X : Type 0} → Rule → Result X Rule → Type 0
 Refuses r result = (r ≡ rule.Unavailable) ⊎ (result ≡ Err r)
-
--- the grant is leave for the change, where one is made
-abbrev pub CoversAny : Granted → Option Change → Type 0
-CoversAny grant None = ⊤
-CoversAny grant (Some it) = Covers grant it × Fits it

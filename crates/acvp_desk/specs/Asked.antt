@@ -24,7 +24,7 @@ use Rattle.acvp_tables.specs.declared.change.NewRequest.{NewRequest}
 use Rattle.acvp_tables.specs.declared.rows.ObjectRow.{ObjectRow}
 use Rattle.acvp_desk.specs.Bodies.{body_conditions, object_rule, rule_of}
 use Rattle.acvp_desk.specs.Registries.{own_object}
-use Rattle.acvp_desk.specs.declared.found.Asked.{Asked}
+use Rattle.acvp_desk.specs.declared.found.Grounds.{Grounds}
 
 -- ---- what a body asks for
 
@@ -73,14 +73,14 @@ is_named (Ok x) test = test x
 is_named (Err broken) test = true
 
 -- so many requests the account has, and whether all that is named is there
-abbrev pub registration_asked : ℕ → Result KeptObject Rule → State → Asked
-registration_asked u object state = record {
+abbrev pub object_grounds : ℕ → Result KeptObject Rule → State → Grounds
+object_grounds u object state = record {
   requests = length (requests_of u state.requests);
   named = is_named object (has_own_vendor u state.objects);
 }
 
-abbrev pub certification_asked : ℕ → Result CertifyBody Rule → State → Asked
-certification_asked u parts state = record {
+abbrev pub certification_grounds : ℕ → Result CertifyBody Rule → State → Grounds
+certification_grounds u parts state = record {
   requests = length (requests_of u state.requests);
   named = is_named parts (has_own_parts u state.objects);
 }
@@ -88,44 +88,44 @@ certification_asked u parts state = record {
 -- ---- the conditions
 
 -- what the body names is there, and the account has no 999999 requests yet
-abbrev pub asked_conditions : Asked → List (Condition Rule)
-asked_conditions asked = (asked.named, rule.NoReference) ∷ (nat_lt asked.requests 999999, rule.AccountFull) ∷ []
+abbrev pub grounds_conditions : Grounds → List (Condition Rule)
+grounds_conditions grounds = (grounds.named, rule.NoReference) ∷ (nat_lt grounds.requests 999999, rule.AccountFull) ∷ []
 
 -- all conditions on the body hold
 abbrev pub read_conditions : {X : Type 0} → Result X Rule → List (Condition Rule)
 read_conditions (Ok x) = []
 read_conditions (Err broken) = (false, broken) ∷ []
 
-abbrev pub requested_conditions : {X : Type 0} → Result X Rule → Asked → List (Condition Rule)
-requested_conditions read asked = read_conditions read ++ asked_conditions asked
+abbrev pub requested_conditions : {X : Type 0} → Result X Rule → Grounds → List (Condition Rule)
+requested_conditions read grounds = read_conditions read ++ grounds_conditions grounds
 
 -- ---- the request that is made
 
 -- the account's next
-abbrev pub next_request : ℕ → Asked → ℕ
-next_request u asked = first_of_account u + asked.requests
+abbrev pub next_request : ℕ → Grounds → ℕ
+next_request u grounds = first_of_account u + grounds.requests
 
-abbrev pub request_made : ℕ → Asked → KeptObject → NewRequest
-request_made u asked object = record { number = next_request u asked; account = u; object = object }
+abbrev pub request_made : ℕ → Grounds → KeptObject → NewRequest
+request_made u grounds object = record { number = next_request u grounds; account = u; object = object }
 
-abbrev pub certification_made : ℕ → ℕ → Asked → CertifyBody → NewCertification
-certification_made u session asked body = record {
-  number = next_request u asked;
+abbrev pub certification_made : ℕ → ℕ → Grounds → CertifyBody → NewCertification
+certification_made u session grounds body = record {
+  number = next_request u grounds;
   account = u;
   certification = record { «module» = body.module; environment = body.environment; session = session };
 }
 
-abbrev pub registration_change : ℕ → Result KeptObject Rule → Asked → Option Change
-registration_change u (Ok object) asked = Some (change.NewRequest (request_made u asked object))
-registration_change u (Err broken) asked = None
+abbrev pub object_change : ℕ → Result KeptObject Rule → Grounds → Option Change
+object_change u (Ok object) grounds = Some (change.NewRequest (request_made u grounds object))
+object_change u (Err broken) grounds = None
 
-abbrev pub certification_change : ℕ → ℕ → Result CertifyBody Rule → Asked → Option Change
-certification_change u session (Ok parts) asked = Some (change.Certify (certification_made u session asked parts))
-certification_change u session (Err broken) asked = None
+abbrev pub certification_change : ℕ → ℕ → Result CertifyBody Rule → Grounds → Option Change
+certification_change u session (Ok parts) grounds = Some (change.Certify (certification_made u session grounds parts))
+certification_change u session (Err broken) grounds = None
 
 -- it waits for the operator's decision
 abbrev pub request_waiting : Kind → ℕ → PendingRequest
 request_waiting kind n = record { number = n; kind = kind; status = status.Initial; approved = None }
 
-abbrev pub asked_reply : Kind → ℕ → Asked → Data
-asked_reply kind u asked = request_data (request_waiting kind (next_request u asked))
+abbrev pub waiting_reply : Kind → ℕ → Grounds → Data
+waiting_reply kind u grounds = request_data (request_waiting kind (next_request u grounds))

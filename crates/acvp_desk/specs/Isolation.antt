@@ -1,15 +1,14 @@
 -- Whose a request or an order is, what it makes of each account's own rows, and by what its account is told.
-use Rattle.std.specs.Prelude.{◌≡◌, ◌⊎◌, ℕ, ◌/◌, Bool, true, false, ◌==◌, List, Option, None, Some, option_and_then}
-use Rattle.std.specs.Prelude.{is_some, if◌then◌else◌, Result, ⊤}
+use Rattle.std.specs.Prelude.{◌≡◌, ◌⊎◌, ℕ, ◌/◌, Bool, true, false, ◌==◌, List, Option, None, Some}
+use Rattle.std.specs.Prelude.{if◌then◌else◌, Result, ⊤}
 use Rattle.acvp_json.specs.Data.{Data}
-use Rattle.acvp_mac.specs.Conditions.{first_broken}
 use Rattle.acvp_policy.specs.declared.rule.Rule.{Rule}
 use Rattle.acvp_policy.specs.declared.rule.Rule.TheVariants as rule
 use Rattle.acvp_tables.specs.Content.{Content, is_reviewer}
 use Rattle.acvp_tables.specs.Meaning.{Meaning}
 use Rattle.acvp_tables.specs.State.{State, AreWellNumbered, IsWellNumbered, live_records, may_see, own, owner_of}
 use Rattle.acvp_tables.specs.State.{session_record_at, set_record_at, state_of}
-use Rattle.acvp_desk.specs.Answer.{answer, asker_of, effect, first_conditions_on, who, Gives, Refuses}
+use Rattle.acvp_desk.specs.Answer.{answer, effect, who_of, Gives, Refuses}
 use Rattle.acvp_desk.specs.Kept.{IsKept}
 use Rattle.acvp_desk.specs.Serves.{Holds}
 use Rattle.acvp_desk.specs.Orders.{ByReply, order_effect}
@@ -25,12 +24,6 @@ use Rattle.acvp_desk.specs.declared.request.Ask.{Ask}
 use Rattle.acvp_desk.specs.declared.request.Ask.TheVariants.{Caller}
 use Rattle.acvp_desk.specs.declared.wish.Wish.TheVariants.{Session}
 use Rattle.acvp_desk.specs.declared.wish.SessionWish.TheVariants.{AddReviewer}
-
--- the account that a request is of: of a login whose body is read the one that it names, and of each other the one that
--- its token's claims name; none where there is none
-abbrev pub who_of : Keys → ℕ → RequestValue → Option ℕ
-who_of keys moment r =
-    if is_some (first_broken (first_conditions_on r.ask r)) then None else option_and_then who (asker_of keys moment r)
 
 -- the account that an order is of: the one that it names, or that whose request it names
 abbrev pub account_of_asked : Order → ℕ

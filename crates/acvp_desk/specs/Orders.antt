@@ -47,16 +47,16 @@ is_initial (status.Approved n) = false
 is_initial status.Rejected = false
 
 -- how many objects of a kind an account has; a certification registers none
-abbrev pub count_of : Kind → Counts → ℕ
-count_of Vendor n = n.vendors
-count_of Module n = n.modules
-count_of Environment n = n.environments
-count_of Certification n = 0
+abbrev pub count_of_kind : Kind → Counts → ℕ
+count_of_kind Vendor n = n.vendors
+count_of_kind Module n = n.modules
+count_of_kind Environment n = n.environments
+count_of_kind Certification n = 0
 
 -- the number that an approval gives: the account's next of the kind, or that of the session that is certified
 abbrev pub approved_as : State → ℕ → RequestPurpose → ℕ
 approved_as state account (asks.Registration kind) =
-    first_of_account account + count_of kind (record_counts account state)
+    first_of_account account + count_of_kind kind (record_counts account state)
 approved_as state account (asks.Certification c) = c.session
 
 abbrev pub approved_number : State → RequestRow → ℕ

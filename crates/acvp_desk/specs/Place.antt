@@ -1,6 +1,6 @@
 -- What is found of what a caller asks: the numbers of its path, how what these name stands, and what the reply shows.
-use Rattle.std.specs.Prelude.{Ok, ℕ, ◌/◌, List, [], ◌∷◌, map, length, Bool, true, false, not, ◌&&◌, ◌||◌, ◌==◌, nat_le}
-use Rattle.std.specs.Prelude.{if◌then◌else◌, Option, None, option_map, option_and_then, is_some}
+use Rattle.std.specs.Prelude.{ℕ, List, [], ◌∷◌, map, length, Bool, true, false, ◌&&◌}
+use Rattle.std.specs.Prelude.{if◌then◌else◌, Option, None, option_map, option_and_then}
 use Rattle.std.specs.List.{list_all}
 use Rattle.acvp_json.specs.declared.page.Page.{Page}
 use Rattle.acvp_policy.specs.declared.action.Action.{Action}
@@ -9,7 +9,7 @@ use Rattle.acvp_policy.specs.declared.facts.CertificationStatus.TheVariants as c
 use Rattle.acvp_policy.specs.declared.facts.SessionFacts.{SessionFacts}
 use Rattle.acvp_policy.specs.declared.facts.Subject.{Subject}
 use Rattle.acvp_policy.specs.declared.facts.Subject.TheVariants as subject
-use Rattle.acvp_tables.specs.Content.{is_kind, is_reviewer, page, request_at, request_summary, reviewers_of}
+use Rattle.acvp_tables.specs.Content.{is_reviewer, page, request_at, request_summary, reviewers_of}
 use Rattle.acvp_tables.specs.State.{State, SessionRecord, SetRecord, session_record_at, session_records_of}
 use Rattle.acvp_tables.specs.State.{live_records, record_counts}
 use Rattle.acvp_tables.specs.declared.rows.RequestRow.{RequestRow}
@@ -33,9 +33,8 @@ use Rattle.acvp_desk.specs.declared.wish.SessionWish.{SessionWish}
 use Rattle.acvp_desk.specs.declared.wish.SessionWish.TheVariants as on_session
 use Rattle.acvp_desk.specs.declared.wish.RegistryWish.{RegistryWish}
 use Rattle.acvp_desk.specs.declared.wish.RegistryWish.TheVariants as on_registry
-use Rattle.acvp_desk.specs.Asked.{certified_in, object_in, certification_asked, registration_asked}
+use Rattle.acvp_desk.specs.Asked.{certified_in, object_in, certification_grounds, object_grounds}
 use Rattle.acvp_desk.specs.Registries.{kind_of, objects_page, own_object, own_request, registry_subject, requests_page}
-use Rattle.acvp_desk.specs.Registries.{unfound_row}
 use Rattle.acvp_desk.specs.Sets.{set_disposition, set_facts, set_passes, set_place, set_reviewed, set_wish}
 use Rattle.acvp_desk.specs.Wish.{action_of_wish}
 
@@ -83,21 +82,6 @@ abbrev pub reviewed : Wish → ℕ → State → Bool
 reviewed (wish.Session n it) u state = session_reviewed it n u state
 reviewed (wish.Set session n it) u state = set_reviewed it session u state
 reviewed _ u state = false
-
--- ---- what a path names
-
--- by its numbers alone
-abbrev pub unfound : Wish → Subject
-unfound (wish.Account it) = subject.Account
-unfound (wish.Algorithm n) = subject.Algorithm n
-unfound (wish.Session n it) = subject.Session (record { session = n; found = None })
-unfound (wish.Reviewer n m) = subject.Reviewer (record { session = n; reviewer = m; found = None })
-unfound (wish.Set session n it) = subject.Set (record { session = session; set = n; found = None })
-unfound wish.NewSession = subject.Account
-unfound (wish.CancelSet session n) = subject.Set (record { session = session; set = n; found = None })
-unfound (wish.ListSessions page) = subject.Account
-unfound (wish.Certify n) = subject.Session (record { session = n; found = None })
-unfound (wish.Registry it) = unfound_row it
 
 -- how a session of an account's review stands, where the account is a reviewer of it
 abbrev pub reviewed_facts : List (List ℕ) → State → ℕ → ℕ → Option SessionFacts
@@ -147,7 +131,7 @@ abbrev pub registry_place : ℕ → List ℕ → State → RegistryWish → Regi
 registry_place u body state (on_registry.Read of n) =
     in_registry.Object of n (own_object (kind_of of) u n state.objects)
 registry_place u body state (on_registry.New of) =
-    in_registry.New of (object_in (kind_of of) body) (registration_asked u (object_in (kind_of of) body) state)
+    in_registry.New of (object_in (kind_of of) body) (object_grounds u (object_in (kind_of of) body) state)
 registry_place u body state (on_registry.List of at) =
     in_registry.Objects of (option_map (objects_page (kind_of of) u state.objects) at)
 registry_place u body state (on_registry.ReadRequest n) =
@@ -173,7 +157,8 @@ place_of seeds u body state (wish.CancelSet session n) =
     (set_outcomes seeds session state)
 place_of seeds u body state (wish.ListSessions at) = place.Sessions (option_map (sessions_page u state) at)
 place_of seeds u body state (wish.Certify n) =
-    place.Certify n (session_facts seeds state n) (certified_in body) (certification_asked u (certified_in body) state)
+    place.Certify n (session_facts seeds state n) (certified_in body)
+    (certification_grounds u (certified_in body) state)
 place_of seeds u body state (wish.Registry it) = place.Registry (registry_place u body state it)
 
 -- ---- what the policy is asked about it
@@ -188,7 +173,7 @@ session_wish (in_session.AddReviewer accounts) = on_session.AddReviewer
 
 abbrev pub registry_wish : RegistryPlace → RegistryWish
 registry_wish (in_registry.Object of n row) = on_registry.Read of n
-registry_wish (in_registry.New of object asked) = on_registry.New of
+registry_wish (in_registry.New of object grounds) = on_registry.New of
 registry_wish (in_registry.Objects of rows) = on_registry.List of (option_map (λ (rows : ObjectsPage). rows.page) rows)
 registry_wish (in_registry.Request n row) = on_registry.ReadRequest n
 registry_wish (in_registry.Requests rows) =
@@ -205,7 +190,7 @@ wish_at (place.NewSession sessions) = wish.NewSession
 wish_at (place.Set session n found it) = wish.Set session n (set_wish it)
 wish_at (place.CancelSet session n found sets) = wish.CancelSet session n
 wish_at (place.Sessions found) = wish.ListSessions (option_map (λ (found : SessionsPage). found.page) found)
-wish_at (place.Certify n found parts asked) = wish.Certify n
+wish_at (place.Certify n found parts grounds) = wish.Certify n
 wish_at (place.Registry it) = wish.Registry (registry_wish it)
 
 -- the action that it is
@@ -225,19 +210,5 @@ subject_at (place.Set session n found it) = subject.Set (record { session = sess
 subject_at (place.CancelSet session n found sets) =
     subject.Set (record { session = session; set = n; found = found })
 subject_at (place.Sessions found) = subject.Account
-subject_at (place.Certify n found parts asked) = subject.Session (record { session = n; found = found })
+subject_at (place.Certify n found parts grounds) = subject.Session (record { session = n; found = found })
 subject_at (place.Registry it) = registry_subject it
-
--- what is to be registered is of the kind that the registry holds
-abbrev pub is_of_registry : RegistryPlace → Bool
-is_of_registry (in_registry.New of (Ok object) asked) = is_kind object.kind (kind_of of)
-is_of_registry _ = true
-
--- the number of a reviewer that is found is an account's, that of a vector set names its session, and what is to be
--- registered is of its registry
-abbrev pub is_within : Place → Bool
-is_within (place.Reviewer n m found accounts) = not (is_some found) || nat_le m 9999
-is_within (place.Set session n found it) = not (is_some found) || ((n / 100) == session)
-is_within (place.CancelSet session n found sets) = not (is_some found) || ((n / 100) == session)
-is_within (place.Registry it) = is_of_registry it
-is_within _ = true

@@ -1,4 +1,7 @@
 pub mod Admitted
 pub mod Changeable
+pub mod Covered
 pub mod SetRows
+pub mod Unfound
 pub mod Waiting
+pub mod Within

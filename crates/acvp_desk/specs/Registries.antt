@@ -1,5 +1,5 @@
 -- The registries of an account: its vendors, modules and operational environments, and the requests for them.
-use Rattle.std.specs.Prelude.{ℕ, List, length, map, false, ◌==◌, if◌then◌else◌, Option, Some, None}
+use Rattle.std.specs.Prelude.{ℕ, List, length, map, ◌==◌, if◌then◌else◌, Option, Some, None}
 use Rattle.std.specs.Prelude.{option_and_then, is_some}
 use Rattle.acvp_json.specs.Data.{Data}
 use Rattle.acvp_json.specs.Page.{page_data}
@@ -81,12 +81,6 @@ abbrev pub row_subject : Registry → RowSubject → Subject
 row_subject registry.Vendors row = subject.Vendor row
 row_subject registry.Modules row = subject.Module row
 row_subject registry.Environments row = subject.Environment row
-
--- by its numbers alone
-abbrev pub unfound_row : RegistryWish → Subject
-unfound_row (on.Read of n) = row_subject of (record { number = n; found = false })
-unfound_row (on.ReadRequest n) = subject.Request (record { number = n; found = false })
-unfound_row _ = subject.Account
 
 -- where the row that it names is found, or isn't
 abbrev pub registry_subject : RegistryPlace → Subject

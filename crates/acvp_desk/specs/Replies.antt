@@ -33,7 +33,7 @@ use Rattle.acvp_tables.specs.Counted.{is_passed}
 use Rattle.acvp_tables.specs.declared.change.CancelledSet.{CancelledSet}
 use Rattle.acvp_tables.specs.declared.change.Change.{Change}
 use Rattle.acvp_tables.specs.declared.change.Change.TheVariants as change
-use Rattle.acvp_desk.specs.Asked.{asked_reply, registration_change, certification_change}
+use Rattle.acvp_desk.specs.Asked.{waiting_reply, object_change, certification_change}
 use Rattle.acvp_desk.specs.NewSessions.{new_session_in, session_made_data}
 use Rattle.acvp_desk.specs.Registries.{kind_of, object_shown, objects_reply, request_reply, requests_reply}
 use Rattle.acvp_desk.specs.Reviewers.{reviewer_at, with_account, without_account}
@@ -70,15 +70,15 @@ certified_status (Some certification.Approved) = shown.Approved
 certified_status (Some certification.Rejected) = shown.Open
 
 -- cancelled, or as its last certification request stands, or open
-abbrev pub session_status : SessionFacts → SessionStatus
-session_status facts = if facts.cancelled then shown.Cancelled else certified_status facts.certification
+abbrev pub session_status : Bool → Option CertificationStatus → SessionStatus
+session_status cancelled certified = if cancelled then shown.Cancelled else certified_status certified
 
 abbrev pub session_shown : ℕ → SessionFacts → Session
 session_shown n facts = record {
   number = n;
   created = facts.created;
   sample = facts.sample;
-  status = session_status facts;
+  status = session_status facts.cancelled facts.certification;
 }
 
 -- what a vector set comes to at a moment: what its answers do, where it has any; else it waits for them, until its end
@@ -129,16 +129,16 @@ abbrev pub source_reply : List (List ℕ) → ℕ → ℕ → SetFacts → ByPro
 source_reply seeds moment n facts it source = option_map (prompts_reply moment n facts it) (prompts_from seeds n source)
 
 -- that answers are kept
-abbrev pub received_reply : ℕ → Submission → Data
-received_reply n submission = outcome_data (codes "received") (results_url n)
+abbrev pub received_reply : ℕ → Data
+received_reply n = outcome_data (codes "received") (results_url n)
 
 -- of a vector set that stands so
 abbrev pub set_reply : List (List ℕ) → ℕ → ℕ → SetPlace → SetFacts → Option Data
 set_reply seeds moment n (in_set.Made it source) facts = option_and_then (source_reply seeds moment n facts it) source
 set_reply seeds moment n (in_set.Verdicts verdicts) facts =
     Some (set_results_reply moment n facts (Some (disposition_of verdicts)) verdicts)
-set_reply seeds moment n (in_set.Submit submission) facts = option_map (received_reply n) submission
-set_reply seeds moment n (in_set.Resubmit submission) facts = option_map (received_reply n) submission
+set_reply seeds moment n (in_set.Submit submission) facts = option_map (λ _. received_reply n) submission
+set_reply seeds moment n (in_set.Resubmit submission) facts = option_map (λ _. received_reply n) submission
 
 -- ---- a vector set that is cancelled
 
@@ -146,8 +146,8 @@ set_reply seeds moment n (in_set.Resubmit submission) facts = option_map (receiv
 abbrev pub is_other : ℕ → SetOutcome → Bool
 is_other n set = not (set.vs == n)
 
-abbrev pub has_passed : SetOutcome → Bool
-has_passed set = is_some_and set.disposition is_passed
+abbrev pub outcome_passed : SetOutcome → Bool
+outcome_passed set = is_some_and set.disposition is_passed
 
 -- by the uncancelled sets of the session: how many are left, and how many of these have passed
 abbrev pub cancelled_set : ℕ → ℕ → List SetOutcome → CancelledSet
@@ -155,7 +155,7 @@ cancelled_set session n sets = record {
   session = session;
   set = n;
   live = length (filter (is_other n) sets);
-  passed = length (filter (λ set. is_other n set && has_passed set) sets);
+  passed = length (filter (λ set. is_other n set && outcome_passed set) sets);
 }
 
 -- ---- lists of sessions
@@ -165,7 +165,7 @@ listed_shown row = record {
   number = row.number;
   created = row.created;
   sample = row.sample;
-  status = if row.cancelled then shown.Cancelled else certified_status row.certification;
+  status = session_status row.cancelled row.certification;
 }
 
 abbrev pub sessions_reply : SessionsPage → Data
@@ -176,14 +176,17 @@ sessions_reply found =
 
 abbrev pub registry_reply : ℕ → RegistryPlace → Option Data
 registry_reply u (in_registry.Object of n row) = option_map object_shown row
-registry_reply u (in_registry.New of object asked) = Some (asked_reply (kind_of of) u asked)
+registry_reply u (in_registry.New of object grounds) = Some (waiting_reply (kind_of of) u grounds)
 registry_reply u (in_registry.Objects of found) = option_map (objects_reply (kind_of of)) found
 registry_reply u (in_registry.Request n row) = option_map request_reply row
 registry_reply u (in_registry.Requests found) = option_map requests_reply found
 
 abbrev pub registry_change : ℕ → RegistryPlace → Option Change
-registry_change u (in_registry.New of object asked) = registration_change u object asked
-registry_change u _ = None
+registry_change u (in_registry.New of object grounds) = object_change u object grounds
+registry_change u (in_registry.Object of n row) = None
+registry_change u (in_registry.Objects of found) = None
+registry_change u (in_registry.Request n row) = None
+registry_change u (in_registry.Requests found) = None
 
 -- ---- each
 
@@ -202,8 +205,8 @@ place_reply keys moment u body (place.Set session n found it) =
 place_reply keys moment u body (place.CancelSet session n found sets) =
     Some (outcome_data (codes "cancelled") (set_url n))
 place_reply keys moment u body (place.Sessions found) = option_map sessions_reply found
-place_reply keys moment u body (place.Certify n found parts asked) =
-    Some (asked_reply Certification u asked)
+place_reply keys moment u body (place.Certify n found parts grounds) =
+    Some (waiting_reply Certification u grounds)
 place_reply keys moment u body (place.Registry it) = registry_reply u it
 
 -- who is added is told by the body
@@ -213,7 +216,10 @@ added_change n body = option_map (λ a. change.AddReviewer (record { session = n
 abbrev pub session_change : ℕ → List ℕ → SessionPlace → Option Change
 session_change n body in_session.Cancel = Some (change.CancelSession n)
 session_change n body (in_session.AddReviewer accounts) = added_change n body
-session_change n body _ = None
+session_change n body (in_session.Read sets) = None
+session_change n body (in_session.Results sets) = None
+session_change n body (in_session.ListSets sets) = None
+session_change n body (in_session.ListReviewers accounts) = None
 
 -- the answers that a body gives are kept, graded by these prompts
 abbrev pub answers_change : ℕ → ℕ → List ℕ → ℕ → PromptsValue → Option Change
@@ -229,7 +235,8 @@ set_change seeds session n body (in_set.Submit submission) =
     option_and_then (submission_change seeds session n body) submission
 set_change seeds session n body (in_set.Resubmit submission) =
     option_and_then (submission_change seeds session n body) submission
-set_change seeds session n body _ = None
+set_change seeds session n body (in_set.Made it source) = None
+set_change seeds session n body (in_set.Verdicts verdicts) = None
 
 abbrev pub place_change : List (List ℕ) → ℕ → ℕ → List ℕ → Place → Option Change
 place_change seeds moment u body (place.Session n found it) = session_change n body it
@@ -240,6 +247,9 @@ place_change seeds moment u body (place.NewSession sessions) =
     option_map change.NewSession (new_session_in seeds moment u sessions body)
 place_change seeds moment u body (place.CancelSet session n found sets) =
     Some (change.CancelSet (cancelled_set session n sets))
-place_change seeds moment u body (place.Certify n found parts asked) = certification_change u n parts asked
+place_change seeds moment u body (place.Certify n found parts grounds) = certification_change u n parts grounds
 place_change seeds moment u body (place.Registry it) = registry_change u it
-place_change seeds moment u body _ = None
+place_change seeds moment u body (place.Account counts) = None
+place_change seeds moment u body place.Algorithms = None
+place_change seeds moment u body (place.Algorithm n) = None
+place_change seeds moment u body (place.Sessions found) = None

@@ -1,12 +1,13 @@
 -- What serving a request does to what the tables stand for.
 use Rattle.std.specs.Prelude.{◌≡◌, ◌⊎◌, ◌≤◌, false, ℕ, List, length, Result, Ok, Err, OnOk, OnErr, IfOk, IfErr, Bool}
-use Rattle.std.specs.Prelude.{is_some, ⊤}
+use Rattle.std.specs.Prelude.{is_some, None, ⊤}
 use Rattle.acvp_policy.specs.declared.rule.Rule.{Rule}
 use Rattle.acvp_policy.specs.declared.rule.Rule.TheVariants.{ClockOutOfRange, Unavailable}
 use Rattle.acvp_tables.specs.Content.{Content}
 use Rattle.acvp_tables.specs.Meaning.{Meaning}
 use Rattle.acvp_tables.specs.State.{state_of}
-use Rattle.acvp_desk.specs.Answer.{end_of_moments, answer, accepted_change, content_effect, spare, Gives, Refuses}
+use Rattle.acvp_desk.specs.Answer.{end_of_moments, answer, accepted_change, content_effect, spare, who_of, Gives}
+use Rattle.acvp_desk.specs.Answer.{Refuses}
 use Rattle.acvp_desk.specs.Kept.{IsKept}
 use Rattle.acvp_desk.specs.declared.desk.DeskReply.{DeskReply}
 use Rattle.acvp_desk.specs.declared.desk.DeskReply.TheVariants.{Given, Denied}
@@ -66,12 +67,15 @@ module _ {T : Type 0} (meaning : Meaning T) where
   -- and the content after the request's effect stands and holds what holds at all times; or the request is refused, and
   -- all stands as it did. So of tables that are shut either nothing is told that the records decide, or it is
   -- unavailable. A crash finds the effect of what was given; and of what was refused, what there was or that with the
-  -- effect. Past the last moment that is served nothing else is looked at.
+  -- effect. Past the last moment that is served nothing else is looked at, and the tables are left as they are; so they
+  -- are by a request that is nobody's.
   pub record Serves (result : Result Served Rule) (old new : T) (keys : Keys) (moment : ℕ)
       (r : RequestValue) : Type 0 where
     pub was_open : is_open new → is_open old
     pub was_clean : is_clean new → is_clean old
     pub clock : end_of_moments ≤ moment → result ≡ Err ClockOutOfRange
+    pub late : end_of_moments ≤ moment → new ≡ old
+    pub nobody : who_of keys moment r ≡ None → new ≡ old
     -- there is room for the head of what is given, whatever the tables stand for
     pub room : IfOk result (λ served. spare ≤ length served.reply.items)
     pub given : IfOk result (λ served. is_clean new → (c : Content) → IsKept keys.seed c → Holds old c

@@ -77,19 +77,9 @@ results_place None source = in_set.Made by_prompts.Results source
 
 -- ---- what its answers come to
 
--- the disposition of answers to a vector set: their verdicts, worked out anew under the seed
-abbrev pub answers_disposition : List ℕ → SetRecord → List Answer → Disposition
-answers_disposition seed row answers =
-    disposition_of (verdicts_of (standard_of (prompts_of seed row.number row.capability)) answers)
-
-abbrev pub disposition_under : SetRecord → Option (List ℕ) → Option (List Answer) → Option Disposition
-disposition_under row None answers = None
-disposition_under row (Some seed) None = None
-disposition_under row (Some seed) (Some answers) = Some (answers_disposition seed row answers)
-
 -- what the answers to a vector set come to under the seed of its epoch, where it has any
 unfoldable pub set_disposition : List (List ℕ) → SetRecord → Option Disposition
-set_disposition seeds row = disposition_under row (slice_get seeds row.epoch) row.answers
+set_disposition seeds row = option_map disposition_of (verdicts_on_set seeds row)
 
 -- whether a vector set has answers that pass
 abbrev pub set_passes : List (List ℕ) → SetRecord → Bool

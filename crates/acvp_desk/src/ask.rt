@@ -7,7 +7,7 @@ ghost use Rattle.acvp_desk.specs.Request.{request_value};
 ghost use Rattle.acvp_desk.specs.Bodies.{rule_of, body_conditions};
 ghost use Rattle.acvp_desk.specs.Wish.{token_at};
 ghost use Rattle.acvp_desk.specs.Login.{login_ask_at, password_of, user_of, renewal_of};
-ghost use Rattle.acvp_desk.specs.Answer.{asker_of, first_conditions, first_conditions_on, action_of, end_of_moments};
+ghost use Rattle.acvp_desk.specs.Answer.{asker_of, first_conditions, action_of, end_of_moments};
 ghost use Rattle.acvp_desk.specs.Desk.{keys_of};
 
 use crate::body::login_body;
@@ -105,30 +105,6 @@ fn login_ask(alloc: Global, ring: &KeyRing, body: &[u8]) -> Result<LoginAsk, Rul
     })
 }
 
-/// What a request asks, or the rule of the first condition on its body that is looked at before a row is and doesn't
-/// hold.
-fn asker_in(
-    alloc: Global,
-    ring: &KeyRing,
-    moment: u64,
-    request: &TypedRequest<'_>,
-) -> Result<Asker, Rule>
-    ensures ok { IfOk result
-        (λ asker. (first_broken (first_conditions_on request.now.ask (request_value request.now)) ≡ None)
-        × ((seeds : List (List ℕ)) → asker_of (keys_of ring.now seeds) moment (request_value request.now)
-        ≡ Some asker)) }
-    ensures err { IfErr result (λ rule. (rule ≡ Rule.Unavailable)
-        ⊎ (first_broken (first_conditions_on request.now.ask (request_value request.now)) ≡ Some rule)) }
-{
-    match request.ask {
-        Ask::Login => Ok(Asker::Login(login_ask(alloc, ring, request.body)?)),
-        Ask::Caller(wish) => {
-            let token = token_at(alloc, ring, moment, &request.token)?;
-            Ok(Asker::Caller(CallerAsk { token, wish }))
-        }
-    }
-}
-
 /// What a request asks, or the rule of the first condition that is looked at before a row is and doesn't hold.
 pub(crate) fn asker_for(
     alloc: Global,
@@ -146,5 +122,11 @@ pub(crate) fn asker_for(
     if moment >= END_OF_MOMENTS {
         return Err(Rule::ClockOutOfRange);
     }
-    asker_in(alloc, ring, moment, request)
+    match request.ask {
+        Ask::Login => Ok(Asker::Login(login_ask(alloc, ring, request.body)?)),
+        Ask::Caller(wish) => {
+            let token = token_at(alloc, ring, moment, &request.token)?;
+            Ok(Asker::Caller(CallerAsk { token, wish }))
+        }
+    }
 }

@@ -3,11 +3,10 @@
 ghost use Rattle.std.specs.Prelude.{◌≡◌, ◌⊎◌, map, Some, None, IfOk, IfErr};
 ghost use Rattle.acvp_mac.specs.Conditions.{first_broken, with_fault};
 ghost use Rattle.acvp_caps.specs.Registered.{registration_at, registration_conditions};
-ghost use Rattle.acvp_json.specs.AnswersBody.{answers_body_conditions, answers_body_of};
 ghost use Rattle.acvp_json.specs.CertifyBody.{certify_body_conditions, certify_body_of};
 ghost use Rattle.acvp_json.specs.Envelope.{envelope_conditions, object_of};
-ghost use Rattle.acvp_json.specs.LoginBody.{login_body_conditions, login_body_of};
-ghost use Rattle.acvp_json.specs.ReviewerBody.{reviewer_body_conditions, reviewer_body_of};
+ghost use Rattle.acvp_json.specs.LoginBody.{login_body_conditions};
+ghost use Rattle.acvp_json.specs.ReviewerBody.{reviewer_body_conditions};
 ghost use Rattle.acvp_json.specs.View.{view};
 ghost use Rattle.acvp_registry.specs.Object.{object_conditions};
 ghost use Rattle.acvp_desk.specs.Asked.{certified_in, kept_as, object_in};
@@ -60,21 +59,6 @@ fn opened(alloc: Global, body: &[u8]) -> Result<Value, Rule>
     }
 }
 
-/// What the object of a login says, or the rule of the first condition on it that doesn't hold.
-fn login_said(alloc: Global, object: &Value) -> Result<LoginBody, Rule>
-    ensures ok { IfOk result
-        (λ login. (first_broken (map (with_fault rule_of) (login_body_conditions (view object.now))) ≡ None)
-        × (login_body_of (view object.now) ≡ Some login)) }
-    ensures err { IfErr result (λ rule. (rule ≡ Rule.Unavailable)
-        ⊎ (first_broken (map (with_fault rule_of) (login_body_conditions (view object.now))) ≡ Some rule)) }
-{
-    renamed_conditions::<BodyFault, Rule>();
-    match read_login(alloc, object) {
-        Ok(login) => Ok(login),
-        Err(fault) => Err(rule_of(fault)),
-    }
-}
-
 /// What the body of a login says, or the rule of the first condition on it that doesn't hold.
 pub(crate) fn login_body(alloc: Global, body: &[u8]) -> Result<LoginBody, Rule>
     ensures ok { IfOk result (λ login. (first_broken (body_conditions rule_of login_body_conditions body.now) ≡ None)
@@ -83,11 +67,15 @@ pub(crate) fn login_body(alloc: Global, body: &[u8]) -> Result<LoginBody, Rule>
         ⊎ (first_broken (body_conditions rule_of login_body_conditions body.now) ≡ Some rule)) }
 {
     joined_conditions::<Rule>();
+    renamed_conditions::<BodyFault, Rule>();
     let object = match opened(alloc, body) {
         Ok(object) => object,
         Err(rule) => return Err(rule),
     };
-    login_said(alloc, &object)
+    match read_login(alloc, &object) {
+        Ok(login) => Ok(login),
+        Err(fault) => Err(rule_of(fault)),
+    }
 }
 
 /// The rule of a registration's fault.
@@ -136,21 +124,6 @@ pub(crate) fn registration_body(alloc: Global, body: &[u8]) -> Result<Registrati
     registration_said(alloc, &object)
 }
 
-/// The account that the object of an added reviewer names, or the rule of the condition on it that doesn't hold.
-fn reviewer_said(object: &Value) -> Result<u16, Rule>
-    ensures ok { IfOk result
-        (λ account. (first_broken (map (with_fault rule_of) (reviewer_body_conditions (view object.now))) ≡ None)
-        × (reviewer_body_of (view object.now) ≡ Some account)) }
-    ensures err { IfErr result
-        (λ rule. first_broken (map (with_fault rule_of) (reviewer_body_conditions (view object.now))) ≡ Some rule) }
-{
-    renamed_conditions::<BodyFault, Rule>();
-    match read_reviewer(object) {
-        Ok(account) => Ok(account),
-        Err(fault) => Err(rule_of(fault)),
-    }
-}
-
 /// The account that the body of an added reviewer names, or the rule of the first condition on it that doesn't hold.
 pub(crate) fn reviewer_body(alloc: Global, body: &[u8]) -> Result<u16, Rule>
     ensures ok { IfOk result (λ account. (first_broken (body_conditions rule_of reviewer_body_conditions body.now)
@@ -159,25 +132,13 @@ pub(crate) fn reviewer_body(alloc: Global, body: &[u8]) -> Result<u16, Rule>
         ⊎ (first_broken (body_conditions rule_of reviewer_body_conditions body.now) ≡ Some rule)) }
 {
     joined_conditions::<Rule>();
+    renamed_conditions::<BodyFault, Rule>();
     let object = match opened(alloc, body) {
         Ok(object) => object,
         Err(rule) => return Err(rule),
     };
-    reviewer_said(&object)
-}
-
-/// The answers that the object of a body gives, or the rule of the first condition on it that doesn't hold.
-fn answers_said(alloc: Global, object: &Value, prompts: &Prompts) -> Result<Answers, Rule>
-    ensures ok { IfOk result
-        (λ answers. (first_broken (map (with_fault rule_of) (answers_body_conditions (view object.now) prompts.now))
-        ≡ None) × (answers_body_of (view object.now) prompts.now ≡ Some answers)) }
-    ensures err { IfErr result (λ rule. (rule ≡ Rule.Unavailable)
-        ⊎ (first_broken (map (with_fault rule_of) (answers_body_conditions (view object.now) prompts.now))
-        ≡ Some rule)) }
-{
-    renamed_conditions::<BodyFault, Rule>();
-    match read_answers(alloc, object, prompts) {
-        Ok(answers) => Ok(answers),
+    match read_reviewer(&object) {
+        Ok(account) => Ok(account),
         Err(fault) => Err(rule_of(fault)),
     }
 }
@@ -191,11 +152,15 @@ pub(crate) fn answers_body(alloc: Global, body: &[u8], prompts: &Prompts) -> Res
         ⊎ (first_broken (answers_conditions prompts.now body.now) ≡ Some rule)) }
 {
     joined_conditions::<Rule>();
+    renamed_conditions::<BodyFault, Rule>();
     let object = match opened(alloc, body) {
         Ok(object) => object,
         Err(rule) => return Err(rule),
     };
-    answers_said(alloc, &object, prompts)
+    match read_answers(alloc, &object, prompts) {
+        Ok(answers) => Ok(answers),
+        Err(fault) => Err(rule_of(fault)),
+    }
 }
 
 // ---- bodies that name rows, which are read before the rows are looked up: want of memory is told apart

@@ -5,7 +5,7 @@ ghost use Rattle.acvp_json.specs.Session.{outcome_data};
 ghost use Rattle.acvp_json.specs.Urls.{set_url};
 ghost use Rattle.acvp_tables.specs.declared.change.Change.TheVariants as change;
 ghost use Rattle.acvp_desk.specs.Answer.{IsReply};
-ghost use Rattle.acvp_desk.specs.Replies.{cancelled_set, has_passed, is_other};
+ghost use Rattle.acvp_desk.specs.Replies.{cancelled_set, outcome_passed, is_other};
 
 use crate::draft::{Draft, told};
 use crate::found::SetOutcome;
@@ -15,8 +15,8 @@ use acvp_policy::Rule;
 use acvp_tables::{CancelledSet, Change};
 use std::alloc::Global;
 
-fn has_passed(set: &SetOutcome) -> bool
-    ensures { result ≡ has_passed set.now }
+fn outcome_passed(set: &SetOutcome) -> bool
+    ensures { result ≡ outcome_passed set.now }
 {
     set.disposition == Some(Disposition::Passed)
 }
@@ -30,10 +30,10 @@ fn others(sets: &[SetOutcome], number: u64) -> usize
 
 /// How many of these have passed.
 fn others_passed(sets: &[SetOutcome], number: u64) -> usize
-    ensures { result ≡ length (filter (λ set. is_other number set && has_passed set) sets.now) }
+    ensures { result ≡ length (filter (λ set. is_other number set && outcome_passed set) sets.now) }
 {
     sets.iter()
-        .filter(|set| set.vs != number && has_passed(set))
+        .filter(|set| set.vs != number && outcome_passed(set))
         .count()
 }
 

@@ -119,6 +119,7 @@ impl<T: Tables> Desk<T> {
         ensures keys { self.new.keys ≡ self.old.keys }
         ensures answered { Orders T.meaning result self.old.tables self.new.tables order.now }
         ensures apart { IsOrderedApart T.meaning result self.old.tables self.new.tables order.now }
+        ensures cached { self.new.cached ≡ self.old.cached }
     {
         let _ = moment;
         effects_follow();
@@ -143,16 +144,6 @@ impl<T: Tables> Desk<T> {
         nobody_is_answered_alike();
         requests_are_apart();
         seen_rows_answer();
-        self.answered(moment, request)
-    }
-
-    /// What a request is answered.
-    fn answered(&mut self, moment: u64, request: &TypedRequest<'_>) -> Outcome
-        ensures keys { self.new.keys ≡ self.old.keys }
-        ensures served { Serves T.meaning (result_of result.reply result.changed) self.old.tables self.new.tables
-            self.old.keys moment (request_value request.now) }
-        ensures denied { IfDenied result.reply (result.changed ≡ false) }
-    {
         match serve(
             self.alloc,
             &self.ring,

@@ -4,13 +4,13 @@ ghost use Rattle.std.specs.Prelude.{◌≡◌, ◌⊎◌, ◌<◌, true, Some, N
 ghost use Rattle.acvp_mac.specs.Conditions.{first_broken};
 ghost use Rattle.acvp_token.specs.TokenText.{ring_token_text};
 ghost use Rattle.acvp_json.specs.ReplyData.{reply_data, token_data};
-ghost use Rattle.acvp_desk.specs.Answer.{acting, change_of, end_of_moments, is_fit, login_change, login_reply};
+ghost use Rattle.acvp_desk.specs.Answer.{acting, change_of, end_of_moments, login_change, login_reply};
 ghost use Rattle.acvp_desk.specs.Answer.{own_conditions, policy_conditions, reply_of, IsReply};
 ghost use Rattle.acvp_desk.specs.Desk.{keys_of};
-ghost use Rattle.acvp_desk.specs.Place.{is_within};
 ghost use Rattle.acvp_desk.specs.OwnConditions.{place_conditions};
 ghost use Rattle.acvp_desk.specs.Replies.{place_change, place_reply};
 ghost use Rattle.acvp_desk.specs.Login.{renewed_session};
+ghost use Rattle.acvp_desk.specs.Private.Within.{is_fit, is_within};
 ghost use Rattle.acvp_desk.specs.declared.found.Found.TheVariants as found;
 
 use crate::algorithm::draft_algorithm;
@@ -118,6 +118,7 @@ fn draft_login(
     ensures change { IfOk result (λ draft. draft.change ≡ login_change moment login.now account.now) }
     ensures denied { IfErr result (λ rule. rule ≡ Rule.Unavailable) }
 {
+    // Who has no account or no code was refused before.
     let Some(row) = account else {
         return Err(Rule::LoginRefused);
     };
@@ -192,8 +193,8 @@ fn draft_place(
             draft_cancelled(alloc, session, set, &sets.sets)
         }
         Place::Sessions(found) => draft_sessions(alloc, &found),
-        Place::Certify(session, _, parts, asked) => {
-            draft_certification(alloc, account, session, parts, &asked)
+        Place::Certify(session, _, parts, grounds) => {
+            draft_certification(alloc, account, session, parts, &grounds)
         }
         Place::Registry(it) => draft_registry(alloc, account, it),
     }

@@ -1,10 +1,11 @@
 //! What the policy is asked about.
 
 ghost use Rattle.std.specs.Prelude.{◌≡◌};
-ghost use Rattle.acvp_desk.specs.Answer.{facts_in, facts_on_caller, facts_on_login, standing_of, unfound_facts};
+ghost use Rattle.acvp_desk.specs.Answer.{facts_in, facts_on_caller, facts_on_login, standing_of};
 ghost use Rattle.acvp_desk.specs.Login.{login_step, login_facts};
-ghost use Rattle.acvp_desk.specs.Place.{subject_at, unfound};
-ghost use Rattle.acvp_desk.specs.Registries.{registry_subject, row_subject, unfound_row};
+ghost use Rattle.acvp_desk.specs.Place.{subject_at};
+ghost use Rattle.acvp_desk.specs.Registries.{registry_subject, row_subject};
+ghost use Rattle.acvp_desk.specs.Private.Unfound.{unfound, unfound_facts, unfound_row};
 
 use crate::ask::{Asker, LoginAsk};
 use crate::found::{Found, Place, RegistryPlace};
@@ -31,7 +32,6 @@ fn row_subject(registry: Registry, row: RowSubject) -> Subject
 fn unfound_row(wish: RegistryWish) -> Subject
     ensures { result ≡ unfound_row wish }
 {
-    let found = false;
     match wish {
         RegistryWish::Read(registry, number) => row_subject(
             registry,

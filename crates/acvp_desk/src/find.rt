@@ -1,25 +1,26 @@
 //! The tables are looked at.
 
 ghost use Rattle.std.specs.Prelude.{◌≡◌, ◌⊎◌, ◌/◌, ℕ, List, map, ◌&&◌, ◌||◌, ◌==◌, not, nat_le, true, Some, is_some};
-ghost use Rattle.std.specs.Prelude.{IfOk, IfErr, IfSome, option_and_then, option_map};
+ghost use Rattle.std.specs.Prelude.{IfOk, IfErr, IfSome, IsSome, None, option_and_then, option_map};
 ghost use Rattle.acvp_mac.specs.Conditions.{first_broken};
 ghost use Rattle.acvp_policy.specs.Conditions.{claims_of};
 ghost use Rattle.acvp_policy.specs.Decision.{account_of_claims};
 ghost use Rattle.acvp_tables.specs.Content.{Content, account_at, reviewers_of, session_at, set_at};
 ghost use Rattle.acvp_tables.specs.Meaning.{narrowed};
 ghost use Rattle.acvp_tables.specs.State.{record_counts, session_record, state_of, set_record_at};
-ghost use Rattle.acvp_desk.specs.Answer.{action_in, action_of, found_of, is_fit, policy_conditions};
-ghost use Rattle.acvp_desk.specs.Answer.{reviewer_found, who};
+ghost use Rattle.acvp_desk.specs.Answer.{action_in, action_of, found_of, policy_conditions};
+ghost use Rattle.acvp_desk.specs.Answer.{is_reviewing, who};
 ghost use Rattle.acvp_desk.specs.Kept.{IsKept};
 ghost use Rattle.acvp_desk.specs.Private.Admitted.{IsAdmitted};
 ghost use Rattle.acvp_desk.specs.Private.Changeable.{IfChangeable};
-ghost use Rattle.acvp_desk.specs.Private.SetRows.{facts_in, rows_in, source_from};
-ghost use Rattle.acvp_desk.specs.Place.{certification_of, certification_status, is_within, listed_session, place_of};
-ghost use Rattle.acvp_desk.specs.Place.{reviewed_facts, session_facts, session_place, session_wish, sessions_page};
-ghost use Rattle.acvp_desk.specs.Place.{set_numbers, set_outcomes, wish_at};
+ghost use Rattle.acvp_desk.specs.Private.SetRows.{set_facts_from, rows_in, source_from};
+ghost use Rattle.acvp_desk.specs.Place.{certification_of, certification_status, listed_session, place_of};
+ghost use Rattle.acvp_desk.specs.Place.{reviewed, reviewed_facts, session_facts, session_place, session_wish};
+ghost use Rattle.acvp_desk.specs.Place.{sessions_page, set_numbers, set_outcomes, wish_at};
 ghost use Rattle.acvp_desk.specs.Sets.{no_set_place, set_facts, set_place, set_wish, submission_for, verdicts_on_set};
 ghost use Rattle.acvp_desk.specs.Serves.{Holds, Knows, Looks, Sees};
 ghost use Rattle.acvp_desk.specs.declared.found.Place.TheVariants as place;
+ghost use Rattle.acvp_desk.specs.Private.Within.{is_fit, is_within};
 
 use crate::ask::Asker;
 use crate::body::certify_read;
@@ -29,9 +30,9 @@ use crate::found::{
     SessionsPage, SetNumbers, SetOutcome, SetOutcomes, SetPlace, SetSource, SetVerdicts,
     Submission,
 };
-use crate::own_rows::{certification_asked, registry_place};
+use crate::own_rows::{certification_grounds, registry_place};
 use crate::submit::one_if_passed;
-use crate::wish::{AccountWish, CallerAsk, SessionWish, SetWish, Wish};
+use crate::wish::{AccountWish, SessionWish, SetWish, Wish};
 use acvp_json::Page;
 use acvp_policy::{CertificationStatus, Rule, SessionFacts, SetFacts, Token, admit};
 use acvp_registry::Counts;
@@ -73,6 +74,8 @@ fn account<T: Tables>(tables: &mut T, number: Option<u16>) -> Result<Option<Acco
         (λ seeds c. option_and_then (λ n. account_at n c.accounts) number) }
     ensures open { IfOk result (λ found. IfSome found (λ _. T.meaning.is_clean tables.new
         → T.meaning.is_open tables.old × T.meaning.is_open tables.new)) }
+    ensures named { IfOk result (λ found. IfSome found (λ _. IsSome number)) }
+    ensures nobody { number ≡ None → tables.new ≡ tables.old }
     ensures looks { Looks T.meaning result tables.old tables.new }
 {
     match number {
@@ -81,27 +84,36 @@ fn account<T: Tables>(tables: &mut T, number: Option<u16>) -> Result<Option<Acco
     }
 }
 
-/// Whether the account that acts reviews the session of the path, where that is asked.
+/// Whether an account reviews the session of the path, on the actions that reviewers are let in to.
 #[tactic(auto, unfolding(acvp_tables::specs::State::state_of))]
-fn reviewer<T: Tables>(tables: &mut T, ask: &Asker) -> Result<bool, StoreFault>
-    ensures found { Knows T.meaning result tables.old tables.new (λ seeds c. reviewer_found ask.now (state_of c)) }
+fn reviews<T: Tables>(tables: &mut T, wish: &Wish, account: u16) -> Result<bool, StoreFault>
+    ensures found { Knows T.meaning result tables.old tables.new
+        (λ seeds c. reviewed wish.now account (state_of c)) }
     ensures looks { Looks T.meaning result tables.old tables.new }
 {
-    match ask {
-        Asker::Caller(
-            CallerAsk {
-                token,
-                wish: Wish::Session(session, SessionWish::Results),
-            },
-        ) => tables.is_reviewer(*session, acting(token)),
-        Asker::Caller(
-            CallerAsk {
-                token,
-                wish: Wish::Set(of, _, SetWish::Results),
-            },
-        ) => tables.is_reviewer(*of, acting(token)),
+    match *wish {
+        Wish::Session(session, SessionWish::Results) => tables.is_reviewer(session, account),
+        Wish::Set(session, _, SetWish::Results) => tables.is_reviewer(session, account),
         _ => Ok(false),
     }
+}
+
+/// Whether who asks is a reviewer. It is looked up for claims that are verified and bound to no session.
+fn reviewer<T: Tables>(tables: &mut T, ask: &Asker) -> Result<bool, StoreFault>
+    ensures found { Knows T.meaning result tables.old tables.new (λ seeds c. is_reviewing ask.now (state_of c)) }
+    ensures nobody { who ask.now ≡ None → tables.new ≡ tables.old }
+    ensures looks { Looks T.meaning result tables.old tables.new }
+{
+    let Asker::Caller(caller) = ask else {
+        return Ok(false);
+    };
+    let Token::Verified(claims) = caller.token else {
+        return Ok(false);
+    };
+    if claims.session.is_some() {
+        return Ok(false);
+    }
+    reviews(tables, &caller.wish, claims.account)
 }
 
 fn certification_status(status: RequestStatus) -> CertificationStatus
@@ -203,8 +215,8 @@ fn reviewed_facts<T: Tables>(
 }
 
 /// How the vector set of a row stands, where there is one and it is of the session of a number, which stands so.
-fn facts_in(session: u64, facts: SessionFacts, row: Option<SetSummary>) -> Option<SetFacts>
-    ensures { result ≡ facts_in session facts row }
+fn set_facts_from(session: u64, facts: SessionFacts, row: Option<SetSummary>) -> Option<SetFacts>
+    ensures { result ≡ set_facts_from session facts row }
 {
     match row {
         Some(row) if row.session == session => Some(SetFacts {
@@ -237,7 +249,7 @@ fn set_facts<T: Tables>(
         return Ok(None);
     };
     let row = tables.set(number)?;
-    Ok(facts_in(session, facts, row))
+    Ok(set_facts_from(session, facts, row))
 }
 
 /// The numbers of a session's vector sets that aren't cancelled.
@@ -363,7 +375,7 @@ fn facts_by_rows<T: Tables>(
 {
     selections_follow();
     match facts_by_row(tables, session, rows.session)? {
-        Some(facts) => Ok(facts_in(session, facts, rows.set)),
+        Some(facts) => Ok(set_facts_from(session, facts, rows.set)),
         None => Ok(None),
     }
 }
@@ -622,8 +634,8 @@ fn look_at<T: Tables>(
         Wish::Certify(session) => {
             let found = session_facts(tables, session)?;
             let parts = certify_read(alloc, body)?;
-            let asked = certification_asked(tables, account, &parts)?;
-            Ok(Place::Certify(session, found, parts, asked))
+            let grounds = certification_grounds(tables, account, &parts)?;
+            Ok(Place::Certify(session, found, parts, grounds))
         }
         Wish::Reviewer(session, reviewer) => {
             let found = reviewed_facts(tables, session, reviewer)?;
@@ -656,6 +668,8 @@ pub(crate) fn find<T: Tables>(
     ensures admitted { IfOk result (IsAdmitted moment) }
     ensures open { IfOk result
         (λ found. IfChangeable found (T.meaning.is_clean tables.new → T.meaning.is_open tables.old)) }
+    ensures named { IfOk result (λ found. IfChangeable found (IsSome (who ask.now))) }
+    ensures nobody { who ask.now ≡ None → tables.new ≡ tables.old }
     ensures refused { IfErr result (λ rule. (rule ≡ Rule.Unavailable)
         ⊎ ((T.meaning.is_clean tables.new → T.meaning.is_open tables.old → T.meaning.is_open tables.new)
         × (T.meaning.is_clean tables.new → (seeds : List (List ℕ)) (c : Content) → IsKept seeds c

@@ -186,7 +186,7 @@ pub(crate) struct RequestsPage {
 
 /// What a request for registration or certification is judged by, beside its body.
 #[derive(Clone, Copy)]
-pub(crate) struct Asked {
+pub(crate) struct Grounds {
     /// How many requests the account has.
     pub requests: u64,
 
@@ -251,7 +251,7 @@ pub(crate) enum RegistryPlace {
 
     /// The object that a body asks to register, or the rule of the first condition on it that doesn't hold; and what is
     /// judged beside.
-    New(Registry, Result<Object, Rule>, Asked),
+    New(Registry, Result<Object, Rule>, Grounds),
 
     /// A page of the objects, where the query is one.
     Objects(Registry, Option<ObjectsPage>),
@@ -288,7 +288,7 @@ pub(crate) enum Place {
 
     /// A session; what a body asks to certify it with, or the rule of the first condition on it that doesn't hold; and
     /// what is judged beside.
-    Certify(u64, Option<SessionFacts>, Result<CertifyBody, Rule>, Asked),
+    Certify(u64, Option<SessionFacts>, Result<CertifyBody, Rule>, Grounds),
     Registry(RegistryPlace),
 }
 

@@ -9,8 +9,9 @@ ghost use Rattle.acvp_desk.specs.Replies.{listed_shown, sessions_reply};
 use crate::ask::END_OF_MOMENTS;
 use crate::draft::{Draft, told};
 use crate::found::{ListedSession, SessionsPage};
-use acvp_json::{Created, ReplyObject, Session, SessionStatus};
-use acvp_policy::{CertificationStatus, Rule};
+use crate::session::session_status;
+use acvp_json::{Created, ReplyObject, Session};
+use acvp_policy::Rule;
 use std::alloc::Global;
 
 /// What is shown of a session. A row of a session that was created at a moment that isn't served stands for nothing.
@@ -21,17 +22,11 @@ fn listed_shown(row: &ListedSession) -> Result<Session, Rule>
     if row.created >= END_OF_MOMENTS {
         return Err(Rule::Unavailable);
     }
-    let status = match row.certification {
-        _ if row.cancelled => SessionStatus::Cancelled,
-        Some(CertificationStatus::Initial) => SessionStatus::Initial,
-        Some(CertificationStatus::Approved) => SessionStatus::Approved,
-        None | Some(CertificationStatus::Rejected) => SessionStatus::Open,
-    };
     Ok(Session {
         number: row.number,
         created: Created::at(row.created),
         sample: row.sample,
-        status,
+        status: session_status(row.cancelled, row.certification),
     })
 }
 

@@ -4,15 +4,16 @@ ghost use Rattle.std.specs.Prelude.{true, ◌≡◌, is_some, IfOk, option_map};
 ghost use Rattle.acvp_registry.specs.Object.{object_vendor};
 ghost use Rattle.acvp_tables.specs.Content.{request_summary};
 ghost use Rattle.acvp_tables.specs.State.{state_of};
-ghost use Rattle.acvp_desk.specs.Asked.{is_named, certification_asked, has_own_parts, has_own_vendor};
-ghost use Rattle.acvp_desk.specs.Asked.{registration_asked};
+ghost use Rattle.acvp_desk.specs.Asked.{is_named, certification_grounds, has_own_parts, has_own_vendor};
+ghost use Rattle.acvp_desk.specs.Asked.{object_grounds};
 ghost use Rattle.acvp_desk.specs.Kept.{IsKept};
-ghost use Rattle.acvp_desk.specs.Place.{is_of_registry, registry_place, registry_wish};
+ghost use Rattle.acvp_desk.specs.Place.{registry_place, registry_wish};
 ghost use Rattle.acvp_desk.specs.Registries.{kind_of, objects_page, own_object, own_request, requests_page};
 ghost use Rattle.acvp_desk.specs.Serves.{Looks, Sees};
+ghost use Rattle.acvp_desk.specs.Private.Within.{is_of_registry};
 
 use crate::body::object_read;
-use crate::found::{Asked, ObjectRows, ObjectsPage, RegistryPlace, RequestRows, RequestsPage};
+use crate::found::{Grounds, ObjectRows, ObjectsPage, RegistryPlace, RequestRows, RequestsPage};
 use crate::numbers::is_of_account;
 use crate::wish::{Registry, RegistryWish};
 use acvp_json::{CertifyBody, Page};
@@ -170,7 +171,7 @@ fn has_own_parts<T: Tables>(
 }
 
 /// Whether what is read of the body of a registration names what is an account's.
-fn registration_named<T: Tables>(
+fn object_named<T: Tables>(
     tables: &mut T,
     account: u16,
     object: &Result<Object, Rule>,
@@ -203,34 +204,34 @@ fn certification_named<T: Tables>(
 
 /// What a registration is judged by, beside what is read of its body.
 #[tactic(auto, unfolding(acvp_tables::specs::State::state_of))]
-fn registration_asked<T: Tables>(
+fn object_grounds<T: Tables>(
     tables: &mut T,
     account: u16,
     object: &Result<Object, Rule>,
-) -> Result<Asked, StoreFault>
+) -> Result<Grounds, StoreFault>
     ensures found { Sees T.meaning result tables.old tables.new
-        (λ seeds c. registration_asked account object.now (state_of c)) }
+        (λ seeds c. object_grounds account object.now (state_of c)) }
     ensures looks { Looks T.meaning result tables.old tables.new }
 {
-    let named = registration_named(tables, account, object)?;
+    let named = object_named(tables, account, object)?;
     let requests = tables.count(account, Counted::Requests)?;
-    Ok(Asked { requests, named })
+    Ok(Grounds { requests, named })
 }
 
 /// What a certification is judged by, beside what is read of its body.
 #[tactic(auto, unfolding(acvp_tables::specs::State::state_of))]
-pub(crate) fn certification_asked<T: Tables>(
+pub(crate) fn certification_grounds<T: Tables>(
     tables: &mut T,
     account: u16,
     parts: &Result<CertifyBody, Rule>,
-) -> Result<Asked, StoreFault>
+) -> Result<Grounds, StoreFault>
     ensures found { Sees T.meaning result tables.old tables.new
-        (λ seeds c. certification_asked account parts.now (state_of c)) }
+        (λ seeds c. certification_grounds account parts.now (state_of c)) }
     ensures looks { Looks T.meaning result tables.old tables.new }
 {
     let named = certification_named(tables, account, parts)?;
     let requests = tables.count(account, Counted::Requests)?;
-    Ok(Asked { requests, named })
+    Ok(Grounds { requests, named })
 }
 
 // ---- all of it
@@ -257,8 +258,8 @@ pub(crate) fn registry_place<T: Tables>(
         }
         RegistryWish::New(registry) => {
             let object = object_read(alloc, registry.kind(), body)?;
-            let asked = registration_asked(tables, account, &object)?;
-            Ok(RegistryPlace::New(registry, object, asked))
+            let grounds = object_grounds(tables, account, &object)?;
+            Ok(RegistryPlace::New(registry, object, grounds))
         }
         RegistryWish::List(registry, page) => {
             let found = objects_page(tables, registry, account, page)?;

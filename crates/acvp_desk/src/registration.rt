@@ -5,11 +5,11 @@ ghost use Rattle.acvp_json.specs.Registry.{request_data};
 ghost use Rattle.acvp_mac.specs.Conditions.{first_broken};
 ghost use Rattle.acvp_registry.specs.declared.kind.Kind.TheVariants as of_kind;
 ghost use Rattle.acvp_desk.specs.Answer.{IsReply};
-ghost use Rattle.acvp_desk.specs.Asked.{requested_conditions, asked_conditions, asked_reply, certification_change};
-ghost use Rattle.acvp_desk.specs.Asked.{next_request, registration_change, request_waiting};
+ghost use Rattle.acvp_desk.specs.Asked.{requested_conditions, grounds_conditions, waiting_reply, certification_change};
+ghost use Rattle.acvp_desk.specs.Asked.{next_request, object_change, request_waiting};
 
 use crate::draft::{Draft, told};
-use crate::found::Asked;
+use crate::found::Grounds;
 use crate::numbers::{MOST_ROWS, next_number};
 use acvp_json::{CertifyBody, ReplyObject};
 use acvp_policy::Rule;
@@ -19,18 +19,18 @@ use std::alloc::Global;
 
 /// The number of the account's next request, or the rule of the first condition beside those on the body that doesn't
 /// hold.
-pub(crate) fn next_request(account: u16, asked: &Asked) -> Result<u64, Rule>
-    ensures ok { IfOk result (λ number. (first_broken (asked_conditions asked.now) ≡ None)
-        × (number ≡ next_request account asked.now)) }
-    ensures err { IfErr result (λ rule. first_broken (asked_conditions asked.now) ≡ Some rule) }
+pub(crate) fn next_request(account: u16, grounds: &Grounds) -> Result<u64, Rule>
+    ensures ok { IfOk result (λ number. (first_broken (grounds_conditions grounds.now) ≡ None)
+        × (number ≡ next_request account grounds.now)) }
+    ensures err { IfErr result (λ rule. first_broken (grounds_conditions grounds.now) ≡ Some rule) }
 {
-    if !asked.named {
+    if !grounds.named {
         return Err(Rule::NoReference);
     }
-    if asked.requests >= MOST_ROWS {
+    if grounds.requests >= MOST_ROWS {
         return Err(Rule::AccountFull);
     }
-    Ok(next_number(account, asked.requests))
+    Ok(next_number(account, grounds.requests))
 }
 
 /// What is told of a request that waits for the operator's decision.
@@ -51,25 +51,25 @@ fn told_waiting(alloc: Global, number: u64, kind: Kind, change: Change) -> Resul
 }
 
 /// What is given to who asks for the registration of an object, or the rule of the first condition that doesn't hold.
-pub(crate) fn draft_registration(
+pub(crate) fn draft_new_object(
     alloc: Global,
     account: u16,
     kind: Kind,
     object: Result<Object, Rule>,
-    asked: &Asked,
+    grounds: &Grounds,
 ) -> Result<Draft, Rule>
-    ensures held { IfOk result (λ _. first_broken (requested_conditions object asked.now) ≡ None) }
+    ensures held { IfOk result (λ _. first_broken (requested_conditions object grounds.now) ≡ None) }
     ensures reply { IfOk result
-        (λ draft. IsReply draft.reply.items (Some (asked_reply kind account asked.now))) }
-    ensures change { IfOk result (λ draft. draft.change ≡ registration_change account object asked.now) }
+        (λ draft. IsReply draft.reply.items (Some (waiting_reply kind account grounds.now))) }
+    ensures change { IfOk result (λ draft. draft.change ≡ object_change account object grounds.now) }
     ensures denied { IfErr result (λ rule. (rule ≡ Rule.Unavailable)
-        ⊎ (first_broken (requested_conditions object asked.now) ≡ Some rule)) }
+        ⊎ (first_broken (requested_conditions object grounds.now) ≡ Some rule)) }
 {
     let object = match object {
         Ok(object) => object,
         Err(rule) => return Err(rule),
     };
-    let number = match next_request(account, asked) {
+    let number = match next_request(account, grounds) {
         Ok(number) => number,
         Err(rule) => return Err(rule),
     };
@@ -87,21 +87,21 @@ pub(crate) fn draft_certification(
     account: u16,
     session: u64,
     parts: Result<CertifyBody, Rule>,
-    asked: &Asked,
+    grounds: &Grounds,
 ) -> Result<Draft, Rule>
-    ensures held { IfOk result (λ _. first_broken (requested_conditions parts asked.now) ≡ None) }
+    ensures held { IfOk result (λ _. first_broken (requested_conditions parts grounds.now) ≡ None) }
     ensures reply { IfOk result
-        (λ draft. IsReply draft.reply.items (Some (asked_reply of_kind.Certification account asked.now))) }
+        (λ draft. IsReply draft.reply.items (Some (waiting_reply of_kind.Certification account grounds.now))) }
     ensures change { IfOk result
-        (λ draft. draft.change ≡ certification_change account session parts asked.now) }
+        (λ draft. draft.change ≡ certification_change account session parts grounds.now) }
     ensures denied { IfErr result (λ rule. (rule ≡ Rule.Unavailable)
-        ⊎ (first_broken (requested_conditions parts asked.now) ≡ Some rule)) }
+        ⊎ (first_broken (requested_conditions parts grounds.now) ≡ Some rule)) }
 {
     let parts = match parts {
         Ok(parts) => parts,
         Err(rule) => return Err(rule),
     };
-    let number = match next_request(account, asked) {
+    let number = match next_request(account, grounds) {
         Ok(number) => number,
         Err(rule) => return Err(rule),
     };

@@ -4,14 +4,14 @@ ghost use Rattle.std.specs.Prelude.{◌≡◌, ◌⊎◌, List, map, option_map,
 ghost use Rattle.acvp_json.specs.Registry.{registered_data};
 ghost use Rattle.acvp_mac.specs.Conditions.{first_broken};
 ghost use Rattle.acvp_desk.specs.Answer.{IsReply};
-ghost use Rattle.acvp_desk.specs.OwnConditions.{page_conditions, registry_conditions};
+ghost use Rattle.acvp_desk.specs.OwnConditions.{page_conditions, registry_place_conditions};
 ghost use Rattle.acvp_desk.specs.Registries.{kind_asked, kind_of, object_shown, objects_reply, request_reply};
 ghost use Rattle.acvp_desk.specs.Registries.{request_shown, requests_reply, status_shown};
 ghost use Rattle.acvp_desk.specs.Replies.{registry_change, registry_reply};
 
 use crate::draft::{Draft, told};
 use crate::found::{ObjectsPage, RegistryPlace, RequestsPage};
-use crate::registration::draft_registration;
+use crate::registration::draft_new_object;
 use acvp_json::{Registered, ReplyObject};
 use acvp_policy::Rule;
 use acvp_registry::{Kind, PendingRequest, Status};
@@ -162,16 +162,16 @@ pub(crate) fn draft_registry(
     account: u16,
     place: RegistryPlace,
 ) -> Result<Draft, Rule>
-    ensures held { IfOk result (λ _. first_broken (registry_conditions place) ≡ None) }
+    ensures held { IfOk result (λ _. first_broken (registry_place_conditions place) ≡ None) }
     ensures reply { IfOk result (λ draft. IsReply draft.reply.items (registry_reply account place)) }
     ensures change { IfOk result (λ draft. draft.change ≡ registry_change account place) }
     ensures denied { IfErr result (λ rule. (rule ≡ Rule.Unavailable)
-        ⊎ (first_broken (registry_conditions place) ≡ Some rule)) }
+        ⊎ (first_broken (registry_place_conditions place) ≡ Some rule)) }
 {
     match place {
         RegistryPlace::Object(_, _, row) => draft_object(alloc, &row),
-        RegistryPlace::New(registry, object, asked) => {
-            draft_registration(alloc, account, registry.kind(), object, &asked)
+        RegistryPlace::New(registry, object, grounds) => {
+            draft_new_object(alloc, account, registry.kind(), object, &grounds)
         }
         RegistryPlace::Objects(registry, found) => draft_objects(alloc, registry.kind(), &found),
         RegistryPlace::Request(_, row) => draft_request(alloc, &row),

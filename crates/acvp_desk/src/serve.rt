@@ -2,12 +2,14 @@
 
 ghost use Rattle.std.specs.Prelude.{◌≡◌, ◌<◌, ◌⊎◌, true, None, Some, IfOk, IfErr};
 ghost use Rattle.acvp_mac.specs.Conditions.{first_broken};
-ghost use Rattle.acvp_desk.specs.Answer.{action_in, change_of, end_of_moments, is_fit, later_conditions};
-ghost use Rattle.acvp_desk.specs.Answer.{reply_of, CoversAny, IsReply};
+ghost use Rattle.acvp_desk.specs.Answer.{action_in, change_of, end_of_moments, later_conditions};
+ghost use Rattle.acvp_desk.specs.Answer.{reply_of, IsReply};
 ghost use Rattle.acvp_desk.specs.Desk.{keys_of};
 ghost use Rattle.acvp_desk.specs.Private.Admitted.{IsAdmitted};
 ghost use Rattle.acvp_desk.specs.Request.{request_value};
 ghost use Rattle.acvp_desk.specs.Serves.{Serves};
+ghost use Rattle.acvp_desk.specs.Private.Covered.{CoversAny};
+ghost use Rattle.acvp_desk.specs.Private.Within.{is_fit};
 
 use crate::ask::asker_for;
 use crate::cache::Cache;

@@ -4,7 +4,7 @@ ghost use Rattle.std.specs.Prelude.{◌≡◌, ◌⊎◌, ◌<◌, map, Some, No
 ghost use Rattle.acvp_json.specs.Session.{session_data, session_results_data};
 ghost use Rattle.acvp_mac.specs.Conditions.{first_broken};
 ghost use Rattle.acvp_desk.specs.Answer.{end_of_moments, IsReply};
-ghost use Rattle.acvp_desk.specs.OwnConditions.{session_conditions};
+ghost use Rattle.acvp_desk.specs.OwnConditions.{session_place_conditions};
 ghost use Rattle.acvp_desk.specs.Replies.{disposition_at, result_shown, session_change, session_reply, session_shown};
 ghost use Rattle.acvp_desk.specs.Replies.{session_status};
 
@@ -22,11 +22,14 @@ use std::alloc::{AllocError, Global};
 const SET_LIFE: u64 = 604800;
 
 /// How a session stands: cancelled, or as its last certification request stands, or open.
-fn session_status(facts: &SessionFacts) -> SessionStatus
-    ensures { result ≡ session_status facts.now }
+pub(crate) fn session_status(
+    cancelled: bool,
+    certification: Option<CertificationStatus>,
+) -> SessionStatus
+    ensures { result ≡ session_status cancelled certification }
 {
-    match facts.certification {
-        _ if facts.cancelled => SessionStatus::Cancelled,
+    match certification {
+        _ if cancelled => SessionStatus::Cancelled,
         Some(CertificationStatus::Initial) => SessionStatus::Initial,
         Some(CertificationStatus::Approved) => SessionStatus::Approved,
         None | Some(CertificationStatus::Rejected) => SessionStatus::Open,
@@ -45,7 +48,7 @@ fn session_shown(number: u64, facts: &SessionFacts) -> Result<Session, Rule>
         number,
         created: Created::at(facts.created),
         sample: facts.sample,
-        status: session_status(facts),
+        status: session_status(facts.cancelled, facts.certification),
     })
 }
 
@@ -142,12 +145,12 @@ pub(crate) fn draft_session(
     it: &SessionPlace,
     facts: &SessionFacts,
 ) -> Result<Draft, Rule>
-    ensures held { IfOk result (λ _. first_broken (session_conditions body.now it.now) ≡ None) }
+    ensures held { IfOk result (λ _. first_broken (session_place_conditions body.now it.now) ≡ None) }
     ensures reply { IfOk result
         (λ draft. IsReply draft.reply.items (session_reply moment number body.now it.now facts.now)) }
     ensures change { IfOk result (λ draft. draft.change ≡ session_change number body.now it.now) }
     ensures denied { IfErr result (λ rule. (rule ≡ Rule.Unavailable)
-        ⊎ (first_broken (session_conditions body.now it.now) ≡ Some rule)) }
+        ⊎ (first_broken (session_place_conditions body.now it.now) ≡ Some rule)) }
 {
     match it {
         SessionPlace::Read(sets) => draft_read(alloc, number, facts, &sets.numbers),

@@ -7,7 +7,7 @@ ghost use Rattle.acvp_answers.specs.declared.verdict.Verdict.TheVariants as verd
 ghost use Rattle.acvp_mac.specs.Conditions.{first_broken};
 ghost use Rattle.acvp_desk.specs.Answer.{IsReply};
 ghost use Rattle.acvp_desk.specs.Cached.{HasItsStandard, StaysTrue};
-ghost use Rattle.acvp_desk.specs.OwnConditions.{set_conditions};
+ghost use Rattle.acvp_desk.specs.OwnConditions.{set_place_conditions};
 ghost use Rattle.acvp_desk.specs.Replies.{prompts_reply, set_change, set_reply, set_results_reply, source_reply};
 
 use crate::ask::END_OF_MOMENTS;
@@ -155,13 +155,13 @@ pub(crate) fn draft_set(
     it: SetPlace,
     facts: &SetFacts,
 ) -> Result<Draft, Rule>
-    ensures held { IfOk result (λ _. first_broken (set_conditions cache.old.seeds number body.now it) ≡ None) }
+    ensures held { IfOk result (λ _. first_broken (set_place_conditions cache.old.seeds number body.now it) ≡ None) }
     ensures reply { IfOk result
         (λ draft. IsReply draft.reply.items (set_reply cache.old.seeds moment number it facts.now)) }
     ensures change { IfOk result (λ draft. draft.change ≡ set_change cache.old.seeds session number body.now it) }
     ensures seeds { cache.new.seeds ≡ cache.old.seeds }
     ensures denied { IfErr result (λ rule. (rule ≡ Rule.Unavailable)
-        ⊎ (first_broken (set_conditions cache.old.seeds number body.now it) ≡ Some rule)) }
+        ⊎ (first_broken (set_place_conditions cache.old.seeds number body.now it) ≡ Some rule)) }
 {
     match it {
         SetPlace::Made(shown, Some(source)) => {

@@ -110,7 +110,7 @@ pub(crate) fn draft_answers(
         (λ _. first_broken (prompted_conditions body.now (prompts_from cache.old.seeds number submission.source))
         ≡ None) }
     ensures reply { IfOk result
-        (λ draft. IsReply draft.reply.items (Some (received_reply number submission))) }
+        (λ draft. IsReply draft.reply.items (Some (received_reply number))) }
     ensures change { IfOk result
         (λ draft. draft.change ≡ submission_change cache.old.seeds session number body.now submission) }
     ensures seeds { cache.new.seeds ≡ cache.old.seeds }

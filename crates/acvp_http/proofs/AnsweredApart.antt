@@ -5,9 +5,9 @@ use Rattle.acvp_tables.specs.Content.{Content}
 use Rattle.acvp_tables.specs.Meaning.{Meaning}
 use Rattle.acvp_tables.specs.State.{State, own, state_of, AreWellNumbered, IsWellNumbered}
 use Rattle.acvp_tables.specs.declared.change.Change.{Change}
-use Rattle.acvp_desk.specs.Answer.{accepted_change, answer, content_after, content_effect, effect}
+use Rattle.acvp_desk.specs.Answer.{accepted_change, answer, content_after, content_effect, effect, who_of}
 use Rattle.acvp_desk.specs.Data.{Data}
-use Rattle.acvp_desk.specs.Isolation.{own_after_request, who_of, SeesAlike, SeesTheSame}
+use Rattle.acvp_desk.specs.Isolation.{own_after_request, SeesAlike, SeesTheSame}
 use Rattle.acvp_desk.specs.Request.{RequestValue}
 use Rattle.acvp_desk.specs.declared.keys.Keys.{Keys}
 use Rattle.acvp_http.specs.Asks.{typed}

@@ -14,9 +14,9 @@ use Rattle.acvp_tables.specs.StateChanges.{after_order_state, after_state}
 use Rattle.acvp_tables.specs.declared.change.Change.{Change}
 use Rattle.acvp_tables.specs.declared.change.Change.TheVariants as change
 use Rattle.acvp_tables.specs.declared.change.OrderChange.{OrderChange}
-use Rattle.acvp_desk.specs.Answer.{accepted_change, answer, content_effect, effect, end_of_moments, state_after}
+use Rattle.acvp_desk.specs.Answer.{accepted_change, answer, content_effect, effect, end_of_moments, state_after, who_of}
 use Rattle.acvp_desk.specs.Data.{Data}
-use Rattle.acvp_desk.specs.Isolation.{is_who, own_after_order, own_after_request, reviewer_asked, who_of, SeesTheSame}
+use Rattle.acvp_desk.specs.Isolation.{is_who, own_after_order, own_after_request, reviewer_asked, SeesTheSame}
 use Rattle.acvp_desk.specs.Kept.{IsKept}
 use Rattle.acvp_desk.specs.Orders.{content_order_effect, order_change, order_effect, order_reply, state_after_order, HasSecret, IsOrder}
 use Rattle.acvp_desk.specs.Request.{RequestValue}

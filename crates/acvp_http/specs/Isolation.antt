@@ -4,8 +4,8 @@ use Rattle.std.specs.Prelude.{MatchBool, length, Option, Some, None, ⊤}
 use Rattle.std.specs.List.{All}
 use Rattle.acvp_tables.specs.Content.{Content, is_reviewer}
 use Rattle.acvp_tables.specs.State.{State, own, owner_of, state_of, AreWellNumbered}
-use Rattle.acvp_desk.specs.Answer.{end_of_moments}
-use Rattle.acvp_desk.specs.Isolation.{is_who, reviewer_asked, who_of, SeesAlike}
+use Rattle.acvp_desk.specs.Answer.{end_of_moments, who_of}
+use Rattle.acvp_desk.specs.Isolation.{is_who, reviewer_asked, SeesAlike}
 use Rattle.acvp_desk.specs.Kept.{IsKept}
 use Rattle.acvp_desk.specs.Request.{RequestValue}
 use Rattle.acvp_desk.specs.declared.keys.Keys.{Keys}

@@ -1,9 +1,15 @@
 //! The life of the records, over several runs of the server.
-ghost use Rattle.std.specs.Prelude.{ℕ, List};
+ghost use Rattle.std.specs.Prelude.{ℕ, Bool, List};
 ghost use Rattle.acvp_tables.specs.Content.{Content};
 ghost use Rattle.acvp_desk.specs.Kept.{IsKept};
+ghost use Rattle.acvp_desk.specs.Orders.{Orders};
+ghost use Rattle.acvp_desk.specs.declared.keys.Keys.{Keys};
+ghost use Rattle.acvp_desk.specs.declared.order.Order.{Order};
+ghost use Rattle.acvp_desk.specs.declared.order.OrderReply.{OrderReply};
+ghost use Rattle.acvp_http.specs.Event.{CanHappen, order, ordered};
 ghost use Rattle.acvp_http.specs.Life.{AddsSeeds, GoesOver, Life, Lives, Run};
 ghost use Rattle.acvp_http.specs.Promise.{IsPromised};
+ghost use Rattle.acvp_http.specs.Serve.{HandlesTurn};
 
 use crate::promise::{headline, isolation};
 use crate::running::turns_leave;
@@ -32,4 +38,13 @@ pub fn runs_are_promised()
 {
     headline();
     isolation();
+}
+
+/// An order that was carried out on tables, as `order_on` says, is a turn, whatever the keys are.
+pub fn orders_are_turns<T: Tables>()
+    ensures { (keys : Keys) (moment : ℕ) (it : Order) (reply : OrderReply) (old new : T) → CanHappen (order moment it)
+        → Orders T.meaning reply old new it → (unavailable : Bool) × HandlesTurn T.meaning keys
+        (record { event = order moment it; unavailable = unavailable }) (ordered reply) old new }
+{
+    records_are_kept();
 }

@@ -84,12 +84,26 @@ const COUNT_OPTION: Wanted = Wanted {
 const PATIENCE_OPTION: Wanted = Wanted {
     name: "patience",
     value: "SECONDS",
-    help: "How many seconds a client has for its request, and for taking the reply, 1 to 3600; 30 without it",
+    help: "How many seconds a client is waited for, from its coming until its close, 1 to 3600; 30 without it",
     is_optional: true,
 };
 
+const TO_OPTION: Wanted = Wanted {
+    name: "to",
+    value: "FILE",
+    help: "The file that is made, as backup.db; none may be there",
+    is_optional: false,
+};
+
+const FROM_OPTION: Wanted = Wanted {
+    name: "from",
+    value: "FILE",
+    help: "The backup, as backup.db",
+    is_optional: false,
+};
+
 /// The program's subcommands.
-static SUBCOMMANDS: [Subcommand; 8] = [
+static SUBCOMMANDS: [Subcommand; 10] = [
     Subcommand {
         name: "init",
         about: "Makes the tables in a file, which is made where it isn't there",
@@ -137,6 +151,18 @@ static SUBCOMMANDS: [Subcommand; 8] = [
             COUNT_OPTION,
             PATIENCE_OPTION,
         ],
+    },
+    Subcommand {
+        name: "backup",
+        about: "Copies the records to a new file, whole, also while they are served",
+        example: "Example: acvp_server backup --db laboratory.db --to backup.db",
+        options: &[DB_OPTION, TO_OPTION],
+    },
+    Subcommand {
+        name: "restore",
+        about: "Puts a backup in the place of the records, whole or not at all, while nobody serves them",
+        example: "Example: acvp_server restore --from backup.db --db laboratory.db",
+        options: &[FROM_OPTION, DB_OPTION],
     },
     Subcommand {
         name: "script",

@@ -6,7 +6,9 @@ ghost use Rattle.sqlite_wal.specs.Reads.{AreClean};
 ghost use Rattle.acvp_commands.specs.Work.{IsWork};
 ghost use Rattle.acvp_server.specs.Faults.{fault_of_open};
 
+use crate::begins::is_foreign;
 use crate::host::Machine;
+use crate::privacy::{has_no_log, keep_log_private, make_private, remove_empty_log};
 use crate::socket::relayed;
 use acvp_commands::{Fault, Message, Task, Work, done_over, make_tables};
 use acvp_store::SqlTables;
@@ -47,7 +49,7 @@ fn why_unopened(error: Error) -> Unopened {
 }
 
 /// A connection to the database in a file, which is made where there is none.
-pub(crate) fn connect<S: Start>(
+fn connect<S: Start>(
     rt: &HostRuntime,
     path: &str,
     start: S,
@@ -58,6 +60,31 @@ pub(crate) fn connect<S: Start>(
     }
 }
 
+/// A connection to the database in a file. Where the file holds something else, and there is no log that could make it
+/// one, it isn't opened.
+fn connect_known<S: Start>(
+    rt: &HostRuntime,
+    path: &str,
+    start: S,
+) -> Result<FileConnection<S>, Unopened> {
+    if has_no_log(rt, path) && is_foreign(rt, path) {
+        return Err(Unopened::Failed(Fault::Unavailable));
+    }
+    connect(rt, path, start)
+}
+
+/// A connection to the database in a file, which is made for its owner alone where there is none.
+fn connect_new<S: Start>(
+    rt: &HostRuntime,
+    path: &str,
+    start: S,
+) -> Result<FileConnection<S>, Unopened> {
+    if path != ":memory:" {
+        make_private(rt, path);
+    }
+    connect_known(rt, path, start)
+}
+
 /// A connection to the database in a file that is there.
 pub(crate) fn connect_existing<S: Start>(
     rt: &HostRuntime,
@@ -65,7 +92,7 @@ pub(crate) fn connect_existing<S: Start>(
     start: S,
 ) -> Result<FileConnection<S>, Unopened> {
     match fs::exists(rt, path) {
-        Ok(true) => connect(rt, path, start),
+        Ok(true) => connect_known(rt, path, start),
         Ok(false) => Err(Unopened::Failed(Fault::Unavailable)),
         Err(error) => Err(Unopened::Failed(Fault::Unavailable.of_system(&error))),
     }
@@ -74,7 +101,7 @@ pub(crate) fn connect_existing<S: Start>(
 /// Copies what the log beside the file holds into the file, and hands both back: what was committed is in the file
 /// then, as it reads and as a crash leaves it. Nothing where that fails: what was committed is kept also then, the log
 /// stays, and the next command reads it.
-fn copied<D: Disk + Drop>(connection: Connection<FileStore<D>>) -> Option<Files<D>>
+pub(crate) fn copied<D: Disk + Drop>(connection: Connection<FileStore<D>>) -> Option<Files<D>>
     ensures { IfSome result (λ files. AreClean D.Disk files.log files.db → IsCopied connection files) }
 {
     match connection.close_files() {
@@ -107,20 +134,28 @@ pub(crate) enum Said {
 }
 
 /// Does this over a connection to the database in a file. Where it is done, or was served, the connection is closed; a
-/// command that is refused leaves the file and its log as they are.
+/// command that is refused leaves the file and its log as they are, and no log where there was none.
 fn done_and_closed<S: Start>(
     rt: &HostRuntime,
     path: &str,
     connection: FileConnection<S>,
     work: Work,
+    is_new_log: bool,
 ) -> Result<Said, Fault>
     requires { IsWork work }
 {
+    if is_new_log {
+        keep_log_private(rt, path);
+    }
     let mut machine = Machine { rt, database: path };
     let serves = matches!(work, Work::Take(Task::Serve { .. }));
     let (connection, outcome) = done_over(&mut machine, connection, work);
-    if outcome.is_ok() || serves {
+    let may_have_served = serves && !matches!(outcome, Err(Fault::Schema));
+    if outcome.is_ok() || may_have_served {
         close(connection);
+    } else if is_new_log {
+        remove_empty_log(rt, path);
+        drop(connection);
     }
     Ok(Said::Line(outcome?))
 }
@@ -145,12 +180,13 @@ pub(crate) fn done_in<S: Start>(
 ) -> Result<Said, Fault>
     requires { IsWork work }
 {
+    let is_new_log = has_no_log(rt, path);
     let opened = match work {
-        Work::Make => connect(rt, path, start),
+        Work::Make => connect_new(rt, path, start),
         Work::Move | Work::Take(_) => connect_existing(rt, path, start),
     };
     match opened {
-        Ok(connection) => done_and_closed(rt, path, connection, work),
+        Ok(connection) => done_and_closed(rt, path, connection, work, is_new_log),
         Err(Unopened::Taken) => done_by_server(rt, path, &work),
         Err(Unopened::Failed(fault)) => Err(fault),
     }

@@ -14,7 +14,7 @@ pub(crate) struct Machine<'a, R> {
     pub database: &'a str,
 }
 
-impl<'a, R: AllocGlobal + Clock + Files + Net + Print> Host for Machine<'a, R> {
+impl<'a, R: AllocGlobal + Clock + Eprint + Files + Net + Print> Host for Machine<'a, R> {
     ghost use Rattle.std.specs.Prelude.{⊤};
 
     type Port = Port<'a, R>;

@@ -3,22 +3,27 @@
 
 ghost use Rattle.acvp_commands.specs.Asked.{NamesAccount};
 
+mod begins;
 mod client;
 mod command;
+mod copies;
 mod database;
 mod host;
 mod port;
 mod printing;
+mod privacy;
 mod script;
 mod socket;
 
 use crate::command::command;
+use crate::copies::{backup, restore};
 use crate::database::{Said, done_in};
 use crate::printing::print_line;
+use crate::privacy::tell_open;
 use crate::script::script;
-use acvp_commands::{Fault, Invocation, SystemFiles, asked_by, exit_status, work_of};
-use clap::Error;
+use acvp_commands::{Deed, Fault, Invocation, SystemFiles, asked_by, exit_status, work_of};
 use clap::error::ErrorKind;
+use clap::{ArgMatches, Error};
 use sqlite::Wary;
 use std::io;
 use std::process::ExitCode;
@@ -47,11 +52,27 @@ fn say(rt: &HostRuntime, said: Said) -> Result<bool, Fault> {
     }
 }
 
+/// Tells which of the files of a command others may read: the database, and that of keys or of a secret.
+fn tell_open_files(rt: &HostRuntime, asked: Invocation<'_>) {
+    match asked {
+        Invocation::On(db, deed) => {
+            tell_open(rt, db);
+            match deed {
+                Deed::AddAccount { secret, .. } => tell_open(rt, secret),
+                Deed::Serve { keys, .. } => tell_open(rt, keys),
+                _ => {}
+            }
+        }
+        Invocation::Script(keys) => tell_open(rt, keys),
+    }
+}
+
 /// Carries out what the command line asks for, prints the line that says so, where there is one, and says whether it is
 /// done.
 fn run(rt: &HostRuntime, asked: Invocation<'_>) -> Result<bool, Fault>
     requires { NamesAccount asked }
 {
+    tell_open_files(rt, asked);
     match asked {
         Invocation::On(db, deed) => {
             let work = work_of(&SystemFiles(rt), deed)?;
@@ -108,8 +129,51 @@ fn ended(rt: &HostRuntime, outcome: Result<bool, Fault>) -> ExitCode {
     ExitCode::from(status)
 }
 
+/// The value of an option that the command wants.
+fn value<'a>(options: &ArgMatches<'a>, name: &str) -> &'a str {
+    options.get_str(name).unwrap_or("")
+}
+
+/// Prints a line where something is done.
+fn say_done(rt: &HostRuntime, outcome: Result<(), Fault>, line: &str) -> Result<bool, Fault> {
+    outcome?;
+    match println!(rt; "{line}") {
+        Ok(()) => Ok(true),
+        Err(_) => Err(Fault::Write),
+    }
+}
+
+/// Copies whole databases, where the command line asks for that.
+fn copy_asked(rt: &HostRuntime, matches: &ArgMatches<'_>) -> Option<Result<bool, Fault>> {
+    match matches.subcommand() {
+        Some(("backup", options)) => {
+            let outcome = backup(rt, value(options, "db"), value(options, "to"));
+            Some(say_done(rt, outcome, "backed up"))
+        }
+        Some(("restore", options)) => {
+            let outcome = restore(rt, value(options, "from"), value(options, "db"));
+            Some(say_done(rt, outcome, "restored"))
+        }
+        _ => None,
+    }
+}
+
+/// How many bytes of the stack are touched before anything is done.
+const STACK_BYTES: usize = 262144;
+
+/// Touches the stack as far as the program may need it, so that want of it is met before anything is done. It says
+/// whether what was written there can be read.
+fn has_stack(number: usize) -> bool {
+    let mut room = [0_u8; STACK_BYTES];
+    room[number % STACK_BYTES] = 1;
+    room[number.wrapping_mul(4099) % STACK_BYTES] <= 1
+}
+
 /// Carries out a command line whose words are these.
 fn execute_words(rt: &HostRuntime, words: &[String]) -> ExitCode {
+    if !has_stack(words.len()) {
+        return failed(rt, Fault::Memory);
+    }
     let Ok(command) = command(rt.alloc()) else {
         return failed(rt, Fault::Memory);
     };
@@ -120,6 +184,9 @@ fn execute_words(rt: &HostRuntime, words: &[String]) -> ExitCode {
         }
         Err(error) => return refused(rt, &error),
     };
+    if let Some(outcome) = copy_asked(rt, &matches) {
+        return ended(rt, outcome);
+    }
     match asked_by(&matches) {
         Ok(Some(asked)) => ended(rt, run(rt, asked)),
         Ok(None) => ExitCode::from(2),

@@ -27,11 +27,19 @@ const ORDERS: usize = MOST_CLIENTS + 1;
 /// How many seconds a client whose answer is out may keep its side open.
 const LINGER: u64 = 2;
 
-/// A client, and since when it is at its stage.
+/// How many seconds no connection is taken after an error of the network.
+const PAUSE: u64 = 1;
+
+/// The errors of the network that accept(2) has of a connection that waited, by their numbers: ENONET, EPROTO,
+/// ENOPROTOOPT, EOPNOTSUPP, ENETDOWN, ENETUNREACH, EHOSTDOWN and EHOSTUNREACH.
+const NETWORK_ERRORS: [i32; 8] = [64, 71, 92, 95, 100, 101, 112, 113];
+
+/// A client, since when it is at its stage, and how long it was waited for at the stages before.
 #[derive(Drop)]
 struct Visit {
     client: Client,
     since: Option<Instant>,
+    waited: Duration,
 }
 
 /// The clients, by place, and the places of those whose requests are whole or broken, in the order in which they became
@@ -67,11 +75,14 @@ pub(crate) struct Port<'a, R> {
     /// Which file the socket is.
     socket: FileNumber,
 
-    /// How many seconds a client has for what it asks for, and for taking the answer.
+    /// How many seconds a client is waited for, from its coming until it is gone.
     patience: u64,
 
-    /// The place of the client that is being served.
-    serving: usize,
+    /// The place of the client that is being served, and how long it was waited for.
+    serving: (usize, Duration),
+
+    /// When the network had an error last.
+    erred: Option<Instant>,
 
     /// When it was looked last for clients that take too long.
     swept: Option<Instant>,
@@ -82,26 +93,40 @@ fn time_of<C: Clock>(clock: &C) -> Option<Instant> {
     Instant::now(clock).ok()
 }
 
-/// Whether this is so many seconds ago.
-fn is_over<C: Clock>(since: Option<Instant>, seconds: u64, clock: &C) -> bool {
+/// How long ago this was. Where the clock doesn't tell, it is none now, and was long ago if it was told none then.
+fn time_since<C: Clock>(since: Option<Instant>, clock: &C) -> Duration {
     match since {
-        Some(since) => match since.elapsed(clock) {
-            Ok(elapsed) => elapsed.as_secs() >= seconds,
-            Err(_) => false,
-        },
-        None => true,
+        Some(since) => since.elapsed(clock).unwrap_or(Duration::ZERO),
+        None => Duration::MAX,
     }
 }
 
+/// Whether this is so many seconds ago.
+fn is_over<C: Clock>(since: Option<Instant>, seconds: u64, clock: &C) -> bool {
+    time_since(since, clock).as_secs() >= seconds
+}
+
 impl Visit {
+    /// How long the client was waited for in all. While others are served before it, nobody waits for it.
+    fn time_waited<C: Clock>(&self, clock: &C) -> Duration {
+        self.waited.saturating_add(time_since(self.since, clock))
+    }
+
     /// Moves what can be moved of the client, and says what is next.
     fn advance<C: Clock>(&mut self, clock: &C) -> Next {
         let was_ended = self.client.is_ended();
         let next = self.client.advance();
-        if self.client.is_ended() && !was_ended {
+        if next != Next::Waits || self.client.is_ended() != was_ended {
+            self.waited = self.time_waited(clock);
             self.since = time_of(clock);
         }
         next
+    }
+
+    /// Whether the client has taken too long, at its last stage or in all.
+    fn is_late<C: Clock>(&self, patience: u64, clock: &C) -> bool {
+        (self.client.is_ended() && is_over(self.since, LINGER, clock))
+            || self.time_waited(clock).as_secs() >= patience
     }
 }
 
@@ -141,10 +166,14 @@ impl Clients {
         (MOST_CONNECTIONS..MOST_CLIENTS).find(|place| self.is_free(*place))
     }
 
-    /// Puts a client at a place.
-    fn put(&mut self, place: usize, client: Client, since: Option<Instant>) {
+    /// Puts a client at a place, which was waited for so long before.
+    fn put<C: Clock>(&mut self, place: usize, client: Client, waited: Duration, clock: &C) {
         if let Some(free) = self.visits.get_mut(place) {
-            *free = Some(Visit { client, since });
+            *free = Some(Visit {
+                client,
+                since: time_of(clock),
+                waited,
+            });
         }
     }
 
@@ -189,12 +218,7 @@ impl Clients {
             let Some(Some(visit)) = self.visits.get(place) else {
                 continue;
             };
-            let most = if visit.client.is_ended() {
-                LINGER
-            } else {
-                patience
-            };
-            if is_over(visit.since, most, clock) && !self.is_ready(place) {
+            if visit.is_late(patience, clock) && !self.is_ready(place) {
                 let coming = visit.client.is_coming();
                 self.sort(place, coming, Next::IsGone);
             }
@@ -254,7 +278,8 @@ pub(crate) fn port_on<'a, R: Clock + Files + Net>(
             database,
             socket,
             patience: service.patience,
-            serving: MOST_CLIENTS,
+            serving: (MOST_CLIENTS, Duration::ZERO),
+            erred: None,
             swept: None,
         }),
         Ok(Err(fault)) => {
@@ -279,20 +304,46 @@ fn taken_at(port: &Option<TcpListener>) -> io::Result<TcpStream> {
     }
 }
 
-/// Whether another connection may be taken after this error (accept(2)).
-fn is_passing(error: &io::Error) -> bool {
-    matches!(
-        error.kind(),
-        ErrorKind::ConnectionAborted | ErrorKind::Interrupted
-    )
+/// Why a connection isn't taken.
+#[derive(Clone, Copy)]
+enum Untaken {
+    /// None waits.
+    None,
+
+    /// It is gone, and another may be taken.
+    Gone,
+
+    /// The network has an error, which passes.
+    Network,
+
+    /// The system gives none any more.
+    Never,
 }
 
-impl<'a, R: Clock + Files> Port<'a, R> {
+/// Why a connection isn't taken after an error (accept(2)).
+fn why_untaken(error: &io::Error) -> Untaken {
+    match error.kind() {
+        ErrorKind::WouldBlock => Untaken::None,
+        ErrorKind::ConnectionAborted | ErrorKind::Interrupted => Untaken::Gone,
+        _ => match error.raw_os_error() {
+            Some(number) if NETWORK_ERRORS.contains(&number) => Untaken::Network,
+            _ => Untaken::Never,
+        },
+    }
+}
+
+impl<'a, R: Clock + Eprint + Files> Port<'a, R> {
     /// Lets a client in at a place.
     fn let_in(&mut self, place: usize, wire: Wire) {
         let client = Client::new(self.alloc, wire);
-        self.clients.put(place, client, time_of(self.rt));
+        self.clients.put(place, client, Duration::ZERO, self.rt);
         self.clients.advance(place, self.rt);
+    }
+
+    /// Tells an error of the network on standard error, and takes no connection for a while.
+    fn pause(&mut self, error: &io::Error) {
+        self.erred = time_of(self.rt);
+        let _ = eprintln!(self.rt; "a connection isn't taken, and serving goes on: {error}");
     }
 
     /// Takes the connections that wait at the port. One that has no place is closed.
@@ -300,9 +351,15 @@ impl<'a, R: Clock + Files> Port<'a, R> {
         for _ in 0..u32::MAX {
             let mut stream = match taken_at(&self.doors.port) {
                 Ok(stream) => stream,
-                Err(error) if error.kind() == ErrorKind::WouldBlock => return Ok(()),
-                Err(error) if is_passing(&error) => continue,
-                Err(_) => return Err(Fault::Accept),
+                Err(error) => match why_untaken(&error) {
+                    Untaken::None => return Ok(()),
+                    Untaken::Gone => continue,
+                    Untaken::Network => {
+                        self.pause(&error);
+                        return Ok(());
+                    }
+                    Untaken::Never => return Err(Fault::Accept),
+                },
             };
             let Some(place) = self.clients.place_for_request() else {
                 continue;
@@ -321,9 +378,11 @@ impl<'a, R: Clock + Files> Port<'a, R> {
         for _ in 0..u32::MAX {
             let mut stream = match self.doors.orders.accept() {
                 Ok((stream, _)) => stream,
-                Err(error) if error.kind() == ErrorKind::WouldBlock => return Ok(()),
-                Err(error) if is_passing(&error) => continue,
-                Err(_) => return Err(Fault::Accept),
+                Err(error) => match why_untaken(&error) {
+                    Untaken::None => return Ok(()),
+                    Untaken::Gone => continue,
+                    Untaken::Network | Untaken::Never => return Err(Fault::Accept),
+                },
             };
             let Some(place) = self.clients.place_for_order() else {
                 continue;
@@ -337,13 +396,23 @@ impl<'a, R: Clock + Files> Port<'a, R> {
         Ok(())
     }
 
+    /// Takes what waits, but no connection just behind an error of the network.
+    fn take_all(&mut self) -> Result<(), Fault> {
+        if is_over(self.erred, PAUSE, self.rt) {
+            self.take_requests()?;
+        }
+        self.take_orders()
+    }
+
     /// Waits until something can be moved, or a second is over, and moves it. Nothing is waited for while somebody is
     /// ready to be served.
     fn wait(&mut self) -> Result<(), Fault> {
         let most = u64::from(self.clients.ready.is_empty());
         let Doors { poll, events, .. } = &mut self.doors;
-        if poll.poll(events, Some(Duration::from_secs(most))).is_err() {
-            return Err(Fault::Accept);
+        match poll.poll(events, Some(Duration::from_secs(most))) {
+            Ok(()) => {}
+            Err(error) if error.kind() == ErrorKind::Interrupted => return Ok(()),
+            Err(_) => return Err(Fault::Accept),
         }
         for event in &self.doors.events {
             let Token(place) = event.token();
@@ -361,15 +430,15 @@ impl<'a, R: Clock + Files> Port<'a, R> {
     fn next_client(&mut self) -> Option<(Client, bool)> {
         let (place, whole) = self.clients.ready.pop_front()?;
         let visit = self.clients.visits.get_mut(place)?.take()?;
-        self.serving = place;
+        self.serving = (place, visit.waited);
         Some((visit.client, whole))
     }
 
     /// Has an answer go out to the client that was served, as far as it isn't out yet.
     fn let_out(&mut self, output: Outgoing) {
-        let place = self.serving;
+        let (place, waited) = self.serving;
         self.clients
-            .put(place, Client::answered(output), time_of(self.rt));
+            .put(place, Client::answered(output), waited, self.rt);
         self.clients.advance(place, self.rt);
     }
 
@@ -404,7 +473,7 @@ fn outcome_text(alloc: Global, outcome: Result<Message, Fault>) -> Result<String
     }
 }
 
-impl<'a, R: Clock + Files> Listener for Port<'a, R> {
+impl<'a, R: Clock + Eprint + Files> Listener for Port<'a, R> {
     ghost use Rattle.std.specs.Prelude.{⊤};
 
     type Input = Flagged<Incoming>;
@@ -418,10 +487,7 @@ impl<'a, R: Clock + Files> Listener for Port<'a, R> {
 
     fn accept(&mut self) -> Result<Arrival<Flagged<Incoming>, Flagged<Outgoing>, Outgoing>, Fault> {
         for _ in 0..u64::MAX {
-            if self.take_requests().is_err()
-                || self.take_orders().is_err()
-                || self.wait().is_err()
-            {
+            if self.take_all().is_err() || self.wait().is_err() {
                 return Err(Fault::Accept);
             }
             if let Some((client, whole)) = self.next_client() {

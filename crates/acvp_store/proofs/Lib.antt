@@ -28,6 +28,13 @@ pub mod SessionReviewers
 pub mod Versions
 pub mod QueryRows
 pub mod RowsMet
+pub mod RangeRows
+pub mod RangeTexts
+pub mod RangeColumns
+pub mod RangeOutside
+pub mod RangeJoins
+pub mod RequestRanges
+pub mod ObjectRanges
 pub mod RegisteredObject
 pub mod Sound
 pub mod KeptPromises

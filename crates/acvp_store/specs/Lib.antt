@@ -3,6 +3,7 @@ pub mod Kept
 pub mod Rows
 pub mod Version
 pub mod Stands
+pub mod Ranges
 pub mod Schema
 pub mod Connection
 pub mod Alters

@@ -11,3 +11,4 @@ pub mod Bare
 pub mod Clean
 pub mod Found
 pub mod Migration
+pub mod Strays

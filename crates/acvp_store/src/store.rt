@@ -51,6 +51,8 @@ use sqlite::{Alter, Connection, MemStore};
 use std::alloc::Global;
 use std::marker::Model;
 
+mod reads;
+
 /// The records in the tables of a database, in memory or in a file.
 #[derive(Drop)]
 pub struct SqlTables<S: Alter> {

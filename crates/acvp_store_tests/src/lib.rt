@@ -14,6 +14,8 @@ mod migrations;
 #[cfg(test)]
 mod over_both_forms;
 #[cfg(test)]
+mod ranges;
+#[cfg(test)]
 mod reads;
 #[cfg(test)]
 mod steps;

@@ -18,8 +18,8 @@ if_summary_in session set = if set.session == session then Some set else None
 abbrev pub facts_of_summary : SessionFacts → SetSummary → SetFacts
 facts_of_summary facts set = record { session = facts; cancelled = set.cancelled; answered = is_some set.disposition }
 
-abbrev pub facts_in : ℕ → SessionFacts → Option SetSummary → Option SetFacts
-facts_in session facts set = option_map (facts_of_summary facts) (option_and_then (if_summary_in session) set)
+abbrev pub set_facts_from : ℕ → SessionFacts → Option SetSummary → Option SetFacts
+set_facts_from session facts set = option_map (facts_of_summary facts) (option_and_then (if_summary_in session) set)
 
 -- what its prompts are made from, whose capability is read of the row that is kept
 abbrev pub source_with : SetSummary → SetRow → SetSource

@@ -22,14 +22,14 @@ pub returns-in_ok-registry_place-in-Registry-clause-found : goal.returns-in_ok-r
 returns-in_ok-registry_place-in-Registry-clause-found g c =
     λ live seeds content kept h. rw (c.in-Registry.is, c.in_ok-registry_place-in-Registry.ensures.found live seeds content kept h) refl
 
-pub returns-in_ok-asked-in-Certify-clause-found : goal.returns-in_ok-asked-in-Certify-clause-found
-returns-in_ok-asked-in-Certify-clause-found g c =
-    λ live seeds content kept h. let up = c.in_ok-asked-in-Certify.ensures.looks.was_open live in
+pub returns-in_ok-grounds-in-Certify-clause-found : goal.returns-in_ok-grounds-in-Certify-clause-found
+returns-in_ok-grounds-in-Certify-clause-found g c =
+    λ live seeds content kept h. let up = c.in_ok-grounds-in-Certify.ensures.looks.was_open live in
     rw (
       c.in-Certify.is,
       ← c.in_ok-parts-in-Certify.ensures,
       c.in_ok-found-in-Certify.ensures.found up seeds content kept h,
-      c.in_ok-asked-in-Certify.ensures.found live seeds content kept (c.in_ok-found-in-Certify.ensures.looks.same up content h),
+      c.in_ok-grounds-in-Certify.ensures.found live seeds content kept (c.in_ok-found-in-Certify.ensures.looks.same up content h),
     ) refl
 
 pub returns-in_ok-accounts-in-Reviewer-clause-found : goal.returns-in_ok-accounts-in-Reviewer-clause-found

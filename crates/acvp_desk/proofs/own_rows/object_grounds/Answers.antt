@@ -1,6 +1,6 @@
 use Rattle.std.proofs.Common.{refl}
 use Rattle.acvp_tables.specs.State.{state_of}
-use Rattle.acvp_desk.proofs.own_rows.certification_asked.Goals as goal
+use Rattle.acvp_desk.proofs.own_rows.object_grounds.Goals as goal
 
 pub returns-clause-found : goal.returns-clause-found
 unfolding state_of

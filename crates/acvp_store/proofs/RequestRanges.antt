@@ -1,0 +1,88 @@
+-- Requests in ranges of numbers.
+use Rattle.std.proofs.Common.{◌≡◌, inl, inr, ◌<◌, ◌^◌, ℕ, zero, suc, ℤ, List, length, true, Some, Ok, Err, Result, IfOk, IfErr, IsOk, refl, sym, subst, arith}
+use Rattle.std.specs.Prelude.{IsUtf8, IsErrAnd}
+use Rattle.std.specs.Str.{is_utf8}
+use Rattle.std.specs.List.{AllByRecursion}
+use Rattle.std.proofs.lemmas.Bool.{cases_Bool}
+use Rattle.std.proofs.lemmas.Str.{IsUtf8-from_is_utf8}
+use Rattle.serde_json.specs.Data.{Data}
+use Rattle.sqlite_trees.proofs.ListLemmas.{all_both, all_of, all-map, all-append}
+use Rattle.sqlite.specs.Order.{Row}
+use Rattle.acvp_registry.specs.Json.{body_json}
+use Rattle.acvp_tables.specs.declared.rows.RequestRow.{RequestRow}
+use Rattle.acvp_tables.specs.declared.rows.RequestBody.{RequestBody}
+use Rattle.acvp_tables.specs.declared.rows.RequestBody.TheVariants as body
+use Rattle.acvp_store.specs.Kept.{AreKept}
+use Rattle.acvp_store.specs.Ranges.{is_between, IsTree, AreFull, IsRange, StandsForNone, FitsRequest, FitsRequestBody, AreRanges, joined, first_number, last_number}
+use Rattle.acvp_store.specs.Stands.{request_row, request_key, HoldsRequests, BodyReads, body_text}
+use Rattle.acvp_store.specs.declared.ranges.RangeFault.{RangeFault}
+use Rattle.acvp_store.specs.declared.ranges.RangeFault.TheVariants.{Stray}
+use Rattle.acvp_store.specs.Private.Requests.{IsReadable, FitsBody}
+use Rattle.acvp_store.proofs.RangeJoins.{kept_tree, ranges_whole}
+
+-- ---- what is asked of a request that is kept
+
+pub text_of_json : (text : List ℕ) (d : Data) → body_json text ≡ Some d → IsUtf8 text
+text_of_json text d is = elim (cases_Bool (is_utf8 text)) [
+  | inl utf8 ↦ IsUtf8-from_is_utf8 text utf8
+  | inr other ↦ absurd (let e = rw other at is in cc)
+]
+
+text_reads : (b : RequestBody) → BodyReads b → IsUtf8 (body_text b)
+text_reads (body.Registration o) reads = text_of_json _ _ reads
+text_reads (body.Certification c) reads = text_of_json _ _ reads.0
+
+readable : (b : RequestBody) → FitsRequestBody b → BodyReads b → IsReadable b
+readable (body.Registration o) fits reads = (fits.0, reads)
+readable (body.Certification c) fits reads = (tt, reads)
+
+fits_body : (b : RequestBody) → FitsRequestBody b → FitsBody b
+fits_body (body.Registration o) fits = fits
+fits_body (body.Certification c) fits = fits
+
+-- it fits, and its text reads
+abbrev pub IsHad : RequestRow → Type 0
+IsHad r = FitsRequest r × BodyReads r.body
+
+pub had : (r : RequestRow) → IsHad r → IsReadable r.body × ((r.account < 2 ^ 16) × FitsBody r.body × IsUtf8 (body_text r.body))
+had r h = (readable r.body h.0.1 h.1, (h.0.0, fits_body r.body h.0.1, text_reads r.body h.1))
+
+-- ---- what is made of what was read
+
+pub rows_through : {B E F : Type 0} (f l : ℕ) (table : List Row) (found : Result B E) (result : Result B F) (items : B → List RequestRow) → (IsOk result → IsOk found) → IfOk result (λ b. IfOk found (λ before. items b ≡ items before)) → IfOk result (λ b. AllByRecursion (λ r. BodyReads r.body) (items b))
+    → IfOk found (λ b. IsTree table → AreFull 7 table → IsRange (AreKept request_key request_row) request_key f l table (items b)) → IfOk result (λ b. IsTree table → AreFull 7 table → IsRange HoldsRequests request_key f l table (items b))
+rows_through f l table found (Err e) items ok same reads rows = tt
+rows_through f l table (Err e) (Ok b) items ok same reads rows = absurd (let impossible = ok refl in cc)
+rows_through f l table (Ok before) (Ok b) items ok same reads rows = λ tree full.
+    let it = subst (IsRange (AreKept request_key request_row) request_key f l table) (sym same) (rows tree full) in
+    record { holds = record { kept = it.holds; texts = reads }; rising = it.rising }
+
+pub stray_through : {B : Type 0} (table : List Row) (found result : Result B RangeFault) → IfErr result (λ fault. (number : ℤ) → fault ≡ Stray number → IsErrAnd found (λ before. before ≡ Stray number))
+    → IfErr found (λ fault. (number : ℤ) → fault ≡ Stray number → StandsForNone (AreKept request_key request_row) IsHad table) → IfErr result (λ fault. (number : ℤ) → fault ≡ Stray number → StandsForNone HoldsRequests FitsRequest table)
+stray_through table found (Ok b) same none = tt
+stray_through table (Ok before) (Err fault) same none = λ number is. absurd (same number is)
+stray_through table (Err before) (Err fault) same none = λ number is list fits holds. none number (same number is) list (all_both FitsRequest (λ r. BodyReads r.body) IsHad (λ r a b. (a, b)) list fits holds.texts) holds.kept
+
+-- ---- ranges, joined
+
+module _ (rows : List Row) (lists : ℕ → List RequestRow) where
+  joined_read : (n : ℕ) → AreRanges HoldsRequests request_key rows lists n → AllByRecursion (λ r. BodyReads r.body) (joined lists n)
+  unfolding joined
+  joined_read zero ranges = tt
+  joined_read (suc n) ranges =
+      all-append (λ (r : RequestRow). BodyReads r.body) (joined lists n) (lists (suc n)) (joined_read n (λ u some low. ranges u some (omega arith))) (ranges (suc n) (omega arith) (omega arith)).holds.texts
+
+  pub requests_whole : (n : ℕ) → IsTree rows → AreRanges HoldsRequests request_key rows lists n → AllByRecursion (λ row. is_between (first_number 1) (last_number n) row ≡ true) rows → HoldsRequests rows (joined lists n)
+  requests_whole n tree ranges inside = record {
+    kept = ranges_whole request_key request_row (λ r. refl) rows lists n tree (λ u some low. let it = ranges u some low in record { holds = it.holds.kept; rising = it.rising }) inside;
+    texts = joined_read n ranges;
+  }
+
+pub requests_tree : (rows : List Row) (list : List RequestRow) → HoldsRequests rows list → IsTree rows
+requests_tree rows list holds = kept_tree request_key request_row (λ r. refl) rows list holds.kept
+
+full_row : (r : RequestRow) → length (request_row r) ≡ 7
+full_row r = refl
+
+pub requests_full : (rows : List Row) (list : List RequestRow) → HoldsRequests rows list → AreFull 7 rows
+requests_full rows list holds = subst (AreFull 7) (sym holds.kept.rows_are) (all-map (λ (r : Row). length r ≡ 7) request_row holds.kept.ordered (all_of (λ r. length (request_row r) ≡ 7) full_row holds.kept.ordered))

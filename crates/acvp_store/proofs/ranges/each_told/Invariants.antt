@@ -1,0 +1,6 @@
+use Rattle.std.proofs.Common.{take}
+use Rattle.acvp_store.specs.Private.Shown.{AreShown}
+use Rattle.acvp_store.proofs.ranges.each_told.Given as goal
+
+abbrev pub invariant-loop-row : goal.invariant-loop-row
+invariant-loop-row g l = AreShown g.T.Member.judged_so g.T.Member.listed_as (take l.row-index l.rows) l.found.items

@@ -1,0 +1,75 @@
+//! Reads of registered objects in a range of numbers, whatever the rows are.
+ghost use Rattle.std.specs.Prelude.{◌≡◌, ℤ, Some, IfOk, IfErr, IsErrAnd, IsOk, IsTrue};
+ghost use Rattle.std.specs.List.{AllByRecursion, filter};
+ghost use Rattle.sqlite.specs.Held.{state};
+ghost use Rattle.acvp_registry.specs.Json.{body_json};
+ghost use Rattle.acvp_registry.specs.Object.{object_text};
+ghost use Rattle.acvp_tables.specs.Content.{kind_number};
+ghost use Rattle.acvp_store.specs.Connection.{ServesStore, IsRead};
+ghost use Rattle.acvp_store.specs.Ranges.{is_object_between, IsTree, KeepsObjects, StandsForNone, FitsObject};
+ghost use Rattle.acvp_store.specs.Ranges.{first_number, last_number};
+ghost use Rattle.acvp_store.specs.Stands.{object_tree};
+
+use crate::objects::kind_number;
+use crate::ranges::{RangeFault, numbers_of, ranged};
+use acvp_registry::Kind;
+use acvp_tables::ObjectRow;
+use sqlite::{Alter, Connection, params};
+use std::alloc::Global;
+
+/// The text of each object reads as it.
+fn all_read_back(rows: &[ObjectRow])
+    ensures { AllByRecursion (λ row. body_json (object_text row.object) ≡ Some row.object.value) rows.now }
+{
+    for row in rows {
+        let _text = row.object.text();
+    }
+}
+
+/// What was found, where the text of each object reads as it.
+fn read_back(found: Result<Vec<ObjectRow>, RangeFault>) -> Result<Vec<ObjectRow>, RangeFault>
+    ensures same { IfOk result (λ rows. IfOk found (λ before. rows.items ≡ before.items)) }
+    ensures reads { IfOk result
+        (λ rows. AllByRecursion (λ row. body_json (object_text row.object) ≡ Some row.object.value) rows.items) }
+    ensures stray { IfErr result (λ fault. (number : ℤ) → fault ≡ RangeFault.Stray number
+        → IsErrAnd found (λ before. before ≡ RangeFault.Stray number)) }
+    ensures ok { IsOk result → IsOk found }
+{
+    match found {
+        Ok(rows) => {
+            all_read_back(&rows);
+            Ok(rows)
+        }
+        Err(fault) => Err(fault),
+    }
+}
+
+/// The objects of a kind whose numbers begin with an account's, whatever the rows are. A stray one is told by its
+/// number.
+pub(crate) fn objects_numbered<S: Alter>(
+    alloc: Global,
+    conn: &mut Connection<S>,
+    kind: Kind,
+    account: u16,
+) -> Result<Vec<ObjectRow>, RangeFault>
+    requires { ServesStore (state S.Store conn.old) }
+    ensures rows { IsTrue (state S.Store conn.new).is_open
+        → IfOk result (λ found. IsTree ((state S.Store conn.old).now.trees object_tree)
+        → KeepsObjects (filter (is_object_between (kind_number kind) (first_number account) (last_number account))
+        ((state S.Store conn.old).now.trees object_tree)) found.items) }
+    ensures stray { IsTrue (state S.Store conn.new).is_open
+        → IfErr result (λ fault. (number : ℤ) → fault ≡ RangeFault.Stray number
+        → StandsForNone KeepsObjects FitsObject ((state S.Store conn.old).now.trees object_tree)) }
+    ensures read { IsRead result (state S.Store conn.old) (state S.Store conn.new) }
+{
+    let numbers = numbers_of(account);
+    let found = ranged(
+        alloc,
+        conn.query_all(
+            "SELECT kind, number, account, body FROM object WHERE kind = ?3 AND number BETWEEN ?1 AND ?2 ORDER BY number",
+            params![numbers.first, numbers.last, kind_number(kind)],
+        ),
+        1,
+    );
+    read_back(found)
+}
