@@ -114,7 +114,8 @@ def over_tls(lab, port):
     expect("the example's validation over TLS", (done.returncode, done.stderr), (0, ""))
     expect("its last line", done.stdout.split("\n")[-2].split()[-1], "/acvp/v1/testSessions/8000001")
     expect("a path that is none of the server's", client.call("GET", "/other"), (404, {"error": "noResource"}))
-    expect("a body that is too large", client.call("POST", "/acvp/v1/login", body=b" " * 2097153)[0], 413)
+    expect("a body that is too large", client.call("POST", "/acvp/v1/testSessions", body=b" " * 2097153)[0], 413)
+    expect("a login that is too large", client.call("POST", "/acvp/v1/login", body=b" " * 4097), (413, {"error": "bodyTooLarge"}))
     for certificate, what in [(None, "no certificate"), ("other", "another authority's")]:
         expect(what, Front(lab, port, certificate).call("GET", "/acvp/v1/account"), (400, {"error": "badRequest"}))
     tries = [client.call("POST", "/acvp/v1/login", thing={"password": "00000000", "user": "7"})[0] for _ in range(20)]

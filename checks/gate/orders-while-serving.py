@@ -318,8 +318,7 @@ def errors_of_the_network(lab, shim):
         for number in (24, 23, 22):
             os.environ["FAIL_ACCEPT"] = str(number)
             lab.serve(count=1)
-            with lab.connect():
-                output, faults = lab.process.communicate(timeout=60)
+            output, faults = lab.process.communicate(timeout=60)
             expect(f"the end behind error {number}", (lab.process.returncode, output, faults), (1, b"", b"fault: accept\n"))
     finally:
         del os.environ["LD_PRELOAD"], os.environ["FAIL_ACCEPT"]
