@@ -8,6 +8,7 @@ import contextlib
 import hashlib
 import os
 import random
+import resource
 import shutil
 import sqlite3
 import stat
@@ -234,7 +235,12 @@ def what_others_may_read(lab):
         os.chmod(lab.db, 0o640)
         done = lab.run("account-disable", "--db", lab.db, "--account", "1")
         expect("a database that others may read", done, (0, "account 1 disabled\n", f"warning: others than its owner may read {lab.db}\n"))
-        os.chmod(lab.db, 0o600)
+        told = f"warning: others than its owner may read {lab.db}\n"
+        expect("a backup of it", lab.run(*backup(lab, "more.db")), (0, "backed up\n", told))
+        os.chmod(lab.path("more.db"), 0o604)
+        told = f"warning: others than its owner may read {lab.path('more.db')}\n" + told
+        expect("a restore of one over it", lab.run(*restore(lab, "more.db")), (0, "restored\n", told))
+        expect("what is restored", mode(lab.db), 0o600)
         os.chmod(lab.keys, 0o604)
         done = lab.run("script", "--keys", lab.keys)
         expect("keys that others may read", done, (0, "", f"warning: others than its owner may read {lab.keys}\n"))
@@ -258,6 +264,31 @@ def foreign_files(lab):
     expect("the foreign files, and what is beside them", files(lab), before)
 
 
+# ---- a machine that gives little
+
+
+def little_stack(lab):
+    """Where the stack is too small the program ends at its start, and never while it serves: what gets as far answers a
+    body that nests as deep as one may."""
+    deepest = b"[" * 127 + b"]" * 127
+    bodies = [deepest, b'[{"acvVersion":"1.0"},' + b",".join([deepest[1:-1]] * 100) + b"]",
+              b'[{"acvVersion":"1.0"},{"a":' + b'{"a":' * 120 + b"1" + b"}" * 122 + b"]"]
+    served = []
+    for size in range(100, 1000, 25):
+        lab.port = free_port()
+        serving = subprocess.Popen([lab.program, "serve", "--db", lab.db, "--keys", lab.keys, "--port", str(lab.port), "--count", "4"],
+                                   stdin=subprocess.DEVNULL, stdout=subprocess.PIPE, stderr=subprocess.PIPE,
+                                   preexec_fn=lambda: resource.setrlimit(resource.RLIMIT_STACK, (size * 1024, size * 1024)))
+        if serving.stdout.readline():
+            expect(f"a read with {size} kB of stack", lab.call("GET", "/account")[0], 401)
+            for body in bodies:
+                expect(f"a deep body with {size} kB of stack", lab.call("POST", "/login", body=body)[0], 400)
+            served.append(size)
+        output, faults = serving.communicate(timeout=60)
+        expect(f"what is told with {size} kB of stack", (output, faults), (b"served 4\n" if size in served else b"", b""))
+    expect(f"the sizes that suffice, {served}", served != [] and served == list(range(served[0], 1000, 25)), True)
+
+
 def main():
     program, kills = os.path.abspath(sys.argv[1]), int((sys.argv[2:] or ["40"])[0])
     os.umask(0o077)
@@ -267,7 +298,7 @@ def main():
         killed_restores(lab, kills)
 
     killed.__name__ = "killed_restores"
-    for part in (backups_while_nobody_serves, backups_while_serving, restores, killed, what_others_may_read, foreign_files):
+    for part in (backups_while_nobody_serves, backups_while_serving, restores, killed, what_others_may_read, foreign_files, little_stack):
         with tempfile.TemporaryDirectory() as folder:
             lab = Laboratory(program, folder)
             lab.does("ready", "init", "--db", lab.db)

@@ -147,10 +147,13 @@ fn say_done(rt: &HostRuntime, outcome: Result<(), Fault>, line: &str) -> Result<
 fn copy_asked(rt: &HostRuntime, matches: &ArgMatches<'_>) -> Option<Result<bool, Fault>> {
     match matches.subcommand() {
         Some(("backup", options)) => {
+            tell_open(rt, value(options, "db"));
             let outcome = backup(rt, value(options, "db"), value(options, "to"));
             Some(say_done(rt, outcome, "backed up"))
         }
         Some(("restore", options)) => {
+            tell_open(rt, value(options, "from"));
+            tell_open(rt, value(options, "db"));
             let outcome = restore(rt, value(options, "from"), value(options, "db"));
             Some(say_done(rt, outcome, "restored"))
         }
@@ -159,7 +162,7 @@ fn copy_asked(rt: &HostRuntime, matches: &ArgMatches<'_>) -> Option<Result<bool,
 }
 
 /// How many bytes of the stack are touched before anything is done.
-const STACK_BYTES: usize = 262144;
+const STACK_BYTES: usize = 524288;
 
 /// Touches the stack as far as the program may need it, so that want of it is met before anything is done. It says
 /// whether what was written there can be read.
