@@ -2,6 +2,7 @@
 //! anybody waiting for it.
 use acvp_http::{HEAD_BYTES, needed_bytes};
 use mio::net::{TcpStream, UnixStream};
+use mio::{Interest, Poll, Token};
 use std::alloc::Global;
 use std::io::{self, Cursor, ErrorKind, Read, Write};
 use std::net::Shutdown;
@@ -301,6 +302,17 @@ impl Client {
     pub(crate) fn into_errand(self, alloc: Global, whole: bool) -> Errand {
         let Client { wire, stage } = self;
         errand_of(alloc, wire, came(alloc, stage), whole)
+    }
+
+    /// Has it told, as the one of a place, when more can be moved, and says whether that could be done. Where something
+    /// can be by now, that is told too.
+    pub(crate) fn watch(&mut self, poll: &Poll, place: usize) -> bool {
+        let both = Interest::READABLE | Interest::WRITABLE;
+        let registry = poll.registry();
+        match &mut self.wire {
+            Wire::Request(stream) => registry.register(stream, Token(place), both).is_ok(),
+            Wire::Order(stream) => registry.register(stream, Token(place), both).is_ok(),
+        }
     }
 
     /// Whether its answer is out.

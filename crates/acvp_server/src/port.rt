@@ -30,6 +30,9 @@ const LINGER: u64 = 2;
 /// How many seconds no connection is taken after an error of the network.
 const PAUSE: u64 = 1;
 
+/// How many connections and orders are taken or served before it is looked what has come of the others.
+const MOST_UNLOOKED: u32 = 32;
+
 /// The errors of the network that accept(2) has of a connection that waited, by their numbers: ENONET, EPROTO,
 /// ENOPROTOOPT, EOPNOTSUPP, ENETDOWN, ENETUNREACH, EHOSTDOWN and EHOSTUNREACH.
 const NETWORK_ERRORS: [i32; 8] = [64, 71, 92, 95, 100, 101, 112, 113];
@@ -40,6 +43,9 @@ struct Visit {
     client: Client,
     since: Option<Instant>,
     waited: Duration,
+
+    /// Whether it is told when more can be moved. One that is served at once never needs it.
+    is_watched: bool,
 }
 
 /// The clients, by place, and the places of those whose requests are whole or broken, in the order in which they became
@@ -78,8 +84,15 @@ pub(crate) struct Port<'a, R> {
     /// How many seconds a client is waited for, from its coming until it is gone.
     patience: u64,
 
-    /// The place of the client that is being served, and how long it was waited for.
-    serving: (usize, Duration),
+    /// Whether a connection, or an order, may wait to be taken: that some do is told once.
+    port_waits: bool,
+    orders_wait: bool,
+
+    /// How many were taken or served since it was looked last what has come of the others.
+    unlooked: u32,
+
+    /// The place of the client that is being served, how long it was waited for, and whether it is watched.
+    serving: (usize, Duration, bool),
 
     /// When the network had an error last.
     erred: Option<Instant>,
@@ -112,13 +125,19 @@ impl Visit {
         self.waited.saturating_add(time_since(self.since, clock))
     }
 
-    /// Moves what can be moved of the client, and says what is next.
-    fn advance<C: Clock>(&mut self, clock: &C) -> Next {
+    /// Moves what can be moved of the client, and says what is next. Once it has to wait, it is watched.
+    fn advance<C: Clock>(&mut self, place: usize, poll: &Poll, clock: &C) -> Next {
         let was_ended = self.client.is_ended();
         let next = self.client.advance();
         if next != Next::Waits || self.client.is_ended() != was_ended {
             self.waited = self.time_waited(clock);
             self.since = time_of(clock);
+        }
+        if next == Next::Waits && !self.is_watched {
+            if !self.client.watch(poll, place) {
+                return Next::IsGone;
+            }
+            self.is_watched = true;
         }
         next
     }
@@ -130,10 +149,15 @@ impl Visit {
     }
 }
 
-/// Whether a request was coming at this place, and what is next of its client.
-fn advance_at<C: Clock>(place: &mut Option<Visit>, clock: &C) -> Option<(bool, Next)> {
-    match place {
-        Some(visit) => Some((visit.client.is_coming(), visit.advance(clock))),
+/// Whether a request was coming from a visitor, and what is next of its client.
+fn advance_at<C: Clock>(
+    visitor: &mut Option<Visit>,
+    place: usize,
+    poll: &Poll,
+    clock: &C,
+) -> Option<(bool, Next)> {
+    match visitor {
+        Some(visit) => Some((visit.client.is_coming(), visit.advance(place, poll, clock))),
         None => None,
     }
 }
@@ -166,14 +190,10 @@ impl Clients {
         (MOST_CONNECTIONS..MOST_CLIENTS).find(|place| self.is_free(*place))
     }
 
-    /// Puts a client at a place, which was waited for so long before.
-    fn put<C: Clock>(&mut self, place: usize, client: Client, waited: Duration, clock: &C) {
+    /// Puts a visitor at a place.
+    fn put(&mut self, place: usize, visit: Visit) {
         if let Some(free) = self.visits.get_mut(place) {
-            *free = Some(Visit {
-                client,
-                since: time_of(clock),
-                waited,
-            });
+            *free = Some(visit);
         }
     }
 
@@ -199,12 +219,12 @@ impl Clients {
     }
 
     /// Moves what can be moved of the client of a place.
-    fn advance<C: Clock>(&mut self, place: usize, clock: &C) {
+    fn advance<C: Clock>(&mut self, place: usize, poll: &Poll, clock: &C) {
         if self.is_ready(place) {
             return;
         }
         let moved = match self.visits.get_mut(place) {
-            Some(visit) => advance_at(visit, clock),
+            Some(visitor) => advance_at(visitor, place, poll, clock),
             None => None,
         };
         if let Some((coming, next)) = moved {
@@ -278,7 +298,10 @@ pub(crate) fn port_on<'a, R: Clock + Files + Net>(
             database,
             socket,
             patience: service.patience,
-            serving: (MOST_CLIENTS, Duration::ZERO),
+            port_waits: true,
+            orders_wait: true,
+            unlooked: 0,
+            serving: (MOST_CLIENTS, Duration::ZERO, false),
             erred: None,
             swept: None,
         }),
@@ -333,11 +356,16 @@ fn why_untaken(error: &io::Error) -> Untaken {
 }
 
 impl<'a, R: Clock + Eprint + Files> Port<'a, R> {
-    /// Lets a client in at a place.
-    fn let_in(&mut self, place: usize, wire: Wire) {
-        let client = Client::new(self.alloc, wire);
-        self.clients.put(place, client, Duration::ZERO, self.rt);
-        self.clients.advance(place, self.rt);
+    /// Lets a client in at a place, which was waited for so long before.
+    fn let_in(&mut self, place: usize, client: Client, waited: Duration, is_watched: bool) {
+        let visit = Visit {
+            client,
+            since: time_of(self.rt),
+            waited,
+            is_watched,
+        };
+        self.clients.put(place, visit);
+        self.clients.advance(place, &self.doors.poll, self.rt);
     }
 
     /// Tells an error of the network on standard error, and takes no connection for a while.
@@ -346,68 +374,63 @@ impl<'a, R: Clock + Eprint + Files> Port<'a, R> {
         let _ = eprintln!(self.rt; "a connection isn't taken, and serving goes on: {error}");
     }
 
-    /// Takes the connections that wait at the port. One that has no place is closed.
-    fn take_requests(&mut self) -> Result<(), Fault> {
-        for _ in 0..u32::MAX {
-            let mut stream = match taken_at(&self.doors.port) {
-                Ok(stream) => stream,
-                Err(error) => match why_untaken(&error) {
-                    Untaken::None => return Ok(()),
-                    Untaken::Gone => continue,
-                    Untaken::Network => {
-                        self.pause(&error);
-                        return Ok(());
-                    }
+    /// Takes a connection that waits at the port. One that has no place is closed.
+    fn take_request(&mut self) -> Result<(), Fault> {
+        let stream = match taken_at(&self.doors.port) {
+            Ok(stream) => stream,
+            Err(error) => {
+                match why_untaken(&error) {
+                    Untaken::None => self.port_waits = false,
+                    Untaken::Gone => {}
+                    Untaken::Network => self.pause(&error),
                     Untaken::Never => return Err(Fault::Accept),
-                },
-            };
-            let Some(place) = self.clients.place_for_request() else {
-                continue;
-            };
-            let both = Interest::READABLE | Interest::WRITABLE;
-            let registry = self.doors.poll.registry();
-            if registry.register(&mut stream, Token(place), both).is_ok() {
-                self.let_in(place, Wire::Request(stream));
+                }
+                return Ok(());
             }
+        };
+        if let Some(place) = self.clients.place_for_request() {
+            let client = Client::new(self.alloc, Wire::Request(stream));
+            self.let_in(place, client, Duration::ZERO, false);
         }
         Ok(())
     }
 
-    /// Takes those that wait at the socket of orders. One that has no place is closed.
-    fn take_orders(&mut self) -> Result<(), Fault> {
-        for _ in 0..u32::MAX {
-            let mut stream = match self.doors.orders.accept() {
-                Ok((stream, _)) => stream,
-                Err(error) => match why_untaken(&error) {
-                    Untaken::None => return Ok(()),
-                    Untaken::Gone => continue,
+    /// Takes one that waits at the socket of orders. Where there is no place for it, it is closed.
+    fn take_order(&mut self) -> Result<(), Fault> {
+        let stream = match self.doors.orders.accept() {
+            Ok((stream, _)) => stream,
+            Err(error) => {
+                match why_untaken(&error) {
+                    Untaken::None => self.orders_wait = false,
+                    Untaken::Gone => {}
                     Untaken::Network | Untaken::Never => return Err(Fault::Accept),
-                },
-            };
-            let Some(place) = self.clients.place_for_order() else {
-                continue;
-            };
-            let both = Interest::READABLE | Interest::WRITABLE;
-            let registry = self.doors.poll.registry();
-            if registry.register(&mut stream, Token(place), both).is_ok() {
-                self.let_in(place, Wire::Order(stream));
+                }
+                return Ok(());
             }
+        };
+        if let Some(place) = self.clients.place_for_order() {
+            let client = Client::new(self.alloc, Wire::Order(stream));
+            self.let_in(place, client, Duration::ZERO, false);
         }
         Ok(())
     }
 
-    /// Takes what waits, but no connection just behind an error of the network.
-    fn take_all(&mut self) -> Result<(), Fault> {
-        if is_over(self.erred, PAUSE, self.rt) {
-            self.take_requests()?;
+    /// Takes one that waits, but no connection just behind an error of the network. Says whether one may have waited.
+    fn take(&mut self) -> Result<bool, Fault> {
+        if self.orders_wait {
+            self.take_order()?;
+            return Ok(true);
         }
-        self.take_orders()
+        if self.port_waits && is_over(self.erred, PAUSE, self.rt) {
+            self.take_request()?;
+            return Ok(true);
+        }
+        Ok(false)
     }
 
-    /// Waits until something can be moved, or a second is over, and moves it. Nothing is waited for while somebody is
-    /// ready to be served.
-    fn wait(&mut self) -> Result<(), Fault> {
-        let most = u64::from(self.clients.ready.is_empty());
+    /// Waits until something can be moved, or so many seconds are over, and moves it.
+    fn wait(&mut self, most: u64) -> Result<(), Fault> {
+        self.unlooked = 0;
         let Doors { poll, events, .. } = &mut self.doors;
         match poll.poll(events, Some(Duration::from_secs(most))) {
             Ok(()) => {}
@@ -416,8 +439,13 @@ impl<'a, R: Clock + Eprint + Files> Port<'a, R> {
         }
         for event in &self.doors.events {
             let Token(place) = event.token();
-            // Those of what listens are places of no client.
-            self.clients.advance(place, self.rt);
+            if place == PORT {
+                self.port_waits = true;
+            } else if place == ORDERS {
+                self.orders_wait = true;
+            } else {
+                self.clients.advance(place, &self.doors.poll, self.rt);
+            }
         }
         if is_over(self.swept, 1, self.rt) {
             self.clients.give_up(self.patience, self.rt);
@@ -426,20 +454,27 @@ impl<'a, R: Clock + Eprint + Files> Port<'a, R> {
         Ok(())
     }
 
+    /// Takes one that waits. Where none does, or after many, it is looked what has come of the others.
+    fn go_on(&mut self) -> Result<(), Fault> {
+        self.unlooked = self.unlooked.saturating_add(1);
+        if self.unlooked >= MOST_UNLOOKED {
+            return self.wait(0);
+        }
+        if self.take()? { Ok(()) } else { self.wait(1) }
+    }
+
     /// The client whose request or order became whole, or broken, before all others.
     fn next_client(&mut self) -> Option<(Client, bool)> {
         let (place, whole) = self.clients.ready.pop_front()?;
         let visit = self.clients.visits.get_mut(place)?.take()?;
-        self.serving = (place, visit.waited);
+        self.serving = (place, visit.waited, visit.is_watched);
         Some((visit.client, whole))
     }
 
     /// Has an answer go out to the client that was served, as far as it isn't out yet.
     fn let_out(&mut self, output: Outgoing) {
-        let (place, waited) = self.serving;
-        self.clients
-            .put(place, Client::answered(output), waited, self.rt);
-        self.clients.advance(place, self.rt);
+        let (place, waited, is_watched) = self.serving;
+        self.let_in(place, Client::answered(output), waited, is_watched);
     }
 
     /// Lets the answers that are under way go out, as long as their clients take them. Nothing is taken any more.
@@ -455,7 +490,7 @@ impl<'a, R: Clock + Eprint + Files> Port<'a, R> {
             }
         }
         for _ in 0..u32::MAX {
-            if self.clients.are_gone() || self.wait().is_err() {
+            if self.clients.are_gone() || self.wait(1).is_err() {
                 return;
             }
         }
@@ -487,10 +522,8 @@ impl<'a, R: Clock + Eprint + Files> Listener for Port<'a, R> {
 
     fn accept(&mut self) -> Result<Arrival<Flagged<Incoming>, Flagged<Outgoing>, Outgoing>, Fault> {
         for _ in 0..u64::MAX {
-            if self.take_all().is_err() || self.wait().is_err() {
-                return Err(Fault::Accept);
-            }
             if let Some((client, whole)) = self.next_client() {
+                self.unlooked = self.unlooked.saturating_add(1);
                 match client.into_errand(self.alloc, whole) {
                     Errand::Request(input, output) => {
                         return Ok(Arrival::Connection(Taken {
@@ -501,6 +534,9 @@ impl<'a, R: Clock + Eprint + Files> Listener for Port<'a, R> {
                     }
                     Errand::Order(line, output) => return Ok(Arrival::Order(line, output)),
                 }
+            }
+            if self.go_on().is_err() {
+                return Err(Fault::Accept);
             }
         }
         Err(Fault::Accept)
