@@ -162,10 +162,11 @@ fn copy_asked(rt: &HostRuntime, matches: &ArgMatches<'_>) -> Option<Result<bool,
 }
 
 /// How many bytes of the stack are touched before anything is done.
-const STACK_BYTES: usize = 524288;
+const STACK_BYTES: usize = 262144;
 
 /// Touches the stack as far as the program may need it, so that want of it is met before anything is done. It says
-/// whether what was written there can be read.
+/// whether what was written there can be read. Within another function its room would lie above what comes behind it.
+#[inline(never)]
 fn has_stack(number: usize) -> bool {
     let mut room = [0_u8; STACK_BYTES];
     room[number % STACK_BYTES] = 1;
