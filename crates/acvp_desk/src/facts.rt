@@ -17,6 +17,14 @@ use acvp_policy::{
 };
 use acvp_tables::AccountRow;
 
+/// The account under whose secret codes are made where there is none.
+const NOBODY: AccountRow = AccountRow {
+    number: 0,
+    secret: [0; 32],
+    enabled: false,
+    last_step: None,
+};
+
 // ---- what a path names
 
 fn row_subject(registry: Registry, row: RowSubject) -> Subject
@@ -146,15 +154,21 @@ pub(crate) fn login_step(moment: u64, login: &LoginAsk, row: &AccountRow) -> Opt
     accepted_step(&row.secret, row.last_step, moment, login.password?)
 }
 
-/// What is found on a login.
+/// What is found on a login. Where there is no account, codes are made under a secret of zeros, so that the time it
+/// takes doesn't tell whether there is one.
 fn login_facts(moment: u64, login: &LoginAsk, account: &Option<AccountRow>) -> LoginFacts
     ensures { result ≡ login_facts moment login.now account.now }
 {
+    let row = match account {
+        Some(row) => *row,
+        None => NOBODY,
+    };
+    let step = login_step(moment, login, &row);
     let user = match account {
-        Some(row) => Some(UserFacts {
+        Some(_) => Some(UserFacts {
             account: row.number,
             enabled: row.enabled,
-            step: login_step(moment, login, row),
+            step,
         }),
         None => None,
     };

@@ -37,17 +37,20 @@ pub fn totp(secret: &[u8], step: u64) -> u32
 }
 
 /// The step that a code stands for at a moment: the current step or the one before it, above the
-/// last one that was used.
+/// last one that was used. Both codes are always made, so that the time it takes tells of none.
 pub fn accepted_step(secret: &[u8], last: Option<u64>, moment: u64, code: u32) -> Option<u64>
     ensures greatest { IsAcceptedStep secret.now last moment code result }
     ensures value { result ≡ accepted secret.now last moment code }
 {
     let current = step_of(moment);
-    if is_fresh(last, current) && totp(secret, current) == code {
+    let earlier = current.checked_sub(1);
+    let current_code = totp(secret, current);
+    let earlier_code = totp(secret, earlier.unwrap_or(current));
+    if is_fresh(last, current) && current_code == code {
         return Some(current);
     }
-    let earlier = current.checked_sub(1)?;
-    if is_fresh(last, earlier) && totp(secret, earlier) == code {
+    let earlier = earlier?;
+    if is_fresh(last, earlier) && earlier_code == code {
         return Some(earlier);
     }
     None

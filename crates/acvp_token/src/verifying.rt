@@ -1,6 +1,6 @@
 //! Tokens are read.
 
-ghost use Rattle.std.specs.Prelude.{◌≡◌, ℕ, List, Ok};
+ghost use Rattle.std.specs.Prelude.{◌≡◌, ◌↔◌, ℕ, List, Ok, IsTrue};
 ghost use Rattle.serde_json.specs.View.{view};
 ghost use Rattle.acvp_token.specs.Faults.{IsReading, IsReadingUnder, IsVerdict, IsVerdictUnder};
 ghost use Rattle.acvp_token.specs.Keys.{Ring};
@@ -79,11 +79,25 @@ fn read_signed(alloc: Global, key: &[u8], token: &OpenToken<'_>) -> Result<Claim
     ensures { IsSignedReading key.now token.now.signed.now token.now.claims.items token.now.signature.items result }
 {
     let signature = hmac(HashName::Sha256, key, token.signed);
-    if token.signature.as_slice() == signature.as_slice() {
+    if is_same(token.signature.as_slice(), signature.as_slice()) {
         read_claims(alloc, &token.claims)
     } else {
         Err(TokenFault::Signature)
     }
+}
+
+/// Whether a signature is the one that was made. Each byte is compared, wherever the first that differs is.
+fn is_same(given: &[u8], made: &[u8]) -> bool
+    ensures { IsTrue result ↔ (given.now ≡ made.now) }
+{
+    if given.len() != made.len() {
+        return false;
+    }
+    let mut same = true;
+    for (byte, other) in given.iter().zip(made) {
+        same &= byte == other;
+    }
+    same
 }
 
 /// The definition of what a text reads as gives one answer: under a key, no text reads as two claims, nor under a ring.
