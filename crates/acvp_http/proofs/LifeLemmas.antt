@@ -1,5 +1,6 @@
 -- The life of the records, run by run.
-use Rattle.std.proofs.Common.{◌≡◌, ◌⊎◌, inl, inr, ℕ, List, [], ◌∷◌, ◌++◌, refl, sym, subst}
+use Rattle.std.proofs.Common.{◌≡◌, ◌⊎◌, inl, inr, ℕ, List, [], ◌∷◌, ◌++◌, Bool, true, false, refl, sym, subst}
+use Rattle.std.specs.Prelude.{MatchBool}
 use Rattle.std.specs.List.{All, AllByRecursion}
 use Rattle.std.proofs.lemmas.List.Elements.{recursion_from_All}
 use Rattle.acvp_tables.specs.Content.{Content}
@@ -53,8 +54,9 @@ module _ {T : Type 0} (meaning : Meaning T)
 
   -- after a crash
   reopened : (run : Run) (next : Content) (last opened : T) → All (λ (t : Turn). CanHappen t.event) run.turns → IsKept run.keys.seed next
-      → ((other : Content) → leaves last next other) ⊎ LeavesOneMore meaning run.keys run.turns next last → Reopens meaning last opened → Begins run next opened
-  reopened run next last opened can kept left (up, finds) = elim left [
+      → ((other : Content) → leaves last next other) ⊎ LeavesOneMore meaning run.keys run.turns next last → run.closed ≡ false → Reopens meaning last opened
+      → Begins run next opened
+  reopened run next last opened can kept left stopped (up, finds) = elim left [
     | inl all ↦ elim (finds next next (all next)) [
       | inl stood ↦ (next, inl refl, kept, up, stood)
       | inr stood ↦ (next, inl refl, kept, up, stood)
@@ -63,18 +65,16 @@ module _ {T : Type 0} (meaning : Meaning T)
       | inl stood ↦ (next, inl refl, kept, up, stood)
       | inr stood ↦
           let can_turn = turn_can run.turns earlier rest turn can split in
-          (other, inr (earlier, turn, rest, split, off, effect), effect_kept run.keys turn.event next other can_turn kept effect, up, stood)
+          (other, inr (stopped, (earlier, turn, rest, split, off, effect)), effect_kept run.keys turn.event next other can_turn kept effect, up, stood)
     ]
   ]
 
   -- after a crash or a close
   begins : (run : Run) (next : Content) (last opened : T) → All (λ (t : Turn). CanHappen t.event) run.turns → IsKept run.keys.seed next → Holds meaning last next
-      → ((other : Content) → leaves last next other) ⊎ LeavesOneMore meaning run.keys run.turns next last → Reopens meaning last opened ⊎ GoesOn meaning last opened
-      → Begins run next opened
-  begins run next last opened can kept holds left ends = elim ends [
-    | inl again ↦ reopened run next last opened can kept left again
-    | inr (was, up, same) ↦ (next, inl refl, kept, up, same next (holds was))
-  ]
+      → ((other : Content) → leaves last next other) ⊎ LeavesOneMore meaning run.keys run.turns next last → (closed : Bool) → run.closed ≡ closed
+      → MatchBool closed (GoesOn meaning last opened) (Reopens meaning last opened) → Begins run next opened
+  begins run next last opened can kept holds left true is (was, up, same) = (next, inl refl, kept, up, same next (holds was))
+  begins run next last opened can kept holds left false is again = reopened run next last opened can kept left is again
 
   pub lives_on : (runs : List Run) (seeds : List (List ℕ)) (old new : T) (c : Content) → AddsSeeds seeds runs → Lives meaning runs old new
       → is_open old → IsKept seeds c → stands old c → Ends runs new c
@@ -83,6 +83,6 @@ module _ {T : Type 0} (meaning : Meaning T)
   lives_on (run ∷ runs) seeds old new c ((more, is), seeded, adds) (last, opened, through, clean, can, ends, later) live kept h =
       let kept_then : IsKept run.keys.seed c = subst (λ (s : List (List ℕ)). IsKept s c) (sym is) (outlast seeds more c kept) in
       let (next, ran, kept_next, holds, left) = leaving run.keys run.turns run.answers old last through clean live c kept_then h in
-      let (start, passes, kept_start, up, stood) = begins run next last opened can kept_next holds left ends in
+      let (start, passes, kept_start, up, stood) = begins run next last opened can kept_next holds left run.closed refl ends in
       one_before run runs new c next start (record { seeded = seeded; kept = kept_then; can = can; runs = ran }) passes
       (lives_on runs run.keys.seed opened new start adds later up kept_start stood)

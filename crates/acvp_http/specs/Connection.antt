@@ -1,5 +1,5 @@
 -- One request of a connection: what is taken of its input, what is written, and what becomes of the records.
-use Rattle.std.specs.Prelude.{◌≡◌, ◌<◌, ◌⊎◌, ℕ, List, [], Bool, true, false, None, IfSome, Result, Ok, Err}
+use Rattle.std.specs.Prelude.{◌≡◌, ◌<◌, ◌⊎◌, ◌↔◌, ℕ, List, [], Bool, true, false, IsTrue, None, IfSome, Result, Ok, Err}
 use Rattle.acvp_policy.specs.declared.rule.Rule.TheVariants.{Unavailable}
 use Rattle.acvp_tables.specs.Meaning.{Meaning}
 use Rattle.acvp_desk.specs.Answer.{end_of_moments}
@@ -15,6 +15,10 @@ use Rattle.acvp_http.specs.Source.{InputStream, OutputStream, Gives, Gets, GetsF
 -- the most reads for one request
 abbrev pub most_request_reads : ℕ
 most_request_reads = 2200000
+
+-- the reply of a server that is unavailable
+abbrev pub unavailable_reply : List ℕ
+unavailable_reply = refusal None Unavailable
 
 -- Some of a known input may be taken, and nothing behind what its request needs.
 abbrev pub TakesWithin : InputStream → InputStream → Type 0
@@ -42,17 +46,19 @@ module _ {T : Type 0} (meaning : Meaning T) where
   -- Or memory for what it needs was refused: the records stay, and some of it may be taken.
   abbrev pub AnswersNothing : ℕ → InputStream → InputStream → List ℕ → T → T → Type 0
   AnswersNothing moment input left reply old new =
-      (moment < end_of_moments) × (reply ≡ refusal None Unavailable) × (new ≡ old) × TakesWithin input left
+      (moment < end_of_moments) × (reply ≡ unavailable_reply) × (new ≡ old) × TakesWithin input left
 
   abbrev pub AnswersInput : Keys → ℕ → InputStream → InputStream → List ℕ → T → T → Type 0
   AnswersInput keys moment input left reply old new =
       AnswersNeeded keys moment input left reply old new ⊎ AnswersNothing moment input left reply old new
 
-  -- The request is answered, or it wasn't handled.
-  abbrev pub ServesOne : {X : Type 0} → Keys → ℕ → InputStream → InputStream → OutputStream → OutputStream → T → T
-      → Result X ServeFault → Type 0
-  ServesOne keys moment input left written out old new (Ok done) =
+  -- The request is answered, and it is told whether the reply was that of a server that is unavailable. Or it wasn't
+  -- handled.
+  abbrev pub ServesOne : Keys → ℕ → InputStream → InputStream → OutputStream → OutputStream → T → T
+      → Result Bool ServeFault → Type 0
+  ServesOne keys moment input left written out old new (Ok unavailable) =
       (reply : List ℕ) × AnswersInput keys moment input left reply old new × Gets written out reply
+      × (IsTrue unavailable ↔ (reply ≡ unavailable_reply))
   ServesOne keys moment input left written out old new (Err Write) =
       (reply : List ℕ) × AnswersInput keys moment input left reply old new × GetsFront written out reply
   ServesOne keys moment input left written out old new (Err Read) = IsUnhandled moment input left written out old new

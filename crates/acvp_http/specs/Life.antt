@@ -1,6 +1,6 @@
 -- The life of the records over several runs of the server, each of which ends by a stop or by a close. Of a stop
 -- within a turn nothing is said.
-use Rattle.std.specs.Prelude.{◌≡◌, ◌⊎◌, ℕ, ◌≤◌, List, [], ◌∷◌, ◌++◌, length, true, ⊤}
+use Rattle.std.specs.Prelude.{◌≡◌, ◌⊎◌, ℕ, ◌≤◌, List, [], ◌∷◌, ◌++◌, length, Bool, true, false, MatchBool, ⊤}
 use Rattle.std.specs.List.{All}
 use Rattle.acvp_tables.specs.Content.{Content}
 use Rattle.acvp_tables.specs.Meaning.{Meaning}
@@ -9,11 +9,12 @@ use Rattle.acvp_desk.specs.declared.keys.Keys.{Keys}
 use Rattle.acvp_http.specs.Event.{EventAnswer, CanHappen, Turn}
 use Rattle.acvp_http.specs.Serve.{GoesThrough, HasEffect, Runs}
 
--- one run of the server: its keys, its turns, and their answers
+-- one run of the server: its keys, its turns, their answers, and whether it ended by a close
 pub record Run : Type 0 where
   pub keys : Keys
   pub turns : List Turn
   pub answers : List EventAnswer
+  pub closed : Bool
 
 -- Each run has the seeds of the one before, and maybe more behind them. It has one at least, as the keys of every
 -- server do.
@@ -25,12 +26,12 @@ AddsSeeds seeds (run ∷ runs) =
 
 -- ---- over records
 
--- The records after the turns of a run are there when the next one begins; or those with the effect of one event more,
--- which was unavailable.
+-- The records after the turns of a run are there when the next one begins. Or, where it was stopped, those with the
+-- effect of one event more, which was unavailable.
 abbrev pub Passes : Run → Content → Content → Type 0
 Passes run next start = (start ≡ next)
-    ⊎ ((earlier : List Turn) × (turn : Turn) × (later : List Turn) × (run.turns ≡ earlier ++ turn ∷ later)
-    × (turn.unavailable ≡ true) × HasEffect run.keys turn.event next start)
+    ⊎ ((run.closed ≡ false) × ((earlier : List Turn) × (turn : Turn) × (later : List Turn)
+    × (run.turns ≡ earlier ++ turn ∷ later) × (turn.unavailable ≡ true) × HasEffect run.keys turn.event next start))
 
 -- A run goes over these records to the next, as the definitions say. It has a seed, the records before it are kept
 -- under its seeds, and each of its events can happen: so what `headline` and `isolation` say holds of it.
@@ -66,5 +67,5 @@ module _ {T : Type 0} (meaning : Meaning T) where
   Lives [] old new = new ≡ old
   Lives (run ∷ runs) old new =
       (last : T) × (opened : T) × GoesThrough meaning run.keys run.turns run.answers old last × is_clean last
-      × All (λ turn. CanHappen turn.event) run.turns × (Reopens last opened ⊎ GoesOn last opened)
+      × All (λ turn. CanHappen turn.event) run.turns × MatchBool run.closed (GoesOn last opened) (Reopens last opened)
       × Lives runs opened new

@@ -63,7 +63,7 @@ fn answer_input<T: Tables, S: Source>(
 }
 
 /// Serves one request at a moment, in seconds since 1970: reads no more than it needs, handles it and writes its whole
-/// reply. A read that is interrupted is tried again.
+/// reply. A read that is interrupted is tried again. Says whether the reply was that of a server that is unavailable.
 pub fn serve_one<T: Tables, S: Source, K: Sink>(
     alloc: Global,
     routes: &Routes,
@@ -71,7 +71,7 @@ pub fn serve_one<T: Tables, S: Source, K: Sink>(
     reader: &mut S,
     writer: &mut K,
     moment: u64,
-) -> Result<(), ServeFault>
+) -> Result<bool, ServeFault>
     requires reader_clear { (S.stream reader.old).failed ≡ false }
     requires writer_clear { (K.stream writer.old).failed ≡ false }
     ensures keys { desk.new.keys ≡ desk.old.keys }
@@ -86,7 +86,7 @@ pub fn serve_one<T: Tables, S: Source, K: Sink>(
 {
     let reply = answer_input(alloc, routes, desk, reader, moment)?;
     match write_all(writer, reply.bytes()) {
-        Ok(()) => Ok(()),
+        Ok(()) => Ok(reply.is_unavailable()),
         Err(WriteFault) => Err(ServeFault::Write),
     }
 }

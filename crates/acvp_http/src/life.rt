@@ -19,8 +19,9 @@ use acvp_tables::Tables;
 /// Over several runs, each of which ends by a close, or by a crash behind any of its turns, the records go on from run
 /// to run. Tables that were open and stood for records go through the runs, each over what an open found after the one
 /// before. Then each run goes over the records that the ones before it left, which are kept under its own seeds: so it
-/// is as `runs_are_promised` says. Between two runs nothing is lost of what was answered, and at most the effect of one
-/// event more is there, which was unavailable. A later run may have more seeds, behind those of the earlier.
+/// is as `runs_are_promised` says. Between two runs nothing is lost of what was answered; after a crash at most the
+/// effect of one event more is there, which was unavailable. A later run may have more seeds, behind those of the
+/// earlier.
 pub fn records_live_on<T: Tables>()
     ensures { (runs : List Run) (seeds : List (List ℕ)) (old new : T) (c : Content) → AddsSeeds seeds runs
         → Lives T.meaning runs old new → T.meaning.is_open old → IsKept seeds c → T.meaning.stands old c

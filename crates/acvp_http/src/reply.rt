@@ -1,6 +1,6 @@
 //! The reply to a request: its head and its body.
-ghost use Rattle.std.specs.Prelude.{◌≡◌, ◌≤◌, ◌<◌, ◌++◌, ◌+◌, ℕ, List, [], codes, length, drop, decimal, unwrap_or};
-ghost use Rattle.std.specs.Prelude.{Some, None, option_map, option_copied};
+ghost use Rattle.std.specs.Prelude.{◌≡◌, ◌≤◌, ◌<◌, ◌++◌, ◌+◌, ◌↔◌, ℕ, List, [], IsTrue, codes, length, drop, decimal};
+ghost use Rattle.std.specs.Prelude.{Some, None, option_map, option_copied, unwrap_or};
 ghost use Rattle.http.specs.StatusCode.{reason_phrase};
 ghost use Rattle.acvp_policy.specs.Rule.{rule_status, rule_word};
 ghost use Rattle.acvp_desk.specs.Answer.{spare};
@@ -195,6 +195,13 @@ impl Reply {
         Reply {
             bytes: Bytes::Long { buffer, start },
         }
+    }
+
+    /// Whether this is the reply of a server that is unavailable. It takes no memory.
+    pub fn is_unavailable(&self) -> bool
+        ensures { IsTrue result ↔ (self.now ≡ refusal None Rule.Unavailable) }
+    {
+        self.bytes() == Reply::refusal(None, Rule::Unavailable).bytes()
     }
 
     /// All the bytes, from the status line to the end of the body.

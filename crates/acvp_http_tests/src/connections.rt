@@ -59,7 +59,7 @@ const LOST: &[u8] = b"GET /acvp/v2 HTTP/1.0\r\n\r\n";
 /// What serving one request answered, and its reader and writer.
 #[derive(Drop)]
 struct Outcome<R, W> {
-    answer: Result<(), ServeFault>,
+    answer: Result<bool, ServeFault>,
     reader: R,
     writer: W,
 }
@@ -92,7 +92,7 @@ fn reply_to<T: Tables>(
     input: &[u8],
 ) -> Vec<u8> {
     let served = serve_over(rt, alloc, desk, moment, input, Vec::new(alloc));
-    assert_eq!(rt; served.answer, Ok(()));
+    assert_eq!(rt; served.answer, Ok(false));
     served.writer
 }
 
@@ -187,7 +187,7 @@ fn leaves_the_rest<T: Tables>(
     push(rt, &mut input, needed);
     push(rt, &mut input, b"[1]");
     let served = serve_over(rt, alloc, desk, moment, input.as_slice(), Vec::new(alloc));
-    assert_eq!(rt; served.answer, Ok(()));
+    assert_eq!(rt; served.answer, Ok(false));
     assert_eq!(rt; served.reader, b"[1]".as_slice());
 }
 
@@ -236,7 +236,7 @@ fn goes_on<T: Tables>(rt: &impl Abort, alloc: Global, desk: &mut Desk<T>, place:
         fault: Some(ErrorKind::Interrupted),
     };
     let served = serve_over(rt, alloc, desk, 59, reader, Vec::new(alloc));
-    assert_eq!(rt; served.answer, Ok(()));
+    assert_eq!(rt; served.answer, Ok(false));
     assert_eq!(rt; served.writer.as_slice(), ACCEPTED);
 }
 
