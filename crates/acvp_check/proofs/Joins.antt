@@ -1,5 +1,5 @@
 -- Conditions after one another.
-use Rattle.std.proofs.Common.{◌≡◌, ℕ, ◌+◌, ◌<◌, Bool, true, false, List, [], ◌∷◌, ◌++◌, length, map, drop, get_or, None, Some, refl, ap, arith}
+use Rattle.std.proofs.Common.{◌≡◌, ℕ, ◌+◌, ◌<◌, Bool, true, false, List, [], ◌∷◌, ◌++◌, length, map, drop, get_or, Option, None, Some, refl, ap, sym, ◌∙◌, arith}
 use Rattle.std.specs.Prelude.{Result, Ok, Err, filter, find, is_some}
 use Rattle.std.specs.List.{flat_map, list_any}
 use Rattle.std.proofs.lemmas.List.{drop_more}
@@ -58,3 +58,7 @@ pub session_there : (n : ℕ) (rows : List SessionRow)
     → is_some (session_record_at n (map session_record rows)) ≡ is_some (session_at n rows)
 session_there n [] = refl
 session_there n (r ∷ rows) = grind (arith, nat_tests, session_there n rows)
+
+-- what is found isn't none
+pub apart : {F : Type 0} (o : Option F) (found : F) → o ≡ Some found → o ≡ None → ⊥
+apart o found some none = let both_ways : Some found ≡ None = sym some ∙ none in cc (both_ways)

@@ -4,5 +4,6 @@ pub mod AccountLemmas
 pub mod GradedLemmas
 pub mod HeldLemmas
 pub mod WholeLemmas
+pub mod NumberedRows
 pub mod OrderLemmas
 pub mod OrderedRows

@@ -70,7 +70,7 @@ pub record Owned (c : Content) : Type 0 where
 one : {R : Type 0} (p : R → Bool) (rows : List R) → list_all (λ r. p r && true) rows ≡ true → list_all p rows ≡ true
 one p rows e = list_all_weaker (λ r. p r && true) p (λ r h. (both (p r) true h).0) rows e
 
-owned : (c : Content) → holds (owner_conditions c) ≡ true → Owned c
+pub owned : (c : Content) → holds (owner_conditions c) ≡ true → Owned c
 unfolding owner_conditions session_owners registry_owners
 owned c e =
     let p = split (session_owners c) (registry_owners c) e in
@@ -87,7 +87,7 @@ owned c e =
       reviewers = one (λ row. is_account_number (owner_of row.session)) c.reviewers (of_each reviewer_owner c.reviewers a.1);
     }
 
-not_at : (n u : ℕ) → is_account_number n ≡ true → is_account_number u ≡ false → (n == u) ≡ false
+pub not_at : (n u : ℕ) → is_account_number n ≡ true → is_account_number u ≡ false → (n == u) ≡ false
 not_at n u is none = elim (cases_Bool (n == u)) [
   | inl same ↦ let at : n ≡ u = grind (arith, nat_tests, same) in let both_ways : true ≡ false = sym (subst (λ k. is_account_number k ≡ true) at is) ∙ none in absurd (cc (both_ways))
   | inr other ↦ other
@@ -323,27 +323,37 @@ module _ (state : State) (sound : IsWellNumbered state) where
   of_accounts = by_class (λ a b. a == b) (λ (row : AccountRow). row.number) (λ u row. is_account_number row.number) eqb_same state.accounts
       (λ u. list_all_weaker is_account_row (λ row. is_account_number row.number) (λ row e. (both (is_account_number row.number) (length row.secret == 32) e).0) (own u state).accounts (sound u).accounts)
 
-pub owners_unbroken : (seeds : List (List ℕ)) (c : Content) → IsKept seeds c → first_broken (owner_conditions c) ≡ None
-unfolding owner_conditions session_owners registry_owners state_of
-owners_unbroken seeds c is =
-    let state = state_of c in
-    let tells = keyed state is.sound in
-    let h = to_each account_owner c.accounts (last_holds (λ row. is_account_number row.number) c.accounts (of_accounts state is.sound)) in
-    let f = to_each session_owner c.sessions (last_holds (λ row. is_of row.account row.number) c.sessions
-    (all_both (λ row. is_account_number row.account) (λ row. owner_of row.number == row.account) c.sessions
-    (rows_all session_record (λ row. is_account_number row.account) c.sessions (of_sessions state is.sound))
-    (rows_all session_record (λ row. owner_of row.number == row.account) c.sessions tells.sessions))) in
-    let d = to_each set_owner c.sets (last_holds (λ row. is_in row.session row.number) c.sets
-    (all_both (λ row. is_account_number (owner_of row.session)) (λ row. (row.number / 100) == row.session) c.sets
-    (rows_all set_record (λ row. is_account_number (owner_of row.session)) c.sets (of_sets state is.sound))
-    (rows_all set_record (λ row. (row.number / 100) == row.session) c.sets tells.sets))) in
-    let b = to_each object_owner c.objects (last_holds (λ row. is_of row.account row.number) c.objects
-    (all_both (λ row. is_account_number row.account) (λ row. owner_of row.number == row.account) c.objects (of_objects state is.sound) tells.objects)) in
-    let a = to_each request_owner c.requests (last_holds (λ row. is_of row.account row.number) c.requests
-    (all_both (λ row. is_account_number row.account) (λ row. owner_of row.number == row.account) c.requests (of_requests state is.sound) tells.requests)) in
-    let r = to_each reviewer_owner c.reviewers (last_holds (λ row. is_account_number (owner_of row.session)) c.reviewers (of_reviewers state is.sound)) in
+pub owners_hold : (c : Content) → Owned c → holds (owner_conditions c) ≡ true
+unfolding owner_conditions session_owners registry_owners
+owners_hold c is =
+    let h = to_each account_owner c.accounts (last_holds (λ row. is_account_number row.number) c.accounts is.accounts) in
+    let f = to_each session_owner c.sessions (last_holds (λ row. is_of row.account row.number) c.sessions is.sessions) in
+    let d = to_each set_owner c.sets (last_holds (λ row. is_in row.session row.number) c.sets is.sets) in
+    let b = to_each object_owner c.objects (last_holds (λ row. is_of row.account row.number) c.objects is.objects) in
+    let a = to_each request_owner c.requests (last_holds (λ row. is_of row.account row.number) c.requests is.requests) in
+    let r = to_each reviewer_owner c.reviewers (last_holds (λ row. is_account_number (owner_of row.session)) c.reviewers is.reviewers) in
     let two = flat_map account_owner c.accounts ++ flat_map session_owner c.sessions in
     let four = flat_map object_owner c.objects ++ flat_map request_owner c.requests in
     let front = join two (flat_map set_owner c.sets) (join (flat_map account_owner c.accounts) (flat_map session_owner c.sessions) h f) d in
     let rest = join four (flat_map reviewer_owner c.reviewers) (join (flat_map object_owner c.objects) (flat_map request_owner c.requests) b a) r in
-    all_held (session_owners c ++ registry_owners c) (join (session_owners c) (registry_owners c) front rest)
+    join (session_owners c) (registry_owners c) front rest
+
+pub kept_owned : (seeds : List (List ℕ)) (c : Content) → IsKept seeds c → Owned c
+unfolding state_of
+kept_owned seeds c is =
+    let state = state_of c in
+    let tells = keyed state is.sound in record {
+      accounts = of_accounts state is.sound;
+      sessions = all_both (λ row. is_account_number row.account) (λ row. owner_of row.number == row.account) c.sessions
+          (rows_all session_record (λ row. is_account_number row.account) c.sessions (of_sessions state is.sound))
+          (rows_all session_record (λ row. owner_of row.number == row.account) c.sessions tells.sessions);
+      sets = all_both (λ row. is_account_number (owner_of row.session)) (λ row. (row.number / 100) == row.session) c.sets
+          (rows_all set_record (λ row. is_account_number (owner_of row.session)) c.sets (of_sets state is.sound))
+          (rows_all set_record (λ row. (row.number / 100) == row.session) c.sets tells.sets);
+      objects = all_both (λ row. is_account_number row.account) (λ row. owner_of row.number == row.account) c.objects (of_objects state is.sound) tells.objects;
+      requests = all_both (λ row. is_account_number row.account) (λ row. owner_of row.number == row.account) c.requests (of_requests state is.sound) tells.requests;
+      reviewers = of_reviewers state is.sound;
+    }
+
+pub owners_unbroken : (seeds : List (List ℕ)) (c : Content) → IsKept seeds c → first_broken (owner_conditions c) ≡ None
+owners_unbroken seeds c is = all_held (owner_conditions c) (owners_hold c (kept_owned seeds c is))

@@ -1,7 +1,8 @@
 -- The rows of one account.
-use Rattle.std.specs.Prelude.{ℕ, ◌/◌, filter, ◌==◌}
+use Rattle.std.specs.Prelude.{◌≡◌, ℕ, ◌/◌, filter, ◌==◌, true}
+use Rattle.std.specs.List.{list_all}
 use Rattle.acvp_tables.specs.Content.{Content}
-use Rattle.acvp_tables.specs.State.{owner_of}
+use Rattle.acvp_tables.specs.State.{is_account_number, owner_of}
 
 -- what an account owns of a content
 unfoldable pub rows_of : ℕ → Content → Content
@@ -24,3 +25,12 @@ rows_numbered u c = record {
   requests = filter (λ row. owner_of row.number == u) c.requests;
   reviewers = filter (λ row. owner_of row.session == u) c.reviewers;
 }
+
+-- each row has a number that begins with an account's, 1 to 9999, and a reviewer's session has
+pub record AreNumbered (c : Content) : Type 0 where
+  pub accounts : list_all (λ row. is_account_number row.number) c.accounts ≡ true
+  pub sessions : list_all (λ row. is_account_number (owner_of row.number)) c.sessions ≡ true
+  pub sets : list_all (λ row. is_account_number (owner_of (row.number / 100))) c.sets ≡ true
+  pub objects : list_all (λ row. is_account_number (owner_of row.number)) c.objects ≡ true
+  pub requests : list_all (λ row. is_account_number (owner_of row.number)) c.requests ≡ true
+  pub reviewers : list_all (λ row. is_account_number (owner_of row.session)) c.reviewers ≡ true

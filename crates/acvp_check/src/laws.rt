@@ -4,11 +4,11 @@ ghost use Rattle.acvp_desk.specs.Kept.{IsKept};
 ghost use Rattle.acvp_mac.specs.Conditions.{first_broken};
 ghost use Rattle.acvp_tables.specs.Content.{Content};
 ghost use Rattle.acvp_tables.specs.Counted.{IsCounted};
-ghost use Rattle.acvp_tables.specs.State.{AreWellNumbered};
+ghost use Rattle.acvp_tables.specs.State.{AreWellNumbered, is_account_number};
 ghost use Rattle.acvp_check.specs.Conditions.{all_conditions};
 ghost use Rattle.acvp_check.specs.Order.{AreInOrder, HaveSameRows};
 ghost use Rattle.acvp_check.specs.Owners.{owner_conditions};
-ghost use Rattle.acvp_check.specs.Rows.{rows_numbered, rows_of};
+ghost use Rattle.acvp_check.specs.Rows.{AreNumbered, rows_numbered, rows_of};
 ghost use Rattle.acvp_check.specs.Whole.{IsWhole};
 ghost use Rattle.acvp_check.specs.declared.finding.Finding.{Finding as FindingValue};
 
@@ -39,4 +39,18 @@ pub fn ordered_records_are_kept()
 /// Where each row is of the account that its number names, an account's rows are those with its numbers.
 pub fn numbers_select()
     ensures { (u : ℕ) (c : Content) → first_broken (owner_conditions c) ≡ None → rows_numbered u c ≡ rows_of u c }
+{}
+
+/// Rows can be judged account by account, those with its numbers, in one pass: where each row has a number of an account
+/// and no condition on any account's is broken, the records are whole; and a condition that is broken on the rows with
+/// an account's numbers tells that the records aren't kept.
+pub fn numbered_rows_tell()
+    ensures whole { (grades : Bool) (seeds : List (List ℕ)) (c : Content) → AreNumbered c
+        → ((u : ℕ) → is_account_number u ≡ true → first_broken (owner_conditions (rows_numbered u c)) ≡ None)
+        → ((u : ℕ) → is_account_number u ≡ true
+        → first_broken (all_conditions grades seeds u (rows_numbered u c)) ≡ None) → IsWhole grades seeds c }
+    ensures owner { (seeds : List (List ℕ)) (u : ℕ) (c : Content) (found : FindingValue)
+        → first_broken (owner_conditions (rows_numbered u c)) ≡ Some found → ¬ IsKept seeds c }
+    ensures account { (grades : Bool) (seeds : List (List ℕ)) (u : ℕ) (c : Content) (found : FindingValue)
+        → first_broken (all_conditions grades seeds u (rows_numbered u c)) ≡ Some found → ¬ IsKept seeds c }
 {}

@@ -18,7 +18,8 @@ mod walks;
 pub use account::judge_account;
 pub use finding::{Finding, RowKey, Wrong};
 pub use laws::{
-    numbers_select, ordered_records_are_kept, whole_records_are_kept, wrong_records_are_not_kept,
+    numbered_rows_tell, numbers_select, ordered_records_are_kept, whole_records_are_kept,
+    wrong_records_are_not_kept,
 };
 pub use owners::owners_wrong;
 pub use rows::Rows;
