@@ -33,6 +33,12 @@ pub mod RangeTexts
 pub mod RangeColumns
 pub mod RangeOutside
 pub mod RangeJoins
+pub mod RangeStrays
+pub mod SetRanges
+pub mod ColumnNumbers
+pub mod EntryRanges
+pub mod ReviewerRanges
+pub mod OneList
 pub mod RequestRanges
 pub mod ObjectRanges
 pub mod RegisteredObject

@@ -1,44 +1,52 @@
 -- Objects of a kind in ranges of numbers.
-use Rattle.std.proofs.Common.{◌≡◌, ◌<◌, ◌≤◌, ◌<ℤ◌, ◌^◌, ℕ, ℤ, List, [], ◌∷◌, map, length, int_lt, Bool, true, Some, None, Ok, Err, Result, IfOk, IfErr, IsOk, IsTrue, refl, sym, ap, ap₂, subst, ◌∙◌, arith, Less}
-use Rattle.std.specs.Prelude.{◌&&◌, drop, IsUtf8, IsErrAnd, IsOkAnd}
-use Rattle.std.specs.List.{AllByRecursion, filter}
+use Rattle.std.proofs.Common.{◌≡◌, ◌<◌, ◌≤◌, ◌^◌, ℕ, ℤ, pos, List, [], ◌∷◌, ◌++◌, map, length, Bool, true, false, Option, Some, None, Ok, Err, Result, IfOk, IfErr, IsOk, IsTrue, refl, sym, ap, ap₂, subst, ◌∙◌, arith}
+use Rattle.std.specs.Prelude.{◌&&◌, ◌||◌, ◌==◌, not, drop, unwrap_or, IsUtf8, IsErrAnd, IsOkAnd}
+use Rattle.std.specs.List.{AllByRecursion, filter, list_all}
 use Rattle.std.specs.List.Sorted.{IsPermutation}
-use Rattle.std.specs.Ordering.{is_lt, is_le, is_ge}
-use Rattle.std.proofs.lemmas.Int.{ints}
-use Rattle.std.proofs.lemmas.List.Sorted.{IsPermutation-sym}
-use Rattle.sqlite_trees.proofs.ListLemmas.{all-filter, all-permutation, all_both, all_weaker, ascending-filter, ascending_from_map, ascending_weaker, all_from_map, pull_back}
+use Rattle.std.specs.Ordering.{is_eq, is_le, is_ge}
+use Rattle.std.proofs.lemmas.Bool.Decides.{nat_tests}
+use Rattle.sqlite_trees.proofs.ListLemmas.{all-append, all-map, all-permutation, all_both, all_weaker, all_from_map, filter_all, filter_none}
 use Rattle.sqlite_trees.specs.View.{is_int}
 use Rattle.sqlite.specs.declared.types.Value.{Value}
-use Rattle.sqlite.specs.declared.types.Value.TheVariants.{Null, Int, Real, Text, Blob}
+use Rattle.sqlite.specs.declared.types.Value.TheVariants.{Null}
 use Rattle.sqlite.specs.Effect.{Database, IsDatabase}
+use Rattle.sqlite.specs.Ops.{is_true, binary, from_truth}
 use Rattle.sqlite.specs.Order.{Row, column}
 use Rattle.sqlite.specs.Program.{overlay}
+use Rattle.sqlite.specs.Query.{IsAnswer}
 use Rattle.sqlite.specs.State.{State, Shown}
-use Rattle.sqlite.specs.Tree.{IsTable, rowid}
+use Rattle.sqlite.specs.Term.{Term, op2, holds}
 use Rattle.sqlite.proofs.Callers.{reads_as}
 use Rattle.sqlite_catalog.specs.Listing.{IsSound}
-use Rattle.sqlite_schema.specs.Rules.{are_typed, passes}
-use Rattle.sqlite_schema.specs.declared.schema.Constraint.TheVariants.{Datatype}
+use Rattle.sqlite_schema.specs.Rules.{are_typed, are_present, passes}
+use Rattle.sqlite_schema.specs.declared.schema.Constraint.TheVariants.{Datatype, NotNull}
+use Rattle.sqlite_sql.specs.Ops.{truth, or3, is_null}
+use Rattle.sqlite_sql.specs.declared.ops.BinaryOp.TheVariants.{Or}
 use Rattle.sqlite_value.specs.Order.{value_cmp}
 use Rattle.sqlite_value.proofs.OrderLemmas.{value_cmp-Int}
 use Rattle.acvp_registry.specs.Json.{body_json}
 use Rattle.acvp_registry.specs.Object.{object_text}
 use Rattle.acvp_tables.specs.declared.rows.ObjectRow.{ObjectRow}
-use Rattle.acvp_store.specs.Ranges.{IsTree, is_object_between, KeepsObjects, StandsForNone, FitsObject}
+use Rattle.acvp_store.specs.Ranges.{IsTree, is_object_between, KeepsObjects, HasStrayRow, FitsObject, IsObjectRow, IsRegisteredWithin, AreObjectRanges, joined, first_number, last_number}
 use Rattle.acvp_store.specs.Schema.{Layout, schema_of, object_table}
-use Rattle.acvp_store.specs.Stands.{object_tree, object_columns, IsKeepable, Entry, entry_row}
+use Rattle.acvp_store.specs.Stands.{object_tree, object_columns, IsKeepable, Entry, entry_row, HoldsEntries, HoldsObjects}
 use Rattle.acvp_store.specs.Values.{whole}
+use Rattle.acvp_store.specs.Version.{is_equal}
 use Rattle.acvp_store.specs.declared.ranges.RangeFault.{RangeFault}
 use Rattle.acvp_store.specs.declared.ranges.RangeFault.TheVariants.{Stray}
 use Rattle.acvp_store.specs.Private.Columns.{columns_of_object}
 use Rattle.acvp_store.specs.Private.Objects.{IsObject}
-use Rattle.acvp_store.specs.Private.Shown.{BeginsWith, AreShown}
+use Rattle.acvp_store.specs.Private.Shown.{AreShown}
 use Rattle.acvp_store.specs.Private.Strays.{HasStray}
-use Rattle.acvp_store.proofs.PageTexts.{within, object_fields}
+use Rattle.acvp_store.proofs.ColumnNumbers.{is_whole, number_within, not_outside, all_fail, column_test}
+use Rattle.acvp_store.proofs.EntryRanges.{shown_exactly, entries_hold, each_entry, both_hold, entries_joined, entries_tree, joined_all, IsNumbered, IsParted}
+use Rattle.acvp_store.proofs.PageTexts.{within as within_terms, object_fields}
 use Rattle.acvp_store.proofs.QueryRows.{selected_in_order}
 use Rattle.acvp_store.proofs.RangeColumns.{left_true, not_longer}
-use Rattle.acvp_store.proofs.RangeRows.{test_between, right_true, all_passed, within_last, none_stray}
-use Rattle.acvp_store.proofs.RangeTexts.{range_objects, objects_is, objects_plain, objects_unlisted}
+use Rattle.acvp_store.proofs.RangeOutside.{is_outside, none_passing, none_selected, only_true, test_outside}
+use Rattle.acvp_store.proofs.RangeRows.{test_between, right_true, all_passed, within_last}
+use Rattle.acvp_store.proofs.RangeStrays.{stray_of, stray_same}
+use Rattle.acvp_store.proofs.RangeTexts.{range_objects, objects_is, objects_plain, objects_unlisted, first_where, not_between, outside_objects, outside_objects_is, outside_objects_plain, outside_objects_unlisted}
 use Rattle.acvp_store.proofs.RequestRanges.{text_of_json}
 use Rattle.acvp_store.proofs.Texts.{equals}
 use Rattle.acvp_store.proofs.Versions.{map_same, test_whole}
@@ -51,18 +59,19 @@ module _ (layout : Layout) (kind f l : ℕ) (old new : State) (rows : List Row) 
 
   pub objects_met : IsPermutation (map columns_of_object (filter (is_object_between kind f l) (old.now.trees object_tree))) rows
   objects_met =
-      selected_in_order params (λ (r : Row). r) (is_object_between kind f l) (equals 1 2 ∷ within 2) (λ r. ap₂ (λ a b. a && b) (test_whole (column r 1) kind) (test_between (column r 2) f l)) 2 object_tree object_fields columns_of_object (λ r. refl) (overlay old.now.trees []) (old.now.trees object_tree) rows (map_same _)
+      selected_in_order params (λ (r : Row). r) (is_object_between kind f l) (equals 1 2 ∷ within_terms 2) (λ r. ap₂ (λ a b. a && b) (test_whole (column r 1) kind) (test_between (column r 2) f l)) 2 object_tree object_fields columns_of_object (λ r. refl) (overlay old.now.trees []) (old.now.trees object_tree) rows (map_same _)
       ((reads_as range_objects params old new (schema_of layout) schema _ (objects_is layout) (objects_plain layout) (objects_unlisted layout) rows h).answer Null)
 
 -- ---- what the schema says of a row
 
 abbrev pub IsObjectTyped : Row → Type 0
-IsObjectTyped row = are_typed None 0 (object_table 5).columns (drop 1 row) ≡ true
+IsObjectTyped row = (are_typed None 0 (object_table 5).columns (drop 1 row) ≡ true) × (are_present None 0 (object_table 5).columns row ≡ true)
 
 pub objects_typed : (layout : Layout) (db : Database) → db.schema ≡ schema_of layout → IsDatabase db → AllByRecursion IsObjectTyped (db.trees object_tree)
 objects_typed layout db schema sound =
     let it : IsSound (schema_of layout) db.trees = subst (λ s. IsSound s db.trees) schema sound in
-    all_weaker (λ row. passes Datatype (schema_of layout) db.trees (object_table 5) row ≡ true) IsObjectTyped (λ row is. left_true _ _ is) (db.trees object_tree) (it.obeys.rules Datatype).1.1.1.1.0
+    all_both (λ row. passes Datatype (schema_of layout) db.trees (object_table 5) row ≡ true) (λ row. passes NotNull (schema_of layout) db.trees (object_table 5) row ≡ true) IsObjectTyped (λ row is there. (left_true _ _ is, there)) (db.trees object_tree)
+    (it.obeys.rules Datatype).1.1.1.1.0 (it.obeys.rules NotNull).1.1.1.1.0
 
 object_is : (row : Row) (o : ObjectRow) → IsObjectTyped row → columns_of_object row ≡ object_columns o → row ≡ column row 0 ∷ object_columns o
 object_is [] o typed is = absurd (cc)
@@ -71,107 +80,36 @@ object_is (a ∷ b ∷ []) o typed is = absurd (cc)
 object_is (a ∷ b ∷ c ∷ []) o typed is = absurd (cc)
 object_is (a ∷ b ∷ c ∷ d ∷ []) o typed is = absurd (cc)
 object_is (a ∷ b ∷ c ∷ d ∷ e ∷ []) o typed is = ap (λ cs. a ∷ cs) is
-object_is (a ∷ b ∷ c ∷ d ∷ e ∷ g ∷ row) o typed is = absurd (let few = not_longer None 0 (object_table 5).columns (b ∷ c ∷ d ∷ e ∷ g ∷ row) typed in omega (arith, few))
+object_is (a ∷ b ∷ c ∷ d ∷ e ∷ g ∷ row) o typed is = absurd (let few = not_longer None 0 (object_table 5).columns (b ∷ c ∷ d ∷ e ∷ g ∷ row) typed.0 in omega (arith, few))
 
--- ---- entries
-
-abbrev encode : Entry ObjectRow → Row
-encode = entry_row object_columns
-
-its_number : (v : Value) → IsTrue (is_int v) → (n : ℤ) × (v ≡ Int n)
-its_number Null good = absurd (cc)
-its_number (Int n) good = (n, refl)
-its_number (Real x) good = absurd (cc)
-its_number (Text t) good = absurd (cc)
-its_number (Blob b) good = absurd (cc)
-
-record Encoded (rows : List Row) (list : List ObjectRow) : Type 0 where
-  entries : List (Entry ObjectRow)
-  rows_are : rows ≡ map encode entries
-  members : map (λ (e : Entry ObjectRow). e.row) entries ≡ list
-
-encoded : (rows : List Row) (list : List ObjectRow) → AllByRecursion IsObjectTyped rows → AllByRecursion (λ r. IsTrue (is_int (rowid r))) rows → map columns_of_object rows ≡ map object_columns list → Encoded rows list
-encoded [] [] typed ints is = record { entries = []; rows_are = refl; members = refl }
-encoded [] (o ∷ list) typed ints is = absurd (cc)
-encoded (r ∷ rows) [] typed ints is = absurd (cc)
-encoded (r ∷ rows) (o ∷ list) typed ints is =
-    let head : columns_of_object r ≡ object_columns o = cc in
-    let rest : map columns_of_object rows ≡ map object_columns list = cc in
-    let more = encoded rows list typed.1 ints.1 rest in
-    let number = its_number (rowid r) ints.0 in
-    let row : r ≡ Int number.0 ∷ object_columns o = object_is r o typed.0 head ∙ ap (λ v. v ∷ object_columns o) number.1 in
-    record {
-      entries = record { id = number.0; row = o } ∷ more.entries;
-      rows_are = ap₂ (λ x l. x ∷ l) row more.rows_are;
-      members = ap (λ l. o ∷ l) more.members;
-    }
-
-lower_id : (m n : ℤ) → value_cmp (Int m) (Int n) ≡ Less → m <ℤ n
-lower_id m n low =
-    let test : is_lt (value_cmp (Int m) (Int n)) ≡ int_lt m n = ap is_lt (value_cmp-Int m n) ∙ grind (arith, ints) in
-    let is : int_lt m n ≡ true = sym test ∙ ap is_lt low in
-    grind (arith, ints, is)
-
-shown_columns : (Good : ObjectRow → Type 0) (rows : List Row) (found : List ObjectRow) → (m : List Row) → rows ≡ m → AllByRecursion (λ r. length r ≡ 4) rows → AreShown Good object_columns rows found → rows ≡ map object_columns found
-shown_columns Good [] [] m e full shows = refl
-shown_columns Good [] (o ∷ found) m e full shows = absurd shows
-shown_columns Good (r ∷ rows) [] m e full shows = absurd shows
-shown_columns Good (r ∷ rows) (o ∷ found) m e full shows = ap₂ (λ x l. x ∷ l) (exact r o full.0 shows.0.0) (shown_columns Good rows found rows refl full.1 shows.1)
-  where
-    exact : (row : Row) (o : ObjectRow) → length row ≡ 4 → BeginsWith (object_columns o) row → row ≡ object_columns o
-    exact [] o full is = absurd (omega (arith, full))
-    exact (a ∷ []) o full is = absurd (omega (arith, full))
-    exact (a ∷ b ∷ []) o full is = absurd (omega (arith, full))
-    exact (a ∷ b ∷ c ∷ []) o full is = absurd (omega (arith, full))
-    exact (a ∷ b ∷ c ∷ d ∷ []) o full is = is
-    exact (a ∷ b ∷ c ∷ d ∷ e ∷ row) o full is = absurd (omega (arith, full))
-
-four : (r : Row) → length (columns_of_object r) ≡ 4
-four r = refl
+-- ---- the rows of a range stand for what is read of them
 
 all_four : (rows : List Row) → AllByRecursion (λ r. length r ≡ 4) (map columns_of_object rows)
 all_four [] = tt
 all_four (r ∷ rows) = (refl, all_four rows)
 
--- ---- the rows of a range stand for what is read of them
-
-abbrev below : Row → Row → Type 0
-below x y = value_cmp (rowid x) (rowid y) ≡ Less
-
 module _ (kind f l : ℕ) (low : l < 2 ^ 63) where
   abbrev p : Row → Bool
   p = is_object_between kind f l
 
-  -- the numbers of the members of such rows fit
-  fits_from : (rows : List Row) (list : List ObjectRow) → AllByRecursion (λ r. p r ≡ true) rows → map columns_of_object rows ≡ map object_columns list → AllByRecursion (λ o. o.number < 2 ^ 63) list
-  fits_from [] [] pass is = tt
-  fits_from [] (o ∷ list) pass is = absurd (cc)
-  fits_from (r ∷ rows) [] pass is = absurd (cc)
-  fits_from (r ∷ rows) (o ∷ list) pass is =
-      let number : column r 2 ≡ whole o.number = cc (is) in
-      let rest : map columns_of_object rows ≡ map object_columns list = cc (is) in
-      let between = right_true _ _ pass.0 in
-      let at_most : is_le (value_cmp (column r 2) (whole l)) ≡ true = right_true (is_ge (value_cmp (column r 2) (whole f))) (is_le (value_cmp (column r 2) (whole l))) between in
-      let most : o.number ≤ l = within_last o.number l (subst (λ v. is_le (value_cmp v (whole l)) ≡ true) number at_most) in
-      (omega (arith, most, low), fits_from rows list pass.1 rest)
+  -- the number of a member of such a row fits
+  fits : (e : Entry ObjectRow) → p (entry_row object_columns e) ≡ true → e.row.number < 2 ^ 63
+  fits e is =
+      let between : (is_ge (value_cmp (whole e.row.number) (whole f)) && is_le (value_cmp (whole e.row.number) (whole l))) ≡ true = right_true _ _ is in
+      let at_most : is_le (value_cmp (whole e.row.number) (whole l)) ≡ true = right_true (is_ge (value_cmp (whole e.row.number) (whole f))) (is_le (value_cmp (whole e.row.number) (whole l))) between in
+      let most : e.row.number ≤ l = within_last e.row.number l at_most in
+      omega (arith, most, low)
 
   pub objects_hold : (Good : ObjectRow → Type 0) (table rows : List Row) (found : List ObjectRow) → IsTree table → AllByRecursion IsObjectTyped table → IsPermutation (map columns_of_object (filter p table)) rows → AreShown Good object_columns rows found
       → AllByRecursion (λ o. body_json (object_text o.object) ≡ Some o.object.value) found → KeepsObjects (filter p table) found
   objects_hold Good table rows found tree typed same shows reads =
-      let picked = filter p table in
-      let full = all-permutation (λ (r : Row). length r ≡ 4) _ rows same (all_four picked) in
-      let is = shown_columns Good rows found rows refl full shows in
-      let back = pull_back object_columns (map object_columns found) (map columns_of_object picked) (IsPermutation-sym _ _ (subst (IsPermutation (map columns_of_object picked)) is same)) found refl in
-      let it = encoded picked back.0 (all-filter IsObjectTyped p table typed) (all-filter (λ r. IsTrue (is_int (rowid r))) p table tree.1) back.2 in
-      let rise = ascending_from_map below encode it.entries (subst IsTable it.rows_are (ascending-filter below p table tree.0)) in
-      let numbers = all-permutation (λ (o : ObjectRow). o.number < 2 ^ 63) back.0 found (IsPermutation-sym _ _ back.1) (fits_from picked back.0 (all_passed p table) back.2) in
+      let full = all-permutation (λ (r : Row). length r ≡ 4) _ rows same (all_four (filter p table)) in
+      let kept = entries_hold object_columns columns_of_object IsObjectTyped object_is p table rows found tree typed same (shown_exactly object_columns 4 (λ o. refl) Good rows found full shows) in
+      let passed = all_from_map (λ row. p row ≡ true) (entry_row object_columns) kept.entries (subst (AllByRecursion (λ row. p row ≡ true)) kept.rows_are (all_passed p table)) in
+      let members = all-map (λ (o : ObjectRow). o.number < 2 ^ 63) (λ (e : Entry ObjectRow). e.row) kept.entries (all_weaker (λ (e : Entry ObjectRow). p (entry_row object_columns e) ≡ true) (λ (e : Entry ObjectRow). e.row.number < 2 ^ 63) fits kept.entries passed) in
+      let numbers = all-permutation (λ (o : ObjectRow). o.number < 2 ^ 63) _ found kept.same members in
       record {
-        kept = record {
-          entries = it.entries;
-          rows_are = it.rows_are;
-          rising = ascending_weaker (λ a b. below (encode a) (encode b)) (λ a b. a.id <ℤ b.id) (λ a b lower. lower_id a.id b.id lower) it.entries rise;
-          same = subst (λ xs. IsPermutation xs found) (sym it.members) (IsPermutation-sym _ _ back.1);
-        };
+        kept = kept;
         numbers = all_both (λ (o : ObjectRow). o.number < 2 ^ 63) (λ o. body_json (object_text o.object) ≡ Some o.object.value) IsKeepable (λ o a b. (a, b)) found numbers reads;
       }
 
@@ -196,19 +134,145 @@ IsMember o = IsKeepable o × ((o.account < 2 ^ 16) × IsObject o.object × IsUtf
 had : (o : ObjectRow) → IsHad o → IsMember o
 had o h = (h.1, (h.0.0, (h.0.1, h.0.2), text_of_json _ _ h.1.1))
 
-none_stands : (kind f l : ℕ) (table rows : List Row) (at : ℕ) (number : ℤ) → IsPermutation (map columns_of_object (filter (is_object_between kind f l) table)) rows → HasStray IsMember object_columns at number rows → StandsForNone KeepsObjects FitsObject table
-none_stands kind f l table rows at number same stray list fits holds =
-    let entries = holds.kept.entries in
-    let members = all-permutation IsHad list _ (IsPermutation-sym _ _ holds.kept.same) (all_both FitsObject IsKeepable IsHad (λ o a b. (a, b)) list fits holds.numbers) in
-    let each = all_from_map IsHad (λ (e : Entry ObjectRow). e.row) entries members in
-    none_stray encode (λ (e : Entry ObjectRow). object_columns e.row) columns_of_object (λ e. refl) (λ (e : Entry ObjectRow). IsHad e.row) (is_object_between kind f l) entries rows at number each
-    (subst (λ t. IsPermutation (map columns_of_object (filter (is_object_between kind f l) t)) rows) holds.kept.rows_are same)
-    (stray.0, stray.1, stray.2, (stray.3.0, λ e fit. stray.3.1 e.row (had e.row fit)))
+-- each row of a table that keeps objects is that of one
+each : (table : List Row) (list : List ObjectRow) → AllByRecursion FitsObject list → KeepsObjects table list → AllByRecursion (λ row. (o : ObjectRow) × FitsObject o × IsObjectRow row o) table
+each table list fits holds =
+    all_weaker (λ row. (o : ObjectRow) × IsHad o × ((id : ℤ) × (row ≡ entry_row object_columns (record { id = id; row = o })))) (λ row. (o : ObjectRow) × FitsObject o × IsObjectRow row o) (λ row is. (is.0, is.1.0, (is.2, is.1.1))) table
+    (each_entry object_columns IsHad table list (all_both FitsObject IsKeepable IsHad (λ o a b. (a, b)) list fits holds.numbers) holds.kept)
 
-pub stray_told : {X B E : Type 0} (kind f l : ℕ) (table : List Row) (outcome : Result X E) (rows_in : X → List Row) (found result : Result B RangeFault) (at : ℕ) → IfErr found (λ fault. (number : ℤ) → fault ≡ Stray number → IsOkAnd outcome (λ x. HasStray IsMember object_columns at number (rows_in x)))
+shows : (row : Row) (o : ObjectRow) → FitsObject o → IsObjectRow row o → (x : ObjectRow) × IsMember x × (columns_of_object row ≡ object_columns x)
+shows row o fits is = (o, had o (fits, is.1), ap columns_of_object is.0.1)
+
+pub stray_told : {X B E : Type 0} (kind f l : ℕ) (table : List Row) (outcome : Result X E) (rows_in : X → List Row) (found result : Result B RangeFault) → IfErr found (λ fault. (number : ℤ) → fault ≡ Stray number → IsOkAnd outcome (λ x. HasStray IsMember object_columns 1 number (rows_in x)))
     → IfErr result (λ fault. (number : ℤ) → fault ≡ Stray number → IsErrAnd found (λ before. before ≡ Stray number)) → IfOk outcome (λ x. IsPermutation (map columns_of_object (filter (is_object_between kind f l) table)) (rows_in x))
-    → IfErr result (λ fault. (number : ℤ) → fault ≡ Stray number → StandsForNone KeepsObjects FitsObject table)
-stray_told kind f l table outcome rows_in found (Ok b) at strays same rows = tt
-stray_told kind f l table outcome rows_in (Ok a) (Err fault) at strays same rows = λ number is. absurd (same number is)
-stray_told kind f l table (Err e) rows_in (Err before) (Err fault) at strays same rows = λ number is. absurd (strays number (same number is))
-stray_told kind f l table (Ok x) rows_in (Err before) (Err fault) at strays same rows = λ number is. none_stands kind f l table (rows_in x) at number rows (strays number (same number is))
+    → IfErr result (λ fault. (number : ℤ) → fault ≡ Stray number → HasStrayRow KeepsObjects IsObjectRow FitsObject 2 number table)
+stray_told kind f l table outcome rows_in found result strays same rows =
+    stray_same (λ number. HasStrayRow KeepsObjects IsObjectRow FitsObject 2 number table) found result same (stray_of KeepsObjects IsObjectRow FitsObject each IsMember object_columns columns_of_object 1 2 (λ r. refl) shows (is_object_between kind f l) table outcome rows_in found strays rows)
+
+-- ---- rows outside
+
+-- the columns of a kind and of a number are whole numbers
+are_whole : (row : Row) → IsObjectTyped row → IsTrue (is_int (column row 1)) × IsTrue (is_int (column row 2))
+are_whole [] typed = absurd (let no = typed.1 in cc)
+are_whole (a ∷ []) typed = absurd (let no = typed.1 in cc)
+are_whole (a ∷ b ∷ []) typed = absurd (let no : false ≡ true = right_true (not (is_null b)) false typed.1 in cc)
+are_whole (a ∷ b ∷ c ∷ row) typed = (
+  is_whole b (left_true _ _ typed.0) (left_true _ _ typed.1),
+  is_whole c (left_true _ _ (right_true _ _ typed.0)) (left_true _ _ (right_true _ _ typed.1)),
+)
+
+abbrev pub is_elsewhere : Row → Bool
+is_elsewhere row = is_outside 1 3 (column row 1) || is_outside 1000000 9999999999 (column row 2)
+
+of_either : (a b : Option Bool) → is_true (from_truth (or3 a b)) ≡ (unwrap_or a false || unwrap_or b false)
+of_either None None = refl
+of_either None (Some true) = refl
+of_either None (Some false) = refl
+of_either (Some true) None = refl
+of_either (Some true) (Some true) = refl
+of_either (Some true) (Some false) = refl
+of_either (Some false) None = refl
+of_either (Some false) (Some true) = refl
+of_either (Some false) (Some false) = refl
+
+either_true : (a b : Value) → is_true (binary Or a b) ≡ (is_true a || is_true b)
+unfolding binary
+either_true a b = of_either (truth a) (truth b)
+
+abbrev elsewhere : Term
+elsewhere = op2 Or (not_between 1 1 3) (not_between 2 1000000 9999999999)
+
+test_elsewhere : (r : Row) → list_all (holds ([] ∷ r ∷ [])) (elsewhere ∷ []) ≡ is_elsewhere r
+test_elsewhere r = only_true _ ∙ either_true _ _ ∙ ap₂ (λ a b. a || b) (test_outside (column r 1) 1 3) (test_outside (column r 2) 1000000 9999999999)
+
+module _ (layout : Layout) (old new : State) (rows : List Row) (schema : old.now.schema ≡ schema_of layout) (h : Shown outside_objects [] old new rows) where
+  outside_answer : IsAnswer (first_where object_tree 2 elsewhere) (overlay old.now.trees []) [] rows
+  outside_answer = (reads_as outside_objects [] old new (schema_of layout) schema _ (outside_objects_is layout) (outside_objects_plain layout) (outside_objects_unlisted layout) rows h).answer Null
+
+  pub objects_outside : rows ≡ [] → filter is_elsewhere (old.now.trees object_tree) ≡ []
+  objects_outside = none_passing object_tree 2 elsewhere is_elsewhere test_elsewhere (overlay old.now.trees []) (old.now.trees object_tree) rows (map_same _) outside_answer
+
+  pub objects_inside : filter is_elsewhere (old.now.trees object_tree) ≡ [] → rows ≡ []
+  objects_inside = none_selected object_tree 2 elsewhere is_elsewhere test_elsewhere (overlay old.now.trees []) (old.now.trees object_tree) rows (map_same _) outside_answer
+
+left_false : (a b : Bool) → (a || b) ≡ false → a ≡ false
+left_false false b h = refl
+left_false true b h = absurd (cc)
+
+right_false : (a b : Bool) → (a || b) ≡ false → b ≡ false
+right_false false b h = h
+right_false true b h = absurd (cc)
+
+abbrev pub Within : Row → Type 0
+Within = IsRegisteredWithin 9999
+
+pub all_within : (table : List Row) → AllByRecursion IsObjectTyped table → filter is_elsewhere table ≡ [] → AllByRecursion Within table
+all_within table typed none =
+    all_both IsObjectTyped (λ row. is_elsewhere row ≡ false) Within
+    (λ row is inside. (number_within 1 3 (column row 1) (are_whole row is).0 (left_false _ _ inside), number_within (first_number 1) (last_number 9999) (column row 2) (are_whole row is).1 (right_false _ _ inside))) table typed (all_fail is_elsewhere table none)
+
+pub none_elsewhere : (table : List Row) → AllByRecursion Within table → filter is_elsewhere table ≡ []
+none_elsewhere table within =
+    filter_none is_elsewhere table (all_weaker Within (λ row. is_elsewhere row ≡ false) (λ row is. ap₂ (λ a b. a || b) (not_outside 1 1 3 row is.0) (not_outside 2 (first_number 1) (last_number 9999) row is.1)) table within)
+
+-- ---- kinds and ranges, joined
+
+same_kind : (m k : ℕ) → is_equal (whole m) (whole k) ≡ (m == k)
+same_kind m k = ap is_eq (value_cmp-Int (pos m) (pos k)) ∙ grind (arith, nat_tests)
+
+abbrev of_kind : ℕ → ℕ → Row → Bool
+of_kind n k = is_object_between k (first_number 1) (last_number n)
+
+numbered : (n k : ℕ) (row : Row) → IsRegisteredWithin n row → IsNumbered object_columns (is_object_between k) row
+numbered n k row is = (is_equal (column row 1) (whole k), is.1.0, λ f l. ap (λ b. is_equal (column row 1) (whole k) && b) (column_test 2 row is.1.0 is.1.1 f l))
+
+kind_test : (n k : ℕ) (row : Row) (is : IsRegisteredWithin n row) → of_kind n k row ≡ (is.0.0 == k)
+kind_test n k row is =
+    ap₂ (λ a b. a && b) (ap (λ v. is_equal v (whole k)) is.0.1 ∙ same_kind is.0.0 k) (column_test 2 row is.1.0 is.1.1 (first_number 1) (last_number n) ∙ is.1.2) ∙ only_true _
+
+abbrev of_two : ℕ → Row → Bool
+of_two n row = of_kind n 1 row || of_kind n 2 row
+
+abbrev of_three : ℕ → Row → Bool
+of_three n row = of_two n row || of_kind n 3 row
+
+two_parted : (n : ℕ) (row : Row) → IsRegisteredWithin n row → IsParted object_columns (of_two n) (of_kind n 1) (of_kind n 2) row
+two_parted n row is = (refl, ap₂ (λ a b. a && b) (kind_test n 1 row is) (kind_test n 2 row is) ∙ grind (arith, nat_tests))
+
+three_parted : (n : ℕ) (row : Row) → IsRegisteredWithin n row → IsParted object_columns (of_three n) (of_two n) (of_kind n 3) row
+three_parted n row is =
+    (refl, ap₂ (λ a b. a && b) (ap₂ (λ a b. a || b) (kind_test n 1 row is) (kind_test n 2 row is)) (kind_test n 3 row is) ∙ grind (arith, nat_tests))
+
+passes_three : (n : ℕ) (row : Row) → IsRegisteredWithin n row → of_three n row ≡ true
+passes_three n row is =
+    let among = is.0.2 in
+    ap₂ (λ a b. a || b) (ap₂ (λ a b. a || b) (kind_test n 1 row is) (kind_test n 2 row is)) (kind_test n 3 row is) ∙ grind (arith, nat_tests, among)
+
+module _ (rows : List Row) (lists : ℕ → ℕ → List ObjectRow) (n : ℕ) (tree : IsTree rows) (ranges : AreObjectRanges rows lists n) (within : AllByRecursion (IsRegisteredWithin n) rows) where
+  one_kind : (k : ℕ) → 0 < k → k ≤ 3 → HoldsEntries object_columns (filter (of_kind n k) rows) (joined (lists k) n)
+  one_kind k some few =
+      entries_joined object_columns (is_object_between k) rows (lists k) n tree (all_weaker (IsRegisteredWithin n) (IsNumbered object_columns (is_object_between k)) (numbered n k) rows within) (λ u some_u low. (ranges k some few u some_u low).kept)
+
+  all_fit : (k : ℕ) → 0 < k → k ≤ 3 → AllByRecursion IsKeepable (joined (lists k) n)
+  all_fit k some few = joined_all IsKeepable (lists k) n (λ u some_u low. (ranges k some few u some_u low).numbers)
+
+  two_kinds : HoldsEntries object_columns (filter (of_two n) rows) (joined (lists 1) n ++ joined (lists 2) n)
+  two_kinds =
+      both_hold object_columns (of_two n) (of_kind n 1) (of_kind n 2) rows _ _ tree (all_weaker (IsRegisteredWithin n) (IsParted object_columns (of_two n) (of_kind n 1) (of_kind n 2)) (two_parted n) rows within) (one_kind 1 (omega arith) (omega arith)) (one_kind 2 (omega arith) (omega arith))
+
+  three_kinds : HoldsEntries object_columns (filter (of_three n) rows) ((joined (lists 1) n ++ joined (lists 2) n) ++ joined (lists 3) n)
+  three_kinds =
+      both_hold object_columns (of_three n) (of_two n) (of_kind n 3) rows _ _ tree (all_weaker (IsRegisteredWithin n) (IsParted object_columns (of_three n) (of_two n) (of_kind n 3)) (three_parted n) rows within) two_kinds (one_kind 3 (omega arith) (omega arith))
+
+pub objects_joined : (rows : List Row) (lists : ℕ → ℕ → List ObjectRow) (n : ℕ) → IsTree rows → AreObjectRanges rows lists n → AllByRecursion (IsRegisteredWithin n) rows → KeepsObjects rows ((joined (lists 1) n ++ joined (lists 2) n) ++ joined (lists 3) n)
+objects_joined rows lists n tree ranges within =
+    let passes = all_weaker (IsRegisteredWithin n) (λ row. of_three n row ≡ true) (passes_three n) rows within in
+    record {
+      kept = subst (λ rs. HoldsEntries object_columns rs ((joined (lists 1) n ++ joined (lists 2) n) ++ joined (lists 3) n)) (filter_all (of_three n) rows passes) (three_kinds rows lists n tree ranges within);
+      numbers = all-append IsKeepable (joined (lists 1) n ++ joined (lists 2) n) (joined (lists 3) n)
+          (all-append IsKeepable (joined (lists 1) n) (joined (lists 2) n) (all_fit rows lists n tree ranges within 1 (omega arith) (omega arith)) (all_fit rows lists n tree ranges within 2 (omega arith) (omega arith)))
+          (all_fit rows lists n tree ranges within 3 (omega arith) (omega arith));
+    }
+
+pub objects_tree : (rows : List Row) (objects : List ObjectRow) → HoldsObjects rows objects → IsTree rows
+objects_tree = entries_tree object_columns

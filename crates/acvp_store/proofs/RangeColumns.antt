@@ -47,7 +47,7 @@ right_true false b h = absurd (cc)
 no : false ≡ true → ⊥
 no e = absurd (cc)
 
-null_is : (v : Value) → is_null v ≡ true → v ≡ Null
+pub null_is : (v : Value) → is_null v ≡ true → v ≡ Null
 null_is Null h = refl
 null_is (Int n) h = absurd (cc)
 null_is (Real x) h = absurd (cc)
@@ -62,7 +62,7 @@ not_longer key at (c ∷ columns) [] typed = omega arith
 not_longer key at (c ∷ columns) (v ∷ row) typed = let more = not_longer key (at + 1) columns row (right_true (if is_key key at then is_null v else suits c v) (are_typed key (at + 1) columns row) typed) in omega (arith, more)
 
 -- NULL behind the number
-abbrev with_null : Row → Row
+abbrev pub with_null : Row → Row
 with_null [] = []
 with_null (v ∷ row) = v ∷ Null ∷ row
 

@@ -20,7 +20,7 @@ use Rattle.sqlite_value.proofs.OrderLemmas.{value_cmp-Int}
 use Rattle.acvp_tables.specs.declared.rows.AccountRow.{AccountRow}
 use Rattle.acvp_tables.specs.declared.rows.SessionRow.{SessionRow}
 use Rattle.acvp_store.specs.Kept.{AreKept}
-use Rattle.acvp_store.specs.Ranges.{is_between, IsTree, AreFull, IsRange, AreRanges, joined, first_number, last_number, is_number_between}
+use Rattle.acvp_store.specs.Ranges.{is_between, IsTree, AreFull, IsRange, AreRanges, AreRangesBetween, joined, first_number, last_number, first_set, last_set, is_number_between}
 use Rattle.acvp_store.specs.Rows.{account_key, account_row, HoldsAccounts, session_key, session_row, HoldsSessions}
 use Rattle.acvp_store.specs.Values.{whole, flag}
 use Rattle.acvp_store.proofs.RangeRows.{lower, keys_rise}
@@ -51,10 +51,10 @@ module _ (p q r : Row → Bool) (Sound : Row → Type 0) (first : (x : Row) → 
 abbrev between : ℕ → ℕ → Value → Bool
 between f l v = is_ge (value_cmp v (whole f)) && is_le (value_cmp v (whole l))
 
-between_whole : (f l n : ℕ) → between f l (Int (pos n)) ≡ is_number_between f l n
+pub between_whole : (f l n : ℕ) → between f l (Int (pos n)) ≡ is_number_between f l n
 between_whole f l n = ap₂ (λ a b. is_ge a && is_le b) (value_cmp-Int (pos n) (pos f)) (value_cmp-Int (pos n) (pos l)) ∙ grind (arith, nat_tests)
 
-between_none : (f l n : ℕ) → between f l (Int (negsuc n)) ≡ false
+pub between_none : (f l n : ℕ) → between f l (Int (negsuc n)) ≡ false
 between_none f l n = ap (λ a. is_ge a && is_le (value_cmp (Int (negsuc n)) (whole l))) (value_cmp-Int (negsuc n) (pos f))
 
 abbrev IsWhole : Value → Type 0
@@ -119,6 +119,37 @@ none_between f l low (Real x) good = absurd (cc)
 none_between f l low (Text t) good = absurd (cc)
 none_between f l low (Blob b) good = absurd (cc)
 
+-- ---- ranges, joined, of rows that stand for lists in any way in which two parts of the rows stand for both lists
+
+module _ {A : Type 0} (Holds : List Row → List A → Type 0) (key : A → ℕ) (nothing : Holds [] []) (both : (first second : List Row) (xs ys : List A) → Holds first xs → Holds second ys → IsTable (first ++ second) → Holds (first ++ second) (xs ++ ys)) where
+  module _ (first_of last_of : ℕ → ℕ) (start : last_of zero < first_of 1) (low : (n : ℕ) → first_of 1 ≤ last_of n + 1) (high : (n : ℕ) → last_of n ≤ last_of (suc n)) (next : (n : ℕ) → last_of n + 1 ≡ first_of (suc n)) where
+    abbrev within : ℕ → List Row → List Row
+    within n = filter (is_between (first_of 1) (last_of n))
+
+    ranges_joined : (rows : List Row) (lists : ℕ → List A) (n : ℕ) → IsTree rows → AreRangesBetween first_of last_of Holds key rows lists n → Holds (within n rows) (joined lists n)
+    unfolding joined
+    ranges_joined rows lists zero tree ranges =
+        let none = filter_none (is_between (first_of 1) (last_of zero)) rows (all_weaker (λ (r : Row). IsTrue (is_int (rowid r))) (λ r. is_between (first_of 1) (last_of zero) r ≡ false) (λ r. none_between (first_of 1) (last_of zero) start (rowid r)) rows tree.1) in
+        subst (λ rs. Holds rs []) (sym none) nothing
+    ranges_joined rows lists (suc n) tree ranges =
+        let earlier = ranges_joined rows lists n tree (λ u some few. ranges u some (omega arith)) in
+        let last = (ranges (suc n) (omega arith) (omega arith)).holds in
+        let parts = two_ranges (first_of 1) (last_of n) (last_of (suc n)) (low n) (high n) rows tree in
+        let is : within (suc n) rows ≡ within n rows ++ filter (is_between (first_of (suc n)) (last_of (suc n))) rows = parts ∙ ap (λ k. within n rows ++ filter (is_between k (last_of (suc n))) rows) (next n) in
+        let rise = ascending-filter (λ (x y : Row). value_cmp (rowid x) (rowid y) ≡ Less) (is_between (first_of 1) (last_of (suc n))) rows tree.0 in
+        subst (λ rs. Holds rs (joined lists n ++ lists (suc n))) (sym is) (both _ _ (joined lists n) (lists (suc n)) earlier last (subst IsTable is rise))
+
+    -- where no row lies outside, they stand for all rows
+    pub joined_whole : (rows : List Row) (lists : ℕ → List A) (n : ℕ) → IsTree rows → AreRangesBetween first_of last_of Holds key rows lists n → AllByRecursion (λ row. is_between (first_of 1) (last_of n) row ≡ true) rows → Holds rows (joined lists n)
+    joined_whole rows lists n tree ranges inside = subst (λ rs. Holds rs (joined lists n)) (filter_all (is_between (first_of 1) (last_of n)) rows inside) (ranges_joined rows lists n tree ranges)
+
+  pub numbers_whole : (rows : List Row) (lists : ℕ → List A) (n : ℕ) → IsTree rows → AreRanges Holds key rows lists n → AllByRecursion (λ row. is_between (first_number 1) (last_number n) row ≡ true) rows → Holds rows (joined lists n)
+  numbers_whole = joined_whole first_number last_number (omega arith) (λ n. omega arith) (λ n. omega arith) (λ n. omega arith)
+
+  -- of vector sets
+  pub sets_whole : (rows : List Row) (lists : ℕ → List A) (n : ℕ) → IsTree rows → AreRangesBetween first_set last_set Holds key rows lists n → AllByRecursion (λ row. is_between (first_set 1) (last_set n) row ≡ true) rows → Holds rows (joined lists n)
+  sets_whole = joined_whole first_set last_set (omega arith) (λ n. omega arith) (λ n. omega arith) (λ n. omega arith)
+
 -- ---- a list that rises is the one that is kept
 
 module _ {A : Type 0} (key : A → ℕ) (stored : A → Row) (rowid_is : (a : A) → rowid (stored a) ≡ whole (key a)) where
@@ -145,10 +176,10 @@ module _ {A : Type 0} (key : A → ℕ) (stored : A → Row) (rowid_is : (a : A)
 
   -- ---- ranges, joined
 
-  kept_nothing : AreKept key stored [] []
+  pub kept_nothing : AreKept key stored [] []
   kept_nothing = record { ordered = []; rows_are = refl; rising = tt; fits = tt; same = IsPermutation-refl [] }
 
-  kept_both : (first second : List Row) (xs ys : List A) → AreKept key stored first xs → AreKept key stored second ys → IsTable (first ++ second) → AreKept key stored (first ++ second) (xs ++ ys)
+  pub kept_both : (first second : List Row) (xs ys : List A) → AreKept key stored first xs → AreKept key stored second ys → IsTable (first ++ second) → AreKept key stored (first ++ second) (xs ++ ys)
   kept_both first second xs ys a b rise =
       let ordered = a.ordered ++ b.ordered in
       let is : first ++ second ≡ map stored ordered = ap₂ (λ p q. p ++ q) a.rows_are b.rows_are ∙ sym (map-append stored a.ordered b.ordered) in
@@ -160,23 +191,9 @@ module _ {A : Type 0} (key : A → ℕ) (stored : A → Row) (rowid_is : (a : A)
         same = IsPermutation-append a.ordered xs b.ordered ys a.same b.same;
       }
 
-  pub ranges_joined : (rows : List Row) (lists : ℕ → List A) (n : ℕ) → IsTree rows → AreRanges (AreKept key stored) key rows lists n → AreKept key stored (filter (is_between (first_number 1) (last_number n)) rows) (joined lists n)
-  unfolding joined
-  ranges_joined rows lists zero tree ranges =
-      let none = filter_none (is_between (first_number 1) (last_number zero)) rows (all_weaker (λ (r : Row). IsTrue (is_int (rowid r))) (λ r. is_between (first_number 1) (last_number zero) r ≡ false) (λ r. none_between (first_number 1) (last_number zero) (omega arith) (rowid r)) rows tree.1) in
-      subst (λ rs. AreKept key stored rs []) (sym none) kept_nothing
-  ranges_joined rows lists (suc n) tree ranges =
-      let earlier = ranges_joined rows lists n tree (λ u some low. ranges u some (omega arith)) in
-      let last = (ranges (suc n) (omega arith) (omega arith)).holds in
-      let parts = two_ranges (first_number 1) (last_number n) (last_number (suc n)) (omega arith) (omega arith) rows tree in
-      let next : last_number n + 1 ≡ first_number (suc n) = omega arith in
-      let is : filter (is_between (first_number 1) (last_number (suc n))) rows ≡ filter (is_between (first_number 1) (last_number n)) rows ++ filter (is_between (first_number (suc n)) (last_number (suc n))) rows = parts ∙ ap (λ k. filter (is_between (first_number 1) (last_number n)) rows ++ filter (is_between k (last_number (suc n))) rows) next in
-      let rise = ascending-filter (λ (x y : Row). value_cmp (rowid x) (rowid y) ≡ Less) (is_between (first_number 1) (last_number (suc n))) rows tree.0 in
-      subst (λ rs. AreKept key stored rs (joined lists n ++ lists (suc n))) (sym is) (kept_both _ _ (joined lists n) (lists (suc n)) earlier last (subst IsTable is rise))
-
   -- where no row lies outside, they stand for all rows
   pub ranges_whole : (rows : List Row) (lists : ℕ → List A) (n : ℕ) → IsTree rows → AreRanges (AreKept key stored) key rows lists n → AllByRecursion (λ row. is_between (first_number 1) (last_number n) row ≡ true) rows → AreKept key stored rows (joined lists n)
-  ranges_whole rows lists n tree ranges inside = subst (λ rs. AreKept key stored rs (joined lists n)) (filter_all (is_between (first_number 1) (last_number n)) rows inside) (ranges_joined rows lists n tree ranges)
+  ranges_whole = numbers_whole (AreKept key stored) key kept_nothing kept_both
 
   -- ---- rows that stand for one list
 
@@ -199,13 +216,13 @@ module _ {A : Type 0} (key : A → ℕ) (stored : A → Row) (rowid_is : (a : A)
 
 -- ---- sessions
 
-flag_once : (a b : Bool) → flag a ≡ flag b → a ≡ b
+pub flag_once : (a b : Bool) → flag a ≡ flag b → a ≡ b
 flag_once true true is = refl
 flag_once false false is = refl
 flag_once true false is = absurd (cc)
 flag_once false true is = absurd (cc)
 
-option_once : (a b : Option ℕ) → or_null whole a ≡ or_null whole b → a ≡ b
+pub option_once : (a b : Option ℕ) → or_null whole a ≡ or_null whole b → a ≡ b
 option_once None None is = refl
 option_once (Some m) (Some n) is = cc
 option_once None (Some n) is = absurd (cc)

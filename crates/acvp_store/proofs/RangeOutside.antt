@@ -1,7 +1,7 @@
 -- The rows outside a range.
 use Rattle.std.proofs.Common.{◌≡◌, ◌≢◌, inl, inr, ℕ, ℤ, List, [], ◌∷◌, map, length, Bool, true, false, Option, Some, None, Ok, Err, Result, IfOk, IsOk, IsTrue, refl, sym, ap, ◌∙◌, arith}
 use Rattle.std.specs.Prelude.{◌&&◌, not}
-use Rattle.std.specs.List.{AllByRecursion, filter}
+use Rattle.std.specs.List.{AllByRecursion, filter, list_all}
 use Rattle.std.specs.List.Sorted.{IsPermutation}
 use Rattle.std.specs.Ordering.{is_le, is_ge}
 use Rattle.std.proofs.lemmas.Bool.{cases_Bool}
@@ -10,7 +10,8 @@ use Rattle.sqlite_trees.proofs.ListLemmas.{filter_none, all_weaker}
 use Rattle.sqlite_trees.specs.View.{is_int}
 use Rattle.sqlite.specs.declared.types.Value.{Value}
 use Rattle.sqlite.specs.declared.types.Value.TheVariants.{Null, Int, Real, Text, Blob}
-use Rattle.sqlite.specs.Order.{Row}
+use Rattle.sqlite.specs.Order.{Row, column}
+use Rattle.sqlite.specs.Term.{Term, holds}
 use Rattle.sqlite.specs.Ops.{is_true, unary, binary, from_truth}
 use Rattle.sqlite.specs.Collation.TheVariants.{Binary}
 use Rattle.sqlite.specs.Query.{Query, IsAnswer, output, Output, page}
@@ -22,7 +23,7 @@ use Rattle.sqlite_sql.specs.declared.ops.CompareOp.TheVariants.{Le, Ge}
 use Rattle.sqlite_sql.specs.Ops.{is_null}
 use Rattle.acvp_store.specs.Ranges.{is_between, IsTree}
 use Rattle.acvp_store.specs.Values.{whole}
-use Rattle.acvp_store.proofs.RangeTexts.{outside}
+use Rattle.acvp_store.proofs.RangeTexts.{outside, first_where, not_between}
 use Rattle.acvp_store.proofs.SelectedRows.{matched}
 
 -- NULL is neither within nor outside
@@ -36,7 +37,7 @@ of_two true false = refl
 of_two false true = refl
 of_two false false = refl
 
-test_outside : (v : Value) (f l : ℕ) → is_true (unary Not (binary And (binary (Compare Ge Binary) v (whole f)) (binary (Compare Le Binary) v (whole l)))) ≡ is_outside f l v
+pub test_outside : (v : Value) (f l : ℕ) → is_true (unary Not (binary And (binary (Compare Ge Binary) v (whole f)) (binary (Compare Le Binary) v (whole l)))) ≡ is_outside f l v
 unfolding unary binary
 test_outside Null f l = refl
 test_outside (Int m) f l = of_two _ _
@@ -44,7 +45,7 @@ test_outside (Real x) f l = of_two _ _
 test_outside (Text t) f l = of_two _ _
 test_outside (Blob b) f l = of_two _ _
 
-only_true : (b : Bool) → (b && true) ≡ b
+pub only_true : (b : Bool) → (b && true) ≡ b
 only_true true = refl
 only_true false = refl
 
@@ -56,12 +57,14 @@ no_map : {A B : Type 0} (f : A → B) (xs : List A) → map f xs ≡ [] → xs �
 no_map f [] is = refl
 no_map f (x ∷ xs) is = absurd (cc)
 
-module _ (tree f l : ℕ) where
-  abbrev q : Query
-  q = outside tree f l
+-- of a row, with what the query asks of a column
+pub test_column : (place f l : ℕ) (r : Row) → list_all (holds ([] ∷ r ∷ [])) (not_between place f l ∷ []) ≡ is_outside f l (column r place)
+test_column place f l r = only_true _ ∙ test_outside (column r place) f l
 
-  abbrev p : Row → Bool
-  p r = is_outside f l (rowid r)
+-- a SELECT of the first row that passes
+module _ (tree place : ℕ) (term : Term) (p : Row → Bool) (tests : (r : Row) → list_all (holds ([] ∷ r ∷ [])) (term ∷ []) ≡ p r) where
+  abbrev q : Query
+  q = first_where tree place term
 
   -- the first of none
   no_first : (outs : List Output) → page q [] (map (λ (o : Output). o.1) outs) ≡ [] → outs ≡ []
@@ -70,21 +73,29 @@ module _ (tree f l : ℕ) where
 
   module _ (db : Trees) (all rows : List Row) (has : db tree ≡ map (λ (r : Row). r) all) (a : IsAnswer q db [] rows) where
     staged_is : a.staged ≡ map (λ r. [] ∷ r ∷ []) (filter p all)
-    staged_is = a.grouped ∙ rw has (matched [] (λ (r : Row). r) p q.filter (λ r. only_true _ ∙ test_outside (rowid r) f l) all)
+    staged_is = a.grouped ∙ rw has (matched [] (λ (r : Row). r) p q.filter tests all)
 
     kept_is : a.kept ≡ map (output q) (map (λ r. [] ∷ r ∷ []) (filter p all))
     kept_is = a.distinct ∙ ap (map (output q)) staged_is
 
-    pub none_outside : rows ≡ [] → filter p all ≡ []
-    none_outside none =
+    pub none_passing : rows ≡ [] → filter p all ≡ []
+    none_passing none =
         let ordered = no_first a.ordered (sym a.shown ∙ none) in
         no_map (λ r. [] ∷ r ∷ []) (filter p all) (no_map (output q) _ (sym kept_is ∙ no_member a.kept a.ordered a.same ordered))
 
-    pub none_shown : filter p all ≡ [] → rows ≡ []
-    none_shown none =
+    pub none_selected : filter p all ≡ [] → rows ≡ []
+    none_selected none =
         let kept : a.kept ≡ [] = kept_is ∙ ap (λ xs. map (output q) (map (λ r. [] ∷ r ∷ []) xs)) none in
         let ordered = no_member a.ordered a.kept (IsPermutation-sym _ _ a.same) kept in
         a.shown ∙ ap (λ xs. page q [] (map (λ (o : Output). o.1) xs)) ordered
+
+-- of the rows' numbers
+module _ (tree f l : ℕ) (db : Trees) (all rows : List Row) (has : db tree ≡ map (λ (r : Row). r) all) (a : IsAnswer (outside tree f l) db [] rows) where
+  pub none_outside : rows ≡ [] → filter (λ r. is_outside f l (rowid r)) all ≡ []
+  none_outside = none_passing tree 0 (not_between 0 f l) (λ r. is_outside f l (rowid r)) (test_column 0 f l) db all rows has a
+
+  pub none_shown : filter (λ r. is_outside f l (rowid r)) all ≡ [] → rows ≡ []
+  none_shown = none_selected tree 0 (not_between 0 f l) (λ r. is_outside f l (rowid r)) (test_column 0 f l) db all rows has a
 
 -- what has a whole number and isn't outside lies within
 within : (f l : ℕ) (v : Value) → IsTrue (is_int v) → is_outside f l v ≡ false → (is_ge (value_cmp v (whole f)) && is_le (value_cmp v (whole l))) ≡ true
@@ -125,3 +136,18 @@ pub some_told : {X E F : Type 0} (f l : ℕ) (table : List Row) (outcome : Resul
 some_told f l table outcome rows_in (Err e) ok some rows = tt
 some_told f l table (Err e) rows_in (Ok found) ok some rows = absurd (let impossible = ok refl in cc)
 some_told f l table (Ok x) rows_in (Ok found) ok some rows = λ number is all. some number is (rows (none_left f l table all))
+
+-- ---- any query for rows that aren't so
+
+module _ {X E F : Type 0} (p : Row → Bool) (table : List Row) (rows_in : X → List Row) (Within : Type 0) where
+  pub none_left_told : (outcome : Result X E) (result : Result (Option ℤ) F) → (IsOk result → IsOk outcome) → IfOk result (λ found. IfOk outcome (λ x. found ≡ None → rows_in x ≡ []))
+      → IfOk outcome (λ x. rows_in x ≡ [] → filter p table ≡ []) → (filter p table ≡ [] → Within) → IfOk result (λ found. found ≡ None → Within)
+  none_left_told outcome (Err e) ok none rows within = tt
+  none_left_told (Err e) (Ok found) ok none rows within = absurd (let impossible = ok refl in cc)
+  none_left_told (Ok x) (Ok found) ok none rows within = λ is. within (rows (none is))
+
+  pub some_left_told : (outcome : Result X E) (result : Result (Option ℤ) F) → (IsOk result → IsOk outcome) → IfOk result (λ found. IfOk outcome (λ x. (number : ℤ) → found ≡ Some number → rows_in x ≢ []))
+      → IfOk outcome (λ x. filter p table ≡ [] → rows_in x ≡ []) → (Within → filter p table ≡ []) → IfOk result (λ found. (number : ℤ) → found ≡ Some number → ¬ Within)
+  some_left_told outcome (Err e) ok some rows within = tt
+  some_left_told (Err e) (Ok found) ok some rows within = absurd (let impossible = ok refl in cc)
+  some_left_told (Ok x) (Ok found) ok some rows within = λ number is all. some number is (rows (within all))

@@ -1,13 +1,13 @@
--- What is read of the rows in a range of numbers, whatever they are: the rows stand for it, or a row is in no list's.
-use Rattle.std.proofs.Common.{◌≡◌, inl, inr, ◌<◌, ◌≤◌, ◌^◌, ℕ, ℤ, pos, List, [], ◌∷◌, map, Bool, true, false, Ok, Err, Result, IfOk, IfErr, IsOk, refl, sym, ap, ap₂, subst, ◌∙◌, arith, Less, Equal}
-use Rattle.std.specs.Prelude.{◌&&◌, nat_lt, nat_le, IsOkAnd}
+-- What is read of the rows in a range of numbers, whatever they are: the rows stand for it.
+use Rattle.std.proofs.Common.{◌≡◌, inl, inr, ◌<◌, ◌≤◌, ◌^◌, ℕ, pos, List, [], ◌∷◌, map, Bool, true, false, Ok, Err, Result, IfOk, IsOk, refl, sym, ap, ap₂, subst, ◌∙◌, arith, Less, Equal}
+use Rattle.std.specs.Prelude.{◌&&◌, nat_lt, nat_le}
 use Rattle.std.specs.List.{AllByRecursion, filter, list_all}
 use Rattle.std.specs.List.Sorted.{IsPermutation}
 use Rattle.std.specs.Ordering.{ordering_then, is_lt, is_le, is_ge}
 use Rattle.std.proofs.lemmas.Bool.{cases_Bool}
 use Rattle.std.proofs.lemmas.Bool.Decides.{nat_tests}
-use Rattle.std.proofs.lemmas.List.Sorted.{IsPermutation-refl, IsPermutation-sym}
-use Rattle.sqlite_trees.proofs.ListLemmas.{map-map, ascending-map, ascending_from_map, ascending_weaker, ascending-filter, all-permutation, all-filter, all-map, all_from_map, all_weaker, all-slice_get}
+use Rattle.std.proofs.lemmas.List.Sorted.{IsPermutation-refl}
+use Rattle.sqlite_trees.proofs.ListLemmas.{map-map, ascending-map, ascending_from_map, ascending_weaker, ascending-filter, all-filter, all_from_map, all_weaker}
 use Rattle.sqlite.specs.declared.types.Value.{Value}
 use Rattle.sqlite.specs.declared.types.Value.TheVariants.{Null, Int, Real, Text, Blob}
 use Rattle.sqlite.specs.Order.{Row, column}
@@ -23,12 +23,9 @@ use Rattle.sqlite_sql.specs.declared.ops.CompareOp.TheVariants.{Le, Ge}
 use Rattle.sqlite_sql.proofs.QueryLemmas.{output_cmp_total}
 use Rattle.sqlite_keyed.proofs.SortLemmas.{sorted_unique}
 use Rattle.acvp_store.specs.Kept.{AreKept}
-use Rattle.acvp_store.specs.Ranges.{is_between, IsTree, IsRange, StandsForNone}
+use Rattle.acvp_store.specs.Ranges.{is_between, IsTree, IsRange}
 use Rattle.acvp_store.specs.Values.{whole}
-use Rattle.acvp_store.specs.declared.ranges.RangeFault.{RangeFault}
-use Rattle.acvp_store.specs.declared.ranges.RangeFault.TheVariants.{Stray}
 use Rattle.acvp_store.specs.Private.Shown.{BeginsWith, AreShown, is_at_least, is_at_most}
-use Rattle.acvp_store.specs.Private.Strays.{HasStray}
 use Rattle.acvp_store.proofs.Parts.{both_true}
 use Rattle.acvp_store.proofs.QueryRows.{test_from, test_until}
 use Rattle.acvp_store.proofs.SelectedRows.{matched}
@@ -156,25 +153,3 @@ module _ {A : Type 0} (key : A → ℕ) (stored shown : A → Row) (columns : Ro
     range_given Good table outcome rows_in (Err f) items ok shows typed rows = tt
     range_given Good table (Err e) rows_in (Ok b) items ok shows typed rows = absurd (let impossible = ok refl in cc)
     range_given Good table (Ok x) rows_in (Ok b) items ok shows typed rows = λ tree given. range_holds Good table (items b) tree (typed given) (subst (λ l. AreShown Good shown l (items b)) (rows tree) shows)
-
--- ---- a row that is in no list's
-
-module _ {A : Type 0} (stored shown : A → Row) (columns : Row → Row) (stored_shows : (a : A) → columns (stored a) ≡ shown a) (Fits : A → Type 0) where
-  abbrev IsOne : Row → Type 0
-  IsOne row = (a : A) × Fits a × (row ≡ shown a)
-
-  pub none_stray : (p : Row → Bool) (list : List A) (rows : List Row) (at : ℕ) (number : ℤ) → AllByRecursion Fits list → IsPermutation (map columns (filter p (map stored list))) rows → HasStray Fits shown at number rows → ⊥
-  none_stray p list rows at number fits same stray =
-      let each = all-map (λ (r : Row). IsOne (columns r)) stored list (all_weaker Fits (λ a. IsOne (columns (stored a))) (λ a fit. (a, fit, stored_shows a)) list fits) in
-      let shows = all-map IsOne columns (filter p (map stored list)) (all-filter (λ (r : Row). IsOne (columns r)) p (map stored list) each) in
-      let one = all-slice_get IsOne rows stray.0 stray.1 stray.2 (all-permutation IsOne _ rows same shows) in
-      stray.3.1 one.0 one.1 one.2
-
-  pub stray_read : {X B E : Type 0} (key : A → ℕ) (Had : A → Type 0) → ((a : A) → Had a → Fits a) → (p : Row → Bool) (table : List Row) (outcome : Result X E) (rows_in : X → List Row) (result : Result B RangeFault) (at : ℕ)
-      → IfErr result (λ fault. (number : ℤ) → fault ≡ Stray number → IsOkAnd outcome (λ x. HasStray Fits shown at number (rows_in x))) → IfOk outcome (λ x. IsPermutation (map columns (filter p table)) (rows_in x))
-      → IfErr result (λ fault. (number : ℤ) → fault ≡ Stray number → StandsForNone (AreKept key stored) Had table)
-  stray_read key Had had p table outcome rows_in (Ok b) at strays rows = tt
-  stray_read key Had had p table (Err e) rows_in (Err fault) at strays rows = λ number is. absurd (strays number is)
-  stray_read key Had had p table (Ok x) rows_in (Err fault) at strays rows = λ number is list fits kept.
-      let all = all-permutation Fits list kept.ordered (IsPermutation-sym _ _ kept.same) (all_weaker Had Fits had list fits) in
-      none_stray p kept.ordered (rows_in x) at number all (subst (λ t. IsPermutation (map columns (filter p t)) (rows_in x)) kept.rows_are rows) (strays number is)

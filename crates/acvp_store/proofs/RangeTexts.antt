@@ -5,7 +5,7 @@ use Rattle.sqlite.specs.Query.{Query, inner, end}
 use Rattle.sqlite.specs.Term.{Term, lit, col, op1, op2}
 use Rattle.sqlite.specs.Collation.TheVariants.{Binary}
 use Rattle.sqlite_sql.specs.declared.ops.UnaryOp.TheVariants.{Not}
-use Rattle.sqlite_sql.specs.declared.ops.BinaryOp.TheVariants.{And, Compare}
+use Rattle.sqlite_sql.specs.declared.ops.BinaryOp.TheVariants.{And, Or, Compare}
 use Rattle.sqlite_sql.specs.declared.ops.CompareOp.TheVariants.{Ge, Le}
 use Rattle.sqlite.specs.Command.TheVariants.{Select}
 use Rattle.sqlite.specs.Listing.{understood, reads_listing}
@@ -13,6 +13,7 @@ use Rattle.sqlite_resolve.specs.Compile.{first}
 use Rattle.sqlite_tied.specs.Compute.{everything}
 use Rattle.sqlite.proofs.Callers.{IsPlain, command_of}
 use Rattle.acvp_store.specs.Schema.{Layout, Created, Migrated, schema_of}
+use Rattle.acvp_store.specs.Stands.{set_tree, reviewer_tree}
 use Rattle.acvp_store.proofs.PageTexts.{within, session_columns, whole_request, object_fields}
 use Rattle.acvp_store.proofs.Silent.{asks}
 use Rattle.acvp_store.proofs.Texts.{equals, ordered_by}
@@ -92,6 +93,34 @@ pub requests_ask : asks (first range_requests) ≡ true
 unfolding first everything
 requests_ask = refl
 
+-- ---- vector sets
+
+abbrev pub range_sets : List ℕ
+range_sets = codes "SELECT vs, session, capability, cancelled, answers, verdicts, disposition, epoch FROM vset2 WHERE vs BETWEEN ?1 AND ?2 ORDER BY vs"
+
+abbrev pub set_terms : List Term
+set_terms = col 1 0 ∷ col 1 2 ∷ col 1 3 ∷ col 1 4 ∷ col 1 5 ∷ col 1 6 ∷ col 1 7 ∷ col 1 8 ∷ []
+
+pub sets_is : (layout : Layout) → command_of (understood (schema_of layout) range_sets) ≡ Select (record { lets = []; body = ordered_by 0 (set_tree layout) (within 0) set_terms })
+    (codes "vs" ∷ codes "session" ∷ codes "capability" ∷ codes "cancelled" ∷ codes "answers" ∷ codes "verdicts" ∷ codes "disposition" ∷ codes "epoch" ∷ [])
+unfolding understood everything
+sets_is Created = refl
+sets_is Migrated = refl
+
+pub sets_unlisted : (layout : Layout) → reads_listing (schema_of layout) range_sets ≡ false
+unfolding understood everything
+sets_unlisted Created = refl
+sets_unlisted Migrated = refl
+
+pub sets_plain : (layout : Layout) → IsPlain (understood (schema_of layout) range_sets)
+unfolding understood everything
+sets_plain Created = (refl, refl)
+sets_plain Migrated = (refl, refl)
+
+pub sets_ask : asks (first range_sets) ≡ true
+unfolding first everything
+sets_ask = refl
+
 -- ---- registered objects
 
 abbrev pub range_objects : List ℕ
@@ -116,21 +145,56 @@ pub objects_ask : asks (first range_objects) ≡ true
 unfolding first everything
 objects_ask = refl
 
+-- ---- reviewers
+
+abbrev pub range_reviewers : List ℕ
+range_reviewers = codes "SELECT session, account FROM reviewer WHERE session BETWEEN ?1 AND ?2 ORDER BY session"
+
+abbrev pub reviewer_terms : List Term
+reviewer_terms = col 1 1 ∷ col 1 2 ∷ []
+
+pub reviewers_is : (layout : Layout) → command_of (understood (schema_of layout) range_reviewers) ≡ Select (record { lets = []; body = ordered_by 1 (reviewer_tree layout) (within 1) reviewer_terms }) (codes "session" ∷ codes "account" ∷ [])
+unfolding understood everything
+reviewers_is Created = refl
+reviewers_is Migrated = refl
+
+pub reviewers_unlisted : (layout : Layout) → reads_listing (schema_of layout) range_reviewers ≡ false
+unfolding understood everything
+reviewers_unlisted Created = refl
+reviewers_unlisted Migrated = refl
+
+pub reviewers_plain : (layout : Layout) → IsPlain (understood (schema_of layout) range_reviewers)
+unfolding understood everything
+reviewers_plain Created = (refl, refl)
+reviewers_plain Migrated = (refl, refl)
+
+pub reviewers_ask : asks (first range_reviewers) ≡ true
+unfolding first everything
+reviewers_ask = refl
+
 -- ---- outside
 
--- SELECT the number FROM the table in the tree WHERE the number NOT BETWEEN these two LIMIT 1
-abbrev pub outside : ℕ → ℕ → ℕ → Query
-outside tree first last = record {
+-- SELECT the column at a place FROM the table in the tree WHERE the term LIMIT 1
+abbrev pub first_where : ℕ → ℕ → Term → Query
+first_where tree place term = record {
   from = inner tree end;
-  filter = op1 Not (op2 And (op2 (Compare Ge Binary) (col 1 0) (lit (Int (pos first)))) (op2 (Compare Le Binary) (col 1 0) (lit (Int (pos last))))) ∷ [];
+  filter = term ∷ [];
   group = None;
-  project = col 1 0 ∷ [];
+  project = col 1 place ∷ [];
   distinct = false;
   collations = [];
   order = [];
   limit = lit (Int (pos 1));
   offset = lit (Int (pos 0));
 }
+
+-- the column at a place NOT BETWEEN these two
+abbrev pub not_between : ℕ → ℕ → ℕ → Term
+not_between place first last = op1 Not (op2 And (op2 (Compare Ge Binary) (col 1 place) (lit (Int (pos first)))) (op2 (Compare Le Binary) (col 1 place) (lit (Int (pos last)))))
+
+-- of the rows' numbers
+abbrev pub outside : ℕ → ℕ → ℕ → Query
+outside tree first last = first_where tree 0 (not_between 0 first last)
 
 abbrev pub outside_sessions : List ℕ
 outside_sessions = codes "SELECT session FROM session WHERE session NOT BETWEEN 1000000 AND 9999999999 LIMIT 1"
@@ -197,3 +261,69 @@ outside_requests_plain Migrated = (refl, refl)
 pub outside_requests_ask : asks (first outside_requests) ≡ true
 unfolding first everything
 outside_requests_ask = refl
+
+abbrev pub outside_sets : List ℕ
+outside_sets = codes "SELECT vs FROM vset2 WHERE vs NOT BETWEEN 100000000 AND 999999999999 LIMIT 1"
+
+pub outside_sets_is : (layout : Layout) → command_of (understood (schema_of layout) outside_sets) ≡ Select (record { lets = []; body = outside (set_tree layout) 100000000 999999999999 }) (codes "vs" ∷ [])
+unfolding understood everything
+outside_sets_is Created = refl
+outside_sets_is Migrated = refl
+
+pub outside_sets_unlisted : (layout : Layout) → reads_listing (schema_of layout) outside_sets ≡ false
+unfolding understood everything
+outside_sets_unlisted Created = refl
+outside_sets_unlisted Migrated = refl
+
+pub outside_sets_plain : (layout : Layout) → IsPlain (understood (schema_of layout) outside_sets)
+unfolding understood everything
+outside_sets_plain Created = (refl, refl)
+outside_sets_plain Migrated = (refl, refl)
+
+pub outside_sets_ask : asks (first outside_sets) ≡ true
+unfolding first everything
+outside_sets_ask = refl
+
+abbrev pub outside_reviewers : List ℕ
+outside_reviewers = codes "SELECT session FROM reviewer WHERE session NOT BETWEEN 1000000 AND 9999999999 LIMIT 1"
+
+pub outside_reviewers_is : (layout : Layout) → command_of (understood (schema_of layout) outside_reviewers) ≡ Select (record { lets = []; body = first_where (reviewer_tree layout) 1 (not_between 1 1000000 9999999999) }) (codes "session" ∷ [])
+unfolding understood everything
+outside_reviewers_is Created = refl
+outside_reviewers_is Migrated = refl
+
+pub outside_reviewers_unlisted : (layout : Layout) → reads_listing (schema_of layout) outside_reviewers ≡ false
+unfolding understood everything
+outside_reviewers_unlisted Created = refl
+outside_reviewers_unlisted Migrated = refl
+
+pub outside_reviewers_plain : (layout : Layout) → IsPlain (understood (schema_of layout) outside_reviewers)
+unfolding understood everything
+outside_reviewers_plain Created = (refl, refl)
+outside_reviewers_plain Migrated = (refl, refl)
+
+pub outside_reviewers_ask : asks (first outside_reviewers) ≡ true
+unfolding first everything
+outside_reviewers_ask = refl
+
+abbrev pub outside_objects : List ℕ
+outside_objects = codes "SELECT number FROM object WHERE kind NOT BETWEEN 1 AND 3 OR number NOT BETWEEN 1000000 AND 9999999999 LIMIT 1"
+
+pub outside_objects_is : (layout : Layout) → command_of (understood (schema_of layout) outside_objects) ≡ Select (record { lets = []; body = first_where 5 2 (op2 Or (not_between 1 1 3) (not_between 2 1000000 9999999999)) }) (codes "number" ∷ [])
+unfolding understood everything
+outside_objects_is Created = refl
+outside_objects_is Migrated = refl
+
+pub outside_objects_unlisted : (layout : Layout) → reads_listing (schema_of layout) outside_objects ≡ false
+unfolding understood everything
+outside_objects_unlisted Created = refl
+outside_objects_unlisted Migrated = refl
+
+pub outside_objects_plain : (layout : Layout) → IsPlain (understood (schema_of layout) outside_objects)
+unfolding understood everything
+outside_objects_plain Created = (refl, refl)
+outside_objects_plain Migrated = (refl, refl)
+
+pub outside_objects_ask : asks (first outside_objects) ≡ true
+unfolding first everything
+outside_objects_ask = refl

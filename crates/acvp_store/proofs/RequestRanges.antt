@@ -1,24 +1,24 @@
 -- Requests in ranges of numbers.
-use Rattle.std.proofs.Common.{◌≡◌, inl, inr, ◌<◌, ◌^◌, ℕ, zero, suc, ℤ, List, length, true, Some, Ok, Err, Result, IfOk, IfErr, IsOk, refl, sym, subst, arith}
-use Rattle.std.specs.Prelude.{IsUtf8, IsErrAnd}
+use Rattle.std.proofs.Common.{◌≡◌, inl, inr, ◌<◌, ◌^◌, ℕ, zero, suc, List, length, true, Some, Ok, Err, Result, IfOk, IsOk, refl, sym, ap, subst, arith}
+use Rattle.std.specs.Prelude.{IsUtf8}
 use Rattle.std.specs.Str.{is_utf8}
 use Rattle.std.specs.List.{AllByRecursion}
 use Rattle.std.proofs.lemmas.Bool.{cases_Bool}
 use Rattle.std.proofs.lemmas.Str.{IsUtf8-from_is_utf8}
 use Rattle.serde_json.specs.Data.{Data}
-use Rattle.sqlite_trees.proofs.ListLemmas.{all_both, all_of, all-map, all-append}
+use Rattle.sqlite_trees.proofs.ListLemmas.{all_both, all_weaker, all_of, all-map, all-append}
 use Rattle.sqlite.specs.Order.{Row}
 use Rattle.acvp_registry.specs.Json.{body_json}
 use Rattle.acvp_tables.specs.declared.rows.RequestRow.{RequestRow}
 use Rattle.acvp_tables.specs.declared.rows.RequestBody.{RequestBody}
 use Rattle.acvp_tables.specs.declared.rows.RequestBody.TheVariants as body
 use Rattle.acvp_store.specs.Kept.{AreKept}
-use Rattle.acvp_store.specs.Ranges.{is_between, IsTree, AreFull, IsRange, StandsForNone, FitsRequest, FitsRequestBody, AreRanges, joined, first_number, last_number}
+use Rattle.acvp_store.specs.Ranges.{is_between, IsTree, AreFull, IsRange, FitsRequest, FitsRequestBody, IsRequestRow, AreRanges, joined, first_number, last_number}
 use Rattle.acvp_store.specs.Stands.{request_row, request_key, HoldsRequests, BodyReads, body_text}
-use Rattle.acvp_store.specs.declared.ranges.RangeFault.{RangeFault}
-use Rattle.acvp_store.specs.declared.ranges.RangeFault.TheVariants.{Stray}
-use Rattle.acvp_store.specs.Private.Requests.{IsReadable, FitsBody}
+use Rattle.acvp_store.specs.Private.Columns.{request_columns}
+use Rattle.acvp_store.specs.Private.Requests.{request_shown, IsReadable, FitsBody}
 use Rattle.acvp_store.proofs.RangeJoins.{kept_tree, ranges_whole}
+use Rattle.acvp_store.proofs.RangeStrays.{each_kept}
 
 -- ---- what is asked of a request that is kept
 
@@ -44,7 +44,10 @@ fits_body (body.Certification c) fits = fits
 abbrev pub IsHad : RequestRow → Type 0
 IsHad r = FitsRequest r × BodyReads r.body
 
-pub had : (r : RequestRow) → IsHad r → IsReadable r.body × ((r.account < 2 ^ 16) × FitsBody r.body × IsUtf8 (body_text r.body))
+abbrev pub IsMember : RequestRow → Type 0
+IsMember r = IsReadable r.body × ((r.account < 2 ^ 16) × FitsBody r.body × IsUtf8 (body_text r.body))
+
+had : (r : RequestRow) → IsHad r → IsMember r
 had r h = (readable r.body h.0.1 h.1, (h.0.0, fits_body r.body h.0.1, text_reads r.body h.1))
 
 -- ---- what is made of what was read
@@ -57,11 +60,15 @@ rows_through f l table (Ok before) (Ok b) items ok same reads rows = λ tree ful
     let it = subst (IsRange (AreKept request_key request_row) request_key f l table) (sym same) (rows tree full) in
     record { holds = record { kept = it.holds; texts = reads }; rising = it.rising }
 
-pub stray_through : {B : Type 0} (table : List Row) (found result : Result B RangeFault) → IfErr result (λ fault. (number : ℤ) → fault ≡ Stray number → IsErrAnd found (λ before. before ≡ Stray number))
-    → IfErr found (λ fault. (number : ℤ) → fault ≡ Stray number → StandsForNone (AreKept request_key request_row) IsHad table) → IfErr result (λ fault. (number : ℤ) → fault ≡ Stray number → StandsForNone HoldsRequests FitsRequest table)
-stray_through table found (Ok b) same none = tt
-stray_through table (Ok before) (Err fault) same none = λ number is. absurd (same number is)
-stray_through table (Err before) (Err fault) same none = λ number is list fits holds. none number (same number is) list (all_both FitsRequest (λ r. BodyReads r.body) IsHad (λ r a b. (a, b)) list fits holds.texts) holds.kept
+-- ---- a row that is of no request
+
+pub each : (table : List Row) (list : List RequestRow) → AllByRecursion FitsRequest list → HoldsRequests table list → AllByRecursion (λ row. (r : RequestRow) × FitsRequest r × IsRequestRow row r) table
+each table list fits holds =
+    all_weaker (λ row. (r : RequestRow) × IsHad r × (row ≡ request_row r)) (λ row. (r : RequestRow) × FitsRequest r × IsRequestRow row r) (λ row is. (is.0, is.1.0, (is.2, is.1.1))) table
+    (each_kept request_key request_row IsHad table list (all_both FitsRequest (λ r. BodyReads r.body) IsHad (λ r a b. (a, b)) list fits holds.texts) holds.kept)
+
+pub shows : (row : Row) (r : RequestRow) → FitsRequest r → IsRequestRow row r → (x : RequestRow) × IsMember x × (request_columns row ≡ request_shown x)
+shows row r fits is = (r, had r (fits, is.1), ap request_columns is.0)
 
 -- ---- ranges, joined
 

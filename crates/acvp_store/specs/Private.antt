@@ -12,3 +12,4 @@ pub mod Clean
 pub mod Found
 pub mod Migration
 pub mod Strays
+pub mod SetRanges

@@ -13,9 +13,11 @@ mod ranges;
 mod reopening;
 mod request_ranges;
 mod requests;
+mod reviewer_ranges;
 mod reviewers;
 mod same;
 mod sessions;
+mod set_ranges;
 mod set_texts;
 mod sets;
 mod setup;
@@ -26,7 +28,10 @@ mod version;
 mod work;
 
 pub use fault::AdoptFault;
-pub use range_laws::{account_range_tells, request_ranges_tell, session_ranges_tell};
+pub use range_laws::{
+    account_range_tells, object_ranges_tell, request_ranges_tell, reviewer_ranges_tell,
+    session_ranges_tell, set_ranges_tell,
+};
 pub use ranges::RangeFault;
 pub use reopening::reopens;
 pub use store::{SqlTables, adopt, create, migrate};

@@ -1,19 +1,19 @@
 //! Reads of registered objects in a range of numbers, whatever the rows are.
-ghost use Rattle.std.specs.Prelude.{◌≡◌, ℤ, Some, IfOk, IfErr, IsErrAnd, IsOk, IsTrue};
+ghost use Rattle.std.specs.Prelude.{◌≡◌, ℤ, Some, None, IfOk, IfErr, IsErrAnd, IsOk, IsTrue};
 ghost use Rattle.std.specs.List.{AllByRecursion, filter};
 ghost use Rattle.sqlite.specs.Held.{state};
 ghost use Rattle.acvp_registry.specs.Json.{body_json};
 ghost use Rattle.acvp_registry.specs.Object.{object_text};
 ghost use Rattle.acvp_tables.specs.Content.{kind_number};
 ghost use Rattle.acvp_store.specs.Connection.{ServesStore, IsRead};
-ghost use Rattle.acvp_store.specs.Ranges.{is_object_between, IsTree, KeepsObjects, StandsForNone, FitsObject};
-ghost use Rattle.acvp_store.specs.Ranges.{first_number, last_number};
+ghost use Rattle.acvp_store.specs.Ranges.{is_object_between, IsTree, KeepsObjects, HasStrayRow, IsObjectRow};
+ghost use Rattle.acvp_store.specs.Ranges.{FitsObject, first_number, last_number, IsRegisteredWithin};
 ghost use Rattle.acvp_store.specs.Stands.{object_tree};
 
 use crate::objects::kind_number;
-use crate::ranges::{RangeFault, numbers_of, ranged};
+use crate::ranges::{RangeFault, number_in, numbers_of, ranged};
 use acvp_registry::Kind;
-use acvp_tables::ObjectRow;
+use acvp_tables::{ObjectRow, StoreFault};
 use sqlite::{Alter, Connection, params};
 use std::alloc::Global;
 
@@ -59,7 +59,7 @@ pub(crate) fn objects_numbered<S: Alter>(
         ((state S.Store conn.old).now.trees object_tree)) found.items) }
     ensures stray { IsTrue (state S.Store conn.new).is_open
         → IfErr result (λ fault. (number : ℤ) → fault ≡ RangeFault.Stray number
-        → StandsForNone KeepsObjects FitsObject ((state S.Store conn.old).now.trees object_tree)) }
+        → HasStrayRow KeepsObjects IsObjectRow FitsObject 2 number ((state S.Store conn.old).now.trees object_tree)) }
     ensures read { IsRead result (state S.Store conn.old) (state S.Store conn.new) }
 {
     let numbers = numbers_of(account);
@@ -72,4 +72,22 @@ pub(crate) fn objects_numbered<S: Alter>(
         1,
     );
     read_back(found)
+}
+
+/// The number of an object that isn't of one of the three kinds, or whose number begins with no account's, 1 to 9999,
+/// if there is one.
+pub(crate) fn object_outside<S: Alter>(conn: &mut Connection<S>) -> Result<Option<i64>, StoreFault>
+    requires { ServesStore (state S.Store conn.old) }
+    ensures none { IsTrue (state S.Store conn.new).is_open
+        → IfOk result (λ found. found ≡ None
+        → AllByRecursion (IsRegisteredWithin 9999) ((state S.Store conn.old).now.trees object_tree)) }
+    ensures some { IsTrue (state S.Store conn.new).is_open
+        → IfOk result (λ found. (number : ℤ) → found ≡ Some number
+        → ¬ AllByRecursion (IsRegisteredWithin 9999) ((state S.Store conn.old).now.trees object_tree)) }
+    ensures read { IsRead result (state S.Store conn.old) (state S.Store conn.new) }
+{
+    number_in(conn.query_all(
+        "SELECT number FROM object WHERE kind NOT BETWEEN 1 AND 3 OR number NOT BETWEEN 1000000 AND 9999999999 LIMIT 1",
+        &[],
+    ))
 }

@@ -5,8 +5,9 @@ ghost use Rattle.sqlite.specs.Held.{state};
 ghost use Rattle.sqlite_value.specs.Order.{column};
 ghost use Rattle.sqlite_value.specs.declared.value.Value.TheVariants.{Int};
 ghost use Rattle.acvp_store.specs.Connection.{ServesStore, IsRead};
-ghost use Rattle.acvp_store.specs.Ranges.{is_between, IsTree, AreFull, IsRange, StandsForNone};
-ghost use Rattle.acvp_store.specs.Ranges.{first_number, last_number, FitsAccount, FitsSession};
+ghost use Rattle.acvp_store.specs.Ranges.{is_between, IsTree, AreFull, IsRange, HasStrayRow};
+ghost use Rattle.acvp_store.specs.Ranges.{first_number, last_number};
+ghost use Rattle.acvp_store.specs.Ranges.{IsAccountRow, FitsAccount, IsSessionRow, FitsSession};
 ghost use Rattle.acvp_store.specs.Rows.{account_tree, account_key, HoldsAccounts};
 ghost use Rattle.acvp_store.specs.Rows.{session_tree, session_key, HoldsSessions};
 ghost use Rattle.acvp_store.specs.Private.Shown.{BeginsWith, AreShown};
@@ -119,7 +120,8 @@ pub(crate) fn sessions_numbered<S: Alter>(
         ((state S.Store conn.old).now.trees session_tree) found.items) }
     ensures stray { IsTrue (state S.Store conn.new).is_open
         → IfErr result (λ fault. (number : ℤ) → fault ≡ RangeFault.Stray number
-        → StandsForNone HoldsSessions FitsSession ((state S.Store conn.old).now.trees session_tree)) }
+        → HasStrayRow HoldsSessions IsSessionRow FitsSession 0 number
+        ((state S.Store conn.old).now.trees session_tree)) }
     ensures read { IsRead result (state S.Store conn.old) (state S.Store conn.new) }
 {
     let numbers = numbers_of(account);
@@ -165,7 +167,8 @@ pub(crate) fn accounts_between<S: Alter>(
         → IsRange HoldsAccounts account_key first last ((state S.Store conn.old).now.trees account_tree) found.items) }
     ensures stray { IsTrue (state S.Store conn.new).is_open
         → IfErr result (λ fault. (number : ℤ) → fault ≡ RangeFault.Stray number
-        → StandsForNone HoldsAccounts FitsAccount ((state S.Store conn.old).now.trees account_tree)) }
+        → HasStrayRow HoldsAccounts IsAccountRow FitsAccount 0 number
+        ((state S.Store conn.old).now.trees account_tree)) }
     ensures read { IsRead result (state S.Store conn.old) (state S.Store conn.new) }
 {
     ranged(

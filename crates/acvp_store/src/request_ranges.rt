@@ -3,7 +3,7 @@ ghost use Rattle.std.specs.Prelude.{◌≡◌, ◌≢◌, ℤ, true, None, Some,
 ghost use Rattle.std.specs.List.{AllByRecursion};
 ghost use Rattle.sqlite.specs.Held.{state};
 ghost use Rattle.acvp_store.specs.Connection.{ServesStore, IsRead};
-ghost use Rattle.acvp_store.specs.Ranges.{is_between, IsTree, AreFull, IsRange, StandsForNone, FitsRequest};
+ghost use Rattle.acvp_store.specs.Ranges.{is_between, IsTree, AreFull, IsRange, HasStrayRow, IsRequestRow, FitsRequest};
 ghost use Rattle.acvp_store.specs.Ranges.{first_number, last_number};
 ghost use Rattle.acvp_store.specs.Stands.{request_tree, request_key, HoldsRequests, BodyReads};
 
@@ -74,7 +74,8 @@ pub(crate) fn requests_numbered<S: Alter>(
         ((state S.Store conn.old).now.trees request_tree) found.items) }
     ensures stray { IsTrue (state S.Store conn.new).is_open
         → IfErr result (λ fault. (number : ℤ) → fault ≡ RangeFault.Stray number
-        → StandsForNone HoldsRequests FitsRequest ((state S.Store conn.old).now.trees request_tree)) }
+        → HasStrayRow HoldsRequests IsRequestRow FitsRequest 0 number
+        ((state S.Store conn.old).now.trees request_tree)) }
     ensures read { IsRead result (state S.Store conn.old) (state S.Store conn.new) }
 {
     let numbers = numbers_of(account);

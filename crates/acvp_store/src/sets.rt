@@ -108,7 +108,7 @@ impl Member for ShortSet {
 }
 
 /// The number of a disposition, where it is one that is kept.
-fn kept_disposition(disposition: Disposition) -> Option<u32>
+pub(crate) fn kept_disposition(disposition: Disposition) -> Option<u32>
     ensures value { result ≡ disposition_number disposition }
     ensures some { IfSome result (λ number. disposition_number disposition ≡ Some number) }
 {

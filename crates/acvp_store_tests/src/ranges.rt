@@ -1,7 +1,10 @@
 //! Reads of ranges of numbers over a database in memory, whose rows are made by statements: what is told of them, a
 //! row that stands for nothing, and one outside the numbers of all accounts.
 
+use acvp_answers::{Disposition, Verdict};
+use acvp_registry::Kind;
 use acvp_store::{RangeFault, SqlTables, adopt, create};
+use acvp_tables::StoreFault;
 use sqlite::{Connection, MemStore, params};
 use std::alloc::Global;
 use std::process::Abort;
@@ -16,6 +19,14 @@ INSERT INTO session (session, account, sample, created, cancelled, certify, live
 INSERT INTO session (session, account, sample, created, cancelled, certify, live, passed) VALUES (7000001, 7, 0, 60, 0, NULL, 1, 1)
 INSERT INTO request (request, account, kind, body, status, approved) VALUES (7000001, 7, 1, '{\"name\":\"V\"}', 1, 7000001)
 INSERT INTO request (request, account, kind, body, status, approved) VALUES (7000002, 7, 4, '{\"moduleUrl\":\"/acvp/v1/modules/7000001\",\"oeUrl\":\"/acvp/v1/oes/7000001\",\"session\":7000001}', 0, NULL)
+INSERT INTO vset2 (vs, session, capability, cancelled, answers, verdicts, disposition, epoch) VALUES (800000101, 8000001, '{\"algorithm\":\"SHA2-256\",\"messageLength\":[8],\"revision\":\"1.0\"}', 1, NULL, NULL, NULL, 4)
+INSERT INTO vset2 (vs, session, capability, cancelled, answers, verdicts, disposition, epoch) VALUES (700000102, 7000001, '{\"algorithm\":\"SHA2-512\",\"messageLength\":[8],\"revision\":\"1.0\"}', 0, NULL, NULL, NULL, 4)
+INSERT INTO vset2 (vs, session, capability, cancelled, answers, verdicts, disposition, epoch) VALUES (700000101, 7000001, '{\"algorithm\":\"SHA2-256\",\"messageLength\":[8],\"revision\":\"1.0\"}', 0, '[[1,[\"ab\"]]]', 'pm', 1, 3)
+INSERT INTO reviewer (session, account) VALUES (8000001, 7)
+INSERT INTO reviewer (session, account) VALUES (7000002, 4)
+INSERT INTO reviewer (session, account) VALUES (7000001, 9)
+INSERT INTO object (kind, number, account, body) VALUES (1, 8000001, 8, '{\"name\":\"W\"}')
+INSERT INTO object (kind, number, account, body) VALUES (1, 7000001, 7, '{\"name\":\"V\"}')
 ";
 
 /// Runs each statement.
@@ -64,6 +75,21 @@ fn numbers(
                 numbers.push(row.number).ok().expect(rt, "memory");
             }
         }
+        "sets" => {
+            for row in &tables.sets_numbered(account)? {
+                numbers.push(row.number).ok().expect(rt, "memory");
+            }
+        }
+        "reviewers" => {
+            for row in &tables.reviewers_numbered(account)? {
+                numbers.push(row.session).ok().expect(rt, "memory");
+            }
+        }
+        "objects" => {
+            for row in &tables.objects_numbered(Kind::Vendor, account)? {
+                numbers.push(row.number).ok().expect(rt, "memory");
+            }
+        }
         _ => {
             for row in &tables.requests_numbered(account)? {
                 numbers.push(row.number).ok().expect(rt, "memory");
@@ -81,6 +107,15 @@ const TOLD: &[(&str, u16, &[u64])] = &[
     ("sessions", 9, &[]),
     ("requests", 7, &[7000001, 7000002]),
     ("requests", 8, &[]),
+    ("sets", 7, &[700000101, 700000102]),
+    ("sets", 8, &[800000101]),
+    ("sets", 9, &[]),
+    ("reviewers", 7, &[7000001, 7000002]),
+    ("reviewers", 8, &[8000001]),
+    ("reviewers", 9, &[]),
+    ("objects", 7, &[7000001]),
+    ("objects", 8, &[8000001]),
+    ("objects", 9, &[]),
 ];
 
 #[test]
@@ -133,6 +168,54 @@ const STRAY: &[(&str, (&str, u16), i64, (&str, u16))] = &[
         7000002,
         ("accounts", 0),
     ),
+    (
+        "UPDATE vset2 SET epoch = -1 WHERE vs = 700000102",
+        ("sets", 7),
+        700000102,
+        ("sets", 8),
+    ),
+    (
+        "UPDATE vset2 SET capability = '{}' WHERE vs = 800000101",
+        ("sets", 8),
+        800000101,
+        ("sets", 7),
+    ),
+    (
+        "UPDATE vset2 SET answers = NULL WHERE vs = 700000101",
+        ("sets", 7),
+        700000101,
+        ("sets", 8),
+    ),
+    (
+        "UPDATE vset2 SET answers = '[[1, [\"ab\"]]]' WHERE vs = 700000101",
+        ("sets", 7),
+        700000101,
+        ("sets", 8),
+    ),
+    (
+        "UPDATE vset2 SET verdicts = 'px' WHERE vs = 700000101",
+        ("sets", 7),
+        700000101,
+        ("sets", 8),
+    ),
+    (
+        "UPDATE vset2 SET disposition = 2 WHERE vs = 700000101",
+        ("sets", 7),
+        700000101,
+        ("sets", 8),
+    ),
+    (
+        "UPDATE reviewer SET account = 70000 WHERE account = 9",
+        ("reviewers", 7),
+        7000001,
+        ("reviewers", 8),
+    ),
+    (
+        "UPDATE object SET body = '[' WHERE number = 7000001",
+        ("objects", 7),
+        7000001,
+        ("objects", 8),
+    ),
 ];
 
 #[test]
@@ -150,56 +233,104 @@ fn a_row_that_stands_for_nothing_is_told_by_its_number(rt: HostRuntime) {
     }
 }
 
-/// What is outside the numbers of all accounts: of accounts, of sessions and of requests.
-const OUTSIDE: &[(&str, Option<i64>, Option<i64>, Option<i64>)] = &[
-    ("", None, None, None),
-    (
-        "UPDATE account SET enabled = 1 WHERE account = 7",
-        None,
-        None,
-        None,
-    ),
+#[test]
+fn a_vector_set_is_what_its_columns_say(rt: HostRuntime) {
+    let mut tables = filled(&rt, rt.alloc(), "");
+    let sets = tables.sets_numbered(7).ok().expect(&rt, "sets");
+    let [answered, unanswered] = sets.as_slice() else {
+        panic!(&rt; "not two");
+    };
+    assert!(&rt; answered.session == 7000001 && answered.epoch == 3 && !answered.cancelled);
+    assert!(&rt; answered.capability.algorithm().name() == "SHA2-256");
+    let Some(graded) = &answered.graded else {
+        panic!(&rt; "not graded");
+    };
+    assert!(&rt; graded.verdicts() == [Verdict::Passed, Verdict::Missing].as_slice());
+    assert!(&rt; graded.disposition() == Disposition::Missing);
+    assert!(&rt; unanswered.session == 7000001 && unanswered.epoch == 4 && !unanswered.cancelled);
+    assert!(&rt; unanswered.capability.algorithm().name() == "SHA2-512");
+    assert!(&rt; unanswered.graded.is_none());
+}
+
+/// The tables of numbered rows.
+const TABLES: &[&str] = &[
+    "accounts",
+    "sessions",
+    "sets",
+    "objects",
+    "requests",
+    "reviewers",
+];
+
+/// What is told of a table's rows outside the numbers of all accounts.
+fn outside(tables: &mut SqlTables<MemStore>, name: &str) -> Result<Option<i64>, StoreFault> {
+    match name {
+        "accounts" => tables.account_outside(),
+        "sessions" => tables.session_outside(),
+        "sets" => tables.set_outside(),
+        "objects" => tables.object_outside(),
+        "reviewers" => tables.reviewer_outside(),
+        _ => tables.request_outside(),
+    }
+}
+
+/// What a line of statements puts outside: tables, and what is told of each. Of the others nothing is told.
+const OUTSIDE: &[(&str, &[(&str, i64)])] = &[
+    ("", &[]),
+    ("UPDATE account SET enabled = 1 WHERE account = 7", &[]),
     (
         "INSERT INTO account (account, secret, enabled, last_step) VALUES (10000, x'00', 1, NULL)",
-        Some(10000),
-        None,
-        None,
+        &[("accounts", 10000)],
     ),
     (
         "INSERT INTO session (session, account, sample, created, cancelled, certify, live, passed) VALUES (999999, 7, 0, 60, 0, NULL, 1, 0)",
-        None,
-        Some(999999),
-        None,
+        &[("sessions", 999999)],
     ),
     (
         "INSERT INTO request (request, account, kind, body, status, approved) VALUES (10000000000, 7, 1, '', 0, NULL)",
-        None,
-        None,
-        Some(10000000000),
+        &[("requests", 10000000000)],
     ),
     (
         "INSERT INTO request (request, account, kind, body, status, approved) VALUES (-5, 7, 1, '', 0, NULL)",
-        None,
-        None,
-        Some(-5),
+        &[("requests", -5)],
+    ),
+    (
+        "INSERT INTO vset2 (vs, session, capability, cancelled, answers, verdicts, disposition, epoch) VALUES (99999999, 7000001, '', 0, NULL, NULL, NULL, 0)",
+        &[("sets", 99999999)],
+    ),
+    (
+        "INSERT INTO vset2 (vs, session, capability, cancelled, answers, verdicts, disposition, epoch) VALUES (1000000000000, 7000001, '', 0, NULL, NULL, NULL, 0)",
+        &[("sets", 1000000000000)],
+    ),
+    (
+        "INSERT INTO session (session, account, sample, created, cancelled, certify, live, passed) VALUES (5, 7, 0, 60, 0, NULL, 1, 0)\nINSERT INTO reviewer (session, account) VALUES (5, 7)",
+        &[("sessions", 5), ("reviewers", 5)],
+    ),
+    (
+        "INSERT INTO object (kind, number, account, body) VALUES (2, 10000000000, 7, '')",
+        &[("objects", 10000000000)],
+    ),
+    (
+        "INSERT INTO object (kind, number, account, body) VALUES (4, 7000009, 7, '')",
+        &[("objects", 7000009)],
     ),
 ];
 
 #[test]
 fn a_row_outside_all_accounts_numbers_is_found(rt: HostRuntime) {
-    for (statement, account, session, request) in OUTSIDE {
-        let mut tables = filled(&rt, rt.alloc(), statement);
-        assert!(&rt;
-            tables.account_outside().ok() == Some(*account),
-            "{statement}"
-        );
-        assert!(&rt;
-            tables.session_outside().ok() == Some(*session),
-            "{statement}"
-        );
-        assert!(&rt;
-            tables.request_outside().ok() == Some(*request),
-            "{statement}"
-        );
+    for (statements, told) in OUTSIDE {
+        let mut tables = filled(&rt, rt.alloc(), statements);
+        for name in TABLES {
+            let mut wanted = None;
+            for (table, number) in *told {
+                if table == name {
+                    wanted = Some(*number);
+                }
+            }
+            assert!(&rt;
+                outside(&mut tables, name).ok() == Some(wanted),
+                "{statements} {name}"
+            );
+        }
     }
 }

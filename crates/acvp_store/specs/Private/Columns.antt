@@ -12,6 +12,10 @@ session_columns row = column row 0 ∷ column row 2 ∷ column row 3 ∷ column 
 abbrev pub request_columns : Row → Row
 request_columns row = column row 0 ∷ column row 2 ∷ column row 3 ∷ column row 4 ∷ column row 5 ∷ column row 6 ∷ []
 
+abbrev pub set_columns : Row → Row
+set_columns row = column row 0 ∷ column row 2 ∷ column row 3 ∷ column row 4 ∷ column row 5 ∷ column row 6
+    ∷ column row 7 ∷ column row 8 ∷ []
+
 -- what was decided, alone
 abbrev pub status_columns : Row → Row
 status_columns row = column row 5 ∷ column row 6 ∷ []
@@ -21,3 +25,6 @@ capability_column row = column row 3 ∷ []
 
 abbrev pub columns_of_object : Row → Row
 columns_of_object row = column row 1 ∷ column row 2 ∷ column row 3 ∷ column row 4 ∷ []
+
+abbrev pub columns_of_reviewer : Row → Row
+columns_of_reviewer row = column row 1 ∷ column row 2 ∷ []

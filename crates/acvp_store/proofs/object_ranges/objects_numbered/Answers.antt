@@ -43,5 +43,5 @@ returns-clause-stray g c live =
     let u = c.args.account in
     let first : SFits w64 c.numbers_of-numbers.result.first = search rules in
     let last : SFits w64 c.numbers_of-numbers.result.last = search rules in
-    stray_told (kind_number c.args.kind) (first_number u) (last_number u) (old.now.trees object_tree) c.query_all.result (λ v. v.items) c.ranged-found.result c.read_back.result 1 c.ranged-found.ensures.stray c.read_back.ensures.stray
+    stray_told (kind_number c.args.kind) (first_number u) (last_number u) (old.now.trees object_tree) c.query_all.result (λ v. v.items) c.ranged-found.result c.read_back.result c.ranged-found.ensures.stray c.read_back.ensures.stray
     (IfOk-weaker c.query_all.result _ _ (λ rows shown. objects_met (c.requires was).schema.0 (kind_number c.args.kind) (first_number u) (last_number u) old new rows.items (c.requires was).schema.1 (rw (c.params-to_sql.ensures, c.params-to_sql-2.ensures, c.params-to_sql-3.ensures, to_z-of_z first, to_z-of_z last, c.numbers_of-numbers.ensures.first, c.numbers_of-numbers.ensures.last, c.kind_number.ensures) at shown)) (c.query_all.ensures.ok clean))

@@ -1,14 +1,15 @@
-use Rattle.std.proofs.Common.{arith, refl}
+use Rattle.std.proofs.Common.{arith, refl, ap}
 use Rattle.std.specs.Prelude.{◌<◌, ◌^◌, ⊤}
 use Rattle.std.proofs.lemmas.Result.{IfOk-weaker}
 use Rattle.sqlite.specs.Held.{state}
-use Rattle.acvp_store.specs.Ranges.{is_between, FitsAccount}
-use Rattle.acvp_store.specs.Rows.{account_tree, account_key, account_row, account_shown}
+use Rattle.acvp_store.specs.Ranges.{is_between, FitsAccount, IsAccountRow}
+use Rattle.acvp_store.specs.Rows.{account_tree, account_key, account_row, account_shown, HoldsAccounts}
 use Rattle.acvp_store.specs.Private.Columns.{account_columns}
 use Rattle.acvp_store.proofs.FoundRow.{read_as}
 use Rattle.acvp_store.proofs.QueryLeaves.{clean_if_open, read}
 use Rattle.acvp_store.proofs.RangeColumns.{IsAccountTyped, accounts_typed, account_is, accounts_met, accounts_in_order}
-use Rattle.acvp_store.proofs.RangeRows.{range_given, stray_read}
+use Rattle.acvp_store.proofs.RangeRows.{range_given}
+use Rattle.acvp_store.proofs.RangeStrays.{stray_of, each_kept}
 use Rattle.acvp_store.proofs.RangeTexts.{range_accounts, accounts_ask}
 use Rattle.acvp_store.proofs.ranges.accounts_between.Goals as goal
 
@@ -36,5 +37,5 @@ returns-clause-stray g c live =
     let new = state g.S.Store c.query_all.new.self in
     let clean = clean_if_open new.is_clean new.is_open (g.met.S.Store.shut_if_dirty c.query_all.new.self.store) live in
     let was = (returns-clause-read g c).stays.was_open live in
-    stray_read account_row account_shown account_columns (λ s. refl) (λ a. ⊤ × FitsAccount a) account_key FitsAccount (λ s low. (tt, low)) (is_between c.args.first c.args.last) (old.now.trees account_tree) c.query_all.result (λ v. v.items) c.ranged.result 0 c.ranged.ensures.stray
+    stray_of HoldsAccounts IsAccountRow FitsAccount (each_kept account_key account_row FitsAccount) (λ a. ⊤ × FitsAccount a) account_shown account_columns 0 0 (λ r. refl) (λ row a fits is. (a, (tt, fits), ap account_columns is)) (is_between c.args.first c.args.last) (old.now.trees account_tree) c.query_all.result (λ v. v.items) c.ranged.result c.ranged.ensures.stray
     (IfOk-weaker c.query_all.result _ _ (λ rows shown. accounts_met (c.requires was).schema.0 c.args.first c.args.last old new rows.items (c.requires was).schema.1 (rw (c.params-to_sql.ensures, c.params-to_sql-2.ensures, c.from.ensures, c.from-2.ensures) at shown)) (c.query_all.ensures.ok clean))

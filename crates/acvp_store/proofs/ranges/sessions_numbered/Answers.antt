@@ -1,15 +1,16 @@
-use Rattle.std.proofs.Common.{rules, w64, to_z-of_z, arith, refl}
+use Rattle.std.proofs.Common.{rules, w64, to_z-of_z, arith, refl, ap}
 use Rattle.std.specs.Prelude.{◌<◌, ◌^◌, ⊤}
 use mir.Val.{SFits}
 use Rattle.std.proofs.lemmas.Result.{IfOk-weaker}
 use Rattle.sqlite.specs.Held.{state}
-use Rattle.acvp_store.specs.Ranges.{is_between, first_number, last_number, FitsSession}
-use Rattle.acvp_store.specs.Rows.{session_tree, session_key, session_row, session_shown}
+use Rattle.acvp_store.specs.Ranges.{is_between, first_number, last_number, FitsSession, IsSessionRow}
+use Rattle.acvp_store.specs.Rows.{session_tree, session_key, session_row, session_shown, HoldsSessions}
 use Rattle.acvp_store.specs.Private.Columns.{session_columns}
 use Rattle.acvp_store.proofs.FoundRow.{read_as}
 use Rattle.acvp_store.proofs.QueryLeaves.{clean_if_open, read}
 use Rattle.acvp_store.proofs.RangeColumns.{IsSessionTyped, sessions_typed, session_is, sessions_met, sessions_in_order}
-use Rattle.acvp_store.proofs.RangeRows.{range_read, stray_read}
+use Rattle.acvp_store.proofs.RangeRows.{range_read}
+use Rattle.acvp_store.proofs.RangeStrays.{stray_of, each_kept}
 use Rattle.acvp_store.proofs.RangeTexts.{range_sessions, sessions_ask}
 use Rattle.acvp_store.proofs.ranges.sessions_numbered.Goals as goal
 
@@ -43,5 +44,5 @@ returns-clause-stray g c live =
     let u = c.args.account in
     let first : SFits w64 c.numbers_of-numbers.result.first = search rules in
     let last : SFits w64 c.numbers_of-numbers.result.last = search rules in
-    stray_read session_row session_shown session_columns (λ s. refl) (λ s. ⊤ × (s.account < 2 ^ 16)) session_key FitsSession (λ s low. (tt, low)) (is_between (first_number u) (last_number u)) (old.now.trees session_tree) c.query_all.result (λ v. v.items) c.ranged.result 0 c.ranged.ensures.stray
+    stray_of HoldsSessions IsSessionRow FitsSession (each_kept session_key session_row FitsSession) (λ s. ⊤ × FitsSession s) session_shown session_columns 0 0 (λ r. refl) (λ row s fits is. (s, (tt, fits), ap session_columns is)) (is_between (first_number u) (last_number u)) (old.now.trees session_tree) c.query_all.result (λ v. v.items) c.ranged.result c.ranged.ensures.stray
     (IfOk-weaker c.query_all.result _ _ (λ rows shown. sessions_met (c.requires was).schema.0 (first_number u) (last_number u) old new rows.items (c.requires was).schema.1 (rw (c.params-to_sql.ensures, c.params-to_sql-2.ensures, to_z-of_z first, to_z-of_z last, c.numbers_of-numbers.ensures.first, c.numbers_of-numbers.ensures.last) at shown)) (c.query_all.ensures.ok clean))

@@ -1,18 +1,19 @@
 use Rattle.std.proofs.Common.{rules, w64, to_z-of_z, arith, refl}
-use Rattle.std.specs.Prelude.{◌<◌, ◌^◌, IsUtf8}
+use Rattle.std.specs.Prelude.{◌<◌, ◌^◌}
 use mir.Val.{SFits}
 use Rattle.std.proofs.lemmas.Result.{IfOk-weaker}
 use Rattle.sqlite.specs.Held.{state}
-use Rattle.acvp_store.specs.Ranges.{is_between, first_number, last_number}
-use Rattle.acvp_store.specs.Stands.{request_tree, request_key, request_row, body_text}
+use Rattle.acvp_store.specs.Ranges.{is_between, first_number, last_number, FitsRequest, IsRequestRow, HasStrayRow}
+use Rattle.acvp_store.specs.Stands.{request_tree, request_key, request_row, HoldsRequests}
 use Rattle.acvp_store.specs.Private.Columns.{request_columns}
-use Rattle.acvp_store.specs.Private.Requests.{request_shown, IsReadable, FitsBody}
+use Rattle.acvp_store.specs.Private.Requests.{request_shown}
 use Rattle.acvp_store.proofs.FoundRow.{read_as}
 use Rattle.acvp_store.proofs.QueryLeaves.{clean_if_open, read}
 use Rattle.acvp_store.proofs.RangeColumns.{IsRequestTyped, requests_typed, request_is, requests_met, requests_in_order}
-use Rattle.acvp_store.proofs.RangeRows.{range_given, stray_read}
+use Rattle.acvp_store.proofs.RangeRows.{range_given}
+use Rattle.acvp_store.proofs.RangeStrays.{stray_of, stray_same}
 use Rattle.acvp_store.proofs.RangeTexts.{range_requests, requests_ask}
-use Rattle.acvp_store.proofs.RequestRanges.{IsHad, had, rows_through, stray_through}
+use Rattle.acvp_store.proofs.RequestRanges.{IsMember, each, shows, rows_through}
 use Rattle.acvp_store.proofs.request_ranges.requests_numbered.Goals as goal
 
 pub returns-clause-read : goal.returns-clause-read
@@ -47,6 +48,6 @@ returns-clause-stray g c live =
     let u = c.args.account in
     let first : SFits w64 c.numbers_of-numbers.result.first = search rules in
     let last : SFits w64 c.numbers_of-numbers.result.last = search rules in
-    stray_through (old.now.trees request_tree) c.ranged-found.result c.read_back.result c.read_back.ensures.stray
-    (stray_read request_row request_shown request_columns (λ s. refl) (λ r. IsReadable r.body × ((r.account < 2 ^ 16) × FitsBody r.body × IsUtf8 (body_text r.body))) request_key IsHad had (is_between (first_number u) (last_number u)) (old.now.trees request_tree) c.query_all.result (λ v. v.items) c.ranged-found.result 0 c.ranged-found.ensures.stray
+    stray_same (λ number. HasStrayRow HoldsRequests IsRequestRow FitsRequest 0 number (old.now.trees request_tree)) c.ranged-found.result c.read_back.result c.read_back.ensures.stray
+    (stray_of HoldsRequests IsRequestRow FitsRequest each IsMember request_shown request_columns 0 0 (λ r. refl) shows (is_between (first_number u) (last_number u)) (old.now.trees request_tree) c.query_all.result (λ v. v.items) c.ranged-found.result c.ranged-found.ensures.stray
     (IfOk-weaker c.query_all.result _ _ (λ rows shown. requests_met (c.requires was).schema.0 (first_number u) (last_number u) old new rows.items (c.requires was).schema.1 (rw (c.params-to_sql.ensures, c.params-to_sql-2.ensures, to_z-of_z first, to_z-of_z last, c.numbers_of-numbers.ensures.first, c.numbers_of-numbers.ensures.last) at shown)) (c.query_all.ensures.ok clean)))

@@ -1,0 +1,39 @@
+use Rattle.std.proofs.lemmas.Result.{IfOk-weaker}
+use Rattle.std.specs.List.{AllByRecursion}
+use Rattle.sqlite.specs.Held.{state}
+use Rattle.acvp_store.specs.Stands.{object_tree}
+use Rattle.acvp_store.proofs.FoundRow.{read_as}
+use Rattle.acvp_store.proofs.ObjectRanges.{objects_typed, is_elsewhere, objects_outside, objects_inside, Within, all_within, none_elsewhere}
+use Rattle.acvp_store.proofs.QueryLeaves.{clean_if_open, read}
+use Rattle.acvp_store.proofs.RangeOutside.{none_left_told, some_left_told}
+use Rattle.acvp_store.proofs.RangeTexts.{outside_objects, outside_objects_ask}
+use Rattle.acvp_store.proofs.object_ranges.object_outside.Goals as goal
+
+pub returns-clause-read : goal.returns-clause-read
+returns-clause-read g c =
+    let old = state g.S.Store c.args.conn.now in
+    let new = state g.S.Store c.query_all.new.self in
+    read_as c.query_all.result c.number_in.result old new c.number_in.ensures.ok
+    (read outside_objects _ old new (g.met.S.Store.shut_if_dirty c.query_all.new.self.store) (λ live. (c.requires live).ready) outside_objects_ask c.query_all.ensures.survives c.query_all.result (λ v. v.items) c.query_all.ensures.ok c.query_all.ensures.err)
+
+pub returns-clause-none : goal.returns-clause-none
+returns-clause-none g c live =
+    let old = state g.S.Store c.args.conn.now in
+    let new = state g.S.Store c.query_all.new.self in
+    let clean = clean_if_open new.is_clean new.is_open (g.met.S.Store.shut_if_dirty c.query_all.new.self.store) live in
+    let was = (returns-clause-read g c).stays.was_open live in
+    let table = old.now.trees object_tree in
+    none_left_told is_elsewhere table (λ v. v.items) (AllByRecursion Within table) c.query_all.result c.number_in.result c.number_in.ensures.ok c.number_in.ensures.none
+    (IfOk-weaker c.query_all.result _ _ (λ rows shown. objects_outside (c.requires was).schema.0 old new rows.items (c.requires was).schema.1 shown) (c.query_all.ensures.ok clean))
+    (all_within table (objects_typed (c.requires was).schema.0 old.now (c.requires was).schema.1 (c.requires was).sound))
+
+pub returns-clause-some : goal.returns-clause-some
+returns-clause-some g c live =
+    let old = state g.S.Store c.args.conn.now in
+    let new = state g.S.Store c.query_all.new.self in
+    let clean = clean_if_open new.is_clean new.is_open (g.met.S.Store.shut_if_dirty c.query_all.new.self.store) live in
+    let was = (returns-clause-read g c).stays.was_open live in
+    let table = old.now.trees object_tree in
+    some_left_told is_elsewhere table (λ v. v.items) (AllByRecursion Within table) c.query_all.result c.number_in.result c.number_in.ensures.ok c.number_in.ensures.some
+    (IfOk-weaker c.query_all.result _ _ (λ rows shown. objects_inside (c.requires was).schema.0 old new rows.items (c.requires was).schema.1 shown) (c.query_all.ensures.ok clean))
+    (none_elsewhere table)
