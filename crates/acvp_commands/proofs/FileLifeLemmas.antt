@@ -1,5 +1,6 @@
 -- A file lives through one run more.
-use Rattle.std.proofs.Common.{◌≡◌, ◌⊎◌, inl, inr, ℕ, List, [], ◌∷◌, ◌++◌, IsTrue, refl, sym, subst, ap, ◌∙◌}
+use Rattle.std.proofs.Common.{◌≡◌, ◌⊎◌, inl, inr, ℕ, List, [], ◌∷◌, ◌++◌, Bool, true, false, IsTrue, refl, sym, subst, ap, ◌∙◌}
+use Rattle.std.specs.Prelude.{MatchBool}
 use Rattle.std.proofs.Math.Logic.{∥∥₁_map}
 use Rattle.std.specs.List.{All, AllByRecursion}
 use Rattle.std.proofs.lemmas.List.Elements.{recursion_from_All}
@@ -23,6 +24,7 @@ use Rattle.acvp_http.specs.Left.{LeavesOneMore, LeavesRun}
 use Rattle.acvp_http.specs.Life.{AddsSeeds, GoesOver, Life, Passes, Run}
 use Rattle.acvp_http.specs.Serve.{GoesThrough, HasEffect}
 use Rattle.acvp_commands.specs.FileLife.{GoesOverFile, HasLived, Resumes}
+use Rattle.acvp_commands.specs.Reopened.{FindsClosed, FindsLeft}
 use Rattle.acvp_commands.proofs.ClosedFiles.{shows_committed, was_open}
 use Rattle.acvp_commands.proofs.LeftFiles.{shows_left}
 
@@ -44,14 +46,19 @@ module _ (request_kept : (keys : Keys) (m : ℕ) (r : RequestValue) (c : Content
 
   passed_kept : (run : Run) (next start : Content) → All (λ (t : Turn). CanHappen t.event) run.turns → IsKept run.keys.seed next → Passes run next start → IsKept run.keys.seed start
   passed_kept run next start can kept (inl same) = subst (λ (x : Content). IsKept run.keys.seed x) (sym same) kept
-  passed_kept run next start can kept (inr (earlier, turn, rest, split, off, effect)) =
+  passed_kept run next start can kept (inr (stopped, (earlier, turn, rest, split, off, effect))) =
       let all = subst (λ (ts : List Turn). AllByRecursion (λ (t : Turn). CanHappen t.event) ts) split (recursion_from_All (λ (t : Turn). CanHappen t.event) run.turns can) in
       effect_kept run.keys turn.event next start (of_one (λ (t : Turn). CanHappen t.event) earlier rest turn all) kept effect
 
-  module _ {D E : Type 0} {g : Ghosts D} {h : Ghosts E} (last : Held (FileStore D g)) (opened : Held (FileStore E h)) (resumes : Resumes last opened) where
+  module _ {D E : Type 0} {g : Ghosts D} {h : Ghosts E} (closed : Bool) (last : Held (FileStore D g)) (opened : Held (FileStore E h)) (resumes : Resumes closed last opened) where
     -- what the open found stands in the tables behind the look
     stands_opened : (c : Content) → IsStoreOf (file_state resumes.connection).now.trees c → stands over_files opened c
-    stands_opened c store = resumes.looks.same resumes.is_open c (resumes.takes (resumes.looks.was_open resumes.is_open) c store)
+    stands_opened c store = elim resumes.looks [
+      | inl same ↦
+          let up = subst (λ (t : Held (FileStore E h)). IsTrue (file_state t).is_open) same resumes.is_open in
+          subst (λ (t : Held (FileStore E h)). stands over_files t c) (sym same) (resumes.takes up c store)
+      | inr looked ↦ looked.same resumes.is_open c (resumes.takes (looked.was_open resumes.is_open) c store)
+    ]
 
     -- where it was given up, one of the two contents that were left
     stands_left : (c d : Content) → HasCleanDisk (file_state last) → leaves over_files last c d → (file_state last).may_leave (file_state resumes.connection).now.trees
@@ -68,40 +75,42 @@ module _ (request_kept : (keys : Keys) (m : ℕ) (r : RequestValue) (c : Content
         let trees : (file_state last).now.trees ≡ (file_state resumes.connection).now.trees = ap (λ (d : Database). d.trees) store.ready.settled ∙ sym same in
         stands_opened c (store_of layout (file_state last).now (file_state resumes.connection).now.trees schema trees store.sound c stood)
 
-    module _ (run : Run) (next : Content) where
+    module _ (run : Run) (next : Content) (ended : run.closed ≡ closed) where
       abbrev Began : Type 0
       Began = (start : Content) × Passes run next start × stands over_files opened start
 
       abbrev Left : Type 0
       Left = ((other : Content) → leaves over_files last next other) ⊎ LeavesOneMore (meaning_of over_files) run.keys run.turns next last
 
-      began_left : HasCleanDisk (file_state last) → Left → (file_state last).may_leave (file_state resumes.connection).now.trees → Began
-      began_left clean (inl all) may = elim (stands_left next next clean (all next) may) [
+      began_left : run.closed ≡ false → HasCleanDisk (file_state last) → Left → (file_state last).may_leave (file_state resumes.connection).now.trees → Began
+      began_left stopped clean (inl all) may = elim (stands_left next next clean (all next) may) [
         | inl stood ↦ (next, inl refl, stood)
         | inr stood ↦ (next, inl refl, stood)
       ]
-      began_left clean (inr (earlier, turn, rest, split, off, (other, effect, one))) may = elim (stands_left next other clean one may) [
+      began_left stopped clean (inr (earlier, turn, rest, split, off, (other, effect, one))) may = elim (stands_left next other clean one may) [
         | inl stood ↦ (next, inl refl, stood)
-        | inr stood ↦ (other, inr (earlier, turn, rest, split, off, effect), stood)
+        | inr stood ↦ (other, inr (stopped, (earlier, turn, rest, split, off, effect)), stood)
       ]
 
+      began_at : HasCleanDisk (file_state last) → (IsTrue (file_state last).is_open → stands over_files last next) → Left → (by_close : Bool) → run.closed ≡ by_close
+          → MatchBool by_close (FindsClosed last resumes.connection) (FindsLeft last resumes.connection) → ∥ Began ∥₁
+      began_at clean holds left true is ended =
+          let up = was_open last resumes.connection ended in
+          ∣ (next, inl refl, stands_closed up next (holds up) (shows_committed last resumes.connection ended)) ∣₁
+      began_at clean holds left false is given = ∥∥₁_map (shows_left last resumes.connection given) (λ may. began_left is clean left may)
+
       began : HasCleanDisk (file_state last) → (IsTrue (file_state last).is_open → stands over_files last next) → Left → ∥ Began ∥₁
-      began clean holds left = elim resumes.found [
-        | inl given ↦ ∥∥₁_map (shows_left last resumes.connection given) (λ may. began_left clean left may)
-        | inr ended ↦
-            let up = was_open last resumes.connection ended in
-            ∣ (next, inl refl, stands_closed up next (holds up) (shows_committed last resumes.connection ended)) ∣₁
-      ]
+      began clean holds left = began_at clean holds left closed ended resumes.found
 
   module _ {D E : Type 0} {g : Ghosts D} {h : Ghosts E} (outlast : (seeds more : List (List ℕ)) (c : Content) → IsKept seeds c → IsKept (seeds ++ more) c)
       (leaving : (keys : Keys) (turns : List Turn) (answers : List EventAnswer) (old new : Held (FileStore D g)) → GoesThrough (meaning_of over_files) keys turns answers old new
       → LeavesRun (meaning_of over_files) keys turns answers old new) where
     pub one_more : (first : Content) (runs : List Run) (run : Run) (seeds : List (List ℕ)) (opened last : Held (FileStore D g)) (next : Held (FileStore E h)) → HasLived first runs seeds opened
-        → AddsSeeds seeds (run ∷ []) → GoesOverFile run opened last → Resumes last next → ∥ HasLived first (runs ++ run ∷ []) run.keys.seed next ∥₁
+        → AddsSeeds seeds (run ∷ []) → GoesOverFile run opened last → Resumes run.closed last next → ∥ HasLived first (runs ++ run ∷ []) run.keys.seed next ∥₁
     one_more first runs run seeds opened last next lived ((more, is), seeded, _) went resumes =
         let kept_then : IsKept run.keys.seed lived.records = subst (λ (s : List (List ℕ)). IsKept s lived.records) (sym is) (outlast seeds more lived.records lived.kept) in
         let (after, ran, kept_after, holds, left) = leaving run.keys run.turns run.answers opened last went.goes went.clean lived.is_open lived.records kept_then lived.stood in
-        ∥∥₁_map (began last next resumes run after went.clean holds left) (λ it. record {
+        ∥∥₁_map (began run.closed last next resumes run after refl went.clean holds left) (λ it. record {
           records = it.0;
           life = longer runs run first lived.records after it.0 lived.life (record { seeded = seeded; kept = kept_then; can = went.happen; runs = ran }) it.1;
           kept = passed_kept run after it.0 went.happen kept_after it.1;

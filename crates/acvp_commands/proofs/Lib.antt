@@ -7,3 +7,4 @@ pub mod SecretLemmas
 pub mod ClosedFiles
 pub mod LeftFiles
 pub mod FileLifeLemmas
+pub mod FileRunLemmas

@@ -10,6 +10,7 @@ mod host;
 mod keys;
 mod life;
 mod lines;
+mod listed;
 mod numbers;
 mod orders;
 mod serving;
@@ -23,10 +24,11 @@ pub use files::{SystemFiles, TextFiles, keys_in, secret_in};
 pub use host::{Host, Service, desk_over};
 pub use keys::{bytes_of, read_keys};
 pub use life::{
-    closed_files_are_found, commands_are_runs, files_live_on, left_files_are_found, runs_follow,
-    tables_live_on,
+    closed_files_are_found, commands_are_runs, commands_run_over_files, files_live_on,
+    left_files_are_found, runs_follow, tables_live_on,
 };
 pub use lines::Message;
+pub use listed::{account_line, request_line};
 pub use numbers::{account_number, connection_count, patience_number, port_number, request_number};
 pub use orders::{carry_out, order_line};
 pub use serving::{Arrival, Listener, Taken, moment_of, serve_connections};

@@ -1,5 +1,5 @@
 //! The life of a laboratory's file: made once, and then served and ordered in any number of runs.
-ghost use Rattle.std.specs.Prelude.{◌≡◌, ◌++◌, ℕ, Bool, List, [], ◌∷◌, IsTrue, Result};
+ghost use Rattle.std.specs.Prelude.{◌≡◌, ◌⊎◌, ◌++◌, ℕ, Bool, List, [], ◌∷◌, IsTrue, Result};
 ghost use Rattle.sqlite.specs.Files.{file_state, over_files};
 ghost use Rattle.sqlite.specs.Held.{Held, state};
 ghost use Rattle.sqlite.specs.State.{HasCleanDisk};
@@ -12,14 +12,18 @@ ghost use Rattle.acvp_http.specs.Event.{CanHappen, order, ordered};
 ghost use Rattle.acvp_http.specs.Serve.{GoesThrough};
 ghost use Rattle.acvp_http.specs.Life.{AddsSeeds, GoesOn, Life, Lives, Reopens, Run};
 ghost use Rattle.acvp_store.specs.Store.{meaning_of, stands, TakesOver};
-ghost use Rattle.acvp_commands.specs.FileLife.{GoesOverFile, HasLived, Resumes};
+ghost use Rattle.acvp_commands.specs.FileLife.{CanBeDone, GoesOverFile, HasLived, IsNotBegun, Resumes, RunsOver};
+ghost use Rattle.acvp_commands.specs.FileLife.{keys_of_task};
 ghost use Rattle.acvp_commands.specs.Lines.{outcome_of};
 ghost use Rattle.acvp_commands.specs.Ordered.{IsCarriedOut};
 ghost use Rattle.acvp_commands.specs.Reopened.{FindsClosed, FindsLeft};
 ghost use Rattle.acvp_commands.specs.declared.fault.Fault.{Fault};
+ghost use Rattle.acvp_commands.specs.Work.{IsTakenOver};
 ghost use Rattle.acvp_commands.specs.declared.lines.Message.{Message};
+ghost use Rattle.acvp_commands.specs.declared.work.Task.{Task};
 ghost use Rattle.sqlite_store.specs.declared.store.FileStore.{FileStore};
 
+use crate::host::Host;
 use acvp_desk::{records_are_kept, records_outlast_keys};
 use acvp_http::{orders_are_turns, records_live_on, turns_leave};
 use acvp_store::{SqlTables, reopens};
@@ -91,8 +95,8 @@ pub fn tables_live_on<S: Alter>()
 /// or that stand for other records which are kept. A run goes over the tables, and the next open finds what it left where
 /// it was given up, behind any of its turns, or had closed. Then the file has lived through one run more: it goes over
 /// the records that those before it left, which are kept under its own seeds, so it is as `runs_are_promised` says; what
-/// is open stands for what it left, and at most the effect of one event more is there, which was unavailable. So no run,
-/// however many there were, loses what was answered.
+/// is open stands for what it left, and where it was given up at most the effect of one event more is there, which was
+/// unavailable. So no run, however many there were, loses what was answered.
 pub fn files_live_on<D: Disk, E: Disk>()
     ensures begins { (seeds : List (List ℕ)) (made : Held (FileStore D D.Disk)) → IsTrue (file_state made).is_open
         → stands over_files made no_rows → HasLived no_rows [] seeds made }
@@ -101,9 +105,24 @@ pub fn files_live_on<D: Disk, E: Disk>()
     ensures goes_on { (first : Content) (runs : List Run) (run : Run) (seeds : List (List ℕ))
         (opened last : Held (FileStore D D.Disk)) (next : Held (FileStore E E.Disk))
         → ∥ HasLived first runs seeds opened ∥₁ → AddsSeeds seeds (run ∷ []) → GoesOverFile run opened last
-        → Resumes last next → ∥ HasLived first (runs ++ run ∷ []) run.keys.seed next ∥₁ }
+        → Resumes run.closed last next → ∥ HasLived first (runs ++ run ∷ []) run.keys.seed next ∥₁ }
 {
     turns_leave::<SqlTables<FileStore<D>>>();
     records_are_kept();
     records_outlast_keys();
+}
+
+/// What `done_over` says of a command on a file is a run over it, where the disk was clean to the end: so the next open
+/// goes on from it, as `files_live_on` says, whether its connection was then closed or given up. Its turns are what was
+/// served, or the order that was carried out, under any keys. Or nothing was run, since the tables weren't taken over,
+/// or there is no desk over them under the keys.
+pub fn commands_run_over_files<D: Disk, H: Host>()
+    ensures { (keys : Keys) (moment : ℕ) (closed : Bool) (it : Task) (first last : H)
+        (connection back : Held (FileStore D D.Disk)) (outcome : Result Message Fault) → CanBeDone moment it
+        → IsTakenOver over_files H.hosting H.Port.listening H.Port.Input.stream H.Port.Output.stream it first last
+        connection back outcome → HasCleanDisk (file_state back)
+        → IsNotBegun it connection back outcome
+        ⊎ ((run : Run) × (run.keys ≡ keys_of_task keys it) × (run.closed ≡ closed) × RunsOver run connection back) }
+{
+    orders_are_turns::<SqlTables<FileStore<D>>>();
 }

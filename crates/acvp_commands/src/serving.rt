@@ -1,19 +1,21 @@
 //! Serving: connections and orders, one after another, over the records.
-ghost use Rattle.std.specs.Prelude.{◌≡◌, ◌/◌, ◌↔◌, true, false, IsTrue, MatchResult, Some};
+ghost use Rattle.std.specs.Prelude.{◌≡◌, ◌≢◌, ◌⊎◌, ◌/◌, ◌↔◌, true, false, IsTrue, MatchResult, Some};
 ghost use Rattle.std.specs.List.{All};
 ghost use Rattle.std.specs.Time.{system_time_nanos};
 ghost use Rattle.acvp_desk.specs.Answer.{end_of_moments};
+ghost use Rattle.acvp_desk.specs.declared.order.OrderReply.{OrderReply};
 ghost use Rattle.acvp_http.specs.Connection.{ServesOne, is_read_end, is_write_end};
-ghost use Rattle.acvp_http.specs.Event.{CanHappen, Turn};
-ghost use Rattle.acvp_http.specs.Serve.{GoesThrough};
+ghost use Rattle.acvp_http.specs.Event.{CanHappen, Turn, ordered};
+ghost use Rattle.acvp_http.specs.Serve.{GoesThrough, HandlesTurn};
 ghost use Rattle.acvp_http.specs.declared.connection.ServeFault.{ServeFault};
-ghost use Rattle.acvp_commands.specs.Listening.{IsMomentOf, IsOrderOf, IsRequestOf, ServesUntil, ServesVisit, Visit};
-ghost use Rattle.acvp_commands.specs.declared.fault.Fault.TheVariants.{Accept};
+ghost use Rattle.acvp_commands.specs.Listening.{Came, GoesOn, IsMomentOf, IsOrderOf, IsRequestOf, IsShutBehind, Look};
+ghost use Rattle.acvp_commands.specs.Listening.{ServesArrival, ServesUntil, ServesVisit, Visit, is_told, look_turn};
+ghost use Rattle.acvp_commands.specs.declared.fault.Fault.TheVariants.{Accept, Unavailable};
 
 use crate::fault::Fault;
 use crate::lines::Message;
 use crate::orders::outcome_of;
-use acvp_desk::{Desk, END_OF_MOMENTS};
+use acvp_desk::{Desk, END_OF_MOMENTS, Order, OrderReply};
 use acvp_http::{
     Routes, ServeFault, Sink, Source, handle_order, order_in, serve_one, turns_are_promised,
     turns_leave,
@@ -96,7 +98,18 @@ pub fn moment_of<C: Clock>(clock: &C) -> u64 {
     seconds_of(SystemTime::now(clock))
 }
 
-/// Serves the one request of a connection, at a moment: it is answered, or it comes to nothing.
+/// Whether a connection was told that the server is unavailable.
+fn is_told(served: Result<bool, ServeFault>) -> bool
+    ensures { result ≡ is_told served }
+{
+    match served {
+        Ok(unavailable) => unavailable,
+        Err(_) => false,
+    }
+}
+
+/// Serves the one request of a connection, at a moment: it is answered, or it comes to nothing. Says whether it was told
+/// that the server is unavailable.
 fn serve_request<T: Tables, S: Source, K: Sink>(
     alloc: Global,
     routes: &Routes,
@@ -104,7 +117,7 @@ fn serve_request<T: Tables, S: Source, K: Sink>(
     input: &mut S,
     output: &mut K,
     moment: u64,
-) -> Result<(), ServeFault>
+) -> Result<bool, ServeFault>
     requires reader_clear { (S.stream input.old).failed ≡ false }
     requires writer_clear { (K.stream output.old).failed ≡ false }
     ensures keys { desk.new.keys ≡ desk.old.keys }
@@ -112,10 +125,10 @@ fn serve_request<T: Tables, S: Source, K: Sink>(
         (K.stream output.old) (K.stream output.new) desk.old.tables desk.new.tables result }
     ensures read_fault { (S.stream input.new).failed ≡ is_read_end result }
     ensures write_fault { (K.stream output.new).failed ≡ is_write_end result }
-    ensures turn { (visit : Visit) × (visit.is_connection ≡ true)
-        × IsRequestOf moment (S.stream input.old) (S.stream input.new) (K.stream output.old) (K.stream output.new) visit
-        × GoesThrough T.meaning desk.old.keys visit.turns visit.answers desk.old.tables desk.new.tables
-        × All (λ (turn : Turn). CanHappen turn.event) visit.turns }
+    ensures turn { (came : Came) × (came.is_connection ≡ true)
+        × IsRequestOf moment (S.stream input.old) (S.stream input.new) (K.stream output.old) (K.stream output.new) came
+        × GoesThrough T.meaning desk.old.keys came.turns came.answers desk.old.tables desk.new.tables
+        × All (λ (turn : Turn). CanHappen turn.event) came.turns }
 {
     serve_one(alloc, routes, desk, input, output, moment)
 }
@@ -123,9 +136,9 @@ fn serve_request<T: Tables, S: Source, K: Sink>(
 /// Carries out the order that a line is, and says what came of it.
 fn order_at<T: Tables>(desk: &mut Desk<T>, line: &[u8]) -> Result<Message, Fault>
     ensures keys { desk.new.keys ≡ desk.old.keys }
-    ensures turn { (visit : Visit) × (visit.is_connection ≡ false) × IsOrderOf line.now result visit
-        × GoesThrough T.meaning desk.old.keys visit.turns visit.answers desk.old.tables desk.new.tables
-        × All (λ (turn : Turn). CanHappen turn.event) visit.turns }
+    ensures turn { (came : Came) × (came.is_connection ≡ false) × IsOrderOf line.now result came
+        × GoesThrough T.meaning desk.old.keys came.turns came.answers desk.old.tables desk.new.tables
+        × All (λ (turn : Turn). CanHappen turn.event) came.turns }
 {
     match order_in(line) {
         Some((moment, order)) => {
@@ -136,19 +149,29 @@ fn order_at<T: Tables>(desk: &mut Desk<T>, line: &[u8]) -> Result<Message, Fault
     }
 }
 
-/// Takes what arrives next and serves it: a connection's one request at the moment that came with it, or an order. Says
-/// whether it was a connection.
-fn serve_next<T: Tables, L: Listener>(
+/// What was served.
+#[derive(Clone, Copy)]
+struct Served {
+    /// Whether it was a connection.
+    connection: bool,
+
+    /// Whether the store is to be looked at behind it: behind an order, and behind a connection that was told that the
+    /// server is unavailable.
+    look: bool,
+}
+
+/// Takes what arrives next and serves it: a connection's one request at the moment that came with it, or an order.
+fn serve_arrival<T: Tables, L: Listener>(
     alloc: Global,
     routes: &Routes,
     desk: &mut Desk<T>,
     listener: &mut L,
-) -> Result<bool, Fault>
+) -> Result<Served, Fault>
     ensures keys { desk.new.keys ≡ desk.old.keys }
     ensures next { MatchResult result
-        (λ connection. (visit : Visit) × (visit.is_connection ≡ connection)
-        × ServesVisit T.meaning L.listening L.Input.stream L.Output.stream desk.old.keys visit listener.old
-        desk.old.tables listener.new desk.new.tables)
+        (λ served. (came : Came) × (came.is_connection ≡ served.connection)
+        × ServesArrival T.meaning L.listening L.Input.stream L.Output.stream desk.old.keys came served.look
+        listener.old desk.old.tables listener.new desk.new.tables)
         (λ fault. (fault ≡ Accept) × L.listening.stops listener.old listener.new × (desk.new ≡ desk.old)) }
 {
     match listener.accept()? {
@@ -161,13 +184,62 @@ fn serve_next<T: Tables, L: Listener>(
             let moment = seconds_of(now);
             let served = serve_request(alloc, routes, desk, &mut input, &mut output, moment);
             listener.end(input, output, served.is_ok());
-            Ok(true)
+            Ok(Served {
+                connection: true,
+                look: is_told(served),
+            })
         }
         Arrival::Order(line, asker) => {
             let outcome = order_at(desk, &line);
             listener.tell(asker, outcome);
-            Ok(false)
+            Ok(Served {
+                connection: false,
+                look: true,
+            })
         }
+    }
+}
+
+/// Looks at the store, behind what was served: whether it still answers. A fault of the disk shuts it, and it tells so
+/// only to who asks. It is asked to reject a request that there never is, which changes nothing.
+fn look<T: Tables>(desk: &mut Desk<T>) -> Result<(), Fault>
+    ensures keys { desk.new.keys ≡ desk.old.keys }
+    ensures looked { (look : Look) × HandlesTurn T.meaning desk.old.keys (look_turn look) (ordered look.reply)
+        desk.old.tables desk.new.tables × MatchResult result (λ done. look.reply ≢ OrderReply.Unavailable)
+        (λ fault. (fault ≡ Unavailable) × (look.reply ≡ OrderReply.Unavailable)) }
+{
+    match handle_order(desk, 0, &Order::RejectRequest { request: 0 }) {
+        OrderReply::Unavailable => Err(Fault::Unavailable),
+        _ => Ok(()),
+    }
+}
+
+/// Serves what arrives next, and looks at the store behind it where that is to be done. Says whether it was a
+/// connection.
+fn serve_next<T: Tables, L: Listener>(
+    alloc: Global,
+    routes: &Routes,
+    desk: &mut Desk<T>,
+    listener: &mut L,
+) -> Result<bool, Fault>
+    ensures keys { desk.new.keys ≡ desk.old.keys }
+    ensures next { MatchResult result
+        (λ connection. (visit : Visit) × (visit.came.is_connection ≡ connection) × GoesOn visit
+        × ServesVisit T.meaning L.listening L.Input.stream L.Output.stream desk.old.keys visit listener.old
+        desk.old.tables listener.new desk.new.tables)
+        (λ fault. ((fault ≡ Accept) × L.listening.stops listener.old listener.new × (desk.new ≡ desk.old))
+        ⊎ ((fault ≡ Unavailable) × ((visit : Visit) × IsShutBehind visit
+        × ServesVisit T.meaning L.listening L.Input.stream L.Output.stream desk.old.keys visit listener.old
+        desk.old.tables listener.new desk.new.tables))) }
+{
+    let served = serve_arrival(alloc, routes, desk, listener)?;
+    if served.look {
+        match look(desk) {
+            Ok(()) => Ok(served.connection),
+            Err(fault) => Err(fault),
+        }
+    } else {
+        Ok(served.connection)
     }
 }
 
@@ -182,7 +254,8 @@ fn are_all(count: Option<u64>, served: u64) -> bool
 }
 
 /// Serves connections and orders as they arrive, one after another. Where so many connections are asked for, it ends
-/// behind the last of them, and says how many there were. Else it ends only where nothing can be taken any more.
+/// behind the last of them, and says how many there were. Else it ends only where nothing can be taken any more, or where
+/// the store doesn't answer any more, after whoever came has been told so.
 pub fn serve_connections<T: Tables, L: Listener>(
     alloc: Global,
     routes: &Routes,

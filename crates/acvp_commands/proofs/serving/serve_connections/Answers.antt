@@ -1,6 +1,5 @@
-use Rattle.std.proofs.Common.{rules, arith, ap, ◌∙◌}
-use Rattle.acvp_desk.specs.Desk.{DeskValue}
-use Rattle.acvp_commands.proofs.VisitLemmas.{served_few, served_more, served_open, until_count, until_limit, until_stopped}
+use Rattle.std.proofs.Common.{rules, arith, ◌∙◌}
+use Rattle.acvp_commands.proofs.VisitLemmas.{ended_open, served_few, served_more, served_open, until_count, until_ended, until_limit}
 use Rattle.acvp_commands.proofs.serving.serve_connections.Goals.{then-branch, else-branch}
 use Rattle.acvp_commands.proofs.serving.serve_connections.Goals as goal
 
@@ -17,27 +16,24 @@ returns-then-are_all-clause-was_clean g c =
     c.loop-arrived.invariant.served).1
 
 pub returns-in_err-serve_next-clause-was_open : goal.returns-in_err-serve_next-clause-was_open
-returns-in_err-serve_next-clause-was_open g c =
-    let same = ap (λ (desk : DeskValue g.row.T.Denot). desk.tables) c.in_err-serve_next.ensures.next.2 in
-    λ live. (served_open g.T.Tables.meaning g.L.Listener.listening g.L.Input.Source.stream g.L.Output.Sink.stream c.args.desk.now.keys
-    c.loop-arrived._arrived c.loop-arrived.served c.args.listener.now c.args.desk.now.tables c.loop-arrived.listener c.loop-arrived.desk.tables
-    c.loop-arrived.invariant.served).0 (rw same at live)
+returns-in_err-serve_next-clause-was_open g c = (ended_open g.T.Tables.meaning g.L.Listener.listening g.L.Input.Source.stream g.L.Output.Sink.stream
+    c.args.desk.now.keys c.loop-arrived.desk.keys c.loop-arrived._arrived c.loop-arrived.served c.args.listener.now c.args.desk.now.tables
+    c.loop-arrived.listener c.serve_next.new.listener c.loop-arrived.desk c.serve_next.new.desk c.in_err-serve_next.field-0.0
+    c.loop-arrived.invariant.served c.in_err-serve_next.ensures.next).0
 
 pub returns-in_err-serve_next-clause-was_clean : goal.returns-in_err-serve_next-clause-was_clean
-returns-in_err-serve_next-clause-was_clean g c =
-    let same = ap (λ (desk : DeskValue g.row.T.Denot). desk.tables) c.in_err-serve_next.ensures.next.2 in
-    λ clean. (served_open g.T.Tables.meaning g.L.Listener.listening g.L.Input.Source.stream g.L.Output.Sink.stream c.args.desk.now.keys
-    c.loop-arrived._arrived c.loop-arrived.served c.args.listener.now c.args.desk.now.tables c.loop-arrived.listener c.loop-arrived.desk.tables
-    c.loop-arrived.invariant.served).1 (rw same at clean)
+returns-in_err-serve_next-clause-was_clean g c = (ended_open g.T.Tables.meaning g.L.Listener.listening g.L.Input.Source.stream g.L.Output.Sink.stream
+    c.args.desk.now.keys c.loop-arrived.desk.keys c.loop-arrived._arrived c.loop-arrived.served c.args.listener.now c.args.desk.now.tables
+    c.loop-arrived.listener c.serve_next.new.listener c.loop-arrived.desk c.serve_next.new.desk c.in_err-serve_next.field-0.0
+    c.loop-arrived.invariant.served c.in_err-serve_next.ensures.next).1
 
 pub returns-in_err-serve_next-clause-served : goal.returns-in_err-serve_next-clause-served
 returns-in_err-serve_next-clause-served g c =
-    let (accepts, stops, same) = c.in_err-serve_next.ensures.next in
-    let stopped = until_stopped g.T.Tables.meaning g.L.Listener.listening g.L.Input.Source.stream g.L.Output.Sink.stream c.turns_are_promised.ensures
-    c.turns_leave.ensures c.args.desk.now.keys (omega (arith, c.newest_epoch.ensures)) c.args.count
+    let ended = until_ended g.T.Tables.meaning g.L.Listener.listening g.L.Input.Source.stream g.L.Output.Sink.stream c.turns_are_promised.ensures
+    c.turns_leave.ensures c.args.desk.now.keys (omega (arith, c.newest_epoch.ensures)) c.loop-arrived.desk.keys c.args.count
     c.loop-arrived._arrived c.loop-arrived.served c.args.listener.now c.args.desk.now.tables c.loop-arrived.listener c.serve_next.new.listener
-    c.loop-arrived.desk.tables c.serve_next.new.desk.tables c.in_err-serve_next.field-0.0
-    c.loop-arrived.invariant.served (ap (λ (desk : DeskValue g.row.T.Denot). desk.tables) same) accepts stops in
+    c.loop-arrived.desk c.serve_next.new.desk c.in_err-serve_next.field-0.0 c.loop-arrived.invariant.served c.loop-arrived.invariant.keys
+    c.in_err-serve_next.ensures.next in
     search rules
 
 pub overflow_add-served : goal.overflow_add-served
@@ -49,12 +45,12 @@ overflow_add-served g c =
 
 pub loop-arrived-preserved : goal.loop-arrived-preserved
 loop-arrived-preserved g c =
-    let (visit, is_connection, serves) = c.in_ok-serve_next.ensures.next in record {
+    let (visit, is_connection, on, serves) = c.in_ok-serve_next.ensures.next in record {
       keys = c.serve_next.ensures.keys ∙ c.loop-arrived.invariant.keys;
       served = served_more g.T.Tables.meaning g.L.Listener.listening g.L.Input.Source.stream g.L.Output.Sink.stream
           c.args.desk.now.keys c.loop-arrived.desk.keys c.loop-arrived._arrived c.loop-arrived.served c.if-branch.served
           visit c.args.listener.now c.args.desk.now.tables c.loop-arrived.listener c.loop-arrived.desk.tables c.serve_next.new.listener
-          c.serve_next.new.desk.tables c.loop-arrived.invariant.served c.loop-arrived.invariant.keys serves
+          c.serve_next.new.desk.tables c.loop-arrived.invariant.served c.loop-arrived.invariant.keys serves on
           (elim c.if-branch.branch [
             | then-branch w ↦ w.served-is ∙ rw (is_connection, w.if-branch.true) (omega arith)
             | else-branch w ↦ w.served-is ∙ rw (is_connection, w.if-branch.false) (omega arith)

@@ -1,47 +1,30 @@
+use Rattle.std.proofs.Common.{Some, None, inr, refl}
 use Rattle.acvp_commands.proofs.serving.serve_next.Goals as goal
 
-pub returns-in-Connection-clause-next : goal.returns-in-Connection-clause-next
-returns-in-Connection-clause-next g c =
-    let (visit, is_connection, turn, goes, happen) = c.serve_request-served.ensures.turn in (
-      visit,
-      is_connection,
-      record {
-        served = rw is_connection (record {
-          taken = c.in-Connection.taken;
-          mid = c.accept.new.self;
-          input = c.serve_request-served.new.input;
-          output = c.serve_request-served.new.output;
-          result = c.serve_request-served.result;
-          moment = c.seconds_of-moment.result;
-          takes = (rw c.in-Connection.is at c.in_ok-taken.ensures.taken).0;
-          clock = c.seconds_of-moment.ensures;
-          serves = c.serve_request-served.ensures.serves;
-          read = c.serve_request-served.ensures.read_fault;
-          written = c.serve_request-served.ensures.write_fault;
-          turn = turn;
-          ends = rw c.is_ok.ensures.value at c.end.ensures;
-        });
-        goes = goes;
-        happen = happen;
-      },
+pub returns-in-Ok-clause-next : goal.returns-in-Ok-clause-next
+returns-in-Ok-clause-next g c =
+    let (came, is, serves) = c.in_ok-served.ensures.next in
+    let (look, handled, answers) = c.in-Ok.ensures.looked in (
+      record { came = came; look = Some look },
+      is,
+      answers,
+      (c.serve_arrival.new.desk.tables, rw c.if-served.true at serves, rw c.serve_arrival.ensures.keys at handled),
     )
 
-pub returns-in-Order-clause-next : goal.returns-in-Order-clause-next
-returns-in-Order-clause-next g c =
-    let (visit, is_order, turn, goes, happen) = c.order_at-outcome.ensures.turn in (
-      visit,
-      is_order,
-      record {
-        served = rw is_order (record {
-          line = c.in-Order.line;
-          asker = c.in-Order.asker;
-          mid = c.accept.new.self;
-          outcome = c.order_at-outcome.result;
-          takes = (rw c.in-Order.is at c.in_ok-taken.ensures.taken).0;
-          turn = rw c.deref.ensures.value at turn;
-          tells = c.tell.ensures;
-        });
-        goes = goes;
-        happen = happen;
-      },
+pub returns-in-Err-clause-next : goal.returns-in-Err-clause-next
+returns-in-Err-clause-next g c =
+    let (came, is, serves) = c.in_ok-served.ensures.next in
+    let (look, handled, (fault, shut)) = c.in-Err.ensures.looked in
+    inr (
+      fault,
+      (
+        record { came = came; look = Some look },
+        (look, refl, shut),
+        (c.serve_arrival.new.desk.tables, rw c.if-served.true at serves, rw c.serve_arrival.ensures.keys at handled),
+      ),
     )
+
+pub returns-else-served-clause-next : goal.returns-else-served-clause-next
+returns-else-served-clause-next g c =
+    let (came, is, serves) = c.in_ok-served.ensures.next in
+    (record { came = came; look = None }, is, tt, (c.serve_arrival.new.desk.tables, rw c.if-served.false at serves, refl))
