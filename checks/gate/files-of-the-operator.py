@@ -1,10 +1,11 @@
-"""The files of a laboratory in its operator's hands: whole backups while it is served, the way back from one, and who
-may read what is made.
+"""The files of a laboratory in its operator's hands: whole backups while it is served, the way back from one, who may
+read what is made, and why a command failed.
 
     files-of-the-operator.py PROGRAM [KILLS]
 
 KILLS is how often a restore is killed at some moment: 40 without it."""
 import contextlib
+import fcntl
 import hashlib
 import os
 import random
@@ -12,13 +13,14 @@ import resource
 import shutil
 import sqlite3
 import stat
+import struct
 import subprocess
 import sys
 import tempfile
 import threading
 import time
 
-from laboratory import Laboratory, expect, free_port
+from laboratory import Laboratory, expect, free_port, within_a_step
 import laboratory
 
 EMPTY_LOG = 41
@@ -264,6 +266,202 @@ def foreign_files(lab):
     expect("the foreign files, and what is beside them", files(lab), before)
 
 
+# ---- why a command failed
+
+
+SERVED = "a server has it, and answers at its socket (-orders)"
+STORE = "the store refused a statement (a full disk, a folder that can't be written to), or met a page or a row"
+KEY = "ab" * 32
+
+
+def held(lab):
+    """The sums of all files in the folder, but of no log that holds nothing: each command begins that anew."""
+    return {name: total for name, total in files(lab).items() if not name.endswith("-wal") or len(bytes_of(lab.path(name))) > EMPTY_LOG}
+
+
+def because(lab, word, cause, *args, what="", stays=True, **more):
+    """With --verbose a command fails as without, and says why on a second line. It leaves the files as without."""
+    lab.fails(word, *args, what=what, **more)
+    before, names = held(lab), sorted(os.listdir(lab.folder))
+    expect(f"the command {args} {what} with --verbose", lab.run(*args, "--verbose", **more),
+           (1, "", f"fault: {word}\n" + (f"because: {cause}\n" if cause else "")))
+    if stays:
+        expect(f"the files behind {args} {what}", (held(lab), sorted(os.listdir(lab.folder))), (before, names))
+
+
+def changed(lab, name, *statements):
+    """A copy of the database in which SQLite has carried statements out."""
+    path = lab.path(name)
+    shutil.copy(lab.db, path)
+    with contextlib.closing(sqlite3.connect(path)) as connection, connection:
+        for statement in statements:
+            connection.execute(statement)
+    return path
+
+
+def disable(path, account=1):
+    return ["account-disable", "--db", path, "--account", str(account)]
+
+
+def serving(lab, path, keys=None):
+    return ["serve", "--db", path, "--keys", keys or lab.keys, "--port", str(free_port()), "--count", "1"]
+
+
+def why_a_database_is_unavailable(lab):
+    """Each cause by itself, made here: what has the path, who has the file, what is beside it, and what it holds."""
+    lab.add(1)
+    lab.does("backed up", *backup(lab))
+    gone = lab.path("gone.db")
+    for command in (disable(gone), ["migrate", "--db", gone], serving(lab, gone), backup(lab, "b.db", gone),
+                    ["account-add", "--db", gone, "--account", "2", "--secret", lab.path("secret-1")]):
+        because(lab, "unavailable", "--db: there is no such file", *command)
+    because(lab, "unavailable", "--from: there is no such file", *restore(lab, "gone.db"))
+    missing = "it can't be opened: No such file or directory (os error 2)"
+    because(lab, "unavailable", f"--db: {missing}", "init", "--db", lab.path("nowhere/a.db"))
+    because(lab, "unavailable", f"--to: {missing}", *backup(lab, "nowhere/b.db"))
+    os.mkdir(lab.path("folder"))
+    because(lab, "unavailable", "--db: it is no regular file", *disable(lab.path("folder")))
+    # who has it
+    with open(lab.db, "r+b") as file:
+        # a lock of this open of the file, which the close of another leaves
+        fcntl.fcntl(file, fcntl.F_OFD_SETLK, struct.pack("@hhqqi4x", fcntl.F_WRLCK, os.SEEK_SET, 1 << 30, 512, 0))
+        for command in (disable(lab.db), ["init", "--db", lab.db], restore(lab)):
+            because(lab, "unavailable", "--db: another process has it", *command, what="of a locked file")
+    lab.serve(count=None)
+    for command in (["init", "--db", lab.db], ["migrate", "--db", lab.db], serving(lab, lab.db), restore(lab)):
+        because(lab, "unavailable", f"--db: {SERVED}", *command, what="of a file that is served")
+    lab.kill()
+    lab.fails("unknown", *disable(lab.db, 2))
+    # who may open it
+    if os.geteuid() == 0:
+        os.chmod(lab.folder, 0o755)
+        other = {"user": 65534, "group": 65534}
+        denied = "it can't be opened: Permission denied (os error 13)"
+        because(lab, "unavailable", f"--db: {denied}", *disable(lab.db), what="by another user", **other)
+        because(lab, "unavailable", f"--db: {denied}", *backup(lab, "b.db"), what="by another user", **other)
+        because(lab, "keys", f"--keys: {denied}", "script", "--keys", lab.keys, what="by another user", **other)
+        because(lab, "secret", f"--secret: {denied}", "account-add", "--db", lab.db, "--account", "2", "--secret",
+                lab.path("secret-1"), what="by another user", **other)
+        because(lab, "unavailable", "--db: it can't be made in its folder", "init", "--db", gone, what="by another user", **other)
+        os.chmod(lab.folder, 0o700)
+    else:
+        print("skipped: what another user may not open (only root may become one)")
+    # what is beside it
+    os.link(lab.db, lab.path("name"))
+    because(lab, "unavailable", "--db: it has 2 names (hard links), and may have one", *disable(lab.db))
+    os.remove(lab.path("name"))
+    lab.write(lab.db + "-journal", "x")
+    because(lab, "unavailable", "--db: a journal is beside it (-journal), which sqlite3 has to settle", *disable(lab.db))
+    os.remove(lab.db + "-journal")
+    os.link(lab.db + "-wal", lab.path("name"))
+    because(lab, "unavailable", "--db, its log (-wal): it has 2 names (hard links), and may have one", *disable(lab.db))
+    os.remove(lab.path("name"))
+    # what it holds
+    because(lab, "unavailable", "--db: it has tables already", "init", "--db", lab.db)
+    text = lab.write(lab.path("text"), "this is no database\n")
+    lab.write(lab.path("empty"), "")
+    for command in (disable(text), ["init", "--db", text], backup(lab, "b.db", text), backup(lab, "b.db", lab.path("empty")),
+                    restore(lab, db=text)):
+        because(lab, "unavailable", "--db: it is no database", *command)
+    because(lab, "unavailable", "--from: it is no database", *restore(lab, "text"))
+    whole = bytes_of(lab.path("backup.db"))
+    lab.write(lab.path("cut.db"), whole[:20000])
+    cut = f"it is cut: it has 20000 bytes of {len(whole)}"
+    because(lab, "unavailable", f"--db: {cut}", *disable(lab.path("cut.db")), stays=False)
+    lab.write(lab.path("cut.db"), whole[:20000])
+    because(lab, "unavailable", f"--from: {cut}", *restore(lab, "cut.db"))
+    lab.write(lab.path("spoilt.db"), whole[:4096] + bytes(len(whole) - 4096))
+    because(lab, "unavailable", f"--db: {STORE} of account that stands for nothing", *disable(lab.path("spoilt.db")), stays=False)
+    stray = changed(lab, "stray.db", "UPDATE account SET secret = X'00'")
+    because(lab, "unavailable", f"--db: {STORE} of account that stands for nothing", *disable(stray), stays=False)
+    # a statement that the system refuses
+    full = {"preexec_fn": lambda: resource.setrlimit(resource.RLIMIT_FSIZE, (1000, 1000)), "restore_signals": False}
+    because(lab, "unavailable", f"--db: {STORE} of account that stands for nothing", *disable(lab.db), what="on a full disk",
+            stays=False, **full)
+    lab.does("account 1 disabled", *disable(lab.db))
+    # a server's own fault, of an order that it was given
+    lab.db = stray
+    lab.serve(count=None)
+    told = STORE.replace("the store", "its server's store").replace(" (a full disk, a folder that can't be written to)", "")
+    because(lab, "unavailable", f"--db: {told} that stands for nothing", *disable(stray), what="by a server")
+    lab.kill()
+    # a log without its file
+    os.rename(lab.path("backup.db"), lab.path("kept.db"))
+    lab.db = lab.path("kept.db")
+    lab.serve(count=None)
+    lab.add(3)
+    lab.kill()
+    lab.does("backed up", *backup(lab))
+    os.remove(lab.db)
+    because(lab, "unavailable", "--db: there is no such file, but its log (-wal) holds records", *restore(lab))
+
+
+def why_a_text_is_refused(lab):
+    """Each fault of keys and of a secret by itself. Of the text nothing is told but numbers."""
+    line, token, seed = KEY + "\n", f"token {KEY}\n", f"seed {KEY}\n"
+    plain = [("it has carriage returns (CR LF), where a line ends with a line feed alone", "\r\n"),
+             ("its last line ends without a line feed", "")]
+    texts = [(cause, line + KEY + end) for cause, end in plain]
+    texts += [(f"it has {count} lines, and is to have 2", line * count) for count in (0, 1, 3)]
+    texts += [("line 1 has 63 digits, and is to have 64", KEY[1:] + "\n" + line), ("line 2 has 65 digits, and is to have 64", line + "a" + line),
+              ("line 2 has 0 digits, and is to have 64", line + "\n"), ("line 2 has something else than hex digits", line + "g" + KEY[1:] + "\n"),
+              ("its last line ends without a line feed", token + seed[:-1]), (plain[0][0], token + seed.replace("\n", "\r\n")),
+              ("line 2 is a key behind a seed", seed + token), ("line 2 begins with neither token nor seed", token + line + seed),
+              ("line 1 has 62 digits, and is to have 64", f"token {KEY[2:]}\n" + seed), ("its last key is retired", token + "token -\n" + seed)]
+    texts += [(f"it has {keys} lines of keys and {seeds} of seeds, and is to have 1 to 16 of each", token * keys + seed * seeds)
+              for keys, seeds in ((1, 0), (0, 1), (17, 1), (1, 17))]
+    for cause, text in texts:
+        lab.write(lab.path("some-keys"), text)
+        because(lab, "keys", f"--keys: {cause}", "script", "--keys", lab.path("some-keys"), what=f"with the text {text!r}")
+    because(lab, "keys", f"--keys: {texts[-1][0]}", *serving(lab, lab.db, lab.path("some-keys")))
+    because(lab, "keys", "--keys: there is no such file", "script", "--keys", lab.path("no-keys"))
+    because(lab, "keys", "--keys: it can't be opened: Is a directory (os error 21)", "script", "--keys", lab.folder)
+    of_secret = ["account-add", "--db", lab.db, "--account", "1", "--secret", lab.path("some-secret")]
+    because(lab, "secret", "--secret: there is no such file", *of_secret)
+    texts = [(cause, KEY + end) for cause, end in plain] + [(f"it has {count} lines, and is to have 1", line * count) for count in (0, 2)]
+    texts += [("line 1 has 63 digits, and is to have 64", KEY[1:] + "\n"), ("line 1 has something else than hex digits", "-" + KEY[1:] + "\n")]
+    for cause, text in texts:
+        lab.write(lab.path("some-secret"), text)
+        because(lab, "secret", f"--secret: {cause}", *of_secret, what=f"with the text {text!r}")
+    # a vector set's seed
+    lab.add(1)
+    lab.write(lab.path("two-seeds"), token + seed + seed)
+    lab.write(lab.path("one-seed"), token + seed)
+    lab.serve(count=None, keys=lab.path("two-seeds"))
+    within_a_step(5)
+    lab.must("POST", "/testSessions", lab.token(1), {"algorithms": [{"algorithm": "SHA2-256", "revision": "1.0", "messageLength": [8]}]})
+    lab.kill()
+    because(lab, "keys", "--keys: a vector set names a seed that isn't in it", *serving(lab, lab.db, lab.path("one-seed")), stays=False)
+
+
+def what_verbose_leaves(lab):
+    """A word that says all has no second line, a command that succeeds prints what it prints, and --log is for serve alone."""
+    lab.add(1)
+    other = changed(lab, "other.db", "CREATE TABLE other (a)")
+    for word, command in [("schema", disable(other)), ("unknown", disable(lab.db, 2)), ("taken", backup(lab, "laboratory.db")),
+                          ("taken", ["account-add", "--db", lab.db, "--account", "1", "--secret", lab.path("secret-1")]),
+                          ("unknown", ["request-reject", "--db", lab.db, "--request", "7"]),
+                          ("syntax", ["script", "--keys", lab.keys])]:
+        more = {"input": "nothing\n"} if word == "syntax" else {}
+        if more:
+            done = subprocess.run([lab.program, *command, "--verbose"], capture_output=True, text=True, **more)
+            expect("a script with --verbose", (done.returncode, done.stdout, done.stderr), (1, "", "fault: syntax\n"))
+        else:
+            because(lab, word, None, *command)
+    for told, command in [("ready", ["init", "--db", lab.path("a.db")]), ("schema 3", ["migrate", "--db", lab.db]),
+                          ("account 1 disabled", disable(lab.db)), ("backed up", backup(lab)), ("restored", restore(lab))]:
+        lab.does(told, *command, "--verbose")
+    lab.serve(count=1, more=["--verbose"])
+    lab.ask(b"GET / HTTP/1.1\r\n\r\n")
+    lab.served(1)
+    for command in ("init", "migrate", "account-add", "account-disable", "request-approve", "request-reject", "serve", "backup",
+                    "restore", "script"):
+        status, output, faults = lab.run(command, "--help")
+        expect(f"the help of {command}", (status, "--verbose" in output, "--log" in output, faults), (0, True, command == "serve", ""))
+        if command != "serve":
+            expect(f"{command} with --log", lab.run(command, "--log")[:2], (2, ""))
+
+
 # ---- a machine that gives little
 
 
@@ -298,7 +496,8 @@ def main():
         killed_restores(lab, kills)
 
     killed.__name__ = "killed_restores"
-    for part in (backups_while_nobody_serves, backups_while_serving, restores, killed, what_others_may_read, foreign_files, little_stack):
+    for part in (backups_while_nobody_serves, backups_while_serving, restores, killed, what_others_may_read, foreign_files,
+                 why_a_database_is_unavailable, why_a_text_is_refused, what_verbose_leaves, little_stack):
         with tempfile.TemporaryDirectory() as folder:
             lab = Laboratory(program, folder)
             lab.does("ready", "init", "--db", lab.db)

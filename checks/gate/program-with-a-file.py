@@ -233,6 +233,42 @@ def no_connection_can_be_taken(lab):
     raise SystemExit("serving doesn't begin with 31 open files")
 
 
+def serve_without_room(lab):
+    """Serves without an end, and from then on the disk has no room for what is written."""
+    lab.port = free_port()
+    # the limit is told as an error of the write, since the signal that goes with it stays ignored
+    lab.process = subprocess.Popen([lab.program, "serve", "--db", lab.db, "--keys", lab.keys, "--port", str(lab.port)],
+                                   stdin=subprocess.DEVNULL, stdout=subprocess.PIPE, stderr=subprocess.PIPE,
+                                   restore_signals=False)
+    expect("the first line of serve", lab.process.stdout.readline(), b"listening 127.0.0.1:%d\n" % lab.port)
+    resource.prlimit(lab.process.pid, resource.RLIMIT_FSIZE, (0, 0))
+
+
+def ends_unavailable(lab):
+    output, faults = lab.process.communicate(timeout=60)
+    expect("serving ends where its store is shut", (lab.process.returncode, output, faults),
+           (1, b"", b"fault: unavailable\n"))
+    lab.process = None
+
+
+def a_disk_without_room(lab):
+    """A write that fails shuts the store. Who asked is told that the server is unavailable, client or operator, and
+    serving ends, so that whoever watches it starts it anew. Nothing was changed, and the code is still good."""
+    lab.add(25)
+    within_a_step(10)
+    serve_without_room(lab)
+    expect("a login without room", lab.login(25), (503, {"error": "unavailable"}))
+    ends_unavailable(lab)
+    lab.serve(1)
+    lab.token(25)
+    lab.served(1)
+    serve_without_room(lab)
+    expect("a request that writes nothing", lab.call("GET", "/algorithms", "none")[0], 401)
+    lab.fails("unavailable", "account-disable", "--db", lab.db, "--account", "25")
+    ends_unavailable(lab)
+    lab.does("account 25 disabled", "account-disable", "--db", lab.db, "--account", "25")
+
+
 # ---- the life of a laboratory
 
 
@@ -620,9 +656,10 @@ def documents(lab):
     other.kill()
     rest = [line for line in lines[place:] if "account-disable" not in line]
     output = shell(other, rest, folder)
-    wanted = ["request 7000001 approved /acvp/v1/vendors/7000001\n", "request 7000002 rejected\n", "backed up\n", "restored\n", "schema 3\n"]
+    wanted = ["7 enabled sessions 0 requests 2 ", "7000002 account 7 vendor initial\n",
+              '7000001 account 7 vendor initial\n{"name":"Vendor one"}\n', "request 7000001 approved /acvp/v1/vendors/7000001\n", "request 7000002 rejected\n", "backed up\n", "restored\n", "schema 3\n"]
     if shutil.which("sqlite3"):
-        wanted += ['vendor  {"name":"Vendor two"}', "ok\n"]
+        wanted += ["ok\n"]
     for part in wanted:
         expect(f"{part!r} in what the operator's commands print: {output}", part in output, True)
     for keys in ("ring.txt", "ring-2.txt"):
@@ -767,8 +804,8 @@ def made(program, folder):
     return lab
 
 
-PARTS = [refused_lines, files_that_are_none, made_once, orders, faults_in_their_order, no_connection_can_be_taken, certified,
-         rows_of_each_kind, rows_that_stand_for_nothing, keys_that_change, clients_that_break_off,
+PARTS = [refused_lines, files_that_are_none, made_once, orders, faults_in_their_order, no_connection_can_be_taken,
+         a_disk_without_room, certified, rows_of_each_kind, rows_that_stand_for_nothing, keys_that_change, clients_that_break_off,
          at_its_address_and_moment, large_bodies, backlog, by_curl, documents, whole_validation]
 
 

@@ -148,13 +148,14 @@ class Laboratory:
 
     # ---- what is served
 
-    def serve(self, count=1000000, keys=None, port=None, more=()):
-        """Serves so many connections, or without an end, from the moment on that the program says so."""
+    def serve(self, count=1000000, keys=None, port=None, more=(), faults=subprocess.PIPE):
+        """Serves so many connections, or without an end, from the moment on that the program says so. What it says on
+        standard error goes to a pipe, or to a file."""
         self.port = port or free_port()
         args = ["serve", "--db", self.db, "--keys", keys or self.keys, "--port", str(self.port), *more]
         args += ["--count", str(count)] if count is not None else []
         self.process = subprocess.Popen([self.program, *args], stdin=subprocess.DEVNULL, stdout=subprocess.PIPE,
-                                        stderr=subprocess.PIPE)
+                                        stderr=faults)
         expect("the first line of serve", self.process.stdout.readline(), b"listening 127.0.0.1:%d\n" % self.port)
 
     def served(self, count):

@@ -1,5 +1,5 @@
 // Shows the number in the file CLOCK as the seconds since 1970. It is preloaded into the built program, for the checks
-// every-action, accounts-apart, each-growth-refused and damaged-rows. It takes no memory, so that each growth is one of
+// every-action, accounts-apart, each-growth-refused, damaged-rows and what-is-logged. It takes no memory, so that each growth is one of
 // the program's own.
 #define _GNU_SOURCE
 #include <dlfcn.h>

@@ -1,1 +1,4 @@
 pub mod Faults
+pub mod Pages
+pub mod Rules
+pub mod Texts

@@ -9,7 +9,7 @@ pub(crate) const LOG_HEADER: usize = 32;
 const MAGIC: &[u8] = b"SQLite format 3\0";
 
 /// The first bytes of a file, as many as there is room for, and how many there are.
-fn begin_of(rt: &HostRuntime, path: &str, begin: &mut [u8]) -> io::Result<usize> {
+pub(crate) fn begin_of(rt: &HostRuntime, path: &str, begin: &mut [u8]) -> io::Result<usize> {
     let mut file = File::open(rt, path)?;
     let mut count = 0;
     for _ in 0..LOG_HEADER {

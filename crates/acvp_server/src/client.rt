@@ -1,5 +1,7 @@
 //! One client of a port, or of the socket of orders: what it asks for comes, is served, and the answer goes out, without
 //! anybody waiting for it.
+ghost use Rattle.std.specs.Prelude.{◌≤◌, IfOk, length};
+
 use acvp_http::{HEAD_BYTES, needed_bytes};
 use mio::net::{TcpStream, UnixStream};
 use mio::{Interest, Poll, Token};
@@ -12,6 +14,9 @@ const LINE_BYTES: usize = 128;
 
 /// The most bytes that are taken of a connection behind its reply.
 const MOST_DROPPED: usize = 4194304;
+
+/// How many bytes of an answer's front are kept where they are asked for.
+const FRONT_BYTES: usize = 1024;
 
 /// How many bytes are read at once.
 const CHUNK: usize = 8192;
@@ -208,6 +213,16 @@ pub(crate) enum Incoming {
     Broken,
 }
 
+impl Incoming {
+    /// All the bytes that came, also those that were read; none of a connection that is broken.
+    pub(crate) fn bytes(&self) -> Option<&[u8]> {
+        match self {
+            Incoming::Bytes(bytes) => Some(bytes.get_ref().as_slice()),
+            Incoming::Broken => None,
+        }
+    }
+}
+
 impl Read for Incoming {
     fn read(&mut self, buf: &mut [u8]) -> io::Result<usize> {
         match self {
@@ -231,11 +246,42 @@ fn came(alloc: Global, stage: Stage) -> Vec<u8> {
 pub(crate) struct Outgoing {
     wire: Wire,
     rest: Vec<u8>,
+
+    /// The first bytes of the answer, where they are kept.
+    front: Option<Vec<u8>>,
 }
 
-impl Write for Outgoing {
-    fn write(&mut self, buf: &[u8]) -> io::Result<usize> {
-        let Outgoing { wire, rest } = self;
+impl Outgoing {
+    /// Has the first bytes of the answer kept.
+    pub(crate) fn keep_front(&mut self, alloc: Global) {
+        self.front = Some(Vec::new(alloc));
+    }
+
+    /// The first bytes of the answer, where they are kept.
+    pub(crate) fn front(&self) -> &[u8] {
+        match &self.front {
+            Some(front) => front.as_slice(),
+            None => &[],
+        }
+    }
+
+    /// Keeps of these bytes what belongs to the front.
+    fn note(&mut self, bytes: &[u8]) {
+        if let Some(front) = &mut self.front {
+            let room = FRONT_BYTES.saturating_sub(front.len());
+            let _ = front.extend_from_slice(bytes.get(..room).unwrap_or(bytes));
+        }
+    }
+
+    /// Takes as many of these bytes as the client does at once, or keeps them all.
+    fn take(&mut self, buf: &[u8]) -> io::Result<usize>
+        ensures { IfOk result (λ count. count ≤ length buf.now) }
+    {
+        let Outgoing {
+            wire,
+            rest,
+            front: _,
+        } = self;
         if rest.is_empty() {
             match wire.write(buf) {
                 Movement::Bytes(count) => return Ok(count.min(buf.len())),
@@ -247,6 +293,16 @@ impl Write for Outgoing {
             Ok(()) => Ok(buf.len()),
             Err(_) => Err(ErrorKind::OutOfMemory.into()),
         }
+    }
+}
+
+impl Write for Outgoing {
+    fn write(&mut self, buf: &[u8]) -> io::Result<usize> {
+        let count = self.take(buf)?;
+        if self.front.is_some() {
+            self.note(buf.get(..count).unwrap_or(buf));
+        }
+        Ok(count)
     }
 
     fn flush(&mut self) -> io::Result<()> {
@@ -263,6 +319,7 @@ pub(crate) enum Errand {
 /// The same, where all that it asks for came, or its connection is broken.
 fn errand_of(alloc: Global, wire: Wire, bytes: Vec<u8>, whole: bool) -> Errand {
     let rest = Vec::new(alloc);
+    let front = None;
     match wire {
         Wire::Request(stream) => {
             let input = if whole {
@@ -271,11 +328,11 @@ fn errand_of(alloc: Global, wire: Wire, bytes: Vec<u8>, whole: bool) -> Errand {
                 Incoming::Broken
             };
             let wire = Wire::Request(stream);
-            Errand::Request(input, Outgoing { wire, rest })
+            Errand::Request(input, Outgoing { wire, rest, front })
         }
         Wire::Order(stream) => {
             let wire = Wire::Order(stream);
-            Errand::Order(bytes, Outgoing { wire, rest })
+            Errand::Order(bytes, Outgoing { wire, rest, front })
         }
     }
 }
@@ -291,7 +348,11 @@ impl Client {
 
     /// A client whose answer was written, but for what is kept of it.
     pub(crate) fn answered(output: Outgoing) -> Client {
-        let Outgoing { wire, rest } = output;
+        let Outgoing {
+            wire,
+            rest,
+            front: _,
+        } = output;
         Client {
             wire,
             stage: Stage::Going(rest, 0),

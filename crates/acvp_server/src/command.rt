@@ -2,6 +2,15 @@
 use clap::{Arg, ArgAction, Command};
 use std::alloc::{AllocError, Global};
 
+/// The flag by which a command that fails says why.
+pub(crate) const VERBOSE: &str = "verbose";
+
+/// The flag by which a line is written for each event that is served.
+pub(crate) const LOG: &str = "log";
+
+/// The flag by which all requests are shown.
+pub(crate) const ALL: &str = "all";
+
 /// An option that a subcommand has.
 struct Wanted {
     /// Its name.
@@ -10,11 +19,24 @@ struct Wanted {
     /// The name of its value.
     value: &'static str,
 
-    /// What its value is.
+    /// What its value is, or what a flag asks for.
     help: &'static str,
 
-    /// Whether it may be left out.
-    is_optional: bool,
+    /// How it is given.
+    form: Form,
+}
+
+/// How an option is given.
+#[derive(Clone, Copy)]
+enum Form {
+    /// With a value, always.
+    Needed,
+
+    /// With a value, or not at all.
+    Optional,
+
+    /// Without a value, or not at all.
+    Flag,
 }
 
 /// A subcommand.
@@ -36,109 +58,148 @@ const DB_OPTION: Wanted = Wanted {
     name: "db",
     value: "FILE",
     help: "The file of the records, as laboratory.db",
-    is_optional: false,
+    form: Form::Needed,
 };
 
 const KEYS_OPTION: Wanted = Wanted {
     name: "keys",
     value: "FILE",
     help: "The file of the token keys and the generator's seeds, as keys.txt: lines of 64 hex digits",
-    is_optional: false,
+    form: Form::Needed,
 };
 
 const ACCOUNT_OPTION: Wanted = Wanted {
     name: "account",
     value: "N",
     help: "The account's number, 1 to 9999, as 7",
-    is_optional: false,
+    form: Form::Needed,
 };
 
 const REQUEST_OPTION: Wanted = Wanted {
     name: "request",
     value: "N",
     help: "The request's number, 1 to 9999999999, as 7000001",
-    is_optional: false,
+    form: Form::Needed,
 };
 
 const SECRET_OPTION: Wanted = Wanted {
     name: "secret",
     value: "FILE",
     help: "The file of the account's secret, as secret.txt: one line of 64 hex digits",
-    is_optional: false,
+    form: Form::Needed,
 };
 
 const PORT_OPTION: Wanted = Wanted {
     name: "port",
     value: "P",
     help: "The port of 127.0.0.1, 1 to 65535, as 8080",
-    is_optional: false,
+    form: Form::Needed,
 };
 
 const COUNT_OPTION: Wanted = Wanted {
     name: "count",
     value: "C",
     help: "After how many connections it ends, 1 to 1000000, as 1000; without it, it goes on",
-    is_optional: true,
+    form: Form::Optional,
 };
 
 const PATIENCE_OPTION: Wanted = Wanted {
     name: "patience",
     value: "SECONDS",
     help: "How many seconds a client is waited for, from its coming until its close, 1 to 3600; 30 without it",
-    is_optional: true,
+    form: Form::Optional,
 };
 
 const TO_OPTION: Wanted = Wanted {
     name: "to",
     value: "FILE",
     help: "The file that is made, as backup.db; none may be there",
-    is_optional: false,
+    form: Form::Needed,
 };
 
 const FROM_OPTION: Wanted = Wanted {
     name: "from",
     value: "FILE",
     help: "The backup, as backup.db",
-    is_optional: false,
+    form: Form::Needed,
+};
+
+const ALL_FLAG: Wanted = Wanted {
+    name: ALL,
+    value: "",
+    help: "Shows the requests that were decided, too",
+    form: Form::Flag,
+};
+
+const VERBOSE_FLAG: Wanted = Wanted {
+    name: VERBOSE,
+    value: "",
+    help: "Where the command fails, says why on a second line, as because: --db: there is no such file",
+    form: Form::Flag,
+};
+
+const LOG_FLAG: Wanted = Wanted {
+    name: LOG,
+    value: "",
+    help: "Writes a line to standard error for each request and order, as 1790000000 7 ReadAccount 200 ok 2",
+    form: Form::Flag,
 };
 
 /// The program's subcommands.
-static SUBCOMMANDS: [Subcommand; 10] = [
+static SUBCOMMANDS: [Subcommand; 13] = [
     Subcommand {
         name: "init",
         about: "Makes the tables in a file, which is made where it isn't there",
         example: "Example: acvp_server init --db laboratory.db",
-        options: &[DB_OPTION],
+        options: &[DB_OPTION, VERBOSE_FLAG],
     },
     Subcommand {
         name: "migrate",
         about: "Moves the tables in a file of an earlier version to today's schema, with all records",
         example: "Example: acvp_server migrate --db laboratory.db",
-        options: &[DB_OPTION],
+        options: &[DB_OPTION, VERBOSE_FLAG],
     },
     Subcommand {
         name: "account-add",
         about: "Adds an account, whose one-time codes come from its secret",
         example: "Example: acvp_server account-add --db laboratory.db --account 7 --secret secret.txt",
-        options: &[DB_OPTION, ACCOUNT_OPTION, SECRET_OPTION],
+        options: &[DB_OPTION, ACCOUNT_OPTION, SECRET_OPTION, VERBOSE_FLAG],
     },
     Subcommand {
         name: "account-disable",
         about: "Disables an account for good: its logins and its tokens are refused",
         example: "Example: acvp_server account-disable --db laboratory.db --account 7",
-        options: &[DB_OPTION, ACCOUNT_OPTION],
+        options: &[DB_OPTION, ACCOUNT_OPTION, VERBOSE_FLAG],
     },
     Subcommand {
         name: "request-approve",
         about: "Approves a request, and prints the URL of what it asked for",
         example: "Example: acvp_server request-approve --db laboratory.db --request 7000001",
-        options: &[DB_OPTION, REQUEST_OPTION],
+        options: &[DB_OPTION, REQUEST_OPTION, VERBOSE_FLAG],
     },
     Subcommand {
         name: "request-reject",
         about: "Rejects a request",
         example: "Example: acvp_server request-reject --db laboratory.db --request 7000001",
-        options: &[DB_OPTION, REQUEST_OPTION],
+        options: &[DB_OPTION, REQUEST_OPTION, VERBOSE_FLAG],
+    },
+    Subcommand {
+        name: "accounts",
+        about: "Shows each account and how many rows it has, also while the records are served",
+        example: "Example: acvp_server accounts --db laboratory.db",
+        options: &[DB_OPTION, VERBOSE_FLAG],
+    },
+    Subcommand {
+        name: "requests",
+        about: "Shows the requests that wait for a decision, also while the records are served",
+        example: "Example: acvp_server requests --db laboratory.db --all",
+        options: &[DB_OPTION, ALL_FLAG, VERBOSE_FLAG],
+    },
+    Subcommand {
+        name: "request-show",
+        about: "Shows what a decision on a request needs, also while the records are served",
+        example: "Example: acvp_server request-show --db laboratory.db --keys keys.txt --request 7000001",
+        options: &[DB_OPTION, KEYS_OPTION, REQUEST_OPTION, VERBOSE_FLAG],
     },
     Subcommand {
         name: "serve",
@@ -150,36 +211,43 @@ static SUBCOMMANDS: [Subcommand; 10] = [
             PORT_OPTION,
             COUNT_OPTION,
             PATIENCE_OPTION,
+            LOG_FLAG,
+            VERBOSE_FLAG,
         ],
     },
     Subcommand {
         name: "backup",
         about: "Copies the records to a new file, whole, also while they are served",
         example: "Example: acvp_server backup --db laboratory.db --to backup.db",
-        options: &[DB_OPTION, TO_OPTION],
+        options: &[DB_OPTION, TO_OPTION, VERBOSE_FLAG],
     },
     Subcommand {
         name: "restore",
         about: "Puts a backup in the place of the records, whole or not at all, while nobody serves them",
         example: "Example: acvp_server restore --from backup.db --db laboratory.db",
-        options: &[FROM_OPTION, DB_OPTION],
+        options: &[FROM_OPTION, DB_OPTION, VERBOSE_FLAG],
     },
     Subcommand {
         name: "script",
         about: "Runs a script from standard input over records in memory",
         example: "Example: acvp_server script --keys keys.txt < events",
-        options: &[KEYS_OPTION],
+        options: &[KEYS_OPTION, VERBOSE_FLAG],
     },
 ];
 
 /// An option of the command line.
 fn option<'a>(alloc: Global, wanted: &Wanted) -> Arg<'a> {
-    Arg::new(alloc, wanted.name)
+    let option = Arg::new(alloc, wanted.name)
         .long(wanted.name)
-        .value_name(wanted.value)
-        .help(wanted.help)
-        .required(!wanted.is_optional)
-        .action(ArgAction::Set)
+        .help(wanted.help);
+    match wanted.form {
+        Form::Needed => option
+            .value_name(wanted.value)
+            .required(true)
+            .action(ArgAction::Set),
+        Form::Optional => option.value_name(wanted.value).action(ArgAction::Set),
+        Form::Flag => option.action(ArgAction::SetTrue),
+    }
 }
 
 /// A subcommand of the command line, with its options.

@@ -6,12 +6,13 @@ use crate::begins::{header_of, is_database};
 use crate::database::{FileConnection, Unopened, connect_existing, copied};
 use crate::privacy::EMPTY_LOG;
 use acvp_commands::Fault;
-use acvp_store::adopt;
-use sqlite::Wary;
+use acvp_store::{SqlTables, adopt};
+use sqlite::{FileFrom, FileStore, Wary};
 use std::alloc::{AllocGlobal, Global};
 use std::fs::{self, File, OpenOptions};
 use std::io::{self, ErrorKind};
 use std::os::unix::fs::OpenOptionsExt;
+use std::time::{SystemTime, UNIX_EPOCH};
 
 /// How often a copy is begun anew, where the log was emptied meanwhile.
 const TRIES: u32 = 100;
@@ -49,7 +50,7 @@ fn is_there(rt: &HostRuntime, path: &str) -> io::Result<bool> {
 }
 
 /// Whether a log holds something.
-fn holds_any(rt: &HostRuntime, log: &str) -> io::Result<bool> {
+pub(crate) fn holds_any(rt: &HostRuntime, log: &str) -> io::Result<bool> {
     match fs::metadata(rt, log) {
         Ok(there) => Ok(there.len() > EMPTY_LOG),
         Err(error) if error.kind() == ErrorKind::NotFound => Ok(false),
@@ -124,15 +125,20 @@ fn connection_to(rt: &HostRuntime, path: &str) -> Result<FileConnection<Wary>, F
     }
 }
 
+/// Takes over the tables of this version.
+fn taken_over(rt: &HostRuntime, connection: FileConnection<Wary>) -> Result<FileTables, Fault> {
+    match adopt(rt.alloc(), connection) {
+        Ok(tables) => Ok(tables),
+        Err((_, fault)) => Err(Fault::from(fault)),
+    }
+}
+
 /// Takes over the tables of this version, and gives the connection to them back.
 fn with_tables(
     rt: &HostRuntime,
     connection: FileConnection<Wary>,
 ) -> Result<FileConnection<Wary>, Fault> {
-    match adopt(rt.alloc(), connection) {
-        Ok(tables) => Ok(tables.into_connection()),
-        Err((_, fault)) => Err(Fault::from(fault)),
-    }
+    Ok(taken_over(rt, connection)?.into_connection())
 }
 
 /// Copies what the log of a copy holds into its file, and takes the log away.
@@ -143,15 +149,24 @@ fn merge(rt: &HostRuntime, part: &Pair, connection: FileConnection<Wary>) -> Res
     done(remove(rt, part.log.as_str()))
 }
 
-/// Makes one whole file of a database, beside where it is to be. Where it is to be served, its tables must be those of
-/// this version.
-fn make_part(rt: &HostRuntime, from: &str, part: &Pair, is_served: bool) -> Result<(), Fault> {
+/// Copies a database, and opens the copy.
+fn connection_to_copy(
+    rt: &HostRuntime,
+    from: &str,
+    part: &Pair,
+) -> Result<FileConnection<Wary>, Fault> {
     let source = pair_at(rt.alloc(), from)?;
     if !done(is_database(rt, from))? && !done(holds_any(rt, source.log.as_str()))? {
         return Err(Fault::Unavailable);
     }
     done(copy_pair(rt, &source, part))?;
-    let mut connection = connection_to(rt, part.file.as_str())?;
+    connection_to(rt, part.file.as_str())
+}
+
+/// Makes one whole file of a database, beside where it is to be. Where it is to be served, its tables must be those of
+/// this version.
+fn make_part(rt: &HostRuntime, from: &str, part: &Pair, is_served: bool) -> Result<(), Fault> {
+    let mut connection = connection_to_copy(rt, from, part)?;
     if is_served {
         connection = with_tables(rt, connection)?;
     }
@@ -159,7 +174,7 @@ fn make_part(rt: &HostRuntime, from: &str, part: &Pair, is_served: bool) -> Resu
 }
 
 /// The folder of a path.
-fn folder_of(path: &str) -> &str {
+pub(crate) fn folder_of(path: &str) -> &str {
     match path.rsplit_once('/') {
         Some(("", _)) => "/",
         Some((folder, _)) => folder,
@@ -237,4 +252,38 @@ pub(crate) fn restore(rt: &HostRuntime, backup: &str, database: &str) -> Result<
     };
     give_up(rt, &part);
     outcome
+}
+
+/// The tables in a file.
+pub(crate) type FileTables = SqlTables<FileStore<FileFrom<Wary>>>;
+
+/// The copy in which a database is looked at. No other has its name: that has the moment to the billionth of a second.
+fn look_at(rt: &HostRuntime, path: &str) -> Result<Pair, Fault> {
+    let alloc = rt.alloc();
+    let moment = match SystemTime::now(rt) {
+        Ok(now) => match now.duration_since(UNIX_EPOCH) {
+            Ok(since) => since.as_nanos(),
+            Err(_) => 0,
+        },
+        Err(_) => 0,
+    };
+    Ok(Pair {
+        file: format!(in alloc; "{path}-look-{moment}")?,
+        log: format!(in alloc; "{path}-look-{moment}-wal")?,
+    })
+}
+
+/// The tables of a database's copy.
+fn tables_of(rt: &HostRuntime, from: &str, part: &Pair) -> Result<FileTables, Fault> {
+    let connection = connection_to_copy(rt, from, part)?;
+    taken_over(rt, connection)
+}
+
+/// The tables of a copy of a database, also while it is served. Its files have no names any more, so nothing of it is
+/// left when it is given up.
+pub(crate) fn tables_of_copy(rt: &HostRuntime, database: &str) -> Result<FileTables, Fault> {
+    let part = look_at(rt, database)?;
+    let tables = tables_of(rt, database, &part);
+    give_up(rt, &part);
+    tables
 }

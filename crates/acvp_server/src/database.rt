@@ -141,13 +141,18 @@ fn done_and_closed<S: Start>(
     connection: FileConnection<S>,
     work: Work,
     is_new_log: bool,
+    is_logged: bool,
 ) -> Result<Said, Fault>
     requires { IsWork work }
 {
     if is_new_log {
         keep_log_private(rt, path);
     }
-    let mut machine = Machine { rt, database: path };
+    let mut machine = Machine {
+        rt,
+        database: path,
+        is_logged,
+    };
     let serves = matches!(work, Work::Take(Task::Serve { .. }));
     let (connection, outcome) = done_over(&mut machine, connection, work);
     let may_have_served = serves && !matches!(outcome, Err(Fault::Schema));
@@ -177,6 +182,7 @@ pub(crate) fn done_in<S: Start>(
     path: &str,
     start: S,
     work: Work,
+    is_logged: bool,
 ) -> Result<Said, Fault>
     requires { IsWork work }
 {
@@ -186,7 +192,7 @@ pub(crate) fn done_in<S: Start>(
         Work::Move | Work::Take(_) => connect_existing(rt, path, start),
     };
     match opened {
-        Ok(connection) => done_and_closed(rt, path, connection, work, is_new_log),
+        Ok(connection) => done_and_closed(rt, path, connection, work, is_new_log, is_logged),
         Err(Unopened::Taken) => done_by_server(rt, path, &work),
         Err(Unopened::Failed(fault)) => Err(fault),
     }

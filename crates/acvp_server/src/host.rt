@@ -7,11 +7,13 @@ use std::fs::Files;
 use std::net::Net;
 use std::time::Clock;
 
-/// The machine that the program runs on, and the path of the database that is open.
+/// The machine that the program runs on, the path of the database that is open, and whether a line is written for each
+/// event that is served.
 #[derive(Drop)]
 pub(crate) struct Machine<'a, R> {
     pub rt: &'a R,
     pub database: &'a str,
+    pub is_logged: bool,
 }
 
 impl<'a, R: AllocGlobal + Clock + Eprint + Files + Net + Print> Host for Machine<'a, R> {
@@ -33,7 +35,13 @@ impl<'a, R: AllocGlobal + Clock + Eprint + Files + Net + Print> Host for Machine
     }
 
     fn listen(&mut self, service: Service) -> Result<Port<'a, R>, Fault> {
-        port_on(self.rt, self.rt.alloc(), self.database, service)
+        port_on(
+            self.rt,
+            self.rt.alloc(),
+            self.database,
+            service,
+            self.is_logged,
+        )
     }
 
     fn finish(&mut self, port: &mut Port<'a, R>) {

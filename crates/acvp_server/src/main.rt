@@ -9,19 +9,31 @@ mod command;
 mod copies;
 mod database;
 mod host;
+mod log;
+mod looks;
+mod pages;
 mod port;
 mod printing;
 mod privacy;
+mod rules;
 mod script;
 mod socket;
+mod texts;
+mod why;
 
-use crate::command::command;
+use crate::command::{ALL, LOG, VERBOSE, command};
 use crate::copies::{backup, restore};
 use crate::database::{Said, done_in};
+use crate::looks::{Look, shown};
 use crate::printing::print_line;
 use crate::privacy::tell_open;
 use crate::script::script;
-use acvp_commands::{Deed, Fault, Invocation, SystemFiles, asked_by, exit_status, work_of};
+use crate::why::{
+    Because, Cause, Copying, tell_because, why_failed, why_not_copied, why_not_shown,
+};
+use acvp_commands::{
+    BadNumber, Deed, Fault, Invocation, SystemFiles, asked_by, exit_status, request_number, work_of,
+};
 use clap::error::ErrorKind;
 use clap::{ArgMatches, Error};
 use sqlite::Wary;
@@ -41,14 +53,37 @@ fn relay(rt: &HostRuntime, line: &str) -> Result<bool, Fault> {
     }
 }
 
+/// The flags of a command.
+#[derive(Clone, Copy)]
+struct Flags {
+    /// Whether it says why it failed.
+    is_verbose: bool,
+
+    /// Whether a line is written for each event that is served.
+    is_logged: bool,
+}
+
+/// Says why the server of a database has refused an order, where that is asked for and the word doesn't say all.
+fn tell_relayed(rt: &HostRuntime, line: &str, flags: Flags) {
+    if flags.is_verbose && line == "fault: unavailable" {
+        let option = "--db";
+        let cause = Cause::Relayed;
+        tell_because(rt, Because { option, cause });
+    }
+}
+
 /// Prints what a command says at its end, and says whether it has done what it was asked for.
-fn say(rt: &HostRuntime, said: Said) -> Result<bool, Fault> {
+fn say(rt: &HostRuntime, said: Said, flags: Flags) -> Result<bool, Fault> {
     match said {
         Said::Line(message) => {
             print_line(rt, message)?;
             Ok(true)
         }
-        Said::Relayed(line) => relay(rt, line.as_str()),
+        Said::Relayed(line) => {
+            let is_done = relay(rt, line.as_str())?;
+            tell_relayed(rt, line.as_str(), flags);
+            Ok(is_done)
+        }
     }
 }
 
@@ -69,15 +104,15 @@ fn tell_open_files(rt: &HostRuntime, asked: Invocation<'_>) {
 
 /// Carries out what the command line asks for, prints the line that says so, where there is one, and says whether it is
 /// done.
-fn run(rt: &HostRuntime, asked: Invocation<'_>) -> Result<bool, Fault>
+fn run(rt: &HostRuntime, asked: Invocation<'_>, flags: Flags) -> Result<bool, Fault>
     requires { NamesAccount asked }
 {
     tell_open_files(rt, asked);
     match asked {
         Invocation::On(db, deed) => {
             let work = work_of(&SystemFiles(rt), deed)?;
-            let said = done_in(rt, db, Wary, work)?;
-            say(rt, said)
+            let said = done_in(rt, db, Wary, work, flags.is_logged)?;
+            say(rt, said, flags)
         }
         Invocation::Script(keys) => {
             script(rt, keys)?;
@@ -143,22 +178,117 @@ fn say_done(rt: &HostRuntime, outcome: Result<(), Fault>, line: &str) -> Result<
     }
 }
 
-/// Copies whole databases, where the command line asks for that.
-fn copy_asked(rt: &HostRuntime, matches: &ArgMatches<'_>) -> Option<Result<bool, Fault>> {
+/// The copy of a whole database that the command line asks for.
+fn copying_of<'a>(matches: &ArgMatches<'a>) -> Option<Copying<'a>> {
     match matches.subcommand() {
-        Some(("backup", options)) => {
-            tell_open(rt, value(options, "db"));
-            let outcome = backup(rt, value(options, "db"), value(options, "to"));
-            Some(say_done(rt, outcome, "backed up"))
-        }
-        Some(("restore", options)) => {
-            tell_open(rt, value(options, "from"));
-            tell_open(rt, value(options, "db"));
-            let outcome = restore(rt, value(options, "from"), value(options, "db"));
-            Some(say_done(rt, outcome, "restored"))
-        }
+        Some(("backup", options)) => Some(Copying::Backup {
+            db: value(options, "db"),
+            to: value(options, "to"),
+        }),
+        Some(("restore", options)) => Some(Copying::Restore {
+            from: value(options, "from"),
+            db: value(options, "db"),
+        }),
         _ => None,
     }
+}
+
+/// Copies a whole database.
+fn copy(rt: &HostRuntime, copying: Copying<'_>) -> Result<bool, Fault> {
+    match copying {
+        Copying::Backup { db, to } => {
+            tell_open(rt, db);
+            say_done(rt, backup(rt, db, to), "backed up")
+        }
+        Copying::Restore { from, db } => {
+            tell_open(rt, from);
+            tell_open(rt, db);
+            say_done(rt, restore(rt, from, db), "restored")
+        }
+    }
+}
+
+/// The flags of the command that the command line asks for.
+fn flags_of(matches: &ArgMatches<'_>) -> Flags {
+    match matches.subcommand() {
+        Some((_, options)) => Flags {
+            is_verbose: options.get_flag(VERBOSE),
+            is_logged: options.get_flag(LOG),
+        },
+        None => Flags {
+            is_verbose: false,
+            is_logged: false,
+        },
+    }
+}
+
+/// Says why a command failed, behind its fault.
+fn tell_why(rt: &HostRuntime, because: Option<Because>) {
+    if let Some(because) = because {
+        tell_because(rt, because);
+    }
+}
+
+/// Copies a whole database, and gives the exit status.
+fn execute_copy(rt: &HostRuntime, copying: Copying<'_>, flags: Flags) -> ExitCode {
+    let outcome = copy(rt, copying);
+    let code = ended(rt, outcome);
+    if let Err(fault) = outcome
+        && flags.is_verbose
+    {
+        tell_why(rt, why_not_copied(rt, copying, fault));
+    }
+    code
+}
+
+/// What the command line asks to look at, and in which database.
+fn look_of<'a>(matches: &ArgMatches<'a>) -> Option<Result<(&'a str, Look<'a>), BadNumber>> {
+    let (name, options) = matches.subcommand()?;
+    let look = match name {
+        "accounts" => Look::Accounts,
+        "requests" => Look::Requests {
+            all: options.get_flag(ALL),
+        },
+        "request-show" => match request_number(value(options, "request")) {
+            Some(number) => Look::Request {
+                keys: value(options, "keys"),
+                number,
+            },
+            None => return Some(Err(BadNumber::Request)),
+        },
+        _ => return None,
+    };
+    Some(Ok((value(options, "db"), look)))
+}
+
+/// Shows what is looked at in a database, and gives the exit status.
+fn execute_look(rt: &HostRuntime, db: &str, look: Look<'_>, flags: Flags) -> ExitCode {
+    tell_open(rt, db);
+    if let Look::Request { keys, .. } = look {
+        tell_open(rt, keys);
+    }
+    let outcome = shown(rt, db, look);
+    let code = ended(rt, outcome);
+    if let Err(fault) = outcome
+        && flags.is_verbose
+    {
+        tell_why(rt, why_not_shown(rt, db, look, fault));
+    }
+    code
+}
+
+/// Carries out what the command line asks for, and gives the exit status.
+fn execute_asked(rt: &HostRuntime, asked: Invocation<'_>, flags: Flags) -> ExitCode
+    requires { NamesAccount asked }
+{
+    let outcome = run(rt, asked, flags);
+    let code = ended(rt, outcome);
+    if let Err(fault) = outcome
+        && flags.is_verbose
+    {
+        tell_why(rt, why_failed(rt, asked, fault));
+    }
+    code
 }
 
 /// How many bytes of the stack are touched before anything is done.
@@ -188,11 +318,17 @@ fn execute_words(rt: &HostRuntime, words: &[String]) -> ExitCode {
         }
         Err(error) => return refused(rt, &error),
     };
-    if let Some(outcome) = copy_asked(rt, &matches) {
-        return ended(rt, outcome);
+    let flags = flags_of(&matches);
+    if let Some(copying) = copying_of(&matches) {
+        return execute_copy(rt, copying, flags);
+    }
+    match look_of(&matches) {
+        Some(Ok((db, look))) => return execute_look(rt, db, look, flags),
+        Some(Err(bad)) => return refused_for(rt, bad.message()),
+        None => {}
     }
     match asked_by(&matches) {
-        Ok(Some(asked)) => ended(rt, run(rt, asked)),
+        Ok(Some(asked)) => execute_asked(rt, asked, flags),
         Ok(None) => ExitCode::from(2),
         Err(bad) => refused_for(rt, bad.message()),
     }

@@ -1,5 +1,6 @@
 //! A port of this machine and the socket of orders, with many clients at once.
 use crate::client::{Client, Errand, Incoming, Next, Outgoing, Wire};
+use crate::log::Log;
 use crate::socket::{FileNumber, close_socket, open_socket};
 use acvp_commands::{Arrival, Fault, Listener, Message, Service, Taken};
 use acvp_http::Flagged;
@@ -99,6 +100,9 @@ pub(crate) struct Port<'a, R> {
 
     /// When it was looked last for clients that take too long.
     swept: Option<Instant>,
+
+    /// What writes a line for each that was served, where that is asked for.
+    log: Option<Log>,
 }
 
 /// The clock's time, where it gives one.
@@ -280,14 +284,25 @@ fn doors_at<R: Files + Net>(
     }
 }
 
+/// A log, where one is asked for.
+fn log_for(alloc: Global, is_logged: bool) -> Result<Option<Log>, Fault> {
+    if is_logged {
+        Ok(Some(Log::new(alloc)?))
+    } else {
+        Ok(None)
+    }
+}
+
 /// The port of a number, and the socket beside a database.
 pub(crate) fn port_on<'a, R: Clock + Files + Net>(
     rt: &'a R,
     alloc: Global,
     database: &'a str,
     service: Service,
+    is_logged: bool,
 ) -> Result<Port<'a, R>, Fault> {
     let clients = Clients::new(alloc)?;
+    let log = log_for(alloc, is_logged)?;
     let (orders, socket) = open_socket(rt, alloc, database)?;
     match doors_at(rt, alloc, service.port, orders) {
         Ok(Ok(doors)) => Ok(Port {
@@ -304,6 +319,7 @@ pub(crate) fn port_on<'a, R: Clock + Files + Net>(
             serving: (MOST_CLIENTS, Duration::ZERO, false),
             erred: None,
             swept: None,
+            log,
         }),
         Ok(Err(fault)) => {
             close_socket(rt, alloc, database, socket);
@@ -525,14 +541,23 @@ impl<'a, R: Clock + Eprint + Files> Listener for Port<'a, R> {
             if let Some((client, whole)) = self.next_client() {
                 self.unlooked = self.unlooked.saturating_add(1);
                 match client.into_errand(self.alloc, whole) {
-                    Errand::Request(input, output) => {
+                    Errand::Request(input, mut output) => {
+                        if let Some(log) = &mut self.log {
+                            log.begin(self.rt);
+                            output.keep_front(self.alloc);
+                        }
                         return Ok(Arrival::Connection(Taken {
                             input: Flagged::new(input),
                             output: Flagged::new(output),
                             now: SystemTime::now(self.rt),
                         }));
                     }
-                    Errand::Order(line, output) => return Ok(Arrival::Order(line, output)),
+                    Errand::Order(line, output) => {
+                        if let Some(log) = &mut self.log {
+                            log.begin_order(self.rt, &line);
+                        }
+                        return Ok(Arrival::Order(line, output));
+                    }
                 }
             }
             if self.go_on().is_err() {
@@ -543,14 +568,22 @@ impl<'a, R: Clock + Eprint + Files> Listener for Port<'a, R> {
     }
 
     fn end(&mut self, input: Flagged<Incoming>, output: Flagged<Outgoing>, sent: bool) {
-        let _ = input;
+        let output = output.into_inner();
+        if let Some(log) = &self.log {
+            let input = input.into_inner();
+            let (request, reply) = (input.bytes(), output.front());
+            log.tell_request(self.rt, self.alloc, self.database, request, reply, sent);
+        }
         if sent {
-            self.let_out(output.into_inner());
+            self.let_out(output);
         }
     }
 
     fn tell(&mut self, asker: Outgoing, outcome: Result<Message, Fault>) {
         let mut output = asker;
+        if let Some(log) = &self.log {
+            log.tell_order(self.rt, self.alloc, self.database, &outcome);
+        }
         if let Ok(text) = outcome_text(self.alloc, outcome)
             && output.write_all(text.as_bytes()).is_ok()
         {

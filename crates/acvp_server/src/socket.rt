@@ -48,6 +48,16 @@ fn is_socket(files: &impl Files, path: &str) -> bool {
     }
 }
 
+/// Whether a server answers at the socket beside a database.
+pub(crate) fn has_server<R: Files + Net>(rt: &R, alloc: Global, database: &str) -> bool {
+    match socket_path(alloc, database) {
+        Ok(path) => {
+            is_socket(rt, path.as_str()) && UnixStream::connect(rt, path.as_str()).is_ok()
+        }
+        Err(_) => false,
+    }
+}
+
 /// Takes away the socket that a server left that was killed. One at which somebody answers stays, and so does a file
 /// that is no socket.
 fn remove_left<R: Files + Net>(rt: &R, path: &str) -> io::Result<()> {

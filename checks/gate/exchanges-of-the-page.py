@@ -1,0 +1,135 @@
+"""The requests and replies of docs/EXCHANGES.md, one of each action, as the program answers them.
+
+    exchanges-of-the-page.py COMMAND..
+    exchanges-of-the-page.py --write COMMAND..
+
+COMMAND is as in `acvp_server script --keys keys.txt`, under keys of zeros. The page must be what its events give, byte
+for byte; with --write it is written."""
+import os
+import sys
+
+from laboratory import Piped, shown
+import laboratory
+from validation import answers
+
+PAGE = os.path.join(os.path.dirname(os.path.abspath(__file__)), "..", "..", "docs", "EXCHANGES.md")
+SECRET = b"12345678901234567890123456789012"
+MOMENT = 60
+HEAD = """# A request and a reply of each action
+
+Each stands here as it goes over the connection, in the order of the actions' numbers. Lines of a head end with CR LF. A
+body is one line without an end; here it is broken behind a comma where it is long. Account 7 has the secret of the
+examples of RFC 6238, and the server's keys are zeros.
+"""
+
+
+class Exchanges:
+    def __init__(self, command):
+        self.server, self.told = Piped(command), {}
+
+    def asks(self, number, name, method, path, token=None, thing=None):
+        """The second object of the reply to an action, whose exchange is kept under its number."""
+        body = None if thing is None else laboratory.compact([{"acvVersion": "1.0"}, thing])
+        text = laboratory.request(method, path, token, body=body)
+        reply = self.server.ask_at(MOMENT, text)
+        status, there = shown(reply)
+        if status != 200:
+            raise SystemExit(f"{name} is answered {reply}")
+        if number is not None:
+            self.told.setdefault(number, (name, text, reply))
+        return there
+
+    def approves(self, request):
+        answer = self.server.order(f"request-approve {MOMENT} {request}")
+        if answer != "order done":
+            raise SystemExit(f"the approval of {request} is answered {answer}")
+
+
+def short(url):
+    return url[len("/acvp/v1"):]
+
+
+def run(command):
+    it = Exchanges(command)
+    for account in (7, 8):
+        it.server.order(f"account-add {MOMENT} {account} {SECRET.hex()}")
+    code = laboratory.one_time_code(SECRET, MOMENT)
+    token = it.asks(1, "Login", "POST", "/login", None, {"password": code, "user": "7"})["accessToken"]
+    it.asks(3, "ListAlgorithms", "GET", "/algorithms", token)
+    it.asks(4, "ReadAlgorithm", "GET", "/algorithms/2", token)
+    for number, name, path, thing in [
+            (19, "NewVendor", "/vendors", {"name": "Acme"}),
+            (22, "NewModule", "/modules", {"name": "Hashes", "vendorUrl": "/acvp/v1/vendors/7000001", "version": "2"}),
+            (25, "NewEnvironment", "/oes", {"name": "Linux"})]:
+        url = it.asks(number, name, "POST", path, token, thing)["url"]
+        it.approves(url.split("/")[-1])
+    for number, name, path in [(18, "ListVendors", "/vendors"), (20, "ReadVendor", "/vendors/7000001"),
+                               (21, "ListModules", "/modules?limit=10"), (23, "ReadModule", "/modules/7000001"),
+                               (24, "ListEnvironments", "/oes"), (26, "ReadEnvironment", "/oes/7000001"),
+                               (27, "ListRequests", "/requests"), (28, "ReadRequest", "/requests/7000001")]:
+        it.asks(number, name, "GET", path, token)
+    capability = {"algorithm": "HMAC-SHA2-256", "keyLen": [8], "macLen": [32], "revision": "1.0"}
+    made = it.asks(6, "NewSession", "POST", "/testSessions", token, {"algorithms": [capability], "isSample": True})
+    bound, session, sets = made["accessToken"], short(made["url"]), [short(url) for url in made["vectorSetUrls"]]
+    it.asks(12, "ReadSet", "GET", sets[0], bound)
+    expected = it.asks(17, "Expected", "GET", sets[0] + "/expected", bound)
+    it.asks(15, "Submit", "POST", sets[0] + "/results", bound, {name: expected[name] for name in ("testGroups", "vsId")})
+    it.asks(16, "Resubmit", "PUT", sets[0] + "/results", bound, {name: expected[name] for name in ("testGroups", "vsId")})
+    it.asks(14, "SetResults", "GET", sets[0] + "/results", bound)
+    it.asks(10, "SessionResults", "GET", session + "/results", bound)
+    it.asks(30, "AddReviewer", "POST", session + "/reviewers", bound, {"account": 8})
+    it.asks(29, "ListReviewers", "GET", session + "/reviewers", bound)
+    it.asks(31, "RemoveReviewer", "DELETE", session + "/reviewers/8", bound)
+    again = it.asks(None, "NewSession", "POST", "/testSessions", token, {"algorithms": [capability, capability]})
+    bound, session, sets = again["accessToken"], short(again["url"]), [short(url) for url in again["vectorSetUrls"]]
+    it.asks(11, "ListSets", "GET", session + "/vectorSets", bound)
+    it.asks(None, "Submit", "POST", sets[0] + "/results", bound, answers(it.asks(None, "ReadSet", "GET", sets[0], bound)))
+    it.asks(13, "CancelSet", "DELETE", sets[1], bound)
+    it.asks(7, "ReadSession", "GET", session, bound)
+    it.asks(8, "Certify", "PUT", session, bound, {"moduleUrl": "/acvp/v1/modules/7000001", "oeUrl": "/acvp/v1/oes/7000001"})
+    it.asks(9, "CancelSession", "DELETE", short(made["url"]), made["accessToken"])
+    it.asks(5, "ListSessions", "GET", "/testSessions?offset=0&limit=2", token)
+    it.asks(2, "ReadAccount", "GET", "/account", token)
+    return it.told
+
+
+def lines_of(text):
+    """The lines of a request or a reply, a long body broken behind a comma."""
+    head, _, body = text.decode().partition("\r\n\r\n")
+    lines = head.split("\r\n") + [""]
+    while len(body) > 112 and "," in body[:112]:
+        place = body.rfind(",", 0, 112) + 1
+        lines.append(body[:place])
+        body = body[place:]
+    return lines + [body] if body else lines
+
+
+def page_of(told):
+    parts = [HEAD]
+    for number in sorted(told):
+        name, asked, reply = told[number]
+        block = lines_of(asked)
+        block += ([""] if block[-1] else []) + lines_of(reply)
+        parts.append(f"\n## {number} {name}\n\n" + "\n".join(("    " + line).rstrip() for line in block) + "\n")
+    return "".join(parts)
+
+
+def main():
+    command = [word for word in sys.argv[1:] if word != "--write"]
+    told = run(command)
+    if sorted(told) != list(range(1, 32)):
+        raise SystemExit(f"the page has the actions {sorted(told)}")
+    page = page_of(told)
+    if len(command) < len(sys.argv) - 1:
+        with open(PAGE, "w") as file:
+            file.write(page)
+        return
+    with open(PAGE) as file:
+        there = file.read()
+    if there != page:
+        first = next((pair for pair in zip(there.split("\n"), page.split("\n")) if pair[0] != pair[1]), None)
+        raise SystemExit(f"docs/EXCHANGES.md has other lines than the program: {first}")
+    print(f"{len(told)} exchanges are as the page shows them")
+
+
+main()

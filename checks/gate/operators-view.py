@@ -1,0 +1,138 @@
+"""What the operator is shown of accounts and of requests, while the records are served and while they aren't.
+
+    operators-view.py PROGRAM
+
+The wanted lines are written from what was asked for here, and the bodies are those that the account itself gets by its
+own requests. Nothing is left beside the database, and nothing of it changes."""
+import json
+import os
+import sys
+import tempfile
+
+from laboratory import Laboratory, expect, request
+import laboratory
+from validation import answers
+
+CAPABILITIES = [{"algorithm": "SHA2-256", "messageLength": [8], "revision": "1.0"},
+                {"algorithm": "HMAC-SHA2-256", "keyLen": [256], "macLen": [256], "revision": "1.0"}]
+VENDOR, MODULE, ENVIRONMENT = {"name": "Acme"}, {"name": "Hash \u00fc", "version": "2"}, {"name": "Linux"}
+BODY = b"\r\n\r\n"
+
+
+def short(url):
+    return url[len("/acvp/v1"):]
+
+
+def shows(lab, *args):
+    """The lines that a command prints, which nothing is left of."""
+    before = {name: os.stat(lab.path(name)).st_mtime_ns for name in os.listdir(lab.folder)}
+    status, output, faults = lab.run(*args)
+    expect(f"the command {args}", (status, faults), (0, ""))
+    after = {name: os.stat(lab.path(name)).st_mtime_ns for name in os.listdir(lab.folder)}
+    expect(f"the files behind {args}", after, before)
+    return output.split("\n")[:-1]
+
+
+def body(lab, path, token):
+    """The body that an account is answered."""
+    return lab.ask(request("GET", path, token)).split(BODY, 1)[1].decode()
+
+
+def asked(lab, token):
+    """A vendor, a module and an environment are asked for and approved, by the numbers 1, 2 and 3."""
+    for place, (path, thing) in enumerate([("/vendors", VENDOR), ("/modules", MODULE), ("/oes", ENVIRONMENT)], 1):
+        if path == "/modules":
+            thing = dict(thing, vendorUrl="/acvp/v1/vendors/7000001")
+        lab.must("POST", path, token, thing)
+        number = 7000000 + place
+        shown = shows(lab, "request-show", "--db", lab.db, "--keys", lab.keys, "--request", str(number))
+        kind = {"/vendors": "vendor", "/modules": "module", "/oes": "environment"}[path]
+        expect(f"the line of request {number}", shown[0], f"{number} account 7 {kind} initial")
+        expect(f"the object of request {number}", [json.loads(line) for line in shown[1:]], [thing])
+        expect("the requests that wait", shows(lab, "requests", "--db", lab.db),
+               [f"{number} account 7 {kind} initial", "8000001 account 8 vendor initial"])
+        lab.does(f"request {number} approved /acvp/v1{path}/7000001", "request-approve", "--db", lab.db, "--request",
+                 str(number))
+
+
+def certified(lab, token):
+    """A session with a right vector set and a wrong one, which is cancelled, waits for its certification."""
+    made = lab.must("POST", "/testSessions", token, {"algorithms": CAPABILITIES})
+    bound, session = made["accessToken"], short(made["url"])
+    right, wrong = map(short, made["vectorSetUrls"])
+    lab.must("POST", right + "/results", bound, answers(lab.must("GET", right, bound)))
+    lab.must("POST", wrong + "/results", bound, {"testGroups": [], "vsId": int(wrong.split("/")[-1])})
+    kept, failed = body(lab, right + "/results", bound), body(lab, wrong + "/results", bound)
+    lab.must("DELETE", wrong, bound)
+    lab.must("PUT", session, bound, {"moduleUrl": "/acvp/v1/modules/7000001", "oeUrl": "/acvp/v1/oes/7000001"})
+    paths = [(session, bound), (session + "/results", bound), ("/modules/7000001", token), ("/vendors/7000001", token),
+             ("/oes/7000001", token)]
+    wanted = ["7000004 account 7 certification session 7000001 module 7000001 environment 7000001 initial",
+              ("vectorSet 700000101 kept ", CAPABILITIES[0]), f"vectorSet 700000101 {kept}",
+              ("vectorSet 700000102 cancelled ", CAPABILITIES[1]), f"vectorSet 700000102 {failed}"]
+    return wanted + [f"/acvp/v1{path} {body(lab, path, by)}" for path, by in paths]
+
+
+def compared(what, shown, wanted):
+    expect(f"how many lines {what} has", len(shown), len(wanted))
+    for line, right in zip(shown, wanted):
+        if isinstance(right, tuple):
+            front, capability = right
+            expect(what, line[:len(front)], front)
+            expect(what, {**json.loads(line[len(front):]), "revision": "1.0"}, capability)
+        else:
+            expect(what, line, right)
+
+
+def looks(lab, wanted):
+    """All that is shown at the end, of three accounts."""
+    expect("the accounts", shows(lab, "accounts", "--db", lab.db),
+           ["7 enabled sessions 1 requests 4 vendors 1 modules 1 environments 1",
+            "8 disabled sessions 0 requests 1 vendors 0 modules 0 environments 0",
+            "9999 enabled sessions 0 requests 0 vendors 0 modules 0 environments 0"])
+    expect("the requests that wait", shows(lab, "requests", "--db", lab.db),
+           [wanted[0], "8000001 account 8 vendor initial"])
+    expect("all requests", shows(lab, "requests", "--db", lab.db, "--all"),
+           ["7000001 account 7 vendor approved 7000001", "7000002 account 7 module approved 7000001",
+            "7000003 account 7 environment approved 7000001", wanted[0], "8000001 account 8 vendor initial"])
+    show = ["request-show", "--db", lab.db, "--keys", lab.keys, "--request"]
+    compared("the certification", shows(lab, *show, "7000004"), wanted)
+    expect("a vendor of a disabled account", shows(lab, *show, "8000001"),
+           ["8000001 account 8 vendor initial", '{"name":"Another"}'])
+    lab.fails("unknown", *show, "7000005")
+    lab.fails("unknown", *show, "1")
+    lab.fails("keys", "request-show", "--db", lab.db, "--keys", lab.path("no-keys"), "--request", "7000004")
+    for command in (["accounts"], ["requests"]):
+        lab.fails("unavailable", *command, "--db", lab.path("absent.db"))
+        lab.fails("unavailable", *command, "--db", lab.keys)
+
+
+def main():
+    program = os.path.abspath(sys.argv[1])
+    with tempfile.TemporaryDirectory() as folder:
+        lab = Laboratory(program, folder)
+        lab.does("ready", "init", "--db", lab.db)
+        expect("no account", shows(lab, "accounts", "--db", lab.db), [])
+        expect("no request", shows(lab, "requests", "--db", lab.db, "--all"), [])
+        for account in (7, 8, 9999):
+            lab.add(account)
+        try:
+            lab.serve()
+            token = lab.token(7)
+            lab.must("POST", "/vendors", lab.token(8), {"name": "Another"})
+            lab.does("account 8 disabled", "account-disable", "--db", lab.db, "--account", "8")
+            asked(lab, token)
+            wanted = certified(lab, token)
+            looks(lab, wanted)
+        finally:
+            lab.kill()
+        looks(lab, wanted)
+        lab.does("request 7000004 approved /acvp/v1/testSessions/7000001", "request-approve", "--db", lab.db, "--request", "7000004")
+        expect("no more than the other waits", shows(lab, "requests", "--db", lab.db), ["8000001 account 8 vendor initial"])
+        shown = shows(lab, "request-show", "--db", lab.db, "--keys", lab.keys, "--request", "7000004")
+        expect("the line of what is approved", shown[0], wanted[0].replace("initial", "approved 7000001"))
+        expect("its session", json.loads(shown[5].split(" ", 1)[1])[1]["status"], "approved")
+    print(f"{laboratory.checked} comparisons")
+
+
+main()

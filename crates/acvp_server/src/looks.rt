@@ -1,0 +1,304 @@
+//! What the operator looks at: accounts, requests, and what a decision on one needs. It is read in a copy of the
+//! database, so nothing is changed and nobody is held up, also while it is served.
+use crate::copies::{FileTables, tables_of_copy};
+use acvp_commands::{
+    Fault, SystemFiles, account_line, desk_over, keys_in, moment_of, request_line,
+};
+use acvp_desk::{Desk, Keys};
+use acvp_http::{Routes, handle_bytes};
+use acvp_json::{ReplyObject, write_reply};
+use acvp_registry::Kind;
+use acvp_tables::{
+    Certification, Counted, RequestBody, RequestPurpose, RequestSummary, SetSummary, Tables,
+};
+use acvp_token::{Claims, KeyRing, issue_ring};
+use std::alloc::{AllocGlobal, Global};
+
+/// What is looked at, in the database at a path.
+#[derive(Clone, Copy)]
+pub(crate) enum Look<'a> {
+    /// All accounts.
+    Accounts,
+
+    /// The requests that wait for a decision, or all.
+    Requests { all: bool },
+
+    /// What a decision on the request of a number needs, under the keys in a file.
+    Request { keys: &'a str, number: u64 },
+}
+
+/// The greatest number of an account.
+const MOST_ACCOUNT: u16 = 9999;
+
+/// How many numbers an account has.
+const NUMBERS_OF_AN_ACCOUNT: u64 = 1_000_000;
+
+/// How many vector sets a session has at most.
+const MOST_SETS: u64 = 20;
+
+/// How long a token lives, in seconds.
+const TOKEN_LIFE: u64 = 1800;
+
+/// Prints a line.
+fn print(rt: &HostRuntime, line: &str) -> Result<(), Fault> {
+    match println!(rt; "{line}") {
+        Ok(()) => Ok(()),
+        Err(_) => Err(Fault::Write),
+    }
+}
+
+/// Prints a line for each account.
+fn accounts(rt: &HostRuntime, database: &str) -> Result<bool, Fault> {
+    let mut tables = tables_of_copy(rt, database)?;
+    for number in 1..=MOST_ACCOUNT {
+        if let Some(line) = account_line(rt.alloc(), &mut tables, number)? {
+            print(rt, line.as_str())?;
+        }
+    }
+    Ok(true)
+}
+
+/// Prints a line for each request of an account that waits for a decision, or for all of its requests.
+fn requests_of<T: Tables>(
+    rt: &HostRuntime,
+    tables: &mut T,
+    account: u16,
+    all: bool,
+) -> Result<(), Fault> {
+    let count = tables.count(account, Counted::Requests)?;
+    let first = u64::from(account) * NUMBERS_OF_AN_ACCOUNT;
+    for place in 1..=count {
+        let number = first.saturating_add(place);
+        if let Some(line) = request_line(rt.alloc(), tables, number, all)? {
+            print(rt, line.as_str())?;
+        }
+    }
+    Ok(())
+}
+
+/// Prints a line for each request that waits for a decision, or for all.
+fn requests(rt: &HostRuntime, database: &str, all: bool) -> Result<bool, Fault> {
+    let mut tables = tables_of_copy(rt, database)?;
+    for account in 1..=MOST_ACCOUNT {
+        requests_of(rt, &mut tables, account, all)?;
+    }
+    Ok(true)
+}
+
+/// The body of a reply, as a text.
+fn body_of(reply: &[u8]) -> &str {
+    let Ok(text) = std::str::from_utf8(reply) else {
+        return "";
+    };
+    match text.split_once("\r\n\r\n") {
+        Some((_, body)) => body,
+        None => "",
+    }
+}
+
+/// An account that reads in the copy, with a token for its own paths and one for those of a test session.
+#[derive(Drop)]
+struct Reader<'a, T: Tables> {
+    rt: &'a HostRuntime,
+    routes: &'a Routes,
+    desk: Desk<T>,
+    moment: u64,
+    own: String,
+    bound: String,
+}
+
+/// A token of an account, which may be bound to one of its test sessions.
+fn token_of(
+    alloc: Global,
+    ring: &KeyRing,
+    account: u16,
+    session: Option<u64>,
+    moment: u64,
+) -> Result<String, Fault> {
+    let claims = Claims {
+        account,
+        session,
+        issued: moment,
+        expires: moment.saturating_add(TOKEN_LIFE),
+    };
+    match issue_ring(alloc, ring, &claims) {
+        Ok(token) => Ok(token),
+        Err(_) => Err(Fault::Memory),
+    }
+}
+
+/// Prints a path, and the body that a request to read it is answered.
+fn show<T: Tables>(reader: &mut Reader<'_, T>, path: &str, is_bound: bool) -> Result<(), Fault> {
+    let alloc = reader.rt.alloc();
+    let token = if is_bound {
+        reader.bound.as_str()
+    } else {
+        reader.own.as_str()
+    };
+    let request = format!(in alloc;
+        "GET {path} HTTP/1.1\r\nHost: localhost\r\nAuthorization: Bearer {token}\r\n\r\n"
+    )?;
+    let reply = handle_bytes(
+        reader.routes,
+        &mut reader.desk,
+        reader.moment,
+        request.as_bytes(),
+    );
+    let body = body_of(reply.bytes());
+    let line = format!(in alloc; "{path} {body}")?;
+    print(reader.rt, line.as_str())
+}
+
+/// Prints a path of a number below another, as `show` does.
+fn show_at<T: Tables>(
+    reader: &mut Reader<'_, T>,
+    folder: &str,
+    number: u64,
+    rest: &str,
+    is_bound: bool,
+) -> Result<(), Fault> {
+    let path = format!(in reader.rt.alloc(); "/acvp/v1/{folder}/{number}{rest}")?;
+    show(reader, path.as_str(), is_bound)
+}
+
+/// Prints a vector set: whether it was cancelled, its capability, and what its last answers came to.
+fn show_set<T: Tables>(rt: &HostRuntime, tables: &mut T, set: &SetSummary) -> Result<(), Fault> {
+    let alloc = rt.alloc();
+    let number = set.number;
+    let state = if set.cancelled { "cancelled" } else { "kept" };
+    if let Some(capability) = tables.capability(number)? {
+        let text = capability.to_text(alloc)?;
+        let line = format!(in alloc; "vectorSet {number} {state} {text}")?;
+        print(rt, line.as_str())?;
+    }
+    let Some(disposition) = set.disposition else {
+        return Ok(());
+    };
+    let Some(verdicts) = tables.verdicts(number)? else {
+        return Ok(());
+    };
+    let results = ReplyObject::SetResults {
+        vs: number,
+        disposition,
+        verdicts: &verdicts,
+    };
+    let body = write_reply(alloc, &results)?;
+    let text = std::str::from_utf8(&body).unwrap_or("");
+    let line = format!(in alloc; "vectorSet {number} {text}")?;
+    print(rt, line.as_str())
+}
+
+/// Prints each vector set of a test session, the cancelled ones too.
+fn show_sets<T: Tables>(rt: &HostRuntime, tables: &mut T, session: u64) -> Result<(), Fault> {
+    for place in 1..=MOST_SETS {
+        let number = session.saturating_mul(100).saturating_add(place);
+        if let Some(set) = tables.set(number)? {
+            show_set(rt, tables, &set)?;
+        }
+    }
+    Ok(())
+}
+
+/// Prints what a certification names, as the account that asks for it reads it.
+fn show_named<T: Tables>(
+    reader: &mut Reader<'_, T>,
+    certification: &Certification,
+    vendor: Option<u64>,
+) -> Result<(), Fault> {
+    show_at(reader, "testSessions", certification.session, "", true)?;
+    show_at(
+        reader,
+        "testSessions",
+        certification.session,
+        "/results",
+        true,
+    )?;
+    show_at(reader, "modules", certification.module, "", false)?;
+    if let Some(vendor) = vendor {
+        show_at(reader, "vendors", vendor, "", false)?;
+    }
+    show_at(reader, "oes", certification.environment, "", false)
+}
+
+/// The number of the vendor of a module, where there is one.
+fn vendor_of<T: Tables>(tables: &mut T, module: u64) -> Result<Option<u64>, Fault> {
+    match tables.object(Kind::Module, module)? {
+        Some(row) => Ok(row.object.vendor()),
+        None => Ok(None),
+    }
+}
+
+/// Prints what a decision on a certification needs.
+fn show_certification(
+    rt: &HostRuntime,
+    mut tables: FileTables,
+    keys: Keys,
+    request: &RequestSummary,
+    certification: &Certification,
+) -> Result<(), Fault> {
+    let alloc = rt.alloc();
+    show_sets(rt, &mut tables, certification.session)?;
+    let vendor = vendor_of(&mut tables, certification.module)?;
+    let moment = moment_of(rt);
+    let own = token_of(alloc, &keys.token, request.account, None, moment)?;
+    let session = Some(certification.session);
+    let bound = token_of(alloc, &keys.token, request.account, session, moment)?;
+    let routes = Routes::new(alloc)?;
+    let mut reader = Reader {
+        rt,
+        routes: &routes,
+        desk: desk_over(alloc, keys, tables)?,
+        moment,
+        own,
+        bound,
+    };
+    show_named(&mut reader, certification, vendor)
+}
+
+/// Prints the object that a request asks to register.
+fn show_object(
+    rt: &HostRuntime,
+    tables: &mut FileTables,
+    request: &RequestSummary,
+) -> Result<(), Fault> {
+    let Ok(rows) = tables.requests_numbered(request.account) else {
+        return Err(Fault::Unavailable);
+    };
+    for row in rows.iter() {
+        if row.number == request.number
+            && let RequestBody::Registration(object) = &row.body
+        {
+            print(rt, object.text())?;
+        }
+    }
+    Ok(())
+}
+
+/// Prints what a decision on a request needs: its line, and then the object that it asks to register; or, of a
+/// certification, each vector set of the session, and what the account reads of all that it names.
+fn request_show(rt: &HostRuntime, database: &str, keys: &str, number: u64) -> Result<bool, Fault> {
+    let keys = keys_in(&SystemFiles(rt), keys)?;
+    let mut tables = tables_of_copy(rt, database)?;
+    let Some(request) = tables.request(number)? else {
+        return Err(Fault::Unknown);
+    };
+    if let Some(line) = request_line(rt.alloc(), &mut tables, number, true)? {
+        print(rt, line.as_str())?;
+    }
+    match request.purpose {
+        RequestPurpose::Registration(_) => show_object(rt, &mut tables, &request)?,
+        RequestPurpose::Certification(certification) => {
+            show_certification(rt, tables, keys, &request, &certification)?;
+        }
+    }
+    Ok(true)
+}
+
+/// Prints what is looked at.
+pub(crate) fn shown(rt: &HostRuntime, database: &str, look: Look<'_>) -> Result<bool, Fault> {
+    match look {
+        Look::Accounts => accounts(rt, database),
+        Look::Requests { all } => requests(rt, database, all),
+        Look::Request { keys, number } => request_show(rt, database, keys, number),
+    }
+}
