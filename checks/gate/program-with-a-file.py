@@ -2,9 +2,9 @@
 """Runs the built program over files and sockets as an operator and clients do, and compares what it does with what it
 must.
 
-    program-with-a-file.py PROGRAM [KILLS]
+    program-with-a-file.py PROGRAM SHIM [KILLS]
 
-KILLS is how often serving is killed while it writes: 100 where it isn't given, and 1000 for a longer run."""
+SHIM is the library of fail_sync.c. KILLS is how often serving is killed while it writes: 100 where it isn't given, and 1000 for a longer run."""
 import calendar
 import email.utils
 import errno
@@ -233,15 +233,12 @@ def no_connection_can_be_taken(lab):
     raise SystemExit("serving doesn't begin with 31 open files")
 
 
-def serve_without_room(lab):
-    """Serves without an end, and from then on the disk has no room for what is written."""
+def serve_with(lab, **more):
+    """Serves without an end."""
     lab.port = free_port()
-    # the limit is told as an error of the write, since the signal that goes with it stays ignored
     lab.process = subprocess.Popen([lab.program, "serve", "--db", lab.db, "--keys", lab.keys, "--port", str(lab.port)],
-                                   stdin=subprocess.DEVNULL, stdout=subprocess.PIPE, stderr=subprocess.PIPE,
-                                   restore_signals=False)
+                                   stdin=subprocess.DEVNULL, stdout=subprocess.PIPE, stderr=subprocess.PIPE, **more)
     expect("the first line of serve", lab.process.stdout.readline(), b"listening 127.0.0.1:%d\n" % lab.port)
-    resource.prlimit(lab.process.pid, resource.RLIMIT_FSIZE, (0, 0))
 
 
 def ends_unavailable(lab):
@@ -251,22 +248,44 @@ def ends_unavailable(lab):
     lab.process = None
 
 
-def a_disk_without_room(lab):
-    """A write that fails shuts the store. Who asked is told that the server is unavailable, client or operator, and
-    serving ends, so that whoever watches it starts it anew. Nothing was changed, and the code is still good."""
+def a_full_disk(lab):
+    """Where the disk has no room for what is written, a change is unavailable, and reads are answered. Serving goes on,
+    and with room the change is made."""
     lab.add(25)
     within_a_step(10)
-    serve_without_room(lab)
+    # the limit is told as an error of the write, since the signal that goes with it stays ignored
+    serve_with(lab, restore_signals=False)
+    resource.prlimit(lab.process.pid, resource.RLIMIT_FSIZE, (0, resource.RLIM_INFINITY))
     expect("a login without room", lab.login(25), (503, {"error": "unavailable"}))
-    ends_unavailable(lab)
-    lab.serve(1)
-    lab.token(25)
-    lab.served(1)
-    serve_without_room(lab)
-    expect("a request that writes nothing", lab.call("GET", "/algorithms", "none")[0], 401)
+    now = int(time.time())
+    token = signed({"exp": now + 1800, "iat": now, "sub": "25"})
+    expect("a read without room", lab.must("GET", "/account", token)["sessions"], 0)
     lab.fails("unavailable", "account-disable", "--db", lab.db, "--account", "25")
+    resource.prlimit(lab.process.pid, resource.RLIMIT_FSIZE, (resource.RLIM_INFINITY, resource.RLIM_INFINITY))
+    lab.token(25)
+    lab.kill()
+
+
+def a_disk_that_fails(lab):
+    """A write that the disk can't keep shuts the store. Whoever asked is told that the server is unavailable, client or
+    operator, and serving ends, so that whoever watches it starts it anew."""
+    mark = lab.path("fail")
+    env = {**os.environ, "LD_PRELOAD": lab.failing, "FAIL": mark}
+    lab.add(26)
+    serve_with(lab, env=env)
+    lab.write(mark, "")
+    expect("a login over a disk that fails", lab.login(26), (503, {"error": "unavailable"}))
     ends_unavailable(lab)
-    lab.does("account 25 disabled", "account-disable", "--db", lab.db, "--account", "25")
+    os.remove(mark)
+    serve_with(lab, env=env)
+    lab.write(mark, "")
+    expect("a request that writes nothing", lab.call("GET", "/algorithms", "none")[0], 401)
+    lab.fails("unavailable", "account-disable", "--db", lab.db, "--account", "26")
+    ends_unavailable(lab)
+    os.remove(mark)
+    lab.serve(1)
+    lab.call("GET", "/algorithms", "none")
+    lab.served(1)
 
 
 # ---- the life of a laboratory
@@ -805,15 +824,17 @@ def made(program, folder):
 
 
 PARTS = [refused_lines, files_that_are_none, made_once, orders, faults_in_their_order, no_connection_can_be_taken,
-         a_disk_without_room, certified, rows_of_each_kind, rows_that_stand_for_nothing, keys_that_change, clients_that_break_off,
-         at_its_address_and_moment, large_bodies, backlog, by_curl, documents, whole_validation]
+         a_full_disk, a_disk_that_fails, certified, rows_of_each_kind, rows_that_stand_for_nothing, keys_that_change,
+         clients_that_break_off, at_its_address_and_moment, large_bodies, backlog, by_curl, documents, whole_validation]
 
 
 def main():
-    program, count = os.path.abspath(sys.argv[1]), int(sys.argv[2]) if len(sys.argv) > 2 else 100
+    program, failing = map(os.path.abspath, sys.argv[1:3])
+    count = int(sys.argv[3]) if len(sys.argv) > 3 else 100
     began = time.time()
     with tempfile.TemporaryDirectory() as folder:
         lab = Laboratory(program, folder)
+        lab.failing = failing
         try:
             for part in PARTS:
                 part(lab)
