@@ -1,17 +1,19 @@
 //! What the operator looks at: accounts, requests, and what a decision on one needs. It is read in a copy of the
 //! database, so nothing is changed and nobody is held up, also while it is served.
-use crate::copies::{FileTables, tables_of_copy};
+use crate::copies::tables_of_copy;
 use acvp_commands::{
     Fault, SystemFiles, account_line, desk_over, keys_in, moment_of, request_line,
 };
 use acvp_desk::{Desk, Keys};
 use acvp_http::{Routes, handle_bytes};
 use acvp_json::{ReplyObject, write_reply};
-use acvp_registry::Kind;
+use acvp_registry::{Kind, object_url};
+use acvp_store::SqlTables;
 use acvp_tables::{
     Certification, Counted, RequestBody, RequestPurpose, RequestSummary, SetSummary, Tables,
 };
 use acvp_token::{Claims, KeyRing, issue_ring};
+use sqlite::Alter;
 use std::alloc::{AllocGlobal, Global};
 
 /// What is looked at, in the database at a path.
@@ -97,14 +99,13 @@ fn body_of(reply: &[u8]) -> &str {
 }
 
 /// An account that reads in the copy, with a token for its own paths and one for those of a test session.
-#[derive(Drop)]
-struct Reader<'a, T: Tables> {
+#[derive(Clone, Copy)]
+struct Reader<'a> {
     rt: &'a HostRuntime,
     routes: &'a Routes,
-    desk: Desk<T>,
     moment: u64,
-    own: String,
-    bound: String,
+    own: &'a str,
+    bound: &'a str,
 }
 
 /// A token of an account, which may be bound to one of its test sessions.
@@ -127,38 +128,45 @@ fn token_of(
     }
 }
 
-/// Prints a path, and the body that a request to read it is answered.
-fn show<T: Tables>(reader: &mut Reader<'_, T>, path: &str, is_bound: bool) -> Result<(), Fault> {
+/// Prints a path, and the body that a request to read it with a token is answered.
+fn show<T: Tables>(
+    reader: Reader<'_>,
+    desk: &mut Desk<T>,
+    path: &str,
+    token: &str,
+) -> Result<(), Fault> {
     let alloc = reader.rt.alloc();
-    let token = if is_bound {
-        reader.bound.as_str()
-    } else {
-        reader.own.as_str()
-    };
     let request = format!(in alloc;
         "GET {path} HTTP/1.1\r\nHost: localhost\r\nAuthorization: Bearer {token}\r\n\r\n"
     )?;
-    let reply = handle_bytes(
-        reader.routes,
-        &mut reader.desk,
-        reader.moment,
-        request.as_bytes(),
-    );
+    let reply = handle_bytes(reader.routes, desk, reader.moment, request.as_bytes());
     let body = body_of(reply.bytes());
     let line = format!(in alloc; "{path} {body}")?;
     print(reader.rt, line.as_str())
 }
 
-/// Prints a path of a number below another, as `show` does.
-fn show_at<T: Tables>(
-    reader: &mut Reader<'_, T>,
-    folder: &str,
-    number: u64,
-    rest: &str,
-    is_bound: bool,
+/// Prints a test session as `show` does, or what lies below it.
+fn show_session<T: Tables>(
+    reader: Reader<'_>,
+    desk: &mut Desk<T>,
+    session: u64,
+    below: &str,
 ) -> Result<(), Fault> {
-    let path = format!(in reader.rt.alloc(); "/acvp/v1/{folder}/{number}{rest}")?;
-    show(reader, path.as_str(), is_bound)
+    let path = format!(in reader.rt.alloc(); "/acvp/v1/testSessions/{session}{below}")?;
+    show(reader, desk, path.as_str(), reader.bound)
+}
+
+/// Prints an object of a registry as `show` does.
+fn show_registered<T: Tables>(
+    reader: Reader<'_>,
+    desk: &mut Desk<T>,
+    kind: Kind,
+    number: u64,
+) -> Result<(), Fault> {
+    match object_url(reader.rt.alloc(), kind, number)? {
+        Some(path) => show(reader, desk, path.as_str(), reader.own),
+        None => Ok(()),
+    }
 }
 
 /// Prints a vector set: whether it was cancelled, its capability, and what its last answers came to.
@@ -201,23 +209,18 @@ fn show_sets<T: Tables>(rt: &HostRuntime, tables: &mut T, session: u64) -> Resul
 
 /// Prints what a certification names, as the account that asks for it reads it.
 fn show_named<T: Tables>(
-    reader: &mut Reader<'_, T>,
-    certification: &Certification,
+    reader: Reader<'_>,
+    desk: &mut Desk<T>,
+    certification: Certification,
     vendor: Option<u64>,
 ) -> Result<(), Fault> {
-    show_at(reader, "testSessions", certification.session, "", true)?;
-    show_at(
-        reader,
-        "testSessions",
-        certification.session,
-        "/results",
-        true,
-    )?;
-    show_at(reader, "modules", certification.module, "", false)?;
+    show_session(reader, desk, certification.session, "")?;
+    show_session(reader, desk, certification.session, "/results")?;
+    show_registered(reader, desk, Kind::Module, certification.module)?;
     if let Some(vendor) = vendor {
-        show_at(reader, "vendors", vendor, "", false)?;
+        show_registered(reader, desk, Kind::Vendor, vendor)?;
     }
-    show_at(reader, "oes", certification.environment, "", false)
+    show_registered(reader, desk, Kind::Environment, certification.environment)
 }
 
 /// The number of the vendor of a module, where there is one.
@@ -228,37 +231,49 @@ fn vendor_of<T: Tables>(tables: &mut T, module: u64) -> Result<Option<u64>, Faul
     }
 }
 
-/// Prints what a decision on a certification needs.
-fn show_certification(
+/// Prints what a certification names, as the account reads it that asks for it, at a desk of its own.
+fn show_read<T: Tables + Drop>(
     rt: &HostRuntime,
-    mut tables: FileTables,
+    tables: T,
     keys: Keys,
-    request: &RequestSummary,
-    certification: &Certification,
+    account: u16,
+    certification: Certification,
+    vendor: Option<u64>,
 ) -> Result<(), Fault> {
     let alloc = rt.alloc();
-    show_sets(rt, &mut tables, certification.session)?;
-    let vendor = vendor_of(&mut tables, certification.module)?;
     let moment = moment_of(rt);
-    let own = token_of(alloc, &keys.token, request.account, None, moment)?;
+    let own = token_of(alloc, &keys.token, account, None, moment)?;
     let session = Some(certification.session);
-    let bound = token_of(alloc, &keys.token, request.account, session, moment)?;
+    let bound = token_of(alloc, &keys.token, account, session, moment)?;
     let routes = Routes::new(alloc)?;
-    let mut reader = Reader {
+    let mut desk = desk_over(alloc, keys, tables)?;
+    let reader = Reader {
         rt,
         routes: &routes,
-        desk: desk_over(alloc, keys, tables)?,
         moment,
-        own,
-        bound,
+        own: own.as_str(),
+        bound: bound.as_str(),
     };
-    show_named(&mut reader, certification, vendor)
+    show_named(reader, &mut desk, certification, vendor)
 }
 
-/// Prints the object that a request asks to register.
-fn show_object(
+/// Prints what a decision on a certification needs.
+fn show_certification<T: Tables + Drop>(
     rt: &HostRuntime,
-    tables: &mut FileTables,
+    mut tables: T,
+    keys: Keys,
+    account: u16,
+    certification: Certification,
+) -> Result<(), Fault> {
+    show_sets(rt, &mut tables, certification.session)?;
+    let vendor = vendor_of(&mut tables, certification.module)?;
+    show_read(rt, tables, keys, account, certification, vendor)
+}
+
+/// Prints the object that a request asks to register, where it asks for that.
+fn show_object<S: Alter + Drop>(
+    rt: &HostRuntime,
+    tables: &mut SqlTables<S>,
     request: &RequestSummary,
 ) -> Result<(), Fault> {
     let Ok(rows) = tables.requests_numbered(request.account) else {
@@ -274,23 +289,54 @@ fn show_object(
     Ok(())
 }
 
-/// Prints what a decision on a request needs: its line, and then the object that it asks to register; or, of a
-/// certification, each vector set of the session, and what the account reads of all that it names.
-fn request_show(rt: &HostRuntime, database: &str, keys: &str, number: u64) -> Result<bool, Fault> {
-    let keys = keys_in(&SystemFiles(rt), keys)?;
-    let mut tables = tables_of_copy(rt, database)?;
+/// Prints the line of a request, and gives it.
+fn request_of<T: Tables>(
+    rt: &HostRuntime,
+    tables: &mut T,
+    number: u64,
+) -> Result<RequestSummary, Fault> {
     let Some(request) = tables.request(number)? else {
         return Err(Fault::Unknown);
     };
-    if let Some(line) = request_line(rt.alloc(), &mut tables, number, true)? {
+    if let Some(line) = request_line(rt.alloc(), tables, number, true)? {
         print(rt, line.as_str())?;
     }
+    Ok(request)
+}
+
+/// Prints what a request asks for, where that is a certification: each vector set of the session, and what the account
+/// reads of all that it names.
+fn show_certified<T: Tables + Drop>(
+    rt: &HostRuntime,
+    tables: T,
+    keys: Keys,
+    request: RequestSummary,
+) -> Result<(), Fault> {
     match request.purpose {
-        RequestPurpose::Registration(_) => show_object(rt, &mut tables, &request)?,
+        RequestPurpose::Registration(_) => Ok(()),
         RequestPurpose::Certification(certification) => {
-            show_certification(rt, tables, keys, &request, &certification)?;
+            show_certification(rt, tables, keys, request.account, certification)
         }
     }
+}
+
+/// Prints what a decision on a request needs: its line, and then what it asks for.
+fn show_request<S: Alter + Drop>(
+    rt: &HostRuntime,
+    mut tables: SqlTables<S>,
+    keys: Keys,
+    number: u64,
+) -> Result<(), Fault> {
+    let request = request_of(rt, &mut tables, number)?;
+    show_object(rt, &mut tables, &request)?;
+    show_certified(rt, tables, keys, request)
+}
+
+/// Prints what a decision on the request of a number needs.
+fn request_show(rt: &HostRuntime, database: &str, keys: &str, number: u64) -> Result<bool, Fault> {
+    let keys = keys_in(&SystemFiles(rt), keys)?;
+    let tables = tables_of_copy(rt, database)?;
+    show_request(rt, tables, keys, number)?;
     Ok(true)
 }
 
