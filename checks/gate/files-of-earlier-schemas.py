@@ -246,4 +246,5 @@ def main():
     print(f"{laboratory.checked} comparisons")
 
 
-main()
+if __name__ == "__main__":
+    main()

@@ -9,6 +9,7 @@ import fcntl
 import hashlib
 import os
 import random
+import re
 import resource
 import shutil
 import sqlite3
@@ -130,6 +131,31 @@ def backups_while_serving(lab):
     lab.served(1)
 
 
+def parts(lab):
+    """The copies that are being made, or that a killed command has left."""
+    return sorted(name for name in os.listdir(lab.folder) if re.search("-part-[0-9]", name))
+
+
+def copies_apart(lab):
+    """A copy touches no file of another name, and of several backups to one target at once one is made, whole."""
+    lab.add(1)
+    others = ["backup.db-part", "backup.db-part-wal", "laboratory.db-part", "laboratory.db-part-wal"]
+    for name in others:
+        lab.write(lab.path(name), f"what somebody keeps in {name}")
+    for number in range(10):
+        running = [subprocess.Popen([lab.program, *backup(lab)], stdin=subprocess.DEVNULL, stdout=subprocess.PIPE, stderr=subprocess.PIPE)
+                   for _ in range(4)]
+        ends = sorted((run.communicate(timeout=60), run.returncode) for run in running)
+        taken = ((b"", b"fault: taken\n"), 1)
+        expect(f"four backups at once, {number}", ends, [taken] * 3 + [((b"backed up\n", b""), 0)])
+        expect("the rows of the one", content(lab.path("backup.db")), content(lab.db))
+        if number < 9:
+            os.remove(lab.path("backup.db"))
+    lab.does("restored", *restore(lab))
+    expect("the copies that are left", parts(lab), [])
+    expect("the other files", [bytes_of(lab.path(name)).decode() for name in others], [f"what somebody keeps in {name}" for name in others])
+
+
 # ---- the way back
 
 
@@ -211,7 +237,10 @@ def killed_restores(lab, kills):
         kept, replaced = kept + (now == there), replaced + (now == backed_up)
         lab.does("restored", *restore(lab))
         expect("the restore behind it", content(lab.db), backed_up)
-        expect("what is left beside it", os.path.exists(lab.db + "-part") or os.path.exists(lab.db + "-part-wal"), False)
+        left = parts(lab)
+        expect(f"what a killed restore leaves beside it: {left}", len(left) <= 2 and all(mode(lab.path(name)) == 0o600 for name in left), True)
+        for name in left:
+            os.remove(lab.path(name))
     print(f"of {kills} restores that were killed {kept} left the file as it was, and {replaced} had put the backup there")
 
 
@@ -496,7 +525,7 @@ def main():
         killed_restores(lab, kills)
 
     killed.__name__ = "killed_restores"
-    for part in (backups_while_nobody_serves, backups_while_serving, restores, killed, what_others_may_read, foreign_files,
+    for part in (backups_while_nobody_serves, backups_while_serving, copies_apart, restores, killed, what_others_may_read, foreign_files,
                  why_a_database_is_unavailable, why_a_text_is_refused, what_verbose_leaves, little_stack):
         with tempfile.TemporaryDirectory() as folder:
             lab = Laboratory(program, folder)

@@ -1,11 +1,16 @@
-"""What the operator is shown of accounts and of requests, while the records are served and while they aren't.
+"""What the operator is shown of accounts, of requests and of a certification, while the records are served and while
+they aren't.
 
     operators-view.py PROGRAM
 
 The wanted lines are written from what was asked for here, and the bodies are those that the account itself gets by its
 own requests. Nothing is left beside the database, and nothing of it changes."""
+import contextlib
+import hashlib
 import json
 import os
+import shutil
+import sqlite3
 import sys
 import tempfile
 
@@ -56,11 +61,13 @@ def asked(lab, token):
 
 
 def certified(lab, token):
-    """A session with a right vector set and a wrong one, which is cancelled, waits for its certification."""
+    """A session with a right vector set and a wrong one, which is cancelled, waits for its certification. Gives what
+    `request-show` is to print of it, its token, and the answers to the right vector set."""
     made = lab.must("POST", "/testSessions", token, {"algorithms": CAPABILITIES})
     bound, session = made["accessToken"], short(made["url"])
     right, wrong = map(short, made["vectorSetUrls"])
-    lab.must("POST", right + "/results", bound, answers(lab.must("GET", right, bound)))
+    given = answers(lab.must("GET", right, bound))
+    lab.must("POST", right + "/results", bound, given)
     lab.must("POST", wrong + "/results", bound, {"testGroups": [], "vsId": int(wrong.split("/")[-1])})
     kept, failed = body(lab, right + "/results", bound), body(lab, wrong + "/results", bound)
     lab.must("DELETE", wrong, bound)
@@ -70,7 +77,7 @@ def certified(lab, token):
     wanted = ["7000004 account 7 certification session 7000001 module 7000001 environment 7000001 initial",
               ("vectorSet 700000101 kept ", CAPABILITIES[0]), f"vectorSet 700000101 {kept}",
               ("vectorSet 700000102 cancelled ", CAPABILITIES[1]), f"vectorSet 700000102 {failed}"]
-    return wanted + [f"/acvp/v1{path} {body(lab, path, by)}" for path, by in paths]
+    return wanted + [f"/acvp/v1{path} {body(lab, path, by)}" for path, by in paths], bound, given
 
 
 def compared(what, shown, wanted):
@@ -82,6 +89,79 @@ def compared(what, shown, wanted):
             expect(what, {**json.loads(line[len(front):]), "revision": "1.0"}, capability)
         else:
             expect(what, line, right)
+
+
+def kept_answers(lab, number):
+    """The text of the answers to a vector set, as SQLite reads it from a copy of the file and its log."""
+    with tempfile.TemporaryDirectory() as folder:
+        copy = os.path.join(folder, "copy.db")
+        for end in ("", "-wal"):
+            if os.path.exists(lab.db + end):
+                shutil.copy(lab.db + end, copy + end)
+        with contextlib.closing(sqlite3.connect(copy)) as connection:
+            return connection.execute("SELECT answers FROM vset2 WHERE vs = ?", (number,)).fetchone()[0]
+
+
+def texts(test):
+    """The texts that a test is answered."""
+    results = test["resultsArray"] if "resultsArray" in test else [test]
+    return [result["md"] if "md" in result else result["mac"] for result in results]
+
+
+def document(lab):
+    """The document of the certification, which is one line of compact JSON with ascending members."""
+    shown = shows(lab, "certificate", "--db", lab.db, "--keys", lab.keys, "--request", "7000004")
+    expect("the lines of the document", len(shown), 1)
+    expect("the document as compact JSON", json.dumps(json.loads(shown[0]), ensure_ascii=False, separators=(",", ":"), sort_keys=True), shown[0])
+    return shown[0]
+
+
+def says(lab, text, wanted, given):
+    """The document has what was asked for and what the account itself read, and the digest of the kept answers."""
+    read = {path: json.loads(body)[1] for path, body in (line.split(" ", 1) for line in wanted[5:])}
+    session = read["/acvp/v1/testSessions/7000001"]
+    kept = kept_answers(lab, 700000101)
+    expect("the kept answers", json.loads(kept),
+           [[test["tcId"], texts(test)] for group in given["testGroups"] for test in group["tests"]])
+    expect("the document", json.loads(text),
+           {"account": 7, "module": read["/acvp/v1/modules/7000001"], "oe": read["/acvp/v1/oes/7000001"],
+            "requestUrl": "/acvp/v1/requests/7000004",
+            "testSession": {"createdOn": session["createdOn"], "url": session["url"]},
+            "vectorSets": [{"answersSha256": hashlib.sha256(kept.encode()).hexdigest(), "capability": CAPABILITIES[0],
+                            "disposition": "passed", "vsId": 700000101}],
+            "vendor": read["/acvp/v1/vendors/7000001"]})
+
+
+def no_documents(lab):
+    """Only an approved certification has a document, and only under the seed of its vector sets."""
+    show = ["certificate", "--db", lab.db, "--keys", lab.keys, "--request"]
+    for number in ("7000001", "7000005", "8000001", "1"):
+        lab.fails("unknown", *show, number)
+    lab.fails("keys", "certificate", "--db", lab.db, "--keys", lab.path("no-keys"), "--request", "7000004")
+    lab.fails("unavailable", "certificate", "--db", lab.path("absent.db"), "--keys", lab.keys, "--request", "7000004")
+    other = lab.write(lab.path("other-keys"), f"{laboratory.KEY.hex()}\n{bytes(32).hex()}\n")
+    os.chmod(other, 0o600)
+    expect("under another seed", lab.run("certificate", "--verbose", "--db", lab.db, "--keys", other, "--request", "7000004"),
+           (1, "", "fault: keys\nbecause: --keys: it lacks a seed that a vector set names, or has another in its place\n"))
+    os.remove(other)
+    expect("no number", lab.run(*show, "0")[0], 2)
+
+
+def certificates(lab, wanted, token, bound, given):
+    """The document is the same bytes after a restart and after all that may happen later."""
+    text = document(lab)
+    says(lab, text, wanted, given)
+    no_documents(lab)
+    lab.serve()
+    expect("the document while it is served", document(lab), text)
+    lab.must("POST", "/testSessions", token, {"algorithms": CAPABILITIES})
+    lab.must("POST", "/testSessions/7000001/reviewers", bound, {"account": 9999})
+    lab.must("POST", "/vendors", token, {"name": "Acme the second"})
+    lab.does("request 7000005 approved /acvp/v1/vendors/7000002", "request-approve", "--db", lab.db, "--request", "7000005")
+    lab.does("account 7 disabled", "account-disable", "--db", lab.db, "--account", "7")
+    expect("the document after later events", document(lab), text)
+    lab.kill()
+    expect("the document after a restart", document(lab), text)
 
 
 def looks(lab, wanted):
@@ -122,16 +202,18 @@ def main():
             lab.must("POST", "/vendors", lab.token(8), {"name": "Another"})
             lab.does("account 8 disabled", "account-disable", "--db", lab.db, "--account", "8")
             asked(lab, token)
-            wanted = certified(lab, token)
+            wanted, bound, given = certified(lab, token)
             looks(lab, wanted)
         finally:
             lab.kill()
         looks(lab, wanted)
+        lab.fails("unknown", "certificate", "--db", lab.db, "--keys", lab.keys, "--request", "7000004", what="before it is approved")
         lab.does("request 7000004 approved /acvp/v1/testSessions/7000001", "request-approve", "--db", lab.db, "--request", "7000004")
         expect("no more than the other waits", shows(lab, "requests", "--db", lab.db), ["8000001 account 8 vendor initial"])
         shown = shows(lab, "request-show", "--db", lab.db, "--keys", lab.keys, "--request", "7000004")
         expect("the line of what is approved", shown[0], wanted[0].replace("initial", "approved 7000001"))
         expect("its session", json.loads(shown[5].split(" ", 1)[1])[1]["status"], "approved")
+        certificates(lab, wanted, token, bound, given)
     print(f"{laboratory.checked} comparisons")
 
 

@@ -662,7 +662,7 @@ def documents(lab):
     six_commands(other, folder)
     shutil.rmtree(folder)
     os.mkdir(folder)
-    lines = [line for line in commands_in("docs/OPERATING.md") if not re.match("PATH=|mkdir|cd |while|acvp_server serve", line)]
+    lines = [line for line in commands_in("docs/OPERATING.md") if not re.match("PATH=|mkdir|cd |while|acvp_server (serve|certificate)", line)]
     if not shutil.which("sqlite3"):
         lines = [line for line in lines if not line.startswith("sqlite3")]
     place = next(number for number, line in enumerate(lines) if "account-add" in line) + 1

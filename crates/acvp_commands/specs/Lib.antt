@@ -5,7 +5,6 @@ pub mod Files
 pub mod Hosting
 pub mod KeysFile
 pub mod Lines
-pub mod Listed
 pub mod Listening
 pub mod Numbers
 pub mod Ordered

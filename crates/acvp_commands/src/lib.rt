@@ -10,7 +10,6 @@ mod host;
 mod keys;
 mod life;
 mod lines;
-mod listed;
 mod numbers;
 mod orders;
 mod serving;
@@ -28,7 +27,6 @@ pub use life::{
     left_files_are_found, runs_follow, tables_live_on,
 };
 pub use lines::Message;
-pub use listed::{account_line, request_line};
 pub use numbers::{account_number, connection_count, patience_number, port_number, request_number};
 pub use orders::{carry_out, order_line};
 pub use serving::{Arrival, Listener, Taken, moment_of, serve_connections};

@@ -51,7 +51,7 @@ fn before_url(alloc: Global, request: u64) -> Result<String, AllocError>
 }
 
 /// Two texts as one.
-pub(crate) fn joined(alloc: Global, first: &str, second: &str) -> Result<String, AllocError>
+fn joined(alloc: Global, first: &str, second: &str) -> Result<String, AllocError>
     ensures { IfOk result (λ text. string_bytes text ≡ first.now ++ second.now) }
 {
     format!(in alloc; "{first}{second}")

@@ -1,11 +1,23 @@
--- The fault that a command tells of a database that it can't open.
-use Rattle.sqlite.specs.declared.error.Error.{Error}
-use Rattle.sqlite.specs.declared.error.Error.TheVariants.{SqliteFailure}
-use Rattle.sqlite.specs.declared.error.ErrorCode.TheVariants.{OutOfMemory}
+-- The faults of files and of what is shown, as a command tells them.
 use Rattle.acvp_commands.specs.declared.fault.Fault.{Fault}
-use Rattle.acvp_commands.specs.declared.fault.Fault.TheVariants.{Memory, Unavailable}
+use Rattle.acvp_commands.specs.declared.fault.Fault.TheVariants.{Keys, Memory, Schema, Taken, Unavailable, Unknown}
+use Rattle.acvp_commands.specs.declared.fault.Fault.TheVariants.{Write}
+use Rattle.acvp_files.specs.declared.fault.FileFault.{FileFault}
+use Rattle.acvp_files.specs.declared.fault.FileFault.TheVariants as files
+use Rattle.acvp_view.specs.declared.fault.ViewFault.{ViewFault}
+use Rattle.acvp_view.specs.declared.fault.ViewFault.TheVariants as view
 
--- a database that can't be opened, for whatever else, is unavailable
-abbrev pub fault_of_open : Error → Fault
-fault_of_open (SqliteFailure OutOfMemory) = Memory
-fault_of_open _ = Unavailable
+-- each fault of a database's files keeps its name
+abbrev pub fault_of_files : FileFault → Fault
+fault_of_files files.Taken = Taken
+fault_of_files files.Unavailable = Unavailable
+fault_of_files files.Schema = Schema
+fault_of_files files.Memory = Memory
+
+-- a vector set whose seed isn't among the keys is a fault of the keys
+abbrev pub fault_of_view : ViewFault → Fault
+fault_of_view view.Unknown = Unknown
+fault_of_view view.Refused = Unavailable
+fault_of_view view.Seed = Keys
+fault_of_view view.Write = Write
+fault_of_view view.Memory = Memory

@@ -1,4 +1,1 @@
 pub mod Faults
-pub mod Pages
-pub mod Rules
-pub mod Texts

@@ -110,6 +110,13 @@ const PATIENCE_OPTION: Wanted = Wanted {
     form: Form::Optional,
 };
 
+const GRADES_OPTION: Wanted = Wanted {
+    name: "grades",
+    value: "yes|no",
+    help: "Whether each kept verdict is compared with a new one; yes without it",
+    form: Form::Optional,
+};
+
 const TO_OPTION: Wanted = Wanted {
     name: "to",
     value: "FILE",
@@ -146,7 +153,7 @@ const LOG_FLAG: Wanted = Wanted {
 };
 
 /// The program's subcommands.
-static SUBCOMMANDS: [Subcommand; 13] = [
+static SUBCOMMANDS: [Subcommand; 15] = [
     Subcommand {
         name: "init",
         about: "Makes the tables in a file, which is made where it isn't there",
@@ -200,6 +207,18 @@ static SUBCOMMANDS: [Subcommand; 13] = [
         about: "Shows what a decision on a request needs, also while the records are served",
         example: "Example: acvp_server request-show --db laboratory.db --keys keys.txt --request 7000001",
         options: &[DB_OPTION, KEYS_OPTION, REQUEST_OPTION, VERBOSE_FLAG],
+    },
+    Subcommand {
+        name: "certificate",
+        about: "Prints the document of an approved certification, also while the records are served",
+        example: "Example: acvp_server certificate --db laboratory.db --keys keys.txt --request 7000004",
+        options: &[DB_OPTION, KEYS_OPTION, REQUEST_OPTION, VERBOSE_FLAG],
+    },
+    Subcommand {
+        name: "check",
+        about: "Says whether the records are whole, or what is wrong with them, also while they are served",
+        example: "Example: acvp_server check --db laboratory.db --keys keys.txt",
+        options: &[DB_OPTION, KEYS_OPTION, GRADES_OPTION, VERBOSE_FLAG],
     },
     Subcommand {
         name: "serve",

@@ -1,5 +1,5 @@
 //! The machine: its ports, and what it prints.
-use crate::port::{Port, port_on};
+use crate::port::{LoggedPort, logged_port};
 use crate::printing::print_line;
 use acvp_commands::{Fault, Host, Message, Service};
 use std::alloc::{AllocGlobal, Global};
@@ -19,7 +19,7 @@ pub(crate) struct Machine<'a, R> {
 impl<'a, R: AllocGlobal + Clock + Eprint + Files + Net + Print> Host for Machine<'a, R> {
     ghost use Rattle.std.specs.Prelude.{⊤};
 
-    type Port = Port<'a, R>;
+    type Port = LoggedPort<'a, R>;
 
     // No contract can say what the machine does.
     ghost hosting = { record {
@@ -34,8 +34,8 @@ impl<'a, R: AllocGlobal + Clock + Eprint + Files + Net + Print> Host for Machine
         self.rt.alloc()
     }
 
-    fn listen(&mut self, service: Service) -> Result<Port<'a, R>, Fault> {
-        port_on(
+    fn listen(&mut self, service: Service) -> Result<LoggedPort<'a, R>, Fault> {
+        logged_port(
             self.rt,
             self.rt.alloc(),
             self.database,
@@ -44,7 +44,7 @@ impl<'a, R: AllocGlobal + Clock + Eprint + Files + Net + Print> Host for Machine
         )
     }
 
-    fn finish(&mut self, port: &mut Port<'a, R>) {
+    fn finish(&mut self, port: &mut LoggedPort<'a, R>) {
         port.finish();
     }
 

@@ -1,20 +1,16 @@
-//! What the operator looks at: accounts, requests, and what a decision on one needs. It is read in a copy of the
-//! database, so nothing is changed and nobody is held up, also while it is served.
-use crate::copies::tables_of_copy;
-use acvp_commands::{
-    Fault, SystemFiles, account_line, desk_over, keys_in, moment_of, request_line,
+//! What the operator looks at, in a copy of the database: so nothing is changed and nobody is held up, also while it is
+//! served.
+ghost use Rattle.std.specs.Prelude.{◌≡◌};
+ghost use Rattle.acvp_server.specs.Faults.{fault_of_view};
+
+use crate::database::fault_of_files;
+use acvp_audit::Watch;
+use acvp_commands::{Fault, SystemFiles, keys_in, moment_of};
+use acvp_files::{FileTables, tables_of_copy};
+use acvp_view::{
+    ViewFault, show_accounts, show_certificate, show_check, show_request, show_requests,
 };
-use acvp_desk::{Desk, Keys};
-use acvp_http::{Routes, handle_bytes};
-use acvp_json::{ReplyObject, write_reply};
-use acvp_registry::{Kind, object_url};
-use acvp_store::SqlTables;
-use acvp_tables::{
-    Certification, Counted, RequestBody, RequestPurpose, RequestSummary, SetSummary, Tables,
-};
-use acvp_token::{Claims, KeyRing, issue_ring};
-use sqlite::Alter;
-use std::alloc::{AllocGlobal, Global};
+use std::io::IsTerminal;
 
 /// What is looked at, in the database at a path.
 #[derive(Clone, Copy)]
@@ -27,317 +23,104 @@ pub(crate) enum Look<'a> {
 
     /// What a decision on the request of a number needs, under the keys in a file.
     Request { keys: &'a str, number: u64 },
+
+    /// The document of the approved certification of a request's number, under the keys in a file.
+    Certificate { keys: &'a str, number: u64 },
+
+    /// Whether the rows are records that are kept under the keys in a file, with the verdicts on answers or without.
+    Check { keys: &'a str, grades: bool },
 }
 
-/// The greatest number of an account.
-const MOST_ACCOUNT: u16 = 9999;
+/// The fault of what isn't shown.
+fn fault_of_view(fault: ViewFault) -> Fault
+    ensures { result ≡ fault_of_view fault }
+{
+    match fault {
+        ViewFault::Unknown => Fault::Unknown,
+        ViewFault::Refused => Fault::Unavailable,
+        ViewFault::Seed => Fault::Keys,
+        ViewFault::Write => Fault::Write,
+        ViewFault::Memory => Fault::Memory,
+    }
+}
 
-/// How many numbers an account has.
-const NUMBERS_OF_AN_ACCOUNT: u64 = 1_000_000;
+/// The tables of a copy of a database.
+fn copy_of(rt: &HostRuntime, database: &str) -> Result<FileTables, Fault> {
+    match tables_of_copy(rt, database) {
+        Ok(tables) => Ok(tables),
+        Err(fault) => Err(fault_of_files(fault)),
+    }
+}
 
-/// How many vector sets a session has at most.
-const MOST_SETS: u64 = 20;
-
-/// How long a token lives, in seconds.
-const TOKEN_LIFE: u64 = 1800;
-
-/// Prints a line.
-fn print(rt: &HostRuntime, line: &str) -> Result<(), Fault> {
-    match println!(rt; "{line}") {
-        Ok(()) => Ok(()),
-        Err(_) => Err(Fault::Write),
+/// What showing something came to.
+fn seen(outcome: Result<(), ViewFault>) -> Result<bool, Fault> {
+    match outcome {
+        Ok(()) => Ok(true),
+        Err(fault) => Err(fault_of_view(fault)),
     }
 }
 
 /// Prints a line for each account.
 fn accounts(rt: &HostRuntime, database: &str) -> Result<bool, Fault> {
-    let mut tables = tables_of_copy(rt, database)?;
-    for number in 1..=MOST_ACCOUNT {
-        if let Some(line) = account_line(rt.alloc(), &mut tables, number)? {
-            print(rt, line.as_str())?;
-        }
-    }
-    Ok(true)
-}
-
-/// Prints a line for each request of an account that waits for a decision, or for all of its requests.
-fn requests_of<T: Tables>(
-    rt: &HostRuntime,
-    tables: &mut T,
-    account: u16,
-    all: bool,
-) -> Result<(), Fault> {
-    let count = tables.count(account, Counted::Requests)?;
-    let first = u64::from(account) * NUMBERS_OF_AN_ACCOUNT;
-    for place in 1..=count {
-        let number = first.saturating_add(place);
-        if let Some(line) = request_line(rt.alloc(), tables, number, all)? {
-            print(rt, line.as_str())?;
-        }
-    }
-    Ok(())
+    let mut tables = copy_of(rt, database)?;
+    seen(show_accounts(rt, &mut tables))
 }
 
 /// Prints a line for each request that waits for a decision, or for all.
 fn requests(rt: &HostRuntime, database: &str, all: bool) -> Result<bool, Fault> {
-    let mut tables = tables_of_copy(rt, database)?;
-    for account in 1..=MOST_ACCOUNT {
-        requests_of(rt, &mut tables, account, all)?;
-    }
-    Ok(true)
-}
-
-/// The body of a reply, as a text.
-fn body_of(reply: &[u8]) -> &str {
-    let Ok(text) = std::str::from_utf8(reply) else {
-        return "";
-    };
-    match text.split_once("\r\n\r\n") {
-        Some((_, body)) => body,
-        None => "",
-    }
-}
-
-/// An account that reads in the copy, with a token for its own paths and one for those of a test session.
-#[derive(Clone, Copy)]
-struct Reader<'a> {
-    rt: &'a HostRuntime,
-    routes: &'a Routes,
-    moment: u64,
-    own: &'a str,
-    bound: &'a str,
-}
-
-/// A token of an account, which may be bound to one of its test sessions.
-fn token_of(
-    alloc: Global,
-    ring: &KeyRing,
-    account: u16,
-    session: Option<u64>,
-    moment: u64,
-) -> Result<String, Fault> {
-    let claims = Claims {
-        account,
-        session,
-        issued: moment,
-        expires: moment.saturating_add(TOKEN_LIFE),
-    };
-    match issue_ring(alloc, ring, &claims) {
-        Ok(token) => Ok(token),
-        Err(_) => Err(Fault::Memory),
-    }
-}
-
-/// Prints a path, and the body that a request to read it with a token is answered.
-fn show<T: Tables>(
-    reader: Reader<'_>,
-    desk: &mut Desk<T>,
-    path: &str,
-    token: &str,
-) -> Result<(), Fault> {
-    let alloc = reader.rt.alloc();
-    let request = format!(in alloc;
-        "GET {path} HTTP/1.1\r\nHost: localhost\r\nAuthorization: Bearer {token}\r\n\r\n"
-    )?;
-    let reply = handle_bytes(reader.routes, desk, reader.moment, request.as_bytes());
-    let body = body_of(reply.bytes());
-    let line = format!(in alloc; "{path} {body}")?;
-    print(reader.rt, line.as_str())
-}
-
-/// Prints a test session as `show` does, or what lies below it.
-fn show_session<T: Tables>(
-    reader: Reader<'_>,
-    desk: &mut Desk<T>,
-    session: u64,
-    below: &str,
-) -> Result<(), Fault> {
-    let path = format!(in reader.rt.alloc(); "/acvp/v1/testSessions/{session}{below}")?;
-    show(reader, desk, path.as_str(), reader.bound)
-}
-
-/// Prints an object of a registry as `show` does.
-fn show_registered<T: Tables>(
-    reader: Reader<'_>,
-    desk: &mut Desk<T>,
-    kind: Kind,
-    number: u64,
-) -> Result<(), Fault> {
-    match object_url(reader.rt.alloc(), kind, number)? {
-        Some(path) => show(reader, desk, path.as_str(), reader.own),
-        None => Ok(()),
-    }
-}
-
-/// Prints a vector set: whether it was cancelled, its capability, and what its last answers came to.
-fn show_set<T: Tables>(rt: &HostRuntime, tables: &mut T, set: &SetSummary) -> Result<(), Fault> {
-    let alloc = rt.alloc();
-    let number = set.number;
-    let state = if set.cancelled { "cancelled" } else { "kept" };
-    if let Some(capability) = tables.capability(number)? {
-        let text = capability.to_text(alloc)?;
-        let line = format!(in alloc; "vectorSet {number} {state} {text}")?;
-        print(rt, line.as_str())?;
-    }
-    let Some(disposition) = set.disposition else {
-        return Ok(());
-    };
-    let Some(verdicts) = tables.verdicts(number)? else {
-        return Ok(());
-    };
-    let results = ReplyObject::SetResults {
-        vs: number,
-        disposition,
-        verdicts: &verdicts,
-    };
-    let body = write_reply(alloc, &results)?;
-    let text = std::str::from_utf8(&body).unwrap_or("");
-    let line = format!(in alloc; "vectorSet {number} {text}")?;
-    print(rt, line.as_str())
-}
-
-/// Prints each vector set of a test session, the cancelled ones too.
-fn show_sets<T: Tables>(rt: &HostRuntime, tables: &mut T, session: u64) -> Result<(), Fault> {
-    for place in 1..=MOST_SETS {
-        let number = session.saturating_mul(100).saturating_add(place);
-        if let Some(set) = tables.set(number)? {
-            show_set(rt, tables, &set)?;
-        }
-    }
-    Ok(())
-}
-
-/// Prints what a certification names, as the account that asks for it reads it.
-fn show_named<T: Tables>(
-    reader: Reader<'_>,
-    desk: &mut Desk<T>,
-    certification: Certification,
-    vendor: Option<u64>,
-) -> Result<(), Fault> {
-    show_session(reader, desk, certification.session, "")?;
-    show_session(reader, desk, certification.session, "/results")?;
-    show_registered(reader, desk, Kind::Module, certification.module)?;
-    if let Some(vendor) = vendor {
-        show_registered(reader, desk, Kind::Vendor, vendor)?;
-    }
-    show_registered(reader, desk, Kind::Environment, certification.environment)
-}
-
-/// The number of the vendor of a module, where there is one.
-fn vendor_of<T: Tables>(tables: &mut T, module: u64) -> Result<Option<u64>, Fault> {
-    match tables.object(Kind::Module, module)? {
-        Some(row) => Ok(row.object.vendor()),
-        None => Ok(None),
-    }
-}
-
-/// Prints what a certification names, as the account reads it that asks for it, at a desk of its own.
-fn show_read<T: Tables + Drop>(
-    rt: &HostRuntime,
-    tables: T,
-    keys: Keys,
-    account: u16,
-    certification: Certification,
-    vendor: Option<u64>,
-) -> Result<(), Fault> {
-    let alloc = rt.alloc();
-    let moment = moment_of(rt);
-    let own = token_of(alloc, &keys.token, account, None, moment)?;
-    let session = Some(certification.session);
-    let bound = token_of(alloc, &keys.token, account, session, moment)?;
-    let routes = Routes::new(alloc)?;
-    let mut desk = desk_over(alloc, keys, tables)?;
-    let reader = Reader {
-        rt,
-        routes: &routes,
-        moment,
-        own: own.as_str(),
-        bound: bound.as_str(),
-    };
-    show_named(reader, &mut desk, certification, vendor)
-}
-
-/// Prints what a decision on a certification needs.
-fn show_certification<T: Tables + Drop>(
-    rt: &HostRuntime,
-    mut tables: T,
-    keys: Keys,
-    account: u16,
-    certification: Certification,
-) -> Result<(), Fault> {
-    show_sets(rt, &mut tables, certification.session)?;
-    let vendor = vendor_of(&mut tables, certification.module)?;
-    show_read(rt, tables, keys, account, certification, vendor)
-}
-
-/// Prints the object that a request asks to register, where it asks for that.
-fn show_object<S: Alter + Drop>(
-    rt: &HostRuntime,
-    tables: &mut SqlTables<S>,
-    request: &RequestSummary,
-) -> Result<(), Fault> {
-    let Ok(rows) = tables.requests_numbered(request.account) else {
-        return Err(Fault::Unavailable);
-    };
-    for row in rows.iter() {
-        if row.number == request.number
-            && let RequestBody::Registration(object) = &row.body
-        {
-            print(rt, object.text())?;
-        }
-    }
-    Ok(())
-}
-
-/// Prints the line of a request, and gives it.
-fn request_of<T: Tables>(
-    rt: &HostRuntime,
-    tables: &mut T,
-    number: u64,
-) -> Result<RequestSummary, Fault> {
-    let Some(request) = tables.request(number)? else {
-        return Err(Fault::Unknown);
-    };
-    if let Some(line) = request_line(rt.alloc(), tables, number, true)? {
-        print(rt, line.as_str())?;
-    }
-    Ok(request)
-}
-
-/// Prints what a request asks for, where that is a certification: each vector set of the session, and what the account
-/// reads of all that it names.
-fn show_certified<T: Tables + Drop>(
-    rt: &HostRuntime,
-    tables: T,
-    keys: Keys,
-    request: RequestSummary,
-) -> Result<(), Fault> {
-    match request.purpose {
-        RequestPurpose::Registration(_) => Ok(()),
-        RequestPurpose::Certification(certification) => {
-            show_certification(rt, tables, keys, request.account, certification)
-        }
-    }
-}
-
-/// Prints what a decision on a request needs: its line, and then what it asks for.
-fn show_request<S: Alter + Drop>(
-    rt: &HostRuntime,
-    mut tables: SqlTables<S>,
-    keys: Keys,
-    number: u64,
-) -> Result<(), Fault> {
-    let request = request_of(rt, &mut tables, number)?;
-    show_object(rt, &mut tables, &request)?;
-    show_certified(rt, tables, keys, request)
+    let mut tables = copy_of(rt, database)?;
+    seen(show_requests(rt, &mut tables, all))
 }
 
 /// Prints what a decision on the request of a number needs.
 fn request_show(rt: &HostRuntime, database: &str, keys: &str, number: u64) -> Result<bool, Fault> {
     let keys = keys_in(&SystemFiles(rt), keys)?;
-    let tables = tables_of_copy(rt, database)?;
-    show_request(rt, tables, keys, number)?;
-    Ok(true)
+    let tables = copy_of(rt, database)?;
+    seen(show_request(rt, tables, keys, moment_of(rt), number))
+}
+
+/// Prints the document of the approved certification of a request's number.
+fn certificate(rt: &HostRuntime, database: &str, keys: &str, number: u64) -> Result<bool, Fault> {
+    let keys = keys_in(&SystemFiles(rt), keys)?;
+    let mut tables = copy_of(rt, database)?;
+    seen(show_certificate(rt, &mut tables, &keys.seed, number))
+}
+
+/// How far a check has come, as it is shown on a terminal.
+#[derive(Clone, Copy)]
+struct Progress<'a> {
+    rt: &'a HostRuntime,
+    is_shown: bool,
+}
+
+impl Watch for Progress<'_> {
+    fn looked_at(&self, account: u16) {
+        if self.is_shown && account % 100 == 0 {
+            let _ = eprint!(self.rt; "\r{account} of 9999 accounts ");
+        }
+    }
+}
+
+/// Says that the rows aren't those of records that are kept.
+fn tell_damaged(rt: &HostRuntime) -> bool {
+    let _ = eprintln!(rt; "fault: rows");
+    false
+}
+
+/// Prints what a check of the rows comes to, and says whether they are whole.
+fn checked(rt: &HostRuntime, database: &str, keys: &str, grades: bool) -> Result<bool, Fault> {
+    let keys = keys_in(&SystemFiles(rt), keys)?;
+    let mut tables = copy_of(rt, database)?;
+    let is_shown = rt.stderr().is_terminal();
+    let progress = Progress { rt, is_shown };
+    let outcome = show_check(rt, &mut tables, &keys.seed, grades, &progress);
+    if is_shown {
+        let _ = eprintln!(rt; "");
+    }
+    match outcome {
+        Ok(whole) => Ok(whole || tell_damaged(rt)),
+        Err(fault) => Err(fault_of_view(fault)),
+    }
 }
 
 /// Prints what is looked at.
@@ -346,5 +129,7 @@ pub(crate) fn shown(rt: &HostRuntime, database: &str, look: Look<'_>) -> Result<
         Look::Accounts => accounts(rt, database),
         Look::Requests { all } => requests(rt, database, all),
         Look::Request { keys, number } => request_show(rt, database, keys, number),
+        Look::Certificate { keys, number } => certificate(rt, database, keys, number),
+        Look::Check { keys, grades } => checked(rt, database, keys, grades),
     }
 }

@@ -3,37 +3,26 @@
 
 ghost use Rattle.acvp_commands.specs.Asked.{NamesAccount};
 
-mod begins;
-mod client;
 mod command;
-mod copies;
 mod database;
 mod host;
-mod log;
 mod looks;
-mod pages;
 mod port;
 mod printing;
-mod privacy;
-mod rules;
 mod script;
-mod socket;
-mod texts;
 mod why;
 
 use crate::command::{ALL, LOG, VERBOSE, command};
-use crate::copies::{backup, restore};
-use crate::database::{Said, done_in};
+use crate::database::{Said, done_in, fault_of_files};
 use crate::looks::{Look, shown};
 use crate::printing::print_line;
-use crate::privacy::tell_open;
 use crate::script::script;
-use crate::why::{
-    Because, Cause, Copying, tell_because, why_failed, why_not_copied, why_not_shown,
-};
+use crate::why::{Copying, tell_because, why_failed, why_not_copied, why_not_shown};
+use acvp_causes::{Because, Cause};
 use acvp_commands::{
     BadNumber, Deed, Fault, Invocation, SystemFiles, asked_by, exit_status, request_number, work_of,
 };
+use acvp_files::{FileFault, backup, restore, tell_open};
 use clap::error::ErrorKind;
 use clap::{ArgMatches, Error};
 use sqlite::Wary;
@@ -170,8 +159,10 @@ fn value<'a>(options: &ArgMatches<'a>, name: &str) -> &'a str {
 }
 
 /// Prints a line where something is done.
-fn say_done(rt: &HostRuntime, outcome: Result<(), Fault>, line: &str) -> Result<bool, Fault> {
-    outcome?;
+fn say_done(rt: &HostRuntime, outcome: Result<(), FileFault>, line: &str) -> Result<bool, Fault> {
+    if let Err(fault) = outcome {
+        return Err(fault_of_files(fault));
+    }
     match println!(rt; "{line}") {
         Ok(()) => Ok(true),
         Err(_) => Err(Fault::Write),
@@ -241,20 +232,44 @@ fn execute_copy(rt: &HostRuntime, copying: Copying<'_>, flags: Flags) -> ExitCod
     code
 }
 
-/// What the command line asks to look at, and in which database.
-fn look_of<'a>(matches: &ArgMatches<'a>) -> Option<Result<(&'a str, Look<'a>), BadNumber>> {
+/// What of a request is looked at, by the name of the command, its keys and the request's number.
+fn request_look<'a>(name: &str, keys: &'a str, number: u64) -> Look<'a> {
+    if name == "certificate" {
+        Look::Certificate { keys, number }
+    } else {
+        Look::Request { keys, number }
+    }
+}
+
+/// What is said where it isn't told whether verdicts are compared.
+const BAD_GRADES: &str = "--grades is yes or no";
+
+/// The check that is asked for: with the verdicts, unless it is to leave them out.
+fn check_look<'a>(options: &ArgMatches<'a>) -> Option<Look<'a>> {
+    let grades = match options.get_str("grades") {
+        None | Some("yes") => true,
+        Some("no") => false,
+        Some(_) => return None,
+    };
+    let keys = value(options, "keys");
+    Some(Look::Check { keys, grades })
+}
+
+/// What the command line asks to look at, and in which database; or why it is refused.
+fn look_of<'a>(matches: &ArgMatches<'a>) -> Option<Result<(&'a str, Look<'a>), &'static str>> {
     let (name, options) = matches.subcommand()?;
     let look = match name {
         "accounts" => Look::Accounts,
         "requests" => Look::Requests {
             all: options.get_flag(ALL),
         },
-        "request-show" => match request_number(value(options, "request")) {
-            Some(number) => Look::Request {
-                keys: value(options, "keys"),
-                number,
-            },
-            None => return Some(Err(BadNumber::Request)),
+        "request-show" | "certificate" => match request_number(value(options, "request")) {
+            Some(number) => request_look(name, value(options, "keys"), number),
+            None => return Some(Err(BadNumber::Request.message())),
+        },
+        "check" => match check_look(options) {
+            Some(look) => look,
+            None => return Some(Err(BAD_GRADES)),
         },
         _ => return None,
     };
@@ -264,8 +279,11 @@ fn look_of<'a>(matches: &ArgMatches<'a>) -> Option<Result<(&'a str, Look<'a>), B
 /// Shows what is looked at in a database, and gives the exit status.
 fn execute_look(rt: &HostRuntime, db: &str, look: Look<'_>, flags: Flags) -> ExitCode {
     tell_open(rt, db);
-    if let Look::Request { keys, .. } = look {
-        tell_open(rt, keys);
+    match look {
+        Look::Request { keys, .. } | Look::Certificate { keys, .. } | Look::Check { keys, .. } => {
+            tell_open(rt, keys);
+        }
+        Look::Accounts | Look::Requests { .. } => {}
     }
     let outcome = shown(rt, db, look);
     let code = ended(rt, outcome);
@@ -324,7 +342,7 @@ fn execute_words(rt: &HostRuntime, words: &[String]) -> ExitCode {
     }
     match look_of(&matches) {
         Some(Ok((db, look))) => return execute_look(rt, db, look, flags),
-        Some(Err(bad)) => return refused_for(rt, bad.message()),
+        Some(Err(why)) => return refused_for(rt, why),
         None => {}
     }
     match asked_by(&matches) {

@@ -1,0 +1,340 @@
+#!/usr/bin/env python3
+"""Has `check` look at a file with a validation of each of two accounts, which the program made, and at copies of it that
+are damaged, each in one way, by Python's sqlite3: the file is whole, with so many rows; and of each damage it tells the
+row, by its table and key, and the word of the condition that is broken first. Nothing is written. It looks at files of
+the earlier schemas, too, after `migrate`, and while a file is served.
+
+    whole-and-damaged-files.py PROGRAM SHIM
+
+PROGRAM is the built program, and SHIM the library of set_clock.c, which shows it one moment.
+
+What can't be made: a row that refers to none, since no such file is opened; two rows under one key; and more than 999999
+sessions or requests of an account, which take too long."""
+import importlib.util
+import os
+import shutil
+import subprocess
+import sys
+import tempfile
+
+import laboratory
+from laboratory import Laboratory, compact, expect, free_port
+
+
+def module_of(name):
+    """What a check beside this one defines."""
+    path = os.path.join(os.path.dirname(os.path.abspath(__file__)), name + ".py")
+    spec = importlib.util.spec_from_file_location(name.replace("-", "_"), path)
+    module = importlib.util.module_from_spec(spec)
+    spec.loader.exec_module(module)
+    return module
+
+
+rows = module_of("damaged-rows")
+earlier = module_of("files-of-earlier-schemas")
+VENDOR, MODULE, ENVIRONMENT = rows.VENDOR, rows.MODULE, rows.ENVIRONMENT
+CERTIFIED, WAITING, OPEN, SAMPLE, CANCELLED, READY = (7000000 + place for place in rows.SESSIONS)
+NAMED = '{"name":"V"}'
+TWO_OF_MODULE = ('{"moduleUrl":"/acvp/v1/modules/7000001","oeUrl":"/acvp/v1/oes/%d","session":7000002}',
+                 '{"moduleUrl":"/acvp/v1/modules/%d","oeUrl":"/acvp/v1/oes/7000001","session":7000002}')
+
+# ---- damages: what is done, with the values for it; and the line that is told
+
+
+def insert(table, *values):
+    return f"INSERT INTO {table} VALUES ({','.join('?' * len(values))})", values
+
+
+def update(table, column, value, **keys):
+    wanted = " AND ".join(f"{name} = ?" for name in keys)
+    return f"UPDATE {table} SET {column} = ? WHERE {wanted}", (value, *keys.values())
+
+
+def delete(table, **keys):
+    return f"DELETE FROM {table} WHERE " + " AND ".join(f"{name} = ?" for name in keys), tuple(keys.values())
+
+
+def new_session(number, account=7, live=1):
+    return insert("session", number, account, 0, rows.MOMENT, 0, None, live, 0)
+
+
+def new_set(number, session):
+    return insert("vset2", number, session, compact(rows.SHORT).decode(), 0, None, None, None, 0)
+
+
+def outside():
+    """Rows whose numbers begin with no account's."""
+    for number in (0, -1, 10000, 2**63 - 1):
+        yield [insert("account", number, bytes(32), 1, None)], f"account {number} outside"
+    for number in (0, 999999, -7000001, 10000000000):
+        yield [new_session(number)], f"session {number} outside"
+    for number in (5, 99999999, 1000000000000):
+        yield [new_set(number, OPEN)], f"set {number} outside"
+    for kind, number in ((VENDOR, 5), (MODULE, 10000000000), (0, 7000001), (4, 7000001)):
+        yield [insert("object", kind, number, 7, NAMED)], f"object {number} outside"
+    for number in (1, 10000000000):
+        yield [insert("request", number, 7, VENDOR, NAMED, 0, None)], f"request {number} outside"
+
+
+def stray():
+    """Rows that stand for nothing."""
+    for column, value in (("secret", bytes(31)), ("secret", bytes(33)), ("enabled", 2), ("last_step", -1)):
+        yield [update("account", column, value, account=7)], "account 7 stray"
+    for column, value in (("sample", 2), ("created", -1), ("cancelled", 2), ("live", -1), ("passed", -1)):
+        yield [update("session", column, value, session=SAMPLE)], f"session {SAMPLE} stray"
+    passed = OPEN * 100 + 1
+    for column, value in (("capability", "{}"), ("capability", "["), ("cancelled", 2), ("epoch", -1), ("answers", None),
+                          ("answers", "no answers"), ("verdicts", "px"), ("verdicts", None), ("disposition", 99),
+                          ("disposition", None), ("disposition", 0)):
+        yield [update("vset2", column, value, vs=passed)], f"set {passed} stray"
+    yield ([("UPDATE vset2 SET capability = CAST(x'7bff7d' AS TEXT) WHERE vs = ?", (passed,))], f"set {passed} stray")
+    yield [update("vset2", "verdicts", "p", vs=OPEN * 100 + 4)], f"set {OPEN * 100 + 4} stray"
+    for body in ("{}", "", '{"name":""}'):
+        yield [update("object", "body", body, kind=VENDOR, number=7000001)], "object 7000001 stray"
+    yield [update("object", "body", NAMED, kind=MODULE, number=7000001)], "object 7000001 stray"
+    for column, value in (("kind", 99), ("status", 3), ("status", 0), ("approved", None), ("approved", -1), ("body", "{}")):
+        yield [update("request", column, value, request=7000001)], "request 7000001 stray"
+    yield [update("request", "approved", 7000001, request=7000008)], "request 7000008 stray"
+    yield [update("request", "body", NAMED, request=7000007)], "request 7000007 stray"
+    for account in (-1, 65536):
+        yield [update("reviewer", "account", account, session=OPEN, account=rows.SILENT)], f"reviewer {OPEN} stray"
+
+
+def owners():
+    """Rows that are of another account than their numbers say, or of another session."""
+    yield [update("session", "account", 8, session=READY)], f"session {READY} owner"
+    yield [update("vset2", "session", WAITING, vs=CERTIFIED * 100 + 1)], f"set {CERTIFIED * 100 + 1} owner"
+    yield [update("object", "account", 8, kind=VENDOR, number=7000001)], "object vendor 7000001 owner"
+    yield [update("object", "account", 8, kind=ENVIRONMENT, number=7000001)], "object environment 7000001 owner"
+    yield [update("request", "account", 8, request=7000008)], "request 7000008 owner"
+    yield [update("session", "account", 21, session=8000006)], "session 8000006 owner"
+
+
+def sessions():
+    last = READY * 100 + 1
+    moved = [update("session", "session", 7000009, session=READY), update("vset2", "session", 7000009, session=READY),
+             update("vset2", "vs", 700000901, vs=last)]
+    yield moved, "session 7000009 number"
+    yield [delete("vset2", session=SAMPLE), delete("session", session=SAMPLE)], f"session {CANCELLED} number"
+    for created in (rows.END_OF_MOMENTS, 2**63 - 1):
+        yield [update("session", "created", created, session=CERTIFIED)], f"session {CERTIFIED} created"
+    for request in (7000005, 7000001, 8000007):
+        yield [update("session", "certify", request, session=WAITING)], f"session {WAITING} lastRequest"
+    yield [update("session", "certify", 7000005, session=READY)], f"session {READY} lastRequest"
+    yield [delete("vset2", session=READY)], f"session {READY} noSet"
+    yield [new_set(READY * 100 + place, READY) for place in range(2, 22)], f"session {READY} manySets"
+    for column, value in (("live", 0), ("live", 5), ("passed", 0), ("passed", 4)):
+        yield [update("session", column, value, session=OPEN)], f"session {OPEN} counter"
+    for number, cancelled in ((OPEN * 100 + 1, 1), (OPEN * 100 + 5, 0)):
+        yield [update("vset2", "cancelled", cancelled, vs=number)], f"session {OPEN} counter"
+    yield [update("session", "passed", 9, session=8000006)], "session 8000006 counter"
+    # the last account there can be
+    yield [insert("account", 9999, bytes(32), 1, None), new_session(9999000001, 9999)], "session 9999000001 noSet"
+
+
+def sets():
+    yield [update("vset2", "vs", OPEN * 100 + 99, vs=OPEN * 100 + 5)], f"set {OPEN * 100 + 99} number"
+    yield ([delete("vset2", vs=OPEN * 100 + 4), update("session", "live", 3, session=OPEN)],
+           f"set {OPEN * 100 + 5} number")
+    for number in (OPEN * 100 + 1, OPEN * 100 + 4, READY * 100 + 1):
+        yield [update("vset2", "epoch", 1, vs=number)], f"set {number} noSeed"
+
+
+def requests():
+    yield [delete("request", request=7000010)], "request 7000011 number"
+    for number, text in ((7000002, TWO_OF_MODULE[0]), (7000009, TWO_OF_MODULE[1]), (8000001, TWO_OF_MODULE[1])):
+        yield [update("request", "body", text % number, request=7000007)], "request 7000007 body"
+    module = '{"name":"Module","vendorUrl":"/acvp/v1/vendors/7000009"}'
+    yield [update("request", "body", module, request=7000010)], "request 7000010 body"
+    yield [update("request", "approved", 7000009, request=7000001)], "request 7000001 notGiven"
+    yield [update("request", "approved", 7000002, request=7000005)], "request 7000005 notGiven"
+    yield [delete("object", kind=ENVIRONMENT, number=7000001)], "request 7000003 notGiven"
+
+
+def objects():
+    yield [insert("object", VENDOR, 7000003, 7, NAMED)], "account 7 manyObjects"
+    yield ([update("object", "number", 7000005, kind=VENDOR, number=7000002),
+            update("request", "approved", 7000005, request=7000002)], "object vendor 7000005 number")
+    yield [update("request", "approved", 7000001, request=7000002)], "object vendor 7000002 notAskedFor"
+    module = '{"name":"Module","vendorUrl":"/acvp/v1/vendors/7000009"}'
+    yield [update("object", "body", module, kind=MODULE, number=7000001)], "object module 7000001 object"
+
+
+def reviewers():
+    for account in (0, 10000):
+        yield ([update("reviewer", "account", account, session=OPEN, account=rows.SILENT)],
+               f"reviewer {OPEN} {account} noAccountNumber")
+    yield [insert("reviewer", OPEN, account) for account in range(100, 115)], f"reviewer {OPEN} 9 manyReviewers"
+
+
+GROUPS = (outside, stray, owners, sessions, sets, requests, objects, reviewers)
+
+
+def verdicts(connection):
+    """Verdicts that aren't those on the answers, with the disposition and the counters that belong to them."""
+    passed = OPEN * 100 + 1
+    (right,), = connection.execute("SELECT verdicts FROM vset2 WHERE vs = ?", (passed,))
+    (answers,), = connection.execute("SELECT answers FROM vset2 WHERE vs = ?", (passed,))
+    (count,), = connection.execute("SELECT passed FROM session WHERE session = ?", (OPEN,))
+    expect("the verdicts of a vector set that passed", set(right), {"p"})
+    for wrong in ("f" * len(right), right[:-1] + "f", "f" + right[1:]):
+        yield ([update("vset2", "verdicts", wrong, vs=passed), update("vset2", "disposition", 0, vs=passed),
+                update("session", "passed", count - 1, session=OPEN)], f"set {passed} verdicts")
+    # one hexadecimal digit of the last answer, and of the first
+    for place in (answers.rindex('"') - 1, answers.index('["') + 2):
+        digit = "0" if answers[place] != "0" else "1"
+        yield ([update("vset2", "answers", answers[:place] + digit + answers[place + 1:], vs=passed)],
+               f"set {passed} verdicts")
+    # a verdict more, and one less
+    for other in (right + "p", right[:-1]):
+        yield [update("vset2", "verdicts", other, vs=passed)], f"set {passed} verdicts"
+
+
+# ---- what is shown
+
+
+def whole_line(path):
+    connection = rows.opened(path)
+    counts = [connection.execute(f"SELECT count(*) FROM {table}").fetchone()[0]
+              for table in ("account", "session", "vset2", "request")]
+    connection.close()
+    return "whole: accounts %d sessions %d sets %d requests %d\n" % tuple(counts)
+
+
+def bytes_of(path):
+    with open(path, "rb") as file:
+        return file.read()
+
+
+def checks(lab, path, wanted, *more, keys=None):
+    """What `check` comes to, and that it writes nothing."""
+    before, beside = bytes_of(path), sorted(os.listdir(lab.folder))
+    expect(f"check {path} {more}", lab.run("check", "--db", path, "--keys", keys or lab.keys, *more), wanted)
+    expect("the file after a check", bytes_of(path) == before, True)
+    expect("what lies beside the file", sorted(os.listdir(lab.folder)), beside)
+
+
+def is_whole(lab, path, *more, keys=None):
+    checks(lab, path, (0, whole_line(path), ""), *more, keys=keys)
+
+
+def is_wrong(lab, path, line, *more, keys=None):
+    checks(lab, path, (1, line + "\n", "fault: rows\n"), *more, keys=keys)
+
+
+def damage(lab, whole, statements):
+    path = lab.path("damaged.db")
+    shutil.copy(whole, path)
+    connection = rows.opened(path)
+    for statement, values in statements:
+        changed = connection.execute(statement, values).rowcount
+        expect(f"whether {statement} {values} changes a row", changed >= 1, True)
+    connection.close()
+    return path
+
+
+def each_damage(lab, whole):
+    count = 0
+    for group in GROUPS:
+        for statements, line in group():
+            path = damage(lab, whole, statements)
+            is_wrong(lab, path, line)
+            # no condition but the last rests on the verdicts
+            is_wrong(lab, path, line, "--grades", "no")
+            count += 1
+    connection = rows.opened(whole)
+    changes = list(verdicts(connection))
+    connection.close()
+    for statements, line in changes:
+        path = damage(lab, whole, statements)
+        is_wrong(lab, path, line)
+        is_wrong(lab, path, line, "--grades", "yes")
+        is_whole(lab, path, "--grades", "no")
+        count += 1
+    print(f"{count} damages")
+
+
+def other_keys(lab, whole):
+    """Under another seed the first answered set has other standard answers; without a seed it has none."""
+    lines = bytes_of(lab.keys).decode().split()
+    other = lab.write(lab.path("other.txt"), f"{lines[0]}\n{'5' * 64}\n")
+    is_wrong(lab, whole, f"set {CERTIFIED * 100 + 1} verdicts", keys=other)
+    is_whole(lab, whole, "--grades", "no", keys=other)
+    added = lab.write(lab.path("added.txt"), f"token {lines[0]}\nseed {lines[1]}\nseed {'5' * 64}\n")
+    is_whole(lab, whole, keys=added)
+
+
+def faults(lab, whole):
+    """What can't be looked at."""
+    options = ["--keys", lab.keys]
+    lab.fails("keys", "check", "--db", whole, "--keys", lab.path("absent.txt"))
+    lab.fails("unavailable", "check", "--db", lab.path("absent.db"), *options)
+    lab.fails("unavailable", "check", "--db", lab.write(lab.path("text.db"), "no database" * 100), *options)
+    old = earlier.older_file(lab.path("old.db"), "schema 1")
+    lab.fails("schema", "check", "--db", old, *options)
+    referring = damage(lab, whole, [delete("account", account=7)])
+    lab.fails("unavailable", "check", "--db", referring, *options)
+    for words in (["--grades", "maybe"], ["--grades"]):
+        expect(f"the status of check {words}", lab.run("check", "--db", whole, *options, *words)[0], 2)
+
+
+def after_migrate(lab, whole):
+    """The same rows in a file of each earlier schema, which is moved."""
+    for name, (version, tables) in earlier.FORMS.items():
+        path = lab.path("moved.db")
+        shutil.rmtree(path, ignore_errors=True)
+        if os.path.exists(path):
+            os.remove(path)
+        connection = rows.opened(path)
+        for table in tables:
+            connection.execute(table)
+        connection.execute("ATTACH ? AS whole", (whole,))
+        connection.execute("INSERT INTO meta VALUES ('schema', ?)", (version,))
+        for table in ("account", "session", "object", "request"):
+            connection.execute(f"INSERT INTO {table} SELECT * FROM whole.{table}")
+        columns = "vs, session, capability, cancelled, answers, verdicts, disposition" + (", epoch" if version > 1 else "")
+        connection.execute(f"INSERT INTO {'vset' if version == 1 else 'vset2'} SELECT {columns} FROM whole.vset2")
+        connection.close()
+        lab.does("schema 3", "migrate", "--db", path)
+        for end in ("-wal", "-shm"):
+            if os.path.exists(path + end):
+                os.remove(path + end)
+        is_whole(lab, path)
+
+
+def while_served(lab, whole):
+    """A file that is served is looked at as it stands, and served on."""
+    path = lab.db
+    shutil.copy(whole, path)
+    lab.serve()
+    expect("a check of a file that is served", lab.run("check", "--db", path, "--keys", lab.keys)[:2], (0, whole_line(whole)))
+    expect("what is served then", lab.call("GET", "/account")[0], 401)
+    lab.kill()
+
+
+def main():
+    program, shim = map(os.path.abspath, sys.argv[1:])
+    with tempfile.TemporaryDirectory() as folder:
+        lab = Laboratory(program, folder)
+        # for the program that is started, not for this one
+        os.environ.update({"LD_PRELOAD": shim, "CLOCK": lab.write(lab.path("clock"), f"{rows.MOMENT}\n")})
+        try:
+            rows.whole_file(lab)
+            whole = lab.path("whole.db")
+            # a connection that closes takes the log into the file
+            connection = rows.opened(lab.db)
+            connection.execute("PRAGMA wal_checkpoint(TRUNCATE)")
+            connection.execute("VACUUM INTO ?", (whole,))
+            connection.close()
+            os.chmod(whole, 0o600)
+            is_whole(lab, whole)
+            is_whole(lab, whole, "--grades", "no")
+            for part in (each_damage, other_keys, faults, after_migrate, while_served):
+                part(lab, whole)
+        finally:
+            lab.kill()
+    print(f"{laboratory.checked} comparisons")
+
+
+if __name__ == "__main__":
+    main()

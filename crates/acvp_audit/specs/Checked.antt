@@ -1,0 +1,108 @@
+-- What a check of a file comes to.
+use Rattle.std.specs.Prelude.{◌≡◌, ℕ, zero, suc, ◌+◌, ◌<◌, ◌≤◌, List, length, Bool, true, false, None, Result, OnOk}
+use Rattle.std.specs.Prelude.{IsTrue}
+use Rattle.std.specs.List.{AllByRecursion}
+use Rattle.sqlite.specs.State.{State, HasCleanDisk}
+use Rattle.sqlite_trees.specs.Tree.{Trees}
+use Rattle.acvp_mac.specs.Conditions.{first_broken}
+use Rattle.acvp_check.specs.Conditions.{all_conditions}
+use Rattle.acvp_check.specs.Order.{HaveSameRows, AreInOrder}
+use Rattle.acvp_check.specs.Owners.{owner_conditions}
+use Rattle.acvp_check.specs.Rows.{rows_numbered}
+use Rattle.acvp_desk.specs.Kept.{IsKept}
+use Rattle.acvp_tables.specs.Content.{Content}
+use Rattle.acvp_tables.specs.Counted.{IsCounted}
+use Rattle.acvp_tables.specs.State.{AreWellNumbered}
+use Rattle.acvp_tables.specs.declared.rows.RequestRow.{RequestRow}
+use Rattle.acvp_store.specs.Connection.{Stays, LeavesNoMore}
+use Rattle.acvp_store.specs.Ranges.{KeepsSets}
+use Rattle.acvp_store.specs.Schema.{Layout}
+use Rattle.acvp_store.specs.Stands.{Stands, set_tree}
+use Rattle.acvp_audit.specs.Read.{AreRowsOf, IsRegistrable}
+use Rattle.acvp_audit.specs.Wrong.{IsBroken, IsWithin, HasStray}
+use Rattle.acvp_audit.specs.declared.damage.Damage.{Damage}
+use Rattle.acvp_audit.specs.declared.damage.Damage.TheVariants as damage
+use Rattle.acvp_audit.specs.declared.damage.Totals.{Totals}
+use Rattle.acvp_audit.specs.declared.table.Table.{Table}
+
+-- a reading, which commits nothing and leaves an open connection open where it succeeds
+pub record IsReading {X E : Type 0} (result : Result X E) (old new : State) : Type 0 where
+  pub stays : Stays old new
+  pub was_clean : HasCleanDisk new → HasCleanDisk old
+  pub stays_open : OnOk result (HasCleanDisk new → IsTrue old.is_open → IsTrue new.is_open)
+  pub limit : new.step_limit ≡ old.step_limit
+  pub left : LeavesNoMore old new
+
+-- how many rows a content has
+abbrev pub totals_of : Content → Totals
+totals_of c = record {
+  accounts = length c.accounts;
+  sessions = length c.sessions;
+  sets = length c.sets;
+  requests = length c.requests;
+}
+
+abbrev pub plus : Totals → Totals → Totals
+plus a b = record {
+  accounts = a.accounts + b.accounts;
+  sessions = a.sessions + b.sessions;
+  sets = a.sets + b.sets;
+  requests = a.requests + b.requests;
+}
+
+-- ---- accounts
+
+-- no condition is broken on the rows with an account's numbers
+pub record IsFine (grades : Bool) (seeds : List (List ℕ)) (layout : Layout) (trees : Trees) (u : ℕ) (mine : Content)
+    : Type 0 where
+  pub rows : AreRowsOf layout trees u mine
+  pub owners : first_broken (owner_conditions mine) ≡ None
+  pub others : first_broken (all_conditions grades seeds u mine) ≡ None
+
+-- how many rows the first accounts have
+unfoldable pub totals_to : (ℕ → Content) → ℕ → Totals
+totals_to lists zero = record { accounts = 0; sessions = 0; sets = 0; requests = 0 }
+totals_to lists (suc u) = plus (totals_to lists u) (totals_of (lists (suc u)))
+
+-- none is on those of the accounts up to one, which have so many rows in all
+pub record AreFineTo (grades : Bool) (seeds : List (List ℕ)) (layout : Layout) (trees : Trees) (last : ℕ)
+    (totals : Totals) : Type 0 where
+  pub lists : ℕ → Content
+  pub fine : (u : ℕ) → 0 < u → u ≤ last → IsFine grades seeds layout trees u (lists u)
+  pub counted : totals ≡ totals_to lists last
+
+abbrev pub AreWithin : Layout → Trees → Type 0
+AreWithin layout trees = (t : Table) → IsWithin t layout trees
+
+-- ---- the whole
+
+-- The records are kept. Without the verdicts on the answers they are well numbered and counted.
+abbrev pub AreKeptAs : Bool → List (List ℕ) → Content → Type 0
+AreKeptAs true seeds c = IsKept seeds c
+AreKeptAs false seeds c = AreWellNumbered c × IsCounted c
+
+-- The rows stand for records that are kept, so many in all.
+pub record IsWholeAs (grades : Bool) (seeds : List (List ℕ)) (layout : Layout) (trees : Trees) (totals : Totals)
+    : Type 0 where
+  pub records : Content
+  pub stand : Stands layout trees records
+  pub kept : AreKeptAs grades seeds records
+  pub counted : totals ≡ totals_of records
+
+-- What is told of a content that the rows stand for. A row lies outside the numbers of accounts, or is that of none of
+-- the members that a kept content has; or a condition is the first that is broken on the content's own rows with an
+-- account's numbers, in the order of their tables' keys.
+abbrev pub IsTold : Bool → List (List ℕ) → Layout → Trees → Content → Damage → Type 0
+IsTold grades seeds layout trees c (damage.Outside t number) = ¬ IsWithin t layout trees
+IsTold grades seeds layout trees c (damage.Stray t number) = HasStray t number layout trees
+IsTold grades seeds layout trees c (damage.Broken u found) =
+    (mine : Content) × HaveSameRows (rows_numbered u c) mine × AreInOrder mine × IsBroken grades seeds u mine found
+
+-- Whatever content the rows stand for, with texts of capabilities in UTF-8: it isn't kept. And what is told is so of it,
+-- where each registration that was asked for is of one of the three kinds.
+pub record IsRefuted (grades : Bool) (seeds : List (List ℕ)) (layout : Layout) (trees : Trees) (found : Damage)
+    : Type 0 where
+  pub told : (c : Content) → Stands layout trees c → KeepsSets (trees (set_tree layout)) c.sets
+      → AllByRecursion (λ (row : RequestRow). IsRegistrable row.body) c.requests
+      → IsTold grades seeds layout trees c found
+  pub refuted : (c : Content) → Stands layout trees c → KeepsSets (trees (set_tree layout)) c.sets → ¬ IsKept seeds c

@@ -1,0 +1,62 @@
+-- What can be wrong with a file.
+use Rattle.std.specs.Prelude.{◌≡◌, ℕ, ℤ, ◌++◌, List, Bool, true, Some}
+use Rattle.std.specs.List.{AllByRecursion}
+use Rattle.sqlite_trees.specs.Tree.{Trees}
+use Rattle.acvp_mac.specs.Conditions.{first_broken}
+use Rattle.acvp_check.specs.Conditions.{all_conditions}
+use Rattle.acvp_check.specs.Owners.{owner_conditions}
+use Rattle.acvp_check.specs.declared.finding.Finding.{Finding}
+use Rattle.acvp_tables.specs.Content.{Content}
+use Rattle.acvp_store.specs.Ranges.{is_between, HasStrayRow, IsAccountRow, FitsAccount, IsSessionRow, FitsSession}
+use Rattle.acvp_store.specs.Ranges.{IsSetRow, FitsSet, KeepsSets, IsObjectRow, FitsObject, KeepsObjects}
+use Rattle.acvp_store.specs.Ranges.{IsRequestRow, FitsRequest, IsReviewerRow, FitsReviewer, first_number, last_number}
+use Rattle.acvp_store.specs.Ranges.{first_set, last_set, HasNumberBetween, IsRegisteredWithin}
+use Rattle.acvp_store.specs.Rows.{account_tree, HoldsAccounts, session_tree, HoldsSessions}
+use Rattle.acvp_store.specs.Schema.{Layout}
+use Rattle.acvp_store.specs.Stands.{set_tree, object_tree, request_tree, HoldsRequests, reviewer_tree, HoldsReviewers}
+use Rattle.acvp_audit.specs.Read.{AreRowsOf}
+use Rattle.acvp_audit.specs.declared.table.Table.{Table}
+use Rattle.acvp_audit.specs.declared.table.Table.TheVariants as table
+use Rattle.acvp_audit.specs.declared.damage.Damage.{Damage}
+use Rattle.acvp_audit.specs.declared.damage.Damage.TheVariants as damage
+
+-- the number of each row of a table begins with an account's, 1 to 9999, and an object is of one of the three kinds
+abbrev pub IsWithin : Table → Layout → Trees → Type 0
+IsWithin table.Account layout trees = AllByRecursion (λ row. is_between 1 9999 row ≡ true) (trees account_tree)
+IsWithin table.Session layout trees =
+    AllByRecursion (λ row. is_between (first_number 1) (last_number 9999) row ≡ true) (trees session_tree)
+IsWithin table.Set layout trees =
+    AllByRecursion (λ row. is_between (first_set 1) (last_set 9999) row ≡ true) (trees (set_tree layout))
+IsWithin table.Object layout trees = AllByRecursion (IsRegisteredWithin 9999) (trees object_tree)
+IsWithin table.Request layout trees =
+    AllByRecursion (λ row. is_between (first_number 1) (last_number 9999) row ≡ true) (trees request_tree)
+IsWithin table.Reviewer layout trees =
+    AllByRecursion (HasNumberBetween 1 (first_number 1) (last_number 9999)) (trees (reviewer_tree layout))
+
+-- a row of a table has this number, which is its session's for a reviewer, and stands for nothing
+abbrev pub HasStray : Table → ℤ → Layout → Trees → Type 0
+HasStray table.Account n layout trees = HasStrayRow HoldsAccounts IsAccountRow FitsAccount 0 n (trees account_tree)
+HasStray table.Session n layout trees = HasStrayRow HoldsSessions IsSessionRow FitsSession 0 n (trees session_tree)
+HasStray table.Set n layout trees = HasStrayRow KeepsSets IsSetRow FitsSet 0 n (trees (set_tree layout))
+HasStray table.Object n layout trees = HasStrayRow KeepsObjects IsObjectRow FitsObject 2 n (trees object_tree)
+HasStray table.Request n layout trees = HasStrayRow HoldsRequests IsRequestRow FitsRequest 0 n (trees request_tree)
+HasStray table.Reviewer n layout trees =
+    HasStrayRow HoldsReviewers IsReviewerRow FitsReviewer 1 n (trees (reviewer_tree layout))
+
+-- the first condition on the rows with an account's numbers that is broken: on whose they are, and then all others
+abbrev pub IsBroken : Bool → List (List ℕ) → ℕ → Content → Finding → Type 0
+IsBroken grades seeds u mine found =
+    first_broken (owner_conditions mine ++ all_conditions grades seeds u mine) ≡ Some found
+
+-- what is told is a row outside, and is so of these trees
+abbrev pub IsOutside : Layout → Trees → Damage → Type 0
+IsOutside layout trees (damage.Outside t number) = ¬ IsWithin t layout trees
+IsOutside layout trees (damage.Stray t number) = ⊥
+IsOutside layout trees (damage.Broken u found) = ⊥
+
+-- what is told is so of these trees
+abbrev pub IsDamaged : Bool → List (List ℕ) → Layout → Trees → Damage → Type 0
+IsDamaged grades seeds layout trees (damage.Outside t number) = ¬ IsWithin t layout trees
+IsDamaged grades seeds layout trees (damage.Stray t number) = HasStray t number layout trees
+IsDamaged grades seeds layout trees (damage.Broken u found) =
+    (mine : Content) × AreRowsOf layout trees u mine × IsBroken grades seeds u mine found

@@ -1,0 +1,329 @@
+//! What is read of the rows with an account's numbers.
+ghost use Rattle.std.specs.Prelude.{◌≡◌, ◌++◌, ℤ, true, IsTrue, IfOk, IfErr};
+ghost use Rattle.std.specs.List.{AllByRecursion};
+ghost use Rattle.sqlite.specs.Held.{state};
+ghost use Rattle.acvp_registry.specs.declared.kind.Kind.{Kind as KindValue};
+ghost use Rattle.acvp_tables.specs.Content.{is_kind, kind_number};
+ghost use Rattle.acvp_store.specs.Connection.{InStore, IsRead};
+ghost use Rattle.acvp_store.specs.Ranges.{IsRange, KeepsSets, set_number, first_number, last_number, first_set};
+ghost use Rattle.acvp_store.specs.Ranges.{last_set, is_column_between};
+ghost use Rattle.acvp_store.specs.Rows.{account_tree, account_key, HoldsAccounts};
+ghost use Rattle.acvp_store.specs.Rows.{session_tree, session_key, HoldsSessions};
+ghost use Rattle.acvp_store.specs.Stands.{set_tree, request_tree, request_key, HoldsRequests, reviewer_tree};
+ghost use Rattle.acvp_store.specs.Stands.{HoldsReviewers};
+ghost use Rattle.std.specs.List.{filter};
+ghost use Rattle.acvp_audit.specs.Read.{Blames, Tells, AreTests, AreOfKind, AreObjects, AreEntries, AreRowsOf};
+ghost use Rattle.acvp_audit.specs.Read.{is_above, kind_climbs, IsRegistrable};
+ghost use Rattle.acvp_audit.specs.Wrong.{HasStray};
+ghost use Rattle.acvp_audit.specs.declared.table.Table.{Table as TableValue};
+
+use crate::table::Table;
+use acvp_check::Rows;
+use acvp_registry::Kind;
+use acvp_store::{RangeFault, SqlTables};
+use acvp_tables::{
+    AccountRow, ObjectRow, RequestBody, RequestRow, ReviewerRow, SessionRow, SetRow, StoreFault,
+};
+use sqlite::Alter;
+use std::alloc::{AllocError, Global};
+
+/// Why an account's rows aren't told.
+#[derive(Clone, Copy, Debug, PartialEq, Eq)]
+pub(crate) enum Stop {
+    /// The row of this number stands for nothing.
+    Stray(Table, i64),
+
+    /// A statement was refused, or memory ran out.
+    Store(StoreFault),
+}
+
+/// A range's fault, of a table.
+fn stop_of(table: Table, fault: RangeFault) -> Stop
+    ensures { (t : TableValue) (number : ℤ) → result ≡ Stop.Stray t number
+        → (t ≡ table) × (fault ≡ RangeFault.Stray number) }
+{
+    match fault {
+        RangeFault::Stray(number) => Stop::Stray(table, number),
+        RangeFault::Store(fault) => Stop::Store(fault),
+    }
+}
+
+/// The account, if it is there.
+fn account_of<S: Alter>(tables: &mut SqlTables<S>, account: u16) -> Result<Vec<AccountRow>, Stop>
+    ensures rows { Tells result (state S.Store tables.old) (state S.Store tables.new)
+        (λ layout trees found. IsRange HoldsAccounts account_key account account (trees account_tree)
+        found.items) }
+    ensures stray { Blames result (state S.Store tables.old) (state S.Store tables.new)
+        (λ layout trees stop. (t : TableValue) (number : ℤ) → stop ≡ Stop.Stray t number
+        → HasStray t number layout trees) }
+    ensures read { IsRead result (state S.Store tables.old) (state S.Store tables.new) }
+{
+    match tables.accounts_between(account, account) {
+        Ok(found) => Ok(found),
+        Err(fault) => Err(stop_of(Table::Account, fault)),
+    }
+}
+
+/// The sessions.
+fn sessions_of<S: Alter>(tables: &mut SqlTables<S>, account: u16) -> Result<Vec<SessionRow>, Stop>
+    ensures rows { Tells result (state S.Store tables.old) (state S.Store tables.new)
+        (λ layout trees found. IsRange HoldsSessions session_key (first_number account) (last_number account)
+        (trees session_tree) found.items) }
+    ensures stray { Blames result (state S.Store tables.old) (state S.Store tables.new)
+        (λ layout trees stop. (t : TableValue) (number : ℤ) → stop ≡ Stop.Stray t number
+        → HasStray t number layout trees) }
+    ensures read { IsRead result (state S.Store tables.old) (state S.Store tables.new) }
+{
+    match tables.sessions_numbered(account) {
+        Ok(found) => Ok(found),
+        Err(fault) => Err(stop_of(Table::Session, fault)),
+    }
+}
+
+/// The vector sets.
+fn sets_of<S: Alter>(tables: &mut SqlTables<S>, account: u16) -> Result<Vec<SetRow>, Stop>
+    ensures rows { Tells result (state S.Store tables.old) (state S.Store tables.new)
+        (λ layout trees found. IsRange KeepsSets set_number (first_set account) (last_set account)
+        (trees (set_tree layout)) found.items) }
+    ensures stray { Blames result (state S.Store tables.old) (state S.Store tables.new)
+        (λ layout trees stop. (t : TableValue) (number : ℤ) → stop ≡ Stop.Stray t number
+        → HasStray t number layout trees) }
+    ensures read { IsRead result (state S.Store tables.old) (state S.Store tables.new) }
+{
+    match tables.sets_numbered(account) {
+        Ok(found) => Ok(found),
+        Err(fault) => Err(stop_of(Table::Set, fault)),
+    }
+}
+
+/// The objects of a kind.
+fn of_kind<S: Alter>(
+    tables: &mut SqlTables<S>,
+    kind: Kind,
+    account: u16,
+) -> Result<Vec<ObjectRow>, Stop>
+    ensures rows { Tells result (state S.Store tables.old) (state S.Store tables.new)
+        (λ layout trees found. AreOfKind (kind_number kind) trees account found.items) }
+    ensures stray { Blames result (state S.Store tables.old) (state S.Store tables.new)
+        (λ layout trees stop. (t : TableValue) (number : ℤ) → stop ≡ Stop.Stray t number
+        → HasStray t number layout trees) }
+    ensures read { IsRead result (state S.Store tables.old) (state S.Store tables.new) }
+{
+    match tables.objects_numbered(kind, account) {
+        Ok(found) => Ok(found),
+        Err(fault) => Err(stop_of(Table::Object, fault)),
+    }
+}
+
+/// The requests.
+fn requests_of<S: Alter>(tables: &mut SqlTables<S>, account: u16) -> Result<Vec<RequestRow>, Stop>
+    ensures rows { Tells result (state S.Store tables.old) (state S.Store tables.new)
+        (λ layout trees found. IsRange HoldsRequests request_key (first_number account) (last_number account)
+        (trees request_tree) found.items) }
+    ensures stray { Blames result (state S.Store tables.old) (state S.Store tables.new)
+        (λ layout trees stop. (t : TableValue) (number : ℤ) → stop ≡ Stop.Stray t number
+        → HasStray t number layout trees) }
+    ensures read { IsRead result (state S.Store tables.old) (state S.Store tables.new) }
+{
+    match tables.requests_numbered(account) {
+        Ok(found) => Ok(found),
+        Err(fault) => Err(stop_of(Table::Request, fault)),
+    }
+}
+
+/// The reviewers of the account's sessions.
+fn reviewers_of<S: Alter>(tables: &mut SqlTables<S>, account: u16) -> Result<Vec<ReviewerRow>, Stop>
+    ensures rows { Tells result (state S.Store tables.old) (state S.Store tables.new)
+        (λ layout trees found. HoldsReviewers (filter (is_column_between 1 (first_number account) (last_number account))
+        (trees (reviewer_tree layout))) found.items) }
+    ensures stray { Blames result (state S.Store tables.old) (state S.Store tables.new)
+        (λ layout trees stop. (t : TableValue) (number : ℤ) → stop ≡ Stop.Stray t number
+        → HasStray t number layout trees) }
+    ensures read { IsRead result (state S.Store tables.old) (state S.Store tables.new) }
+{
+    match tables.reviewers_numbered(account) {
+        Ok(found) => Ok(found),
+        Err(fault) => Err(stop_of(Table::Reviewer, fault)),
+    }
+}
+
+/// The account, its sessions and their vector sets.
+#[derive(Drop)]
+struct Tests {
+    accounts: Vec<AccountRow>,
+    sessions: Vec<SessionRow>,
+    sets: Vec<SetRow>,
+}
+
+/// What is read of them.
+fn tests_of<S: Alter>(tables: &mut SqlTables<S>, account: u16) -> Result<Tests, Stop>
+    ensures rows { Tells result (state S.Store tables.old) (state S.Store tables.new)
+        (λ layout trees found. AreTests layout trees account found.accounts.items found.sessions.items
+        found.sets.items) }
+    ensures stray { Blames result (state S.Store tables.old) (state S.Store tables.new)
+        (λ layout trees stop. (t : TableValue) (number : ℤ) → stop ≡ Stop.Stray t number
+        → HasStray t number layout trees) }
+    ensures read { IsRead result (state S.Store tables.old) (state S.Store tables.new) }
+{
+    let accounts = account_of(tables, account)?;
+    let sessions = sessions_of(tables, account)?;
+    let sets = sets_of(tables, account)?;
+    Ok(Tests {
+        accounts,
+        sessions,
+        sets,
+    })
+}
+
+/// Lists one after another.
+fn joined(
+    mut vendors: Vec<ObjectRow>,
+    mut modules: Vec<ObjectRow>,
+    mut environments: Vec<ObjectRow>,
+) -> Result<Vec<ObjectRow>, Stop>
+    ensures rows { IfOk result (λ found. found.items ≡ (vendors.items ++ modules.items) ++ environments.items) }
+    ensures fault { IfErr result (λ stop. stop ≡ Stop.Store StoreFault.Memory) }
+{
+    if vendors.append(&mut modules).is_err() || vendors.append(&mut environments).is_err() {
+        return Err(Stop::Store(StoreFault::Memory));
+    }
+    Ok(vendors)
+}
+
+/// The objects of each kind, one kind after another.
+fn objects_of<S: Alter>(tables: &mut SqlTables<S>, account: u16) -> Result<Vec<ObjectRow>, Stop>
+    ensures rows { Tells result (state S.Store tables.old) (state S.Store tables.new)
+        (λ layout trees found. AreObjects trees account found.items) }
+    ensures stray { Blames result (state S.Store tables.old) (state S.Store tables.new)
+        (λ layout trees stop. (t : TableValue) (number : ℤ) → stop ≡ Stop.Stray t number
+        → HasStray t number layout trees) }
+    ensures read { IsRead result (state S.Store tables.old) (state S.Store tables.new) }
+{
+    let vendors = of_kind(tables, Kind::Vendor, account)?;
+    let modules = of_kind(tables, Kind::Module, account)?;
+    let environments = of_kind(tables, Kind::Environment, account)?;
+    joined(vendors, modules, environments)
+}
+
+/// What was registered and asked for, and who reviews the account's sessions.
+#[derive(Drop)]
+struct Entries {
+    objects: Vec<ObjectRow>,
+    requests: Vec<RequestRow>,
+    reviewers: Vec<ReviewerRow>,
+}
+
+/// What is read of them.
+fn entries_of<S: Alter>(tables: &mut SqlTables<S>, account: u16) -> Result<Entries, Stop>
+    ensures rows { Tells result (state S.Store tables.old) (state S.Store tables.new)
+        (λ layout trees found. AreEntries layout trees account found.objects.items found.requests.items
+        found.reviewers.items) }
+    ensures stray { Blames result (state S.Store tables.old) (state S.Store tables.new)
+        (λ layout trees stop. (t : TableValue) (number : ℤ) → stop ≡ Stop.Stray t number
+        → HasStray t number layout trees) }
+    ensures read { IsRead result (state S.Store tables.old) (state S.Store tables.new) }
+{
+    let objects = objects_of(tables, account)?;
+    let requests = requests_of(tables, account)?;
+    let reviewers = reviewers_of(tables, account)?;
+    Ok(Entries {
+        objects,
+        requests,
+        reviewers,
+    })
+}
+
+/// Whether two kinds are the same.
+fn is_kind(kind: Kind, other: Kind) -> bool
+    ensures { result ≡ is_kind kind other }
+{
+    match kind {
+        Kind::Vendor => matches!(other, Kind::Vendor),
+        Kind::Module => matches!(other, Kind::Module),
+        Kind::Environment => matches!(other, Kind::Environment),
+        Kind::Certification => matches!(other, Kind::Certification),
+    }
+}
+
+/// Whether a number is greater than the one before, where there is one.
+fn is_above(before: Option<u64>, number: u64) -> bool
+    ensures { result ≡ is_above before number }
+{
+    match before {
+        None => true,
+        Some(before) => before < number,
+    }
+}
+
+/// Whether the numbers of the objects of a kind are each greater than the one before.
+fn climbs(objects: &[ObjectRow], kind: Kind) -> bool
+    ensures { result ≡ kind_climbs objects.now kind }
+{
+    let mut before = None;
+    for row in objects {
+        if is_kind(row.object.kind(), kind) {
+            if !is_above(before, row.number) {
+                return false;
+            }
+            before = Some(row.number);
+        }
+    }
+    true
+}
+
+/// Those of each kind.
+fn all_climb(objects: &[ObjectRow]) -> bool
+    ensures { IsTrue result → (kind : KindValue) → kind_climbs objects.now kind ≡ true }
+{
+    climbs(objects, Kind::Vendor)
+        && climbs(objects, Kind::Module)
+        && climbs(objects, Kind::Environment)
+        && climbs(objects, Kind::Certification)
+}
+
+/// The object of a registration is of one of the three kinds, as each is.
+#[tactic(auto, using(crate::proofs::Kept::registered_kind))]
+fn is_registrable(body: &RequestBody)
+    ensures { IsRegistrable body.now }
+{
+    match body {
+        RequestBody::Registration(object) => {
+            let _ = object.kind();
+        }
+        RequestBody::Certification(_) => {}
+    }
+}
+
+/// That of each request.
+fn are_registrable(requests: &[RequestRow])
+    ensures { AllByRecursion (λ row. IsRegistrable row.body) requests.now }
+{
+    for row in requests {
+        is_registrable(&row.body);
+    }
+}
+
+/// The rows with an account's numbers. Objects that aren't told in the order of their numbers are refused.
+pub(crate) fn rows_of<S: Alter>(tables: &mut SqlTables<S>, account: u16) -> Result<Rows, Stop>
+    ensures rows { Tells result (state S.Store tables.old) (state S.Store tables.new)
+        (λ layout trees found. AreRowsOf layout trees account found) }
+    ensures stray { Blames result (state S.Store tables.old) (state S.Store tables.new)
+        (λ layout trees stop. (t : TableValue) (number : ℤ) → stop ≡ Stop.Stray t number
+        → HasStray t number layout trees) }
+    ensures read { IsRead result (state S.Store tables.old) (state S.Store tables.new) }
+{
+    let tests = tests_of(tables, account)?;
+    let entries = entries_of(tables, account)?;
+    if !all_climb(&entries.objects) {
+        return Err(Stop::Store(StoreFault::Refused));
+    }
+    are_registrable(&entries.requests);
+    Ok(Rows {
+        accounts: tests.accounts,
+        sessions: tests.sessions,
+        sets: tests.sets,
+        objects: entries.objects,
+        requests: entries.requests,
+        reviewers: entries.reviewers,
+    })
+}

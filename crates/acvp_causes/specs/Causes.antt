@@ -1,0 +1,15 @@
+-- Why a file can't be looked at.
+use Rattle.std.specs.declared.io.ErrorKind.{ErrorKind}
+use Rattle.std.specs.declared.io.ErrorKind.TheVariants.{NotFound}
+use Rattle.std.specs.declared.io.Error.{Error}
+use Rattle.std.specs.IoError.{error_kind}
+use Rattle.acvp_causes.specs.declared.cause.Cause.{Cause}
+use Rattle.acvp_causes.specs.declared.cause.Cause.TheVariants as cause
+
+-- by the error's kind there is no file, or the system refuses
+abbrev pub cause_of_kind : ErrorKind → Error → Cause
+cause_of_kind NotFound error = cause.Missing
+cause_of_kind _ error = cause.Refused error
+
+abbrev pub cause_of_error : Error → Cause
+cause_of_error error = cause_of_kind (error_kind error) error

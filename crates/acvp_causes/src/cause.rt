@@ -1,0 +1,122 @@
+//! Why a command, or a request, failed.
+use crate::texts::TextFault;
+use std::{fmt, io};
+
+/// What a store does that a statement can't be carried out in.
+const REFUSED: &str =
+    "the store refused a statement (a full disk, a folder that can't be written to), ";
+
+/// Why a command, or a request, failed.
+#[derive(Clone, Copy)]
+pub enum Cause {
+    /// There is no such file.
+    Missing,
+
+    /// The system refuses to open the file.
+    Refused(io::Error),
+
+    /// The file can't be made.
+    Unmade,
+
+    /// What has the path is no file.
+    NoFile,
+
+    /// The file has so many names.
+    Names(u64),
+
+    /// Beside the file there is a journal.
+    Journal,
+
+    /// A server has the file.
+    Served,
+
+    /// Another process has the file.
+    Held,
+
+    /// The file holds something else than a database.
+    Foreign,
+
+    /// The file has so many bytes, and its header tells so many.
+    Cut(u64, u64),
+
+    /// The file has tables, where none may be.
+    Tables,
+
+    /// The file isn't there, and its log holds something.
+    LogAlone,
+
+    /// The store refused something, where rows of these tables were read.
+    Store(&'static str),
+
+    /// A server that has the file carried the order out, and its store refused something there.
+    Relayed,
+
+    /// A copy couldn't be read or written.
+    Copy,
+
+    /// The text in the file is of another form.
+    Text(TextFault),
+
+    /// The text in the file is good now.
+    Good,
+
+    /// A vector set names a seed that isn't in the file.
+    NoSeed,
+
+    /// The seed that a vector set names isn't in the file, or is another than that of its prompts.
+    OtherSeed,
+
+    /// Little memory is left.
+    Memory,
+
+    /// The clock is past the last moment that is served.
+    Clock,
+}
+
+impl fmt::Display for Cause {
+    fn fmt<W: fmt::Write>(&self, f: &mut fmt::Formatter<W>) -> fmt::Result {
+        match *self {
+            Cause::Missing => f.write_str("there is no such file"),
+            Cause::Refused(error) => write!(f, "it can't be opened: {error}"),
+            Cause::Unmade => f.write_str("it can't be made in its folder"),
+            Cause::NoFile => f.write_str("it is no regular file"),
+            Cause::Names(count) => write!(f, "it has {count} names (hard links), and may have one"),
+            Cause::Journal => f.write_str(
+                "a journal is beside it (-journal), which sqlite3 has to settle",
+            ),
+            Cause::Served => f.write_str("a server has it, and answers at its socket (-orders)"),
+            Cause::Held => f.write_str("another process has it"),
+            Cause::Foreign => f.write_str("it is no database"),
+            Cause::Cut(length, told) => write!(f, "it is cut: it has {length} bytes of {told}"),
+            Cause::Tables => f.write_str("it has tables already"),
+            Cause::LogAlone => f.write_str(
+                "there is no such file, but its log (-wal) holds records",
+            ),
+            Cause::Store(tables) => {
+                f.write_str(REFUSED)?;
+                write!(f, "or met a page or a row{tables} that stands for nothing")
+            }
+            Cause::Relayed => f.write_str(
+                "its server's store refused a statement, or met a page or a row that stands for nothing",
+            ),
+            Cause::Copy => f.write_str(
+                "the copy can't be read or written, or has a page that stands for nothing",
+            ),
+            Cause::Text(fault) => write!(f, "{fault}"),
+            Cause::Good => f.write_str("it can be read now"),
+            Cause::NoSeed => f.write_str("a vector set names a seed that isn't in it"),
+            Cause::OtherSeed => f.write_str(
+                "it lacks a seed that a vector set names, or has another in its place",
+            ),
+            Cause::Memory => f.write_str("little memory is left"),
+            Cause::Clock => f.write_str("the clock is past the year 2099, or can't be read"),
+        }
+    }
+}
+
+/// A cause, and the option whose file it is of.
+#[derive(Clone, Copy)]
+pub struct Because {
+    pub option: &'static str,
+    pub cause: Cause,
+}

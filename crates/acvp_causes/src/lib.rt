@@ -1,0 +1,16 @@
+//! Why a command of the program failed, as far as it can be seen at its files afterwards.
+#![tactic(auto)]
+
+mod begins;
+mod cause;
+mod pages;
+mod places;
+mod texts;
+
+pub use begins::{LOG_HEADER, header_of, is_database, is_foreign};
+pub use cause::{Because, Cause};
+pub use places::{
+    EMPTY_LOG, are_there, cause_of_database, cause_of_error, cause_of_folder, cause_of_source,
+    folder_of, has_log, holds_any, why_refused,
+};
+pub use texts::{TextFault, keys_fault, secret_fault};

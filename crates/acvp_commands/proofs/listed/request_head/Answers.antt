@@ -1,5 +1,0 @@
-use Rattle.std.proofs.Common.{rules, append_assoc}
-use Rattle.acvp_commands.proofs.listed.request_head.Goals as goal
-
-pub returns : goal.returns
-returns c = let said = c.format.ensures.ok in search (rules, append_assoc)

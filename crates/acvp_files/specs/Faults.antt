@@ -1,0 +1,26 @@
+-- Why a database isn't opened, or isn't copied.
+use Rattle.std.specs.declared.io.ErrorKind.{ErrorKind}
+use Rattle.std.specs.declared.io.ErrorKind.TheVariants as kind
+use Rattle.sqlite.specs.declared.error.Error.{Error}
+use Rattle.sqlite.specs.declared.error.Error.TheVariants.{SqliteFailure}
+use Rattle.sqlite.specs.declared.error.ErrorCode.TheVariants.{OutOfMemory}
+use Rattle.acvp_store.specs.declared.fault.AdoptFault.{AdoptFault}
+use Rattle.acvp_store.specs.declared.fault.AdoptFault.TheVariants as adopted
+use Rattle.acvp_files.specs.declared.fault.FileFault.{FileFault}
+use Rattle.acvp_files.specs.declared.fault.FileFault.TheVariants.{Memory, Schema, Unavailable}
+
+-- a database that can't be opened, for whatever else, is unavailable
+abbrev pub fault_of_open : Error → FileFault
+fault_of_open (SqliteFailure OutOfMemory) = Memory
+fault_of_open _ = Unavailable
+
+-- only tables that are others are a fault of the schema
+abbrev pub fault_of_adopt : AdoptFault → FileFault
+fault_of_adopt adopted.Schema = Schema
+fault_of_adopt adopted.Refused = Unavailable
+fault_of_adopt adopted.Memory = Memory
+
+-- what the system refuses, for whatever else than want of memory, is unavailable
+abbrev pub fault_of_kind : ErrorKind → FileFault
+fault_of_kind kind.OutOfMemory = Memory
+fault_of_kind _ = Unavailable

@@ -1,0 +1,113 @@
+//! Connections to the database in a file.
+ghost use Rattle.std.specs.Prelude.{◌≡◌, IfSome};
+ghost use Rattle.sqlite.specs.Closing.{IsCopied};
+ghost use Rattle.sqlite_wal.specs.Reads.{AreClean};
+ghost use Rattle.acvp_files.specs.Faults.{fault_of_open};
+
+use crate::fault::{FileFault, refused};
+use crate::privacy::{has_no_log, make_private};
+use acvp_causes::is_foreign;
+use sqlite::{Connection, Error, ErrorCode, FileFrom, FileStore, Files, Start};
+use sqlite_disk::Disk;
+use std::fs;
+
+/// A connection to the database in a file.
+pub type FileConnection<S> = Connection<FileStore<FileFrom<S>>>;
+
+/// The fault of a database that can't be opened.
+fn fault_of_database(error: Error) -> FileFault
+    ensures { result ≡ fault_of_open error }
+{
+    match error {
+        Error::SqliteFailure(ErrorCode::OutOfMemory) => FileFault::Memory,
+        _ => FileFault::Unavailable,
+    }
+}
+
+/// Why there is no connection to a database.
+#[derive(Clone, Copy)]
+pub enum Unopened {
+    /// Another process has it.
+    Taken,
+
+    /// It can't be opened.
+    Failed(FileFault),
+}
+
+/// Why a database can't be opened.
+fn why_unopened(error: Error) -> Unopened {
+    if matches!(error, Error::SqliteFailure(ErrorCode::DatabaseBusy)) {
+        return Unopened::Taken;
+    }
+    Unopened::Failed(fault_of_database(error))
+}
+
+/// A connection to the database in a file, which is made where there is none.
+fn connect<S: Start>(
+    rt: &HostRuntime,
+    path: &str,
+    start: S,
+) -> Result<FileConnection<S>, Unopened> {
+    match Connection::open_from(rt, path, false, start) {
+        Ok(connection) => Ok(connection),
+        Err((error, _)) => Err(why_unopened(error)),
+    }
+}
+
+/// A connection to the database in a file. Where the file holds something else, and there is no log that could make it
+/// one, it isn't opened.
+fn connect_known<S: Start>(
+    rt: &HostRuntime,
+    path: &str,
+    start: S,
+) -> Result<FileConnection<S>, Unopened> {
+    if has_no_log(rt, path) && is_foreign(rt, path) {
+        return Err(Unopened::Failed(FileFault::Unavailable));
+    }
+    connect(rt, path, start)
+}
+
+/// A connection to the database in a file, which is made for its owner alone where there is none.
+pub fn connect_new<S: Start>(
+    rt: &HostRuntime,
+    path: &str,
+    start: S,
+) -> Result<FileConnection<S>, Unopened> {
+    if path != ":memory:" {
+        make_private(rt, path);
+    }
+    connect_known(rt, path, start)
+}
+
+/// A connection to the database in a file that is there.
+pub fn connect_existing<S: Start>(
+    rt: &HostRuntime,
+    path: &str,
+    start: S,
+) -> Result<FileConnection<S>, Unopened> {
+    match fs::exists(rt, path) {
+        Ok(true) => connect_known(rt, path, start),
+        Ok(false) => Err(Unopened::Failed(FileFault::Unavailable)),
+        Err(error) => Err(Unopened::Failed(refused(&error))),
+    }
+}
+
+/// Copies what the log beside the file holds into the file, and hands both back: what was committed is in the file
+/// then, as it reads and as a crash leaves it. Nothing where that fails: what was committed is kept also then, the log
+/// stays, and the next command reads it.
+pub(crate) fn copied<D: Disk + Drop>(connection: Connection<FileStore<D>>) -> Option<Files<D>>
+    ensures { IfSome result (λ files. AreClean D.Disk files.log files.db → IsCopied connection files) }
+{
+    match connection.close_files() {
+        Ok(files) => Some(files),
+        Err((_, store)) => {
+            drop(store.close());
+            None
+        }
+    }
+}
+
+/// Closes the file and the log beside it, once the one is copied into the other.
+pub fn close<D: Disk + Drop>(connection: Connection<FileStore<D>>) {
+    drop(copied(connection));
+}

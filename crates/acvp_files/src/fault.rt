@@ -1,0 +1,60 @@
+//! Why a database isn't opened, or isn't copied.
+ghost use Rattle.std.specs.Prelude.{◌≡◌};
+ghost use Rattle.std.specs.IoError.{error_kind};
+ghost use Rattle.acvp_files.specs.Faults.{fault_of_kind};
+
+use acvp_store::AdoptFault;
+use std::alloc::AllocError;
+use std::io;
+
+/// Why a database isn't opened, or isn't copied.
+#[derive(Clone, Copy, Debug, PartialEq, Eq)]
+pub enum FileFault {
+    /// There is a file already where one is to be made.
+    Taken,
+
+    /// The database, or a file beside it, isn't there or can't be had, or isn't one.
+    Unavailable,
+
+    /// Its tables aren't those of this version.
+    Schema,
+
+    /// Memory ran out.
+    Memory,
+}
+
+impl From<AllocError> for FileFault {
+    ghost use Rattle.std.specs.Prelude.{◌≡◌};
+    ghost use Rattle.acvp_files.specs.declared.fault.FileFault.TheVariants.{Memory};
+
+    ghost from_gives = { λ _ fault. fault ≡ Memory };
+
+    fn from(_: AllocError) -> FileFault {
+        FileFault::Memory
+    }
+}
+
+impl From<AdoptFault> for FileFault {
+    ghost use Rattle.std.specs.Prelude.{◌≡◌};
+    ghost use Rattle.acvp_files.specs.Faults.{fault_of_adopt};
+
+    ghost from_gives = { λ refused fault. fault ≡ fault_of_adopt refused };
+
+    fn from(fault: AdoptFault) -> FileFault {
+        match fault {
+            AdoptFault::Schema => FileFault::Schema,
+            AdoptFault::Refused => FileFault::Unavailable,
+            AdoptFault::Memory => FileFault::Memory,
+        }
+    }
+}
+
+/// The fault of what the system refuses.
+pub(crate) fn refused(error: &io::Error) -> FileFault
+    ensures { result ≡ fault_of_kind (error_kind error.now) }
+{
+    match error.kind() {
+        io::ErrorKind::OutOfMemory => FileFault::Memory,
+        _ => FileFault::Unavailable,
+    }
+}

@@ -1,0 +1,110 @@
+//! What a line tells, and its text.
+use acvp_causes::Cause;
+use acvp_policy::{Action, Rule};
+use std::fmt;
+
+/// What was asked for.
+#[derive(Clone, Copy)]
+pub(crate) enum Asked {
+    /// None of the protocol's actions, and no order.
+    Nothing,
+
+    Action(Action),
+
+    /// The order of this word.
+    Order(&'static str),
+}
+
+impl fmt::Display for Asked {
+    fn fmt<W: fmt::Write>(&self, f: &mut fmt::Formatter<W>) -> fmt::Result {
+        match *self {
+            Asked::Nothing => f.write_str("-"),
+            Asked::Action(action) => write!(f, "{action:?}"),
+            Asked::Order(word) => f.write_str(word),
+        }
+    }
+}
+
+/// A number, or none.
+#[derive(Clone, Copy)]
+pub(crate) struct Number(pub Option<u64>);
+
+impl fmt::Display for Number {
+    fn fmt<W: fmt::Write>(&self, f: &mut fmt::Formatter<W>) -> fmt::Result {
+        match *self {
+            Number(Some(number)) => write!(f, "{number}"),
+            Number(None) => f.write_str("-"),
+        }
+    }
+}
+
+/// A rule that a request is refused by.
+#[derive(Clone, Copy)]
+pub(crate) struct Refusal(pub Rule);
+
+impl fmt::Display for Refusal {
+    fn fmt<W: fmt::Write>(&self, f: &mut fmt::Formatter<W>) -> fmt::Result {
+        f.write_str(self.0.word())
+    }
+}
+
+/// What came of it, in a word: E is what a request, or an order, is refused by.
+#[derive(Clone, Copy)]
+pub(crate) enum Came<E> {
+    /// That isn't known: there is no reply.
+    Nothing,
+
+    /// It is done.
+    Done,
+
+    /// It is refused.
+    Refused(E),
+
+    /// Its connection broke before it was whole, or its client took too long.
+    Broken,
+}
+
+impl<E: fmt::Display> fmt::Display for Came<E> {
+    fn fmt<W: fmt::Write>(&self, f: &mut fmt::Formatter<W>) -> fmt::Result {
+        match self {
+            Came::Nothing => f.write_str("-"),
+            Came::Done => f.write_str("ok"),
+            Came::Refused(word) => write!(f, "{word}"),
+            Came::Broken => f.write_str("broken"),
+        }
+    }
+}
+
+/// What stands behind the milliseconds.
+#[derive(Clone, Copy)]
+pub(crate) enum Tail {
+    Nothing,
+
+    /// The client went before its reply was out.
+    Unsent,
+
+    /// Why it was unavailable.
+    Because(Cause),
+}
+
+impl fmt::Display for Tail {
+    fn fmt<W: fmt::Write>(&self, f: &mut fmt::Formatter<W>) -> fmt::Result {
+        match *self {
+            Tail::Nothing => Ok(()),
+            Tail::Unsent => f.write_str(" unsent"),
+            Tail::Because(cause) => write!(f, " because: {cause}"),
+        }
+    }
+}
+
+/// What a line tells.
+#[derive(Clone, Copy)]
+pub(crate) struct Entry<E> {
+    pub account: Option<u16>,
+    pub asked: Asked,
+
+    /// The status, or the number that an order names.
+    pub number: Option<u64>,
+    pub came: Came<E>,
+    pub tail: Tail,
+}

@@ -1,0 +1,178 @@
+//! A line for each request and order that was served. It is worked out of the bytes that came and the bytes that were
+//! answered, and holds no other text than the program's own words and numbers.
+use crate::head::{
+    came_unanswered, claimed_account, given_account, head_of, named_by, reply_of, rule_in,
+};
+use crate::line::{Asked, Came, Entry, Number, Refusal, Tail};
+use crate::rules::is_behind_token;
+use acvp_causes::{Cause, why_refused};
+use acvp_desk::Ask;
+use acvp_http::{Routes, order_in};
+use acvp_policy::{Action, Rule};
+use std::alloc::{AllocError, Global};
+use std::fmt;
+use std::fs::Files;
+use std::time::{Clock, Duration, Instant};
+
+/// When what is served was handed on, and what is known of it.
+#[derive(Clone, Copy)]
+struct Begun {
+    moment: u64,
+    since: Option<Instant>,
+
+    /// The order and the number that it names.
+    order: (Asked, Option<u64>),
+}
+
+/// What the lines are made of, and what is being served.
+#[derive(Drop)]
+pub struct Log {
+    routes: Routes,
+    begun: Begun,
+}
+
+impl Log {
+    /// A log in which nothing is being served.
+    pub fn new(alloc: Global) -> Result<Log, AllocError> {
+        Ok(Log {
+            routes: Routes::new(alloc)?,
+            begun: Begun {
+                moment: 0,
+                since: None,
+                order: (Asked::Nothing, None),
+            },
+        })
+    }
+
+    /// A request is handed on, at this moment.
+    pub fn begin<C: Clock>(&mut self, clock: &C, moment: u64) {
+        self.begun = Begun {
+            moment,
+            since: Instant::now(clock).ok(),
+            order: (Asked::Nothing, None),
+        };
+    }
+
+    /// A line that is to be an order is handed on, at this moment.
+    pub fn begin_order<C: Clock>(&mut self, clock: &C, moment: u64, line: &[u8]) {
+        self.begin(clock, moment);
+        if let Some((_, order)) = order_in(line) {
+            self.begun.order = named_by(&order);
+        }
+    }
+
+    /// What a request asks for, and the token that it carries.
+    fn asked<'a>(&self, request: Option<&'a [u8]>) -> (Asked, Option<&'a [u8]>) {
+        let Some(request) = request else {
+            return (Asked::Nothing, None);
+        };
+        let Some(head) = head_of(request) else {
+            return (Asked::Nothing, None);
+        };
+        let asked = match self.routes.find(head.method, head.target) {
+            Ok(Ask::Login) => Asked::Action(Action::Login),
+            Ok(Ask::Caller(wish)) => Asked::Action(wish.action()),
+            Err(_) => Asked::Nothing,
+        };
+        (asked, head.token)
+    }
+
+    /// Writes a line.
+    fn write<R: Clock + Eprint, E: fmt::Display + Copy>(&self, rt: &R, entry: Entry<E>) {
+        let milliseconds = match self.begun.since {
+            Some(since) => since.elapsed(rt).unwrap_or(Duration::ZERO).as_millis(),
+            None => 0,
+        };
+        let Entry {
+            account,
+            asked,
+            number,
+            came,
+            tail,
+        } = entry;
+        let moment = self.begun.moment;
+        let account = Number(account.map(u64::from));
+        let number = Number(number);
+        let _ = eprintln!(rt; "{moment} {account} {asked} {number} {came} {milliseconds}{tail}");
+    }
+
+    /// What the line of a request tells that was answered so. Nothing came of a connection that broke.
+    fn entry_of(&self, alloc: Global, request: Option<&[u8]>, reply: &[u8]) -> Entry<Refusal> {
+        let (asked, token) = self.asked(request);
+        let is_login = matches!(asked, Asked::Action(Action::Login));
+        let mut entry = Entry {
+            account: None,
+            asked,
+            number: None,
+            came: came_unanswered(request),
+            tail: Tail::Nothing,
+        };
+        let Some((status, body)) = reply_of(reply) else {
+            return entry;
+        };
+        entry.number = Some(u64::from(status));
+        if status == 200 {
+            entry.came = Came::Done;
+            entry.account = if is_login {
+                given_account(alloc, body)
+            } else {
+                claimed_account(alloc, token)
+            };
+        } else if let Some(rule) = rule_in(alloc, body) {
+            entry.came = Came::Refused(Refusal(rule));
+            if is_behind_token(rule) && !is_login {
+                entry.account = claimed_account(alloc, token);
+            }
+        }
+        entry
+    }
+
+    /// Writes the line of a request that was answered so, by a reply that was handed out whole or not.
+    pub fn tell_request<R: Clock + Eprint + Files>(
+        &self,
+        rt: &R,
+        alloc: Global,
+        database: &str,
+        request: Option<&[u8]>,
+        reply: &[u8],
+        sent: bool,
+    ) {
+        let mut entry = self.entry_of(alloc, request, reply);
+        entry.tail = match entry.came {
+            Came::Refused(Refusal(Rule::ClockOutOfRange)) => Tail::Because(Cause::Clock),
+            Came::Refused(Refusal(Rule::Unavailable)) => Tail::Because(why_refused(
+                rt, alloc, database,
+            )),
+            Came::Broken => Tail::Nothing,
+            _ if sent => Tail::Nothing,
+            _ => Tail::Unsent,
+        };
+        self.write(rt, entry);
+    }
+
+    /// Writes the line of an order that is done, or that was refused with this word, and why where that isn't all.
+    pub fn tell_order<R: Clock + Eprint, E: fmt::Display + Copy>(
+        &self,
+        rt: &R,
+        refused: Option<E>,
+        because: Option<Cause>,
+    ) {
+        let (asked, number) = self.begun.order;
+        let came = match refused {
+            Some(word) => Came::Refused(word),
+            None => Came::Done,
+        };
+        let tail = match because {
+            Some(cause) => Tail::Because(cause),
+            None => Tail::Nothing,
+        };
+        let entry = Entry {
+            account: None,
+            asked,
+            number,
+            came,
+            tail,
+        };
+        self.write(rt, entry);
+    }
+}

@@ -1,0 +1,4 @@
+pub mod Certificate
+pub mod Faults
+pub mod Listed
+pub mod Damaged

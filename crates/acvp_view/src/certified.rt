@@ -1,0 +1,222 @@
+//! What is certified by an approved request, as the records have it.
+ghost use Rattle.std.specs.Prelude.{◌≡◌, ◌<◌, IfOk, IfSome, Ok, Some, slice_get, string_bytes};
+ghost use Rattle.acvp_answers.specs.declared.verdict.Disposition.TheVariants.{Passed};
+ghost use Rattle.acvp_caps.specs.Registered.{registered_text};
+ghost use Rattle.acvp_desk.specs.Serves.{Looks};
+ghost use Rattle.acvp_tables.specs.Calls.{Finds};
+ghost use Rattle.acvp_view.specs.Certificate.{answers_digest, approved_by, approved_in, disposition_under};
+
+use crate::certificate::{Certificate, CertifiedSet, certificate_text};
+use crate::fault::ViewFault;
+use crate::lists::print;
+use acvp_answers::{Answers, Disposition, disposition, grade, standard};
+use acvp_desk::Seeds;
+use acvp_gen::prompts;
+use acvp_json::answers_to_text;
+use acvp_mac::{Digest, HashName, hash};
+use acvp_registry::{Kind, with_url};
+use acvp_store::{RangeFault, SqlTables};
+use acvp_tables::{
+    Certification, ObjectRow, RequestPurpose, RequestStatus, RequestSummary, SetRow, StoreFault,
+    Tables,
+};
+use sqlite::Alter;
+use std::alloc::{AllocError, AllocGlobal, Global};
+
+/// The first moment whose year has five digits.
+const END_OF_YEARS: u64 = 253402300800;
+
+/// The digest of answers.
+#[tactic(auto, unfolding(crate::specs::Certificate::answers_digest))]
+fn answers_digest(alloc: Global, answers: &Answers) -> Result<Digest, AllocError>
+    ensures { IfOk result (λ digest. digest ≡ answers_digest answers.now) }
+{
+    let text = answers_to_text(alloc, answers)?;
+    Ok(hash(HashName::Sha256, text.as_bytes()))
+}
+
+/// What the answers to a vector set come to, worked out anew under its seed.
+#[tactic(auto, unfolding(crate::specs::Certificate::disposition_under))]
+fn disposition_under(
+    alloc: Global,
+    row: &SetRow,
+    answers: &Answers,
+    seed: &[u8; 32],
+) -> Result<Disposition, AllocError>
+    ensures { IfOk result (λ came. came ≡ disposition_under seed.now row.now.number row.now.capability answers.now) }
+{
+    let prompts = prompts(alloc, seed, row.number, &row.capability)?;
+    let standard = standard(alloc, &prompts)?;
+    let verdicts = grade(alloc, &standard, answers)?;
+    Ok(disposition(&verdicts))
+}
+
+/// A vector set that is certified. Its answers are there, and under its seed they pass.
+fn certified_set(alloc: Global, row: &SetRow, seeds: &Seeds) -> Result<CertifiedSet, ViewFault>
+    ensures number { IfOk result (λ set. set.number ≡ row.now.number) }
+    ensures capability { IfOk result
+        (λ set. registered_text (string_bytes set.capability) ≡ Ok (Some row.now.capability)) }
+    ensures digest { IfOk result
+        (λ set. IfSome row.now.graded (λ graded. set.digest ≡ answers_digest graded.answers)) }
+    ensures passed { IfOk result (λ set. set.disposition ≡ Passed) }
+    ensures anew { IfOk result (λ _. IfSome row.now.graded
+        (λ graded. IfSome (slice_get seeds.now row.now.epoch)
+        (λ seed. disposition_under seed row.now.number row.now.capability graded.answers ≡ Passed))) }
+{
+    let Some(graded) = &row.graded else {
+        return Err(ViewFault::Refused);
+    };
+    let Some(seed) = seeds.get(row.epoch) else {
+        return Err(ViewFault::Seed);
+    };
+    let answers = graded.answers();
+    let disposition = disposition_under(alloc, row, answers, seed)?;
+    if !matches!(disposition, Disposition::Passed) {
+        return Err(ViewFault::Seed);
+    }
+    Ok(CertifiedSet {
+        number: row.number,
+        capability: row.capability.to_text(alloc)?,
+        disposition,
+        digest: answers_digest(alloc, answers)?,
+    })
+}
+
+/// The vector sets of a session that are certified, of these rows.
+fn certified_sets(
+    alloc: Global,
+    rows: &[SetRow],
+    session: u64,
+    seeds: &Seeds,
+) -> Result<Vec<CertifiedSet>, ViewFault> {
+    let mut sets = Vec::new(alloc);
+    for row in rows {
+        if row.session == session && !row.cancelled {
+            let set = certified_set(alloc, row, seeds)?;
+            if sets.push(set).is_err() {
+                return Err(ViewFault::Memory);
+            }
+        }
+    }
+    Ok(sets)
+}
+
+/// The vector sets of an account.
+fn sets_of_account<S: Alter + Drop>(
+    tables: &mut SqlTables<S>,
+    account: u16,
+) -> Result<Vec<SetRow>, ViewFault> {
+    match tables.sets_numbered(account) {
+        Ok(rows) => Ok(rows),
+        Err(RangeFault::Stray(_)) => Err(ViewFault::Refused),
+        Err(RangeFault::Store(fault)) => Err(ViewFault::from(fault)),
+    }
+}
+
+/// The account and what is certified, by a request that asks for a certification and is approved.
+fn approved_in(request: RequestSummary) -> Option<(u16, Certification)>
+    ensures { result ≡ approved_in request }
+{
+    match (request.purpose, request.status) {
+        (RequestPurpose::Certification(it), RequestStatus::Approved(_)) => Some((
+            request.account,
+            it,
+        )),
+        _ => None,
+    }
+}
+
+/// The account and what is certified, by the request of a number: none where there is no such request, or it isn't for
+/// a certification, or isn't approved.
+#[tactic(auto, unfolding(crate::specs::Certificate::approved_by))]
+pub fn approved_certification<T: Tables>(
+    tables: &mut T,
+    number: u64,
+) -> Result<Option<(u16, Certification)>, StoreFault>
+    ensures found { Finds T.meaning (λ x. x) result tables.old tables.new (approved_by number) }
+    ensures looks { Looks T.meaning result tables.old tables.new }
+{
+    match tables.request(number)? {
+        Some(request) => Ok(approved_in(request)),
+        None => Ok(None),
+    }
+}
+
+/// The object of a kind and number.
+fn registered<T: Tables>(tables: &mut T, kind: Kind, number: u64) -> Result<ObjectRow, ViewFault> {
+    match tables.object(kind, number)? {
+        Some(row) => Ok(row),
+        None => Err(ViewFault::Refused),
+    }
+}
+
+/// The text of an object as its account reads it.
+fn object_text(alloc: Global, row: &ObjectRow) -> Result<String, AllocError> {
+    match with_url(alloc, &row.object, row.number) {
+        Ok(value) => value.to_string(alloc),
+        Err(_) => Err(AllocError),
+    }
+}
+
+/// The text of the object of a kind and number.
+fn text_of<T: Tables>(
+    alloc: Global,
+    tables: &mut T,
+    kind: Kind,
+    number: u64,
+) -> Result<String, ViewFault> {
+    let row = registered(tables, kind, number)?;
+    Ok(object_text(alloc, &row)?)
+}
+
+/// When a session was made.
+fn created<T: Tables>(tables: &mut T, session: u64) -> Result<u64, ViewFault>
+    ensures { IfOk result (λ moment. moment < 253402300800) }
+{
+    match tables.session(session)? {
+        Some(row) if row.created < END_OF_YEARS => Ok(row.created),
+        _ => Err(ViewFault::Refused),
+    }
+}
+
+/// What is certified by the approved request of a number.
+fn certificate<S: Alter + Drop>(
+    alloc: Global,
+    tables: &mut SqlTables<S>,
+    seeds: &Seeds,
+    number: u64,
+) -> Result<Certificate, ViewFault>
+    ensures { IfOk result (λ it. it.created < 253402300800) }
+{
+    let Some((account, certification)) = approved_certification(tables, number)? else {
+        return Err(ViewFault::Unknown);
+    };
+    let created = created(tables, certification.session)?;
+    let module = registered(tables, Kind::Module, certification.module)?;
+    let Some(vendor) = module.object.vendor() else {
+        return Err(ViewFault::Refused);
+    };
+    let rows = sets_of_account(tables, account)?;
+    Ok(Certificate {
+        request: number,
+        account,
+        session: certification.session,
+        created,
+        module: object_text(alloc, &module)?,
+        vendor: text_of(alloc, tables, Kind::Vendor, vendor)?,
+        environment: text_of(alloc, tables, Kind::Environment, certification.environment)?,
+        sets: certified_sets(alloc, &rows, certification.session, seeds)?,
+    })
+}
+
+/// Prints the document of the approved certification of a request's number.
+pub fn show_certificate<S: Alter + Drop, R: Print + AllocGlobal>(
+    rt: &R,
+    tables: &mut SqlTables<S>,
+    seeds: &Seeds,
+    number: u64,
+) -> Result<(), ViewFault> {
+    let it = certificate(rt.alloc(), tables, seeds, number)?;
+    let text = certificate_text(rt.alloc(), &it)?;
+    print(rt, text.as_str())
+}

@@ -1,0 +1,21 @@
+//! What the operator looks at in the records: accounts, requests, what a decision on one needs, the document of a
+//! certification, and whether all is whole.
+#![tactic(auto)]
+
+mod certificate;
+mod certified;
+mod checked;
+mod damaged;
+mod fault;
+mod listed;
+mod lists;
+mod shown;
+
+pub use certificate::{Certificate, CertifiedSet, certificate_text};
+pub use certified::{approved_certification, show_certificate};
+pub use checked::show_check;
+pub use damaged::{damage_text, whole_text};
+pub use fault::ViewFault;
+pub use listed::{account_line, request_line};
+pub use lists::{show_accounts, show_requests};
+pub use shown::show_request;
