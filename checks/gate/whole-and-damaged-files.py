@@ -10,6 +10,7 @@ PROGRAM is the built program, and SHIM the library of set_clock.c, which shows i
 
 What can't be made: a row that refers to none, since no such file is opened; two rows under one key; and more than 999999
 sessions or requests of an account, which take too long."""
+import concurrent.futures
 import importlib.util
 import os
 import shutil
@@ -18,7 +19,7 @@ import sys
 import tempfile
 
 import laboratory
-from laboratory import Laboratory, compact, expect, free_port
+from laboratory import Laboratory, compact, expect
 
 
 def module_of(name):
@@ -153,6 +154,9 @@ def requests():
 
 def objects():
     yield [insert("object", VENDOR, 7000003, 7, NAMED)], "account 7 manyObjects"
+    module = '{"name":"Module","vendorUrl":"/acvp/v1/vendors/7000001"}'
+    yield [insert("object", MODULE, 7000002, 7, module)], "account 7 manyObjects"
+    yield [insert("object", ENVIRONMENT, 7000002, 7, NAMED)], "account 7 manyObjects"
     yield ([update("object", "number", 7000005, kind=VENDOR, number=7000002),
             update("request", "approved", 7000005, request=7000002)], "object vendor 7000005 number")
     yield [update("request", "approved", 7000001, request=7000002)], "object vendor 7000002 notAskedFor"
@@ -167,7 +171,19 @@ def reviewers():
     yield [insert("reviewer", OPEN, account) for account in range(100, 115)], f"reviewer {OPEN} 9 manyReviewers"
 
 
-GROUPS = (outside, stray, owners, sessions, sets, requests, objects, reviewers)
+def pairs():
+    """Two damages, of which the one that is looked for first is told."""
+    counter = update("session", "live", 0, session=OPEN)
+    yield [counter, insert("account", 0, bytes(32), 1, None)], "account 0 outside"
+    yield [counter, update("session", "sample", 2, session=8000004)], f"session {OPEN} counter"
+    yield [counter, update("session", "sample", 2, session=SAMPLE)], f"session {SAMPLE} stray"
+    yield [counter, update("request", "account", 8, request=7000008)], "request 7000008 owner"
+    yield [counter, update("vset2", "epoch", 1, vs=OPEN * 100 + 1)], f"session {OPEN} counter"
+    yield ([update("vset2", "epoch", 1, vs=READY * 100 + 1), delete("request", request=7000010)],
+           f"set {READY * 100 + 1} noSeed")
+
+
+GROUPS = (outside, stray, owners, sessions, sets, requests, objects, reviewers, pairs)
 
 
 def verdicts(connection):
@@ -206,52 +222,69 @@ def bytes_of(path):
         return file.read()
 
 
-def checks(lab, path, wanted, *more, keys=None):
-    """What `check` comes to, and that it writes nothing."""
-    before, beside = bytes_of(path), sorted(os.listdir(lab.folder))
-    expect(f"check {path} {more}", lab.run("check", "--db", path, "--keys", keys or lab.keys, *more), wanted)
-    expect("the file after a check", bytes_of(path) == before, True)
-    expect("what lies beside the file", sorted(os.listdir(lab.folder)), beside)
+def checked(lab, path, *more, keys=None):
+    """What `check` comes to, and whether it left the file as it was, and nothing beside it."""
+    folder = os.path.dirname(path)
+    before, beside = bytes_of(path), sorted(os.listdir(folder))
+    told = lab.run("check", "--db", path, "--keys", keys or lab.keys, *more)
+    return told, bytes_of(path) == before and sorted(os.listdir(folder)) == beside
+
+
+def whole_as(path):
+    return ((0, whole_line(path), ""), True)
+
+
+def wrong_as(line):
+    return ((1, line + "\n", "fault: rows\n"), True)
 
 
 def is_whole(lab, path, *more, keys=None):
-    checks(lab, path, (0, whole_line(path), ""), *more, keys=keys)
+    expect(f"check {path} {more}", checked(lab, path, *more, keys=keys), whole_as(path))
 
 
 def is_wrong(lab, path, line, *more, keys=None):
-    checks(lab, path, (1, line + "\n", "fault: rows\n"), *more, keys=keys)
+    expect(f"check {path} {more}", checked(lab, path, *more, keys=keys), wrong_as(line))
 
 
-def damage(lab, whole, statements):
-    path = lab.path("damaged.db")
+def damage(lab, whole, statements, name):
+    """A copy of the file in a folder of its own, which is damaged so."""
+    folder = lab.path(f"damage-{name}")
+    os.mkdir(folder)
+    path = os.path.join(folder, "laboratory.db")
     shutil.copy(whole, path)
     connection = rows.opened(path)
     for statement, values in statements:
         changed = connection.execute(statement, values).rowcount
-        expect(f"whether {statement} {values} changes a row", changed >= 1, True)
+        if changed < 1:
+            raise SystemExit(f"{statement} {values} changes no row")
     connection.close()
     return path
 
 
 def each_damage(lab, whole):
-    count = 0
-    for group in GROUPS:
-        for statements, line in group():
-            path = damage(lab, whole, statements)
-            is_wrong(lab, path, line)
-            # no condition but the last rests on the verdicts
-            is_wrong(lab, path, line, "--grades", "no")
-            count += 1
+    """Each in turn, as many side by side as there are processors. All but those of verdicts are found without the
+    verdicts, too: every other one is looked at so."""
     connection = rows.opened(whole)
-    changes = list(verdicts(connection))
+    found = [each for group in GROUPS for each in group()]
+    cases = [(statements, wrong_as(line), ("--grades", "no") if place % 2 else ()) for place, (statements, line)
+             in enumerate(found)]
+    for statements, line in verdicts(connection):
+        cases.append((statements, wrong_as(line), ()))
+        cases.append((statements, None, ("--grades", "no")))
     connection.close()
-    for statements, line in changes:
-        path = damage(lab, whole, statements)
-        is_wrong(lab, path, line)
-        is_wrong(lab, path, line, "--grades", "yes")
-        is_whole(lab, path, "--grades", "no")
-        count += 1
-    print(f"{count} damages")
+
+    def outcome(place):
+        statements, wanted, more = cases[place]
+        path = damage(lab, whole, statements, place)
+        told = checked(lab, path, *more)
+        wanted = wanted or whole_as(path)
+        shutil.rmtree(os.path.dirname(path))
+        return told, wanted
+
+    with concurrent.futures.ThreadPoolExecutor(os.cpu_count()) as pool:
+        for place, (told, wanted) in enumerate(pool.map(outcome, range(len(cases)))):
+            expect(f"check {cases[place][2]} after {cases[place][0]}", told, wanted)
+    print(f"{len(found)} damages of rows, {len(cases) - len(found)} looks at verdicts")
 
 
 def other_keys(lab, whole):
@@ -272,7 +305,7 @@ def faults(lab, whole):
     lab.fails("unavailable", "check", "--db", lab.write(lab.path("text.db"), "no database" * 100), *options)
     old = earlier.older_file(lab.path("old.db"), "schema 1")
     lab.fails("schema", "check", "--db", old, *options)
-    referring = damage(lab, whole, [delete("account", account=7)])
+    referring = damage(lab, whole, [delete("account", account=7)], "referring")
     lab.fails("unavailable", "check", "--db", referring, *options)
     for words in (["--grades", "maybe"], ["--grades"]):
         expect(f"the status of check {words}", lab.run("check", "--db", whole, *options, *words)[0], 2)
@@ -281,10 +314,9 @@ def faults(lab, whole):
 def after_migrate(lab, whole):
     """The same rows in a file of each earlier schema, which is moved."""
     for name, (version, tables) in earlier.FORMS.items():
-        path = lab.path("moved.db")
-        shutil.rmtree(path, ignore_errors=True)
-        if os.path.exists(path):
-            os.remove(path)
+        folder = lab.path(f"schema-{version}-{len(tables)}")
+        os.mkdir(folder)
+        path = os.path.join(folder, "laboratory.db")
         connection = rows.opened(path)
         for table in tables:
             connection.execute(table)
@@ -300,16 +332,39 @@ def after_migrate(lab, whole):
             if os.path.exists(path + end):
                 os.remove(path + end)
         is_whole(lab, path)
+        connection = rows.opened(path)
+        connection.execute("UPDATE vset2 SET epoch = 1 WHERE vs = ?", (READY * 100 + 1,))
+        connection.close()
+        is_wrong(lab, path, f"set {READY * 100 + 1} noSeed")
 
 
 def while_served(lab, whole):
     """A file that is served is looked at as it stands, and served on."""
-    path = lab.db
-    shutil.copy(whole, path)
+    folder = lab.path("served")
+    os.mkdir(folder)
+    lab.db = shutil.copy(whole, os.path.join(folder, "laboratory.db"))
     lab.serve()
-    expect("a check of a file that is served", lab.run("check", "--db", path, "--keys", lab.keys)[:2], (0, whole_line(whole)))
+    expect("what is served before", lab.call("GET", "/account")[0], 401)
+    is_whole(lab, lab.db)
     expect("what is served then", lab.call("GET", "/account")[0], 401)
     lab.kill()
+
+
+def on_a_terminal(lab, whole):
+    """Progress is shown on standard error, where that is a terminal, and the line as ever."""
+    ours, theirs = os.openpty()
+    done = subprocess.run([lab.program, "check", "--db", whole, "--keys", lab.keys], stdin=subprocess.DEVNULL,
+                          stdout=subprocess.PIPE, stderr=theirs, timeout=60)
+    os.close(theirs)
+    shown = b""
+    try:
+        while part := os.read(ours, 65536):
+            shown += part
+    except OSError:
+        pass  # so a terminal ends
+    os.close(ours)
+    expect("what check prints", (done.returncode, done.stdout.decode()), (0, whole_line(whole)))
+    expect("the progress that it shows", (b"100 of 9999 accounts" in shown, b"9900 of 9999 accounts" in shown), (True, True))
 
 
 def main():
@@ -329,7 +384,7 @@ def main():
             os.chmod(whole, 0o600)
             is_whole(lab, whole)
             is_whole(lab, whole, "--grades", "no")
-            for part in (each_damage, other_keys, faults, after_migrate, while_served):
+            for part in (each_damage, other_keys, faults, after_migrate, while_served, on_a_terminal):
                 part(lab, whole)
         finally:
             lab.kill()

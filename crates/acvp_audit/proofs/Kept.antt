@@ -37,9 +37,8 @@ use Rattle.acvp_store.specs.Rows.{account_key, account_row, session_key, session
 use Rattle.acvp_store.proofs.EntryRanges.{each_entry}
 use Rattle.acvp_store.proofs.RangeJoins.{between_whole}
 use Rattle.acvp_store.proofs.RangeStrays.{each_kept}
-use Rattle.acvp_audit.specs.Checked.{AreWithin}
 use Rattle.acvp_audit.specs.Read.{IsRegistrable}
-use Rattle.acvp_audit.specs.Wrong.{IsWithin}
+use Rattle.acvp_audit.specs.Wrong.{AreWithin, IsWithin}
 use Rattle.acvp_audit.specs.declared.table.Table.TheVariants as table
 use Rattle.acvp_audit.proofs.Lists.{all_tested}
 

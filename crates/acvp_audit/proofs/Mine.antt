@@ -40,9 +40,8 @@ use Rattle.acvp_store.proofs.EntryRanges.{both_hold, IsParted}
 use Rattle.acvp_store.proofs.Keyed.{same_whole}
 use Rattle.acvp_store.proofs.OneList.{same_sets, same_objects, same_reviewers}
 use Rattle.acvp_store.proofs.RangeJoins.{sessions_known, accounts_known}
-use Rattle.acvp_audit.specs.Checked.{AreWithin}
 use Rattle.acvp_audit.specs.Read.{AreInTrees, AreRowsOf, IsRegistrable}
-use Rattle.acvp_audit.specs.Wrong.{IsBroken}
+use Rattle.acvp_audit.specs.Wrong.{AreWithin, IsBroken}
 use Rattle.acvp_audit.specs.declared.table.Table.TheVariants as table
 use Rattle.acvp_check.specs.declared.finding.Finding.{Finding}
 use Rattle.acvp_audit.proofs.Kept.{owner_is, session_is}

@@ -46,3 +46,17 @@ both_readings x q old mid new first second = record {
     stays : {Y F : Type 0} (q : Result Y F) → OnOk q (HasCleanDisk new → IsTrue mid.is_open → IsTrue new.is_open) → OnOk q (HasCleanDisk new → IsTrue old.is_open → IsTrue new.is_open)
     stays (Ok y) live = λ clean was. live clean (first.stays_open (second.was_clean clean) was)
     stays (Err f) live = tt
+
+-- one behind another, both of which may have failed
+pub both_failed : {X E Y F Z H : Type 0} (e : E) (f : F) (h : H) (old mid new : State) → IsReading {X = X} (Err e) old mid → IsReading {X = Y} (Err f) mid new → IsReading {X = Z} (Err h) old new
+both_failed e f h old mid new first second = record {
+  stays = record {
+    was_open = λ now. first.stays.was_open (second.stays.was_open now);
+    now = λ live. second.stays.now live ∙ first.stays.now (second.stays.was_open live);
+    settled = second.stays.settled;
+  };
+  was_clean = λ clean. first.was_clean (second.was_clean clean);
+  stays_open = tt;
+  limit = second.limit ∙ first.limit;
+  left = λ clean db may. first.left (second.was_clean clean) db (second.left clean db may);
+}

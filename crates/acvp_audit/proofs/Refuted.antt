@@ -11,9 +11,9 @@ use Rattle.acvp_store.proofs.RangeJoins.{sessions_tree, accounts_tree, accounts_
 use Rattle.acvp_store.proofs.RequestRanges.{requests_tree, requests_full}
 use Rattle.acvp_store.proofs.ReviewerRanges.{reviewers_tree}
 use Rattle.acvp_store.proofs.SetRanges.{sets_tree}
-use Rattle.acvp_audit.specs.Checked.{AreWithin, IsRefuted}
+use Rattle.acvp_audit.specs.Checked.{IsRefuted}
 use Rattle.acvp_audit.specs.Read.{AreInTrees}
-use Rattle.acvp_audit.specs.Wrong.{IsDamaged, IsOutside, IsWithin, HasStray}
+use Rattle.acvp_audit.specs.Wrong.{AreWithin, IsDamaged, IsDamagedIn, IsOutside, HasStray}
 use Rattle.acvp_audit.specs.declared.table.Table.{Table}
 use Rattle.acvp_audit.specs.declared.table.Table.TheVariants as table
 use Rattle.acvp_audit.specs.declared.damage.Damage.{Damage}
@@ -43,13 +43,6 @@ module _ (layout : Layout) (trees : Trees) (c : Content) (stand : Stands layout 
   no_stray seeds texts is table.Request number stray = stray.none c.requests (fit_requests seeds c is) stand.requests
   no_stray seeds texts is table.Reviewer number stray = stray.none c.reviewers (fit_reviewers seeds c is) stand.reviewers
 
--- What is told is so under the premises that rows which stand for a content meet, and a broken condition is told where
--- no row lies outside.
-abbrev pub IsDamagedIn : Bool → List (List ℕ) → Layout → Trees → Damage → Type 0
-IsDamagedIn grades seeds layout trees (damage.Outside t number) = ¬ IsWithin t layout trees
-IsDamagedIn grades seeds layout trees (damage.Stray t number) = HasStray t number layout trees
-IsDamagedIn grades seeds layout trees (damage.Broken u found) = AreWithin layout trees × IsDamaged grades seeds layout trees (damage.Broken u found)
-
 pub damaged_in : (grades : Bool) (seeds : List (List ℕ)) (layout : Layout) (trees : Trees) (found : Damage) → AreWithin layout trees → IsDamaged grades seeds layout trees found → IsDamagedIn grades seeds layout trees found
 damaged_in grades seeds layout trees (damage.Outside t number) within is = is
 damaged_in grades seeds layout trees (damage.Stray t number) within is = is
@@ -62,14 +55,17 @@ outside_in grades seeds layout trees (damage.Broken u found) is = absurd is
 
 pub refuted_by : (grades : Bool) (seeds : List (List ℕ)) (layout : Layout) (trees : Trees) (found : Damage) → (AreInTrees layout trees → IsDamagedIn grades seeds layout trees found) → IsRefuted grades seeds layout trees found
 refuted_by grades seeds layout trees (damage.Outside t number) is = record {
+  so = is;
   told = λ c stand texts registrable. is (in_trees layout trees c stand);
   refuted = λ c stand texts kept. is (in_trees layout trees c stand) (kept_are_within seeds c kept layout trees stand t);
 }
 refuted_by grades seeds layout trees (damage.Stray t number) is = record {
+  so = is;
   told = λ c stand texts registrable. is (in_trees layout trees c stand);
   refuted = λ c stand texts kept. no_stray layout trees c stand seeds texts kept t number (is (in_trees layout trees c stand));
 }
 refuted_by grades seeds layout trees (damage.Broken u found) is = record {
+  so = is;
   told = λ c stand texts registrable.
       let inside = in_trees layout trees c stand in
       let it = is inside in

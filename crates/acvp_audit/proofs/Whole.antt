@@ -1,9 +1,12 @@
 -- Where no condition is broken on the rows of any account, the rows stand for records that are kept.
 use Rattle.std.proofs.Common.{◌≡◌, ℕ, zero, suc, ◌+◌, ◌/◌, ◌<◌, ◌≤◌, Bool, true, false, List, length, None, refl, sym, ap, ap₂, subst, ◌∙◌, inl, inr, arith}
 use Rattle.std.specs.Prelude.{◌==◌, if◌then◌else◌}
+use Rattle.std.specs.Prelude.{is_some, slice_get}
+use Rattle.std.specs.List.{list_all}
 use Rattle.std.proofs.lemmas.Bool.{cases_Bool}
 use Rattle.std.proofs.lemmas.Bool.Decides.{nat_tests}
 use Rattle.std.proofs.lemmas.List.{length-append}
+use Rattle.std.proofs.lemmas.List.Folds.{list_all-append}
 use Rattle.sqlite_trees.proofs.ListLemmas.{all_weaker, filter_all}
 use Rattle.sqlite_trees.specs.Tree.{Trees}
 use Rattle.sqlite.specs.Effect.{Database}
@@ -16,10 +19,14 @@ use Rattle.acvp_tables.specs.declared.rows.SetRow.{SetRow}
 use Rattle.acvp_tables.specs.declared.rows.ObjectRow.{ObjectRow}
 use Rattle.acvp_tables.specs.declared.rows.RequestRow.{RequestRow}
 use Rattle.acvp_tables.specs.declared.rows.ReviewerRow.{ReviewerRow}
-use Rattle.acvp_check.specs.Conditions.{all_conditions}
+use Rattle.acvp_check.specs.Conditions.{account_conditions, all_conditions, is_disposed, set_row_conditions}
 use Rattle.acvp_check.specs.Owners.{owner_conditions}
 use Rattle.acvp_check.specs.Rows.{AreNumbered, rows_numbered}
 use Rattle.acvp_check.specs.Whole.{IsWhole}
+use Rattle.acvp_tables.specs.State.{of_all}
+use Rattle.acvp_tables.proofs.KeptLemmas.{list_all_weaker}
+use Rattle.acvp_check.proofs.AccountLemmas.{parts, sets_hold, set_holds}
+use Rattle.acvp_check.proofs.Holds.{all_both, holds, joint, none_broken}
 use Rattle.acvp_check.proofs.NumberedRows.{numbered_whole}
 use Rattle.acvp_check.proofs.WholeLemmas.{kept, whole_sound, whole_counted}
 use Rattle.acvp_store.specs.Adopted.{IsOurs}
@@ -33,7 +40,8 @@ use Rattle.acvp_store.proofs.RangeJoins.{joined_whole, kept_nothing, kept_both, 
 use Rattle.acvp_store.proofs.RequestRanges.{requests_whole}
 use Rattle.acvp_store.proofs.ReviewerRanges.{reviewers_joined}
 use Rattle.acvp_store.proofs.SetRanges.{sets_joined}
-use Rattle.acvp_audit.specs.Checked.{totals_of, plus, totals_to, IsFine, AreFineTo, AreWithin, AreKeptAs, IsWholeAs}
+use Rattle.acvp_audit.specs.Checked.{totals_of, plus, totals_to, IsFine, AreFineTo, AreKeptAs, IsWholeAs, is_seeded}
+use Rattle.acvp_audit.specs.Wrong.{AreWithin}
 use Rattle.acvp_audit.specs.Read.{AreInTrees, AreRowsOf}
 use Rattle.acvp_audit.specs.declared.damage.Totals.{Totals}
 use Rattle.acvp_audit.specs.declared.table.Table.TheVariants as table
@@ -103,6 +111,23 @@ module _ (grades : Bool) (seeds : List (List ℕ)) (layout : Layout) (trees : Tr
       let next : suc n ≡ n + 1 = omega arith in
       subst (λ k. AreFineTo grades seeds layout trees k sum) next
       (subst (AreFineTo grades seeds layout trees (suc n)) (sym is) (fine_next n totals more before (subst (λ k. HasFine k more) (sym next) it)))
+
+-- ---- what else is asked of vector sets
+
+module _ (seeds : List (List ℕ)) where
+  seeded_sets : (u : ℕ) (mine : Content) → first_broken (account_conditions seeds u mine) ≡ None → list_all (is_seeded seeds) mine.sets ≡ true
+  seeded_sets u mine none =
+      let rows = sets_hold seeds mine (parts seeds u mine (none_broken (account_conditions seeds u mine) none)).sets in
+      let seeded = list_all_weaker (λ r. holds (set_row_conditions seeds mine r)) (λ (r : SetRow). is_some (slice_get seeds r.epoch)) (λ r h. (set_holds seeds mine r h).seed) mine.sets rows in
+      let disposed = list_all_weaker (λ r. holds (set_row_conditions seeds mine r)) (λ (r : SetRow). of_all is_disposed r.graded) (λ r h. (set_holds seeds mine r h).disposed) mine.sets rows in
+      all_both (λ (r : SetRow). is_some (slice_get seeds r.epoch)) (λ r. of_all is_disposed r.graded) mine.sets seeded disposed
+
+  seeded_to : (lists : ℕ → Content) (n : ℕ) → ((u : ℕ) → 0 < u → u ≤ n → first_broken (account_conditions seeds u (lists u)) ≡ None) → list_all (is_seeded seeds) (joined (λ u. (lists u).sets) n) ≡ true
+  unfolding joined
+  seeded_to lists zero none = refl
+  seeded_to lists (suc n) none =
+      list_all-append (is_seeded seeds) (joined (λ u. (lists u).sets) n) (lists (suc n)).sets
+      ∙ joint _ _ (seeded_to lists n (λ u some few. none u some (omega (arith, few)))) (seeded_sets (suc n) (lists (suc n)) (none (suc n) (omega arith) (omega arith)))
 
 -- ---- all accounts
 
@@ -200,14 +225,18 @@ module _ (grades : Bool) (seeds : List (List ℕ)) (db : Database) (ours : IsOur
   unfolding records
   counted = all.counted ∙ joined_totals 9999
 
-kept_as : (grades : Bool) (seeds : List (List ℕ)) (c : Content) → IsWhole grades seeds c → AreKeptAs grades seeds c
-kept_as true seeds c is = kept seeds c is
-kept_as false seeds c is = (whole_sound false seeds c is, whole_counted false seeds c is)
+  seeded : grades ≡ false → list_all (is_seeded seeds) records.sets ≡ true
+  unfolding records
+  seeded off = seeded_to seeds list 9999 (λ u there low. subst (λ g. first_broken (all_conditions g seeds u (list u)) ≡ None) off (all.fine u there low).others)
+
+kept_as : (grades : Bool) (seeds : List (List ℕ)) (c : Content) → IsWhole grades seeds c → (grades ≡ false → list_all (is_seeded seeds) c.sets ≡ true) → AreKeptAs grades seeds c
+kept_as true seeds c is more = kept seeds c is
+kept_as false seeds c is more = (whole_sound false seeds c is, whole_counted false seeds c is, more refl)
 
 pub is_whole : (grades : Bool) (seeds : List (List ℕ)) (db : Database) (ours : IsOurs db) → AreInTrees ours.layout db.trees → AreWithin ours.layout db.trees → (totals : Totals) → AreFineTo grades seeds ours.layout db.trees 9999 totals → IsWholeAs grades seeds ours.layout db.trees totals
 is_whole grades seeds db ours inside within totals all = record {
   records = records grades seeds db ours inside within totals all;
   stand = stand grades seeds db ours inside within totals all;
-  kept = kept_as grades seeds _ (whole grades seeds db ours inside within totals all);
+  kept = kept_as grades seeds _ (whole grades seeds db ours inside within totals all) (seeded grades seeds db ours inside within totals all);
   counted = counted grades seeds db ours inside within totals all;
 }

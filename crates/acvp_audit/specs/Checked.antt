@@ -1,31 +1,34 @@
 -- What a check of a file comes to.
 use Rattle.std.specs.Prelude.{◌≡◌, ℕ, zero, suc, ◌+◌, ◌<◌, ◌≤◌, List, length, Bool, true, false, None, Result, OnOk}
+use Rattle.std.specs.Prelude.{◌&&◌, is_some, slice_get, IfErr}
 use Rattle.std.specs.Prelude.{IsTrue}
-use Rattle.std.specs.List.{AllByRecursion}
+use Rattle.std.specs.List.{AllByRecursion, list_all}
 use Rattle.sqlite.specs.State.{State, HasCleanDisk}
 use Rattle.sqlite_trees.specs.Tree.{Trees}
 use Rattle.acvp_mac.specs.Conditions.{first_broken}
-use Rattle.acvp_check.specs.Conditions.{all_conditions}
+use Rattle.acvp_check.specs.Conditions.{all_conditions, is_disposed}
 use Rattle.acvp_check.specs.Order.{HaveSameRows, AreInOrder}
 use Rattle.acvp_check.specs.Owners.{owner_conditions}
 use Rattle.acvp_check.specs.Rows.{rows_numbered}
 use Rattle.acvp_desk.specs.Kept.{IsKept}
 use Rattle.acvp_tables.specs.Content.{Content}
 use Rattle.acvp_tables.specs.Counted.{IsCounted}
-use Rattle.acvp_tables.specs.State.{AreWellNumbered}
+use Rattle.acvp_tables.specs.State.{AreWellNumbered, of_all}
+use Rattle.acvp_tables.specs.declared.rows.SetRow.{SetRow}
 use Rattle.acvp_tables.specs.declared.rows.RequestRow.{RequestRow}
 use Rattle.acvp_store.specs.Connection.{Stays, LeavesNoMore}
 use Rattle.acvp_store.specs.Ranges.{KeepsSets}
 use Rattle.acvp_store.specs.Schema.{Layout}
 use Rattle.acvp_store.specs.Stands.{Stands, set_tree}
-use Rattle.acvp_audit.specs.Read.{AreRowsOf, IsRegistrable}
-use Rattle.acvp_audit.specs.Wrong.{IsBroken, IsWithin, HasStray}
+use Rattle.acvp_audit.specs.Read.{AreInTrees, AreRowsOf, IsRegistrable}
+use Rattle.acvp_audit.specs.Wrong.{IsBroken, IsDamagedIn, IsWithin, HasStray}
+use Rattle.acvp_audit.specs.declared.damage.AuditFault.{AuditFault}
+use Rattle.acvp_audit.specs.declared.damage.AuditFault.TheVariants as fault
 use Rattle.acvp_audit.specs.declared.damage.Damage.{Damage}
 use Rattle.acvp_audit.specs.declared.damage.Damage.TheVariants as damage
 use Rattle.acvp_audit.specs.declared.damage.Totals.{Totals}
-use Rattle.acvp_audit.specs.declared.table.Table.{Table}
 
--- a reading, which commits nothing and leaves an open connection open where it succeeds
+-- A reading, which commits nothing. Where it succeeds and the disk is clean, a connection that was open is open.
 pub record IsReading {X E : Type 0} (result : Result X E) (old new : State) : Type 0 where
   pub stays : Stays old new
   pub was_clean : HasCleanDisk new → HasCleanDisk old
@@ -71,15 +74,17 @@ pub record AreFineTo (grades : Bool) (seeds : List (List ℕ)) (layout : Layout)
   pub fine : (u : ℕ) → 0 < u → u ≤ last → IsFine grades seeds layout trees u (lists u)
   pub counted : totals ≡ totals_to lists last
 
-abbrev pub AreWithin : Layout → Trees → Type 0
-AreWithin layout trees = (t : Table) → IsWithin t layout trees
-
 -- ---- the whole
 
--- The records are kept. Without the verdicts on the answers they are well numbered and counted.
+-- there is a seed of the set's epoch, and the disposition is that of the verdicts
+abbrev pub is_seeded : List (List ℕ) → SetRow → Bool
+is_seeded seeds row = is_some (slice_get seeds row.epoch) && of_all is_disposed row.graded
+
+-- The records are kept. Without the verdicts on the answers they are well numbered and counted, and what else is asked
+-- of vector sets is so.
 abbrev pub AreKeptAs : Bool → List (List ℕ) → Content → Type 0
 AreKeptAs true seeds c = IsKept seeds c
-AreKeptAs false seeds c = AreWellNumbered c × IsCounted c
+AreKeptAs false seeds c = AreWellNumbered c × IsCounted c × (list_all (is_seeded seeds) c.sets ≡ true)
 
 -- The rows stand for records that are kept, so many in all.
 pub record IsWholeAs (grades : Bool) (seeds : List (List ℕ)) (layout : Layout) (trees : Trees) (totals : Totals)
@@ -91,18 +96,24 @@ pub record IsWholeAs (grades : Bool) (seeds : List (List ℕ)) (layout : Layout)
 
 -- What is told of a content that the rows stand for. A row lies outside the numbers of accounts, or is that of none of
 -- the members that a kept content has; or a condition is the first that is broken on the content's own rows with an
--- account's numbers, in the order of their tables' keys.
+-- account's numbers, in an order in which those of sessions, vector sets, requests and each kind of objects rise.
 abbrev pub IsTold : Bool → List (List ℕ) → Layout → Trees → Content → Damage → Type 0
 IsTold grades seeds layout trees c (damage.Outside t number) = ¬ IsWithin t layout trees
 IsTold grades seeds layout trees c (damage.Stray t number) = HasStray t number layout trees
 IsTold grades seeds layout trees c (damage.Broken u found) =
     (mine : Content) × HaveSameRows (rows_numbered u c) mine × AreInOrder mine × IsBroken grades seeds u mine found
 
--- Whatever content the rows stand for, with texts of capabilities in UTF-8: it isn't kept. And what is told is so of it,
--- where each registration that was asked for is of one of the three kinds.
+-- What is told is so of the rows. Whatever content they stand for, with texts of capabilities in UTF-8, it isn't kept. And
+-- what is told is so of the content, where each registration that was asked for is of one of the three kinds.
 pub record IsRefuted (grades : Bool) (seeds : List (List ℕ)) (layout : Layout) (trees : Trees) (found : Damage)
     : Type 0 where
+  pub so : AreInTrees layout trees → IsDamagedIn grades seeds layout trees found
   pub told : (c : Content) → Stands layout trees c → KeepsSets (trees (set_tree layout)) c.sets
       → AllByRecursion (λ (row : RequestRow). IsRegistrable row.body) c.requests
       → IsTold grades seeds layout trees c found
   pub refuted : (c : Content) → Stands layout trees c → KeepsSets (trees (set_tree layout)) c.sets → ¬ IsKept seeds c
+
+-- where what is told is wrong with rows, a connection that was open is open still, if the disk is clean
+abbrev pub IsWrongOpenly : {X : Type 0} → Result X AuditFault → State → State → Type 0
+IsWrongOpenly result old new =
+    IfErr result (λ why. (found : Damage) → why ≡ fault.Wrong found → HasCleanDisk new → IsTrue new.is_open)

@@ -60,3 +60,14 @@ IsDamaged grades seeds layout trees (damage.Outside t number) = ¬ IsWithin t la
 IsDamaged grades seeds layout trees (damage.Stray t number) = HasStray t number layout trees
 IsDamaged grades seeds layout trees (damage.Broken u found) =
     (mine : Content) × AreRowsOf layout trees u mine × IsBroken grades seeds u mine found
+
+-- no row of any table lies outside
+abbrev pub AreWithin : Layout → Trees → Type 0
+AreWithin layout trees = (t : Table) → IsWithin t layout trees
+
+-- the same where a broken condition is told only if no row lies outside
+abbrev pub IsDamagedIn : Bool → List (List ℕ) → Layout → Trees → Damage → Type 0
+IsDamagedIn grades seeds layout trees (damage.Outside t number) = ¬ IsWithin t layout trees
+IsDamagedIn grades seeds layout trees (damage.Stray t number) = HasStray t number layout trees
+IsDamagedIn grades seeds layout trees (damage.Broken u found) =
+    AreWithin layout trees × IsDamaged grades seeds layout trees (damage.Broken u found)

@@ -1,5 +1,5 @@
 //! The check of all tables, account by account.
-ghost use Rattle.std.specs.Prelude.{◌≡◌, ◌<◌, ◌≤◌, ◌+◌, ◌*◌, ◌^◌, ◌++◌, ℕ, Some, None, IsTrue, IfOk, IfErr};
+ghost use Rattle.std.specs.Prelude.{◌≡◌, ◌<◌, ◌≤◌, ◌+◌, ◌*◌, ◌^◌, ◌++◌, ℕ, Some, None, Err, IsTrue, IfOk, IfErr};
 ghost use Rattle.sqlite.specs.Held.{state};
 ghost use Rattle.acvp_mac.specs.Conditions.{first_broken};
 ghost use Rattle.acvp_check.specs.Conditions.{all_conditions};
@@ -9,9 +9,11 @@ ghost use Rattle.acvp_store.specs.Adopted.{IsOurs};
 ghost use Rattle.acvp_store.specs.Connection.{InStore, IsRead};
 ghost use Rattle.acvp_audit.specs.Read.{AreInTrees, Blames, Tells};
 ghost use Rattle.acvp_audit.specs.Wrong.{IsDamaged, IsWithin};
-ghost use Rattle.acvp_audit.specs.Checked.{totals_of, plus, IsFine, AreFineTo, AreWithin, IsWholeAs, IsRefuted};
-ghost use Rattle.acvp_audit.specs.Checked.{IsReading};
+ghost use Rattle.acvp_audit.specs.Checked.{totals_of, plus, IsFine, AreFineTo, IsWholeAs, IsRefuted};
+ghost use Rattle.acvp_audit.specs.Checked.{IsReading, IsWrongOpenly};
 ghost use Rattle.acvp_audit.specs.declared.damage.Damage.{Damage as DamageValue};
+ghost use Rattle.acvp_audit.specs.declared.damage.Totals.{Totals as TotalsValue};
+ghost use Rattle.sqlite.specs.State.{HasCleanDisk};
 
 use crate::damage::{AuditFault, Damage, Totals};
 use crate::outside::all_within;
@@ -137,6 +139,43 @@ fn all_judged<S: Alter, W: Watch>(
     Ok(totals)
 }
 
+/// What all looks come to.
+fn examined<S: Alter, W: Watch>(
+    alloc: Global,
+    tables: &mut SqlTables<S>,
+    seeds: &Seeds,
+    grades: bool,
+    watch: &W,
+) -> Result<Totals, AuditFault>
+    ensures whole { IsTrue (state S.Store tables.new).is_open
+        → IfOk result (λ totals. (ours : IsOurs (state S.Store tables.old).now)
+        → AreInTrees ours.layout (state S.Store tables.old).now.trees
+        → IsWholeAs grades seeds.now ours.layout (state S.Store tables.old).now.trees totals) }
+    ensures wrong { IsTrue (state S.Store tables.new).is_open
+        → IfErr result (λ fault. InStore (state S.Store tables.old).now
+        (λ layout. (found : DamageValue) → fault ≡ AuditFault.Wrong found
+        → IsRefuted grades seeds.now layout (state S.Store tables.old).now.trees found)) }
+    ensures read { IsReading result (state S.Store tables.old) (state S.Store tables.new) }
+{
+    match all_within(tables) {
+        Ok(()) => all_judged(alloc, tables, seeds, grades, watch),
+        Err(fault) => Err(fault),
+    }
+}
+
+/// What was found, where the database still answers. So nothing is called wrong over a connection that a fault has shut.
+fn confirmed<S: Alter>(tables: &mut SqlTables<S>, found: Damage) -> AuditFault
+    ensures same { (other : DamageValue) → result ≡ AuditFault.Wrong other → other ≡ found }
+    ensures live { (other : DamageValue) → result ≡ AuditFault.Wrong other
+        → HasCleanDisk (state S.Store tables.new) → IsTrue (state S.Store tables.new).is_open }
+    ensures read { IsReading {X = TotalsValue} (Err result) (state S.Store tables.old) (state S.Store tables.new) }
+{
+    match tables.account_outside() {
+        Ok(_) => AuditFault::Wrong(found),
+        Err(fault) => AuditFault::Store(fault),
+    }
+}
+
 /// Whether the rows of a database stand for records that are kept under these seeds, and how many rows there are. What
 /// is looked at comes in this order: that no row of accounts, sessions, vector sets, objects, requests and reviewers has
 /// a number outside those of the accounts 1 to 9999; and then, for one account after another, that each of the rows
@@ -158,9 +197,11 @@ pub fn check<S: Alter, W: Watch>(
         (λ layout. (found : DamageValue) → fault ≡ AuditFault.Wrong found
         → IsRefuted grades seeds.now layout (state S.Store tables.old).now.trees found)) }
     ensures read { IsReading result (state S.Store tables.old) (state S.Store tables.new) }
+    ensures live { IsWrongOpenly result (state S.Store tables.old) (state S.Store tables.new) }
 {
-    match all_within(tables) {
-        Ok(()) => all_judged(alloc, tables, seeds, grades, watch),
-        Err(fault) => Err(fault),
+    match examined(alloc, tables, seeds, grades, watch) {
+        Ok(totals) => Ok(totals),
+        Err(AuditFault::Wrong(found)) => Err(confirmed(tables, found)),
+        Err(AuditFault::Store(fault)) => Err(AuditFault::Store(fault)),
     }
 }

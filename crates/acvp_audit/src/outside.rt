@@ -3,8 +3,7 @@ ghost use Rattle.std.specs.Prelude.{◌≡◌, ℤ, Some, None};
 ghost use Rattle.sqlite.specs.Held.{state};
 ghost use Rattle.acvp_store.specs.Connection.{IsRead};
 ghost use Rattle.acvp_audit.specs.Read.{Blames, Tells};
-ghost use Rattle.acvp_audit.specs.Checked.{AreWithin};
-ghost use Rattle.acvp_audit.specs.Wrong.{IsWithin, IsOutside};
+ghost use Rattle.acvp_audit.specs.Wrong.{AreWithin, IsWithin, IsOutside};
 ghost use Rattle.acvp_audit.specs.declared.damage.Damage.{Damage as DamageValue};
 
 use crate::damage::{AuditFault, Damage};

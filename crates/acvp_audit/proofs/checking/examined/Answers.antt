@@ -7,7 +7,7 @@ use Rattle.acvp_audit.specs.declared.damage.Damage.{Damage}
 use Rattle.acvp_audit.proofs.Reading.{blamed_more, earlier, told_more}
 use Rattle.acvp_audit.proofs.Refuted.{damaged_in, outside_in, refuted_by}
 use Rattle.acvp_audit.proofs.Whole.{is_whole}
-use Rattle.acvp_audit.proofs.checking.check.Goals as goal
+use Rattle.acvp_audit.proofs.checking.examined.Goals as goal
 
 pub returns-in-Err-clause-wrong : goal.returns-in-Err-clause-wrong
 returns-in-Err-clause-wrong g c = λ live layout schema found is.
