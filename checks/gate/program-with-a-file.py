@@ -676,7 +676,7 @@ def documents(lab):
     rest = [line for line in lines[place:] if "account-disable" not in line]
     output = shell(other, rest, folder)
     wanted = ["7 enabled sessions 0 requests 2 ", "7000002 account 7 vendor initial\n",
-              '7000001 account 7 vendor initial\n{"name":"Vendor one"}\n', "request 7000001 approved /acvp/v1/vendors/7000001\n", "request 7000002 rejected\n", "backed up\n", "restored\n", "schema 3\n"]
+              '7000001 account 7 vendor initial\n{"name":"Vendor one"}\n', "request 7000001 approved /acvp/v1/vendors/7000001\n", "request 7000002 rejected\n", "backed up\n", "restored\n", "whole: accounts 1 sessions 0 sets 0 requests 2\n", "schema 3\n"]
     if shutil.which("sqlite3"):
         wanted += ["ok\n"]
     for part in wanted:
