@@ -4,7 +4,7 @@
     ./bench --whole-files
     whole_files.py PROGRAM
 
-The sessions have one vector set each, of SHA2-256 with its Monte Carlo test, and are of 20 accounts, or all of one. The
+The sessions have one vector set each, of SHA2-256 without a Monte Carlo test, and are of 20 accounts, or all of one. The
 answers lack every test, so the standard answers are made as they are for others. It is no part of the gate."""
 import os
 import sqlite3

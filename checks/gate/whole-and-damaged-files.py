@@ -345,7 +345,7 @@ def while_served(lab, whole):
     lab.db = shutil.copy(whole, os.path.join(folder, "laboratory.db"))
     lab.serve()
     expect("what is served before", lab.call("GET", "/account")[0], 401)
-    is_whole(lab, lab.db)
+    expect("a check of a file that is served", checked(lab, lab.db), whole_as(whole))
     expect("what is served then", lab.call("GET", "/account")[0], 401)
     lab.kill()
 
