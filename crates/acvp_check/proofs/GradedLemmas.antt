@@ -24,10 +24,7 @@ disposition_at (suc (suc (suc (suc n)))) = disposition.Unreceived
 
 disposition_back : (d : Disposition) → disposition_at (disposition_number d) ≡ d
 disposition_back disposition.Passed = refl
-disposition_back disposition.Fail = refl
-disposition_back disposition.Missing = refl
-disposition_back disposition.Expired = refl
-disposition_back disposition.Unreceived = refl
+disposition_back _ = refl
 
 same_disposition : (a b : Disposition) → (disposition_number a == disposition_number b) ≡ true → a ≡ b
 same_disposition a b e =

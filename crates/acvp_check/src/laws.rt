@@ -41,9 +41,9 @@ pub fn numbers_select()
     ensures { (u : ℕ) (c : Content) → first_broken (owner_conditions c) ≡ None → rows_numbered u c ≡ rows_of u c }
 {}
 
-/// Rows can be judged account by account, those with its numbers, in one pass: where each row has a number of an account
-/// and no condition on any account's is broken, the records are whole; and a condition that is broken on the rows with
-/// an account's numbers tells that the records aren't kept.
+/// Rows can be judged account by account, those with its numbers, in one pass: where each row has a number of an
+/// account and no condition on any account's is broken, the records are whole; and a condition that is broken on the
+/// rows with an account's numbers tells that the records aren't kept.
 pub fn numbered_rows_tell()
     ensures whole { (grades : Bool) (seeds : List (List ℕ)) (c : Content) → AreNumbered c
         → ((u : ℕ) → is_account_number u ≡ true → first_broken (owner_conditions (rows_numbered u c)) ≡ None)

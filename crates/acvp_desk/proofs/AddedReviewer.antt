@@ -75,30 +75,14 @@ module _ (seeds : List (List ℕ)) (moment u : ℕ) (body : List ℕ) (row : Rev
   -- only who asks to add a reviewer adds one: the one that the body names
   by_place : (it : Place) → added (place_change seeds moment u body it) ≡ Some row
       → ((n : ℕ) × (wish_at it ≡ wish.Session n on_session.AddReviewer)) × (reviewer_at body ≡ Some row.account)
-  by_place (place.Account counts) is = absurd (cc)
-  by_place place.Algorithms is = absurd (cc)
-  by_place (place.Algorithm n) is = absurd (cc)
-  by_place (place.Session n found (in_session.Read sets)) is = absurd (cc)
-  by_place (place.Session n found in_session.Cancel) is = absurd (cc)
-  by_place (place.Session n found (in_session.Results sets)) is = absurd (cc)
-  by_place (place.Session n found (in_session.ListSets sets)) is = absurd (cc)
-  by_place (place.Session n found (in_session.ListReviewers accounts)) is = absurd (cc)
   by_place (place.Session n found (in_session.AddReviewer accounts)) is = ((n, refl), reviewer_added n (reviewer_at body) row is)
-  by_place (place.Reviewer n m found accounts) is = absurd (cc)
   by_place (place.NewSession sessions) is =
       let made = new_session_in seeds moment u sessions body in
       absurd (none_added (option_map change.NewSession made) row (not_mapped change.NewSession made (λ session. refl)) is)
   by_place (place.Set session n found it) is = absurd (none_added (set_change seeds session n body it) row (set_adds_none seeds session n body it) is)
-  by_place (place.CancelSet session n found sets) is = absurd (cc)
-  by_place (place.Sessions found) is = absurd (cc)
   by_place (place.Certify n found (Ok parts) asked) is = absurd (cc)
-  by_place (place.Certify n found (Err broken) asked) is = absurd (cc)
-  by_place (place.Registry (in_registry.Object of n row)) is = absurd (cc)
   by_place (place.Registry (in_registry.New of (Ok object) asked)) is = absurd (cc)
-  by_place (place.Registry (in_registry.New of (Err broken) asked)) is = absurd (cc)
-  by_place (place.Registry (in_registry.Objects of found)) is = absurd (cc)
-  by_place (place.Registry (in_registry.Request n row)) is = absurd (cc)
-  by_place (place.Registry (in_registry.Requests found)) is = absurd (cc)
+  by_place _ is = absurd (cc)
 
 -- ---- by the action
 

@@ -26,7 +26,7 @@ use Rattle.acvp_desk.specs.declared.wish.RegistryWish.TheVariants as on_registry
 use Rattle.acvp_desk.specs.declared.wish.SessionWish.TheVariants as on_session
 use Rattle.acvp_desk.specs.declared.wish.SetWish.TheVariants as on_set
 use Rattle.acvp_desk.specs.declared.wish.Wish.{Wish}
-use Rattle.acvp_desk.specs.declared.wish.Wish.TheVariants.{Account, Algorithm, Session, Reviewer, Set, NewSession, CancelSet, ListSessions, Certify, Registry}
+use Rattle.acvp_desk.specs.declared.wish.Wish.TheVariants.{Account, Session, Set, Registry}
 use Rattle.acvp_desk.specs.Private.Unfound.{unfound_facts}
 use Rattle.acvp_desk.proofs.FirstBroken.{first_held, back_held, held}
 
@@ -43,35 +43,12 @@ admitted_enabled scope.ReviewableResource f e = inr (caller_enabled f (if is_rev
 
 pub no_login : (it : Wish) → scope_of (action_of_wish it) ≡ scope.Login → ⊥
 no_login (Account on_account.Read) e = cc
-no_login (Account on_account.ListAlgorithms) e = cc
-no_login (Algorithm n) e = cc
 no_login (Session n on_session.Read) e = cc
-no_login (Session n on_session.Cancel) e = cc
-no_login (Session n on_session.Results) e = cc
-no_login (Session n on_session.ListSets) e = cc
-no_login (Session n on_session.ListReviewers) e = cc
-no_login (Session n on_session.AddReviewer) e = cc
-no_login (Reviewer n m) e = cc
-no_login NewSession e = cc
 no_login (Set session n on_set.Read) e = cc
-no_login (Set session n on_set.Expected) e = cc
-no_login (Set session n on_set.Results) e = cc
-no_login (Set session n on_set.Submit) e = cc
-no_login (Set session n on_set.Resubmit) e = cc
-no_login (CancelSet session n) e = cc
-no_login (ListSessions page) e = cc
-no_login (Certify n) e = cc
 no_login (Registry (on_registry.Read registry.Vendors n)) e = cc
-no_login (Registry (on_registry.Read registry.Modules n)) e = cc
-no_login (Registry (on_registry.Read registry.Environments n)) e = cc
 no_login (Registry (on_registry.New registry.Vendors)) e = cc
-no_login (Registry (on_registry.New registry.Modules)) e = cc
-no_login (Registry (on_registry.New registry.Environments)) e = cc
 no_login (Registry (on_registry.List registry.Vendors page)) e = cc
-no_login (Registry (on_registry.List registry.Modules page)) e = cc
-no_login (Registry (on_registry.List registry.Environments page)) e = cc
-no_login (Registry (on_registry.ReadRequest n)) e = cc
-no_login (Registry (on_registry.ListRequests page)) e = cc
+no_login _ e = cc
 
 enabled_row : (account : Option AccountRow) (P : Type 0) → is_enabled (standing_of account) ≡ true → IfSome account (λ _. P) → P
 enabled_row None P e if_some = absurd (cc)

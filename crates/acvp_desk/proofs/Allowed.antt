@@ -1,8 +1,8 @@
 -- What holds of what a caller is allowed.
-use Rattle.std.proofs.Common.{◌≡◌, ℕ, List, Bool, true, false, Option, None, Some, [], ◌∷◌, arith}
+use Rattle.std.proofs.Common.{◌≡◌, ℕ, List, Bool, true, false, Option, None, Some, [], ◌∷◌, refl, arith}
 use Rattle.std.proofs.lemmas.Bool.Decides.{nat_tests}
 use Rattle.std.specs.Prelude.{◌++◌, ◌==◌, ◌&&◌, nat_le, is_some}
-use Rattle.acvp_mac.specs.Conditions.{first_broken}
+use Rattle.acvp_mac.specs.Conditions.{Condition, first_broken}
 use Rattle.acvp_policy.specs.Scope.{scope_of}
 use Rattle.acvp_policy.specs.declared.action.Action.{Action}
 use Rattle.acvp_policy.specs.declared.action.Action.TheVariants as action
@@ -11,6 +11,7 @@ use Rattle.acvp_policy.specs.declared.facts.SessionFacts.{SessionFacts}
 use Rattle.acvp_policy.specs.declared.facts.SetFacts.{SetFacts}
 use Rattle.acvp_policy.specs.declared.facts.Subject.TheVariants as subject
 use Rattle.acvp_policy.specs.declared.resource.Resource.TheVariants as resource
+use Rattle.acvp_policy.specs.declared.rule.Rule.{Rule}
 use Rattle.acvp_policy.specs.declared.rule.Rule.TheVariants as rule
 use Rattle.acvp_desk.specs.Answer.{facts_on_caller, policy_conditions}
 use Rattle.acvp_desk.specs.Place.{session_wish}
@@ -23,11 +24,11 @@ use Rattle.acvp_desk.specs.declared.found.Place.TheVariants as place
 use Rattle.acvp_desk.specs.declared.found.SessionPlace.{SessionPlace}
 use Rattle.acvp_desk.specs.declared.found.SetPlace.{SetPlace}
 use Rattle.acvp_desk.specs.declared.wish.SessionWish.{SessionWish}
-use Rattle.acvp_desk.specs.declared.wish.SessionWish.TheVariants.{Read, Cancel, Results, ListSets, ListReviewers, AddReviewer}
+use Rattle.acvp_desk.specs.declared.wish.SessionWish.TheVariants.{Read}
 use Rattle.acvp_desk.specs.declared.wish.Registry.{Registry as RegistryOf}
 use Rattle.acvp_desk.specs.declared.wish.Registry.TheVariants as registry
 use Rattle.acvp_desk.specs.Registries.{new_action}
-use Rattle.acvp_policy.specs.Conditions.{is_account, is_enabled, account_there, account_enabled, without_session, token_there, token_shaped, token_signed, token_read, token_lasts, session_found, is_some_and, session_live, session_thawed, set_found, is_sample, session_lasts, set_lasts, set_live, is_unanswered, is_answered, are_of_session, claims_of, has_passed, is_no_sample, this_session, with_session}
+use Rattle.acvp_policy.specs.Conditions.{is_account, is_enabled, account_there, account_enabled, without_session, token_there, token_shaped, token_signed, token_read, token_lasts, session_found, is_some_and, session_live, session_thawed, set_found, session_lasts, set_live, are_of_session, claims_of, has_passed, is_no_sample, this_session, with_session}
 use Rattle.acvp_policy.specs.Decision.{account_of_claims}
 use Rattle.acvp_policy.specs.Policy.{policy, caller_conditions, claims_conditions, resource_conditions, session_conditions}
 use Rattle.acvp_policy.specs.Resource.{resource_of, session_number}
@@ -41,20 +42,22 @@ pub on_resource : (a : Action) (f : Facts) → first_broken (policy a f) ≡ Non
 unfolding policy
 on_resource a f held = back_held (claims_conditions (scope_of a) f) (resource_conditions a f) held
 
+-- whether the first of them holds
+abbrev front : List (Condition Rule) → Bool
+front [] = true
+front (condition ∷ rest) = condition.0
+
+front_held : (conditions : List (Condition Rule)) → first_broken conditions ≡ None → front conditions ≡ true
+front_held [] held = refl
+front_held ((holds, fault) ∷ rest) held = first_held holds fault rest held
+
 pub session_there : (it : SessionWish) (f : Facts) → first_broken (policy (action_on_session it) f) ≡ None → is_some (session_found f.subject) ≡ true
-session_there Read f held = first_held (is_some (session_found f.subject)) rule.NoResource [] (on_resource action.ReadSession f held)
-session_there Cancel f held = first_held (is_some (session_found f.subject)) rule.NoResource (session_live f ∷ session_thawed f ∷ []) (on_resource action.CancelSession f held)
-session_there Results f held = first_held (is_some (session_found f.subject)) rule.NoResource (session_live f ∷ []) (on_resource action.SessionResults f held)
-session_there ListSets f held = first_held (is_some (session_found f.subject)) rule.NoResource [] (on_resource action.ListSets f held)
-session_there ListReviewers f held = first_held (is_some (session_found f.subject)) rule.NoResource [] (on_resource action.ListReviewers f held)
-session_there AddReviewer f held = first_held (is_some (session_found f.subject)) rule.NoResource (session_live f ∷ []) (on_resource action.AddReviewer f held)
+session_there Read f held = front_held (resource_conditions action.ReadSession f) (on_resource action.ReadSession f held)
+session_there it f held = front_held (resource_conditions (action_on_session it) f) (on_resource (action_on_session it) f held)
 
 pub set_there : (it : SetWish) (f : Facts) → first_broken (policy (action_on_set it) f) ≡ None → is_some (set_found f.subject) ≡ true
-set_there on_set.Read f held = first_held (is_some (set_found f.subject)) rule.NoResource (session_live f ∷ session_lasts f ∷ set_live f ∷ set_lasts f ∷ []) (on_resource action.ReadSet f held)
-set_there on_set.Expected f held = first_held (is_some (set_found f.subject)) rule.NoResource (session_live f ∷ set_live f ∷ is_sample f ∷ []) (on_resource action.Expected f held)
-set_there on_set.Results f held = first_held (is_some (set_found f.subject)) rule.NoResource (session_live f ∷ set_live f ∷ []) (on_resource action.SetResults f held)
-set_there on_set.Submit f held = first_held (is_some (set_found f.subject)) rule.NoResource (session_live f ∷ session_lasts f ∷ session_thawed f ∷ set_live f ∷ set_lasts f ∷ is_unanswered f ∷ []) (on_resource action.Submit f held)
-set_there on_set.Resubmit f held = first_held (is_some (set_found f.subject)) rule.NoResource (session_live f ∷ session_lasts f ∷ session_thawed f ∷ set_live f ∷ set_lasts f ∷ is_answered f ∷ []) (on_resource action.Resubmit f held)
+set_there on_set.Read f held = front_held (resource_conditions action.ReadSet f) (on_resource action.ReadSet f held)
+set_there it f held = front_held (resource_conditions (action_on_set it) f) (on_resource (action_on_set it) f held)
 
 pub cancelled_there : (f : Facts) → first_broken (policy action.CancelSet f) ≡ None → is_some (set_found f.subject) ≡ true
 cancelled_there f held = first_held (is_some (set_found f.subject)) rule.NoResource (session_live f ∷ session_thawed f ∷ set_live f ∷ []) (on_resource action.CancelSet f held)

@@ -100,16 +100,12 @@ Owns = (action : Action) (facts : Facts) (grant : Granted) → decision action f
 session_covers : (owns : Owns) (n : ℕ) (body : List ℕ) (it : SessionPlace) (f : Facts) (g : Granted) → resource_of f.subject ≡ resource.Session n
     → Ok g ≡ decision (action_on_session (session_wish it)) f → g ≡ granted (action_on_session (session_wish it)) f → CoversAny g (session_change n body it)
 unfolding granted
-session_covers owns n body (in_session.Read sets) f g names decided is = tt
 session_covers owns n body in_session.Cancel f g names decided is =
     let names : g.resource ≡ resource.Session n = rw is names in
     elim (owns action.CancelSession f g (sym decided) n (rw names refl)) [
       | inl own ↦ ((ap (λ x. x.action) is, names, sym own), tt)
       | inr review ↦ absurd (elim review.results [ inl e ↦ cc | inr e ↦ cc ])
     ]
-session_covers owns n body (in_session.Results sets) f g names decided is = tt
-session_covers owns n body (in_session.ListSets sets) f g names decided is = tt
-session_covers owns n body (in_session.ListReviewers accounts) f g names decided is = tt
 session_covers owns n body (in_session.AddReviewer accounts) f g names decided is = go (reviewer_at body)
   where
     on_it : g.resource ≡ resource.Session n
@@ -122,6 +118,7 @@ session_covers owns n body (in_session.AddReviewer accounts) f g names decided i
           | inl own ↦ ((ap (λ x. x.action) is, on_it, sym own), tt)
           | inr review ↦ absurd (elim review.results [ inl e ↦ cc | inr e ↦ cc ])
         ]
+session_covers owns n body _ f g names decided is = tt
 
 reviewer_covers : (owns : Owns) (n m : ℕ) (f : Facts) (g : Granted) → resource_of f.subject ≡ resource.Reviewer n m
     → Ok g ≡ decision action.RemoveReviewer f → g ≡ granted action.RemoveReviewer f → CoversAny g (Some (change.RemoveReviewer (record { session = n; account = m })))
@@ -179,12 +176,9 @@ submission_covers owns seeds session n body a f g which names fits decided is s 
 
 set_covers : (owns : Owns) (seeds : List (List ℕ)) (session n : ℕ) (body : List ℕ) (it : SetPlace) (f : Facts) (g : Granted) → resource_of f.subject ≡ resource.Set session n
     → (n / 100) ≡ session → Ok g ≡ decision (action_on_set (set_wish it)) f → g ≡ granted (action_on_set (set_wish it)) f → CoversAny g (set_change seeds session n body it)
-set_covers owns seeds session n body (in_set.Made shown source) f g names fits decided is = tt
-set_covers owns seeds session n body (in_set.Verdicts verdicts) f g names fits decided is = tt
-set_covers owns seeds session n body (in_set.Submit None) f g names fits decided is = tt
 set_covers owns seeds session n body (in_set.Submit (Some s)) f g names fits decided is = submission_covers owns seeds session n body action.Submit f g (inl refl) names fits decided is s
-set_covers owns seeds session n body (in_set.Resubmit None) f g names fits decided is = tt
 set_covers owns seeds session n body (in_set.Resubmit (Some s)) f g names fits decided is = submission_covers owns seeds session n body action.Resubmit f g (inr refl) names fits decided is s
+set_covers owns seeds session n body _ f g names fits decided is = tt
 
 -- a registration
 registration_covers : (of : RegistryOf) (u : ℕ) (object : Result KeptObject Rule) (asked : Grounds) (f : Facts) (g : Granted) → f.subject ≡ subject.Account
@@ -218,9 +212,6 @@ fits_there session n found there within =
 place_covers : (owns : Owns) (keys : Keys) (moment u : ℕ) (body : List ℕ) (it : Place) (f : Facts) (g : Granted) → f.subject ≡ subject_at it → is_within it ≡ true
     → first_broken (place_conditions keys.seed body it) ≡ None → u ≡ account_of_claims (claims_of f.token) → Ok g ≡ decision (action_at it) f → g ≡ granted (action_at it) f
     → CoversAny g (place_change keys.seed moment u body it)
-place_covers owns keys moment u body (place.Account counts) f g on within own acts decided is = tt
-place_covers owns keys moment u body place.Algorithms f g on within own acts decided is = tt
-place_covers owns keys moment u body (place.Algorithm n) f g on within own acts decided is = tt
 place_covers owns keys moment u body (place.Session n found it) f g on within own acts decided is = session_covers owns n body it f g (ap resource_of on) decided is
 place_covers owns keys moment u body (place.Reviewer n m found accounts) f g on within own acts decided is = reviewer_covers owns n m f g (ap resource_of on) decided is
 place_covers owns keys moment u body (place.NewSession sessions) f g on within own acts decided is = new_covers keys.seed moment u sessions body f g on own acts is
@@ -230,13 +221,9 @@ place_covers owns keys moment u body (place.Set session n found it) f g on withi
 place_covers owns keys moment u body (place.CancelSet session n found sets) f g on within own acts decided is =
     let there : is_some found ≡ true = rw on at (cancelled_there f (through action.CancelSet f g decided)) in
     cancel_covers owns session n sets f g (ap resource_of on) (fits_there session n found there within) decided is
-place_covers owns keys moment u body (place.Sessions found) f g on within own acts decided is = tt
 place_covers owns keys moment u body (place.Certify n found parts asked) f g on within own acts decided is = certify_covers owns u n parts asked f g (ap resource_of on) own acts decided is
 place_covers owns keys moment u body (place.Registry (in_registry.New of object asked)) f g on within own acts decided is = registration_covers of u object asked f g on within own acts is
-place_covers owns keys moment u body (place.Registry (in_registry.Object of n row)) f g on within own acts decided is = tt
-place_covers owns keys moment u body (place.Registry (in_registry.Objects of found)) f g on within own acts decided is = tt
-place_covers owns keys moment u body (place.Registry (in_registry.Request n row)) f g on within own acts decided is = tt
-place_covers owns keys moment u body (place.Registry (in_registry.Requests found)) f g on within own acts decided is = tt
+place_covers owns keys moment u body _ f g on within own acts decided is = tt
 
 pub covers : (owns : Owns) (keys : Keys) (moment : ℕ) (body : List ℕ) (it : Found) (g : Granted) → is_fit it ≡ true
     → first_broken (own_conditions keys.seed body it) ≡ None → Ok g ≡ decision (action_in it) (facts_in moment it) → g ≡ granted (action_in it) (facts_in moment it)

@@ -39,9 +39,9 @@ use Rattle.acvp_desk.specs.Orders.{approval, waiting_request, IsOrder, HasSecret
 use Rattle.acvp_desk.specs.declared.ask.Asker.{Asker}
 use Rattle.acvp_desk.specs.declared.ask.Asker.TheVariants.{Login, Caller}
 use Rattle.acvp_desk.specs.declared.wish.SessionWish.{SessionWish}
-use Rattle.acvp_desk.specs.declared.wish.SessionWish.TheVariants.{Read, Cancel, Results, ListSets, ListReviewers, AddReviewer}
+use Rattle.acvp_desk.specs.declared.wish.SessionWish.TheVariants.{Cancel, AddReviewer}
 use Rattle.acvp_desk.specs.declared.wish.Wish.{Wish}
-use Rattle.acvp_desk.specs.declared.wish.Wish.TheVariants.{Account, Algorithm, Session, Reviewer, Set, NewSession, CancelSet, ListSessions, Certify, Registry}
+use Rattle.acvp_desk.specs.declared.wish.Wish.TheVariants.{Account, Session, Reviewer, Set, NewSession, CancelSet, Certify, Registry}
 use Rattle.acvp_desk.specs.declared.wish.Registry.{Registry as RegistryOf}
 use Rattle.acvp_desk.specs.declared.wish.RegistryWish.{RegistryWish}
 use Rattle.acvp_desk.specs.declared.wish.RegistryWish.TheVariants as on_registry
@@ -158,11 +158,7 @@ module _ (follows : (c : Content) (it : Change) → state_of (after it c) ≡ af
       → session_found f.subject ≡ session_facts seeds (state_of c) n
       → first_broken (policy (action_on_session it) f) ≡ None → first_broken (session_place_conditions body (session_place seeds n (state_of c) it)) ≡ None
       → IsKept seeds c → IsKept seeds (content_after (session_change n body (session_place seeds n (state_of c) it)) c)
-  session_kept seeds n body f Read c names allowed held kept = kept
   session_kept seeds n body f Cancel c names allowed held kept = cancelled_kept seeds n c kept
-  session_kept seeds n body f Results c names allowed held kept = kept
-  session_kept seeds n body f ListSets c names allowed held kept = kept
-  session_kept seeds n body f ListReviewers c names allowed held kept = kept
   session_kept seeds n body f AddReviewer c names allowed held kept = go (reviewer_at body) refl
     where
       reviewing : List ℕ
@@ -177,6 +173,7 @@ module _ (follows : (c : Content) (it : Change) → state_of (after it c) ≡ af
       go None e = kept
       go (Some a) e = added_kept seeds (record { session = n; account = a }) c
           (next_reviewer sessions reviews counted seeds (state_of c) n a body kept.sound (rw (← names) (session_there AddReviewer f allowed)) e (rw e at room)) kept
+  session_kept seeds n body f _ c names allowed held kept = kept
 
   -- where a session is registered
   new_kept : (seeds : List (List ℕ)) (m u : ℕ) (body : List ℕ) (c : Content)
@@ -273,11 +270,8 @@ module _ (follows : (c : Content) (it : Change) → state_of (after it c) ≡ af
       → (is_enabled f.standing ≡ true → is_some (account_at u (state_of c).accounts) ≡ true)
       → first_broken (policy (action_on_registry it) f) ≡ None → first_broken (registry_place_conditions (registry_place u body (state_of c) it)) ≡ None
       → IsKept seeds c → IsKept seeds (content_after (registry_change u (registry_place u body (state_of c) it)) c)
-  registry_kept seeds u body f (on_registry.Read of n) c acts allowed held kept = kept
   registry_kept seeds u body f (on_registry.New of) c acts allowed held kept = registration_kept seeds of u body c (acts (registration_allowed of f allowed).1) held kept
-  registry_kept seeds u body f (on_registry.List of page) c acts allowed held kept = kept
-  registry_kept seeds u body f (on_registry.ReadRequest n) c acts allowed held kept = kept
-  registry_kept seeds u body f (on_registry.ListRequests page) c acts allowed held kept = kept
+  registry_kept seeds u body f _ c acts allowed held kept = kept
 
   wish_kept : (keys : Keys) (m u : ℕ) (body : List ℕ) (f : Facts) (it : Wish) (c : Content)
       → f.subject ≡ subject_at (place_of keys.seed u body (state_of c) it) → u ≡ account_of_claims (claims_of f.token)
@@ -285,8 +279,6 @@ module _ (follows : (c : Content) (it : Change) → state_of (after it c) ≡ af
       → first_broken (policy (action_of_wish it) f) ≡ None → first_broken (place_conditions keys.seed body (place_of keys.seed u body (state_of c) it)) ≡ None
       → IsKept keys.seed c → IsKept keys.seed (content_after (place_change keys.seed m u body (place_of keys.seed u body (state_of c) it)) c)
   wish_kept keys m u body f (Account on_account.Read) c names own acts served allowed held kept = kept
-  wish_kept keys m u body f (Account on_account.ListAlgorithms) c names own acts served allowed held kept = kept
-  wish_kept keys m u body f (Algorithm n) c names own acts served allowed held kept = kept
   wish_kept keys m u body f (Session n it) c names own acts served allowed held kept = session_kept keys.seed n body f it c (ap session_found names) allowed held kept
   wish_kept keys m u body f (Reviewer n a) c names own acts served allowed held kept = removed_kept keys.seed (record { session = n; account = a }) c kept
   wish_kept keys m u body f (Set session n it) c names own acts served allowed held kept = set_kept keys.seed session n body f it c (ap set_found names) allowed kept
@@ -294,11 +286,11 @@ module _ (follows : (c : Content) (it : Change) → state_of (after it c) ≡ af
   wish_kept keys m u body f (CancelSet session n) c names own acts served allowed held kept =
       left_kept keys.seed session n c
       (number_fits names_set (session_facts keys.seed (state_of c) session) session n (state_of c) kept.sound (rw names at (cancelled_there f allowed))) kept
-  wish_kept keys m u body f (ListSessions page) c names own acts served allowed held kept = kept
   wish_kept keys m u body f (Certify n) c names own acts served allowed held kept =
       certification_kept keys.seed u n body c (acts (certification_enabled f allowed))
       (certification_owned f n (ap resource_of names) allowed ∙ sym own) (rw (names) at (certified_there f allowed)) held kept
   wish_kept keys m u body f (Registry it) c names own acts served allowed held kept = registry_kept keys.seed u body f it c acts allowed held kept
+  wish_kept keys m u body f _ c names own acts served allowed held kept = kept
 
   -- an account that is enabled is there
   acts_there : (caller : CallerAsk) (state : State) → is_enabled (standing_of (account_found (Caller caller) state)) ≡ true

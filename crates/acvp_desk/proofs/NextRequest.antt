@@ -114,17 +114,10 @@ asks_for registry.Environments = refl
 
 of_the_kind : (kind : Kind) (of : Registry) → is_kind kind (kind_of of) ≡ true → kind ≡ kind_of of
 of_the_kind Vendor registry.Vendors same = refl
-of_the_kind Vendor registry.Modules same = absurd (cc)
-of_the_kind Vendor registry.Environments same = absurd (cc)
-of_the_kind Module registry.Vendors same = absurd (cc)
 of_the_kind Module registry.Modules same = refl
-of_the_kind Module registry.Environments same = absurd (cc)
-of_the_kind Environment registry.Vendors same = absurd (cc)
-of_the_kind Environment registry.Modules same = absurd (cc)
 of_the_kind Environment registry.Environments same = refl
 of_the_kind Certification registry.Vendors same = absurd (cc)
-of_the_kind Certification registry.Modules same = absurd (cc)
-of_the_kind Certification registry.Environments same = absurd (cc)
+of_the_kind _ _ same = absurd (cc)
 
 pub registration_covered : (of : Registry) (u : ℕ) (object : KeptObject) (asked : Grounds) (g : Granted) → is_kind object.kind (kind_of of) ≡ true → g.action ≡ new_action of → g.resource ≡ resource.Account
     → g.account ≡ u → nat_lt asked.requests 999999 ≡ true → CoversAny g (object_change u (Ok object) asked)

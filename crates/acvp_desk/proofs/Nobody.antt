@@ -40,12 +40,8 @@ token_rule token.Expired = rule.TokenExpired
 token_rule (token.Verified claims) = rule.TokenMissing
 
 caller_refused : (t : Token) (f : Facts) → f.token ≡ t → claims_of t ≡ None → first_broken (caller_conditions f) ≡ Some (token_rule t)
-caller_refused token.Missing f is none = rw is refl
-caller_refused token.Malformed f is none = rw is refl
-caller_refused token.NotSigned f is none = rw is refl
-caller_refused token.NotRead f is none = rw is refl
-caller_refused token.Expired f is none = rw is refl
 caller_refused (token.Verified claims) f is none = absurd (cc)
+caller_refused _ f is none = rw is refl
 
 scope_refused : (s : Scope) (f : Facts) (refusal : Rule) → (s ≡ scope.Login → ⊥) → first_broken (caller_conditions f) ≡ Some refusal → first_broken (claims_conditions s f) ≡ Some refusal
 scope_refused scope.Login f refusal apart broken = absurd (apart refl)

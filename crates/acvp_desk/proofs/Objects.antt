@@ -233,14 +233,10 @@ module _ (follows : (n : ℕ) (c : Content) → set_record_at n (state_of c).set
     where
       go : (it : SessionWish) → first_broken (session_place_conditions r.body (session_place keys.seed n state it)) ≡ None
           → (facts : SessionFacts) → is_some (session_reply moment n r.body (session_place keys.seed n state it) facts) ≡ true
-      go on_session.Read own facts = refl
-      go on_session.Cancel own facts = refl
-      go on_session.Results own facts = refl
-      go on_session.ListSets own facts = refl
-      go on_session.ListReviewers own facts = refl
       go on_session.AddReviewer own facts =
           mapped _ (reviewer_at r.body)
           (reviewer_said r.body (whole_held (body_conditions rule_of reviewer_body_conditions r.body) ((has_room (reviewers_of n state.reviewers) (reviewer_at r.body), rule.ReviewersFull) ∷ []) own))
+      go _ own facts = refl
 
   new_shown : (seeds : List (List ℕ)) → 1 ≤ length seeds → is_some (registration_in r.body) ≡ true → (sessions : ℕ) → is_some (new_session_in seeds moment u sessions r.body) ≡ true
   new_shown [] seeded said sessions = absurd (grind (arith, seeded))
@@ -263,20 +259,17 @@ module _ (follows : (n : ℕ) (c : Content) → set_record_at n (state_of c).set
 
   wish_shown : (it : Wish) → first_broken (policy (action_of_wish it) (facts_on it)) ≡ None → first_broken (place_conditions keys.seed r.body (place_on it)) ≡ None → is_some (shown it) ≡ true
   wish_shown (wish.Account on_account.Read) holds own = refl
-  wish_shown (wish.Account on_account.ListAlgorithms) holds own = refl
   wish_shown (wish.Algorithm n) holds own =
       mapped _ (algorithm_at n) (is_there (algorithm_at n) (each_algorithm n (first_held (nat_le 1 n && nat_le n 12) rule.NoResource [] (on_resource action.ReadAlgorithm (facts_on (wish.Algorithm n)) holds))))
   wish_shown (wish.Session n it) holds own = session_shown_on n it holds own
-  wish_shown (wish.Reviewer n m) holds own = refl
   wish_shown (wish.Set session n it) holds own = set_shown session n it holds
   wish_shown wish.NewSession holds own =
       let sessions = (record_counts u state).sessions in
       mapped _ (new_session_in keys.seed moment u sessions r.body)
       (new_shown keys.seed seeded (registration_said r.body (whole_held (body_conditions registration_rule registration_conditions r.body) ((nat_lt sessions 999999, rule.AccountFull) ∷ []) own)) sessions)
-  wish_shown (wish.CancelSet session n) holds own = refl
   wish_shown (wish.ListSessions at) holds own = mapped _ (option_map (sessions_page u state) at) (page_there (option_map (sessions_page u state) at) own)
-  wish_shown (wish.Certify n) holds own = refl
   wish_shown (wish.Registry it) holds own = registry_shown it holds own
+  wish_shown _ holds own = refl
 
   caller_shown : first_broken (later_of keys.seed moment r (Some (Caller caller)) state) ≡ None → is_some (reply_to keys moment r (Some (Caller caller)) state) ≡ true
   unfolding found_of policy_conditions

@@ -26,7 +26,7 @@ use Rattle.acvp_desk.specs.Place.{place_of}
 use Rattle.acvp_desk.specs.Replies.{set_change}
 use Rattle.acvp_desk.specs.Request.{RequestValue}
 use Rattle.acvp_desk.specs.Sets.{results_place, set_source, verdicts_in_session}
-use Rattle.acvp_desk.specs.Wish.{action_of_wish}
+use Rattle.acvp_desk.specs.Wish.{action_of_wish, action_on_session, action_on_set}
 use Rattle.acvp_desk.specs.declared.ask.Asker.{Asker}
 use Rattle.acvp_desk.specs.declared.ask.Asker.TheVariants.{Login, Caller}
 use Rattle.acvp_desk.specs.declared.ask.LoginAsk.{LoginAsk}
@@ -126,25 +126,14 @@ module _ (owns : (a : Action) (f : Facts) (session : ℕ) → first_broken (clai
 
   pub on_own : (it : Wish) (f : Facts) (u : ℕ) → reads_results it ≡ false → resource_of f.subject ≡ resource_of (unfound it) → account_of f ≡ u
       → first_broken (claims_conditions (scope_of (action_of_wish it)) f) ≡ None → IsOnOwn u it
-  on_own (wish.Account it) f u off names acts held = tt
-  on_own (wish.Algorithm n) f u off names acts held = tt
-  on_own (wish.Session n on_session.Read) f u off names acts held = own_session_of action.ReadSession f u n (λ e. cc) (λ e. cc) held acts (n, names) (rw names refl)
-  on_own (wish.Session n on_session.Cancel) f u off names acts held = own_session_of action.CancelSession f u n (λ e. cc) (λ e. cc) held acts (n, names) (rw names refl)
   on_own (wish.Session n on_session.Results) f u off names acts held = absurd (cc)
-  on_own (wish.Session n on_session.ListSets) f u off names acts held = own_session_of action.ListSets f u n (λ e. cc) (λ e. cc) held acts (n, names) (rw names refl)
-  on_own (wish.Session n on_session.ListReviewers) f u off names acts held = own_session_of action.ListReviewers f u n (λ e. cc) (λ e. cc) held acts (n, names) (rw names refl)
-  on_own (wish.Session n on_session.AddReviewer) f u off names acts held = own_session_of action.AddReviewer f u n (λ e. cc) (λ e. cc) held acts (n, names) (rw names refl)
+  on_own (wish.Session n it) f u off names acts held = own_session_of (action_on_session it) f u n (λ e. cc) (λ e. cc) held acts (n, names) (rw names refl)
   on_own (wish.Reviewer n m) f u off names acts held = own_session_of action.RemoveReviewer f u n (λ e. cc) (λ e. cc) held acts (n, m, names) (rw names refl)
-  on_own (wish.Set session n on_set.Read) f u off names acts held = own_session_of action.ReadSet f u session (λ e. cc) (λ e. cc) held acts (session, n, names) (rw names refl)
-  on_own (wish.Set session n on_set.Expected) f u off names acts held = own_session_of action.Expected f u session (λ e. cc) (λ e. cc) held acts (session, n, names) (rw names refl)
   on_own (wish.Set session n on_set.Results) f u off names acts held = absurd (cc)
-  on_own (wish.Set session n on_set.Submit) f u off names acts held = own_session_of action.Submit f u session (λ e. cc) (λ e. cc) held acts (session, n, names) (rw names refl)
-  on_own (wish.Set session n on_set.Resubmit) f u off names acts held = own_session_of action.Resubmit f u session (λ e. cc) (λ e. cc) held acts (session, n, names) (rw names refl)
-  on_own wish.NewSession f u off names acts held = tt
+  on_own (wish.Set session n it) f u off names acts held = own_session_of (action_on_set it) f u session (λ e. cc) (λ e. cc) held acts (session, n, names) (rw names refl)
   on_own (wish.CancelSet session n) f u off names acts held = own_session_of action.CancelSet f u session (λ e. cc) (λ e. cc) held acts (session, n, names) (rw names refl)
-  on_own (wish.ListSessions at) f u off names acts held = tt
   on_own (wish.Certify n) f u off names acts held = own_session_of action.Certify f u n (λ e. cc) (λ e. cc) held acts (n, names) (rw names refl)
-  on_own (wish.Registry it) f u off names acts held = tt
+  on_own _ f u off names acts held = tt
 
 -- the account of the facts is the one that acts
 pub acts_as : (moment : ℕ) (seeds : List (List ℕ)) (body : List ℕ) (caller : CallerAsk) (u : ℕ) (state : State) → who (Caller caller) ≡ Some u
@@ -168,23 +157,7 @@ results_unchanged keys moment r caller state reads = go caller.wish refl reads
     go (wish.Session n on_session.Results) is reading = rw is refl
     go (wish.Set session n on_set.Results) is reading =
         rw is (results_change keys.seed session n r.body (verdicts_in_session keys.seed session n state.sets) (set_source session n state.sets))
-    go (wish.Account it) is reading = absurd (cc)
-    go (wish.Algorithm n) is reading = absurd (cc)
-    go (wish.Session n on_session.Read) is reading = absurd (cc)
-    go (wish.Session n on_session.Cancel) is reading = absurd (cc)
-    go (wish.Session n on_session.ListSets) is reading = absurd (cc)
-    go (wish.Session n on_session.ListReviewers) is reading = absurd (cc)
-    go (wish.Session n on_session.AddReviewer) is reading = absurd (cc)
-    go (wish.Reviewer n m) is reading = absurd (cc)
-    go (wish.Set session n on_set.Read) is reading = absurd (cc)
-    go (wish.Set session n on_set.Expected) is reading = absurd (cc)
-    go (wish.Set session n on_set.Submit) is reading = absurd (cc)
-    go (wish.Set session n on_set.Resubmit) is reading = absurd (cc)
-    go wish.NewSession is reading = absurd (cc)
-    go (wish.CancelSet session n) is reading = absurd (cc)
-    go (wish.ListSessions at) is reading = absurd (cc)
-    go (wish.Certify n) is reading = absurd (cc)
-    go (wish.Registry it) is reading = absurd (cc)
+    go _ is reading = absurd (cc)
 
 -- ---- its own rows tell
 

@@ -365,23 +365,7 @@ module _ (set_names : (n : ℕ) (state : State) (row : SetRecord) → IsWellNumb
           → told agree keys moment r caller.token one other it one ≡ told agree keys moment r caller.token one other it other
       go (wish.Session n on_session.Results) named reading = session_results caller.token n named
       go (wish.Set session n on_set.Results) named reading = set_results caller.token session n named
-      go (wish.Account it) named reading = absurd (cc)
-      go (wish.Algorithm n) named reading = absurd (cc)
-      go (wish.Session n on_session.Read) named reading = absurd (cc)
-      go (wish.Session n on_session.Cancel) named reading = absurd (cc)
-      go (wish.Session n on_session.ListSets) named reading = absurd (cc)
-      go (wish.Session n on_session.ListReviewers) named reading = absurd (cc)
-      go (wish.Session n on_session.AddReviewer) named reading = absurd (cc)
-      go (wish.Reviewer n m) named reading = absurd (cc)
-      go (wish.Set session n on_set.Read) named reading = absurd (cc)
-      go (wish.Set session n on_set.Expected) named reading = absurd (cc)
-      go (wish.Set session n on_set.Submit) named reading = absurd (cc)
-      go (wish.Set session n on_set.Resubmit) named reading = absurd (cc)
-      go wish.NewSession named reading = absurd (cc)
-      go (wish.CancelSet session n) named reading = absurd (cc)
-      go (wish.ListSessions at) named reading = absurd (cc)
-      go (wish.Certify n) named reading = absurd (cc)
-      go (wish.Registry it) named reading = absurd (cc)
+      go _ named reading = absurd (cc)
 
   pub answered_by_seen : who_of keys moment r ≡ Some u → answer keys moment r one ≡ answer keys moment r other
   unfolding answer

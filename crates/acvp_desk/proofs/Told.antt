@@ -104,21 +104,12 @@ is_unavailable _ = false
 
 -- a fault that is none of memory is told as another rule
 rule_lacks : (f : BodyFault) → is_memory f ≡ false → is_unavailable (rule_of f) ≡ false
-rule_lacks fault.BodyNotJson e = refl
-rule_lacks fault.BodyEnvelope e = refl
-rule_lacks fault.BodyField e = refl
-rule_lacks fault.UnknownTest e = refl
-rule_lacks fault.DuplicateTest e = refl
-rule_lacks fault.SetMismatch e = refl
-rule_lacks fault.NoReference e = refl
 rule_lacks fault.Memory e = absurd (cc)
+rule_lacks _ e = refl
 
 caps_lack : (f : CapFault) → is_memory_of_caps f ≡ false → is_unavailable (registration_rule f) ≡ false
-caps_lack cap.Field e = refl
-caps_lack cap.NotByteOriented e = refl
-caps_lack cap.OutOfRange e = refl
-caps_lack cap.Unsupported e = refl
 caps_lack cap.Memory e = absurd (cc)
+caps_lack _ e = refl
 
 objects_lack : (f : RegFault) → is_memory_of_objects f ≡ false → is_unavailable (object_rule f) ≡ false
 objects_lack reg.Field e = refl
@@ -177,48 +168,16 @@ answers_lack prompts d = go (submission_of d)
 -- ---- the policy
 
 claims_lack : (s : Scope) (f : Facts) → lacks is_unavailable (claims_conditions s f) ≡ true
-claims_lack scope.Login f = refl
-claims_lack scope.AccountRead f = refl
-claims_lack scope.AccountChange f = refl
-claims_lack scope.SessionResource f = refl
 claims_lack scope.ReviewableResource f = go (is_reviewer f)
   where
     go : (b : Bool) → lacks is_unavailable (caller_conditions f ++ (if b then [] else session_conditions f)) ≡ true
     go true = refl
     go false = refl
+claims_lack _ f = refl
 
 resources_lack : (a : Action) (f : Facts) → lacks is_unavailable (resource_conditions a f) ≡ true
 resources_lack action.AddReviewer f = refl
-resources_lack action.CancelSession f = refl
-resources_lack action.CancelSet f = refl
-resources_lack action.Certify f = refl
-resources_lack action.Expected f = refl
-resources_lack action.ListAlgorithms f = refl
-resources_lack action.ListEnvironments f = refl
-resources_lack action.ListModules f = refl
-resources_lack action.ListRequests f = refl
-resources_lack action.ListReviewers f = refl
-resources_lack action.ListSessions f = refl
-resources_lack action.ListSets f = refl
-resources_lack action.ListVendors f = refl
-resources_lack action.Login f = refl
-resources_lack action.NewEnvironment f = refl
-resources_lack action.NewModule f = refl
-resources_lack action.NewSession f = refl
-resources_lack action.NewVendor f = refl
-resources_lack action.ReadAccount f = refl
-resources_lack action.ReadAlgorithm f = refl
-resources_lack action.ReadEnvironment f = refl
-resources_lack action.ReadModule f = refl
-resources_lack action.ReadRequest f = refl
-resources_lack action.ReadSession f = refl
-resources_lack action.ReadSet f = refl
-resources_lack action.ReadVendor f = refl
-resources_lack action.RemoveReviewer f = refl
-resources_lack action.Resubmit f = refl
-resources_lack action.SessionResults f = refl
-resources_lack action.SetResults f = refl
-resources_lack action.Submit f = refl
+resources_lack _ f = refl
 
 policy_lacks : (a : Action) (f : Facts) → lacks is_unavailable (policy a f) ≡ true
 unfolding policy
@@ -272,49 +231,22 @@ module _ (seeds : List (List ℕ)) (body : List ℕ) where
   reads _ = true
 
   place_lacks : (it : Place) → reads it ≡ true → lacks is_unavailable (place_conditions seeds body it) ≡ true
-  place_lacks (place.Account counts) told = refl
-  place_lacks place.Algorithms told = refl
-  place_lacks (place.Algorithm n) told = refl
-  place_lacks (place.Session n found (in_session.Read sets)) told = refl
-  place_lacks (place.Session n found in_session.Cancel) told = refl
-  place_lacks (place.Session n found (in_session.Results sets)) told = refl
-  place_lacks (place.Session n found (in_session.ListSets sets)) told = refl
-  place_lacks (place.Session n found (in_session.ListReviewers accounts)) told = refl
   place_lacks (place.Session n found (in_session.AddReviewer accounts)) told =
       with_room (body_conditions rule_of reviewer_body_conditions body) _ rule.ReviewersFull refl (body_lacks is_memory rule_of rule_lacks reviewer_body_conditions (λ d. refl) body)
-  place_lacks (place.Reviewer n m found accounts) told = refl
   place_lacks (place.NewSession sessions) told = with_room (body_conditions registration_rule registration_conditions body) _ rule.AccountFull refl
       (body_lacks is_memory_of_caps registration_rule caps_lack registration_conditions (λ d. capabilities_lack (capabilities_at d)) body)
-  place_lacks (place.Set session n found (in_set.Made shown source)) told = refl
-  place_lacks (place.Set session n found (in_set.Verdicts verdicts)) told = refl
   place_lacks (place.Set session n found (in_set.Submit s)) told = submission_lacks n s
   place_lacks (place.Set session n found (in_set.Resubmit s)) told = submission_lacks n s
-  place_lacks (place.CancelSet session n found sets) told = refl
-  place_lacks (place.Sessions found) told = refl
   place_lacks (place.Certify n found parts asked) told = read_lacks parts asked told
-  place_lacks (place.Registry (in_registry.Object of n row)) told = refl
   place_lacks (place.Registry (in_registry.New of object asked)) told = read_lacks object asked told
-  place_lacks (place.Registry (in_registry.Objects of found)) told = refl
-  place_lacks (place.Registry (in_registry.Request n row)) told = refl
-  place_lacks (place.Registry (in_registry.Requests found)) told = refl
+  place_lacks _ told = refl
 
 -- what is read of a body is told so
 wish_reads : (seeds : List (List ℕ)) (u : ℕ) (body : List ℕ) (state : State) (it : Wish) → reads seeds body (place_of seeds u body state it) ≡ true
 wish_reads seeds u body state (wish.Account on_account.Read) = refl
-wish_reads seeds u body state (wish.Account on_account.ListAlgorithms) = refl
-wish_reads seeds u body state (wish.Algorithm n) = refl
-wish_reads seeds u body state (wish.Session n it) = refl
-wish_reads seeds u body state (wish.Reviewer n m) = refl
-wish_reads seeds u body state wish.NewSession = refl
-wish_reads seeds u body state (wish.Set session n it) = refl
-wish_reads seeds u body state (wish.CancelSet session n) = refl
-wish_reads seeds u body state (wish.ListSessions at) = refl
 wish_reads seeds u body state (wish.Certify n) = parts_told body
-wish_reads seeds u body state (wish.Registry (on_registry.Read of n)) = refl
 wish_reads seeds u body state (wish.Registry (on_registry.New of)) = object_told (kind_of of) body
-wish_reads seeds u body state (wish.Registry (on_registry.List of at)) = refl
-wish_reads seeds u body state (wish.Registry (on_registry.ReadRequest n)) = refl
-wish_reads seeds u body state (wish.Registry (on_registry.ListRequests at)) = refl
+wish_reads seeds u body state _ = refl
 
 -- ---- all conditions
 

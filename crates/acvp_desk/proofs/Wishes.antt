@@ -44,25 +44,9 @@ reads_results _ = false
 
 -- on the others nobody is a reviewer
 pub not_reviewed : (it : Wish) (u : ℕ) (state : State) → reads_results it ≡ false → reviewed it u state ≡ false
-not_reviewed (wish.Account it) u state off = refl
-not_reviewed (wish.Algorithm n) u state off = refl
-not_reviewed (wish.Session n on_session.Read) u state off = refl
-not_reviewed (wish.Session n on_session.Cancel) u state off = refl
 not_reviewed (wish.Session n on_session.Results) u state off = absurd (cc)
-not_reviewed (wish.Session n on_session.ListSets) u state off = refl
-not_reviewed (wish.Session n on_session.ListReviewers) u state off = refl
-not_reviewed (wish.Session n on_session.AddReviewer) u state off = refl
-not_reviewed (wish.Reviewer n m) u state off = refl
-not_reviewed (wish.Set session n on_set.Read) u state off = refl
-not_reviewed (wish.Set session n on_set.Expected) u state off = refl
 not_reviewed (wish.Set session n on_set.Results) u state off = absurd (cc)
-not_reviewed (wish.Set session n on_set.Submit) u state off = refl
-not_reviewed (wish.Set session n on_set.Resubmit) u state off = refl
-not_reviewed wish.NewSession u state off = refl
-not_reviewed (wish.CancelSet session n) u state off = refl
-not_reviewed (wish.ListSessions at) u state off = refl
-not_reviewed (wish.Certify n) u state off = refl
-not_reviewed (wish.Registry it) u state off = refl
+not_reviewed _ u state off = refl
 
 pub not_reviewing : (claims : Option Claims) (it : Wish) (state : State) → reads_results it ≡ false → reviews_as claims it state ≡ false
 not_reviewing None it state off = refl
@@ -77,40 +61,21 @@ reviews_unbound (Some claims) u it state named = let same : claims.account ≡ u
 -- ---- what was asked
 
 set_asked : (seeds : List (List ℕ)) (session n : ℕ) (sets : List SetRecord) (it : SetWish) → set_wish (set_place seeds session n sets it) ≡ it
-set_asked seeds session n sets on_set.Read = refl
-set_asked seeds session n sets on_set.Expected = refl
 set_asked seeds session n sets on_set.Results = go (verdicts_in_session seeds session n sets)
   where
     go : (verdicts : Option (List Verdict)) → set_wish (results_place verdicts (set_source session n sets)) ≡ on_set.Results
     go None = refl
     go (Some verdicts) = refl
-set_asked seeds session n sets on_set.Submit = refl
-set_asked seeds session n sets on_set.Resubmit = refl
+set_asked seeds session n sets _ = refl
 
 pub wish_asked : (seeds : List (List ℕ)) (u : ℕ) (body : List ℕ) (state : State) (it : Wish) → wish_at (place_of seeds u body state it) ≡ it
 wish_asked seeds u body state (wish.Account on_account.Read) = refl
-wish_asked seeds u body state (wish.Account on_account.ListAlgorithms) = refl
-wish_asked seeds u body state (wish.Algorithm n) = refl
 wish_asked seeds u body state (wish.Session n on_session.Read) = refl
-wish_asked seeds u body state (wish.Session n on_session.Cancel) = refl
-wish_asked seeds u body state (wish.Session n on_session.Results) = refl
-wish_asked seeds u body state (wish.Session n on_session.ListSets) = refl
-wish_asked seeds u body state (wish.Session n on_session.ListReviewers) = refl
-wish_asked seeds u body state (wish.Session n on_session.AddReviewer) = refl
-wish_asked seeds u body state (wish.Reviewer n m) = refl
 wish_asked seeds u body state (wish.Set session n it) = ap (wish.Set session n) (set_asked seeds session n state.sets it)
-wish_asked seeds u body state wish.NewSession = refl
-wish_asked seeds u body state (wish.CancelSet session n) = refl
 wish_asked seeds u body state (wish.ListSessions None) = refl
-wish_asked seeds u body state (wish.ListSessions (Some at)) = refl
-wish_asked seeds u body state (wish.Certify n) = refl
-wish_asked seeds u body state (wish.Registry (on_registry.Read of n)) = refl
-wish_asked seeds u body state (wish.Registry (on_registry.New of)) = refl
 wish_asked seeds u body state (wish.Registry (on_registry.List of None)) = refl
-wish_asked seeds u body state (wish.Registry (on_registry.List of (Some at))) = refl
-wish_asked seeds u body state (wish.Registry (on_registry.ReadRequest n)) = refl
 wish_asked seeds u body state (wish.Registry (on_registry.ListRequests None)) = refl
-wish_asked seeds u body state (wish.Registry (on_registry.ListRequests (Some at))) = refl
+wish_asked seeds u body state _ = refl
 
 pub action_asked : (seeds : List (List ℕ)) (body : List ℕ) (it : Asker) (state : State) → action_in (found_of seeds body it state) ≡ action_of it
 unfolding found_of
@@ -126,46 +91,16 @@ policy_asked moment seeds body it state = ap (λ a. policy a (facts_in moment (f
 
 -- whatever is found there
 pub place_names : (it : Place) → resource_of (subject_at it) ≡ resource_of (unfound (wish_at it))
-place_names (place.Account counts) = refl
-place_names place.Algorithms = refl
-place_names (place.Algorithm n) = refl
-place_names (place.Session n found it) = refl
-place_names (place.Reviewer n m found accounts) = refl
-place_names (place.NewSession sessions) = refl
-place_names (place.Set session n found it) = refl
-place_names (place.CancelSet session n found sets) = refl
-place_names (place.Sessions found) = refl
-place_names (place.Certify n found parts asked) = refl
 place_names (place.Registry (in_registry.Object registry.Vendors n row)) = refl
-place_names (place.Registry (in_registry.Object registry.Modules n row)) = refl
-place_names (place.Registry (in_registry.Object registry.Environments n row)) = refl
-place_names (place.Registry (in_registry.New of object asked)) = refl
-place_names (place.Registry (in_registry.Objects of found)) = refl
-place_names (place.Registry (in_registry.Request n row)) = refl
-place_names (place.Registry (in_registry.Requests found)) = refl
+place_names _ = refl
 
 pub wish_names : (seeds : List (List ℕ)) (u : ℕ) (body : List ℕ) (state : State) (it : Wish) → resource_of (subject_at (place_of seeds u body state it)) ≡ resource_of (unfound it)
 wish_names seeds u body state it = place_names (place_of seeds u body state it) ∙ ap (λ w. resource_of (unfound w)) (wish_asked seeds u body state it)
 
 -- and it is no login
 pub no_login_at : (it : Place) → login_of (subject_at it) ≡ None
-no_login_at (place.Account counts) = refl
-no_login_at place.Algorithms = refl
-no_login_at (place.Algorithm n) = refl
-no_login_at (place.Session n found it) = refl
-no_login_at (place.Reviewer n m found accounts) = refl
-no_login_at (place.NewSession sessions) = refl
-no_login_at (place.Set session n found it) = refl
-no_login_at (place.CancelSet session n found sets) = refl
-no_login_at (place.Sessions found) = refl
-no_login_at (place.Certify n found parts asked) = refl
 no_login_at (place.Registry (in_registry.Object registry.Vendors n row)) = refl
-no_login_at (place.Registry (in_registry.Object registry.Modules n row)) = refl
-no_login_at (place.Registry (in_registry.Object registry.Environments n row)) = refl
-no_login_at (place.Registry (in_registry.New of object asked)) = refl
-no_login_at (place.Registry (in_registry.Objects of found)) = refl
-no_login_at (place.Registry (in_registry.Request n row)) = refl
-no_login_at (place.Registry (in_registry.Requests found)) = refl
+no_login_at _ = refl
 
 -- ---- the numbers that are found fit
 
@@ -200,20 +135,11 @@ module _ (reviews : (u s a : ℕ) (state : State) → is_reviewer s a (own u sta
 
   wish_within : (seeds : List (List ℕ)) (u : ℕ) (body : List ℕ) (state : State) (it : Wish) → IsWellNumbered state → is_within (place_of seeds u body state it) ≡ true
   wish_within seeds u body state (wish.Account on_account.Read) well = refl
-  wish_within seeds u body state (wish.Account on_account.ListAlgorithms) well = refl
-  wish_within seeds u body state (wish.Algorithm n) well = refl
-  wish_within seeds u body state (wish.Session n it) well = refl
   wish_within seeds u body state (wish.Reviewer n m) well = reviewer_within seeds state n m well
   wish_within seeds u body state (wish.Set session n it) well = set_within seeds state session n well
-  wish_within seeds u body state wish.NewSession well = refl
   wish_within seeds u body state (wish.CancelSet session n) well = set_within seeds state session n well
-  wish_within seeds u body state (wish.ListSessions at) well = refl
-  wish_within seeds u body state (wish.Certify n) well = refl
-  wish_within seeds u body state (wish.Registry (on_registry.Read of n)) well = refl
   wish_within seeds u body state (wish.Registry (on_registry.New of)) well = is_of_its_kind of body (object_in (kind_of of) body) _ refl
-  wish_within seeds u body state (wish.Registry (on_registry.List of at)) well = refl
-  wish_within seeds u body state (wish.Registry (on_registry.ReadRequest n)) well = refl
-  wish_within seeds u body state (wish.Registry (on_registry.ListRequests at)) well = refl
+  wish_within seeds u body state _ well = refl
 
   pub found_fits : (seeds : List (List ℕ)) (body : List ℕ) (it : Asker) (state : State) → IsWellNumbered state → is_fit (found_of seeds body it state) ≡ true
   unfolding found_of

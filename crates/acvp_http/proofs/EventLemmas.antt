@@ -92,10 +92,7 @@ moment_lacks m rest text is lacks =
 
 word_lacks_ten : (w : Command) → Lacks 10 (command_word w)
 word_lacks_ten command.Request = search rules
-word_lacks_ten command.AddAccount = search rules
-word_lacks_ten command.DisableAccount = search rules
-word_lacks_ten command.ApproveRequest = search rules
-word_lacks_ten command.RejectRequest = search rules
+word_lacks_ten _ = search rules
 
 after_word_lacks : (w : Command) (rest text : List ℕ) → text ≡ command_word w ++ 32 ∷ rest → Lacks 10 rest
     → Lacks 10 text

@@ -135,10 +135,7 @@ no_add_secret text r a b m first cut other moment account secret (number, (digit
 -- a command's word has no space
 pub word_lacks : (w : Command) → Lacks 32 (command_word w)
 word_lacks command.Request = search rules
-word_lacks command.AddAccount = search rules
-word_lacks command.DisableAccount = search rules
-word_lacks command.ApproveRequest = search rules
-word_lacks command.RejectRequest = search rules
+word_lacks _ = search rules
 
 -- the word of a line, and what stands after it
 pub word_is : (text a b rest : List ℕ) (w : Command) → Lacks 32 a × (text ≡ a ++ 32 ∷ b) → text ≡ command_word w ++ 32

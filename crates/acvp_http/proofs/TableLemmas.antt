@@ -49,11 +49,7 @@ record IsFilled (path : Path) : Type 0 where
   same : written path ≡ filled (tokens path) numbers
 
 fills : (path : Path) → Fits path → IsFilled path
-fills Login fits = record { numbers = []; small = none_small; same = refl }
-fills Account fits = record { numbers = []; small = none_small; same = refl }
-fills Algorithms fits = record { numbers = []; small = none_small; same = refl }
 fills (Algorithm n) fits = record { numbers = n ∷ []; small = one_small n fits; same = ap (λ w. codes "/acvp/v1/algorithms/" ++ w) (sym (append-nil (decimal n))) }
-fills Sessions fits = record { numbers = []; small = none_small; same = refl }
 fills (Session s) fits = record { numbers = s ∷ []; small = one_small s fits; same = ap (λ w. codes "/acvp/v1/testSessions/" ++ w) (sym (append-nil (decimal s))) }
 fills (SessionResults s) fits = record { numbers = s ∷ []; small = one_small s fits; same = refl }
 fills (Sets s) fits = record { numbers = s ∷ []; small = one_small s fits; same = refl }
@@ -62,14 +58,11 @@ fills (SetResults s v) fits = record { numbers = s ∷ v ∷ []; small = two_sma
 fills (Expected s v) fits = record { numbers = s ∷ v ∷ []; small = two_small s v fits.0 fits.1; same = refl }
 fills (Reviewers s) fits = record { numbers = s ∷ []; small = one_small s fits; same = refl }
 fills (Reviewer s n) fits = record { numbers = s ∷ n ∷ []; small = two_small s n fits.0 fits.1; same = ap (λ w. codes "/acvp/v1/testSessions/" ++ (decimal s ++ (codes "/reviewers/" ++ w))) (sym (append-nil (decimal n))) }
-fills Vendors fits = record { numbers = []; small = none_small; same = refl }
 fills (Vendor n) fits = record { numbers = n ∷ []; small = one_small n fits; same = ap (λ w. codes "/acvp/v1/vendors/" ++ w) (sym (append-nil (decimal n))) }
-fills Modules fits = record { numbers = []; small = none_small; same = refl }
 fills (Module n) fits = record { numbers = n ∷ []; small = one_small n fits; same = ap (λ w. codes "/acvp/v1/modules/" ++ w) (sym (append-nil (decimal n))) }
-fills Environments fits = record { numbers = []; small = none_small; same = refl }
 fills (Environment n) fits = record { numbers = n ∷ []; small = one_small n fits; same = ap (λ w. codes "/acvp/v1/oes/" ++ w) (sym (append-nil (decimal n))) }
-fills Requests fits = record { numbers = []; small = none_small; same = refl }
 fills (Request n) fits = record { numbers = n ∷ []; small = one_small n fits; same = ap (λ w. codes "/acvp/v1/requests/" ++ w) (sym (append-nil (decimal n))) }
+fills _ fits = record { numbers = []; small = none_small; same = refl }
 
 -- what the router has for a path
 pub finds : (path : Path) → Fits path → option_map (λ (route : RouteOf Path). route.value) (first rows (written path)) ≡ Some (pattern_of path)
@@ -86,11 +79,7 @@ written-utf8 path fits =
 
 -- a path has its pattern
 pub HasPattern-written : (path : Path) → Fits path → HasPattern (pattern_of path) (written path)
-HasPattern-written Login fits = refl
-HasPattern-written Account fits = refl
-HasPattern-written Algorithms fits = refl
 HasPattern-written (Algorithm n) fits = (n, (fits, refl))
-HasPattern-written Sessions fits = refl
 HasPattern-written (Session s) fits = (s, (fits, refl))
 HasPattern-written (SessionResults s) fits = (s, (fits, refl))
 HasPattern-written (Sets s) fits = (s, (fits, refl))
@@ -99,14 +88,11 @@ HasPattern-written (SetResults s v) fits = (s, v, (fits, refl))
 HasPattern-written (Expected s v) fits = (s, v, (fits, refl))
 HasPattern-written (Reviewers s) fits = (s, (fits, refl))
 HasPattern-written (Reviewer s n) fits = (s, n, (fits, refl))
-HasPattern-written Vendors fits = refl
 HasPattern-written (Vendor n) fits = (n, (fits, refl))
-HasPattern-written Modules fits = refl
 HasPattern-written (Module n) fits = (n, (fits, refl))
-HasPattern-written Environments fits = refl
 HasPattern-written (Environment n) fits = (n, (fits, refl))
-HasPattern-written Requests fits = refl
 HasPattern-written (Request n) fits = (n, (fits, refl))
+HasPattern-written _ fits = refl
 
 -- the pattern that the router has for a path
 pub has-row : (path : Path) (text utf8 : List ℕ) (router : RowsOf (RouteOf Path)) (r : Option Path) → router ≡ rows → utf8 ≡ text → r ≡ option_map (λ (route : RouteOf Path). route.value) (first router utf8) → IsPath text path → r ≡ Some (pattern_of path)

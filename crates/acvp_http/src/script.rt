@@ -232,7 +232,8 @@ pub(crate) fn read_line(line: &[u8]) -> Option<ScriptLine>
 
 /// The line that a text is, without its line feed.
 fn whole_line(text: &[u8]) -> Option<&[u8]>
-    ensures { MatchOption result ((line : List ℕ) → text.now ≢ line ++ 10 ∷ []) (λ line. text.now ≡ line.now ++ 10 ∷ []) }
+    ensures { MatchOption result ((line : List ℕ) → text.now ≢ line ++ 10 ∷ [])
+        (λ line. text.now ≡ line.now ++ 10 ∷ []) }
 {
     text.strip_suffix(b"\n")
 }

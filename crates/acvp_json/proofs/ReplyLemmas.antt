@@ -13,7 +13,7 @@ use Rattle.acvp_gen.specs.Prompt.{GroupValue}
 use Rattle.acvp_answers.specs.Answer.{Answer}
 use Rattle.acvp_json.specs.declared.page.Page.{Page}
 use Rattle.acvp_json.specs.declared.reply_object.ReplyObject.{ReplyObject}
-use Rattle.acvp_json.specs.declared.reply_object.ReplyObject.TheVariants.{Login, ReadAccount, ListAlgorithms, ReadAlgorithm, ListSessions, NewSession, ReadSession, CancelSession, SessionResults, ListSets, ReadSet, CancelSet, SetResults, Received, Expected, ReadObject, ListObjects, Request, ListRequests, Reviewers}
+use Rattle.acvp_json.specs.declared.reply_object.ReplyObject.TheVariants.{ListSessions, NewSession, ReadSession, SessionResults, ListSets, ReadSet, SetResults, Expected, ReadObject, ListObjects, Request, ListRequests, Reviewers}
 use Rattle.acvp_json.specs.Expected.{digest_data, expected_answer, expected_test, expected_group}
 use Rattle.acvp_json.specs.Page.{link_data, next_offset, prev_offset, page_data}
 use Rattle.acvp_json.specs.Registry.{registered_data, request_in}
@@ -79,21 +79,14 @@ request-no_float Rejected approved request = refl
 
 pub reply-no_float : (reply : ReplyObject) → has_float (enveloped (reply_data reply)) ≡ false
 unfolding reply_data
-reply-no_float (Login token) = refl
-reply-no_float (ReadAccount account counts) = refl
-reply-no_float ListAlgorithms = refl
-reply-no_float (ReadAlgorithm algorithm) = refl
 reply-no_float (ListSessions page total sessions) = rw (page-no_float _ (λ s. refl) _ page total sessions.now) refl
 reply-no_float (NewSession token number created sets) = rw (items-no_float _ (λ vs. refl) sets.now) refl
 reply-no_float (ReadSession session passed sets) = rw (items-no_float _ (λ vs. refl) sets.now) refl
-reply-no_float (CancelSession session) = refl
 reply-no_float (SessionResults passed sets) = rw (items-no_float _ (λ s. refl) sets.now) refl
 reply-no_float (ListSets sets) = rw (items-no_float _ (λ vs. refl) sets.now) refl
 reply-no_float (ReadSet sample prompts) =
     rw (items-no_float group_data (λ g. group-no_float g.form g) prompts.now.groups) refl
-reply-no_float (CancelSet vs) = refl
 reply-no_float (SetResults vs disposition verdicts) = rw (items-no_float _ (λ t. refl) _) refl
-reply-no_float (Received vs) = refl
 reply-no_float (Expected prompts standard) =
     rw (items-no_float (expected_group standard.now) (λ g. expected-no_float standard.now g) prompts.now.groups) refl
 reply-no_float (ReadObject object) = rw (registered-no_float object) refl
@@ -103,6 +96,7 @@ reply-no_float (Request request) = rw (request-no_float request.status request.a
 reply-no_float (ListRequests page total requests) =
     rw (page-no_float _ (λ r. request-no_float r.status r.approved r) _ page total requests.now) refl
 reply-no_float (Reviewers accounts) = rw (items-no_float _ (λ n. refl) accounts.now) refl
+reply-no_float _ = refl
 
 -- checkpoints, as texts of the program and as lists of bytes
 pub checkpoints_of : (texts : List (String Global)) → map (λ t. digest_data (string_bytes t)) texts

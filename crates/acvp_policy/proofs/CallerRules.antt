@@ -26,36 +26,7 @@ is_late condition = nat_le 20 (rule_number condition.1)
 
 pub resource_conditions-late : (a : Action) (f : Facts) → list_all is_late (resource_conditions a f) ≡ true
 resource_conditions-late action.Login f = refl
-resource_conditions-late action.ReadAccount f = refl
-resource_conditions-late action.ListAlgorithms f = refl
-resource_conditions-late action.ReadAlgorithm f = refl
-resource_conditions-late action.ListSessions f = refl
-resource_conditions-late action.NewSession f = refl
-resource_conditions-late action.ReadSession f = refl
-resource_conditions-late action.Certify f = refl
-resource_conditions-late action.CancelSession f = refl
-resource_conditions-late action.SessionResults f = refl
-resource_conditions-late action.ListSets f = refl
-resource_conditions-late action.ReadSet f = refl
-resource_conditions-late action.CancelSet f = refl
-resource_conditions-late action.SetResults f = refl
-resource_conditions-late action.Submit f = refl
-resource_conditions-late action.Resubmit f = refl
-resource_conditions-late action.Expected f = refl
-resource_conditions-late action.ListVendors f = refl
-resource_conditions-late action.NewVendor f = refl
-resource_conditions-late action.ReadVendor f = refl
-resource_conditions-late action.ListModules f = refl
-resource_conditions-late action.NewModule f = refl
-resource_conditions-late action.ReadModule f = refl
-resource_conditions-late action.ListEnvironments f = refl
-resource_conditions-late action.NewEnvironment f = refl
-resource_conditions-late action.ReadEnvironment f = refl
-resource_conditions-late action.ListRequests f = refl
-resource_conditions-late action.ReadRequest f = refl
-resource_conditions-late action.ListReviewers f = refl
-resource_conditions-late action.AddReviewer f = refl
-resource_conditions-late action.RemoveReviewer f = refl
+resource_conditions-late _ f = refl
 
 late-from_test : (n : ℕ) → nat_le 20 n ≡ true → 20 ≤ n
 late-from_test n h = grind (arith, nat_tests)

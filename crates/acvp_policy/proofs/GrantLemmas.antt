@@ -59,134 +59,50 @@ front_holds ((false, rule) ∷ front) back h = cc
 -- What the path names is of a kind where the first condition asks for that kind and holds.
 
 account_kind : (s : Subject) (rest : Bool) → (is_account s && rest) ≡ true → IsAccount (resource_of s)
-account_kind (subject.Login found) rest h = cc
 account_kind subject.Account rest h = refl
-account_kind (subject.Algorithm number) rest h = cc
-account_kind (subject.Session on) rest h = cc
-account_kind (subject.Set on) rest h = cc
-account_kind (subject.Reviewer on) rest h = cc
-account_kind (subject.Vendor row) rest h = cc
-account_kind (subject.Module row) rest h = cc
-account_kind (subject.Environment row) rest h = cc
-account_kind (subject.Request row) rest h = cc
+account_kind _ rest h = cc
 
 login_kind : (s : Subject) (test : LoginFacts → Bool) (rest : Bool) → (is_some_and (login_of s) test && rest) ≡ true → IsAccount (resource_of s)
 login_kind (subject.Login found) test rest h = refl
-login_kind subject.Account test rest h = cc
-login_kind (subject.Algorithm number) test rest h = cc
-login_kind (subject.Session on) test rest h = cc
-login_kind (subject.Set on) test rest h = cc
-login_kind (subject.Reviewer on) test rest h = cc
-login_kind (subject.Vendor row) test rest h = cc
-login_kind (subject.Module row) test rest h = cc
-login_kind (subject.Environment row) test rest h = cc
-login_kind (subject.Request row) test rest h = cc
+login_kind _ test rest h = cc
 
 algorithm_kind : (s : Subject) (test : ℕ → Bool) (rest : Bool) → (is_some_and (algorithm_of s) test && rest) ≡ true → IsAlgorithm (resource_of s)
-algorithm_kind (subject.Login found) test rest h = cc
-algorithm_kind subject.Account test rest h = cc
 algorithm_kind (subject.Algorithm number) test rest h = (number, refl)
-algorithm_kind (subject.Session on) test rest h = cc
-algorithm_kind (subject.Set on) test rest h = cc
-algorithm_kind (subject.Reviewer on) test rest h = cc
-algorithm_kind (subject.Vendor row) test rest h = cc
-algorithm_kind (subject.Module row) test rest h = cc
-algorithm_kind (subject.Environment row) test rest h = cc
-algorithm_kind (subject.Request row) test rest h = cc
+algorithm_kind _ test rest h = cc
 
 vendor_kind : (s : Subject) (test : RowSubject → Bool) (rest : Bool) → (is_some_and (vendor_of s) test && rest) ≡ true → IsVendor (resource_of s)
-vendor_kind (subject.Login found) test rest h = cc
-vendor_kind subject.Account test rest h = cc
-vendor_kind (subject.Algorithm number) test rest h = cc
-vendor_kind (subject.Session on) test rest h = cc
-vendor_kind (subject.Set on) test rest h = cc
-vendor_kind (subject.Reviewer on) test rest h = cc
 vendor_kind (subject.Vendor row) test rest h = (row.number, refl)
-vendor_kind (subject.Module row) test rest h = cc
-vendor_kind (subject.Environment row) test rest h = cc
-vendor_kind (subject.Request row) test rest h = cc
+vendor_kind _ test rest h = cc
 
 module_kind : (s : Subject) (test : RowSubject → Bool) (rest : Bool) → (is_some_and (module_of s) test && rest) ≡ true → IsModule (resource_of s)
-module_kind (subject.Login found) test rest h = cc
-module_kind subject.Account test rest h = cc
-module_kind (subject.Algorithm number) test rest h = cc
-module_kind (subject.Session on) test rest h = cc
-module_kind (subject.Set on) test rest h = cc
-module_kind (subject.Reviewer on) test rest h = cc
-module_kind (subject.Vendor row) test rest h = cc
 module_kind (subject.Module row) test rest h = (row.number, refl)
-module_kind (subject.Environment row) test rest h = cc
-module_kind (subject.Request row) test rest h = cc
+module_kind _ test rest h = cc
 
 environment_kind : (s : Subject) (test : RowSubject → Bool) (rest : Bool) → (is_some_and (environment_of s) test && rest) ≡ true → IsEnvironment (resource_of s)
-environment_kind (subject.Login found) test rest h = cc
-environment_kind subject.Account test rest h = cc
-environment_kind (subject.Algorithm number) test rest h = cc
-environment_kind (subject.Session on) test rest h = cc
-environment_kind (subject.Set on) test rest h = cc
-environment_kind (subject.Reviewer on) test rest h = cc
-environment_kind (subject.Vendor row) test rest h = cc
-environment_kind (subject.Module row) test rest h = cc
 environment_kind (subject.Environment row) test rest h = (row.number, refl)
-environment_kind (subject.Request row) test rest h = cc
+environment_kind _ test rest h = cc
 
 request_kind : (s : Subject) (test : RowSubject → Bool) (rest : Bool) → (is_some_and (request_of s) test && rest) ≡ true → IsRequest (resource_of s)
-request_kind (subject.Login found) test rest h = cc
-request_kind subject.Account test rest h = cc
-request_kind (subject.Algorithm number) test rest h = cc
-request_kind (subject.Session on) test rest h = cc
-request_kind (subject.Set on) test rest h = cc
-request_kind (subject.Reviewer on) test rest h = cc
-request_kind (subject.Vendor row) test rest h = cc
-request_kind (subject.Module row) test rest h = cc
-request_kind (subject.Environment row) test rest h = cc
 request_kind (subject.Request row) test rest h = (row.number, refl)
+request_kind _ test rest h = cc
 
 session_kind : (s : Subject) (rest : Bool) → (is_some (session_found s) && rest) ≡ true → IsSession (resource_of s)
-session_kind (subject.Login found) rest h = cc
-session_kind subject.Account rest h = cc
-session_kind (subject.Algorithm number) rest h = cc
 session_kind (subject.Session on) rest h = (on.session, refl)
-session_kind (subject.Set on) rest h = cc
-session_kind (subject.Reviewer on) rest h = cc
-session_kind (subject.Vendor row) rest h = cc
-session_kind (subject.Module row) rest h = cc
-session_kind (subject.Environment row) rest h = cc
-session_kind (subject.Request row) rest h = cc
+session_kind _ rest h = cc
 
 set_kind : (s : Subject) (rest : Bool) → (is_some (set_found s) && rest) ≡ true → IsSet (resource_of s)
-set_kind (subject.Login found) rest h = cc
-set_kind subject.Account rest h = cc
-set_kind (subject.Algorithm number) rest h = cc
-set_kind (subject.Session on) rest h = cc
 set_kind (subject.Set on) rest h = (on.session, on.set, refl)
-set_kind (subject.Reviewer on) rest h = cc
-set_kind (subject.Vendor row) rest h = cc
-set_kind (subject.Module row) rest h = cc
-set_kind (subject.Environment row) rest h = cc
-set_kind (subject.Request row) rest h = cc
+set_kind _ rest h = cc
 
 reviewer_kind : (s : Subject) (rest : Bool) → (is_some (reviewer_found s) && rest) ≡ true → IsReviewer (resource_of s)
-reviewer_kind (subject.Login found) rest h = cc
-reviewer_kind subject.Account rest h = cc
-reviewer_kind (subject.Algorithm number) rest h = cc
-reviewer_kind (subject.Session on) rest h = cc
-reviewer_kind (subject.Set on) rest h = cc
 reviewer_kind (subject.Reviewer on) rest h = (on.session, on.reviewer, refl)
-reviewer_kind (subject.Vendor row) rest h = cc
-reviewer_kind (subject.Module row) rest h = cc
-reviewer_kind (subject.Environment row) rest h = cc
-reviewer_kind (subject.Request row) rest h = cc
+reviewer_kind _ rest h = cc
 
 -- what the path names is of the action's kind where the conditions on it hold
 pub kind_is : (a : Action) (f : Facts) → list_all holds (resource_conditions a f) ≡ true →
     IsOfItsKind a (resource_of f.subject)
 kind_is action.Login f h = login_kind f.subject _ _ h
-kind_is action.ReadAccount f h = account_kind f.subject _ h
-kind_is action.ListAlgorithms f h = account_kind f.subject _ h
 kind_is action.ReadAlgorithm f h = algorithm_kind f.subject _ _ h
-kind_is action.ListSessions f h = account_kind f.subject _ h
-kind_is action.NewSession f h = account_kind f.subject _ h
 kind_is action.ReadSession f h = session_kind f.subject _ h
 kind_is action.Certify f h = session_kind f.subject _ h
 kind_is action.CancelSession f h = session_kind f.subject _ h
@@ -198,20 +114,14 @@ kind_is action.SetResults f h = set_kind f.subject _ h
 kind_is action.Submit f h = set_kind f.subject _ h
 kind_is action.Resubmit f h = set_kind f.subject _ h
 kind_is action.Expected f h = set_kind f.subject _ h
-kind_is action.ListVendors f h = account_kind f.subject _ h
-kind_is action.NewVendor f h = account_kind f.subject _ h
 kind_is action.ReadVendor f h = vendor_kind f.subject _ _ h
-kind_is action.ListModules f h = account_kind f.subject _ h
-kind_is action.NewModule f h = account_kind f.subject _ h
 kind_is action.ReadModule f h = module_kind f.subject _ _ h
-kind_is action.ListEnvironments f h = account_kind f.subject _ h
-kind_is action.NewEnvironment f h = account_kind f.subject _ h
 kind_is action.ReadEnvironment f h = environment_kind f.subject _ _ h
-kind_is action.ListRequests f h = account_kind f.subject _ h
 kind_is action.ReadRequest f h = request_kind f.subject _ _ h
 kind_is action.ListReviewers f h = session_kind f.subject _ h
 kind_is action.AddReviewer f h = session_kind f.subject _ h
 kind_is action.RemoveReviewer f h = reviewer_kind f.subject _ h
+kind_is _ f h = account_kind f.subject _ h
 
 -- On a session's resources the acting account is that of the session.
 
@@ -230,16 +140,10 @@ this_claims s (Some claims) h =
 own_at : (s : Subject) (f : Facts) →
     is_some_and (session_number (resource_of s)) (λ n. is_some_and (claims_of f.token) (are_of_session n)) ≡ true →
     IfSome (session_number (resource_of s)) (λ n. account_of_session n ≡ acting_account (login_of s) f)
-own_at (subject.Login found) f h = tt
-own_at subject.Account f h = tt
-own_at (subject.Algorithm number) f h = tt
 own_at (subject.Session on) f h = this_claims on.session (claims_of f.token) h
 own_at (subject.Set on) f h = this_claims on.session (claims_of f.token) h
 own_at (subject.Reviewer on) f h = this_claims on.session (claims_of f.token) h
-own_at (subject.Vendor row) f h = tt
-own_at (subject.Module row) f h = tt
-own_at (subject.Environment row) f h = tt
-own_at (subject.Request row) f h = tt
+own_at _ f h = tt
 
 own_is : (f : Facts) → list_all holds (claims_conditions scope.SessionResource f) ≡ true →
     IfSome (session_number (resource_of f.subject)) (λ n. account_of_session n ≡ account_of f)
@@ -249,15 +153,10 @@ own_is f h =
     own_at f.subject f (both_hold _ true this).0
 
 session_is : (P : ℕ → Type 0) (r : Resource) (s : ℕ) → IfSome (session_number r) P → IsOfSession s r → P s
-session_is P resource.Account s p is = absurd is
-session_is P (resource.Algorithm number) s p is = absurd is
 session_is P (resource.Session session) s p is = rw is at p
 session_is P (resource.Set session set) s p is = rw is at p
 session_is P (resource.Reviewer session account) s p is = rw is at p
-session_is P (resource.Vendor number) s p is = absurd is
-session_is P (resource.Module number) s p is = absurd is
-session_is P (resource.Environment number) s p is = absurd is
-session_is P (resource.Request number) s p is = absurd is
+session_is P _ s p is = absurd is
 
 own_session : (f : Facts) → list_all holds (claims_conditions scope.SessionResource f) ≡ true → (s : ℕ) →
     IsOfSession s (resource_of f.subject) → account_of_session s ≡ account_of f
@@ -270,12 +169,8 @@ none_is (Some n) h = cc
 
 unbound_is : (t : Token) → is_some_and (claims_of t) (λ c. is_none c.session) ≡ true →
     (c : Claims) × (t ≡ token.Verified c) × (c.session ≡ None)
-unbound_is token.Missing h = cc
-unbound_is token.Malformed h = cc
-unbound_is token.NotSigned h = cc
-unbound_is token.NotRead h = cc
-unbound_is token.Expired h = cc
 unbound_is (token.Verified c) h = (c, refl, none_is c.session h)
+unbound_is _ h = cc
 
 -- on results, where it is known whether a reviewer asks
 own_results : (a : Action) (f : Facts) (b : Bool) → is_reviewer f ≡ b →
@@ -298,12 +193,7 @@ own_results a f true is results held s of_session =
 pub owner_is : (a : Action) (f : Facts) → list_all holds (claims_conditions (scope_of a) f) ≡ true →
     IsOfItsKind a (resource_of f.subject) → (s : ℕ) → IsOfSession s (resource_of f.subject) →
     (account_of_session s ≡ account_of f) ⊎ IsReview a f
-owner_is action.Login f held kind s is = absurd (rw kind at is)
-owner_is action.ReadAccount f held kind s is = absurd (rw kind at is)
-owner_is action.ListAlgorithms f held kind s is = absurd (rw kind at is)
 owner_is action.ReadAlgorithm f held kind s is = absurd (rw kind.1 at is)
-owner_is action.ListSessions f held kind s is = absurd (rw kind at is)
-owner_is action.NewSession f held kind s is = absurd (rw kind at is)
 owner_is action.ReadSession f held kind s is = inl (own_session f held s is)
 owner_is action.Certify f held kind s is = inl (own_session f held s is)
 owner_is action.CancelSession f held kind s is = inl (own_session f held s is)
@@ -317,17 +207,11 @@ owner_is action.SetResults f held kind s is =
 owner_is action.Submit f held kind s is = inl (own_session f held s is)
 owner_is action.Resubmit f held kind s is = inl (own_session f held s is)
 owner_is action.Expected f held kind s is = inl (own_session f held s is)
-owner_is action.ListVendors f held kind s is = absurd (rw kind at is)
-owner_is action.NewVendor f held kind s is = absurd (rw kind at is)
 owner_is action.ReadVendor f held kind s is = absurd (rw kind.1 at is)
-owner_is action.ListModules f held kind s is = absurd (rw kind at is)
-owner_is action.NewModule f held kind s is = absurd (rw kind at is)
 owner_is action.ReadModule f held kind s is = absurd (rw kind.1 at is)
-owner_is action.ListEnvironments f held kind s is = absurd (rw kind at is)
-owner_is action.NewEnvironment f held kind s is = absurd (rw kind at is)
 owner_is action.ReadEnvironment f held kind s is = absurd (rw kind.1 at is)
-owner_is action.ListRequests f held kind s is = absurd (rw kind at is)
 owner_is action.ReadRequest f held kind s is = absurd (rw kind.1 at is)
 owner_is action.ListReviewers f held kind s is = inl (own_session f held s is)
 owner_is action.AddReviewer f held kind s is = inl (own_session f held s is)
 owner_is action.RemoveReviewer f held kind s is = inl (own_session f held s is)
+owner_is _ f held kind s is = absurd (rw kind at is)

@@ -40,13 +40,6 @@ added s a r rows there = go (is_reviewer s a rows) ((r.session == s) && (r.accou
 pub reviewers_added : (s a : ℕ) (it : Change) (state : State) → is_reviewer s a (after_state it state).reviewers ≡ true
     → (is_reviewer s a state.reviewers ≡ true) ⊎ (it ≡ change.AddReviewer (record { session = s; account = a }))
 unfolding after_state
-reviewers_added s a (change.UseStep step) state there = inl there
-reviewers_added s a (change.NewSession made) state there = inl there
-reviewers_added s a (change.KeepAnswers kept) state there = inl there
-reviewers_added s a (change.CancelSet x) state there = inl there
-reviewers_added s a (change.CancelSession n) state there = inl there
-reviewers_added s a (change.NewRequest made) state there = inl there
-reviewers_added s a (change.Certify made) state there = inl there
 reviewers_added s a (change.AddReviewer r) state there = go (is_reviewer r.session r.account state.reviewers) refl
   where
     go : (b : Bool) → is_reviewer r.session r.account state.reviewers ≡ b
@@ -55,6 +48,7 @@ reviewers_added s a (change.AddReviewer r) state there = go (is_reviewer r.sessi
     go false is = added s a r state.reviewers (rw is at there)
 reviewers_added s a (change.RemoveReviewer r) state there =
     inl (was_there (λ (row : ReviewerRow). (row.session == s) && (row.account == a)) (λ row. not (is_pair r row)) state.reviewers there)
+reviewers_added s a _ state there = inl there
 
 pub reviewers_stay : (it : OrderChange) (state : State) → (after_order_state it state).reviewers ≡ state.reviewers
 unfolding after_order_state

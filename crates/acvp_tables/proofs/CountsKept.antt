@@ -229,12 +229,9 @@ uncounted sets n f keeps rows all = all_changed (is_counted sets) (is_counted se
 
 pub counted_after : (it : Change) (c : Content) → AreWellNumbered c → IsNext (state_of c) it → IsNextCount c it → IsCounted c → IsCounted (after it c)
 unfolding after
-counted_after (change.UseStep u) c sound next count counted = counted
 counted_after (change.NewSession s) c sound next count counted = counted_new c s (next_free c s sound next) counted
 counted_after (change.KeepAnswers k) c sound next count counted = counted_kept c k sound next.0 count counted
 counted_after (change.CancelSession n) c sound next count counted = uncounted c.sets n cancelled_session (λ r. refl) c.sessions counted
 counted_after (change.CancelSet x) c sound next count counted = counted_cancelled c x sound next.0 count counted
-counted_after (change.NewRequest r) c sound next count counted = counted
 counted_after (change.Certify r) c sound next count counted = uncounted c.sets r.certification.session (with_last_request r.number) (λ r. refl) c.sessions counted
-counted_after (change.AddReviewer r) c sound next count counted = counted
-counted_after (change.RemoveReviewer r) c sound next count counted = counted
+counted_after _ c sound next count counted = counted

@@ -92,15 +92,8 @@ set_names n state row well found = named (λ (row : SetRecord). row.number) (λ 
 -- ---- a grant's account
 
 pub grant_names : (g : Granted) (it : Change) → Covers g it → account_of_change it ≡ g.account
-grant_names g (change.UseStep u) covers = sym covers.2
-grant_names g (change.NewSession s) covers = sym covers.2
-grant_names g (change.KeepAnswers k) covers = sym covers.2
-grant_names g (change.CancelSession s) covers = sym covers.2
-grant_names g (change.CancelSet x) covers = sym covers.2
-grant_names g (change.NewRequest r) covers = sym covers.2
 grant_names g (change.Certify c) covers = sym covers.3
-grant_names g (change.AddReviewer r) covers = sym covers.2
-grant_names g (change.RemoveReviewer r) covers = sym covers.2
+grant_names g _ covers = sym covers.2
 
 -- ---- all rows of an account are its own
 
