@@ -5,3 +5,4 @@ pub mod Mine
 pub mod Whole
 pub mod Refuted
 pub mod Reading
+pub mod First

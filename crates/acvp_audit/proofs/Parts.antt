@@ -171,14 +171,9 @@ body_once (body.Certification c) (body.Certification d) good well of too numbers
 
 status_once : (a b : RequestStatus) → status_number a ≡ status_number b → given_number a ≡ given_number b → a ≡ b
 status_once status.Initial status.Initial n g = refl
-status_once status.Initial (status.Approved m) n g = absurd (omega (arith, n))
-status_once status.Initial status.Rejected n g = absurd (omega (arith, n))
-status_once (status.Approved m) status.Initial n g = absurd (omega (arith, n))
 status_once (status.Approved m) (status.Approved k) n g = let same : m ≡ k = cc (g) in ap status.Approved same
-status_once (status.Approved m) status.Rejected n g = absurd (omega (arith, n))
-status_once status.Rejected status.Initial n g = absurd (omega (arith, n))
-status_once status.Rejected (status.Approved m) n g = absurd (omega (arith, n))
 status_once status.Rejected status.Rejected n g = refl
+status_once _ _ n g = absurd (omega (arith, n))
 
 abbrev IsGood : RequestRow → Type 0
 IsGood r = BodyReads r.body × IsRegistrable r.body

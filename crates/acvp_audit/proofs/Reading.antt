@@ -12,6 +12,10 @@ use Rattle.acvp_audit.specs.Read.{AreInTrees}
 pub earlier : (old mid : State) (Said : Layout → Trees → Type 0) → mid.now ≡ old.now → InStore mid.now (λ layout. AreInTrees layout mid.now.trees → Said layout mid.now.trees) → InStore old.now (λ layout. AreInTrees layout old.now.trees → Said layout old.now.trees)
 earlier old mid Said same told = subst (λ db. InStore db (λ layout. AreInTrees layout db.trees → Said layout db.trees)) same told
 
+-- what is told of what was found
+pub of_found : {X E : Type 0} (r : Result X E) (x : X) (P : X → Type 0) → r ≡ Ok x → IfOk r P → P x
+of_found r x P is told = subst (λ q. IfOk q P) is told
+
 pub told_more : {X E : Type 0} (r : Result X E) (P Q : X → Type 0) → ((x : X) → P x → Q x) → IfOk r P → IfOk r Q
 told_more (Ok x) P Q more told = more x told
 told_more (Err e) P Q more told = tt

@@ -1,6 +1,7 @@
 -- What is wrong with rows tells that no content that they stand for is kept.
 use Rattle.std.proofs.Common.{ℕ, ℤ, Bool, List}
 use Rattle.sqlite_trees.specs.Tree.{Trees}
+use Rattle.sqlite_trees.proofs.ListLemmas.{all-slice_get}
 use Rattle.acvp_desk.specs.Kept.{IsKept}
 use Rattle.acvp_tables.specs.Content.{Content}
 use Rattle.acvp_store.specs.Ranges.{KeepsSets}
@@ -13,13 +14,17 @@ use Rattle.acvp_store.proofs.ReviewerRanges.{reviewers_tree}
 use Rattle.acvp_store.proofs.SetRanges.{sets_tree}
 use Rattle.acvp_audit.specs.Checked.{IsRefuted}
 use Rattle.acvp_audit.specs.Read.{AreInTrees}
-use Rattle.acvp_audit.specs.Wrong.{AreWithin, IsDamaged, IsDamagedIn, IsOutside, HasStray}
+use Rattle.acvp_audit.specs.Wrong.{AreWithin, IsInside, IsWithin, IsDamaged, IsDamagedIn, IsOutside, HasOutside, HasStray, table_rows}
 use Rattle.acvp_audit.specs.declared.table.Table.{Table}
 use Rattle.acvp_audit.specs.declared.table.Table.TheVariants as table
 use Rattle.acvp_audit.specs.declared.damage.Damage.{Damage}
 use Rattle.acvp_audit.specs.declared.damage.Damage.TheVariants as damage
 use Rattle.acvp_audit.proofs.Kept.{kept_are_within, are_registrable, fit_accounts, fit_sessions, fit_sets, fit_objects, fit_requests, fit_reviewers}
 use Rattle.acvp_audit.proofs.Mine.{selects, ordered, same_rows, not_kept}
+
+-- where a row is outside, not all are inside
+not_within : (layout : Layout) (trees : Trees) (t : Table) (number : ℤ) → HasOutside t number layout trees → ¬ IsWithin t layout trees
+not_within layout trees t number has all = has.outside (all-slice_get (IsInside t) (table_rows t layout trees) has.at has.row has.there all)
 
 module _ (layout : Layout) (trees : Trees) (c : Content) (stand : Stands layout trees c) where
   pub in_trees : AreInTrees layout trees
@@ -57,7 +62,7 @@ pub refuted_by : (grades : Bool) (seeds : List (List ℕ)) (layout : Layout) (tr
 refuted_by grades seeds layout trees (damage.Outside t number) is = record {
   so = is;
   told = λ c stand texts registrable. is (in_trees layout trees c stand);
-  refuted = λ c stand texts kept. is (in_trees layout trees c stand) (kept_are_within seeds c kept layout trees stand t);
+  refuted = λ c stand texts kept. not_within layout trees t number (is (in_trees layout trees c stand)) (kept_are_within seeds c kept layout trees stand t);
 }
 refuted_by grades seeds layout trees (damage.Stray t number) is = record {
   so = is;

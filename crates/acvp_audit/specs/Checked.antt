@@ -1,5 +1,5 @@
 -- What a check of a file comes to.
-use Rattle.std.specs.Prelude.{◌≡◌, ℕ, zero, suc, ◌+◌, ◌<◌, ◌≤◌, List, length, Bool, true, false, None, Result, OnOk}
+use Rattle.std.specs.Prelude.{◌≡◌, ◌⊎◌, ℕ, zero, suc, ◌+◌, ◌<◌, ◌≤◌, List, length, Bool, true, false, None, Result, OnOk}
 use Rattle.std.specs.Prelude.{◌&&◌, is_some, slice_get, IfErr}
 use Rattle.std.specs.Prelude.{IsTrue}
 use Rattle.std.specs.List.{AllByRecursion, list_all}
@@ -21,7 +21,9 @@ use Rattle.acvp_store.specs.Ranges.{KeepsSets}
 use Rattle.acvp_store.specs.Schema.{Layout}
 use Rattle.acvp_store.specs.Stands.{Stands, set_tree}
 use Rattle.acvp_audit.specs.Read.{AreInTrees, AreRowsOf, IsRegistrable}
-use Rattle.acvp_audit.specs.Wrong.{IsBroken, IsDamagedIn, IsWithin, HasStray}
+use Rattle.acvp_audit.specs.Wrong.{AreWithin, IsBroken, IsDamagedIn, IsWithin, HasOutside, HasStray}
+use Rattle.acvp_audit.specs.declared.table.Table.{Table}
+use Rattle.acvp_audit.specs.declared.table.Table.TheVariants as table
 use Rattle.acvp_audit.specs.declared.damage.AuditFault.{AuditFault}
 use Rattle.acvp_audit.specs.declared.damage.AuditFault.TheVariants as fault
 use Rattle.acvp_audit.specs.declared.damage.Damage.{Damage}
@@ -94,17 +96,18 @@ pub record IsWholeAs (grades : Bool) (seeds : List (List ℕ)) (layout : Layout)
   pub kept : AreKeptAs grades seeds records
   pub counted : totals ≡ totals_of records
 
--- What is told of a content that the rows stand for. A row lies outside the numbers of accounts, or is that of none of
--- the members that a kept content has; or a condition is the first that is broken on the content's own rows with an
--- account's numbers, in an order in which those of sessions, vector sets, requests and each kind of objects rise.
+-- What is told of a content that the rows stand for. A row with the number that is told lies outside the numbers of
+-- accounts, or is that of none of the members that a kept content has; or a condition is the first that is broken on
+-- the content's own rows with an account's numbers, in an order in which those of sessions, vector sets, requests and
+-- each kind of objects rise.
 abbrev pub IsTold : Bool → List (List ℕ) → Layout → Trees → Content → Damage → Type 0
-IsTold grades seeds layout trees c (damage.Outside t number) = ¬ IsWithin t layout trees
+IsTold grades seeds layout trees c (damage.Outside t number) = HasOutside t number layout trees
 IsTold grades seeds layout trees c (damage.Stray t number) = HasStray t number layout trees
 IsTold grades seeds layout trees c (damage.Broken u found) =
     (mine : Content) × HaveSameRows (rows_numbered u c) mine × AreInOrder mine × IsBroken grades seeds u mine found
 
--- What is told is so of the rows. Whatever content they stand for, with texts of capabilities in UTF-8, it isn't kept. And
--- what is told is so of the content, where each registration that was asked for is of one of the three kinds.
+-- What is told is so of the rows. Whatever content they stand for, with texts of capabilities in UTF-8, it isn't kept.
+-- And what is told is so of the content, where each registration that was asked for is of one of the three kinds.
 pub record IsRefuted (grades : Bool) (seeds : List (List ℕ)) (layout : Layout) (trees : Trees) (found : Damage)
     : Type 0 where
   pub so : AreInTrees layout trees → IsDamagedIn grades seeds layout trees found
@@ -112,6 +115,37 @@ pub record IsRefuted (grades : Bool) (seeds : List (List ℕ)) (layout : Layout)
       → AllByRecursion (λ (row : RequestRow). IsRegistrable row.body) c.requests
       → IsTold grades seeds layout trees c found
   pub refuted : (c : Content) → Stands layout trees c → KeepsSets (trees (set_tree layout)) c.sets → ¬ IsKept seeds c
+
+-- the place of a table among those in which rows outside are looked for
+abbrev pub position : Table → ℕ
+position table.Account = 0
+position table.Session = 1
+position table.Set = 2
+position table.Object = 3
+position table.Request = 4
+position table.Reviewer = 5
+
+-- no row lies outside in the tables before this one
+abbrev pub AreWithinBefore : Table → Layout → Trees → Type 0
+AreWithinBefore t layout trees = (before : Table) → position before < position t → IsWithin before layout trees
+
+-- this is one of three tables, and no row lies outside in those before it
+abbrev pub IsBehind : Table → Table → Table → Table → Layout → Trees → Type 0
+IsBehind first second third t layout trees = (t ≡ first) ⊎ (((t ≡ second) × IsWithin first layout trees)
+    ⊎ ((t ≡ third) × IsWithin first layout trees × IsWithin second layout trees))
+
+-- no condition is broken on the rows with the numbers of the accounts before this one
+abbrev pub AreFineBefore : Bool → List (List ℕ) → Layout → Trees → ℕ → Type 0
+AreFineBefore grades seeds layout trees u =
+    (v : ℕ) → 0 < v → v < u → (mine : Content) × IsFine grades seeds layout trees v mine
+
+-- Nothing is wrong with what is looked at before. Rows outside are looked for in one table after another, and behind
+-- all tables the conditions are looked at, on one account after another.
+abbrev pub IsFirst : Bool → List (List ℕ) → Layout → Trees → Damage → Type 0
+IsFirst grades seeds layout trees (damage.Outside t number) = AreWithinBefore t layout trees
+IsFirst grades seeds layout trees (damage.Stray t number) = AreWithin layout trees
+IsFirst grades seeds layout trees (damage.Broken u found) =
+    AreWithin layout trees × AreFineBefore grades seeds layout trees u
 
 -- where what is told is wrong with rows, a connection that was open is open still, if the disk is clean
 abbrev pub IsWrongOpenly : {X : Type 0} → Result X AuditFault → State → State → Type 0

@@ -2,6 +2,7 @@
 use Rattle.std.specs.Prelude.{◌≡◌, ℕ, ℤ, ◌++◌, List, Bool, true, Some}
 use Rattle.std.specs.List.{AllByRecursion}
 use Rattle.sqlite_trees.specs.Tree.{Trees}
+use Rattle.sqlite_value.specs.Order.{Row}
 use Rattle.acvp_mac.specs.Conditions.{first_broken}
 use Rattle.acvp_check.specs.Conditions.{all_conditions}
 use Rattle.acvp_check.specs.Owners.{owner_conditions}
@@ -10,7 +11,7 @@ use Rattle.acvp_tables.specs.Content.{Content}
 use Rattle.acvp_store.specs.Ranges.{is_between, HasStrayRow, IsAccountRow, FitsAccount, IsSessionRow, FitsSession}
 use Rattle.acvp_store.specs.Ranges.{IsSetRow, FitsSet, KeepsSets, IsObjectRow, FitsObject, KeepsObjects}
 use Rattle.acvp_store.specs.Ranges.{IsRequestRow, FitsRequest, IsReviewerRow, FitsReviewer, first_number, last_number}
-use Rattle.acvp_store.specs.Ranges.{first_set, last_set, HasNumberBetween, IsRegisteredWithin}
+use Rattle.acvp_store.specs.Ranges.{first_set, last_set, HasNumberBetween, HasRowOutside, IsRegisteredWithin}
 use Rattle.acvp_store.specs.Rows.{account_tree, HoldsAccounts, session_tree, HoldsSessions}
 use Rattle.acvp_store.specs.Schema.{Layout}
 use Rattle.acvp_store.specs.Stands.{set_tree, object_tree, request_tree, HoldsRequests, reviewer_tree, HoldsReviewers}
@@ -20,18 +21,40 @@ use Rattle.acvp_audit.specs.declared.table.Table.TheVariants as table
 use Rattle.acvp_audit.specs.declared.damage.Damage.{Damage}
 use Rattle.acvp_audit.specs.declared.damage.Damage.TheVariants as damage
 
--- the number of each row of a table begins with an account's, 1 to 9999, and an object is of one of the three kinds
+-- the rows of a table
+abbrev pub table_rows : Table → Layout → Trees → List Row
+table_rows table.Account layout trees = trees account_tree
+table_rows table.Session layout trees = trees session_tree
+table_rows table.Set layout trees = trees (set_tree layout)
+table_rows table.Object layout trees = trees object_tree
+table_rows table.Request layout trees = trees request_tree
+table_rows table.Reviewer layout trees = trees (reviewer_tree layout)
+
+-- the column with the number that a row is told by, which is its session's for a reviewer
+abbrev pub number_column : Table → ℕ
+number_column table.Account = 0
+number_column table.Session = 0
+number_column table.Set = 0
+number_column table.Object = 2
+number_column table.Request = 0
+number_column table.Reviewer = 1
+
+-- the number of a row begins with an account's, 1 to 9999, and an object is of one of the three kinds
+abbrev pub IsInside : Table → Row → Type 0
+IsInside table.Account = λ row. is_between 1 9999 row ≡ true
+IsInside table.Session = λ row. is_between (first_number 1) (last_number 9999) row ≡ true
+IsInside table.Set = λ row. is_between (first_set 1) (last_set 9999) row ≡ true
+IsInside table.Object = IsRegisteredWithin 9999
+IsInside table.Request = λ row. is_between (first_number 1) (last_number 9999) row ≡ true
+IsInside table.Reviewer = HasNumberBetween 1 (first_number 1) (last_number 9999)
+
+-- each row of a table is inside
 abbrev pub IsWithin : Table → Layout → Trees → Type 0
-IsWithin table.Account layout trees = AllByRecursion (λ row. is_between 1 9999 row ≡ true) (trees account_tree)
-IsWithin table.Session layout trees =
-    AllByRecursion (λ row. is_between (first_number 1) (last_number 9999) row ≡ true) (trees session_tree)
-IsWithin table.Set layout trees =
-    AllByRecursion (λ row. is_between (first_set 1) (last_set 9999) row ≡ true) (trees (set_tree layout))
-IsWithin table.Object layout trees = AllByRecursion (IsRegisteredWithin 9999) (trees object_tree)
-IsWithin table.Request layout trees =
-    AllByRecursion (λ row. is_between (first_number 1) (last_number 9999) row ≡ true) (trees request_tree)
-IsWithin table.Reviewer layout trees =
-    AllByRecursion (HasNumberBetween 1 (first_number 1) (last_number 9999)) (trees (reviewer_tree layout))
+IsWithin t layout trees = AllByRecursion (IsInside t) (table_rows t layout trees)
+
+-- a row of a table has this number and isn't inside
+abbrev pub HasOutside : Table → ℤ → Layout → Trees → Type 0
+HasOutside t number layout trees = HasRowOutside (IsInside t) (number_column t) number (table_rows t layout trees)
 
 -- a row of a table has this number, which is its session's for a reviewer, and stands for nothing
 abbrev pub HasStray : Table → ℤ → Layout → Trees → Type 0
@@ -48,26 +71,26 @@ abbrev pub IsBroken : Bool → List (List ℕ) → ℕ → Content → Finding �
 IsBroken grades seeds u mine found =
     first_broken (owner_conditions mine ++ all_conditions grades seeds u mine) ≡ Some found
 
--- what is told is a row outside, and is so of these trees
+-- what is told is that a row with this number isn't inside, and it is so of these trees
 abbrev pub IsOutside : Layout → Trees → Damage → Type 0
-IsOutside layout trees (damage.Outside t number) = ¬ IsWithin t layout trees
+IsOutside layout trees (damage.Outside t number) = HasOutside t number layout trees
 IsOutside layout trees (damage.Stray t number) = ⊥
 IsOutside layout trees (damage.Broken u found) = ⊥
 
 -- what is told is so of these trees
 abbrev pub IsDamaged : Bool → List (List ℕ) → Layout → Trees → Damage → Type 0
-IsDamaged grades seeds layout trees (damage.Outside t number) = ¬ IsWithin t layout trees
+IsDamaged grades seeds layout trees (damage.Outside t number) = HasOutside t number layout trees
 IsDamaged grades seeds layout trees (damage.Stray t number) = HasStray t number layout trees
 IsDamaged grades seeds layout trees (damage.Broken u found) =
     (mine : Content) × AreRowsOf layout trees u mine × IsBroken grades seeds u mine found
 
--- no row of any table lies outside
+-- each row of every table is inside
 abbrev pub AreWithin : Layout → Trees → Type 0
 AreWithin layout trees = (t : Table) → IsWithin t layout trees
 
--- the same where a broken condition is told only if no row lies outside
+-- the same where a broken condition is told only if each row is inside
 abbrev pub IsDamagedIn : Bool → List (List ℕ) → Layout → Trees → Damage → Type 0
-IsDamagedIn grades seeds layout trees (damage.Outside t number) = ¬ IsWithin t layout trees
+IsDamagedIn grades seeds layout trees (damage.Outside t number) = HasOutside t number layout trees
 IsDamagedIn grades seeds layout trees (damage.Stray t number) = HasStray t number layout trees
 IsDamagedIn grades seeds layout trees (damage.Broken u found) =
     AreWithin layout trees × IsDamaged grades seeds layout trees (damage.Broken u found)

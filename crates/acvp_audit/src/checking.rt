@@ -10,7 +10,8 @@ ghost use Rattle.acvp_store.specs.Connection.{InStore, IsRead};
 ghost use Rattle.acvp_audit.specs.Read.{AreInTrees, Blames, Tells};
 ghost use Rattle.acvp_audit.specs.Wrong.{IsDamaged, IsWithin};
 ghost use Rattle.acvp_audit.specs.Checked.{totals_of, plus, IsFine, AreFineTo, IsWholeAs, IsRefuted};
-ghost use Rattle.acvp_audit.specs.Checked.{IsReading, IsWrongOpenly};
+ghost use Rattle.acvp_audit.specs.Checked.{AreFineBefore, IsFirst, IsReading, IsWrongOpenly};
+ghost use Rattle.acvp_check.specs.declared.finding.Finding.{Finding as FindingValue};
 ghost use Rattle.acvp_audit.specs.declared.damage.Damage.{Damage as DamageValue};
 ghost use Rattle.acvp_audit.specs.declared.damage.Totals.{Totals as TotalsValue};
 ghost use Rattle.sqlite.specs.State.{HasCleanDisk};
@@ -82,6 +83,8 @@ fn judged<S: Alter>(
     ensures wrong { Blames result (state S.Store tables.old) (state S.Store tables.new)
         (λ layout trees fault. (found : DamageValue) → fault ≡ AuditFault.Wrong found
         → IsDamaged grades seeds.now layout trees found) }
+    ensures whose { IfErr result (λ fault. (u : ℕ) (found : FindingValue)
+        → fault ≡ AuditFault.Wrong (Damage.Broken u found) → u ≡ account) }
     ensures read { IsRead result (state S.Store tables.old) (state S.Store tables.new) }
 {
     let mine = match rows_of(tables, account) {
@@ -127,14 +130,19 @@ fn all_judged<S: Alter, W: Watch>(
     ensures wrong { Blames result (state S.Store tables.old) (state S.Store tables.new)
         (λ layout trees fault. (found : DamageValue) → fault ≡ AuditFault.Wrong found
         → IsDamaged grades seeds.now layout trees found) }
+    ensures first { Blames result (state S.Store tables.old) (state S.Store tables.new)
+        (λ layout trees fault. (u : ℕ) (found : FindingValue) → fault ≡ AuditFault.Wrong (Damage.Broken u found)
+        → AreFineBefore grades seeds.now layout trees u) }
     ensures read { IsReading result (state S.Store tables.old) (state S.Store tables.new) }
 {
     let mut totals = judged(alloc, tables, 1, seeds, grades)?;
     for before in 1..9999u16 {
         let account = before + 1;
         watch.looked_at(before);
-        let more = judged(alloc, tables, account, seeds, grades)?;
-        totals = plus(totals, more);
+        match judged(alloc, tables, account, seeds, grades) {
+            Ok(more) => totals = plus(totals, more),
+            Err(fault) => return Err(fault),
+        }
     }
     Ok(totals)
 }
@@ -155,6 +163,9 @@ fn examined<S: Alter, W: Watch>(
         → IfErr result (λ fault. InStore (state S.Store tables.old).now
         (λ layout. (found : DamageValue) → fault ≡ AuditFault.Wrong found
         → IsRefuted grades seeds.now layout (state S.Store tables.old).now.trees found)) }
+    ensures first { Blames result (state S.Store tables.old) (state S.Store tables.new)
+        (λ layout trees fault. (found : DamageValue) → fault ≡ AuditFault.Wrong found
+        → IsFirst grades seeds.now layout trees found) }
     ensures read { IsReading result (state S.Store tables.old) (state S.Store tables.new) }
 {
     match all_within(tables) {
@@ -163,7 +174,8 @@ fn examined<S: Alter, W: Watch>(
     }
 }
 
-/// What was found, where the database still answers. So nothing is called wrong over a connection that a fault has shut.
+/// What was found, where the database still answers. So nothing is called wrong over a connection that a fault has
+/// shut.
 fn confirmed<S: Alter>(tables: &mut SqlTables<S>, found: Damage) -> AuditFault
     ensures same { (other : DamageValue) → result ≡ AuditFault.Wrong other → other ≡ found }
     ensures live { (other : DamageValue) → result ≡ AuditFault.Wrong other
@@ -177,8 +189,8 @@ fn confirmed<S: Alter>(tables: &mut SqlTables<S>, found: Damage) -> AuditFault
 }
 
 /// Whether the rows of a database stand for records that are kept under these seeds, and how many rows there are. What
-/// is looked at comes in this order: that no row of accounts, sessions, vector sets, objects, requests and reviewers has
-/// a number outside those of the accounts 1 to 9999; and then, for one account after another, that each of the rows
+/// is looked at comes in this order: that no row of accounts, sessions, vector sets, objects, requests and reviewers
+/// has a number outside those of the accounts 1 to 9999; and then, for one account after another, that each of the rows
 /// with its numbers stands for something, whose it is, and the conditions of `judge_account`, with the verdicts or
 /// without. The rows of one account are in memory at a time.
 pub fn check<S: Alter, W: Watch>(
@@ -196,6 +208,9 @@ pub fn check<S: Alter, W: Watch>(
         → IfErr result (λ fault. InStore (state S.Store tables.old).now
         (λ layout. (found : DamageValue) → fault ≡ AuditFault.Wrong found
         → IsRefuted grades seeds.now layout (state S.Store tables.old).now.trees found)) }
+    ensures first { Blames result (state S.Store tables.old) (state S.Store tables.new)
+        (λ layout trees fault. (found : DamageValue) → fault ≡ AuditFault.Wrong found
+        → IsFirst grades seeds.now layout trees found) }
     ensures read { IsReading result (state S.Store tables.old) (state S.Store tables.new) }
     ensures live { IsWrongOpenly result (state S.Store tables.old) (state S.Store tables.new) }
 {

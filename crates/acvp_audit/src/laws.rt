@@ -14,8 +14,8 @@ use sqlite::Alter;
 /// Tables that are called whole stand for records that are kept, so all that is promised of such records is promised of
 /// them: a file's life may begin there.
 pub fn whole_files_begin<S: Alter>()
-    ensures { (seeds : List (List ℕ)) (tables : Held S) (totals : TotalsValue) (ours : IsOurs (state S.Store tables).now)
-        → ServesStore (state S.Store tables)
+    ensures { (seeds : List (List ℕ)) (tables : Held S) (totals : TotalsValue)
+        (ours : IsOurs (state S.Store tables).now) → ServesStore (state S.Store tables)
         → IsWholeAs true seeds ours.layout (state S.Store tables).now.trees totals
         → (c : Content) × stands S.Store tables c × IsKept seeds c }
 {}

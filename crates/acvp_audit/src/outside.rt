@@ -1,10 +1,12 @@
 //! Rows whose numbers begin with no account's.
-ghost use Rattle.std.specs.Prelude.{◌≡◌, ℤ, Some, None};
+ghost use Rattle.std.specs.Prelude.{◌≡◌, ℤ, Some, None, IfErr};
 ghost use Rattle.sqlite.specs.Held.{state};
 ghost use Rattle.acvp_store.specs.Connection.{IsRead};
 ghost use Rattle.acvp_audit.specs.Read.{Blames, Tells};
-ghost use Rattle.acvp_audit.specs.Wrong.{AreWithin, IsWithin, IsOutside};
+ghost use Rattle.acvp_audit.specs.Wrong.{AreWithin, IsWithin, HasOutside, IsOutside};
+ghost use Rattle.acvp_audit.specs.Checked.{AreWithinBefore, IsBehind};
 ghost use Rattle.acvp_audit.specs.declared.damage.Damage.{Damage as DamageValue};
+ghost use Rattle.acvp_audit.specs.declared.table.Table.{Table as TableValue};
 
 use crate::damage::{AuditFault, Damage};
 use crate::table::Table;
@@ -18,7 +20,7 @@ fn outside_of<S: Alter>(tables: &mut SqlTables<S>, table: Table) -> Result<Optio
         (λ layout trees found. found ≡ None
         → IsWithin table layout trees) }
     ensures some { Tells result (state S.Store tables.old) (state S.Store tables.new)
-        (λ layout trees found. (number : ℤ) → found ≡ Some number → ¬ IsWithin table layout trees) }
+        (λ layout trees found. (number : ℤ) → found ≡ Some number → HasOutside table number layout trees) }
     ensures read { IsRead result (state S.Store tables.old) (state S.Store tables.new) }
 {
     match table {
@@ -37,6 +39,8 @@ fn is_within<S: Alter>(tables: &mut SqlTables<S>, table: Table) -> Result<(), Au
         (λ layout trees _. IsWithin table layout trees) }
     ensures wrong { Blames result (state S.Store tables.old) (state S.Store tables.new)
         (λ layout trees fault. (found : DamageValue) → fault ≡ AuditFault.Wrong found → IsOutside layout trees found) }
+    ensures whose { IfErr result (λ fault. (t : TableValue) (number : ℤ)
+        → fault ≡ AuditFault.Wrong (Damage.Outside t number) → t ≡ table) }
     ensures read { IsRead result (state S.Store tables.old) (state S.Store tables.new) }
 {
     match outside_of(tables, table) {
@@ -59,6 +63,9 @@ fn are_within<S: Alter>(
         × IsWithin third layout trees) }
     ensures wrong { Blames result (state S.Store tables.old) (state S.Store tables.new)
         (λ layout trees fault. (found : DamageValue) → fault ≡ AuditFault.Wrong found → IsOutside layout trees found) }
+    ensures before { Blames result (state S.Store tables.old) (state S.Store tables.new)
+        (λ layout trees fault. (t : TableValue) (number : ℤ) → fault ≡ AuditFault.Wrong (Damage.Outside t number)
+        → IsBehind first second third t layout trees) }
     ensures read { IsRead result (state S.Store tables.old) (state S.Store tables.new) }
 {
     is_within(tables, first)?;
@@ -72,8 +79,13 @@ pub(crate) fn all_within<S: Alter>(tables: &mut SqlTables<S>) -> Result<(), Audi
         (λ layout trees _. AreWithin layout trees) }
     ensures wrong { Blames result (state S.Store tables.old) (state S.Store tables.new)
         (λ layout trees fault. (found : DamageValue) → fault ≡ AuditFault.Wrong found → IsOutside layout trees found) }
+    ensures first { Blames result (state S.Store tables.old) (state S.Store tables.new)
+        (λ layout trees fault. (t : TableValue) (number : ℤ) → fault ≡ AuditFault.Wrong (Damage.Outside t number)
+        → AreWithinBefore t layout trees) }
     ensures read { IsRead result (state S.Store tables.old) (state S.Store tables.new) }
 {
-    are_within(tables, Table::Account, Table::Session, Table::Set)?;
-    are_within(tables, Table::Object, Table::Request, Table::Reviewer)
+    match are_within(tables, Table::Account, Table::Session, Table::Set) {
+        Ok(()) => are_within(tables, Table::Object, Table::Request, Table::Reviewer),
+        Err(fault) => Err(fault),
+    }
 }

@@ -1,18 +1,11 @@
 //! What is read of the rows with an account's numbers.
-ghost use Rattle.std.specs.Prelude.{◌≡◌, ◌++◌, ℤ, true, IsTrue, IfOk, IfErr};
+ghost use Rattle.std.specs.Prelude.{◌≡◌, ◌++◌, ℤ, true, IsTrue, IfOk, IfErr, Ok, Err};
 ghost use Rattle.std.specs.List.{AllByRecursion};
 ghost use Rattle.sqlite.specs.Held.{state};
 ghost use Rattle.acvp_registry.specs.declared.kind.Kind.{Kind as KindValue};
-ghost use Rattle.acvp_tables.specs.Content.{is_kind, kind_number};
-ghost use Rattle.acvp_store.specs.Connection.{InStore, IsRead};
-ghost use Rattle.acvp_store.specs.Ranges.{IsRange, KeepsSets, set_number, first_number, last_number, first_set};
-ghost use Rattle.acvp_store.specs.Ranges.{last_set, is_column_between};
-ghost use Rattle.acvp_store.specs.Rows.{account_tree, account_key, HoldsAccounts};
-ghost use Rattle.acvp_store.specs.Rows.{session_tree, session_key, HoldsSessions};
-ghost use Rattle.acvp_store.specs.Stands.{set_tree, request_tree, request_key, HoldsRequests, reviewer_tree};
-ghost use Rattle.acvp_store.specs.Stands.{HoldsReviewers};
-ghost use Rattle.std.specs.List.{filter};
-ghost use Rattle.acvp_audit.specs.Read.{Blames, Tells, AreTests, AreOfKind, AreObjects, AreEntries, AreRowsOf};
+ghost use Rattle.acvp_tables.specs.Content.{is_kind};
+ghost use Rattle.acvp_store.specs.Connection.{IsRead};
+ghost use Rattle.acvp_audit.specs.Read.{Blames, Tells, AreTests, AreObjects, AreEntries, AreRowsOf};
 ghost use Rattle.acvp_audit.specs.Read.{is_above, kind_climbs, IsRegistrable};
 ghost use Rattle.acvp_audit.specs.Wrong.{HasStray};
 ghost use Rattle.acvp_audit.specs.declared.table.Table.{Table as TableValue};
@@ -37,113 +30,16 @@ pub(crate) enum Stop {
     Store(StoreFault),
 }
 
-/// A range's fault, of a table.
-fn stop_of(table: Table, fault: RangeFault) -> Stop
-    ensures { (t : TableValue) (number : ℤ) → result ≡ Stop.Stray t number
-        → (t ≡ table) × (fault ≡ RangeFault.Stray number) }
+/// What was read of a table, or why it isn't told.
+fn read_of<T: Drop>(table: Table, found: Result<Vec<T>, RangeFault>) -> Result<Vec<T>, Stop>
+    ensures same { IfOk result (λ rows. found ≡ Ok rows) }
+    ensures stray { IfErr result (λ stop. (t : TableValue) (number : ℤ) → stop ≡ Stop.Stray t number
+        → (t ≡ table) × (found ≡ Err (RangeFault.Stray number))) }
 {
-    match fault {
-        RangeFault::Stray(number) => Stop::Stray(table, number),
-        RangeFault::Store(fault) => Stop::Store(fault),
-    }
-}
-
-/// The account, if it is there.
-fn account_of<S: Alter>(tables: &mut SqlTables<S>, account: u16) -> Result<Vec<AccountRow>, Stop>
-    ensures rows { Tells result (state S.Store tables.old) (state S.Store tables.new)
-        (λ layout trees found. IsRange HoldsAccounts account_key account account (trees account_tree)
-        found.items) }
-    ensures stray { Blames result (state S.Store tables.old) (state S.Store tables.new)
-        (λ layout trees stop. (t : TableValue) (number : ℤ) → stop ≡ Stop.Stray t number
-        → HasStray t number layout trees) }
-    ensures read { IsRead result (state S.Store tables.old) (state S.Store tables.new) }
-{
-    match tables.accounts_between(account, account) {
-        Ok(found) => Ok(found),
-        Err(fault) => Err(stop_of(Table::Account, fault)),
-    }
-}
-
-/// The sessions.
-fn sessions_of<S: Alter>(tables: &mut SqlTables<S>, account: u16) -> Result<Vec<SessionRow>, Stop>
-    ensures rows { Tells result (state S.Store tables.old) (state S.Store tables.new)
-        (λ layout trees found. IsRange HoldsSessions session_key (first_number account) (last_number account)
-        (trees session_tree) found.items) }
-    ensures stray { Blames result (state S.Store tables.old) (state S.Store tables.new)
-        (λ layout trees stop. (t : TableValue) (number : ℤ) → stop ≡ Stop.Stray t number
-        → HasStray t number layout trees) }
-    ensures read { IsRead result (state S.Store tables.old) (state S.Store tables.new) }
-{
-    match tables.sessions_numbered(account) {
-        Ok(found) => Ok(found),
-        Err(fault) => Err(stop_of(Table::Session, fault)),
-    }
-}
-
-/// The vector sets.
-fn sets_of<S: Alter>(tables: &mut SqlTables<S>, account: u16) -> Result<Vec<SetRow>, Stop>
-    ensures rows { Tells result (state S.Store tables.old) (state S.Store tables.new)
-        (λ layout trees found. IsRange KeepsSets set_number (first_set account) (last_set account)
-        (trees (set_tree layout)) found.items) }
-    ensures stray { Blames result (state S.Store tables.old) (state S.Store tables.new)
-        (λ layout trees stop. (t : TableValue) (number : ℤ) → stop ≡ Stop.Stray t number
-        → HasStray t number layout trees) }
-    ensures read { IsRead result (state S.Store tables.old) (state S.Store tables.new) }
-{
-    match tables.sets_numbered(account) {
-        Ok(found) => Ok(found),
-        Err(fault) => Err(stop_of(Table::Set, fault)),
-    }
-}
-
-/// The objects of a kind.
-fn of_kind<S: Alter>(
-    tables: &mut SqlTables<S>,
-    kind: Kind,
-    account: u16,
-) -> Result<Vec<ObjectRow>, Stop>
-    ensures rows { Tells result (state S.Store tables.old) (state S.Store tables.new)
-        (λ layout trees found. AreOfKind (kind_number kind) trees account found.items) }
-    ensures stray { Blames result (state S.Store tables.old) (state S.Store tables.new)
-        (λ layout trees stop. (t : TableValue) (number : ℤ) → stop ≡ Stop.Stray t number
-        → HasStray t number layout trees) }
-    ensures read { IsRead result (state S.Store tables.old) (state S.Store tables.new) }
-{
-    match tables.objects_numbered(kind, account) {
-        Ok(found) => Ok(found),
-        Err(fault) => Err(stop_of(Table::Object, fault)),
-    }
-}
-
-/// The requests.
-fn requests_of<S: Alter>(tables: &mut SqlTables<S>, account: u16) -> Result<Vec<RequestRow>, Stop>
-    ensures rows { Tells result (state S.Store tables.old) (state S.Store tables.new)
-        (λ layout trees found. IsRange HoldsRequests request_key (first_number account) (last_number account)
-        (trees request_tree) found.items) }
-    ensures stray { Blames result (state S.Store tables.old) (state S.Store tables.new)
-        (λ layout trees stop. (t : TableValue) (number : ℤ) → stop ≡ Stop.Stray t number
-        → HasStray t number layout trees) }
-    ensures read { IsRead result (state S.Store tables.old) (state S.Store tables.new) }
-{
-    match tables.requests_numbered(account) {
-        Ok(found) => Ok(found),
-        Err(fault) => Err(stop_of(Table::Request, fault)),
-    }
-}
-
-/// The reviewers of the account's sessions.
-fn reviewers_of<S: Alter>(tables: &mut SqlTables<S>, account: u16) -> Result<Vec<ReviewerRow>, Stop>
-    ensures rows { Tells result (state S.Store tables.old) (state S.Store tables.new)
-        (λ layout trees found. HoldsReviewers (filter (is_column_between 1 (first_number account) (last_number account))
-        (trees (reviewer_tree layout))) found.items) }
-    ensures stray { Blames result (state S.Store tables.old) (state S.Store tables.new)
-        (λ layout trees stop. (t : TableValue) (number : ℤ) → stop ≡ Stop.Stray t number
-        → HasStray t number layout trees) }
-    ensures read { IsRead result (state S.Store tables.old) (state S.Store tables.new) }
-{
-    match tables.reviewers_numbered(account) {
-        Ok(found) => Ok(found),
-        Err(fault) => Err(stop_of(Table::Reviewer, fault)),
+    match found {
+        Ok(rows) => Ok(rows),
+        Err(RangeFault::Stray(number)) => Err(Stop::Stray(table, number)),
+        Err(RangeFault::Store(fault)) => Err(Stop::Store(fault)),
     }
 }
 
@@ -165,9 +61,9 @@ fn tests_of<S: Alter>(tables: &mut SqlTables<S>, account: u16) -> Result<Tests, 
         → HasStray t number layout trees) }
     ensures read { IsRead result (state S.Store tables.old) (state S.Store tables.new) }
 {
-    let accounts = account_of(tables, account)?;
-    let sessions = sessions_of(tables, account)?;
-    let sets = sets_of(tables, account)?;
+    let accounts = read_of(Table::Account, tables.accounts_between(account, account))?;
+    let sessions = read_of(Table::Session, tables.sessions_numbered(account))?;
+    let sets = read_of(Table::Set, tables.sets_numbered(account))?;
     Ok(Tests {
         accounts,
         sessions,
@@ -199,9 +95,18 @@ fn objects_of<S: Alter>(tables: &mut SqlTables<S>, account: u16) -> Result<Vec<O
         → HasStray t number layout trees) }
     ensures read { IsRead result (state S.Store tables.old) (state S.Store tables.new) }
 {
-    let vendors = of_kind(tables, Kind::Vendor, account)?;
-    let modules = of_kind(tables, Kind::Module, account)?;
-    let environments = of_kind(tables, Kind::Environment, account)?;
+    let vendors = read_of(
+        Table::Object,
+        tables.objects_numbered(Kind::Vendor, account),
+    )?;
+    let modules = read_of(
+        Table::Object,
+        tables.objects_numbered(Kind::Module, account),
+    )?;
+    let environments = read_of(
+        Table::Object,
+        tables.objects_numbered(Kind::Environment, account),
+    )?;
     joined(vendors, modules, environments)
 }
 
@@ -224,8 +129,8 @@ fn entries_of<S: Alter>(tables: &mut SqlTables<S>, account: u16) -> Result<Entri
     ensures read { IsRead result (state S.Store tables.old) (state S.Store tables.new) }
 {
     let objects = objects_of(tables, account)?;
-    let requests = requests_of(tables, account)?;
-    let reviewers = reviewers_of(tables, account)?;
+    let requests = read_of(Table::Request, tables.requests_numbered(account))?;
+    let reviewers = read_of(Table::Reviewer, tables.reviewers_numbered(account))?;
     Ok(Entries {
         objects,
         requests,

@@ -6,7 +6,7 @@ use Rattle.std.specs.Ordering.{is_le, is_ge}
 use Rattle.std.proofs.lemmas.Bool.{cases_Bool}
 use Rattle.sqlite_trees.specs.View.{is_int}
 use Rattle.sqlite.specs.declared.types.Value.{Value}
-use Rattle.sqlite.specs.declared.types.Value.TheVariants.{Null, Int, Real, Text, Blob}
+use Rattle.sqlite.specs.declared.types.Value.TheVariants.{Int}
 use Rattle.sqlite.specs.Order.{Row, column}
 use Rattle.sqlite.specs.Kind.TheVariants.{Integer}
 use Rattle.sqlite_schema.specs.Rules.{is_of}
@@ -19,11 +19,8 @@ use Rattle.acvp_store.proofs.RangeOutside.{is_outside}
 
 -- a value of a column of whole numbers that isn't NULL is one
 pub is_whole : (v : Value) → is_of Integer v ≡ true → not (is_null v) ≡ true → IsTrue (is_int v)
-is_whole Null typed there = absurd (cc)
 is_whole (Int n) typed there = refl
-is_whole (Real x) typed there = absurd (cc)
-is_whole (Text t) typed there = absurd (cc)
-is_whole (Blob b) typed there = absurd (cc)
+is_whole _ typed there = absurd (cc)
 
 sure : (b : Bool) → not b ≡ false → b ≡ true
 sure true h = refl
@@ -31,12 +28,9 @@ sure false h = absurd (cc)
 
 -- it lies within where it isn't outside
 pub number_within : (f l : ℕ) (v : Value) → IsTrue (is_int v) → is_outside f l v ≡ false → (n : ℕ) × (v ≡ whole n) × (is_number_between f l n ≡ true)
-number_within f l Null good is = absurd (cc)
 number_within f l (Int (pos n)) good is = (n, refl, sym (between_whole f l n) ∙ sure _ is)
 number_within f l (Int (negsuc n)) good is = absurd (let e : false ≡ true = sym (between_none f l n) ∙ sure _ is in cc)
-number_within f l (Real x) good is = absurd (cc)
-number_within f l (Text t) good is = absurd (cc)
-number_within f l (Blob b) good is = absurd (cc)
+number_within f l _ good is = absurd (cc)
 
 -- and isn't outside where it lies within
 pub not_outside : (place f l : ℕ) (row : Row) → HasNumberBetween place f l row → is_outside f l (column row place) ≡ false

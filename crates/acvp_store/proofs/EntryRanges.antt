@@ -11,7 +11,7 @@ use Rattle.std.proofs.lemmas.List.Sorted.{IsPermutation-refl, IsPermutation-sym,
 use Rattle.sqlite_trees.proofs.ListLemmas.{all-filter, all-permutation, all_weaker, all_of, all-map, all-append, all_from_map, ascending-filter, ascending-map, ascending_from_map, ascending_weaker, filter_none, pull_back}
 use Rattle.sqlite_trees.specs.View.{is_int}
 use Rattle.sqlite.specs.declared.types.Value.{Value}
-use Rattle.sqlite.specs.declared.types.Value.TheVariants.{Null, Int, Real, Text, Blob}
+use Rattle.sqlite.specs.declared.types.Value.TheVariants.{Int}
 use Rattle.sqlite.specs.Order.{Row, column}
 use Rattle.sqlite.specs.Tree.{IsAscending, IsTable, rowid}
 use Rattle.sqlite_value.specs.Order.{value_cmp}
@@ -42,11 +42,8 @@ shown_exactly columns width fills Good (r ∷ rows) (a ∷ found) full shows =
 -- ---- numbers that the database chose
 
 its_number : (v : Value) → IsTrue (is_int v) → (n : ℤ) × (v ≡ Int n)
-its_number Null good = absurd (cc)
 its_number (Int n) good = (n, refl)
-its_number (Real x) good = absurd (cc)
-its_number (Text t) good = absurd (cc)
-its_number (Blob b) good = absurd (cc)
+its_number _ good = absurd (cc)
 
 lower_id : (m n : ℤ) → value_cmp (Int m) (Int n) ≡ Less → m <ℤ n
 lower_id m n low =

@@ -1,5 +1,5 @@
 -- The greatest epoch of all vector sets.
-use Rattle.std.proofs.Common.{◌≡◌, ◌≤◌, ℕ, pos, negsuc, List, [], ◌∷◌, ◌++◌, map, append_assoc, Bool, true, false, Option, None, Some, Ok, Err, Result, IfOk, IsOk, slice_get, inl, inr, refl, sym, ap, subst, ◌∙◌, arith}
+use Rattle.std.proofs.Common.{◌≡◌, ◌≤◌, ℕ, pos, List, [], ◌∷◌, ◌++◌, map, append_assoc, Bool, true, false, Option, None, Some, Ok, Err, Result, IfOk, IsOk, slice_get, inl, inr, refl, sym, ap, subst, ◌∙◌, arith}
 use Rattle.std.specs.Prelude.{◌==◌, nat_le, ◌||◌, if◌then◌else◌}
 use Rattle.std.specs.List.{filter, fold, list_any, AllZip, AllByRecursion}
 use Rattle.std.specs.List.Sorted.{IsPermutation}
@@ -9,7 +9,7 @@ use Rattle.std.proofs.lemmas.Bool.Decides.{nat_tests}
 use Rattle.std.proofs.lemmas.List.Sorted.{length_permutation, list_any-IsPermutation, IsPermutation-refl, IsPermutation-map}
 use Rattle.std.proofs.lemmas.List.{append-nil}
 use Rattle.sqlite.specs.declared.types.Value.{Value}
-use Rattle.sqlite.specs.declared.types.Value.TheVariants.{Null, Int, Real, Text, Blob}
+use Rattle.sqlite.specs.declared.types.Value.TheVariants.{Null, Int}
 use Rattle.sqlite.specs.Collation.TheVariants.{Binary}
 use Rattle.sqlite.specs.Order.{Row}
 use Rattle.sqlite.specs.Program.{overlay}
@@ -131,11 +131,7 @@ one_summary order (r ∷ []) h = ap (λ x. x ∷ []) (h.0.2 ∙ go h.0.0 h.0.1)
 
 number_of : Value → ℕ
 number_of (Int (pos n)) = n
-number_of (Int (negsuc n)) = 0
-number_of Null = 0
-number_of (Real x) = 0
-number_of (Text t) = 0
-number_of (Blob b) = 0
+number_of _ = 0
 
 are_numbers : (values : List Value) → AllByRecursion (λ v. v ≡ whole (number_of v)) values → values ≡ map whole (map number_of values)
 are_numbers [] all = refl

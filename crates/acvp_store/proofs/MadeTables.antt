@@ -51,17 +51,7 @@ makes limit mode params text table schema trees tally after defined plain does =
 
 unsequenced : (t : StoreTable) → lacks_sequence (created (before t) (table_of t)) ≡ false
 unsequenced table.Meta = refl
-unsequenced table.Account = refl
-unsequenced table.Session = refl
-unsequenced table.Set = refl
-unsequenced table.Object = refl
-unsequenced table.Request = refl
-unsequenced table.Reviewer = refl
-unsequenced table.OldSet = refl
-unsequenced table.LaterObject = refl
-unsequenced table.LaterRequest = refl
-unsequenced table.LaterSet = refl
-unsequenced table.LaterReviewer = refl
+unsequenced _ = refl
 
 pub make_effect : (old : State) (t : StoreTable) → old.now.schema ≡ before t → (tally : Tally) (after : Database)
     → Does old.step_limit (mode_of old) [] old.now (statement_of (text_of t) (understood (before t) (text_of t))) None CreateTable (Ok (tally, after)) → Makes t old.now after

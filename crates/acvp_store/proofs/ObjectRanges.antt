@@ -5,7 +5,7 @@ use Rattle.std.specs.List.{AllByRecursion, filter, list_all}
 use Rattle.std.specs.List.Sorted.{IsPermutation}
 use Rattle.std.specs.Ordering.{is_eq, is_le, is_ge}
 use Rattle.std.proofs.lemmas.Bool.Decides.{nat_tests}
-use Rattle.sqlite_trees.proofs.ListLemmas.{all-append, all-map, all-permutation, all_both, all_weaker, all_from_map, filter_all, filter_none}
+use Rattle.sqlite_trees.proofs.ListLemmas.{all-append, all-map, all-permutation, all_both, all_weaker, all_from_map, filter_all}
 use Rattle.sqlite_trees.specs.View.{is_int}
 use Rattle.sqlite.specs.declared.types.Value.{Value}
 use Rattle.sqlite.specs.declared.types.Value.TheVariants.{Null}
@@ -27,7 +27,7 @@ use Rattle.sqlite_value.proofs.OrderLemmas.{value_cmp-Int}
 use Rattle.acvp_registry.specs.Json.{body_json}
 use Rattle.acvp_registry.specs.Object.{object_text}
 use Rattle.acvp_tables.specs.declared.rows.ObjectRow.{ObjectRow}
-use Rattle.acvp_store.specs.Ranges.{IsTree, is_object_between, KeepsObjects, HasStrayRow, FitsObject, IsObjectRow, IsRegisteredWithin, AreObjectRanges, joined, first_number, last_number}
+use Rattle.acvp_store.specs.Ranges.{IsTree, is_object_between, KeepsObjects, HasStrayRow, HasRowOutside, FitsObject, IsObjectRow, IsRegisteredWithin, AreObjectRanges, joined, first_number, last_number}
 use Rattle.acvp_store.specs.Schema.{Layout, schema_of, object_table}
 use Rattle.acvp_store.specs.Stands.{object_tree, object_columns, IsKeepable, Entry, entry_row, HoldsEntries, HoldsObjects}
 use Rattle.acvp_store.specs.Values.{whole}
@@ -36,14 +36,14 @@ use Rattle.acvp_store.specs.declared.ranges.RangeFault.{RangeFault}
 use Rattle.acvp_store.specs.declared.ranges.RangeFault.TheVariants.{Stray}
 use Rattle.acvp_store.specs.Private.Columns.{columns_of_object}
 use Rattle.acvp_store.specs.Private.Objects.{IsObject}
-use Rattle.acvp_store.specs.Private.Shown.{AreShown}
+use Rattle.acvp_store.specs.Private.Shown.{AreLedBy, AreShown}
 use Rattle.acvp_store.specs.Private.Strays.{HasStray}
 use Rattle.acvp_store.proofs.ColumnNumbers.{is_whole, number_within, not_outside, all_fail, column_test}
 use Rattle.acvp_store.proofs.EntryRanges.{shown_exactly, entries_hold, each_entry, both_hold, entries_joined, entries_tree, joined_all, IsNumbered, IsParted}
 use Rattle.acvp_store.proofs.PageTexts.{within as within_terms, object_fields}
 use Rattle.acvp_store.proofs.QueryRows.{selected_in_order}
 use Rattle.acvp_store.proofs.RangeColumns.{left_true, not_longer}
-use Rattle.acvp_store.proofs.RangeOutside.{is_outside, none_passing, none_selected, only_true, test_outside}
+use Rattle.acvp_store.proofs.RangeOutside.{is_outside, none_passing, first_told, only_true, test_outside}
 use Rattle.acvp_store.proofs.RangeRows.{test_between, right_true, all_passed, within_last}
 use Rattle.acvp_store.proofs.RangeStrays.{stray_of, stray_same}
 use Rattle.acvp_store.proofs.RangeTexts.{range_objects, objects_is, objects_plain, objects_unlisted, first_where, not_between, outside_objects, outside_objects_is, outside_objects_plain, outside_objects_unlisted}
@@ -185,6 +185,12 @@ elsewhere = op2 Or (not_between 1 1 3) (not_between 2 1000000 9999999999)
 test_elsewhere : (r : Row) → list_all (holds ([] ∷ r ∷ [])) (elsewhere ∷ []) ≡ is_elsewhere r
 test_elsewhere r = only_true _ ∙ either_true _ _ ∙ ap₂ (λ a b. a || b) (test_outside (column r 1) 1 3) (test_outside (column r 2) 1000000 9999999999)
 
+abbrev pub Within : Row → Type 0
+Within = IsRegisteredWithin 9999
+
+not_elsewhere : (row : Row) → Within row → is_elsewhere row ≡ false
+not_elsewhere row is = ap₂ (λ a b. a || b) (not_outside 1 1 3 row is.0) (not_outside 2 (first_number 1) (last_number 9999) row is.1)
+
 module _ (layout : Layout) (old new : State) (rows : List Row) (schema : old.now.schema ≡ schema_of layout) (h : Shown outside_objects [] old new rows) where
   outside_answer : IsAnswer (first_where object_tree 2 elsewhere) (overlay old.now.trees []) [] rows
   outside_answer = (reads_as outside_objects [] old new (schema_of layout) schema _ (outside_objects_is layout) (outside_objects_plain layout) (outside_objects_unlisted layout) rows h).answer Null
@@ -192,8 +198,8 @@ module _ (layout : Layout) (old new : State) (rows : List Row) (schema : old.now
   pub objects_outside : rows ≡ [] → filter is_elsewhere (old.now.trees object_tree) ≡ []
   objects_outside = none_passing object_tree 2 elsewhere is_elsewhere test_elsewhere (overlay old.now.trees []) (old.now.trees object_tree) rows (map_same _) outside_answer
 
-  pub objects_inside : filter is_elsewhere (old.now.trees object_tree) ≡ [] → rows ≡ []
-  objects_inside = none_selected object_tree 2 elsewhere is_elsewhere test_elsewhere (overlay old.now.trees []) (old.now.trees object_tree) rows (map_same _) outside_answer
+  pub object_told : (number : ℤ) → AreLedBy number rows → HasRowOutside Within 2 number (old.now.trees object_tree)
+  object_told = first_told object_tree 2 elsewhere is_elsewhere test_elsewhere (overlay old.now.trees []) (old.now.trees object_tree) rows (map_same _) outside_answer Within not_elsewhere
 
 left_false : (a b : Bool) → (a || b) ≡ false → a ≡ false
 left_false false b h = refl
@@ -203,17 +209,10 @@ right_false : (a b : Bool) → (a || b) ≡ false → b ≡ false
 right_false false b h = h
 right_false true b h = absurd (cc)
 
-abbrev pub Within : Row → Type 0
-Within = IsRegisteredWithin 9999
-
 pub all_within : (table : List Row) → AllByRecursion IsObjectTyped table → filter is_elsewhere table ≡ [] → AllByRecursion Within table
 all_within table typed none =
     all_both IsObjectTyped (λ row. is_elsewhere row ≡ false) Within
     (λ row is inside. (number_within 1 3 (column row 1) (are_whole row is).0 (left_false _ _ inside), number_within (first_number 1) (last_number 9999) (column row 2) (are_whole row is).1 (right_false _ _ inside))) table typed (all_fail is_elsewhere table none)
-
-pub none_elsewhere : (table : List Row) → AllByRecursion Within table → filter is_elsewhere table ≡ []
-none_elsewhere table within =
-    filter_none is_elsewhere table (all_weaker Within (λ row. is_elsewhere row ≡ false) (λ row is. ap₂ (λ a b. a || b) (not_outside 1 1 3 row is.0) (not_outside 2 (first_number 1) (last_number 9999) row is.1)) table within)
 
 -- ---- kinds and ranges, joined
 

@@ -77,21 +77,10 @@ same_reviewers rows xs ys a b = same_entries (λ r. r.session < 2 ^ 63) reviewer
 
 one_kind : (k l : Kind) → kind_number k ≡ kind_number l → k ≡ l
 one_kind Vendor Vendor e = refl
-one_kind Vendor Module e = absurd (omega (arith, e))
-one_kind Vendor Environment e = absurd (omega (arith, e))
-one_kind Vendor Certification e = absurd (omega (arith, e))
-one_kind Module Vendor e = absurd (omega (arith, e))
 one_kind Module Module e = refl
-one_kind Module Environment e = absurd (omega (arith, e))
-one_kind Module Certification e = absurd (omega (arith, e))
-one_kind Environment Vendor e = absurd (omega (arith, e))
-one_kind Environment Module e = absurd (omega (arith, e))
 one_kind Environment Environment e = refl
-one_kind Environment Certification e = absurd (omega (arith, e))
-one_kind Certification Vendor e = absurd (omega (arith, e))
-one_kind Certification Module e = absurd (omega (arith, e))
-one_kind Certification Environment e = absurd (omega (arith, e))
 one_kind Certification Certification e = refl
+one_kind _ _ e = absurd (omega (arith, e))
 
 one_object : (a b : ObjectRow) → IsKeepable a → IsKeepable b → object_columns a ≡ object_columns b → a ≡ b
 one_object a b good well is =

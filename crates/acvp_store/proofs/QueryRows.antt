@@ -9,7 +9,7 @@ use Rattle.sqlite_trees.proofs.ListLemmas.{all-permutation}
 use Rattle.sqlite.specs.Collation.TheVariants.{Binary}
 use Rattle.sqlite.specs.Command.TheVariants.{Select}
 use Rattle.sqlite.specs.declared.types.Value.{Value}
-use Rattle.sqlite.specs.declared.types.Value.TheVariants.{Null, Int, Real, Text, Blob}
+use Rattle.sqlite.specs.declared.types.Value.TheVariants.{Null, Int}
 use Rattle.sqlite.specs.Listing.{understood, reads_listing}
 use Rattle.sqlite.specs.Ops.{is_true, binary}
 use Rattle.sqlite.specs.Order.{Row, column}
@@ -35,18 +35,12 @@ use Rattle.acvp_store.proofs.Versions.{map_same, test_whole}
 pub test_from : (v : Value) (n : ℕ) → is_true (binary (Compare Ge Binary) v (whole n)) ≡ is_at_least n v
 unfolding binary
 test_from Null n = sym (ap is_ge (value_cmp-apart Null (whole n) (λ e. absurd (omega arith))))
-test_from (Int m) n = truth_back _
-test_from (Real x) n = truth_back _
-test_from (Text t) n = truth_back _
-test_from (Blob b) n = truth_back _
+test_from _ n = truth_back _
 
 pub test_until : (v : Value) (n : ℕ) → is_true (binary (Compare Le Binary) v (whole n)) ≡ is_at_most n v
 unfolding binary
 test_until Null n = refl
-test_until (Int m) n = truth_back _
-test_until (Real x) n = truth_back _
-test_until (Text t) n = truth_back _
-test_until (Blob b) n = truth_back _
+test_until _ n = truth_back _
 
 other : (o : Ordering) → is_ne o ≡ not (is_eq o)
 other Less = refl
@@ -56,10 +50,7 @@ other Greater = refl
 pub test_other : (v : Value) (n : ℕ) → is_true (binary (Compare Ne Binary) v (whole n)) ≡ is_other n v
 unfolding binary
 test_other Null n = refl
-test_other (Int m) n = truth_back _ ∙ other _
-test_other (Real x) n = truth_back _ ∙ other _
-test_other (Text t) n = truth_back _ ∙ other _
-test_other (Blob b) n = truth_back _ ∙ other _
+test_other _ n = truth_back _ ∙ other _
 
 -- ---- the rows that a query meets
 

@@ -1,11 +1,11 @@
 -- Rows of the tables, whatever they are, by the columns that are read of them: what the schema says of the others.
-use Rattle.std.proofs.Common.{◌≡◌, ◌+◌, ℕ, List, [], ◌∷◌, map, ◌≤◌, length, Bool, true, false, Option, Some, refl, ap, subst, ◌∙◌, arith}
+use Rattle.std.proofs.Common.{◌≡◌, ◌+◌, ℕ, ℤ, List, [], ◌∷◌, map, ◌≤◌, length, Bool, true, false, Option, Some, refl, ap, subst, ◌∙◌, arith}
 use Rattle.std.specs.Prelude.{◌&&◌, if◌then◌else◌, drop}
 use Rattle.std.specs.List.{AllByRecursion, filter}
 use Rattle.std.specs.List.Sorted.{IsPermutation}
 use Rattle.sqlite_trees.proofs.ListLemmas.{all_weaker, all_both}
 use Rattle.sqlite.specs.declared.types.Value.{Value}
-use Rattle.sqlite.specs.declared.types.Value.TheVariants.{Null, Int, Real, Text, Blob}
+use Rattle.sqlite.specs.declared.types.Value.TheVariants.{Null}
 use Rattle.sqlite.specs.Effect.{Database, IsDatabase}
 use Rattle.sqlite.specs.Order.{Row, column}
 use Rattle.sqlite.specs.Program.{overlay}
@@ -20,7 +20,7 @@ use Rattle.sqlite_schema.specs.declared.schema.Constraint.TheVariants.{Datatype}
 use Rattle.sqlite_sql.specs.Ops.{is_null}
 use Rattle.acvp_tables.specs.declared.rows.AccountRow.{AccountRow}
 use Rattle.acvp_tables.specs.declared.rows.SessionRow.{SessionRow}
-use Rattle.acvp_store.specs.Ranges.{is_between, IsTree, AreFull}
+use Rattle.acvp_store.specs.Ranges.{is_between, IsTree, AreFull, HasRowOutside}
 use Rattle.acvp_store.specs.Rows.{account_tree, account_row, account_shown, session_tree, session_row, session_shown}
 use Rattle.acvp_store.specs.Schema.{Layout, schema_of, account_table, session_table, request_table}
 use Rattle.acvp_store.specs.Values.{whole}
@@ -28,10 +28,10 @@ use Rattle.acvp_store.specs.Private.Columns.{account_columns, session_columns, r
 use Rattle.acvp_store.specs.Private.Requests.{request_shown}
 use Rattle.acvp_store.specs.Stands.{request_tree, request_row}
 use Rattle.acvp_tables.specs.declared.rows.RequestRow.{RequestRow}
-use Rattle.acvp_store.specs.Private.Shown.{BeginsWith}
+use Rattle.acvp_store.specs.Private.Shown.{BeginsWith, AreLedBy}
 use Rattle.acvp_store.proofs.PageTexts.{within, session_columns as session_terms, whole_request}
 use Rattle.acvp_store.proofs.QueryRows.{selected_in_order}
-use Rattle.acvp_store.proofs.RangeOutside.{is_outside, none_outside, none_shown}
+use Rattle.acvp_store.proofs.RangeOutside.{is_outside, none_outside, number_told}
 use Rattle.acvp_store.proofs.RangeRows.{test_between, in_tree_order}
 use Rattle.acvp_store.proofs.RangeTexts.{outside_requests, outside_requests_is, outside_requests_plain, outside_requests_unlisted, range_requests, requests_is, requests_plain, requests_unlisted, outside, outside_accounts, outside_accounts_is, outside_accounts_plain, outside_accounts_unlisted, outside_sessions, outside_sessions_is, outside_sessions_plain, outside_sessions_unlisted, range_accounts, account_terms, accounts_is, accounts_plain, accounts_unlisted, range_sessions, sessions_is, sessions_plain, sessions_unlisted}
 use Rattle.acvp_store.proofs.Versions.{map_same}
@@ -49,10 +49,7 @@ no e = absurd (cc)
 
 pub null_is : (v : Value) → is_null v ≡ true → v ≡ Null
 null_is Null h = refl
-null_is (Int n) h = absurd (cc)
-null_is (Real x) h = absurd (cc)
-null_is (Text t) h = absurd (cc)
-null_is (Blob b) h = absurd (cc)
+null_is _ h = absurd (cc)
 
 -- a row has no more values than the table has columns
 pub not_longer : (key : Option ℕ) (at : ℕ) (columns : List Column) (row : Row) → are_typed key at columns row ≡ true → length row ≤ length columns
@@ -184,8 +181,8 @@ module _ (layout : Layout) (old new : State) (rows : List Row) (schema : old.now
   pub sessions_outside : rows ≡ [] → filter (λ r. is_outside 1000000 9999999999 (column r 0)) (old.now.trees session_tree) ≡ []
   sessions_outside = none_outside session_tree 1000000 9999999999 (overlay old.now.trees []) (old.now.trees session_tree) rows (map_same _) outside_session_answer
 
-  pub sessions_inside : filter (λ r. is_outside 1000000 9999999999 (column r 0)) (old.now.trees session_tree) ≡ [] → rows ≡ []
-  sessions_inside = none_shown session_tree 1000000 9999999999 (overlay old.now.trees []) (old.now.trees session_tree) rows (map_same _) outside_session_answer
+  pub session_told : (number : ℤ) → AreLedBy number rows → HasRowOutside (λ row. is_between 1000000 9999999999 row ≡ true) 0 number (old.now.trees session_tree)
+  session_told = number_told session_tree 1000000 9999999999 (overlay old.now.trees []) (old.now.trees session_tree) rows (map_same _) outside_session_answer
 
 module _ (layout : Layout) (old new : State) (rows : List Row) (schema : old.now.schema ≡ schema_of layout) (h : Shown outside_accounts [] old new rows) where
   outside_account_answer : IsAnswer (outside account_tree 1 9999) (overlay old.now.trees []) [] rows
@@ -194,8 +191,8 @@ module _ (layout : Layout) (old new : State) (rows : List Row) (schema : old.now
   pub accounts_outside : rows ≡ [] → filter (λ r. is_outside 1 9999 (column r 0)) (old.now.trees account_tree) ≡ []
   accounts_outside = none_outside account_tree 1 9999 (overlay old.now.trees []) (old.now.trees account_tree) rows (map_same _) outside_account_answer
 
-  pub accounts_inside : filter (λ r. is_outside 1 9999 (column r 0)) (old.now.trees account_tree) ≡ [] → rows ≡ []
-  accounts_inside = none_shown account_tree 1 9999 (overlay old.now.trees []) (old.now.trees account_tree) rows (map_same _) outside_account_answer
+  pub account_told : (number : ℤ) → AreLedBy number rows → HasRowOutside (λ row. is_between 1 9999 row ≡ true) 0 number (old.now.trees account_tree)
+  account_told = number_told account_tree 1 9999 (overlay old.now.trees []) (old.now.trees account_tree) rows (map_same _) outside_account_answer
 
 module _ (layout : Layout) (old new : State) (rows : List Row) (schema : old.now.schema ≡ schema_of layout) (h : Shown outside_requests [] old new rows) where
   outside_request_answer : IsAnswer (outside request_tree 1000000 9999999999) (overlay old.now.trees []) [] rows
@@ -204,5 +201,5 @@ module _ (layout : Layout) (old new : State) (rows : List Row) (schema : old.now
   pub requests_outside : rows ≡ [] → filter (λ r. is_outside 1000000 9999999999 (column r 0)) (old.now.trees request_tree) ≡ []
   requests_outside = none_outside request_tree 1000000 9999999999 (overlay old.now.trees []) (old.now.trees request_tree) rows (map_same _) outside_request_answer
 
-  pub requests_inside : filter (λ r. is_outside 1000000 9999999999 (column r 0)) (old.now.trees request_tree) ≡ [] → rows ≡ []
-  requests_inside = none_shown request_tree 1000000 9999999999 (overlay old.now.trees []) (old.now.trees request_tree) rows (map_same _) outside_request_answer
+  pub request_told : (number : ℤ) → AreLedBy number rows → HasRowOutside (λ row. is_between 1000000 9999999999 row ≡ true) 0 number (old.now.trees request_tree)
+  request_told = number_told request_tree 1000000 9999999999 (overlay old.now.trees []) (old.now.trees request_tree) rows (map_same _) outside_request_answer

@@ -62,28 +62,19 @@ IsWhole v = IsTrue (is_int v)
 
 module _ (f m l : ℕ) (low : f ≤ m + 1) (high : m ≤ l) where
   first_in : (v : Value) → IsWhole v → between f m v ≡ true → between f l v ≡ true
-  first_in Null good is = absurd (cc)
   first_in (Int (pos n)) good is = let at = sym (between_whole f m n) ∙ is in between_whole f l n ∙ grind (arith, nat_tests, at, high)
   first_in (Int (negsuc n)) good is = absurd (let e : false ≡ true = sym (between_none f m n) ∙ is in cc)
-  first_in (Real x) good is = absurd (cc)
-  first_in (Text t) good is = absurd (cc)
-  first_in (Blob b) good is = absurd (cc)
+  first_in _ good is = absurd (cc)
 
   apart_in : (v : Value) → IsWhole v → between f m v ≡ true → between (m + 1) l v ≡ false
-  apart_in Null good is = absurd (cc)
   apart_in (Int (pos n)) good is = let at = sym (between_whole f m n) ∙ is in between_whole (m + 1) l n ∙ grind (arith, nat_tests, at)
   apart_in (Int (negsuc n)) good is = between_none (m + 1) l n
-  apart_in (Real x) good is = absurd (cc)
-  apart_in (Text t) good is = absurd (cc)
-  apart_in (Blob b) good is = absurd (cc)
+  apart_in _ good is = absurd (cc)
 
   second_in : (v : Value) → IsWhole v → between (m + 1) l v ≡ true → between f l v ≡ true
-  second_in Null good is = absurd (cc)
   second_in (Int (pos n)) good is = let at = sym (between_whole (m + 1) l n) ∙ is in between_whole f l n ∙ grind (arith, nat_tests, at, low)
   second_in (Int (negsuc n)) good is = absurd (let e : false ≡ true = sym (between_none (m + 1) l n) ∙ is in cc)
-  second_in (Real x) good is = absurd (cc)
-  second_in (Text t) good is = absurd (cc)
-  second_in (Blob b) good is = absurd (cc)
+  second_in _ good is = absurd (cc)
 
   other_in : (v : Value) → IsWhole v → between f m v ≡ false → between (m + 1) l v ≡ false → between f l v ≡ false
   other_in Null good a b = absurd (cc)
@@ -112,12 +103,9 @@ module _ (f m l : ℕ) (low : f ≤ m + 1) (high : m ≤ l) where
       rows tree.1 tree.0
 
 none_between : (f l : ℕ) → l < f → (v : Value) → IsWhole v → between f l v ≡ false
-none_between f l low Null good = absurd (cc)
 none_between f l low (Int (pos n)) good = between_whole f l n ∙ grind (arith, nat_tests, low)
 none_between f l low (Int (negsuc n)) good = between_none f l n
-none_between f l low (Real x) good = absurd (cc)
-none_between f l low (Text t) good = absurd (cc)
-none_between f l low (Blob b) good = absurd (cc)
+none_between f l low _ good = absurd (cc)
 
 -- ---- ranges, joined, of rows that stand for lists in any way in which two parts of the rows stand for both lists
 

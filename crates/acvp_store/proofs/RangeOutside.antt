@@ -1,15 +1,15 @@
 -- The rows outside a range.
-use Rattle.std.proofs.Common.{◌≡◌, ◌≢◌, inl, inr, ℕ, ℤ, List, [], ◌∷◌, map, length, Bool, true, false, Option, Some, None, Ok, Err, Result, IfOk, IsOk, IsTrue, refl, sym, ap, ◌∙◌, arith}
+use Rattle.std.proofs.Common.{◌≡◌, inl, inr, ℕ, ℤ, List, [], ◌∷◌, map, length, Bool, true, false, Option, Some, None, Ok, Err, Result, IfOk, IsOk, IsTrue, refl, sym, ap, subst, ◌∙◌, arith}
 use Rattle.std.specs.Prelude.{◌&&◌, not}
 use Rattle.std.specs.List.{AllByRecursion, filter, list_all}
 use Rattle.std.specs.List.Sorted.{IsPermutation}
 use Rattle.std.specs.Ordering.{is_le, is_ge}
 use Rattle.std.proofs.lemmas.Bool.{cases_Bool}
-use Rattle.std.proofs.lemmas.List.Sorted.{length_permutation, IsPermutation-sym}
-use Rattle.sqlite_trees.proofs.ListLemmas.{filter_none, all_weaker}
+use Rattle.std.proofs.lemmas.List.Sorted.{length_permutation, IsPermutation-map}
+use Rattle.sqlite_trees.proofs.ListLemmas.{map-map, all-permutation, all-slice_get}
 use Rattle.sqlite_trees.specs.View.{is_int}
 use Rattle.sqlite.specs.declared.types.Value.{Value}
-use Rattle.sqlite.specs.declared.types.Value.TheVariants.{Null, Int, Real, Text, Blob}
+use Rattle.sqlite.specs.declared.types.Value.TheVariants.{Null, Int}
 use Rattle.sqlite.specs.Order.{Row, column}
 use Rattle.sqlite.specs.Term.{Term, holds}
 use Rattle.sqlite.specs.Ops.{is_true, unary, binary, from_truth}
@@ -21,8 +21,10 @@ use Rattle.sqlite_sql.specs.declared.ops.UnaryOp.TheVariants.{Not}
 use Rattle.sqlite_sql.specs.declared.ops.BinaryOp.TheVariants.{And, Compare}
 use Rattle.sqlite_sql.specs.declared.ops.CompareOp.TheVariants.{Le, Ge}
 use Rattle.sqlite_sql.specs.Ops.{is_null}
-use Rattle.acvp_store.specs.Ranges.{is_between, IsTree}
+use Rattle.acvp_store.specs.Ranges.{is_between, IsTree, HasRowOutside}
 use Rattle.acvp_store.specs.Values.{whole}
+use Rattle.acvp_store.specs.Private.Shown.{AreLedBy}
+use Rattle.acvp_store.proofs.RangeStrays.{IsShown, all_shown}
 use Rattle.acvp_store.proofs.RangeTexts.{outside, first_where, not_between}
 use Rattle.acvp_store.proofs.SelectedRows.{matched}
 
@@ -40,10 +42,7 @@ of_two false false = refl
 pub test_outside : (v : Value) (f l : ℕ) → is_true (unary Not (binary And (binary (Compare Ge Binary) v (whole f)) (binary (Compare Le Binary) v (whole l)))) ≡ is_outside f l v
 unfolding unary binary
 test_outside Null f l = refl
-test_outside (Int m) f l = of_two _ _
-test_outside (Real x) f l = of_two _ _
-test_outside (Text t) f l = of_two _ _
-test_outside (Blob b) f l = of_two _ _
+test_outside _ f l = of_two _ _
 
 pub only_true : (b : Bool) → (b && true) ≡ b
 only_true true = refl
@@ -71,6 +70,15 @@ module _ (tree place : ℕ) (term : Term) (p : Row → Bool) (tests : (r : Row) 
   no_first [] is = refl
   no_first (o ∷ outs) is = absurd (cc)
 
+  -- the first is one of them
+  first_of : (P : Row → Type 0) (rows : List Row) → AllByRecursion P rows → AllByRecursion P (page q [] rows)
+  first_of P [] all = tt
+  first_of P (r ∷ rows) all = (all.0, tt)
+
+  -- what is told of a row
+  abbrev told_of : Row → Row
+  told_of row = column row place ∷ []
+
   module _ (db : Trees) (all rows : List Row) (has : db tree ≡ map (λ (r : Row). r) all) (a : IsAnswer q db [] rows) where
     staged_is : a.staged ≡ map (λ r. [] ∷ r ∷ []) (filter p all)
     staged_is = a.grouped ∙ rw has (matched [] (λ (r : Row). r) p q.filter tests all)
@@ -83,31 +91,47 @@ module _ (tree place : ℕ) (term : Term) (p : Row → Bool) (tests : (r : Row) 
         let ordered = no_first a.ordered (sym a.shown ∙ none) in
         no_map (λ r. [] ∷ r ∷ []) (filter p all) (no_map (output q) _ (sym kept_is ∙ no_member a.kept a.ordered a.same ordered))
 
-    pub none_selected : filter p all ≡ [] → rows ≡ []
-    none_selected none =
-        let kept : a.kept ≡ [] = kept_is ∙ ap (λ xs. map (output q) (map (λ r. [] ∷ r ∷ []) xs)) none in
-        let ordered = no_member a.ordered a.kept (IsPermutation-sym _ _ a.same) kept in
-        a.shown ∙ ap (λ xs. page q [] (map (λ (o : Output). o.1) xs)) ordered
+    -- each row of the answer tells the column of a row that passes
+    each_told : AllByRecursion (IsShown told_of p all) rows
+    each_told =
+        let told : map (λ (o : Output). o.1) a.kept ≡ map told_of (filter p all) = ap (map (λ (o : Output). o.1)) kept_is ∙ map-map (λ (o : Output). o.1) (output q) _ ∙ map-map _ (λ r. [] ∷ r ∷ []) (filter p all) in
+        let kept = subst (AllByRecursion (IsShown told_of p all)) (sym told) (all_shown told_of p all) in
+        let ordered = all-permutation (IsShown told_of p all) _ _ (IsPermutation-map (λ (o : Output). o.1) a.kept a.ordered a.same) kept in
+        subst (AllByRecursion (IsShown told_of p all)) (sym a.shown) (first_of (IsShown told_of p all) _ ordered)
+
+    -- the number that it begins with is that of a row that isn't inside, where no row that is passes
+    pub first_told : (IsInside : Row → Type 0) → ((row : Row) → IsInside row → p row ≡ false) → (number : ℤ) → AreLedBy number rows → HasRowOutside IsInside place number all
+    first_told IsInside apart number led =
+        let it = all-slice_get (IsShown told_of p all) rows 0 led.0 led.1 each_told in
+        record {
+          row = it.0;
+          at = it.1.0;
+          there = it.1.1;
+          number = ap (λ r. column r 0) it.2 ∙ led.2;
+          outside = λ inside. let e : true ≡ false = sym it.3 ∙ apart it.0 inside in cc;
+        }
+
+not_both : (a b : Bool) → b ≡ true → (a && not b) ≡ false
+not_both true true is = refl
+not_both false true is = refl
+not_both a false is = absurd (cc)
 
 -- of the rows' numbers
 module _ (tree f l : ℕ) (db : Trees) (all rows : List Row) (has : db tree ≡ map (λ (r : Row). r) all) (a : IsAnswer (outside tree f l) db [] rows) where
   pub none_outside : rows ≡ [] → filter (λ r. is_outside f l (rowid r)) all ≡ []
   none_outside = none_passing tree 0 (not_between 0 f l) (λ r. is_outside f l (rowid r)) (test_column 0 f l) db all rows has a
 
-  pub none_shown : filter (λ r. is_outside f l (rowid r)) all ≡ [] → rows ≡ []
-  none_shown = none_selected tree 0 (not_between 0 f l) (λ r. is_outside f l (rowid r)) (test_column 0 f l) db all rows has a
+  pub number_told : (number : ℤ) → AreLedBy number rows → HasRowOutside (λ row. is_between f l row ≡ true) 0 number all
+  number_told = first_told tree 0 (not_between 0 f l) (λ r. is_outside f l (rowid r)) (test_column 0 f l) db all rows has a (λ row. is_between f l row ≡ true) (λ row is. not_both _ _ is)
 
 -- what has a whole number and isn't outside lies within
 within : (f l : ℕ) (v : Value) → IsTrue (is_int v) → is_outside f l v ≡ false → (is_ge (value_cmp v (whole f)) && is_le (value_cmp v (whole l))) ≡ true
-within f l Null good is = absurd (cc)
 within f l (Int n) good is = sure _ is
   where
     sure : (b : Bool) → not b ≡ false → b ≡ true
     sure true h = refl
     sure false h = absurd (cc)
-within f l (Real x) good is = absurd (cc)
-within f l (Text t) good is = absurd (cc)
-within f l (Blob b) good is = absurd (cc)
+within f l _ good is = absurd (cc)
 
 all_within : (f l : ℕ) (rows : List Row) → AllByRecursion (λ r. IsTrue (is_int (rowid r))) rows → filter (λ r. is_outside f l (rowid r)) rows ≡ [] → AllByRecursion (λ r. is_between f l r ≡ true) rows
 all_within f l [] good none = tt
@@ -123,20 +147,6 @@ none_told f l table outcome rows_in (Err e) ok none rows = tt
 none_told f l table (Err e) rows_in (Ok found) ok none rows = absurd (let impossible = ok refl in cc)
 none_told f l table (Ok x) rows_in (Ok found) ok none rows = λ tree is. all_within f l table tree.1 (rows (none is))
 
-not_both : (a b : Bool) → b ≡ true → (a && not b) ≡ false
-not_both true true is = refl
-not_both false true is = refl
-not_both a false is = absurd (cc)
-
-none_left : (f l : ℕ) (rows : List Row) → AllByRecursion (λ r. is_between f l r ≡ true) rows → filter (λ r. is_outside f l (rowid r)) rows ≡ []
-none_left f l rows all = filter_none (λ r. is_outside f l (rowid r)) rows (all_weaker (λ r. is_between f l r ≡ true) (λ r. is_outside f l (rowid r) ≡ false) (λ r is. not_both _ _ is) rows all)
-
-pub some_told : {X E F : Type 0} (f l : ℕ) (table : List Row) (outcome : Result X E) (rows_in : X → List Row) (result : Result (Option ℤ) F) → (IsOk result → IsOk outcome) → IfOk result (λ found. IfOk outcome (λ x. (number : ℤ) → found ≡ Some number → rows_in x ≢ []))
-    → IfOk outcome (λ x. filter (λ r. is_outside f l (rowid r)) table ≡ [] → rows_in x ≡ []) → IfOk result (λ found. (number : ℤ) → found ≡ Some number → ¬ AllByRecursion (λ row. is_between f l row ≡ true) table)
-some_told f l table outcome rows_in (Err e) ok some rows = tt
-some_told f l table (Err e) rows_in (Ok found) ok some rows = absurd (let impossible = ok refl in cc)
-some_told f l table (Ok x) rows_in (Ok found) ok some rows = λ number is all. some number is (rows (none_left f l table all))
-
 -- ---- any query for rows that aren't so
 
 module _ {X E F : Type 0} (p : Row → Bool) (table : List Row) (rows_in : X → List Row) (Within : Type 0) where
@@ -146,8 +156,9 @@ module _ {X E F : Type 0} (p : Row → Bool) (table : List Row) (rows_in : X →
   none_left_told (Err e) (Ok found) ok none rows within = absurd (let impossible = ok refl in cc)
   none_left_told (Ok x) (Ok found) ok none rows within = λ is. within (rows (none is))
 
-  pub some_left_told : (outcome : Result X E) (result : Result (Option ℤ) F) → (IsOk result → IsOk outcome) → IfOk result (λ found. IfOk outcome (λ x. (number : ℤ) → found ≡ Some number → rows_in x ≢ []))
-      → IfOk outcome (λ x. filter p table ≡ [] → rows_in x ≡ []) → (Within → filter p table ≡ []) → IfOk result (λ found. (number : ℤ) → found ≡ Some number → ¬ Within)
-  some_left_told outcome (Err e) ok some rows within = tt
-  some_left_told (Err e) (Ok found) ok some rows within = absurd (let impossible = ok refl in cc)
-  some_left_told (Ok x) (Ok found) ok some rows within = λ number is all. some number is (rows (within all))
+-- what is told of the number that an answer begins with
+pub led_told : {X E F : Type 0} (Told : ℤ → Type 0) (rows_in : X → List Row) (outcome : Result X E) (result : Result (Option ℤ) F) → (IsOk result → IsOk outcome) → IfOk result (λ found. IfOk outcome (λ x. (number : ℤ) → found ≡ Some number → AreLedBy number (rows_in x)))
+    → IfOk outcome (λ x. (number : ℤ) → AreLedBy number (rows_in x) → Told number) → IfOk result (λ found. (number : ℤ) → found ≡ Some number → Told number)
+led_told Told rows_in outcome (Err e) ok some told = tt
+led_told Told rows_in (Err e) (Ok found) ok some told = absurd (let impossible = ok refl in cc)
+led_told Told rows_in (Ok x) (Ok found) ok some told = λ number is. told number (some number is)

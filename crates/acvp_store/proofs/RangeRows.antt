@@ -9,7 +9,7 @@ use Rattle.std.proofs.lemmas.Bool.Decides.{nat_tests}
 use Rattle.std.proofs.lemmas.List.Sorted.{IsPermutation-refl}
 use Rattle.sqlite_trees.proofs.ListLemmas.{map-map, ascending-map, ascending_from_map, ascending_weaker, ascending-filter, all-filter, all_from_map, all_weaker}
 use Rattle.sqlite.specs.declared.types.Value.{Value}
-use Rattle.sqlite.specs.declared.types.Value.TheVariants.{Null, Int, Real, Text, Blob}
+use Rattle.sqlite.specs.declared.types.Value.TheVariants.{Null}
 use Rattle.sqlite.specs.Order.{Row, column}
 use Rattle.sqlite.specs.Ops.{is_true, binary}
 use Rattle.sqlite.specs.Collation.TheVariants.{Binary}
@@ -36,10 +36,7 @@ use Rattle.acvp_store.proofs.Texts.{ordered_by}
 -- NULL is before every number
 drop_null : (v : Value) (f l : ℕ) → (is_at_least f v && is_at_most l v) ≡ (is_ge (value_cmp v (whole f)) && is_le (value_cmp v (whole l)))
 drop_null Null f l = rw (value_cmp-apart Null (whole f) (λ e. absurd (omega arith))) refl
-drop_null (Int m) f l = refl
-drop_null (Real x) f l = refl
-drop_null (Text t) f l = refl
-drop_null (Blob b) f l = refl
+drop_null _ f l = refl
 
 pub test_between : (v : Value) (f l : ℕ) → (is_true (binary (Compare Ge Binary) v (whole f)) && (is_true (binary (Compare Le Binary) v (whole l)) && true)) ≡ (is_ge (value_cmp v (whole f)) && is_le (value_cmp v (whole l)))
 test_between v f l = both_true _ _ _ _ (test_from v f) (test_until v l) ∙ drop_null v f l

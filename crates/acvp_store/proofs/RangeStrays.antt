@@ -1,10 +1,10 @@
 -- A row of a query's answer that stands for nothing is one of the table's, which then stands for no list.
-use Rattle.std.proofs.Common.{◌≡◌, ℕ, ℤ, zero, suc, List, [], ◌∷◌, map, Bool, Some, Err, Ok, Result, IfErr, IfOk, slice_get, refl, sym, ap, subst, ◌∙◌}
+use Rattle.std.proofs.Common.{◌≡◌, ℕ, ℤ, zero, suc, List, [], ◌∷◌, map, Bool, true, Some, Err, Ok, Result, IfErr, IfOk, slice_get, refl, sym, ap, subst, ◌∙◌}
 use Rattle.std.specs.Prelude.{IsOkAnd, IsErrAnd}
 use Rattle.std.specs.List.{AllByRecursion, AllZip, filter}
 use Rattle.std.specs.List.Sorted.{IsPermutation}
 use Rattle.std.proofs.lemmas.List.Sorted.{IsPermutation-sym}
-use Rattle.sqlite_trees.proofs.ListLemmas.{all_weaker, all-filter, all-map, all-permutation, all-slice_get}
+use Rattle.sqlite_trees.proofs.ListLemmas.{all_weaker, all_both, all-filter, all-map, all-permutation, all-slice_get}
 use Rattle.sqlite.specs.declared.types.Value.TheVariants.{Int}
 use Rattle.sqlite.specs.Effect.{Database}
 use Rattle.sqlite.specs.Order.{Row, column}
@@ -15,6 +15,7 @@ use Rattle.acvp_store.specs.Schema.{Layout, schema_of}
 use Rattle.acvp_store.specs.Private.Strays.{HasStray}
 use Rattle.acvp_store.specs.declared.ranges.RangeFault.{RangeFault}
 use Rattle.acvp_store.specs.declared.ranges.RangeFault.TheVariants.{Stray}
+use Rattle.acvp_store.proofs.RangeRows.{all_passed}
 
 -- what is told, whichever way the store's tables lie
 pub fault_in_store : {X E : Type 0} (r : Result X E) (db : Database) (P : E → Layout → Type 0) → ((layout : Layout) → db.schema ≡ schema_of layout → IfErr r (λ e. P e layout)) → IfErr r (λ e. InStore db (P e))
@@ -30,12 +31,18 @@ all_there : (rows : List Row) → AllByRecursion (Has rows) rows
 all_there [] = tt
 all_there (r ∷ rows) = ((0, refl), all_weaker (Has rows) (Has (r ∷ rows)) (λ x h. (suc h.0, h.1)) rows (all_there rows))
 
+-- these are the columns of a row of the table that passes
+abbrev pub IsShown : (Row → Row) → (Row → Bool) → List Row → Row → Type 0
+IsShown columns p table shown = (row : Row) × Has table row × (columns row ≡ shown) × (p row ≡ true)
+
+pub all_shown : (columns : Row → Row) (p : Row → Bool) (table : List Row) → AllByRecursion (IsShown columns p table) (map columns (filter p table))
+all_shown columns p table =
+    let shows = λ (row : Row) (has : Has table row) (passes : p row ≡ true). let it : IsShown columns p table (columns row) = (row, has, refl, passes) in it in
+    all-map (IsShown columns p table) columns (filter p table) (all_both (Has table) (λ row. p row ≡ true) (λ row. IsShown columns p table (columns row)) shows (filter p table) (all-filter (Has table) p table (all_there table)) (all_passed p table))
+
 -- the row that a row of the answer shows
-pub row_shown : (columns : Row → Row) (p : Row → Bool) (table rows : List Row) → IsPermutation (map columns (filter p table)) rows → (at : ℕ) (shown : Row) → slice_get rows at ≡ Some shown → (row : Row) × Has table row × (columns row ≡ shown)
-row_shown columns p table rows same at shown there =
-    let Shows : Row → Type 0 = λ s. (row : Row) × Has table row × (columns row ≡ s) in
-    let each = all-map Shows columns (filter p table) (all_weaker (Has table) (λ row. Shows (columns row)) (λ row has. (row, has, refl)) (filter p table) (all-filter (Has table) p table (all_there table))) in
-    all-slice_get Shows rows at shown there (all-permutation Shows _ rows same each)
+pub row_shown : (columns : Row → Row) (p : Row → Bool) (table rows : List Row) → IsPermutation (map columns (filter p table)) rows → (at : ℕ) (shown : Row) → slice_get rows at ≡ Some shown → IsShown columns p table shown
+row_shown columns p table rows same at shown there = all-slice_get (IsShown columns p table) rows at shown there (all-permutation (IsShown columns p table) _ rows same (all_shown columns p table))
 
 -- what is at a place of two lists
 pub zip_at : {A B : Type 0} (R : A → B → Type 0) (xs : List A) (ys : List B) → AllZip R xs ys → (at : ℕ) (y : B) → slice_get ys at ≡ Some y → (x : A) × (slice_get xs at ≡ Some x) × R x y

@@ -4,7 +4,7 @@ use Rattle.std.specs.Prelude.{⊤, drop}
 use Rattle.std.specs.List.{AllByRecursion, filter}
 use Rattle.std.specs.List.Sorted.{IsPermutation}
 use Rattle.std.specs.Ordering.{is_le, is_ge}
-use Rattle.sqlite_trees.proofs.ListLemmas.{all_weaker, all_both, all-map, all-permutation, all_from_map, filter_all, filter_none}
+use Rattle.sqlite_trees.proofs.ListLemmas.{all_weaker, all_both, all-map, all-permutation, all_from_map, filter_all}
 use Rattle.sqlite_trees.specs.View.{is_int}
 use Rattle.sqlite.specs.declared.types.Value.TheVariants.{Null}
 use Rattle.sqlite.specs.Effect.{Database, IsDatabase}
@@ -18,19 +18,19 @@ use Rattle.sqlite_schema.specs.Rules.{are_typed, are_present, passes}
 use Rattle.sqlite_schema.specs.declared.schema.Constraint.TheVariants.{Datatype, NotNull}
 use Rattle.sqlite_value.specs.Order.{value_cmp}
 use Rattle.acvp_tables.specs.declared.rows.ReviewerRow.{ReviewerRow}
-use Rattle.acvp_store.specs.Ranges.{IsTree, is_column_between, HasNumberBetween, IsReviewerRow, FitsReviewer, AreReviewerRanges, joined, first_number, last_number}
+use Rattle.acvp_store.specs.Ranges.{IsTree, HasRowOutside, is_column_between, HasNumberBetween, IsReviewerRow, FitsReviewer, AreReviewerRanges, joined, first_number, last_number}
 use Rattle.acvp_store.specs.Schema.{Layout, schema_of, reviewer_table}
 use Rattle.acvp_store.specs.Stands.{Entry, entry_row, reviewer_tree, reviewer_columns, HoldsReviewers, HoldsEntries}
 use Rattle.acvp_store.specs.Values.{whole}
 use Rattle.acvp_store.specs.Private.Columns.{columns_of_reviewer}
-use Rattle.acvp_store.specs.Private.Shown.{AreShown}
+use Rattle.acvp_store.specs.Private.Shown.{AreLedBy, AreShown}
 use Rattle.acvp_store.proofs.ColumnNumbers.{is_whole, number_within, not_outside, all_fail, column_test}
 use Rattle.acvp_store.proofs.EntryRanges.{shown_exactly, entries_hold, each_entry, entries_joined, entries_tree, joined_all, IsNumbered}
 use Rattle.acvp_store.proofs.PageTexts.{within}
 use Rattle.acvp_store.proofs.Places.{reviewers_seen, of_reviewers}
 use Rattle.acvp_store.proofs.QueryRows.{selected_in_order}
 use Rattle.acvp_store.proofs.RangeColumns.{left_true, not_longer}
-use Rattle.acvp_store.proofs.RangeOutside.{is_outside, none_passing, none_selected, test_column}
+use Rattle.acvp_store.proofs.RangeOutside.{is_outside, none_passing, first_told, test_column}
 use Rattle.acvp_store.proofs.RangeRows.{test_between, right_true, all_passed, within_last}
 use Rattle.acvp_store.proofs.RangeTexts.{range_reviewers, reviewer_terms, reviewers_is, reviewers_plain, reviewers_unlisted, first_where, not_between, outside_reviewers, outside_reviewers_is, outside_reviewers_plain, outside_reviewers_unlisted}
 use Rattle.acvp_store.proofs.Versions.{map_same}
@@ -74,6 +74,9 @@ module _ (layout : Layout) (f l : ℕ) (old new : State) (rows : List Row) (sche
 abbrev pub is_elsewhere : Row → Bool
 is_elsewhere row = is_outside 1000000 9999999999 (column row 1)
 
+abbrev pub Within : Row → Type 0
+Within = HasNumberBetween 1 (first_number 1) (last_number 9999)
+
 module _ (layout : Layout) (old new : State) (rows : List Row) (schema : old.now.schema ≡ schema_of layout) (h : Shown outside_reviewers [] old new rows) where
   outside_answer : IsAnswer (first_where (reviewer_tree layout) 1 (not_between 1 1000000 9999999999)) (overlay old.now.trees []) [] rows
   outside_answer = (reads_as outside_reviewers [] old new (schema_of layout) schema _ (outside_reviewers_is layout) (outside_reviewers_plain layout) (outside_reviewers_unlisted layout) rows h).answer Null
@@ -81,17 +84,11 @@ module _ (layout : Layout) (old new : State) (rows : List Row) (schema : old.now
   pub reviewers_outside : rows ≡ [] → filter is_elsewhere (old.now.trees (reviewer_tree layout)) ≡ []
   reviewers_outside = none_passing (reviewer_tree layout) 1 (not_between 1 1000000 9999999999) is_elsewhere (test_column 1 1000000 9999999999) (overlay old.now.trees []) (old.now.trees (reviewer_tree layout)) rows (reviewers_seen layout old.now.trees ∙ map_same _) outside_answer
 
-  pub reviewers_inside : filter is_elsewhere (old.now.trees (reviewer_tree layout)) ≡ [] → rows ≡ []
-  reviewers_inside = none_selected (reviewer_tree layout) 1 (not_between 1 1000000 9999999999) is_elsewhere (test_column 1 1000000 9999999999) (overlay old.now.trees []) (old.now.trees (reviewer_tree layout)) rows (reviewers_seen layout old.now.trees ∙ map_same _) outside_answer
-
-abbrev pub Within : Row → Type 0
-Within = HasNumberBetween 1 (first_number 1) (last_number 9999)
+  pub reviewer_told : (number : ℤ) → AreLedBy number rows → HasRowOutside Within 1 number (old.now.trees (reviewer_tree layout))
+  reviewer_told = first_told (reviewer_tree layout) 1 (not_between 1 1000000 9999999999) is_elsewhere (test_column 1 1000000 9999999999) (overlay old.now.trees []) (old.now.trees (reviewer_tree layout)) rows (reviewers_seen layout old.now.trees ∙ map_same _) outside_answer Within (not_outside 1 (first_number 1) (last_number 9999))
 
 pub all_within : (table : List Row) → AllByRecursion IsReviewerTyped table → filter is_elsewhere table ≡ [] → AllByRecursion Within table
 all_within table typed none = all_both IsReviewerTyped (λ row. is_elsewhere row ≡ false) Within (λ row is inside. number_within (first_number 1) (last_number 9999) (column row 1) (session_is_whole row is) inside) table typed (all_fail is_elsewhere table none)
-
-pub none_elsewhere : (table : List Row) → AllByRecursion Within table → filter is_elsewhere table ≡ []
-none_elsewhere table within = filter_none is_elsewhere table (all_weaker Within (λ row. is_elsewhere row ≡ false) (not_outside 1 (first_number 1) (last_number 9999)) table within)
 
 -- ---- the rows of a range stand for what is told
 

@@ -29,7 +29,7 @@ use Rattle.acvp_json.specs.KeptAnswers.{kept_answers}
 use Rattle.acvp_tables.specs.Graded.{GradedValue}
 use Rattle.acvp_tables.specs.declared.rows.SetRow.{SetRow}
 use Rattle.acvp_store.specs.Kept.{AreKept}
-use Rattle.acvp_store.specs.Ranges.{is_between, IsTree, IsRange, AreRangesBetween, joined, HasStrayRow, first_set, last_set, set_number, KeepsSets, IsSetRow, FitsSet}
+use Rattle.acvp_store.specs.Ranges.{is_between, IsTree, IsRange, AreRangesBetween, joined, HasStrayRow, HasRowOutside, first_set, last_set, set_number, KeepsSets, IsSetRow, FitsSet}
 use Rattle.acvp_store.specs.Schema.{Layout, schema_of, set_table}
 use Rattle.acvp_store.specs.Stands.{SetColumns, set_key, set_row, set_tree, IsGradedAs, IsSet, HoldsSets}
 use Rattle.acvp_store.specs.Values.{whole, flag}
@@ -37,14 +37,14 @@ use Rattle.acvp_store.specs.declared.ranges.RangeFault.{RangeFault}
 use Rattle.acvp_store.specs.declared.ranges.RangeFault.TheVariants.{Stray}
 use Rattle.acvp_store.specs.Private.Columns.{set_columns}
 use Rattle.acvp_store.specs.Private.SetRanges.{whole_shown, AreTexts, HasStraySet}
-use Rattle.acvp_store.specs.Private.Shown.{BeginsWith, AreShown, IsText}
+use Rattle.acvp_store.specs.Private.Shown.{BeginsWith, AreLedBy, AreShown, IsText}
 use Rattle.acvp_store.specs.Private.Strays.{HasStray}
 use Rattle.acvp_store.proofs.PageTexts.{within}
 use Rattle.acvp_store.proofs.Places.{sets_seen, of_sets}
 use Rattle.acvp_store.proofs.QueryRows.{selected_in_order}
 use Rattle.acvp_store.proofs.RangeColumns.{left_true, not_longer, null_is, with_null}
 use Rattle.acvp_store.proofs.RangeJoins.{flag_once, option_once, kept_tree, kept_nothing, kept_both, sets_whole}
-use Rattle.acvp_store.proofs.RangeOutside.{is_outside, none_outside, none_shown}
+use Rattle.acvp_store.proofs.RangeOutside.{is_outside, none_outside, number_told}
 use Rattle.acvp_store.proofs.RangeRows.{test_between, in_tree_order}
 use Rattle.acvp_store.proofs.RangeStrays.{row_shown, zip_at, stray_row, stray_shown}
 use Rattle.acvp_store.proofs.RangeTexts.{range_sets, set_terms, sets_is, sets_plain, sets_unlisted, outside, outside_sets, outside_sets_is, outside_sets_plain, outside_sets_unlisted}
@@ -124,8 +124,8 @@ module _ (layout : Layout) (old new : State) (rows : List Row) (schema : old.now
   pub sets_outside : rows ≡ [] → filter (λ r. is_outside 100000000 999999999999 (column r 0)) (old.now.trees (set_tree layout)) ≡ []
   sets_outside = none_outside (set_tree layout) 100000000 999999999999 (overlay old.now.trees []) (old.now.trees (set_tree layout)) rows (sets_seen layout old.now.trees ∙ map_same _) outside_answer
 
-  pub sets_inside : filter (λ r. is_outside 100000000 999999999999 (column r 0)) (old.now.trees (set_tree layout)) ≡ [] → rows ≡ []
-  sets_inside = none_shown (set_tree layout) 100000000 999999999999 (overlay old.now.trees []) (old.now.trees (set_tree layout)) rows (sets_seen layout old.now.trees ∙ map_same _) outside_answer
+  pub set_told : (number : ℤ) → AreLedBy number rows → HasRowOutside (λ row. is_between 100000000 999999999999 row ≡ true) 0 number (old.now.trees (set_tree layout))
+  set_told = number_told (set_tree layout) 100000000 999999999999 (overlay old.now.trees []) (old.now.trees (set_tree layout)) rows (sets_seen layout old.now.trees ∙ map_same _) outside_answer
 
 -- ---- the rows of a range stand for what is told of their columns
 

@@ -58,17 +58,7 @@ IsMaking t = (command_of (understood (before t) (text_of t)) ≡ CreateTable) ×
 pub is_making : (t : StoreTable) → IsMaking t
 unfolding understood everything
 is_making table.Meta = (refl, refl, refl, (refl, refl))
-is_making table.Account = (refl, refl, refl, (refl, refl))
-is_making table.Session = (refl, refl, refl, (refl, refl))
-is_making table.Set = (refl, refl, refl, (refl, refl))
-is_making table.Object = (refl, refl, refl, (refl, refl))
-is_making table.Request = (refl, refl, refl, (refl, refl))
-is_making table.Reviewer = (refl, refl, refl, (refl, refl))
-is_making table.OldSet = (refl, refl, refl, (refl, refl))
-is_making table.LaterObject = (refl, refl, refl, (refl, refl))
-is_making table.LaterRequest = (refl, refl, refl, (refl, refl))
-is_making table.LaterSet = (refl, refl, refl, (refl, refl))
-is_making table.LaterReviewer = (refl, refl, refl, (refl, refl))
+is_making _ = (refl, refl, refl, (refl, refl))
 
 -- ---- where the tables are named
 

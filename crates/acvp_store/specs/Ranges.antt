@@ -60,6 +60,14 @@ pub record HasStrayRow {A : Type 0} (Holds : List Row → List A → Type 0) (Is
   pub of_none : (a : A) → Fits a → ¬ IsOf row a
   pub none : StandsForNone Holds Fits rows
 
+-- One of the rows, which has the number that is told in the column at a place, isn't inside. So not all rows are.
+pub record HasRowOutside (IsInside : Row → Type 0) (place : ℕ) (told : ℤ) (rows : List Row) : Type 0 where
+  pub row : Row
+  pub at : ℕ
+  pub there : slice_get rows at ≡ Some row
+  pub number : column row place ≡ Int told
+  pub outside : ¬ IsInside row
+
 -- ---- the numbers of an account's rows
 
 abbrev pub first_number : ℕ → ℕ

@@ -7,7 +7,7 @@ ghost use Rattle.acvp_registry.specs.Object.{object_text};
 ghost use Rattle.acvp_tables.specs.Content.{kind_number};
 ghost use Rattle.acvp_store.specs.Connection.{ServesStore, IsRead};
 ghost use Rattle.acvp_store.specs.Ranges.{is_object_between, IsTree, KeepsObjects, HasStrayRow, IsObjectRow};
-ghost use Rattle.acvp_store.specs.Ranges.{FitsObject, first_number, last_number, IsRegisteredWithin};
+ghost use Rattle.acvp_store.specs.Ranges.{FitsObject, first_number, last_number, HasRowOutside, IsRegisteredWithin};
 ghost use Rattle.acvp_store.specs.Stands.{object_tree};
 
 use crate::objects::kind_number;
@@ -83,7 +83,7 @@ pub(crate) fn object_outside<S: Alter>(conn: &mut Connection<S>) -> Result<Optio
         → AllByRecursion (IsRegisteredWithin 9999) ((state S.Store conn.old).now.trees object_tree)) }
     ensures some { IsTrue (state S.Store conn.new).is_open
         → IfOk result (λ found. (number : ℤ) → found ≡ Some number
-        → ¬ AllByRecursion (IsRegisteredWithin 9999) ((state S.Store conn.old).now.trees object_tree)) }
+        → HasRowOutside (IsRegisteredWithin 9999) 2 number ((state S.Store conn.old).now.trees object_tree)) }
     ensures read { IsRead result (state S.Store conn.old) (state S.Store conn.new) }
 {
     number_in(conn.query_all(

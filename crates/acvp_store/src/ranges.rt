@@ -1,16 +1,16 @@
 //! Reads of the rows in a range of numbers, whatever these rows are.
-ghost use Rattle.std.specs.Prelude.{◌≡◌, ◌≢◌, ℤ, pos, true, [], Some, None, IfOk, IfErr, IsOk, IsOkAnd, IsTrue, Ok};
+ghost use Rattle.std.specs.Prelude.{◌≡◌, ℤ, pos, true, [], Some, None, IfOk, IfErr, IsOk, IsOkAnd, IsTrue, Ok};
 ghost use Rattle.std.specs.List.{AllByRecursion};
 ghost use Rattle.sqlite.specs.Held.{state};
 ghost use Rattle.sqlite_value.specs.Order.{column};
 ghost use Rattle.sqlite_value.specs.declared.value.Value.TheVariants.{Int};
 ghost use Rattle.acvp_store.specs.Connection.{ServesStore, IsRead};
-ghost use Rattle.acvp_store.specs.Ranges.{is_between, IsTree, AreFull, IsRange, HasStrayRow};
+ghost use Rattle.acvp_store.specs.Ranges.{is_between, IsTree, AreFull, IsRange, HasStrayRow, HasRowOutside};
 ghost use Rattle.acvp_store.specs.Ranges.{first_number, last_number};
 ghost use Rattle.acvp_store.specs.Ranges.{IsAccountRow, FitsAccount, IsSessionRow, FitsSession};
 ghost use Rattle.acvp_store.specs.Rows.{account_tree, account_key, HoldsAccounts};
 ghost use Rattle.acvp_store.specs.Rows.{session_tree, session_key, HoldsSessions};
-ghost use Rattle.acvp_store.specs.Private.Shown.{BeginsWith, AreShown};
+ghost use Rattle.acvp_store.specs.Private.Shown.{BeginsWith, AreLedBy, AreShown};
 ghost use Rattle.acvp_store.specs.Private.Strays.{IsStray, HasStray};
 
 use crate::fault::fault_of;
@@ -185,7 +185,7 @@ pub(crate) fn accounts_between<S: Alter>(
 pub(crate) fn number_in(outcome: Result<Vec<Row>, Error>) -> Result<Option<i64>, StoreFault>
     ensures none { IfOk result (λ found. IfOk outcome (λ rows. found ≡ None → rows.items ≡ [])) }
     ensures some { IfOk result (λ found. IfOk outcome (λ rows. (number : ℤ) → found ≡ Some number
-        → rows.items ≢ [])) }
+        → AreLedBy number rows.items)) }
     ensures ok { IsOk result → IsOk outcome }
 {
     match outcome {
@@ -209,7 +209,7 @@ pub(crate) fn session_outside<S: Alter>(conn: &mut Connection<S>) -> Result<Opti
         ((state S.Store conn.old).now.trees session_tree)) }
     ensures some { IsTrue (state S.Store conn.new).is_open
         → IfOk result (λ found. (number : ℤ) → found ≡ Some number
-        → ¬ AllByRecursion (λ row. is_between (first_number 1) (last_number 9999) row ≡ true)
+        → HasRowOutside (λ row. is_between (first_number 1) (last_number 9999) row ≡ true) 0 number
         ((state S.Store conn.old).now.trees session_tree)) }
     ensures read { IsRead result (state S.Store conn.old) (state S.Store conn.new) }
 {
@@ -227,7 +227,8 @@ pub(crate) fn account_outside<S: Alter>(conn: &mut Connection<S>) -> Result<Opti
         → AllByRecursion (λ row. is_between 1 9999 row ≡ true) ((state S.Store conn.old).now.trees account_tree)) }
     ensures some { IsTrue (state S.Store conn.new).is_open
         → IfOk result (λ found. (number : ℤ) → found ≡ Some number
-        → ¬ AllByRecursion (λ row. is_between 1 9999 row ≡ true) ((state S.Store conn.old).now.trees account_tree)) }
+        → HasRowOutside (λ row. is_between 1 9999 row ≡ true) 0 number
+        ((state S.Store conn.old).now.trees account_tree)) }
     ensures read { IsRead result (state S.Store conn.old) (state S.Store conn.new) }
 {
     number_in(conn.query_all(

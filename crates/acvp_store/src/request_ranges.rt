@@ -1,10 +1,10 @@
 //! Reads of requests in a range of numbers, whatever the rows are.
-ghost use Rattle.std.specs.Prelude.{◌≡◌, ◌≢◌, ℤ, true, None, Some, IfOk, IfErr, IsErrAnd, IsOk, IsTrue};
+ghost use Rattle.std.specs.Prelude.{◌≡◌, ℤ, true, None, Some, IfOk, IfErr, IsErrAnd, IsOk, IsTrue};
 ghost use Rattle.std.specs.List.{AllByRecursion};
 ghost use Rattle.sqlite.specs.Held.{state};
 ghost use Rattle.acvp_store.specs.Connection.{ServesStore, IsRead};
 ghost use Rattle.acvp_store.specs.Ranges.{is_between, IsTree, AreFull, IsRange, HasStrayRow, IsRequestRow, FitsRequest};
-ghost use Rattle.acvp_store.specs.Ranges.{first_number, last_number};
+ghost use Rattle.acvp_store.specs.Ranges.{HasRowOutside, first_number, last_number};
 ghost use Rattle.acvp_store.specs.Stands.{request_tree, request_key, HoldsRequests, BodyReads};
 
 use crate::ranges::{RangeFault, number_in, numbers_of, ranged};
@@ -99,7 +99,7 @@ pub(crate) fn request_outside<S: Alter>(conn: &mut Connection<S>) -> Result<Opti
         ((state S.Store conn.old).now.trees request_tree)) }
     ensures some { IsTrue (state S.Store conn.new).is_open
         → IfOk result (λ found. (number : ℤ) → found ≡ Some number
-        → ¬ AllByRecursion (λ row. is_between (first_number 1) (last_number 9999) row ≡ true)
+        → HasRowOutside (λ row. is_between (first_number 1) (last_number 9999) row ≡ true) 0 number
         ((state S.Store conn.old).now.trees request_tree)) }
     ensures read { IsRead result (state S.Store conn.old) (state S.Store conn.new) }
 {

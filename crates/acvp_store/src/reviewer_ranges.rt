@@ -3,7 +3,7 @@ ghost use Rattle.std.specs.Prelude.{◌≡◌, ℤ, None, Some, IfOk, IfErr, IsT
 ghost use Rattle.std.specs.List.{AllByRecursion, filter};
 ghost use Rattle.sqlite.specs.Held.{state};
 ghost use Rattle.acvp_store.specs.Connection.{ServesStore, InStore, IsRead};
-ghost use Rattle.acvp_store.specs.Ranges.{is_column_between, HasNumberBetween, IsTree, HasStrayRow};
+ghost use Rattle.acvp_store.specs.Ranges.{is_column_between, HasNumberBetween, IsTree, HasStrayRow, HasRowOutside};
 ghost use Rattle.acvp_store.specs.Ranges.{first_number, last_number, IsReviewerRow, FitsReviewer};
 ghost use Rattle.acvp_store.specs.Stands.{reviewer_tree, HoldsReviewers};
 
@@ -76,7 +76,7 @@ pub(crate) fn reviewer_outside<S: Alter>(
         ((state S.Store conn.old).now.trees (reviewer_tree layout)))) }
     ensures some { IsTrue (state S.Store conn.new).is_open
         → IfOk result (λ found. InStore (state S.Store conn.old).now (λ layout. (number : ℤ) → found ≡ Some number
-        → ¬ AllByRecursion (HasNumberBetween 1 (first_number 1) (last_number 9999))
+        → HasRowOutside (HasNumberBetween 1 (first_number 1) (last_number 9999)) 1 number
         ((state S.Store conn.old).now.trees (reviewer_tree layout)))) }
     ensures read { IsRead result (state S.Store conn.old) (state S.Store conn.new) }
 {

@@ -12,7 +12,7 @@ ghost use Rattle.acvp_tables.specs.Graded.{GradedValue};
 ghost use Rattle.acvp_tables.specs.declared.rows.SetRow.{SetRow as Set};
 ghost use Rattle.acvp_store.specs.Connection.{ServesStore, InStore, IsRead};
 ghost use Rattle.acvp_store.specs.Ranges.{is_between, IsTree, IsRange, HasStrayRow, first_set, last_set, set_number};
-ghost use Rattle.acvp_store.specs.Ranges.{KeepsSets, IsSetRow, FitsSet};
+ghost use Rattle.acvp_store.specs.Ranges.{HasRowOutside, KeepsSets, IsSetRow, FitsSet};
 ghost use Rattle.acvp_store.specs.Stands.{IsGradedAs, IsSet, set_tree};
 ghost use Rattle.acvp_store.specs.Private.SetRanges.{AreKeptBy, IsGradedBy, HasStraySet};
 
@@ -289,7 +289,7 @@ pub(crate) fn set_outside<S: Alter>(conn: &mut Connection<S>) -> Result<Option<i
         ((state S.Store conn.old).now.trees (set_tree layout)))) }
     ensures some { IsTrue (state S.Store conn.new).is_open
         → IfOk result (λ found. InStore (state S.Store conn.old).now (λ layout. (number : ℤ) → found ≡ Some number
-        → ¬ AllByRecursion (λ row. is_between (first_set 1) (last_set 9999) row ≡ true)
+        → HasRowOutside (λ row. is_between (first_set 1) (last_set 9999) row ≡ true) 0 number
         ((state S.Store conn.old).now.trees (set_tree layout)))) }
     ensures read { IsRead result (state S.Store conn.old) (state S.Store conn.new) }
 {

@@ -1,5 +1,5 @@
 -- What is read of a row, as a query shows it; and which rows a query meets.
-use Rattle.std.specs.Prelude.{◌≡◌, ◌≢◌, ◌<◌, ◌⊎◌, ⊤, ℕ, List, take, length, slice_get, Bool, not, ◌&&◌, Option, Some}
+use Rattle.std.specs.Prelude.{◌≡◌, ◌≢◌, ◌<◌, ◌⊎◌, ⊤, ℕ, ℤ, List, take, length, slice_get, Bool, not, ◌&&◌, Option, Some}
 use Rattle.std.specs.Prelude.{None, Result, Ok, Err, IsUtf8}
 use Rattle.std.specs.List.{AllZip, AllByRecursion, filter}
 use Rattle.std.specs.Ordering.{is_le, is_ge}
@@ -8,6 +8,7 @@ use Rattle.sqlite.specs.declared.error.Error.TheVariants.{SqliteFailure}
 use Rattle.sqlite.specs.declared.error.ErrorCode.TheVariants.{OutOfMemory}
 use Rattle.sqlite_sql.specs.Ops.{is_null}
 use Rattle.sqlite_value.specs.declared.value.Value.{Value}
+use Rattle.sqlite_value.specs.declared.value.Value.TheVariants.{Int}
 use Rattle.sqlite_value.specs.Order.{Row, column, value_cmp}
 use Rattle.acvp_store.specs.Values.{whole}
 use Rattle.acvp_store.specs.Version.{is_equal}
@@ -15,6 +16,10 @@ use Rattle.acvp_store.specs.Version.{is_equal}
 -- a row begins with these columns
 abbrev pub BeginsWith : Row → Row → Type 0
 BeginsWith columns row = take (length columns) row ≡ columns
+
+-- the first of the rows has this number in its first column
+abbrev pub AreLedBy : ℤ → List Row → Type 0
+AreLedBy number rows = (row : Row) × (slice_get rows 0 ≡ Some row) × (column row 0 ≡ Int number)
 
 -- each row begins with the columns of what is read of it, which is as it has to be
 abbrev pub AreShown : {T : Type 0} → (T → Type 0) → (T → Row) → List Row → List T → Type 0

@@ -4,7 +4,7 @@ ghost use Rattle.std.specs.List.{AllByRecursion, filter};
 ghost use Rattle.acvp_tables.specs.Content.{kind_number};
 ghost use Rattle.sqlite.specs.Held.{state};
 ghost use Rattle.acvp_store.specs.Connection.{InStore, IsRead};
-ghost use Rattle.acvp_store.specs.Ranges.{is_between, IsTree, AreFull, IsRange, HasStrayRow};
+ghost use Rattle.acvp_store.specs.Ranges.{is_between, IsTree, AreFull, IsRange, HasStrayRow, HasRowOutside};
 ghost use Rattle.acvp_store.specs.Ranges.{first_set, last_set, set_number, KeepsSets, IsSetRow, FitsSet};
 ghost use Rattle.acvp_store.specs.Ranges.{first_number, last_number, FitsAccount, FitsRequest, FitsSession};
 ghost use Rattle.acvp_store.specs.Ranges.{IsAccountRow, IsRequestRow, IsSessionRow};
@@ -51,7 +51,7 @@ impl<S: Alter> SqlTables<S> {
             ((state S.Store self.old).now.trees session_tree)) }
         ensures some { IsTrue (state S.Store self.new).is_open
             → IfOk result (λ found. (number : ℤ) → found ≡ Some number
-            → ¬ AllByRecursion (λ row. is_between (first_number 1) (last_number 9999) row ≡ true)
+            → HasRowOutside (λ row. is_between (first_number 1) (last_number 9999) row ≡ true) 0 number
             ((state S.Store self.old).now.trees session_tree)) }
         ensures read { IsRead result (state S.Store self.old) (state S.Store self.new) }
     {
@@ -81,7 +81,7 @@ impl<S: Alter> SqlTables<S> {
             → AllByRecursion (λ row. is_between 1 9999 row ≡ true) ((state S.Store self.old).now.trees account_tree)) }
         ensures some { IsTrue (state S.Store self.new).is_open
             → IfOk result (λ found. (number : ℤ) → found ≡ Some number
-            → ¬ AllByRecursion (λ row. is_between 1 9999 row ≡ true)
+            → HasRowOutside (λ row. is_between 1 9999 row ≡ true) 0 number
             ((state S.Store self.old).now.trees account_tree)) }
         ensures read { IsRead result (state S.Store self.old) (state S.Store self.new) }
     {
@@ -112,7 +112,7 @@ impl<S: Alter> SqlTables<S> {
             ((state S.Store self.old).now.trees request_tree)) }
         ensures some { IsTrue (state S.Store self.new).is_open
             → IfOk result (λ found. (number : ℤ) → found ≡ Some number
-            → ¬ AllByRecursion (λ row. is_between (first_number 1) (last_number 9999) row ≡ true)
+            → HasRowOutside (λ row. is_between (first_number 1) (last_number 9999) row ≡ true) 0 number
             ((state S.Store self.old).now.trees request_tree)) }
         ensures read { IsRead result (state S.Store self.old) (state S.Store self.new) }
     {
@@ -145,7 +145,7 @@ impl<S: Alter> SqlTables<S> {
             ((state S.Store self.old).now.trees (set_tree layout)))) }
         ensures some { IsTrue (state S.Store self.new).is_open
             → IfOk result (λ found. InStore (state S.Store self.old).now (λ layout. (number : ℤ) → found ≡ Some number
-            → ¬ AllByRecursion (λ row. is_between (first_set 1) (last_set 9999) row ≡ true)
+            → HasRowOutside (λ row. is_between (first_set 1) (last_set 9999) row ≡ true) 0 number
             ((state S.Store self.old).now.trees (set_tree layout)))) }
         ensures read { IsRead result (state S.Store self.old) (state S.Store self.new) }
     {
@@ -179,7 +179,7 @@ impl<S: Alter> SqlTables<S> {
             → AllByRecursion (IsRegisteredWithin 9999) ((state S.Store self.old).now.trees object_tree)) }
         ensures some { IsTrue (state S.Store self.new).is_open
             → IfOk result (λ found. (number : ℤ) → found ≡ Some number
-            → ¬ AllByRecursion (IsRegisteredWithin 9999) ((state S.Store self.old).now.trees object_tree)) }
+            → HasRowOutside (IsRegisteredWithin 9999) 2 number ((state S.Store self.old).now.trees object_tree)) }
         ensures read { IsRead result (state S.Store self.old) (state S.Store self.new) }
     {
         object_outside(&mut self.connection)
@@ -211,7 +211,7 @@ impl<S: Alter> SqlTables<S> {
             ((state S.Store self.old).now.trees (reviewer_tree layout)))) }
         ensures some { IsTrue (state S.Store self.new).is_open
             → IfOk result (λ found. InStore (state S.Store self.old).now (λ layout. (number : ℤ) → found ≡ Some number
-            → ¬ AllByRecursion (HasNumberBetween 1 (first_number 1) (last_number 9999))
+            → HasRowOutside (HasNumberBetween 1 (first_number 1) (last_number 9999)) 1 number
             ((state S.Store self.old).now.trees (reviewer_tree layout)))) }
         ensures read { IsRead result (state S.Store self.old) (state S.Store self.new) }
     {

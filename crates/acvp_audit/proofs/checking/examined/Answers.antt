@@ -1,9 +1,12 @@
-use Rattle.std.proofs.Common.{◌≡◌}
+use Rattle.std.proofs.Common.{◌≡◌, ◌∙◌, ℕ, ap}
 use Rattle.sqlite.specs.Held.{state}
-use Rattle.acvp_audit.specs.Checked.{AreFineTo}
+use Rattle.acvp_check.specs.declared.finding.Finding.{Finding}
+use Rattle.acvp_audit.specs.Checked.{AreFineBefore, AreFineTo}
 use Rattle.acvp_audit.specs.Wrong.{IsDamaged}
 use Rattle.acvp_audit.specs.declared.damage.AuditFault.TheVariants.{Wrong}
 use Rattle.acvp_audit.specs.declared.damage.Damage.{Damage}
+use Rattle.acvp_audit.specs.declared.damage.Damage.TheVariants.{Broken}
+use Rattle.acvp_audit.proofs.First.{first_judged, first_outside}
 use Rattle.acvp_audit.proofs.Reading.{blamed_more, earlier, told_more}
 use Rattle.acvp_audit.proofs.Refuted.{damaged_in, outside_in, refuted_by}
 use Rattle.acvp_audit.proofs.Whole.{is_whole}
@@ -36,3 +39,21 @@ returns-in-Ok-clause-wrong g c = λ live.
     blamed_more c.all_judged.result _ _
     (λ fault told layout schema found is. refuted_by grades seeds layout old.now.trees found (λ inside. damaged_in grades seeds layout old.now.trees found (c.in-Ok.ensures.within live_mid layout schema inside)
     (earlier old mid (λ layout trees. (found : Damage) → fault ≡ Wrong found → IsDamaged grades seeds layout trees found) now_mid told layout schema inside found is))) (c.all_judged.ensures.wrong live)
+
+pub returns-in-Err-clause-first : goal.returns-in-Err-clause-first
+returns-in-Err-clause-first g c = λ live layout schema inside found is.
+    first_outside layout _ c.args.grades c.args.seeds.now found (c.in-Err.ensures.wrong live layout schema inside found is)
+    (λ t number same. c.in-Err.ensures.first live layout schema inside t number (is ∙ ap Wrong same))
+
+pub returns-in-Ok-clause-first : goal.returns-in-Ok-clause-first
+returns-in-Ok-clause-first g c = λ live.
+    let grades = c.args.grades in
+    let seeds = c.args.seeds.now in
+    let old = state g.S.Store c.args.tables.now in
+    let mid = state g.S.Store c.all_within.new.tables in
+    let live_mid = c.all_judged.ensures.read.stays.was_open live in
+    let now_mid = c.in-Ok.ensures.read.stays.now live_mid in
+    blamed_more c.all_judged.result _ _
+    (λ fault told layout schema inside found is. first_judged layout old.now.trees grades seeds found (c.in-Ok.ensures.within live_mid layout schema inside)
+    (λ u broken same. earlier old mid (λ layout trees. (u : ℕ) (found : Finding) → fault ≡ Wrong (Broken u found) → AreFineBefore grades seeds layout trees u) now_mid told layout schema inside u broken (is ∙ ap Wrong same)))
+    (c.all_judged.ensures.first live)

@@ -3,9 +3,9 @@ use Rattle.std.specs.List.{AllByRecursion}
 use Rattle.sqlite.specs.Held.{state}
 use Rattle.acvp_store.specs.Stands.{object_tree}
 use Rattle.acvp_store.proofs.FoundRow.{read_as}
-use Rattle.acvp_store.proofs.ObjectRanges.{objects_typed, is_elsewhere, objects_outside, objects_inside, Within, all_within, none_elsewhere}
+use Rattle.acvp_store.proofs.ObjectRanges.{objects_typed, is_elsewhere, objects_outside, object_told, Within, all_within}
 use Rattle.acvp_store.proofs.QueryLeaves.{clean_if_open, read}
-use Rattle.acvp_store.proofs.RangeOutside.{none_left_told, some_left_told}
+use Rattle.acvp_store.proofs.RangeOutside.{none_left_told, led_told}
 use Rattle.acvp_store.proofs.RangeTexts.{outside_objects, outside_objects_ask}
 use Rattle.acvp_store.proofs.object_ranges.object_outside.Goals as goal
 
@@ -33,7 +33,5 @@ returns-clause-some g c live =
     let new = state g.S.Store c.query_all.new.self in
     let clean = clean_if_open new.is_clean new.is_open (g.met.S.Store.shut_if_dirty c.query_all.new.self.store) live in
     let was = (returns-clause-read g c).stays.was_open live in
-    let table = old.now.trees object_tree in
-    some_left_told is_elsewhere table (λ v. v.items) (AllByRecursion Within table) c.query_all.result c.number_in.result c.number_in.ensures.ok c.number_in.ensures.some
-    (IfOk-weaker c.query_all.result _ _ (λ rows shown. objects_inside (c.requires was).schema.0 old new rows.items (c.requires was).schema.1 shown) (c.query_all.ensures.ok clean))
-    (none_elsewhere table)
+    led_told _ (λ v. v.items) c.query_all.result c.number_in.result c.number_in.ensures.ok c.number_in.ensures.some
+    (IfOk-weaker c.query_all.result _ _ (λ rows shown. object_told (c.requires was).schema.0 old new rows.items (c.requires was).schema.1 shown) (c.query_all.ensures.ok clean))

@@ -3,8 +3,8 @@ use Rattle.sqlite.specs.Held.{state}
 use Rattle.acvp_store.specs.Rows.{account_tree}
 use Rattle.acvp_store.proofs.FoundRow.{read_as}
 use Rattle.acvp_store.proofs.QueryLeaves.{clean_if_open, read}
-use Rattle.acvp_store.proofs.RangeColumns.{accounts_inside, accounts_outside}
-use Rattle.acvp_store.proofs.RangeOutside.{none_told, some_told}
+use Rattle.acvp_store.proofs.RangeColumns.{account_told, accounts_outside}
+use Rattle.acvp_store.proofs.RangeOutside.{none_told, led_told}
 use Rattle.acvp_store.proofs.RangeTexts.{outside_accounts, outside_accounts_ask}
 use Rattle.acvp_store.proofs.ranges.account_outside.Goals as goal
 
@@ -30,5 +30,5 @@ returns-clause-some g c live =
     let new = state g.S.Store c.query_all.new.self in
     let clean = clean_if_open new.is_clean new.is_open (g.met.S.Store.shut_if_dirty c.query_all.new.self.store) live in
     let was = (returns-clause-read g c).stays.was_open live in
-    some_told 1 9999 (old.now.trees account_tree) c.query_all.result (λ v. v.items) c.number_in.result c.number_in.ensures.ok c.number_in.ensures.some
-    (IfOk-weaker c.query_all.result _ _ (λ rows shown. accounts_inside (c.requires was).schema.0 old new rows.items (c.requires was).schema.1 shown) (c.query_all.ensures.ok clean))
+    led_told _ (λ v. v.items) c.query_all.result c.number_in.result c.number_in.ensures.ok c.number_in.ensures.some
+    (IfOk-weaker c.query_all.result _ _ (λ rows shown. account_told (c.requires was).schema.0 old new rows.items (c.requires was).schema.1 shown) (c.query_all.ensures.ok clean))

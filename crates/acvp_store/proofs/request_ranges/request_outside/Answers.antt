@@ -4,8 +4,8 @@ use Rattle.acvp_store.specs.Ranges.{first_number, last_number}
 use Rattle.acvp_store.specs.Stands.{request_tree}
 use Rattle.acvp_store.proofs.FoundRow.{read_as}
 use Rattle.acvp_store.proofs.QueryLeaves.{clean_if_open, read}
-use Rattle.acvp_store.proofs.RangeColumns.{requests_inside, requests_outside}
-use Rattle.acvp_store.proofs.RangeOutside.{none_told, some_told}
+use Rattle.acvp_store.proofs.RangeColumns.{request_told, requests_outside}
+use Rattle.acvp_store.proofs.RangeOutside.{none_told, led_told}
 use Rattle.acvp_store.proofs.RangeTexts.{outside_requests, outside_requests_ask}
 use Rattle.acvp_store.proofs.request_ranges.request_outside.Goals as goal
 
@@ -31,5 +31,5 @@ returns-clause-some g c live =
     let new = state g.S.Store c.query_all.new.self in
     let clean = clean_if_open new.is_clean new.is_open (g.met.S.Store.shut_if_dirty c.query_all.new.self.store) live in
     let was = (returns-clause-read g c).stays.was_open live in
-    some_told (first_number 1) (last_number 9999) (old.now.trees request_tree) c.query_all.result (λ v. v.items) c.number_in.result c.number_in.ensures.ok c.number_in.ensures.some
-    (IfOk-weaker c.query_all.result _ _ (λ rows shown. requests_inside (c.requires was).schema.0 old new rows.items (c.requires was).schema.1 shown) (c.query_all.ensures.ok clean))
+    led_told _ (λ v. v.items) c.query_all.result c.number_in.result c.number_in.ensures.ok c.number_in.ensures.some
+    (IfOk-weaker c.query_all.result _ _ (λ rows shown. request_told (c.requires was).schema.0 old new rows.items (c.requires was).schema.1 shown) (c.query_all.ensures.ok clean))

@@ -4,9 +4,9 @@ use Rattle.sqlite.specs.Held.{state}
 use Rattle.acvp_store.specs.Stands.{reviewer_tree}
 use Rattle.acvp_store.proofs.FoundRow.{in_store, read_as}
 use Rattle.acvp_store.proofs.QueryLeaves.{clean_if_open, read}
-use Rattle.acvp_store.proofs.RangeOutside.{none_left_told, some_left_told}
+use Rattle.acvp_store.proofs.RangeOutside.{none_left_told, led_told}
 use Rattle.acvp_store.proofs.RangeTexts.{outside_reviewers, outside_reviewers_ask}
-use Rattle.acvp_store.proofs.ReviewerRanges.{reviewers_typed, is_elsewhere, reviewers_outside, reviewers_inside, Within, all_within, none_elsewhere}
+use Rattle.acvp_store.proofs.ReviewerRanges.{reviewers_typed, is_elsewhere, reviewers_outside, reviewer_told, Within, all_within}
 use Rattle.acvp_store.proofs.reviewer_ranges.reviewer_outside.Goals as goal
 
 pub returns-clause-read : goal.returns-clause-read
@@ -34,7 +34,5 @@ returns-clause-some g c live =
     let new = state g.S.Store c.query_all.new.self in
     let clean = clean_if_open new.is_clean new.is_open (g.met.S.Store.shut_if_dirty c.query_all.new.self.store) live in
     in_store c.number_in.result old.now _ (λ layout schema.
-    let table = old.now.trees (reviewer_tree layout) in
-    some_left_told is_elsewhere table (λ v. v.items) (AllByRecursion Within table) c.query_all.result c.number_in.result c.number_in.ensures.ok c.number_in.ensures.some
-    (IfOk-weaker c.query_all.result _ _ (λ rows shown. reviewers_inside layout old new rows.items schema shown) (c.query_all.ensures.ok clean))
-    (none_elsewhere table))
+    led_told _ (λ v. v.items) c.query_all.result c.number_in.result c.number_in.ensures.ok c.number_in.ensures.some
+    (IfOk-weaker c.query_all.result _ _ (λ rows shown. reviewer_told layout old new rows.items schema shown) (c.query_all.ensures.ok clean)))

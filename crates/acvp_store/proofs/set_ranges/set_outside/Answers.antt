@@ -4,9 +4,9 @@ use Rattle.acvp_store.specs.Ranges.{first_set, last_set}
 use Rattle.acvp_store.specs.Stands.{set_tree}
 use Rattle.acvp_store.proofs.FoundRow.{in_store, read_as}
 use Rattle.acvp_store.proofs.QueryLeaves.{clean_if_open, read}
-use Rattle.acvp_store.proofs.RangeOutside.{none_told, some_told}
+use Rattle.acvp_store.proofs.RangeOutside.{none_told, led_told}
 use Rattle.acvp_store.proofs.RangeTexts.{outside_sets, outside_sets_ask}
-use Rattle.acvp_store.proofs.SetRanges.{sets_inside, sets_outside}
+use Rattle.acvp_store.proofs.SetRanges.{set_told, sets_outside}
 use Rattle.acvp_store.proofs.set_ranges.set_outside.Goals as goal
 
 pub returns-clause-read : goal.returns-clause-read
@@ -31,5 +31,5 @@ returns-clause-some g c live =
     let new = state g.S.Store c.query_all.new.self in
     let clean = clean_if_open new.is_clean new.is_open (g.met.S.Store.shut_if_dirty c.query_all.new.self.store) live in
     in_store c.number_in.result old.now _ (λ layout schema.
-    some_told (first_set 1) (last_set 9999) (old.now.trees (set_tree layout)) c.query_all.result (λ v. v.items) c.number_in.result c.number_in.ensures.ok c.number_in.ensures.some
-    (IfOk-weaker c.query_all.result _ _ (λ rows shown. sets_inside layout old new rows.items schema shown) (c.query_all.ensures.ok clean)))
+    led_told _ (λ v. v.items) c.query_all.result c.number_in.result c.number_in.ensures.ok c.number_in.ensures.some
+    (IfOk-weaker c.query_all.result _ _ (λ rows shown. set_told layout old new rows.items schema shown) (c.query_all.ensures.ok clean)))
