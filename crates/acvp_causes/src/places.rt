@@ -1,7 +1,10 @@
 //! What can be seen at a database's files afterwards. They are looked at once more, and nothing is written.
-ghost use Rattle.std.specs.Prelude.{◌≡◌};
+ghost use Rattle.std.specs.Prelude.{◌≡◌, ◌≢◌, ◌↔◌, IfErr, IfOk, Some, false, nat_lt};
 ghost use Rattle.std.specs.IoError.{error_kind};
-ghost use Rattle.acvp_causes.specs.Causes.{cause_of_error};
+ghost use Rattle.std.specs.Fs.{IsFile, file_type};
+ghost use Rattle.acvp_causes.specs.Causes.{cause_of_error, cause_of_length};
+ghost use Rattle.acvp_causes.specs.Folders.{folder_of};
+ghost use Rattle.acvp_causes.specs.Pages.{bytes_told};
 
 use crate::begins::{begin_of, is_foreign};
 use crate::cause::{Because, Cause};
@@ -23,17 +26,33 @@ pub const EMPTY_LOG: u64 = 41;
 /// How much memory is asked for, where it is to be seen whether there is any.
 const TRIED_BYTES: usize = 16777216;
 
-/// Whether a log holds something.
-pub fn holds_any(rt: &HostRuntime, log: &str) -> io::Result<bool> {
-    match fs::metadata(rt, log) {
-        Ok(there) => Ok(there.len() > EMPTY_LOG),
+/// Whether a log of this length holds something. Where there is no log, nothing is held.
+fn length_holds_any(length: io::Result<u64>) -> io::Result<bool>
+    ensures there { IfOk length (λ bytes. result ≡ Ok (nat_lt EMPTY_LOG bytes)) }
+    ensures absent { IfErr length (λ error. error_kind error ≡ ErrorKind.NotFound → result ≡ Ok false) }
+    ensures refused { IfErr length (λ error. error_kind error ≢ ErrorKind.NotFound → result ≡ Err error) }
+{
+    match length {
+        Ok(bytes) => Ok(bytes > EMPTY_LOG),
         Err(error) if error.kind() == ErrorKind::NotFound => Ok(false),
         Err(error) => Err(error),
     }
 }
 
+/// Whether a log holds something. That there is none is no error.
+pub fn holds_any(rt: &HostRuntime, log: &str) -> io::Result<bool>
+    ensures { IfErr result (λ error. error_kind error ≢ ErrorKind.NotFound) }
+{
+    length_holds_any(match fs::metadata(rt, log) {
+        Ok(there) => Ok(there.len()),
+        Err(error) => Err(error),
+    })
+}
+
 /// The folder of a path.
-pub fn folder_of(path: &str) -> &str {
+pub fn folder_of(path: &str) -> &str
+    ensures { result.now ≡ folder_of path.now }
+{
     match path.rsplit_once('/') {
         Some(("", _)) => "/",
         Some((folder, _)) => folder,
@@ -52,7 +71,9 @@ pub fn cause_of_error(error: io::Error) -> Cause
 }
 
 /// What can't be of a file that a database is in.
-fn cause_of_place(there: &Metadata) -> Option<Cause> {
+fn cause_of_place(there: &Metadata) -> Option<Cause>
+    ensures { (result ≡ Some Cause.NoFile) ↔ ¬ IsFile (file_type there.now) }
+{
     if !there.is_file() {
         Some(Cause::NoFile)
     } else if there.nlink() != 1 {
@@ -123,6 +144,16 @@ fn cause_of_log(rt: &HostRuntime, path: &str) -> Option<Cause> {
     }
 }
 
+/// What is wrong with the length of a file that begins so.
+fn cause_of_length(length: u64, header: &[u8; HEADER]) -> Option<Cause>
+    ensures { result ≡ cause_of_length length (bytes_told header.now) }
+{
+    match bytes_told(header) {
+        Some(told) if length < told => Some(Cause::Cut(length, told)),
+        _ => None,
+    }
+}
+
 /// What is wrong with a file whose log holds nothing, as its first bytes and its length tell.
 fn cause_of_content(rt: &HostRuntime, path: &str) -> Option<Cause> {
     if has_log(rt, path) {
@@ -137,10 +168,7 @@ fn cause_of_content(rt: &HostRuntime, path: &str) -> Option<Cause> {
         Err(error) => return Some(cause_of_error(error)),
     };
     match begin_of(rt, path, &mut header) {
-        Ok(HEADER) => match bytes_told(&header) {
-            Some(told) if length < told => Some(Cause::Cut(length, told)),
-            _ => None,
-        },
+        Ok(HEADER) => cause_of_length(length, &header),
         Ok(0) => None,
         Ok(_) => Some(Cause::Foreign),
         Err(error) => Some(Cause::Refused(error)),

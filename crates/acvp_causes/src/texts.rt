@@ -138,7 +138,8 @@ fn first_fault(text: &[u8], most: usize) -> Option<TextFault> {
 /// What is wrong with a text of so many lines of digits.
 fn plain_fault(text: &[u8], wanted: usize) -> TextFault
     ensures ends { IfSome (ends_fault text.now) (λ fault. result ≡ fault) }
-    ensures lines { ends_fault text.now ≡ None → line_count text.now ≢ wanted → result ≡ Lines (line_count text.now) wanted }
+    ensures lines { ends_fault text.now ≡ None → line_count text.now ≢ wanted
+        → result ≡ Lines (line_count text.now) wanted }
 {
     if let Some(fault) = ends_fault(text) {
         return fault;

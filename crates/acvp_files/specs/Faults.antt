@@ -3,9 +3,11 @@ use Rattle.std.specs.declared.io.ErrorKind.{ErrorKind}
 use Rattle.std.specs.declared.io.ErrorKind.TheVariants as kind
 use Rattle.sqlite.specs.declared.error.Error.{Error}
 use Rattle.sqlite.specs.declared.error.Error.TheVariants.{SqliteFailure}
-use Rattle.sqlite.specs.declared.error.ErrorCode.TheVariants.{OutOfMemory}
+use Rattle.sqlite.specs.declared.error.ErrorCode.TheVariants.{DatabaseBusy, OutOfMemory}
 use Rattle.acvp_store.specs.declared.fault.AdoptFault.{AdoptFault}
 use Rattle.acvp_store.specs.declared.fault.AdoptFault.TheVariants as adopted
+use Rattle.acvp_files.specs.declared.connection.Unopened.{Unopened}
+use Rattle.acvp_files.specs.declared.connection.Unopened.TheVariants.{Failed, Taken}
 use Rattle.acvp_files.specs.declared.fault.FileFault.{FileFault}
 use Rattle.acvp_files.specs.declared.fault.FileFault.TheVariants.{Memory, Schema, Unavailable}
 
@@ -13,6 +15,11 @@ use Rattle.acvp_files.specs.declared.fault.FileFault.TheVariants.{Memory, Schema
 abbrev pub fault_of_open : Error → FileFault
 fault_of_open (SqliteFailure OutOfMemory) = Memory
 fault_of_open _ = Unavailable
+
+-- a database that is busy is another process's
+abbrev pub why_unopened : Error → Unopened
+why_unopened (SqliteFailure DatabaseBusy) = Taken
+why_unopened error = Failed (fault_of_open error)
 
 -- only tables that are others are a fault of the schema
 abbrev pub fault_of_adopt : AdoptFault → FileFault

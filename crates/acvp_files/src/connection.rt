@@ -1,8 +1,14 @@
 //! Connections to the database in a file.
-ghost use Rattle.std.specs.Prelude.{◌≡◌, IfSome};
+ghost use Rattle.std.specs.Prelude.{◌≡◌, IfNone, IfOk, IfSome, IsErr, codes};
+ghost use Rattle.std.specs.Result.{result_ok};
 ghost use Rattle.sqlite.specs.Closing.{IsCopied};
+ghost use Rattle.sqlite.specs.Files.{IsClosed, file_state};
+ghost use Rattle.sqlite.specs.Held.{IsNew};
+ghost use Rattle.sqlite.specs.Start.{FindsIn};
+ghost use Rattle.sqlite.specs.State.{HasCleanDisk};
+ghost use Rattle.sqlite_wal.specs.Files.{image_at};
 ghost use Rattle.sqlite_wal.specs.Reads.{AreClean};
-ghost use Rattle.acvp_files.specs.Faults.{fault_of_open};
+ghost use Rattle.acvp_files.specs.Faults.{fault_of_open, why_unopened};
 
 use crate::fault::{FileFault, refused};
 use crate::privacy::{has_no_log, make_private};
@@ -35,7 +41,9 @@ pub enum Unopened {
 }
 
 /// Why a database can't be opened.
-fn why_unopened(error: Error) -> Unopened {
+fn why_unopened(error: Error) -> Unopened
+    ensures { result ≡ why_unopened error }
+{
     if matches!(error, Error::SqliteFailure(ErrorCode::DatabaseBusy)) {
         return Unopened::Taken;
     }
@@ -43,11 +51,11 @@ fn why_unopened(error: Error) -> Unopened {
 }
 
 /// A connection to the database in a file, which is made where there is none.
-fn connect<S: Start>(
-    rt: &HostRuntime,
-    path: &str,
-    start: S,
-) -> Result<FileConnection<S>, Unopened> {
+fn connect<S: Start>(rt: &HostRuntime, path: &str, start: S) -> Result<FileConnection<S>, Unopened>
+    ensures memory { path.now ≡ codes ":memory:" → IsErr result }
+    ensures fresh { IfOk result IsNew }
+    ensures found { IfOk result (λ c. HasCleanDisk (file_state c) → FindsIn (image_at S.Start) (file_state c)) }
+{
     match Connection::open_from(rt, path, false, start) {
         Ok(connection) => Ok(connection),
         Err((error, _)) => Err(why_unopened(error)),
@@ -60,7 +68,11 @@ fn connect_known<S: Start>(
     rt: &HostRuntime,
     path: &str,
     start: S,
-) -> Result<FileConnection<S>, Unopened> {
+) -> Result<FileConnection<S>, Unopened>
+    ensures memory { path.now ≡ codes ":memory:" → IsErr result }
+    ensures fresh { IfOk result IsNew }
+    ensures found { IfOk result (λ c. HasCleanDisk (file_state c) → FindsIn (image_at S.Start) (file_state c)) }
+{
     if has_no_log(rt, path) && is_foreign(rt, path) {
         return Err(Unopened::Failed(FileFault::Unavailable));
     }
@@ -72,7 +84,11 @@ pub fn connect_new<S: Start>(
     rt: &HostRuntime,
     path: &str,
     start: S,
-) -> Result<FileConnection<S>, Unopened> {
+) -> Result<FileConnection<S>, Unopened>
+    ensures memory { path.now ≡ codes ":memory:" → IsErr result }
+    ensures fresh { IfOk result IsNew }
+    ensures found { IfOk result (λ c. HasCleanDisk (file_state c) → FindsIn (image_at S.Start) (file_state c)) }
+{
     if path != ":memory:" {
         make_private(rt, path);
     }
@@ -84,7 +100,11 @@ pub fn connect_existing<S: Start>(
     rt: &HostRuntime,
     path: &str,
     start: S,
-) -> Result<FileConnection<S>, Unopened> {
+) -> Result<FileConnection<S>, Unopened>
+    ensures memory { path.now ≡ codes ":memory:" → IsErr result }
+    ensures fresh { IfOk result IsNew }
+    ensures found { IfOk result (λ c. HasCleanDisk (file_state c) → FindsIn (image_at S.Start) (file_state c)) }
+{
     match fs::exists(rt, path) {
         Ok(true) => connect_known(rt, path, start),
         Ok(false) => Err(Unopened::Failed(FileFault::Unavailable)),
@@ -92,19 +112,27 @@ pub fn connect_existing<S: Start>(
     }
 }
 
-/// Copies what the log beside the file holds into the file, and hands both back: what was committed is in the file
-/// then, as it reads and as a crash leaves it. Nothing where that fails: what was committed is kept also then, the log
-/// stays, and the next command reads it.
-pub(crate) fn copied<D: Disk + Drop>(connection: Connection<FileStore<D>>) -> Option<Files<D>>
-    ensures { IfSome result (λ files. AreClean D.Disk files.log files.db → IsCopied connection files) }
+/// The files that a close has handed back. None where it failed: its store is given up.
+fn files_of<D: Disk + Drop>(closed: Result<Files<D>, (Error, FileStore<D>)>) -> Option<Files<D>>
+    ensures { result ≡ result_ok closed }
 {
-    match connection.close_files() {
+    match closed {
         Ok(files) => Some(files),
         Err((_, store)) => {
             drop(store.close());
             None
         }
     }
+}
+
+/// Copies what the log beside the file holds into the file, and hands both back: what was committed is in the file
+/// then, as it reads and as a crash leaves it. Nothing where that fails: what was committed is kept also then, the log
+/// stays, and the next command reads it.
+pub(crate) fn copied<D: Disk + Drop>(connection: Connection<FileStore<D>>) -> Option<Files<D>>
+    ensures copied { IfSome result (λ files. AreClean D.Disk files.log files.db → IsCopied connection files) }
+    ensures kept { IfNone result ((last : _) × IsClosed connection last) }
+{
+    files_of(connection.close_files())
 }
 
 /// Closes the file and the log beside it, once the one is copied into the other.

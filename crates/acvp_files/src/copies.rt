@@ -1,7 +1,12 @@
 //! Whole copies of a database: a backup, also while it is served, and the way back from one.
 //!
 //! A database is a file and the log beside it. Pages only go from the log to the file, and the log tells by its header
-//! when it was emptied. So the file and then the log are a whole copy, wherever the header is the same before and after.
+//! when it was emptied. So the file and then the log are a whole copy, wherever the header is the same before and
+//! after.
+ghost use Rattle.std.specs.Prelude.{◌≡◌, IfErr, IfOk};
+ghost use Rattle.std.specs.IoError.{error_kind};
+ghost use Rattle.acvp_files.specs.Faults.{fault_of_kind};
+
 use crate::connection::{FileConnection, Unopened, connect_existing, copied};
 use crate::fault::{FileFault, refused};
 use acvp_causes::{folder_of, header_of, holds_any, is_database};
@@ -130,7 +135,10 @@ fn copy_pair(rt: &HostRuntime, from: &Pair, to: &Pair) -> io::Result<()> {
 }
 
 /// What an answer of the system comes to.
-fn done<T>(answer: io::Result<T>) -> Result<T, FileFault> {
+fn done<T>(answer: io::Result<T>) -> Result<T, FileFault>
+    ensures ok { IfOk answer (λ value. result ≡ Ok value) }
+    ensures err { IfErr answer (λ error. result ≡ Err (fault_of_kind (error_kind error))) }
+{
     match answer {
         Ok(value) => Ok(value),
         Err(error) => Err(refused(&error)),

@@ -1,4 +1,8 @@
 //! What a request carries, and what its reply tells.
+ghost use Rattle.std.specs.Prelude.{◌≡◌, IsNone, IsSome, Some};
+ghost use Rattle.acvp_log.specs.Lines.{named_command, named_number, word_asked};
+ghost use Rattle.acvp_log.specs.declared.line.Came.TheVariants.{Broken, Nothing};
+
 use crate::line::{Asked, Came, Refusal};
 use crate::rules::rule_named;
 use acvp_desk::Order;
@@ -101,7 +105,10 @@ pub(crate) fn given_account(alloc: Global, body: &[u8]) -> Option<u16> {
 }
 
 /// What came of a request that has no reply.
-pub(crate) fn came_unanswered(request: Option<&[u8]>) -> Came<Refusal> {
+pub(crate) fn came_unanswered(request: Option<&[u8]>) -> Came<Refusal>
+    ensures broken { IsNone request.entry → result ≡ Broken }
+    ensures unknown { IsSome request.entry → result ≡ Nothing }
+{
     match request {
         Some(_) => Came::Nothing,
         None => Came::Broken,
@@ -115,7 +122,10 @@ pub(crate) fn rule_in(alloc: Global, body: &[u8]) -> Option<Rule> {
 }
 
 /// The word of an order, and the number that it names.
-pub(crate) fn named_by(order: &Order) -> (Asked, Option<u64>) {
+pub(crate) fn named_by(order: &Order) -> (Asked, Option<u64>)
+    ensures word { word_asked result.0 ≡ Some (named_command order.now) }
+    ensures number { result.1 ≡ Some (named_number order.now) }
+{
     match *order {
         Order::AddAccount { account, secret: _ } => {
             (Asked::Order("account-add"), Some(u64::from(account)))

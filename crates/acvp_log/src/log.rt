@@ -1,5 +1,10 @@
 //! A line for each request and order that was served. It is worked out of the bytes that came and the bytes that were
 //! answered, and holds no other text than the program's own words and numbers.
+ghost use Rattle.std.specs.Prelude.{◌≡◌, ◌↔◌, false, IfOk, None, Some};
+ghost use Rattle.acvp_log.specs.Lines.{may_tell};
+ghost use Rattle.acvp_log.specs.Log.{IsBegunBy, moment_begun, order_begun};
+ghost use Rattle.acvp_log.specs.declared.line.Came.TheVariants.{Done};
+
 use crate::head::{
     came_unanswered, claimed_account, given_account, head_of, named_by, reply_of, rule_in,
 };
@@ -33,7 +38,9 @@ pub struct Log {
 
 impl Log {
     /// A log in which nothing is being served.
-    pub fn new(alloc: Global) -> Result<Log, AllocError> {
+    pub fn new(alloc: Global) -> Result<Log, AllocError>
+        ensures { IfOk result (λ log. order_begun log ≡ (None, None)) }
+    {
         Ok(Log {
             routes: Routes::new(alloc)?,
             begun: Begun {
@@ -45,7 +52,10 @@ impl Log {
     }
 
     /// A request is handed on, at this moment.
-    pub fn begin<C: Clock>(&mut self, clock: &C, moment: u64) {
+    pub fn begin<C: Clock>(&mut self, clock: &C, moment: u64)
+        ensures moment { moment_begun self.new ≡ moment }
+        ensures order { order_begun self.new ≡ (None, None) }
+    {
         self.begun = Begun {
             moment,
             since: Instant::now(clock).ok(),
@@ -54,7 +64,10 @@ impl Log {
     }
 
     /// A line that is to be an order is handed on, at this moment.
-    pub fn begin_order<C: Clock>(&mut self, clock: &C, moment: u64, line: &[u8]) {
+    pub fn begin_order<C: Clock>(&mut self, clock: &C, moment: u64, line: &[u8])
+        ensures moment { moment_begun self.new ≡ moment }
+        ensures order { IsBegunBy line.now (order_begun self.new) }
+    {
         self.begin(clock, moment);
         if let Some((_, order)) = order_in(line) {
             self.begun.order = named_by(&order);
@@ -97,7 +110,10 @@ impl Log {
     }
 
     /// What the line of a request tells that was answered so. Nothing came of a connection that broke.
-    fn entry_of(&self, alloc: Global, request: Option<&[u8]>, reply: &[u8]) -> Entry<Refusal> {
+    fn entry_of(&self, alloc: Global, request: Option<&[u8]>, reply: &[u8]) -> Entry<Refusal>
+        ensures account { may_tell result.came ≡ false → result.account ≡ None }
+        ensures done { (result.came ≡ Done) ↔ (result.number ≡ Some 200) }
+    {
         let (asked, token) = self.asked(request);
         let is_login = matches!(asked, Asked::Action(Action::Login));
         let mut entry = Entry {

@@ -1,5 +1,5 @@
 //! The rule that a refusal names, and what it tells of who has asked.
-ghost use Rattle.std.specs.Prelude.{◌≡◌, IfSome};
+ghost use Rattle.std.specs.Prelude.{◌≡◌, IfSome, Some};
 ghost use Rattle.acvp_policy.specs.declared.rule.Rule.{Rule};
 ghost use Rattle.acvp_policy.specs.Rule.{rule_word};
 ghost use Rattle.acvp_log.specs.Rules.{is_behind_token};
@@ -59,7 +59,8 @@ const RULES: [Rule; 47] = [
 
 /// The rule of a word.
 pub(crate) fn rule_named(word: &str) -> Option<Rule>
-    ensures { IfSome result (λ rule. rule_word rule ≡ word.now) }
+    ensures word { IfSome result (λ rule. rule_word rule ≡ word.now) }
+    ensures each { (rule : Rule) → rule_word rule ≡ word.now → result ≡ Some rule }
 {
     for rule in RULES {
         if rule.word() == word {

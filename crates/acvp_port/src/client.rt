@@ -1,6 +1,15 @@
-//! One client of a port, or of the socket of orders: what it asks for comes, is served, and the answer goes out, without
-//! anybody waiting for it.
-ghost use Rattle.std.specs.Prelude.{◌≤◌, IfOk, length};
+//! One client of a port, or of the socket of orders: what it asks for comes, is served, and the answer goes out,
+//! without anybody waiting for it.
+ghost use Rattle.std.specs.Prelude.{◌≡◌, ◌≢◌, ◌↔◌, [], IfErr, IfOk, IsErr, IsOk, IsTrue, None, OnErr, Some};
+ghost use Rattle.std.specs.Prelude.{option_copied, take, unwrap_or};
+ghost use Rattle.std.specs.IoError.{error_kind};
+ghost use Rattle.std.specs.Io.{ReadsAtMost};
+ghost use Rattle.std.specs.Io.KnownBytes.{ReadConsumes};
+ghost use Rattle.acvp_port.specs.Errand.{IsUnanswered, asked_of, bytes_asked};
+ghost use Rattle.acvp_port.specs.Incoming.{bytes_of, bytes_left};
+ghost use Rattle.acvp_port.specs.Stage.{bytes_coming, is_coming, is_ended};
+ghost use Rattle.acvp_port.specs.declared.client.Stage.TheVariants.{Going};
+ghost use Rattle.acvp_port.specs.Outgoing.{Notes, Takes, kept_front, waiting};
 
 use acvp_http::{HEAD_BYTES, needed_bytes};
 use mio::net::{TcpStream, UnixStream};
@@ -215,7 +224,9 @@ pub enum Incoming {
 
 impl Incoming {
     /// All the bytes that came, also those that were read; none of a connection that is broken.
-    pub fn bytes(&self) -> Option<&[u8]> {
+    pub fn bytes(&self) -> Option<&[u8]>
+        ensures { option_copied result ≡ bytes_of self.now }
+    {
         match self {
             Incoming::Bytes(bytes) => Some(bytes.get_ref().as_slice()),
             Incoming::Broken => None,
@@ -224,7 +235,14 @@ impl Incoming {
 }
 
 impl Read for Incoming {
-    fn read(&mut self, buf: &mut [u8]) -> io::Result<usize> {
+    ghost remaining = { bytes_left };
+
+    fn read(&mut self, buf: &mut [u8]) -> io::Result<usize>
+        ensures bound { ReadsAtMost result buf.new }
+        ensures bytes { ReadConsumes (bytes_left self.old) (bytes_left self.new) result buf.new }
+        ensures came { bytes_of self.new ≡ bytes_of self.old }
+        ensures fails { IsErr result ↔ (bytes_of self.old ≡ None) }
+    {
         match self {
             Incoming::Bytes(bytes) => bytes.read(buf),
             Incoming::Broken => Err(ErrorKind::ConnectionReset.into()),
@@ -233,7 +251,9 @@ impl Read for Incoming {
 }
 
 /// What came of a client at a stage.
-fn came(alloc: Global, stage: Stage) -> Vec<u8> {
+fn came(alloc: Global, stage: Stage) -> Vec<u8>
+    ensures { result.items ≡ bytes_coming stage }
+{
     match stage {
         Stage::Coming(bytes, _needed) => bytes,
         Stage::Going(_reply, _gone) => Vec::new(alloc),
@@ -253,12 +273,17 @@ pub struct Outgoing {
 
 impl Outgoing {
     /// Has the first bytes of the answer kept.
-    pub fn keep_front(&mut self, alloc: Global) {
+    pub fn keep_front(&mut self, alloc: Global)
+        ensures front { kept_front self.new ≡ Some [] }
+        ensures waiting { waiting self.new ≡ waiting self.old }
+    {
         self.front = Some(Vec::new(alloc));
     }
 
     /// The first bytes of the answer, where they are kept.
-    pub fn front(&self) -> &[u8] {
+    pub fn front(&self) -> &[u8]
+        ensures { result.now ≡ unwrap_or (kept_front self.now) [] }
+    {
         match &self.front {
             Some(front) => front.as_slice(),
             None => &[],
@@ -266,7 +291,10 @@ impl Outgoing {
     }
 
     /// Keeps of these bytes what belongs to the front.
-    fn note(&mut self, bytes: &[u8]) {
+    fn note(&mut self, bytes: &[u8])
+        ensures front { Notes self.old bytes.now self.new }
+        ensures waiting { waiting self.new ≡ waiting self.old }
+    {
         if let Some(front) = &mut self.front {
             let room = FRONT_BYTES.saturating_sub(front.len());
             let _ = front.extend_from_slice(bytes.get(..room).unwrap_or(bytes));
@@ -275,7 +303,10 @@ impl Outgoing {
 
     /// Takes as many of these bytes as the client does at once, or keeps them all.
     fn take(&mut self, buf: &[u8]) -> io::Result<usize>
-        ensures { IfOk result (λ count. count ≤ length buf.now) }
+        ensures taken { IfOk result (λ count. Takes self.old buf.now count self.new) }
+        ensures err { OnErr result (waiting self.new ≡ waiting self.old) }
+        ensures memory { waiting self.old ≢ [] → IfErr result (λ error. error_kind error ≡ ErrorKind.OutOfMemory) }
+        ensures front { kept_front self.new ≡ kept_front self.old }
     {
         let Outgoing {
             wire,
@@ -297,7 +328,13 @@ impl Outgoing {
 }
 
 impl Write for Outgoing {
-    fn write(&mut self, buf: &[u8]) -> io::Result<usize> {
+    fn write(&mut self, buf: &[u8]) -> io::Result<usize>
+        ensures taken { IfOk result (λ count. Takes self.old buf.now count self.new) }
+        ensures front { IfOk result (λ count. Notes self.old (take count buf.now) self.new) }
+        ensures memory { waiting self.old ≢ [] → IfErr result (λ error. error_kind error ≡ ErrorKind.OutOfMemory) }
+        ensures err_waiting { OnErr result (waiting self.new ≡ waiting self.old) }
+        ensures err_front { OnErr result (kept_front self.new ≡ kept_front self.old) }
+    {
         let count = self.take(buf)?;
         if self.front.is_some() {
             self.note(buf.get(..count).unwrap_or(buf));
@@ -305,7 +342,10 @@ impl Write for Outgoing {
         Ok(count)
     }
 
-    fn flush(&mut self) -> io::Result<()> {
+    fn flush(&mut self) -> io::Result<()>
+        ensures done { IsOk result }
+        ensures waiting { waiting self.new ≡ waiting self.old }
+    {
         Ok(())
     }
 }
@@ -317,7 +357,10 @@ pub enum Errand {
 }
 
 /// The same, where all that it asks for came, or its connection is broken.
-fn errand_of(alloc: Global, wire: Wire, bytes: Vec<u8>, whole: bool) -> Errand {
+fn errand_of(alloc: Global, wire: Wire, bytes: Vec<u8>, whole: bool) -> Errand
+    ensures asked { bytes_asked result ≡ asked_of wire bytes.items whole }
+    ensures unanswered { IsUnanswered result }
+{
     let rest = Vec::new(alloc);
     let front = None;
     match wire {
@@ -339,7 +382,11 @@ fn errand_of(alloc: Global, wire: Wire, bytes: Vec<u8>, whole: bool) -> Errand {
 
 impl Client {
     /// A client of which nothing came yet.
-    pub(crate) fn new(alloc: Global, wire: Wire) -> Client {
+    pub(crate) fn new(alloc: Global, wire: Wire) -> Client
+        ensures nothing { bytes_coming result.stage ≡ [] }
+        ensures coming { IsTrue (is_coming result.stage) }
+        ensures wire { result.wire ≡ wire }
+    {
         Client {
             wire,
             stage: Stage::Coming(Vec::new(alloc), None),
@@ -347,7 +394,9 @@ impl Client {
     }
 
     /// A client whose answer was written, but for what is kept of it.
-    pub(crate) fn answered(output: Outgoing) -> Client {
+    pub(crate) fn answered(output: Outgoing) -> Client
+        ensures { result.stage ≡ Going output.rest 0 }
+    {
         let Outgoing {
             wire,
             rest,
@@ -360,7 +409,10 @@ impl Client {
     }
 
     /// What a client asks for that is whole, or broken.
-    pub(crate) fn into_errand(self, alloc: Global, whole: bool) -> Errand {
+    pub(crate) fn into_errand(self, alloc: Global, whole: bool) -> Errand
+        ensures asked { bytes_asked result ≡ asked_of self.wire (bytes_coming self.stage) whole }
+        ensures unanswered { IsUnanswered result }
+    {
         let Client { wire, stage } = self;
         errand_of(alloc, wire, came(alloc, stage), whole)
     }
@@ -377,12 +429,16 @@ impl Client {
     }
 
     /// Whether its answer is out.
-    pub(crate) fn is_ended(&self) -> bool {
+    pub(crate) fn is_ended(&self) -> bool
+        ensures { result ≡ is_ended self.now.stage }
+    {
         matches!(self.stage, Stage::Ended(_))
     }
 
     /// Whether what it asks for still comes.
-    pub(crate) fn is_coming(&self) -> bool {
+    pub(crate) fn is_coming(&self) -> bool
+        ensures { result ≡ is_coming self.now.stage }
+    {
         matches!(self.stage, Stage::Coming(_, _))
     }
 

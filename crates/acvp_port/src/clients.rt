@@ -1,4 +1,7 @@
 //! The clients that are there at once, and how long each is waited for.
+ghost use Rattle.std.specs.Prelude.{◌≡◌, ◌<◌, ◌≤◌, ◌↔◌, ℕ, IfNone, IfSome, IsTrue};
+ghost use Rattle.acvp_port.specs.Clients.{IsFree};
+
 use crate::client::{Client, Next};
 use mio::Poll;
 use std::alloc::{AllocError, Global};
@@ -108,18 +111,41 @@ impl Clients {
     }
 
     /// Whether there is no client at a place.
-    fn is_free(&self, place: usize) -> bool {
+    fn is_free(&self, place: usize) -> bool
+        ensures { IsTrue result ↔ IsFree self.now place }
+    {
         matches!(self.visits.get(place), Some(None))
     }
 
-    /// A place for a new connection to the port, where one is free.
-    pub(crate) fn place_for_request(&self) -> Option<usize> {
-        (0..MOST_CONNECTIONS).find(|place| self.is_free(*place))
+    /// The first free place of those from one on that are before another.
+    fn free_place(&self, from: usize, end: usize) -> Option<usize>
+        ensures some { IfSome result (λ place. (from ≤ place) × (place < end) × IsFree self.now place) }
+        ensures none { IfNone result ((place : ℕ) → from ≤ place → place < end → ¬ IsFree self.now place) }
+    {
+        for place in from..end {
+            if self.is_free(place) {
+                return Some(place);
+            }
+        }
+        None
     }
 
-    /// A place for somebody who gives an order, where one is free.
-    pub(crate) fn place_for_order(&self) -> Option<usize> {
-        (MOST_CONNECTIONS..MOST_CLIENTS).find(|place| self.is_free(*place))
+    /// A place for a new connection to the port, where one is free.
+    pub(crate) fn place_for_request(&self) -> Option<usize>
+        ensures some { IfSome result (λ place. (place < MOST_CONNECTIONS) × IsFree self.now place) }
+        ensures none { IfNone result ((place : ℕ) → place < MOST_CONNECTIONS → ¬ IsFree self.now place) }
+    {
+        self.free_place(0, MOST_CONNECTIONS)
+    }
+
+    /// A place for somebody who gives an order, where one is free: connections to the port never have these.
+    pub(crate) fn place_for_order(&self) -> Option<usize>
+        ensures some { IfSome result (λ place.
+            (MOST_CONNECTIONS ≤ place) × (place < MOST_CLIENTS) × IsFree self.now place) }
+        ensures none { IfNone result ((place : ℕ) →
+            MOST_CONNECTIONS ≤ place → place < MOST_CLIENTS → ¬ IsFree self.now place) }
+    {
+        self.free_place(MOST_CONNECTIONS, MOST_CLIENTS)
     }
 
     /// Puts a visitor at a place.

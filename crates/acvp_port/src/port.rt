@@ -1,4 +1,7 @@
 //! A port of this machine and the socket of orders, with many clients at once.
+ghost use Rattle.std.specs.Prelude.{IfSome};
+ghost use Rattle.acvp_port.specs.Errand.{IsUnanswered};
+
 use crate::client::{Client, Errand, Next, Outgoing, Wire};
 use crate::clients::{Clients, MOST_CLIENTS, Visit, is_over, time_of};
 use crate::socket::{FileNumber, close_socket, open_socket};
@@ -295,7 +298,9 @@ impl<'a, R: Clock + Eprint + Files> Port<'a, R> {
     }
 
     /// What asks to be served next; none where nothing can be taken any more.
-    pub fn next(&mut self) -> Option<Errand> {
+    pub fn next(&mut self) -> Option<Errand>
+        ensures { IfSome result IsUnanswered }
+    {
         for _ in 0..u64::MAX {
             if let Some((client, whole)) = self.next_client() {
                 self.unlooked = self.unlooked.saturating_add(1);

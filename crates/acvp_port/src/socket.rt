@@ -1,4 +1,6 @@
 //! The socket beside a database: while it is served, orders are taken there. Each is a line, and so is its answer.
+ghost use Rattle.std.specs.Prelude.{◌≡◌, ◌≢◌, ◌++◌, ◌∷◌, [], ℕ, IfNone, IfOk, IfSome, IsUtf8, List, string_bytes};
+
 use mio::net::UnixListener;
 use std::alloc::{AllocError, Global};
 use std::fs::{self, Files, Permissions};
@@ -147,7 +149,10 @@ fn answer_at(net: &impl Net, path: &str, line: &[u8], answer: &mut [u8]) -> io::
 }
 
 /// The line of an answer, where it is one.
-fn answered_line(alloc: Global, answer: &[u8]) -> Result<Option<String>, AllocError> {
+fn answered_line(alloc: Global, answer: &[u8]) -> Result<Option<String>, AllocError>
+    ensures some { IfOk result (λ line. IfSome line (λ text. answer.now ≡ string_bytes text ++ 10 ∷ [])) }
+    ensures none { IfOk result (λ line. IfNone line ((text : List ℕ) → IsUtf8 text → answer.now ≢ text ++ 10 ∷ [])) }
+{
     let [line @ .., b'\n'] = answer else {
         return Ok(None);
     };

@@ -1,0 +1,15 @@
+-- The folder that a path leads into.
+use Rattle.std.specs.Prelude.{◌==◌, ℕ, Bool, List, [], codes, if◌then◌else◌}
+use Rattle.std.specs.List.{before_last, list_any}
+
+abbrev pub is_slash : ℕ → Bool
+is_slash byte = byte == 47
+
+-- nothing before a slash is the root
+abbrev pub or_root : List ℕ → List ℕ
+or_root [] = codes "/"
+or_root folder = folder
+
+-- what stands before the last slash, and without one the folder where the program runs
+abbrev pub folder_of : List ℕ → List ℕ
+folder_of path = if list_any is_slash path then or_root (before_last is_slash path) else codes "."

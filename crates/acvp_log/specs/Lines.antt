@@ -1,0 +1,35 @@
+-- What a line tells.
+use Rattle.std.specs.Prelude.{ℕ, List, Bool, true, false, Option, Some, None, codes}
+use Rattle.acvp_desk.specs.declared.order.Order.{Order}
+use Rattle.acvp_desk.specs.declared.order.Order.TheVariants as order
+use Rattle.acvp_log.specs.declared.line.Asked.{Asked}
+use Rattle.acvp_log.specs.declared.line.Asked.TheVariants as asked
+use Rattle.acvp_log.specs.declared.line.Came.{Came}
+use Rattle.acvp_log.specs.declared.line.Came.TheVariants.{Done, Refused}
+use Rattle.acvp_log.specs.declared.line.Refusal.{Refusal}
+use Rattle.acvp_log.specs.Rules.{is_behind_token}
+
+-- the order, by the command that gives it
+abbrev pub named_command : Order → List ℕ
+named_command (order.AddAccount account secret) = codes "account-add"
+named_command (order.DisableAccount account) = codes "account-disable"
+named_command (order.ApproveRequest request) = codes "request-approve"
+named_command (order.RejectRequest request) = codes "request-reject"
+
+-- the number of the account, or of the request, that it names
+abbrev pub named_number : Order → ℕ
+named_number (order.AddAccount account secret) = account
+named_number (order.DisableAccount account) = account
+named_number (order.ApproveRequest request) = request
+named_number (order.RejectRequest request) = request
+
+-- the word of what was asked for, where that is an order
+abbrev pub word_asked : Asked → Option (List ℕ)
+word_asked (asked.Order word) = Some word.now
+word_asked _ = None
+
+-- whose token it was may be told: the token was found to be good
+abbrev pub may_tell : Came Refusal → Bool
+may_tell Done = true
+may_tell (Refused refusal) = is_behind_token refusal.0
+may_tell _ = false

@@ -1,0 +1,5 @@
+pub mod Clients
+pub mod Errand
+pub mod Incoming
+pub mod Outgoing
+pub mod Stage
