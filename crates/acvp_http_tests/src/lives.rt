@@ -1,12 +1,14 @@
 //! A life of a file: three runs over tables of schema 1 that were moved, with a stop behind each event. A token key is
 //! added before the second run, and a seed before the third. What each stop leaves has the rows that a life without a
-//! stop has after the same events, and what is put out is the same, byte for byte; so it is again from a backup.
+//! stop has after the same events, and what is put out is the same, byte for byte. So it is where a backup of the first
+//! run takes the place of what the second has left: the third is then that of a life without a second.
 
 use crate::cases::asked::push;
 use crate::disks::{Held, MemoryFile, Stop, abandoned, disks, left_by_a_crash, opened};
 use crate::stops::{RunKeys, Script, Work, acknowledges, after, happens, looked_at};
 use acvp_store_tests::earlier_schemas::FIRST_SCHEMA;
 use std::alloc::Global;
+use std::ops::Range;
 use std::process::Abort;
 
 /// The events, each a script under the keys of its run.
@@ -74,7 +76,7 @@ const EVENTS: &[(RunKeys, &[u8])] = &[
     (RunKeys::WithSecondSeed, b"account-disable 71 7\n"),
 ];
 
-/// Where each run ends among them. A backup is taken where the first does.
+/// Where each run ends among them.
 const ENDS: [usize; 3] = [4, 8, 14];
 
 /// What an event puts out, and the rows behind it.
@@ -122,15 +124,24 @@ fn tells(
     (connection, told)
 }
 
-/// What the move of the tables and each event put out, and the rows behind each, over one connection.
-fn without_stops(rt: &impl Abort, alloc: Global) -> Vec<Told> {
+/// What the move of the tables and each event put out, and the rows behind each, over one connection. Nothing is told of
+/// the events that are left out.
+fn without_stops(rt: &impl Abort, alloc: Global, left_out: Range<usize>) -> Vec<Told> {
     let held = of_the_first_schema(rt, alloc);
     let (mut connection, first) = tells(rt, alloc, connected(rt, alloc, &held), Work::Migrates);
     let mut all = Vec::new(alloc);
     all.push(first).ok().expect(rt, "memory");
     for place in 0..EVENTS.len() {
-        let (next, after) = tells(rt, alloc, connection, Work::PutsOut(event(rt, place)));
-        connection = next;
+        let after = if left_out.start <= place && place < left_out.end {
+            Told {
+                output: Vec::new(alloc),
+                rows: Vec::new(alloc),
+            }
+        } else {
+            let (next, after) = tells(rt, alloc, connection, Work::PutsOut(event(rt, place)));
+            connection = next;
+            after
+        };
         all.push(after).ok().expect(rt, "memory");
     }
     all
@@ -182,11 +193,21 @@ fn begins(rt: &impl Abort, alloc: Global, wanted: &[Told]) -> Held {
 #[test]
 fn a_life_with_stops_is_one_without_them(rt: HostRuntime) {
     let alloc = rt.alloc();
-    let wanted = without_stops(&rt, alloc);
+    let wanted = without_stops(&rt, alloc, 0..0);
+    let held = lives(&rt, alloc, begins(&rt, alloc, &wanted), &wanted, 0, ENDS[0]);
+    lives(&rt, alloc, held, &wanted, ENDS[0], ENDS[2]);
+}
+
+#[test]
+fn a_life_goes_on_from_a_backup(rt: HostRuntime) {
+    let alloc = rt.alloc();
+    let wanted = without_stops(&rt, alloc, 0..0);
     let held = lives(&rt, alloc, begins(&rt, alloc, &wanted), &wanted, 0, ENDS[0]);
     let backup = held.copied(&rt, alloc);
-    lives(&rt, alloc, held, &wanted, ENDS[0], ENDS[2]);
-    lives(&rt, alloc, backup, &wanted, ENDS[0], ENDS[2]);
+    lives(&rt, alloc, held, &wanted, ENDS[0], ENDS[1]);
+    // what the second run left is lost
+    let wanted = without_stops(&rt, alloc, ENDS[0]..ENDS[1]);
+    lives(&rt, alloc, backup, &wanted, ENDS[1], ENDS[2]);
 }
 
 /// The events from a place on, up to another, as one script under the keys of the first of them: what it puts out over
@@ -221,7 +242,7 @@ fn put_told(rt: &impl Abort, bytes: &mut Vec<u8>, wanted: &[Told], first: usize,
 #[test]
 fn a_run_over_one_desk_is_its_events_one_by_one(rt: HostRuntime) {
     let alloc = rt.alloc();
-    let wanted = without_stops(&rt, alloc);
+    let wanted = without_stops(&rt, alloc, 0..0);
     let held = of_the_first_schema(&rt, alloc);
     let (mut connection, _) = tells(&rt, alloc, connected(&rt, alloc, &held), Work::Migrates);
     let mut first = 0usize;
