@@ -1,5 +1,5 @@
--- The life of a laboratory's file: made once, and then opened by one run of the program after another. Each time that it
--- is opened its store has a type of its own, since what the files hold then is a part of that.
+-- The life of a laboratory's file: made once, and then opened by one run of the program after another. Each time that
+-- it is opened its store has a type of its own, since what the files hold then is a part of that.
 use Rattle.std.specs.Prelude.{◌≡◌, ◌⊎◌, ℕ, List, Bool, MatchBool, IsTrue, Result, Ok, Err, ⊤}
 use Rattle.std.specs.List.{All}
 use Rattle.sqlite_disk.specs.declared.Disk.{Ghosts}

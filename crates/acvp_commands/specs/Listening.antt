@@ -1,6 +1,7 @@
 -- Where connections and orders come from, and how they are served, one after another.
 use Rattle.std.specs.Prelude.{◌≡◌, ◌≢◌, ◌⊎◌, ◌+◌, ◌-◌, ◌/◌, ◌^◌, ℕ, Bool, true, false, MatchBool, is_ok, is_some, ⊤}
-use Rattle.std.specs.Prelude.{if◌then◌else◌, List, [], ◌∷◌, ◌++◌, length, Option, Some, None, IfSome, Result, Ok, Err, Vec}
+use Rattle.std.specs.Prelude.{if◌then◌else◌, List, [], ◌∷◌, ◌++◌, length, Option, Some, None, IfSome, Result}
+use Rattle.std.specs.Prelude.{Ok, Err, Vec}
 use Rattle.std.specs.Global.{Global}
 use Rattle.std.specs.List.{All, flat_map}
 use Rattle.std.specs.Time.{system_time_nanos}
@@ -84,8 +85,8 @@ IsOrderOf text outcome came =
 
 -- ---- a look at the store
 
--- A look at the store behind an arrival: an order to reject the request of number 0, which there never is. So it changes
--- nothing, and is answered that there is no such request, or that the server is unavailable.
+-- A look at the store behind an arrival: an order to reject the request of number 0, which there never is. So it
+-- changes nothing, and is answered that there is no such request, or that the server is unavailable.
 pub record Look : Type 0 where
   pub unavailable : Bool
   pub reply : OrderReply

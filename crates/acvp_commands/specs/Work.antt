@@ -78,15 +78,16 @@ IsWork (Take task) = IsTask task
 module _ {T : Type 0} (meaning : Meaning T) where
   open meaning use {stands, is_clean}
 
-  -- The tables were looked at, and there is no desk over them: the keys lack the seed of a vector set, or the store refused
-  -- what was asked of it, or memory.
+  -- The tables were looked at, and there is no desk over them: the keys lack the seed of a vector set, or the store
+  -- refused what was asked of it, or memory.
   pub record RefusesKeys (keys : Keys) (refused : NewFault) (old new : T) : Type 0 where
     pub looks : Looks meaning {X = ⊤} {E = ⊤} (Err tt) old new
     pub epoch : refused ≡ desk.Epoch → is_clean new → (c : Content) → AreWellNumbered c → stands old c
         → ¬ HasSeeds keys.seed (greatest_epoch_of c.sets)
 
   abbrev pub IsNoDesk : Keys → T → T → Fault → Type 0
-  IsNoDesk keys old new fault = (refused : NewFault) × RefusesKeys keys refused old new × (fault ≡ fault_of_desk refused)
+  IsNoDesk keys old new fault =
+      (refused : NewFault) × RefusesKeys keys refused old new × (fault ≡ fault_of_desk refused)
 
 module _ {T H P I O A : Type 0} (meaning : Meaning T) (hosting : Hosting H P) (listening : ListeningOf P I O A)
     (held : I → InputStream) (sent : O → OutputStream) where

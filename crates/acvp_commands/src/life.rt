@@ -61,8 +61,8 @@ pub fn left_files_are_found<D: Disk, E: Disk>()
         → ∥ (file_state before).may_leave (file_state connection).now.trees ∥₁ }
 {}
 
-/// An order's command that was carried out, as `carry_out` says, is a run of one turn, whatever the keys are and whenever
-/// it was.
+/// An order's command that was carried out, as `carry_out` says, is a run of one turn, whatever the keys are and
+/// whenever it was.
 pub fn commands_are_runs<T: Tables>()
     ensures { (keys : Keys) (moment : ℕ) (it : Order) (outcome : Result Message Fault) (old new : T)
         → CanHappen (order moment it) → IsCarriedOut T.meaning outcome old new it
@@ -92,16 +92,17 @@ pub fn tables_live_on<S: Alter>()
 }
 
 /// The life of a file, from one time that it is opened to the next. It begins with tables that were made without a row,
-/// or that stand for other records which are kept. A run goes over the tables, and the next open finds what it left where
-/// it was given up, behind any of its turns, or had closed. Then the file has lived through one run more: it goes over
-/// the records that those before it left, which are kept under its own seeds, so it is as `runs_are_promised` says; what
-/// is open stands for what it left, and where it was given up at most the effect of one event more is there, which was
-/// unavailable. So no run, however many there were, loses what was answered.
+/// or that stand for other records which are kept. A run goes over the tables, and the next open finds what it left
+/// where it was given up, behind any of its turns, or had closed. Then the file has lived through one run more: it goes
+/// over the records that those before it left, which are kept under its own seeds, so it is as `runs_are_promised`
+/// says; what is open stands for what it left, and where it was given up at most the effect of one event more is there,
+/// which was unavailable. So no run, however many there were, loses what was answered.
 pub fn files_live_on<D: Disk, E: Disk>()
     ensures begins { (seeds : List (List ℕ)) (made : Held (FileStore D D.Disk)) → IsTrue (file_state made).is_open
         → stands over_files made no_rows → HasLived no_rows [] seeds made }
     ensures takes_up { (seeds : List (List ℕ)) (c : Content) (tables : Held (FileStore D D.Disk))
-        → IsTrue (file_state tables).is_open → IsKept seeds c → stands over_files tables c → HasLived c [] seeds tables }
+        → IsTrue (file_state tables).is_open → IsKept seeds c → stands over_files tables c
+        → HasLived c [] seeds tables }
     ensures goes_on { (first : Content) (runs : List Run) (run : Run) (seeds : List (List ℕ))
         (opened last : Held (FileStore D D.Disk)) (next : Held (FileStore E E.Disk))
         → ∥ HasLived first runs seeds opened ∥₁ → AddsSeeds seeds (run ∷ []) → GoesOverFile run opened last

@@ -108,8 +108,8 @@ fn is_told(served: Result<bool, ServeFault>) -> bool
     }
 }
 
-/// Serves the one request of a connection, at a moment: it is answered, or it comes to nothing. Says whether it was told
-/// that the server is unavailable.
+/// Serves the one request of a connection, at a moment: it is answered, or it comes to nothing. Says whether it was
+/// told that the server is unavailable.
 fn serve_request<T: Tables, S: Source, K: Sink>(
     alloc: Global,
     routes: &Routes,
@@ -254,8 +254,8 @@ fn are_all(count: Option<u64>, served: u64) -> bool
 }
 
 /// Serves connections and orders as they arrive, one after another. Where so many connections are asked for, it ends
-/// behind the last of them, and says how many there were. Else it ends only where nothing can be taken any more, or where
-/// the store doesn't answer any more, after whoever came has been told so.
+/// behind the last of them, and says how many there were. Else it ends only where nothing can be taken any more, or
+/// where the store doesn't answer any more, after whoever came has been told so.
 pub fn serve_connections<T: Tables, L: Listener>(
     alloc: Global,
     routes: &Routes,

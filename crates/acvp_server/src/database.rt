@@ -76,8 +76,8 @@ fn done_and_closed<S: Start>(
     Ok(Said::Line(outcome?))
 }
 
-/// Has the server that holds a database carry an order out, and gives the line that it answers. Where nobody answers, the
-/// database is unavailable.
+/// Has the server that holds a database carry an order out, and gives the line that it answers. Where nobody answers,
+/// the database is unavailable.
 fn relayed(rt: &HostRuntime, database: &str, order: &Order) -> Result<String, Fault>
     requires { IsOrder order.now }
 {

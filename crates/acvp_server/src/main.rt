@@ -29,7 +29,8 @@ use sqlite::Wary;
 use std::io;
 use std::process::ExitCode;
 
-/// Prints the line of a server, and says whether it is that of an order that is done. A fault is told on standard error.
+/// Prints the line of a server, and says whether it is that of an order that is done. A fault is told on standard
+/// error.
 fn relay(rt: &HostRuntime, line: &str) -> Result<bool, Fault> {
     if line.starts_with("fault: ") {
         return match eprintln!(rt; "{line}") {

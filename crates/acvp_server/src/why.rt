@@ -22,8 +22,8 @@ pub(crate) fn tell_because(rt: &HostRuntime, because: Because) {
     let _ = eprintln!(rt; "because: {option}: {cause}");
 }
 
-/// Why a database can't be opened, where that can be seen. One that is held, beside whose file a server answers, is that
-/// server's.
+/// Why a database can't be opened, where that can be seen. One that is held, beside whose file a server answers, is
+/// that server's.
 fn cause_of_held(rt: &HostRuntime, db: &str) -> Option<Because> {
     match cause_of_database(rt, db) {
         Some(

@@ -147,8 +147,8 @@ fn request_text(alloc: Global, it: &RequestSummary) -> Result<String, AllocError
     joined(alloc, &head, &rest)
 }
 
-/// The line of the request of a number, where there is one: what it asks for, and what was decided. One that was decided
-/// is shown only where `all` are.
+/// The line of the request of a number, where there is one: what it asks for, and what was decided. One that was
+/// decided is shown only where `all` are.
 #[tactic(auto, unfolding(crate::specs::Listed::request_line))]
 pub fn request_line<T: Tables>(
     alloc: Global,

@@ -269,9 +269,9 @@ fn show_certified<T: Tables + Drop, R: Print + AllocGlobal>(
     }
 }
 
-/// Prints what a decision on the request of a number needs: its line, and then what it asks for: the object that it asks to
-/// register; or each vector set of the session, and what the account reads at this moment of all that the certification
-/// names.
+/// Prints what a decision on the request of a number needs: its line, and then what it asks for: the object that it
+/// asks to register; or each vector set of the session, and what the account reads at this moment of all that the
+/// certification names.
 pub fn show_request<S: Alter + Drop, R: Print + AllocGlobal>(
     rt: &R,
     mut tables: SqlTables<S>,
