@@ -139,8 +139,8 @@ abbrev pub AreFineBefore : Bool → List (List ℕ) → Layout → Trees → ℕ
 AreFineBefore grades seeds layout trees u =
     (v : ℕ) → 0 < v → v < u → (mine : Content) × IsFine grades seeds layout trees v mine
 
--- Nothing is wrong with what is looked at before. Rows outside are looked for in one table after another, and behind
--- all tables the conditions are looked at, on one account after another.
+-- What is looked at before has nothing wrong: rows outside are looked for in one table after another, and behind all
+-- tables the conditions on one account after another. Of a row that stands for nothing only the tables are said.
 abbrev pub IsFirst : Bool → List (List ℕ) → Layout → Trees → Damage → Type 0
 IsFirst grades seeds layout trees (damage.Outside t number) = AreWithinBefore t layout trees
 IsFirst grades seeds layout trees (damage.Stray t number) = AreWithin layout trees

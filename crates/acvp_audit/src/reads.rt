@@ -35,6 +35,8 @@ fn read_of<T: Drop>(table: Table, found: Result<Vec<T>, RangeFault>) -> Result<V
     ensures same { IfOk result (λ rows. found ≡ Ok rows) }
     ensures stray { IfErr result (λ stop. (t : TableValue) (number : ℤ) → stop ≡ Stop.Stray t number
         → (t ≡ table) × (found ≡ Err (RangeFault.Stray number))) }
+    ensures told { IfErr found (λ fault. (number : ℤ) → fault ≡ RangeFault.Stray number
+        → result ≡ Err (Stop.Stray table number)) }
 {
     match found {
         Ok(rows) => Ok(rows),

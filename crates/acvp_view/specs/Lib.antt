@@ -2,3 +2,4 @@ pub mod Certificate
 pub mod Faults
 pub mod Listed
 pub mod Damaged
+pub mod Checked

@@ -1,12 +1,11 @@
 //! Whether the rows of a database are records that are kept.
-ghost use Rattle.std.specs.Prelude.{◌≡◌, true, false, IfOk, IsTrue};
+ghost use Rattle.std.specs.Prelude.{◌≡◌, ℕ, List, true, false, IfOk, IsTrue, string_bytes};
 ghost use Rattle.sqlite.specs.Held.{state};
 ghost use Rattle.acvp_store.specs.Adopted.{IsOurs};
 ghost use Rattle.acvp_store.specs.Connection.{InStore};
-ghost use Rattle.acvp_audit.specs.Checked.{IsReading, IsRefuted, IsWholeAs};
+ghost use Rattle.acvp_audit.specs.Checked.{IsReading};
 ghost use Rattle.acvp_audit.specs.Read.{AreInTrees};
-ghost use Rattle.acvp_audit.specs.declared.damage.Damage.{Damage as DamageValue};
-ghost use Rattle.acvp_audit.specs.declared.damage.Totals.{Totals as TotalsValue};
+ghost use Rattle.acvp_view.specs.Checked.{IsWholeLine, IsWrongLine};
 
 use crate::damaged::{damage_text, whole_text};
 use crate::fault::ViewFault;
@@ -15,7 +14,31 @@ use acvp_audit::{AuditFault, Watch, check};
 use acvp_gen::Seeds;
 use acvp_store::SqlTables;
 use sqlite::Alter;
-use std::alloc::AllocGlobal;
+use std::alloc::{AllocGlobal, Global};
+
+/// The line of a check, which says how many rows there are or what is wrong with them, and whether they are whole.
+fn check_text<S: Alter, W: Watch>(
+    alloc: Global,
+    tables: &mut SqlTables<S>,
+    seeds: &Seeds,
+    grades: bool,
+    watch: &W,
+) -> Result<(String, bool), ViewFault>
+    ensures whole { IsTrue (state S.Store tables.new).is_open
+        → IfOk result (λ told. told.1 ≡ true → (ours : IsOurs (state S.Store tables.old).now)
+        → AreInTrees ours.layout (state S.Store tables.old).now.trees
+        → IsWholeLine grades seeds.now ours.layout (state S.Store tables.old).now.trees (string_bytes told.0)) }
+    ensures wrong { IsTrue (state S.Store tables.new).is_open
+        → IfOk result (λ told. told.1 ≡ false → InStore (state S.Store tables.old).now
+        (λ layout. IsWrongLine grades seeds.now layout (state S.Store tables.old).now.trees (string_bytes told.0))) }
+    ensures read { IsReading result (state S.Store tables.old) (state S.Store tables.new) }
+{
+    match check(alloc, tables, seeds, grades, watch) {
+        Ok(totals) => Ok((whole_text(alloc, totals)?, true)),
+        Err(AuditFault::Wrong(damage)) => Ok((damage_text(alloc, damage)?, false)),
+        Err(AuditFault::Store(fault)) => Err(ViewFault::from(fault)),
+    }
+}
 
 /// Prints how many rows there are, or what is wrong with them, and says whether they are whole.
 pub fn show_check<S: Alter, R: Print + AllocGlobal, W: Watch>(
@@ -28,26 +51,13 @@ pub fn show_check<S: Alter, R: Print + AllocGlobal, W: Watch>(
     ensures whole { IsTrue (state S.Store tables.new).is_open
         → IfOk result (λ whole. whole ≡ true → (ours : IsOurs (state S.Store tables.old).now)
         → AreInTrees ours.layout (state S.Store tables.old).now.trees
-        → (totals : TotalsValue)
-        × IsWholeAs grades seeds.now ours.layout (state S.Store tables.old).now.trees totals) }
+        → (line : List ℕ) × IsWholeLine grades seeds.now ours.layout (state S.Store tables.old).now.trees line) }
     ensures wrong { IsTrue (state S.Store tables.new).is_open
         → IfOk result (λ whole. whole ≡ false → InStore (state S.Store tables.old).now
-        (λ layout. (found : DamageValue)
-        × IsRefuted grades seeds.now layout (state S.Store tables.old).now.trees found)) }
+        (λ layout. (line : List ℕ) × IsWrongLine grades seeds.now layout (state S.Store tables.old).now.trees line)) }
     ensures read { IsReading result (state S.Store tables.old) (state S.Store tables.new) }
 {
-    let outcome = check(rt.alloc(), tables, seeds, grades, watch);
-    match outcome {
-        Ok(totals) => {
-            let line = whole_text(rt.alloc(), totals)?;
-            print(rt, line.as_str())?;
-            Ok(true)
-        }
-        Err(AuditFault::Wrong(damage)) => {
-            let line = damage_text(rt.alloc(), damage)?;
-            print(rt, line.as_str())?;
-            Ok(false)
-        }
-        Err(AuditFault::Store(fault)) => Err(ViewFault::from(fault)),
-    }
+    let (line, whole) = check_text(rt.alloc(), tables, seeds, grades, watch)?;
+    print(rt, line.as_str())?;
+    Ok(whole)
 }
