@@ -1,7 +1,7 @@
 //! A life of a file: three runs over tables of schema 1 that were moved, with a stop behind each event. A token key is
 //! added before the second run, and a seed before the third. What each stop leaves has the rows that a life without a
-//! stop has after the same events, and what is put out is the same, byte for byte. So it is where a backup of the first
-//! run takes the place of what the second has left: the third is then that of a life without a second.
+//! stop has after the same events, and what is put out is the same, byte for byte. So it is for a copy of what the first
+//! run left, and where the third run begins with such a copy: it is then that of a life without a second.
 
 use crate::cases::asked::push;
 use crate::disks::{Held, MemoryFile, Stop, abandoned, disks, left_by_a_crash, opened};
@@ -195,7 +195,10 @@ fn a_life_with_stops_is_one_without_them(rt: HostRuntime) {
     let alloc = rt.alloc();
     let wanted = without_stops(&rt, alloc, 0..0);
     let held = lives(&rt, alloc, begins(&rt, alloc, &wanted), &wanted, 0, ENDS[0]);
+    let copy = held.copied(&rt, alloc);
     lives(&rt, alloc, held, &wanted, ENDS[0], ENDS[2]);
+    // a copy of what the first run left goes the same way
+    lives(&rt, alloc, copy, &wanted, ENDS[0], ENDS[2]);
 }
 
 #[test]
