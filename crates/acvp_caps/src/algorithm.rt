@@ -1,6 +1,6 @@
 //! The algorithms that are tested.
 
-ghost use Rattle.std.specs.Prelude.{◌≡◌, ◌≢◌, ◌≤◌, codes, length, None, Some, MatchOption};
+ghost use Rattle.std.specs.Prelude.{◌≡◌, ◌≢◌, ◌≤◌, MatchOption};
 ghost use Rattle.acvp_mac.specs.declared.HashName.{HashName};
 ghost use Rattle.acvp_caps.specs.declared.algorithm.Algorithm.{Algorithm};
 ghost use Rattle.acvp_caps.specs.Capability.{block_bits, digest_bits};

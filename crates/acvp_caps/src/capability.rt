@@ -1,16 +1,16 @@
 //! A capability: an algorithm and the domains of its parameters.
 
-ghost use Rattle.std.specs.Prelude.{◌≡◌, ◌≤◌, ◌↔◌, ◌*◌, ◌++◌, codes, true, false, Some, Ok, IfOk, IsTrue, string_bytes};
+ghost use Rattle.std.specs.Prelude.{◌≡◌, ◌≤◌, ◌↔◌, ◌++◌, codes, false, Some, Ok, IfOk, IsTrue, string_bytes};
 ghost use Rattle.serde_json.specs.Find.{get};
 ghost use Rattle.serde_json.specs.View.{view};
 ghost use Rattle.std.specs.Cmp.{partial_equiv_from_equiv, on_equiv, and_equiv, nat_eq_equiv};
 ghost use Rattle.std.specs.Cmp.Lexicographic.{lists_equiv, nat_list_eq_equiv};
-ghost use Rattle.acvp_caps.specs.Algorithms.{algorithm_number, hash_of, is_hmac_of};
+ghost use Rattle.acvp_caps.specs.Algorithms.{algorithm_number};
 ghost use Rattle.acvp_caps.specs.Capability.{AreDomainsOf, AreHashDomains, AreHmacDomains, digest_bits};
 ghost use Rattle.acvp_caps.specs.Capability.{parameter_lists, same_capability, same_domains};
 ghost use Rattle.acvp_caps.specs.Registered.{capability_conditions, capability_at, parameter_conditions, domains_at};
 ghost use Rattle.acvp_caps.specs.Registered.{domain_conditions, domain_of, items_at, given_at, large_data_conditions};
-ghost use Rattle.acvp_caps.specs.Registered.{registered_capability, registered_text};
+ghost use Rattle.acvp_caps.specs.Registered.{registered_text};
 ghost use Rattle.acvp_mac.specs.Conditions.{IsJudged};
 ghost use Rattle.acvp_caps.specs.Private.Readings.{IsReadBy};
 ghost use Rattle.acvp_caps.specs.Private.Kept.{AreGivenBy};

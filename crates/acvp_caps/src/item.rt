@@ -3,7 +3,7 @@
 ghost use Rattle.std.specs.Prelude.{◌≡◌, ◌⊎◌, ◌≤◌, true, false, map, length, IfOk, IfErr};
 ghost use Rattle.std.specs.List.{list_all, filter_map};
 ghost use Rattle.serde_json.specs.View.{view};
-ghost use Rattle.acvp_caps.specs.Items.{has, first, last, is_formed, is_byte_oriented, item_within};
+ghost use Rattle.acvp_caps.specs.Items.{has, last, is_formed, is_byte_oriented, item_within};
 ghost use Rattle.acvp_caps.specs.Registered.{item_of, range_of, is_item};
 ghost use Rattle.acvp_caps.specs.Private.Walk.{IsNextMember, AllFormed};
 ghost use Rattle.acvp_caps.specs.Private.Written.{item_data};

@@ -1,5 +1,5 @@
 //! What the first bytes of a database tell of it (SQLite's file format, sections 1.3 and 1.6).
-ghost use Rattle.std.specs.Prelude.{◌≡◌, ◌≤◌, ◌<◌, ◌+◌, ◌^◌};
+ghost use Rattle.std.specs.Prelude.{◌≡◌, ◌≤◌, ◌<◌, ◌+◌};
 ghost use Rattle.acvp_causes.specs.Pages.{bytes_told, four_at, has_tables, page_bytes, two_at};
 
 /// As many bytes as are looked at: the header, and behind it that of the first page, which holds the tables' names.

@@ -1,5 +1,5 @@
 -- What the conditions on the rows with each account's numbers tell of all rows.
-use Rattle.std.proofs.Common.{◌≡◌, ℕ, ◌/◌, Bool, true, false, List, Some, None, refl, sym, subst, inl, inr, ◌∙◌}
+use Rattle.std.proofs.Common.{◌≡◌, ℕ, ◌/◌, Bool, true, List, None, refl, sym, subst, inl, inr}
 use Rattle.std.specs.Prelude.{filter, ◌==◌}
 use Rattle.std.specs.List.{list_all}
 use Rattle.std.proofs.lemmas.Bool.{cases_Bool}
@@ -17,9 +17,8 @@ use Rattle.acvp_tables.proofs.KeptLemmas.{list_all-filter}
 use Rattle.acvp_tables.proofs.Numbers.{by_class, eqb_same}
 use Rattle.acvp_check.specs.Conditions.{all_conditions}
 use Rattle.acvp_check.specs.Owners.{is_of, is_in, owner_conditions}
-use Rattle.acvp_check.specs.Rows.{AreNumbered, rows_numbered, rows_of}
+use Rattle.acvp_check.specs.Rows.{AreNumbered, rows_numbered}
 use Rattle.acvp_check.specs.Whole.{IsWhole}
-use Rattle.acvp_check.specs.declared.finding.Finding.{Finding}
 use Rattle.acvp_check.proofs.Holds.{all_held, none_broken, none_without}
 use Rattle.acvp_check.proofs.WholeLemmas.{Owned, kept_owned, not_at, numbers_select, owned, owners_hold, owners_unbroken, unbroken}
 

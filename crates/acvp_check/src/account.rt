@@ -1,7 +1,7 @@
 //! The conditions on all rows of an account.
 ghost use Rattle.std.specs.Prelude.{◌≡◌, ◌==◌, IfOk};
 ghost use Rattle.acvp_mac.specs.Conditions.{first_broken, judged};
-ghost use Rattle.acvp_tables.specs.State.{has_rows, is_account_row, is_account_there, state_of};
+ghost use Rattle.acvp_tables.specs.State.{has_rows, is_account_there, state_of};
 ghost use Rattle.acvp_check.specs.Conditions.{account_conditions, account_row_conditions, all_conditions};
 ghost use Rattle.acvp_check.specs.Conditions.{own_row_conditions};
 

@@ -16,10 +16,8 @@ use crate::numbers::{first_of_account, first_of_session};
 use crate::rows::Rows;
 use crate::walks::{Judge, Numbers, Predicate, any, check, count, each, rise};
 use acvp_answers::Disposition;
+use acvp_desk::END_OF_MOMENTS;
 use acvp_tables::{Graded, RequestBody, RequestRow, SessionRow, SetRow};
-
-/// The first moment that isn't served any more.
-const END_OF_MOMENTS: u64 = 4_102_444_800;
 
 /// The most vector sets of a session.
 const SET_LIMIT: u64 = 20;

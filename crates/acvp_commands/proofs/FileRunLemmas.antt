@@ -1,6 +1,5 @@
 -- A command's task is a run over the file.
 use Rattle.std.proofs.Common.{◌≡◌, ◌⊎◌, inl, inr, ℕ, Bool, List, [], ◌∷◌, Result, Ok, Err, IsTrue, refl, sym, subst}
-use Rattle.std.specs.Prelude.{⊤}
 use Rattle.std.specs.List.{All}
 use Rattle.std.proofs.lemmas.List.Elements.{All-cons, All-nil}
 use Rattle.sqlite_disk.specs.declared.Disk.{Ghosts}
@@ -10,7 +9,6 @@ use Rattle.sqlite.specs.Held.{Held}
 use Rattle.sqlite.specs.State.{HasCleanDisk}
 use Rattle.acvp_store.specs.Store.{meaning_of}
 use Rattle.acvp_desk.specs.Orders.{Orders}
-use Rattle.acvp_desk.specs.Serves.{Looks}
 use Rattle.acvp_desk.specs.declared.keys.Keys.{Keys}
 use Rattle.acvp_desk.specs.declared.order.Order.{Order}
 use Rattle.acvp_desk.specs.declared.order.OrderReply.{OrderReply}

@@ -1,5 +1,5 @@
 //! Work on the database in a file, over any store.
-ghost use Rattle.std.specs.Prelude.{◌≡◌, IfOk, MatchResult};
+ghost use Rattle.std.specs.Prelude.{IfOk, MatchResult};
 ghost use Rattle.acvp_desk.specs.Orders.{IsOrder};
 ghost use Rattle.acvp_commands.specs.Ordered.{IsCarriedOut};
 ghost use Rattle.acvp_commands.specs.Work.{IsDone, IsMade, IsMoved, IsNotMade, IsNotMoved, IsNotTaken, IsTaken};

@@ -1,6 +1,6 @@
 //! The whole numbers of the command line. They are read as in paths and scripts: `clap` by itself would take `+7` and
 //! `007`.
-ghost use Rattle.std.specs.Prelude.{◌≡◌, ◌<◌, ◌^◌, ℕ, MatchOption};
+ghost use Rattle.std.specs.Prelude.{◌<◌, ◌^◌, ℕ, MatchOption};
 ghost use Rattle.acvp_commands.specs.Numbers.{IsNumber, most_account, most_request, most_port, most_count};
 ghost use Rattle.acvp_commands.specs.Numbers.{most_patience};
 

@@ -1,8 +1,6 @@
 //! Serving: connections and orders, one after another, over the records.
-ghost use Rattle.std.specs.Prelude.{◌≡◌, ◌≢◌, ◌⊎◌, ◌/◌, ◌↔◌, true, false, IsTrue, MatchResult, Some};
+ghost use Rattle.std.specs.Prelude.{◌≡◌, ◌≢◌, ◌⊎◌, ◌↔◌, true, false, IsTrue, MatchResult, Some};
 ghost use Rattle.std.specs.List.{All};
-ghost use Rattle.std.specs.Time.{system_time_nanos};
-ghost use Rattle.acvp_desk.specs.Answer.{end_of_moments};
 ghost use Rattle.acvp_desk.specs.declared.order.OrderReply.{OrderReply};
 ghost use Rattle.acvp_http.specs.Connection.{ServesOne, is_read_end, is_write_end};
 ghost use Rattle.acvp_http.specs.Event.{CanHappen, Turn, ordered};

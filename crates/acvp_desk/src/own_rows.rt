@@ -1,12 +1,10 @@
 //! What an account owns is looked up: the objects of its registries, and its requests.
 
 ghost use Rattle.std.specs.Prelude.{true, ◌≡◌, is_some, IfOk, option_map};
-ghost use Rattle.acvp_registry.specs.Object.{object_vendor};
 ghost use Rattle.acvp_tables.specs.Content.{request_summary};
 ghost use Rattle.acvp_tables.specs.State.{state_of};
 ghost use Rattle.acvp_desk.specs.Asked.{is_named, certification_grounds, has_own_parts, has_own_vendor};
 ghost use Rattle.acvp_desk.specs.Asked.{object_grounds};
-ghost use Rattle.acvp_desk.specs.Kept.{IsKept};
 ghost use Rattle.acvp_desk.specs.Place.{registry_place, registry_wish};
 ghost use Rattle.acvp_desk.specs.Registries.{kind_of, objects_page, own_object, own_request, requests_page};
 ghost use Rattle.acvp_desk.specs.Serves.{Looks, Sees};

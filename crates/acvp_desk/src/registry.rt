@@ -1,12 +1,12 @@
 //! What is given on the registries and the requests of an account.
 
-ghost use Rattle.std.specs.Prelude.{◌≡◌, ◌⊎◌, List, map, option_map, Some, None, IfOk, IfErr};
+ghost use Rattle.std.specs.Prelude.{◌≡◌, ◌⊎◌, map, option_map, Some, None, IfOk, IfErr};
 ghost use Rattle.acvp_json.specs.Registry.{registered_data};
 ghost use Rattle.acvp_mac.specs.Conditions.{first_broken};
 ghost use Rattle.acvp_desk.specs.Answer.{IsReply};
 ghost use Rattle.acvp_desk.specs.OwnConditions.{page_conditions, registry_place_conditions};
-ghost use Rattle.acvp_desk.specs.Registries.{kind_asked, kind_of, object_shown, objects_reply, request_reply};
-ghost use Rattle.acvp_desk.specs.Registries.{request_shown, requests_reply, status_shown};
+ghost use Rattle.acvp_desk.specs.Registries.{kind_asked, object_shown, objects_reply, request_reply};
+ghost use Rattle.acvp_desk.specs.Registries.{request_shown, requests_reply};
 ghost use Rattle.acvp_desk.specs.Replies.{registry_change, registry_reply};
 
 use crate::draft::{Draft, told};

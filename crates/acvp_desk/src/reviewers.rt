@@ -1,6 +1,6 @@
 //! What is given to who adds or removes a reviewer of a test session.
 
-ghost use Rattle.std.specs.Prelude.{◌≡◌, ◌⊎◌, ◌≤◌, ℕ, List, filter, nat_lt, Some, None, IfOk, IfErr};
+ghost use Rattle.std.specs.Prelude.{◌≡◌, ◌⊎◌, ◌≤◌, filter, nat_lt, Some, None, IfOk, IfErr};
 ghost use Rattle.acvp_json.specs.Account.{reviewers_data};
 ghost use Rattle.acvp_mac.specs.Conditions.{first_broken};
 ghost use Rattle.acvp_tables.specs.declared.change.Change.TheVariants as change;

@@ -14,12 +14,9 @@ use crate::found::{SessionPlace, SetOutcome};
 use crate::reviewers::draft_added;
 use acvp_answers::Disposition;
 use acvp_json::{Created, ReplyObject, Session, SessionStatus, SetResult};
-use acvp_policy::{CertificationStatus, Rule, SessionFacts};
+use acvp_policy::{CertificationStatus, Rule, SET_LIFE, SessionFacts};
 use acvp_tables::Change;
 use std::alloc::{AllocError, Global};
-
-/// How long the vector sets of a session live, in seconds.
-const SET_LIFE: u64 = 604800;
 
 /// How a session stands: cancelled, or as its last certification request stands, or open.
 pub(crate) fn session_status(

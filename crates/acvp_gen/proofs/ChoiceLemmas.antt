@@ -13,7 +13,7 @@ use Rattle.acvp_caps.specs.Capability.{AreLengths, AreDomainsOf, AreHashDomains,
 use Rattle.acvp_gen.specs.declared.group.GroupForm.{GroupForm}
 use Rattle.acvp_gen.specs.declared.group.GroupForm.TheVariants.{Digest, MonteCarlo}
 use Rattle.acvp_gen.specs.declared.shape.TestShape.{TestShape}
-use Rattle.acvp_gen.specs.Choice.{ShapeValue, ends, has, ends_and_edges, drawn, message_lengths, key_lengths, mac_lengths, hash_test, hash_shape, monte_carlo_shapes, hash_shapes, hmac_test, hmac_shape, hmac_shapes, shapes_on}
+use Rattle.acvp_gen.specs.Choice.{ShapeValue, ends, has, ends_and_edges, drawn, message_lengths, key_lengths, mac_lengths, hash_test, hash_shape, hash_shapes, hmac_test, hmac_shape, hmac_shapes, shapes_on}
 use Rattle.acvp_gen.specs.Choice as choice
 use Rattle.acvp_gen.specs.Words.{word_of}
 use Rattle.acvp_gen.specs.Prompt.{sizes_of}

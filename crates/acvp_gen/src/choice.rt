@@ -3,7 +3,7 @@
 ghost use Rattle.std.specs.Prelude.{◌≡◌, ◌++◌, map, IfOk};
 ghost use Rattle.std.specs.List.Sorted.{IsStrictlyIncreasing};
 ghost use Rattle.acvp_caps.specs.Capability.{AreLengths, AreDomainsOf};
-ghost use Rattle.acvp_gen.specs.Choice.{hash_test, hash_shape, hash_shapes, hmac_shape, hmac_shapes, shapes_on};
+ghost use Rattle.acvp_gen.specs.Choice.{hash_shape, hash_shapes, hmac_shape, hmac_shapes, shapes_on};
 ghost use Rattle.acvp_gen.specs.Choice.{draws_on, message_draws, key_draws};
 ghost use Rattle.acvp_gen.specs.Private.Filling.{AreSmall};
 ghost use Rattle.acvp_gen.specs.Private.Generator.{moved};

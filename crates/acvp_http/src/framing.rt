@@ -1,10 +1,10 @@
 //! The framing of a request: which fields say where its body ends (RFC 9112, section 6).
-ghost use Rattle.std.specs.Prelude.{◌≡◌, ◌≤◌, ◌<◌, ◌∷◌, ◌++◌, [], ℕ, All, length, map, take, drop, true, false, not};
+ghost use Rattle.std.specs.Prelude.{◌≡◌, ◌≤◌, ◌<◌, ◌∷◌, ◌++◌, [], All, length, map, take, drop, true, false, not};
 ghost use Rattle.std.specs.Prelude.{◌||◌, Some, None, codes, nat_le, if◌then◌else◌};
 ghost use Rattle.std.specs.List.{list_all};
-ghost use Rattle.std.specs.Str.{str_eq_ignore_ascii_case, bytes_eq};
+ghost use Rattle.std.specs.Str.{str_eq_ignore_ascii_case};
 ghost use Rattle.httparse.specs.Spans.{span_bytes, header_bytes, IsWithin, IsHeaderWithin};
-ghost use Rattle.acvp_http.specs.Asks.{values_of, same_number, first_number, lengths_agree, needs_length, hosts_fit};
+ghost use Rattle.acvp_http.specs.Asks.{values_of, same_number, lengths_agree, needs_length, hosts_fit};
 ghost use Rattle.acvp_http.specs.Asks.{body_length, is_nil, framing_conditions, body_limit, body_size};
 ghost use Rattle.acvp_desk.specs.Conditions.{judged};
 ghost use Rattle.acvp_desk.specs.Number.{digits_number_of};

@@ -1,8 +1,6 @@
 //! The head of a request: where it ends, and whether it is one.
-ghost use Rattle.std.specs.Prelude.{◌≡◌, ◌≤◌, ◌<◌, ◌-◌, ℕ, take, drop, length, true, false, ◌==◌, MatchOption};
-ghost use Rattle.std.specs.Prelude.{if◌then◌else◌, count_by, IfSome};
-ghost use Rattle.httparse.specs.Spans.{header_bytes, span_bytes};
-ghost use Rattle.acvp_http.specs.Asks.{ends_empty, IsBlockEnd, HasNoEmptyLine, headless, starts_empty, line_count};
+ghost use Rattle.std.specs.Prelude.{◌≡◌, ◌≤◌, ◌<◌, ◌-◌, ◌==◌, MatchOption};
+ghost use Rattle.acvp_http.specs.Asks.{ends_empty, IsBlockEnd, HasNoEmptyLine, headless, line_count};
 ghost use Rattle.acvp_http.specs.Private.Head.{IsNoHead, IsWholeHead, ParsesBlock};
 
 use crate::framing::body_size;

@@ -1,5 +1,5 @@
 //! The bytes of one request, out of a reader: no more of them than the request needs.
-ghost use Rattle.std.specs.Prelude.{◌≡◌, ◌≤◌, ◌++◌, ℕ, List, false, length, IfSome, MatchResult};
+ghost use Rattle.std.specs.Prelude.{◌≡◌, ◌++◌, ℕ, List, false, IfSome, MatchResult};
 ghost use Rattle.acvp_http.specs.Needed.{IsNeeded};
 ghost use Rattle.acvp_http.specs.Private.Head.{ParsesInput};
 ghost use Rattle.acvp_http.specs.Source.{Gives};

@@ -1,8 +1,7 @@
 //! The reply to a request: its head and its body.
 ghost use Rattle.std.specs.Prelude.{◌≡◌, ◌≤◌, ◌<◌, ◌++◌, ◌+◌, ◌↔◌, ℕ, List, [], IsTrue, codes, length, drop, decimal};
-ghost use Rattle.std.specs.Prelude.{Some, None, option_map, option_copied, unwrap_or};
-ghost use Rattle.http.specs.StatusCode.{reason_phrase};
-ghost use Rattle.acvp_policy.specs.Rule.{rule_status, rule_word};
+ghost use Rattle.std.specs.Prelude.{Some, None, option_copied, unwrap_or};
+ghost use Rattle.acvp_policy.specs.Rule.{rule_status};
 ghost use Rattle.acvp_desk.specs.Answer.{spare};
 ghost use Rattle.acvp_desk.specs.Errors.{error_body};
 ghost use Rattle.acvp_http.specs.Paths.{allowed_on};

@@ -1,6 +1,5 @@
 //! What the bytes of an input ask for.
-ghost use Rattle.std.specs.Prelude.{List, ◌≡◌, ◌≤◌, ◌<◌, ◌-◌, ℕ, take, drop, length, true, false, ◌==◌, nat_lt, Ok};
-ghost use Rattle.httparse.specs.Spans.{header_bytes, span_bytes};
+ghost use Rattle.std.specs.Prelude.{List, ◌≡◌, ◌≤◌, ◌<◌, ◌-◌, ℕ, length, Ok};
 ghost use Rattle.acvp_http.specs.Asks.{ParsedRequest, Asks, AsksBlock, window};
 ghost use Rattle.acvp_http.specs.Private.Head.{IsParsed, ParsesInput, parsed_of};
 

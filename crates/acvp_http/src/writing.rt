@@ -1,5 +1,5 @@
 //! The output of a script, piece by piece, into a writer.
-ghost use Rattle.std.specs.Prelude.{◌≡◌, ◌≤◌, ◌++◌, codes, decimal, false};
+ghost use Rattle.std.specs.Prelude.{◌≡◌, ◌++◌, codes, decimal, false};
 ghost use Rattle.acvp_http.specs.Event.{replied, ordered};
 ghost use Rattle.acvp_http.specs.Script.{answer_text};
 ghost use Rattle.acvp_http.specs.Private.Writing.{WritesText};

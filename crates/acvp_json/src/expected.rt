@@ -2,8 +2,8 @@
 ghost use Rattle.std.specs.Prelude.{◌≡◌, IfOk, map, string_bytes};
 ghost use Rattle.serde_json.specs.View.{view};
 ghost use Rattle.acvp_json.specs.Values.{array_of};
-ghost use Rattle.acvp_json.specs.Expected.{texts_at, first_text, digest_data, expected_digest, expected_checkpoints};
-ghost use Rattle.acvp_json.specs.Expected.{expected_mac, expected_answer, expected_test, expected_group, expected_data};
+ghost use Rattle.acvp_json.specs.Expected.{texts_at, first_text, digest_data, expected_checkpoints};
+ghost use Rattle.acvp_json.specs.Expected.{expected_answer, expected_test, expected_group, expected_data};
 
 use crate::array::{Shows, array};
 use crate::object::object;

@@ -1,5 +1,5 @@
 //! The body of a login.
-ghost use Rattle.std.specs.Prelude.{◌≡◌, ◌⊎◌, Some, None, option_map, IfOk};
+ghost use Rattle.std.specs.Prelude.{◌≡◌, Some, None, option_map, IfOk};
 ghost use Rattle.serde_json.specs.View.{view};
 ghost use Rattle.acvp_json.specs.Private.Borrowed.{texts};
 ghost use Rattle.acvp_json.specs.LoginBody.{login_body_of, login_body_conditions};

@@ -1,6 +1,5 @@
 //! The members of a JSON object.
 ghost use Rattle.std.specs.Prelude.{◌≡◌, option_and_then, option_map};
-ghost use Rattle.std.specs.Borrow.{Bor};
 ghost use Rattle.serde_json.specs.Find.{as_array};
 ghost use Rattle.serde_json.specs.View.{view, items_view};
 ghost use Rattle.acvp_json.specs.Members.{optional_text};

@@ -1,8 +1,8 @@
 //! The objects of a test session.
-ghost use Rattle.std.specs.Prelude.{◌≡◌, ◌+◌, IfOk, codes, string_bytes};
+ghost use Rattle.std.specs.Prelude.{◌≡◌, IfOk, string_bytes};
 ghost use Rattle.serde_json.specs.Data.{string};
 ghost use Rattle.serde_json.specs.View.{view};
-ghost use Rattle.acvp_json.specs.Session.{session_word, set_urls, session_row_data, session_data, new_session_data};
+ghost use Rattle.acvp_json.specs.Session.{session_word, session_row_data, session_data, new_session_data};
 ghost use Rattle.acvp_json.specs.Session.{outcome_data, sets_data, set_result_data, session_results_data};
 ghost use Rattle.acvp_json.specs.Urls.{set_url};
 

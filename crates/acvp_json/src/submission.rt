@@ -1,7 +1,6 @@
 //! What a body of answers says, whatever the vector set's prompts are.
-ghost use Rattle.std.specs.Prelude.{◌≡◌, map, option_map, codes};
-ghost use Rattle.serde_json.specs.View.{view, items_view};
-ghost use Rattle.acvp_json.specs.Elements.{each};
+ghost use Rattle.std.specs.Prelude.{map, option_map, codes};
+ghost use Rattle.serde_json.specs.View.{view};
 ghost use Rattle.acvp_json.specs.Members.{text_at};
 ghost use Rattle.acvp_json.specs.SubmittedAnswers.{each_in, optional_checkpoints, given_of, group_of, submission_of};
 ghost use Rattle.acvp_json.specs.Private.Borrowed.{bytes_of};

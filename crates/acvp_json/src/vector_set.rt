@@ -1,7 +1,6 @@
 //! The object of a vector set: its groups of tests, as a client runs them.
-ghost use Rattle.std.specs.Prelude.{◌≡◌, IfOk, codes};
+ghost use Rattle.std.specs.Prelude.{◌≡◌, IfOk};
 ghost use Rattle.serde_json.specs.View.{view};
-ghost use Rattle.acvp_gen.specs.Prompt.{kind_of};
 ghost use Rattle.acvp_json.specs.VectorSet.{type_word, hash_test_data, mac_test_data, hash_group_data, mac_group_data};
 ghost use Rattle.acvp_json.specs.VectorSet.{group_data, vector_set_data};
 

@@ -1,6 +1,6 @@
 //! The keyed-hash message authentication code (FIPS 198-1) over any of the hash functions.
 
-ghost use Rattle.std.specs.Prelude.{◌≡◌, ◌<◌, ◌≤◌, ◌++◌, length, take, replicate, map, bit_xor, All};
+ghost use Rattle.std.specs.Prelude.{◌≡◌, ◌<◌, ◌++◌, length, take, replicate, map, bit_xor, All};
 ghost use Rattle.acvp_mac.specs.Hash.{digest_of, out_of};
 ghost use Rattle.acvp_mac.specs.Hmac.{block_key, hmac_of, xor_each};
 

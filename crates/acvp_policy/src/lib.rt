@@ -11,6 +11,7 @@ pub use grant::{Grant, admit, allows, decide, decide_admitted, granted_resources
 pub use isolation::{caller_rules_agree, callers_own_the_session};
 pub use resource::Resource;
 pub use rule::Rule;
+pub use set::SET_LIFE;
 
 mod action;
 mod caller;

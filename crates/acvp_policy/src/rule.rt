@@ -114,7 +114,7 @@ pub enum Rule {
     /// The algorithm, its revision or an option isn't served.
     Unsupported = 36,
 
-    /// An answer is to no test of the set.
+    /// An answer is to no test of its group.
     UnknownTest = 37,
 
     /// A test is answered twice.

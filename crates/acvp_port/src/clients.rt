@@ -1,5 +1,5 @@
 //! The clients that are there at once, and how long each is waited for.
-ghost use Rattle.std.specs.Prelude.{◌≡◌, ◌<◌, ◌≤◌, ◌↔◌, ℕ, IfNone, IfSome, IsTrue};
+ghost use Rattle.std.specs.Prelude.{◌<◌, ◌≤◌, ◌↔◌, ℕ, IfNone, IfSome, IsTrue};
 ghost use Rattle.acvp_port.specs.Clients.{IsFree};
 
 use crate::client::{Client, Next};

@@ -8,7 +8,6 @@ ghost use Rattle.acvp_policy.specs.declared.facts.Token.TheVariants as token;
 ghost use Rattle.acvp_policy.specs.declared.resource.Resource.TheVariants as resource;
 ghost use Rattle.acvp_tables.specs.Covers.{Covers, request_action};
 ghost use Rattle.acvp_tables.specs.Own.{Fits};
-ghost use Rattle.acvp_tables.specs.State.{owner_of};
 
 use crate::words::{account_in, cut, kind_of, number};
 use acvp_answers::{Answers, Verdict};

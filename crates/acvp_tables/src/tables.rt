@@ -1,6 +1,6 @@
 //! The records of a store, however it is kept.
 
-ghost use Rattle.std.specs.Prelude.{◌≡◌, ◌⊎◌, ℕ, List, Option, IfOk, map, option_map, option_and_then};
+ghost use Rattle.std.specs.Prelude.{◌≡◌, ◌⊎◌, Option, map, option_map, option_and_then};
 ghost use Rattle.acvp_tables.specs.Calls.{Finds, Reads, Changes};
 ghost use Rattle.acvp_tables.specs.Content.{Content, account_at, session_at, set_at, set_summary, set_verdicts};
 ghost use Rattle.acvp_tables.specs.Content.{live_sets, object_at, objects_of, request_at, requests_of, request_summary};

@@ -1,8 +1,8 @@
 //! The claims of a token as a JSON object, written and read.
 
-ghost use Rattle.std.specs.Prelude.{◌≡◌, ◌≢◌, ◌≤◌, ℕ, codes, decimal, string_bytes, Some, None, IfOk, IfErr};
+ghost use Rattle.std.specs.Prelude.{◌≡◌, ◌≢◌, ◌≤◌, ℕ, decimal, string_bytes, Some, None, IfOk, IfErr};
 ghost use Rattle.std.specs.Prelude.{MatchOption, Option};
-ghost use Rattle.serde_json.specs.Data.{number, unsigned, string};
+ghost use Rattle.serde_json.specs.Data.{number, unsigned};
 ghost use Rattle.serde_json.specs.Find.{get};
 ghost use Rattle.serde_json.specs.View.{view};
 ghost use Rattle.acvp_token.specs.ClaimsJson.{claims_data, claims_text};

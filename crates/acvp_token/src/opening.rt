@@ -1,6 +1,6 @@
 //! A token's text is decoded and its header judged.
 
-ghost use Rattle.std.specs.Prelude.{◌≡◌, ℕ, List, IfOk, IfErr};
+ghost use Rattle.std.specs.Prelude.{◌≡◌, IfOk, IfErr};
 ghost use Rattle.base64.specs.GeneralPurpose.{IsBytes};
 ghost use Rattle.serde_json.specs.View.{view};
 ghost use Rattle.acvp_token.specs.TokenText.{encoded};

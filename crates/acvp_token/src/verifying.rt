@@ -1,7 +1,6 @@
 //! Tokens are read.
 
 ghost use Rattle.std.specs.Prelude.{◌≡◌, ◌↔◌, ℕ, List, Ok, IsTrue};
-ghost use Rattle.serde_json.specs.View.{view};
 ghost use Rattle.acvp_token.specs.Faults.{IsReading, IsReadingUnder, IsVerdict, IsVerdictUnder};
 ghost use Rattle.acvp_token.specs.Keys.{Ring};
 ghost use Rattle.acvp_token.specs.Private.Opening.{IsSignedReading};

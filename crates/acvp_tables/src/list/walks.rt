@@ -1,5 +1,5 @@
 //! Walks over lists of rows: what passes a test is found, counted, shown or edited.
-ghost use Rattle.std.specs.Prelude.{◌≡◌, ◌++◌, ◌∷◌, [], ℕ, Bool, IfErr, IfOk, OnOk, OnErr, MatchOption, true, false};
+ghost use Rattle.std.specs.Prelude.{◌≡◌, ◌++◌, ◌∷◌, [], Bool, IfErr, IfOk, OnOk, OnErr, MatchOption, true, false};
 ghost use Rattle.std.specs.Prelude.{◌<◌, filter, find, if◌then◌else◌, length, map, option_map, slice_index_or};
 ghost use Rattle.std.specs.Prelude.{vec_capacity, vec_len};
 ghost use Rattle.std.specs.List.{list_any};
