@@ -1,10 +1,10 @@
 -- What is told is the first that is wrong.
-use Rattle.std.proofs.Common.{◌≡◌, ◌<◌, ◌+◌, ℕ, ℤ, Bool, List, inl, inr, refl, arith}
+use Rattle.std.proofs.Common.{◌≡◌, ◌<◌, ◌+◌, ℕ, ℤ, Bool, List, Some, inl, inr, refl, arith}
 use Rattle.sqlite_trees.specs.Tree.{Trees}
-use Rattle.acvp_check.specs.declared.finding.Finding.{Finding}
 use Rattle.acvp_store.specs.Schema.{Layout}
-use Rattle.acvp_audit.specs.Checked.{AreFineBefore, AreFineTo, AreWithinBefore, IsBehind, IsFirst, position}
-use Rattle.acvp_audit.specs.Wrong.{AreWithin, IsOutside, IsWithin}
+use Rattle.acvp_audit.specs.Checked.{account_in, AreFineBefore, AreWithinBefore, IsFirst, position}
+use Rattle.acvp_audit.specs.Wrong.{AreWithin, IsWithin}
+use Rattle.acvp_audit.specs.Private.Looks.{AreFineTo, IsBehind, IsOutside}
 use Rattle.acvp_audit.specs.declared.damage.Damage.{Damage}
 use Rattle.acvp_audit.specs.declared.damage.Damage.TheVariants as damage
 use Rattle.acvp_audit.specs.declared.damage.Totals.{Totals}
@@ -73,11 +73,11 @@ module _ (layout : Layout) (trees : Trees) where
     pub first_outside : (found : Damage) → IsOutside layout trees found
         → ((t : Table) (number : ℤ) → found ≡ damage.Outside t number → AreWithinBefore t layout trees) → IsFirst grades seeds layout trees found
     first_outside (damage.Outside t number) is before = before t number refl
-    first_outside (damage.Stray t number) is before = absurd is
+    first_outside (damage.Stray u t number) is before = absurd is
     first_outside (damage.Broken u found) is before = absurd is
 
     pub first_judged : (found : Damage) → AreWithin layout trees
-        → ((u : ℕ) (broken : Finding) → found ≡ damage.Broken u broken → AreFineBefore grades seeds layout trees u) → IsFirst grades seeds layout trees found
+        → ((u : ℕ) → account_in found ≡ Some u → AreFineBefore grades seeds layout trees u) → IsFirst grades seeds layout trees found
     first_judged (damage.Outside t number) within before = λ b less. within b
-    first_judged (damage.Stray t number) within before = within
-    first_judged (damage.Broken u broken) within before = (within, before u broken refl)
+    first_judged (damage.Stray u t number) within before = (within, before u refl)
+    first_judged (damage.Broken u broken) within before = (within, before u refl)

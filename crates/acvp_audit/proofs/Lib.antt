@@ -6,3 +6,4 @@ pub mod Whole
 pub mod Refuted
 pub mod Reading
 pub mod First
+pub mod Strays

@@ -10,7 +10,7 @@ use Rattle.acvp_tables.specs.State.{is_account_number, owner_of}
 use Rattle.acvp_check.specs.Order.{rises}
 use Rattle.acvp_check.proofs.Holds.{both, joint}
 use Rattle.acvp_store.specs.Ranges.{is_number_between, first_number, last_number, first_set, last_set, joined}
-use Rattle.acvp_audit.specs.Read.{is_above, climbs}
+use Rattle.acvp_audit.specs.Private.Climbs.{is_above, climbs}
 
 -- ---- whose a number is
 

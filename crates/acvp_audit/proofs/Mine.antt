@@ -12,7 +12,7 @@ use Rattle.sqlite_value.specs.Order.{Row}
 use Rattle.acvp_desk.specs.Kept.{IsKept}
 use Rattle.acvp_mac.specs.Conditions.{Condition, first_broken}
 use Rattle.acvp_tables.specs.Content.{Content, no_rows}
-use Rattle.acvp_tables.specs.State.{state_of, owner_of, is_account_number, objects_in}
+use Rattle.acvp_tables.specs.State.{state_of, owner_of, is_account_number}
 use Rattle.acvp_tables.specs.declared.rows.AccountRow.{AccountRow}
 use Rattle.acvp_tables.specs.declared.rows.SessionRow.{SessionRow}
 use Rattle.acvp_tables.specs.declared.rows.SetRow.{SetRow}
@@ -45,7 +45,7 @@ use Rattle.acvp_audit.specs.Wrong.{AreWithin, IsBroken}
 use Rattle.acvp_audit.specs.declared.table.Table.TheVariants as table
 use Rattle.acvp_check.specs.declared.finding.Finding.{Finding}
 use Rattle.acvp_audit.proofs.Kept.{owner_is, session_is}
-use Rattle.acvp_audit.proofs.Lists.{itself, of_account, set_of_account, all_kept, same_filter, rising, climbing}
+use Rattle.acvp_audit.proofs.Lists.{itself, of_account, set_of_account, all_kept, same_filter, rising}
 use Rattle.acvp_audit.proofs.Parts.{HoldsAsked, known_by, within_by, within_range, sets_part, objects_part, reviewers_part, requests_part, same_requests}
 
 -- ---- objects of all kinds
@@ -152,7 +152,7 @@ module _ (layout : Layout) (trees : Trees) (inside : AreInTrees layout trees) (w
   ordered = record {
     sessions = rising (λ row. row.number) mine.sessions rows.tests.session_range.rising;
     sets = rising (λ row. row.number) mine.sets rows.tests.set_range.rising;
-    objects = λ kind. climbing (λ row. row.number) (objects_in kind mine.objects) None (rows.in_order kind);
+    objects = rows.in_order;
     requests = rising (λ row. row.number) mine.requests rows.entries.request_range.rising;
   }
 

@@ -40,9 +40,10 @@ use Rattle.acvp_store.proofs.RangeJoins.{joined_whole, kept_nothing, kept_both, 
 use Rattle.acvp_store.proofs.RequestRanges.{requests_whole}
 use Rattle.acvp_store.proofs.ReviewerRanges.{reviewers_joined}
 use Rattle.acvp_store.proofs.SetRanges.{sets_joined}
-use Rattle.acvp_audit.specs.Checked.{totals_of, plus, totals_to, IsFine, AreFineTo, AreKeptAs, IsWholeAs, is_seeded}
+use Rattle.acvp_audit.specs.Checked.{totals_of, plus, totals_to, IsFine, AreKeptAs, IsWholeAs, is_seeded}
 use Rattle.acvp_audit.specs.Wrong.{AreWithin}
 use Rattle.acvp_audit.specs.Read.{AreInTrees, AreRowsOf}
+use Rattle.acvp_audit.specs.Private.Looks.{AreFineTo}
 use Rattle.acvp_audit.specs.declared.damage.Totals.{Totals}
 use Rattle.acvp_audit.specs.declared.table.Table.TheVariants as table
 use Rattle.acvp_audit.proofs.Lists.{of_joined, numbered_joined}

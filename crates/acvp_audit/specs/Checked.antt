@@ -1,7 +1,6 @@
 -- What a check of a file comes to.
-use Rattle.std.specs.Prelude.{◌≡◌, ◌⊎◌, ℕ, zero, suc, ◌+◌, ◌<◌, ◌≤◌, List, length, Bool, true, false, None, Result, OnOk}
-use Rattle.std.specs.Prelude.{◌&&◌, is_some, slice_get, IfErr}
-use Rattle.std.specs.Prelude.{IsTrue}
+use Rattle.std.specs.Prelude.{◌≡◌, ℕ, zero, suc, ◌+◌, ◌<◌, List, length, Bool, true, false, Result, OnOk}
+use Rattle.std.specs.Prelude.{◌&&◌, Option, Some, None, is_some, slice_get, IfErr, IsTrue}
 use Rattle.std.specs.List.{AllByRecursion, list_all}
 use Rattle.sqlite.specs.State.{State, HasCleanDisk}
 use Rattle.sqlite_trees.specs.Tree.{Trees}
@@ -69,13 +68,6 @@ unfoldable pub totals_to : (ℕ → Content) → ℕ → Totals
 totals_to lists zero = record { accounts = 0; sessions = 0; sets = 0; requests = 0 }
 totals_to lists (suc u) = plus (totals_to lists u) (totals_of (lists (suc u)))
 
--- none is on those of the accounts up to one, which have so many rows in all
-pub record AreFineTo (grades : Bool) (seeds : List (List ℕ)) (layout : Layout) (trees : Trees) (last : ℕ)
-    (totals : Totals) : Type 0 where
-  pub lists : ℕ → Content
-  pub fine : (u : ℕ) → 0 < u → u ≤ last → IsFine grades seeds layout trees u (lists u)
-  pub counted : totals ≡ totals_to lists last
-
 -- ---- the whole
 
 -- there is a seed of the set's epoch, and the disposition is that of the verdicts
@@ -97,12 +89,12 @@ pub record IsWholeAs (grades : Bool) (seeds : List (List ℕ)) (layout : Layout)
   pub counted : totals ≡ totals_of records
 
 -- What is told of a content that the rows stand for. A row with the number that is told lies outside the numbers of
--- accounts, or is that of none of the members that a kept content has; or a condition is the first that is broken on
--- the content's own rows with an account's numbers, in an order in which those of sessions, vector sets, requests and
--- each kind of objects rise.
+-- accounts, or is one of those with an account's numbers and of none of the members that a kept content has; or a
+-- condition is the first that is broken on the content's own rows with an account's numbers, in an order in which those
+-- of sessions, vector sets, requests and each kind of objects rise.
 abbrev pub IsTold : Bool → List (List ℕ) → Layout → Trees → Content → Damage → Type 0
 IsTold grades seeds layout trees c (damage.Outside t number) = HasOutside t number layout trees
-IsTold grades seeds layout trees c (damage.Stray t number) = HasStray t number layout trees
+IsTold grades seeds layout trees c (damage.Stray u t number) = HasStray t u number layout trees
 IsTold grades seeds layout trees c (damage.Broken u found) =
     (mine : Content) × HaveSameRows (rows_numbered u c) mine × AreInOrder mine × IsBroken grades seeds u mine found
 
@@ -129,25 +121,28 @@ position table.Reviewer = 5
 abbrev pub AreWithinBefore : Table → Layout → Trees → Type 0
 AreWithinBefore t layout trees = (before : Table) → position before < position t → IsWithin before layout trees
 
--- this is one of three tables, and no row lies outside in those before it
-abbrev pub IsBehind : Table → Table → Table → Table → Layout → Trees → Type 0
-IsBehind first second third t layout trees = (t ≡ first) ⊎ (((t ≡ second) × IsWithin first layout trees)
-    ⊎ ((t ≡ third) × IsWithin first layout trees × IsWithin second layout trees))
+-- the account on whose rows something is wrong, where that is no row outside
+abbrev pub account_in : Damage → Option ℕ
+account_in (damage.Outside t number) = None
+account_in (damage.Stray u t number) = Some u
+account_in (damage.Broken u found) = Some u
 
--- no condition is broken on the rows with the numbers of the accounts before this one
+-- the rows with the numbers of the accounts before this one stand for something, and no condition on them is broken
 abbrev pub AreFineBefore : Bool → List (List ℕ) → Layout → Trees → ℕ → Type 0
 AreFineBefore grades seeds layout trees u =
     (v : ℕ) → 0 < v → v < u → (mine : Content) × IsFine grades seeds layout trees v mine
 
 -- What is looked at before has nothing wrong: rows outside are looked for in one table after another, and behind all
--- tables the conditions on one account after another. Of a row that stands for nothing only the tables are said.
+-- tables one account after another is looked at, for rows that stand for nothing and for broken conditions. Which of an
+-- account's rows that stand for nothing is told isn't said.
 abbrev pub IsFirst : Bool → List (List ℕ) → Layout → Trees → Damage → Type 0
 IsFirst grades seeds layout trees (damage.Outside t number) = AreWithinBefore t layout trees
-IsFirst grades seeds layout trees (damage.Stray t number) = AreWithin layout trees
+IsFirst grades seeds layout trees (damage.Stray u t number) =
+    AreWithin layout trees × AreFineBefore grades seeds layout trees u
 IsFirst grades seeds layout trees (damage.Broken u found) =
     AreWithin layout trees × AreFineBefore grades seeds layout trees u
 
--- where what is told is wrong with rows, a connection that was open is open still, if the disk is clean
+-- where something is told to be wrong with rows, the connection is open, if the disk is clean
 abbrev pub IsWrongOpenly : {X : Type 0} → Result X AuditFault → State → State → Type 0
 IsWrongOpenly result old new =
     IfErr result (λ why. (found : Damage) → why ≡ fault.Wrong found → HasCleanDisk new → IsTrue new.is_open)

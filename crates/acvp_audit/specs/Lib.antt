@@ -1,3 +1,4 @@
 pub mod Read
 pub mod Wrong
 pub mod Checked
+pub mod Private

@@ -1,9 +1,10 @@
 -- What is read of a file: the rows with an account's numbers, and what they stand for.
-use Rattle.std.specs.Prelude.{◌≡◌, ⊤, ℕ, ◌++◌, ◌&&◌, List, [], ◌∷◌, map, Bool, true, Option, Some, None, nat_lt}
-use Rattle.std.specs.Prelude.{IfErr, IfOk, IsTrue, Result}
+use Rattle.std.specs.Prelude.{◌≡◌, ⊤, ℕ, ◌++◌, List, true}
+use Rattle.std.specs.Prelude.{IfErr, IsTrue, Result}
 use Rattle.std.specs.List.{AllByRecursion, filter}
 use Rattle.sqlite.specs.State.{State}
 use Rattle.sqlite_trees.specs.Tree.{Trees}
+use Rattle.acvp_check.specs.Order.{rises}
 use Rattle.acvp_registry.specs.Object.{is_registered}
 use Rattle.acvp_registry.specs.declared.kind.Kind.{Kind}
 use Rattle.acvp_tables.specs.Content.{Content}
@@ -37,12 +38,7 @@ pub record AreInTrees (layout : Layout) (trees : Trees) : Type 0 where
   pub full_requests : AreFull 7 (trees request_tree)
   pub reviewers : IsTree (trees (reviewer_tree layout))
 
--- What a call tells where it succeeds: so are the tables that it found, if the connection is open then.
-abbrev pub Tells : {X E : Type 0} → Result X E → State → State → (Layout → Trees → X → Type 0) → Type 0
-Tells result old new Said = IsTrue new.is_open → IfOk result
-    (λ told. InStore old.now (λ layout. AreInTrees layout old.now.trees → Said layout old.now.trees told))
-
--- the same where it fails
+-- What a call blames where it fails: so are the tables that it found, if the connection is open then.
 abbrev pub Blames : {X E : Type 0} → Result X E → State → State → (Layout → Trees → E → Type 0) → Type 0
 Blames result old new Said = IsTrue new.is_open → IfErr result
     (λ fault. InStore old.now (λ layout. AreInTrees layout old.now.trees → Said layout old.now.trees fault))
@@ -69,20 +65,6 @@ pub record AreObjects (trees : Trees) (u : ℕ) (objects : List ObjectRow) : Typ
   pub of_modules : AreOfKind 2 trees u modules
   pub of_environments : AreOfKind 3 trees u environments
 
--- a number is greater than the one before, where there is one
-abbrev pub is_above : Option ℕ → ℕ → Bool
-is_above None n = true
-is_above (Some before) n = nat_lt before n
-
--- each number is greater than the one before
-abbrev pub climbs : Option ℕ → List ℕ → Bool
-climbs before [] = true
-climbs before (n ∷ numbers) = is_above before n && climbs (Some n) numbers
-
--- the numbers of the objects of a kind do
-abbrev pub kind_climbs : List ObjectRow → Kind → Bool
-kind_climbs objects kind = climbs None (map (λ row. row.number) (objects_in kind objects))
-
 -- a registration is of one of the three kinds
 abbrev pub IsRegistrable : RequestBody → Type 0
 IsRegistrable (body.Registration object) = is_registered object.kind ≡ true
@@ -100,5 +82,5 @@ pub record AreEntries (layout : Layout) (trees : Trees) (u : ℕ) (objects : Lis
 pub record AreRowsOf (layout : Layout) (trees : Trees) (u : ℕ) (mine : Content) : Type 0 where
   pub tests : AreTests layout trees u mine.accounts mine.sessions mine.sets
   pub entries : AreEntries layout trees u mine.objects mine.requests mine.reviewers
-  pub in_order : (kind : Kind) → kind_climbs mine.objects kind ≡ true
+  pub in_order : (kind : Kind) → rises (λ row. row.number) (objects_in kind mine.objects) ≡ true
   pub registrable : AllByRecursion (λ (row : RequestRow). IsRegistrable row.body) mine.requests

@@ -12,6 +12,7 @@ use Rattle.acvp_store.specs.Ranges.{is_between, HasStrayRow, IsAccountRow, FitsA
 use Rattle.acvp_store.specs.Ranges.{IsSetRow, FitsSet, KeepsSets, IsObjectRow, FitsObject, KeepsObjects}
 use Rattle.acvp_store.specs.Ranges.{IsRequestRow, FitsRequest, IsReviewerRow, FitsReviewer, first_number, last_number}
 use Rattle.acvp_store.specs.Ranges.{first_set, last_set, HasNumberBetween, HasRowOutside, IsRegisteredWithin}
+use Rattle.acvp_store.specs.Ranges.{is_column_between}
 use Rattle.acvp_store.specs.Rows.{account_tree, HoldsAccounts, session_tree, HoldsSessions}
 use Rattle.acvp_store.specs.Schema.{Layout}
 use Rattle.acvp_store.specs.Stands.{set_tree, object_tree, request_tree, HoldsRequests, reviewer_tree, HoldsReviewers}
@@ -56,31 +57,35 @@ IsWithin t layout trees = AllByRecursion (IsInside t) (table_rows t layout trees
 abbrev pub HasOutside : Table → ℤ → Layout → Trees → Type 0
 HasOutside t number layout trees = HasRowOutside (IsInside t) (number_column t) number (table_rows t layout trees)
 
--- a row of a table has this number, which is its session's for a reviewer, and stands for nothing
-abbrev pub HasStray : Table → ℤ → Layout → Trees → Type 0
-HasStray table.Account n layout trees = HasStrayRow HoldsAccounts IsAccountRow FitsAccount 0 n (trees account_tree)
-HasStray table.Session n layout trees = HasStrayRow HoldsSessions IsSessionRow FitsSession 0 n (trees session_tree)
-HasStray table.Set n layout trees = HasStrayRow KeepsSets IsSetRow FitsSet 0 n (trees (set_tree layout))
-HasStray table.Object n layout trees = HasStrayRow KeepsObjects IsObjectRow FitsObject 2 n (trees object_tree)
-HasStray table.Request n layout trees = HasStrayRow HoldsRequests IsRequestRow FitsRequest 0 n (trees request_tree)
-HasStray table.Reviewer n layout trees =
-    HasStrayRow HoldsReviewers IsReviewerRow FitsReviewer 1 n (trees (reviewer_tree layout))
+-- of the rows of a table with an account's numbers, one has this number, which is its session's for a reviewer, and
+-- stands for nothing
+abbrev pub HasStray : Table → ℕ → ℤ → Layout → Trees → Type 0
+HasStray table.Account u n layout trees =
+    HasStrayRow HoldsAccounts IsAccountRow FitsAccount (is_between u u) 0 n (trees account_tree)
+HasStray table.Session u n layout trees =
+    HasStrayRow HoldsSessions IsSessionRow FitsSession (is_between (first_number u) (last_number u)) 0 n
+    (trees session_tree)
+HasStray table.Set u n layout trees =
+    HasStrayRow KeepsSets IsSetRow FitsSet (is_between (first_set u) (last_set u)) 0 n (trees (set_tree layout))
+HasStray table.Object u n layout trees =
+    HasStrayRow KeepsObjects IsObjectRow FitsObject (is_column_between 2 (first_number u) (last_number u)) 2 n
+    (trees object_tree)
+HasStray table.Request u n layout trees =
+    HasStrayRow HoldsRequests IsRequestRow FitsRequest (is_between (first_number u) (last_number u)) 0 n
+    (trees request_tree)
+HasStray table.Reviewer u n layout trees =
+    HasStrayRow HoldsReviewers IsReviewerRow FitsReviewer (is_column_between 1 (first_number u) (last_number u)) 1 n
+    (trees (reviewer_tree layout))
 
 -- the first condition on the rows with an account's numbers that is broken: on whose they are, and then all others
 abbrev pub IsBroken : Bool → List (List ℕ) → ℕ → Content → Finding → Type 0
 IsBroken grades seeds u mine found =
     first_broken (owner_conditions mine ++ all_conditions grades seeds u mine) ≡ Some found
 
--- what is told is that a row with this number isn't inside, and it is so of these trees
-abbrev pub IsOutside : Layout → Trees → Damage → Type 0
-IsOutside layout trees (damage.Outside t number) = HasOutside t number layout trees
-IsOutside layout trees (damage.Stray t number) = ⊥
-IsOutside layout trees (damage.Broken u found) = ⊥
-
 -- what is told is so of these trees
 abbrev pub IsDamaged : Bool → List (List ℕ) → Layout → Trees → Damage → Type 0
 IsDamaged grades seeds layout trees (damage.Outside t number) = HasOutside t number layout trees
-IsDamaged grades seeds layout trees (damage.Stray t number) = HasStray t number layout trees
+IsDamaged grades seeds layout trees (damage.Stray u t number) = HasStray t u number layout trees
 IsDamaged grades seeds layout trees (damage.Broken u found) =
     (mine : Content) × AreRowsOf layout trees u mine × IsBroken grades seeds u mine found
 
@@ -91,6 +96,6 @@ AreWithin layout trees = (t : Table) → IsWithin t layout trees
 -- the same where a broken condition is told only if each row is inside
 abbrev pub IsDamagedIn : Bool → List (List ℕ) → Layout → Trees → Damage → Type 0
 IsDamagedIn grades seeds layout trees (damage.Outside t number) = HasOutside t number layout trees
-IsDamagedIn grades seeds layout trees (damage.Stray t number) = HasStray t number layout trees
+IsDamagedIn grades seeds layout trees (damage.Stray u t number) = HasStray t u number layout trees
 IsDamagedIn grades seeds layout trees (damage.Broken u found) =
     AreWithin layout trees × IsDamaged grades seeds layout trees (damage.Broken u found)

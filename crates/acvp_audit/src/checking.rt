@@ -1,5 +1,5 @@
 //! The check of all tables, account by account.
-ghost use Rattle.std.specs.Prelude.{◌≡◌, ◌<◌, ◌≤◌, ◌+◌, ◌*◌, ◌^◌, ◌++◌, ℕ, Some, None, Err, IsTrue, IfOk, IfErr};
+ghost use Rattle.std.specs.Prelude.{◌≡◌, ◌<◌, ◌+◌, ◌^◌, ◌++◌, ℕ, Some, None, Err, IsTrue, IfOk, IfErr};
 ghost use Rattle.sqlite.specs.Held.{state};
 ghost use Rattle.acvp_mac.specs.Conditions.{first_broken};
 ghost use Rattle.acvp_check.specs.Conditions.{all_conditions};
@@ -7,11 +7,11 @@ ghost use Rattle.acvp_check.specs.Owners.{owner_conditions};
 ghost use Rattle.acvp_tables.specs.Content.{Content};
 ghost use Rattle.acvp_store.specs.Adopted.{IsOurs};
 ghost use Rattle.acvp_store.specs.Connection.{InStore, IsRead};
-ghost use Rattle.acvp_audit.specs.Read.{AreInTrees, Blames, Tells};
-ghost use Rattle.acvp_audit.specs.Wrong.{IsDamaged, IsWithin};
-ghost use Rattle.acvp_audit.specs.Checked.{totals_of, plus, IsFine, AreFineTo, IsWholeAs, IsRefuted};
-ghost use Rattle.acvp_audit.specs.Checked.{AreFineBefore, IsFirst, IsReading, IsWrongOpenly};
-ghost use Rattle.acvp_check.specs.declared.finding.Finding.{Finding as FindingValue};
+ghost use Rattle.acvp_audit.specs.Read.{AreInTrees, Blames};
+ghost use Rattle.acvp_audit.specs.Wrong.{IsDamaged};
+ghost use Rattle.acvp_audit.specs.Checked.{totals_of, plus, IsFine, IsWholeAs, IsRefuted};
+ghost use Rattle.acvp_audit.specs.Checked.{account_in, AreFineBefore, IsFirst, IsReading, IsWrongOpenly};
+ghost use Rattle.acvp_audit.specs.Private.Looks.{Tells, AreFineTo};
 ghost use Rattle.acvp_audit.specs.declared.damage.Damage.{Damage as DamageValue};
 ghost use Rattle.acvp_audit.specs.declared.damage.Totals.{Totals as TotalsValue};
 ghost use Rattle.sqlite.specs.State.{HasCleanDisk};
@@ -83,14 +83,14 @@ fn judged<S: Alter>(
     ensures wrong { Blames result (state S.Store tables.old) (state S.Store tables.new)
         (λ layout trees fault. (found : DamageValue) → fault ≡ AuditFault.Wrong found
         → IsDamaged grades seeds.now layout trees found) }
-    ensures whose { IfErr result (λ fault. (u : ℕ) (found : FindingValue)
-        → fault ≡ AuditFault.Wrong (Damage.Broken u found) → u ≡ account) }
+    ensures whose { IfErr result (λ fault. (found : DamageValue) → fault ≡ AuditFault.Wrong found
+        → account_in found ≡ Some account) }
     ensures read { IsRead result (state S.Store tables.old) (state S.Store tables.new) }
 {
     let mine = match rows_of(tables, account) {
         Ok(mine) => mine,
         Err(Stop::Stray(table, number)) => {
-            return Err(AuditFault::Wrong(Damage::Stray(table, number)));
+            return Err(AuditFault::Wrong(Damage::Stray(account, table, number)));
         }
         Err(Stop::Store(fault)) => return Err(AuditFault::Store(fault)),
     };
@@ -131,8 +131,8 @@ fn all_judged<S: Alter, W: Watch>(
         (λ layout trees fault. (found : DamageValue) → fault ≡ AuditFault.Wrong found
         → IsDamaged grades seeds.now layout trees found) }
     ensures first { Blames result (state S.Store tables.old) (state S.Store tables.new)
-        (λ layout trees fault. (u : ℕ) (found : FindingValue) → fault ≡ AuditFault.Wrong (Damage.Broken u found)
-        → AreFineBefore grades seeds.now layout trees u) }
+        (λ layout trees fault. (u : ℕ) (found : DamageValue) → fault ≡ AuditFault.Wrong found
+        → account_in found ≡ Some u → AreFineBefore grades seeds.now layout trees u) }
     ensures read { IsReading result (state S.Store tables.old) (state S.Store tables.new) }
 {
     let mut totals = judged(alloc, tables, 1, seeds, grades)?;

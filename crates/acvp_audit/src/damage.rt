@@ -11,8 +11,9 @@ pub enum Damage {
     /// the three kinds.
     Outside(Table, i64),
 
-    /// The row of this number, or of a reviewer of the session with this number, stands for nothing.
-    Stray(Table, i64),
+    /// Of the rows with this account's numbers, the one of this number, or of a reviewer of the session with this
+    /// number, stands for nothing.
+    Stray(u16, Table, i64),
 
     /// A condition on the rows with this account's numbers is broken.
     Broken(u16, Finding),

@@ -2,9 +2,10 @@
 ghost use Rattle.std.specs.Prelude.{◌≡◌, ℤ, Some, None, IfErr};
 ghost use Rattle.sqlite.specs.Held.{state};
 ghost use Rattle.acvp_store.specs.Connection.{IsRead};
-ghost use Rattle.acvp_audit.specs.Read.{Blames, Tells};
-ghost use Rattle.acvp_audit.specs.Wrong.{AreWithin, IsWithin, HasOutside, IsOutside};
-ghost use Rattle.acvp_audit.specs.Checked.{AreWithinBefore, IsBehind};
+ghost use Rattle.acvp_audit.specs.Read.{Blames};
+ghost use Rattle.acvp_audit.specs.Wrong.{AreWithin, IsWithin, HasOutside};
+ghost use Rattle.acvp_audit.specs.Checked.{AreWithinBefore};
+ghost use Rattle.acvp_audit.specs.Private.Looks.{Tells, IsOutside, IsBehind};
 ghost use Rattle.acvp_audit.specs.declared.damage.Damage.{Damage as DamageValue};
 ghost use Rattle.acvp_audit.specs.declared.table.Table.{Table as TableValue};
 

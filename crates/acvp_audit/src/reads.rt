@@ -3,11 +3,12 @@ ghost use Rattle.std.specs.Prelude.{◌≡◌, ◌++◌, ℤ, true, IsTrue, IfOk
 ghost use Rattle.std.specs.List.{AllByRecursion};
 ghost use Rattle.sqlite.specs.Held.{state};
 ghost use Rattle.acvp_registry.specs.declared.kind.Kind.{Kind as KindValue};
-ghost use Rattle.acvp_tables.specs.Content.{is_kind};
+ghost use Rattle.acvp_tables.specs.Content.{is_kind, kind_number};
 ghost use Rattle.acvp_store.specs.Connection.{IsRead};
-ghost use Rattle.acvp_audit.specs.Read.{Blames, Tells, AreTests, AreObjects, AreEntries, AreRowsOf};
-ghost use Rattle.acvp_audit.specs.Read.{is_above, kind_climbs, IsRegistrable};
+ghost use Rattle.acvp_audit.specs.Read.{Blames, AreTests, AreOfKind, AreObjects, AreEntries, AreRowsOf, IsRegistrable};
 ghost use Rattle.acvp_audit.specs.Wrong.{HasStray};
+ghost use Rattle.acvp_audit.specs.Private.Climbs.{is_above, kind_climbs};
+ghost use Rattle.acvp_audit.specs.Private.Looks.{Tells};
 ghost use Rattle.acvp_audit.specs.declared.table.Table.{Table as TableValue};
 
 use crate::table::Table;
@@ -60,7 +61,7 @@ fn tests_of<S: Alter>(tables: &mut SqlTables<S>, account: u16) -> Result<Tests, 
         found.sets.items) }
     ensures stray { Blames result (state S.Store tables.old) (state S.Store tables.new)
         (λ layout trees stop. (t : TableValue) (number : ℤ) → stop ≡ Stop.Stray t number
-        → HasStray t number layout trees) }
+        → HasStray t account number layout trees) }
     ensures read { IsRead result (state S.Store tables.old) (state S.Store tables.new) }
 {
     let accounts = read_of(Table::Account, tables.accounts_between(account, account))?;
@@ -88,27 +89,34 @@ fn joined(
     Ok(vendors)
 }
 
+/// The objects of a kind.
+fn of_kind<S: Alter>(
+    tables: &mut SqlTables<S>,
+    kind: Kind,
+    account: u16,
+) -> Result<Vec<ObjectRow>, Stop>
+    ensures rows { Tells result (state S.Store tables.old) (state S.Store tables.new)
+        (λ layout trees found. AreOfKind (kind_number kind) trees account found.items) }
+    ensures stray { Blames result (state S.Store tables.old) (state S.Store tables.new)
+        (λ layout trees stop. (t : TableValue) (number : ℤ) → stop ≡ Stop.Stray t number
+        → HasStray t account number layout trees) }
+    ensures read { IsRead result (state S.Store tables.old) (state S.Store tables.new) }
+{
+    read_of(Table::Object, tables.objects_numbered(kind, account))
+}
+
 /// The objects of each kind, one kind after another.
 fn objects_of<S: Alter>(tables: &mut SqlTables<S>, account: u16) -> Result<Vec<ObjectRow>, Stop>
     ensures rows { Tells result (state S.Store tables.old) (state S.Store tables.new)
         (λ layout trees found. AreObjects trees account found.items) }
     ensures stray { Blames result (state S.Store tables.old) (state S.Store tables.new)
         (λ layout trees stop. (t : TableValue) (number : ℤ) → stop ≡ Stop.Stray t number
-        → HasStray t number layout trees) }
+        → HasStray t account number layout trees) }
     ensures read { IsRead result (state S.Store tables.old) (state S.Store tables.new) }
 {
-    let vendors = read_of(
-        Table::Object,
-        tables.objects_numbered(Kind::Vendor, account),
-    )?;
-    let modules = read_of(
-        Table::Object,
-        tables.objects_numbered(Kind::Module, account),
-    )?;
-    let environments = read_of(
-        Table::Object,
-        tables.objects_numbered(Kind::Environment, account),
-    )?;
+    let vendors = of_kind(tables, Kind::Vendor, account)?;
+    let modules = of_kind(tables, Kind::Module, account)?;
+    let environments = of_kind(tables, Kind::Environment, account)?;
     joined(vendors, modules, environments)
 }
 
@@ -127,7 +135,7 @@ fn entries_of<S: Alter>(tables: &mut SqlTables<S>, account: u16) -> Result<Entri
         found.reviewers.items) }
     ensures stray { Blames result (state S.Store tables.old) (state S.Store tables.new)
         (λ layout trees stop. (t : TableValue) (number : ℤ) → stop ≡ Stop.Stray t number
-        → HasStray t number layout trees) }
+        → HasStray t account number layout trees) }
     ensures read { IsRead result (state S.Store tables.old) (state S.Store tables.new) }
 {
     let objects = objects_of(tables, account)?;
@@ -216,7 +224,7 @@ pub(crate) fn rows_of<S: Alter>(tables: &mut SqlTables<S>, account: u16) -> Resu
         (λ layout trees found. AreRowsOf layout trees account found) }
     ensures stray { Blames result (state S.Store tables.old) (state S.Store tables.new)
         (λ layout trees stop. (t : TableValue) (number : ℤ) → stop ≡ Stop.Stray t number
-        → HasStray t number layout trees) }
+        → HasStray t account number layout trees) }
     ensures read { IsRead result (state S.Store tables.old) (state S.Store tables.new) }
 {
     let tests = tests_of(tables, account)?;

@@ -145,9 +145,9 @@ shows row o fits is = (o, had o (fits, is.1), ap columns_of_object is.0.1)
 
 pub stray_told : {X B E : Type 0} (kind f l : ℕ) (table : List Row) (outcome : Result X E) (rows_in : X → List Row) (found result : Result B RangeFault) → IfErr found (λ fault. (number : ℤ) → fault ≡ Stray number → IsOkAnd outcome (λ x. HasStray IsMember object_columns 1 number (rows_in x)))
     → IfErr result (λ fault. (number : ℤ) → fault ≡ Stray number → IsErrAnd found (λ before. before ≡ Stray number)) → IfOk outcome (λ x. IsPermutation (map columns_of_object (filter (is_object_between kind f l) table)) (rows_in x))
-    → IfErr result (λ fault. (number : ℤ) → fault ≡ Stray number → HasStrayRow KeepsObjects IsObjectRow FitsObject 2 number table)
+    → IfErr result (λ fault. (number : ℤ) → fault ≡ Stray number → HasStrayRow KeepsObjects IsObjectRow FitsObject (is_object_between kind f l) 2 number table)
 stray_told kind f l table outcome rows_in found result strays same rows =
-    stray_same (λ number. HasStrayRow KeepsObjects IsObjectRow FitsObject 2 number table) found result same (stray_of KeepsObjects IsObjectRow FitsObject each IsMember object_columns columns_of_object 1 2 (λ r. refl) shows (is_object_between kind f l) table outcome rows_in found strays rows)
+    stray_same (λ number. HasStrayRow KeepsObjects IsObjectRow FitsObject (is_object_between kind f l) 2 number table) found result same (stray_of KeepsObjects IsObjectRow FitsObject each IsMember object_columns columns_of_object 1 2 (λ r. refl) shows (is_object_between kind f l) table outcome rows_in found strays rows)
 
 -- ---- rows outside
 

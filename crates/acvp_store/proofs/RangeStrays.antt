@@ -56,11 +56,12 @@ zip_at R (x ∷ xs) (z ∷ ys) h (suc at) y there = zip_at R xs ys h.1 at y ther
 
 module _ {A : Type 0} (Holds : List Row → List A → Type 0) (IsOf : Row → A → Type 0) (Fits : A → Type 0)
     (each : (table : List Row) (list : List A) → AllByRecursion Fits list → Holds table list → AllByRecursion (λ row. (a : A) × Fits a × IsOf row a) table) where
-  pub stray_row : (place : ℕ) (number : ℤ) (table : List Row) (row : Row) → Has table row → column row place ≡ Int number → ((a : A) → Fits a → ¬ IsOf row a) → HasStrayRow Holds IsOf Fits place number table
-  stray_row place number table row has is of_none = record {
+  pub stray_row : (p : Row → Bool) (place : ℕ) (number : ℤ) (table : List Row) (row : Row) → Has table row → p row ≡ true → column row place ≡ Int number → ((a : A) → Fits a → ¬ IsOf row a) → HasStrayRow Holds IsOf Fits p place number table
+  stray_row p place number table row has passes is of_none = record {
     row = row;
     at = has.0;
     there = has.1;
+    asked = passes;
     number = is;
     of_none = of_none;
     none = λ list fits holds. let one = all-slice_get (λ row. (a : A) × Fits a × IsOf row a) table has.0 row has.1 (each table list fits holds) in of_none one.0 one.1 one.2;
@@ -68,16 +69,16 @@ module _ {A : Type 0} (Holds : List Row → List A → Type 0) (IsOf : Row → A
 
   module _ {T : Type 0} (fits : T → Type 0) (shown : T → Row) (columns : Row → Row) (at place : ℕ) (number_at : (row : Row) → column (columns row) at ≡ column row place)
       (shows : (row : Row) (a : A) → Fits a → IsOf row a → (t : T) × fits t × (columns row ≡ shown t)) where
-    pub stray_shown : (p : Row → Bool) (table rows : List Row) (number : ℤ) → IsPermutation (map columns (filter p table)) rows → HasStray fits shown at number rows → HasStrayRow Holds IsOf Fits place number table
+    pub stray_shown : (p : Row → Bool) (table rows : List Row) (number : ℤ) → IsPermutation (map columns (filter p table)) rows → HasStray fits shown at number rows → HasStrayRow Holds IsOf Fits p place number table
     stray_shown p table rows number same stray =
         let found = row_shown columns p table rows same stray.0 stray.1 stray.2 in
-        stray_row place number table found.0 found.1 (sym (number_at found.0) ∙ ap (λ r. column r at) found.2 ∙ stray.3.0)
+        stray_row p place number table found.0 found.1 found.3 (sym (number_at found.0) ∙ ap (λ r. column r at) found.2 ∙ stray.3.0)
         (λ a fit is. let one = shows found.0 a fit is in stray.3.1 one.0 one.1 (sym found.2 ∙ one.2))
 
     -- what is told of a query's answer
     pub stray_of : {X B E : Type 0} (p : Row → Bool) (table : List Row) (outcome : Result X E) (rows_in : X → List Row) (result : Result B RangeFault)
         → IfErr result (λ fault. (number : ℤ) → fault ≡ Stray number → IsOkAnd outcome (λ x. HasStray fits shown at number (rows_in x))) → IfOk outcome (λ x. IsPermutation (map columns (filter p table)) (rows_in x))
-        → IfErr result (λ fault. (number : ℤ) → fault ≡ Stray number → HasStrayRow Holds IsOf Fits place number table)
+        → IfErr result (λ fault. (number : ℤ) → fault ≡ Stray number → HasStrayRow Holds IsOf Fits p place number table)
     stray_of p table outcome rows_in (Ok b) strays rows = tt
     stray_of p table (Err e) rows_in (Err fault) strays rows = λ number is. absurd (strays number is)
     stray_of p table (Ok x) rows_in (Err fault) strays rows = λ number is. stray_shown p table (rows_in x) number rows (strays number is)

@@ -233,12 +233,12 @@ shows : (row : Row) (s : SetRow) → FitsSet s → IsSetRow row s → (c : SetCo
 shows row s fits is = (is.0, (tt, texts is.0 s.graded is.2.graded is.3), ap set_columns is.1)
 
 -- the columns of a row that is met are those of no set
-stray_columns : (f l : ℕ) (table rows : List Row) (found : List SetColumns) (number : ℤ) → AllByRecursion IsSetTyped table → IsPermutation (map set_columns (filter (is_between f l) table)) rows → AreShown (λ c. IsUtf8 c.capability) whole_shown rows found → HasStraySet number found → HasStrayRow KeepsSets IsSetRow FitsSet 0 number table
+stray_columns : (f l : ℕ) (table rows : List Row) (found : List SetColumns) (number : ℤ) → AllByRecursion IsSetTyped table → IsPermutation (map set_columns (filter (is_between f l) table)) rows → AreShown (λ c. IsUtf8 c.capability) whole_shown rows found → HasStraySet number found → HasStrayRow KeepsSets IsSetRow FitsSet (is_between f l) 0 number table
 stray_columns f l table rows found number typed same shown stray =
     let at = zip_at (λ row c. BeginsWith (whole_shown c) row × IsUtf8 c.capability) rows found shown stray.place stray.columns stray.there in
     let row = row_shown set_columns (is_between f l) table rows same stray.place at.0 at.1 in
     let is = set_is row.0 stray.columns (all-slice_get IsSetTyped table row.1.0 row.0 row.1.1 typed) (subst (BeginsWith (whole_shown stray.columns)) (sym row.2) at.2.0) in
-    stray_row KeepsSets IsSetRow FitsSet each 0 number table row.0 row.1 (ap (λ r. column r 0) is ∙ ap Int stray.is)
+    stray_row KeepsSets IsSetRow FitsSet each (is_between f l) 0 number table row.0 row.1 row.3 (ap (λ r. column r 0) is ∙ ap Int stray.is)
     (λ s fits other. stray.of_none s (subst (λ c. IsSet c s) (once other.0 stray.columns (sym other.1 ∙ is)) other.2))
 
 pub stray_through : {X B C E : Type 0} (f l : ℕ) (table : List Row) (outcome : Result X E) (rows_in : X → List Row) (found : Result B RangeFault) (items : B → List SetColumns) (result : Result C RangeFault) → (IsOk found → IsOk outcome)
@@ -246,7 +246,7 @@ pub stray_through : {X B C E : Type 0} (f l : ℕ) (table : List Row) (outcome :
     → IfErr found (λ fault. (number : ℤ) → fault ≡ Stray number → IsOkAnd outcome (λ x. HasStray Columns whole_shown 0 number (rows_in x)))
     → IfErr result (λ fault. (number : ℤ) → fault ≡ Stray number → MatchResult found (λ b. HasStraySet number (items b)) (λ before. before ≡ Stray number))
     → AllByRecursion IsSetTyped table → IfOk outcome (λ x. IsPermutation (map set_columns (filter (is_between f l) table)) (rows_in x))
-    → IfErr result (λ fault. (number : ℤ) → fault ≡ Stray number → HasStrayRow KeepsSets IsSetRow FitsSet 0 number table)
+    → IfErr result (λ fault. (number : ℤ) → fault ≡ Stray number → HasStrayRow KeepsSets IsSetRow FitsSet (is_between f l) 0 number table)
 stray_through f l table outcome rows_in found items (Ok s) ok shown strays same typed rows = tt
 stray_through f l table (Err e) rows_in (Ok b) items (Err fault) ok shown strays same typed rows = absurd (let impossible = ok refl in cc)
 stray_through f l table (Err e) rows_in (Err before) items (Err fault) ok shown strays same typed rows = λ number is. absurd (strays number (same number is))

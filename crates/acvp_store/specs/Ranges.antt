@@ -49,13 +49,14 @@ AreFull values rows = AllByRecursion (λ row. length row ≡ values) rows
 abbrev pub StandsForNone : {A : Type 0} → (List Row → List A → Type 0) → (A → Type 0) → List Row → Type 0
 StandsForNone {A = A} Holds Fits rows = (list : List A) → AllByRecursion Fits list → ¬ Holds rows list
 
--- One of the rows, which has the number that is told in the column at a place, is that of no member that fits the
--- program's types. So the rows stand for no list of such members.
+-- One of the rows passes the test of the range that was asked for, has the number that is told in the column at a
+-- place, and is that of no member that fits the program's types. So the rows stand for no list of such members.
 pub record HasStrayRow {A : Type 0} (Holds : List Row → List A → Type 0) (IsOf : Row → A → Type 0) (Fits : A → Type 0)
-    (place : ℕ) (told : ℤ) (rows : List Row) : Type 0 where
+    (is_asked : Row → Bool) (place : ℕ) (told : ℤ) (rows : List Row) : Type 0 where
   pub row : Row
   pub at : ℕ
   pub there : slice_get rows at ≡ Some row
+  pub asked : is_asked row ≡ true
   pub number : column row place ≡ Int told
   pub of_none : (a : A) → Fits a → ¬ IsOf row a
   pub none : StandsForNone Holds Fits rows

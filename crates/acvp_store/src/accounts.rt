@@ -5,7 +5,7 @@ ghost use Rattle.acvp_tables.specs.Content.{account_at};
 ghost use Rattle.acvp_tables.specs.Changes.{changed, is_account, with_step, disabled, new_account};
 ghost use Rattle.acvp_tables.specs.declared.rows.AccountRow.{AccountRow as Account};
 ghost use Rattle.acvp_store.specs.Alters.{Alters};
-ghost use Rattle.acvp_store.specs.Connection.{ServesStore, IsRead, IsInside, UnderStore};
+ghost use Rattle.acvp_store.specs.Connection.{ServesStore, IsRead, UnderStore};
 ghost use Rattle.acvp_store.specs.Rows.{account_tree, HoldsAccounts, account_shown};
 ghost use Rattle.acvp_store.specs.Private.Columns.{account_columns};
 ghost use Rattle.acvp_store.specs.Private.Shown.{AreMet, is_under};

@@ -1,7 +1,6 @@
 //! The statements that move the tables of an earlier schema to those of schema 3.
-ghost use Rattle.std.specs.Prelude.{◌≡◌};
 ghost use Rattle.sqlite.specs.Held.{state};
-ghost use Rattle.acvp_store.specs.Connection.{IsReady, IsInside, IsWritten, Under, UnderStore};
+ghost use Rattle.acvp_store.specs.Connection.{IsReady, IsWritten, Under, UnderStore};
 ghost use Rattle.acvp_store.specs.Migrated.{Moves};
 ghost use Rattle.acvp_store.specs.Schema.{Migrated, schema_of, First, Second, Created, first_schema, second_schema};
 ghost use Rattle.acvp_store.specs.Schema.{schema_at};

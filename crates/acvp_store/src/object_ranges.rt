@@ -59,7 +59,9 @@ pub(crate) fn objects_numbered<S: Alter>(
         ((state S.Store conn.old).now.trees object_tree)) found.items) }
     ensures stray { IsTrue (state S.Store conn.new).is_open
         → IfErr result (λ fault. (number : ℤ) → fault ≡ RangeFault.Stray number
-        → HasStrayRow KeepsObjects IsObjectRow FitsObject 2 number ((state S.Store conn.old).now.trees object_tree)) }
+        → HasStrayRow KeepsObjects IsObjectRow FitsObject
+        (is_object_between (kind_number kind) (first_number account) (last_number account)) 2 number
+        ((state S.Store conn.old).now.trees object_tree)) }
     ensures read { IsRead result (state S.Store conn.old) (state S.Store conn.new) }
 {
     let numbers = numbers_of(account);

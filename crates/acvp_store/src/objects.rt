@@ -6,7 +6,7 @@ ghost use Rattle.acvp_registry.specs.Object.{KeptObject, object_text};
 ghost use Rattle.acvp_tables.specs.Content.{Content, kind_number, object_at, objects_of, page};
 ghost use Rattle.acvp_tables.specs.State.{AreWellNumbered};
 ghost use Rattle.acvp_tables.specs.declared.rows.ObjectRow.{ObjectRow as Registration};
-ghost use Rattle.acvp_store.specs.Connection.{ServesStore, IsRead, IsInside, UnderStore};
+ghost use Rattle.acvp_store.specs.Connection.{ServesStore, IsRead, UnderStore};
 ghost use Rattle.acvp_store.specs.Private.Columns.{columns_of_object};
 ghost use Rattle.acvp_store.specs.Private.Objects.{IsObject, Registers};
 ghost use Rattle.acvp_store.specs.Private.Shown.{AreMet, is_of};

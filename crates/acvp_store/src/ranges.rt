@@ -120,7 +120,8 @@ pub(crate) fn sessions_numbered<S: Alter>(
         ((state S.Store conn.old).now.trees session_tree) found.items) }
     ensures stray { IsTrue (state S.Store conn.new).is_open
         → IfErr result (λ fault. (number : ℤ) → fault ≡ RangeFault.Stray number
-        → HasStrayRow HoldsSessions IsSessionRow FitsSession 0 number
+        → HasStrayRow HoldsSessions IsSessionRow FitsSession
+        (is_between (first_number account) (last_number account)) 0 number
         ((state S.Store conn.old).now.trees session_tree)) }
     ensures read { IsRead result (state S.Store conn.old) (state S.Store conn.new) }
 {
@@ -167,7 +168,7 @@ pub(crate) fn accounts_between<S: Alter>(
         → IsRange HoldsAccounts account_key first last ((state S.Store conn.old).now.trees account_tree) found.items) }
     ensures stray { IsTrue (state S.Store conn.new).is_open
         → IfErr result (λ fault. (number : ℤ) → fault ≡ RangeFault.Stray number
-        → HasStrayRow HoldsAccounts IsAccountRow FitsAccount 0 number
+        → HasStrayRow HoldsAccounts IsAccountRow FitsAccount (is_between first last) 0 number
         ((state S.Store conn.old).now.trees account_tree)) }
     ensures read { IsRead result (state S.Store conn.old) (state S.Store conn.new) }
 {

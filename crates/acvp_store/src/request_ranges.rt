@@ -74,7 +74,8 @@ pub(crate) fn requests_numbered<S: Alter>(
         ((state S.Store conn.old).now.trees request_tree) found.items) }
     ensures stray { IsTrue (state S.Store conn.new).is_open
         → IfErr result (λ fault. (number : ℤ) → fault ≡ RangeFault.Stray number
-        → HasStrayRow HoldsRequests IsRequestRow FitsRequest 0 number
+        → HasStrayRow HoldsRequests IsRequestRow FitsRequest
+        (is_between (first_number account) (last_number account)) 0 number
         ((state S.Store conn.old).now.trees request_tree)) }
     ensures read { IsRead result (state S.Store conn.old) (state S.Store conn.new) }
 {

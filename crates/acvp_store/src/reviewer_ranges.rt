@@ -50,7 +50,8 @@ pub(crate) fn reviewers_numbered<S: Alter>(
     ensures stray { IsTrue (state S.Store conn.new).is_open
         → IfErr result (λ fault. InStore (state S.Store conn.old).now
         (λ layout. (number : ℤ) → fault ≡ RangeFault.Stray number
-        → HasStrayRow HoldsReviewers IsReviewerRow FitsReviewer 1 number
+        → HasStrayRow HoldsReviewers IsReviewerRow FitsReviewer
+        (is_column_between 1 (first_number account) (last_number account)) 1 number
         ((state S.Store conn.old).now.trees (reviewer_tree layout)))) }
     ensures read { IsRead result (state S.Store conn.old) (state S.Store conn.new) }
 {

@@ -6,7 +6,7 @@ ghost use Rattle.acvp_tables.specs.State.{AreWellNumbered};
 ghost use Rattle.acvp_tables.specs.Changes.{is_pair, with_reviewer};
 ghost use Rattle.acvp_tables.specs.declared.rows.ReviewerRow.{ReviewerRow as Reviewer};
 ghost use Rattle.acvp_store.specs.Alters.{Alters};
-ghost use Rattle.acvp_store.specs.Connection.{ServesStore, InStore, IsRead, IsInside, UnderStore};
+ghost use Rattle.acvp_store.specs.Connection.{ServesStore, InStore, IsRead, UnderStore};
 ghost use Rattle.acvp_store.specs.Stands.{reviewer_tree, HoldsReviewers};
 
 use crate::fault::{done, fault_of};

@@ -7,7 +7,7 @@ ghost use Rattle.acvp_tables.specs.Content.{Content, session_at, sessions_of, pa
 ghost use Rattle.acvp_tables.specs.State.{AreWellNumbered};
 ghost use Rattle.acvp_tables.specs.declared.rows.SessionRow.{SessionRow as Session};
 ghost use Rattle.acvp_store.specs.Alters.{Alters};
-ghost use Rattle.acvp_store.specs.Connection.{ServesStore, IsRead, IsInside, UnderStore};
+ghost use Rattle.acvp_store.specs.Connection.{ServesStore, IsRead, UnderStore};
 ghost use Rattle.acvp_store.specs.Rows.{session_tree, session_shown, HoldsSessions};
 ghost use Rattle.acvp_store.specs.Private.Columns.{session_columns};
 ghost use Rattle.acvp_store.specs.Private.Shown.{AreMet, is_under};

@@ -264,7 +264,8 @@ pub(crate) fn sets_numbered<S: Alter>(
     ensures stray { IsTrue (state S.Store conn.new).is_open
         → IfErr result (λ fault. InStore (state S.Store conn.old).now
         (λ layout. (number : ℤ) → fault ≡ RangeFault.Stray number
-        → HasStrayRow KeepsSets IsSetRow FitsSet 0 number ((state S.Store conn.old).now.trees (set_tree layout)))) }
+        → HasStrayRow KeepsSets IsSetRow FitsSet (is_between (first_set account) (last_set account)) 0 number
+        ((state S.Store conn.old).now.trees (set_tree layout)))) }
     ensures read { IsRead result (state S.Store conn.old) (state S.Store conn.new) }
 {
     let numbers = set_numbers_of(account);

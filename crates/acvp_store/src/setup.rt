@@ -1,7 +1,6 @@
 //! The tables of a new store.
 ghost use Rattle.std.specs.Prelude.{◌≡◌};
-ghost use Rattle.sqlite.specs.Held.{state};
-ghost use Rattle.acvp_store.specs.Connection.{IsInside, Under};
+ghost use Rattle.acvp_store.specs.Connection.{Under};
 ghost use Rattle.acvp_store.specs.Schema.{Created, schema_of};
 ghost use Rattle.acvp_store.specs.Private.Creating.{text_of, before, Makes, WritesVersion};
 

@@ -148,7 +148,6 @@ impl Member for RequestSummary {
     ghost use Rattle.std.specs.Prelude.{◌<◌, ◌^◌};
     ghost use Rattle.acvp_store.specs.Private.Shown.{IsText};
     ghost use Rattle.acvp_store.specs.Private.Summaries.{FitsPurpose, purpose_text};
-    ghost use Rattle.acvp_tables.specs.declared.summary.RequestSummary.{RequestSummary as Summary};
     ghost use Rattle.acvp_store.specs.Private.Summaries.{PurposeReads, summary_shown};
 
     ghost listed_as = { summary_shown };

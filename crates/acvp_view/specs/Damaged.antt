@@ -63,5 +63,5 @@ wrong_word wrong.NoAccountNumber = codes "noAccountNumber"
 -- what is wrong: the table, the row's key and a word
 abbrev pub damage_text : Damage → List ℕ
 damage_text (damage.Outside t number) = table_word t ++ codes " " ++ signed_decimal number ++ codes " outside"
-damage_text (damage.Stray t number) = table_word t ++ codes " " ++ signed_decimal number ++ codes " stray"
+damage_text (damage.Stray account t number) = table_word t ++ codes " " ++ signed_decimal number ++ codes " stray"
 damage_text (damage.Broken account found) = key_text found.row ++ codes " " ++ wrong_word found.wrong

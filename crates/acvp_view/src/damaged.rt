@@ -140,7 +140,7 @@ pub fn damage_text(alloc: Global, damage: Damage) -> Result<String, AllocError>
 {
     match damage {
         Damage::Outside(table, number) => numbered_text(alloc, table, number, "outside"),
-        Damage::Stray(table, number) => numbered_text(alloc, table, number, "stray"),
+        Damage::Stray(_, table, number) => numbered_text(alloc, table, number, "stray"),
         Damage::Broken(_, found) => {
             let row = key_text(alloc, found.row)?;
             found_text(alloc, row.as_str(), wrong_word(found.wrong))

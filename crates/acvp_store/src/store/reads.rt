@@ -36,7 +36,8 @@ impl<S: Alter> SqlTables<S> {
             ((state S.Store self.old).now.trees session_tree) found.items) }
         ensures stray { IsTrue (state S.Store self.new).is_open
             → IfErr result (λ fault. (number : ℤ) → fault ≡ RangeFault.Stray number
-            → HasStrayRow HoldsSessions IsSessionRow FitsSession 0 number
+            → HasStrayRow HoldsSessions IsSessionRow FitsSession
+            (is_between (first_number account) (last_number account)) 0 number
             ((state S.Store self.old).now.trees session_tree)) }
         ensures read { IsRead result (state S.Store self.old) (state S.Store self.new) }
     {
@@ -67,7 +68,7 @@ impl<S: Alter> SqlTables<S> {
             found.items) }
         ensures stray { IsTrue (state S.Store self.new).is_open
             → IfErr result (λ fault. (number : ℤ) → fault ≡ RangeFault.Stray number
-            → HasStrayRow HoldsAccounts IsAccountRow FitsAccount 0 number
+            → HasStrayRow HoldsAccounts IsAccountRow FitsAccount (is_between first last) 0 number
             ((state S.Store self.old).now.trees account_tree)) }
         ensures read { IsRead result (state S.Store self.old) (state S.Store self.new) }
     {
@@ -97,7 +98,8 @@ impl<S: Alter> SqlTables<S> {
             ((state S.Store self.old).now.trees request_tree) found.items) }
         ensures stray { IsTrue (state S.Store self.new).is_open
             → IfErr result (λ fault. (number : ℤ) → fault ≡ RangeFault.Stray number
-            → HasStrayRow HoldsRequests IsRequestRow FitsRequest 0 number
+            → HasStrayRow HoldsRequests IsRequestRow FitsRequest
+            (is_between (first_number account) (last_number account)) 0 number
             ((state S.Store self.old).now.trees request_tree)) }
         ensures read { IsRead result (state S.Store self.old) (state S.Store self.new) }
     {
@@ -129,7 +131,7 @@ impl<S: Alter> SqlTables<S> {
         ensures stray { IsTrue (state S.Store self.new).is_open
             → IfErr result (λ fault. InStore (state S.Store self.old).now
             (λ layout. (number : ℤ) → fault ≡ RangeFault.Stray number
-            → HasStrayRow KeepsSets IsSetRow FitsSet 0 number
+            → HasStrayRow KeepsSets IsSetRow FitsSet (is_between (first_set account) (last_set account)) 0 number
             ((state S.Store self.old).now.trees (set_tree layout)))) }
         ensures read { IsRead result (state S.Store self.old) (state S.Store self.new) }
     {
@@ -164,7 +166,8 @@ impl<S: Alter> SqlTables<S> {
             ((state S.Store self.old).now.trees object_tree)) found.items) }
         ensures stray { IsTrue (state S.Store self.new).is_open
             → IfErr result (λ fault. (number : ℤ) → fault ≡ RangeFault.Stray number
-            → HasStrayRow KeepsObjects IsObjectRow FitsObject 2 number
+            → HasStrayRow KeepsObjects IsObjectRow FitsObject
+            (is_object_between (kind_number kind) (first_number account) (last_number account)) 2 number
             ((state S.Store self.old).now.trees object_tree)) }
         ensures read { IsRead result (state S.Store self.old) (state S.Store self.new) }
     {
@@ -196,7 +199,8 @@ impl<S: Alter> SqlTables<S> {
         ensures stray { IsTrue (state S.Store self.new).is_open
             → IfErr result (λ fault. InStore (state S.Store self.old).now
             (λ layout. (number : ℤ) → fault ≡ RangeFault.Stray number
-            → HasStrayRow HoldsReviewers IsReviewerRow FitsReviewer 1 number
+            → HasStrayRow HoldsReviewers IsReviewerRow FitsReviewer
+            (is_column_between 1 (first_number account) (last_number account)) 1 number
             ((state S.Store self.old).now.trees (reviewer_tree layout)))) }
         ensures read { IsRead result (state S.Store self.old) (state S.Store self.new) }
     {

@@ -1,4 +1,4 @@
-use Rattle.std.proofs.Common.{◌≡◌, ◌+◌, Ok, refl, ap, arith}
+use Rattle.std.proofs.Common.{◌≡◌, ◌+◌, Some, Ok, refl, sym, ap, ◌∙◌, arith}
 use Rattle.sqlite.specs.Held.{state}
 use Rattle.acvp_audit.specs.Checked.{plus}
 use Rattle.acvp_audit.specs.declared.damage.Totals.{Totals}
@@ -46,6 +46,7 @@ loop-before-preserved g c =
     )
 
 pub returns-in-Err-clause-first : goal.returns-in-Err-clause-first
-returns-in-Err-clause-first g c = λ live layout schema inside u found is.
+returns-in-Err-clause-first g c = λ live layout schema inside u found is whose.
     let live_mid = c.in-Err.ensures.read.stays.was_open live in
-    fine_behind layout _ c.args.grades c.args.seeds.now c.loop-before.before c.loop-before.totals u (c.loop-before.invariant.1 live_mid layout schema inside) (c.in-Err.ensures.whose u found is)
+    let one : Some u ≡ Some (c.loop-before.before + 1) = sym whose ∙ c.in-Err.ensures.whose found is in
+    fine_behind layout _ c.args.grades c.args.seeds.now c.loop-before.before c.loop-before.totals u (c.loop-before.invariant.1 live_mid layout schema inside) (cc (one))

@@ -1,8 +1,9 @@
 use Rattle.std.proofs.Common.{◌<◌, ◌*◌, ◌^◌, Ok, IsTrue}
 use Rattle.sqlite.specs.Held.{state}
 use Rattle.acvp_store.specs.Connection.{InStore}
-use Rattle.acvp_audit.specs.Checked.{AreFineTo, IsReading}
+use Rattle.acvp_audit.specs.Checked.{IsReading}
 use Rattle.acvp_audit.specs.Read.{AreInTrees}
+use Rattle.acvp_audit.specs.Private.Looks.{AreFineTo}
 use Rattle.acvp_audit.specs.declared.damage.AuditFault.{AuditFault}
 use Rattle.acvp_audit.specs.declared.damage.Totals.{Totals}
 use Rattle.acvp_audit.proofs.checking.all_judged.Given as goal

@@ -1,11 +1,10 @@
-use Rattle.std.proofs.Common.{◌≡◌, ◌∙◌, ℕ, ap}
+use Rattle.std.proofs.Common.{◌≡◌, ◌∙◌, ℕ, Some, ap}
 use Rattle.sqlite.specs.Held.{state}
-use Rattle.acvp_check.specs.declared.finding.Finding.{Finding}
-use Rattle.acvp_audit.specs.Checked.{AreFineBefore, AreFineTo}
+use Rattle.acvp_audit.specs.Checked.{account_in, AreFineBefore}
 use Rattle.acvp_audit.specs.Wrong.{IsDamaged}
+use Rattle.acvp_audit.specs.Private.Looks.{AreFineTo}
 use Rattle.acvp_audit.specs.declared.damage.AuditFault.TheVariants.{Wrong}
 use Rattle.acvp_audit.specs.declared.damage.Damage.{Damage}
-use Rattle.acvp_audit.specs.declared.damage.Damage.TheVariants.{Broken}
 use Rattle.acvp_audit.proofs.First.{first_judged, first_outside}
 use Rattle.acvp_audit.proofs.Reading.{blamed_more, earlier, told_more}
 use Rattle.acvp_audit.proofs.Refuted.{damaged_in, outside_in, refuted_by}
@@ -55,5 +54,5 @@ returns-in-Ok-clause-first g c = λ live.
     let now_mid = c.in-Ok.ensures.read.stays.now live_mid in
     blamed_more c.all_judged.result _ _
     (λ fault told layout schema inside found is. first_judged layout old.now.trees grades seeds found (c.in-Ok.ensures.within live_mid layout schema inside)
-    (λ u broken same. earlier old mid (λ layout trees. (u : ℕ) (found : Finding) → fault ≡ Wrong (Broken u found) → AreFineBefore grades seeds layout trees u) now_mid told layout schema inside u broken (is ∙ ap Wrong same)))
+    (λ u whose. earlier old mid (λ layout trees. (u : ℕ) (found : Damage) → fault ≡ Wrong found → account_in found ≡ Some u → AreFineBefore grades seeds layout trees u) now_mid told layout schema inside u found is whose))
     (c.all_judged.ensures.first live)

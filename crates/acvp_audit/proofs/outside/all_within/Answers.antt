@@ -1,6 +1,6 @@
 use Rattle.std.proofs.Common.{◌≡◌, ℤ}
 use Rattle.sqlite.specs.Held.{state}
-use Rattle.acvp_audit.specs.Checked.{IsBehind}
+use Rattle.acvp_audit.specs.Private.Looks.{IsBehind}
 use Rattle.acvp_audit.specs.declared.damage.AuditFault.TheVariants.{Wrong}
 use Rattle.acvp_audit.specs.declared.damage.Damage.TheVariants.{Outside}
 use Rattle.acvp_audit.specs.declared.table.Table.{Table}

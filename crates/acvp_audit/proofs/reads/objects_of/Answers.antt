@@ -1,7 +1,7 @@
 use Rattle.std.proofs.Common.{◌≡◌, ◌++◌, ◌∙◌}
 use Rattle.sqlite.specs.Held.{state}
 use Rattle.acvp_audit.specs.Read.{AreOfKind}
-use Rattle.acvp_audit.proofs.Reading.{earlier, of_found, told_more}
+use Rattle.acvp_audit.proofs.Reading.{earlier, told_more}
 use Rattle.acvp_audit.proofs.reads.objects_of.Goals as goal
 
 pub returns-clause-rows : goal.returns-clause-rows
@@ -11,22 +11,19 @@ returns-clause-rows g c = λ opened.
     let modules = c.in_ok-modules.modules.items in
     let environments = c.in_ok-environments.environments.items in
     let old = state g.S.Store c.args.tables.now in
-    let one = state g.S.Store c.objects_numbered.new.self in
-    let two = state g.S.Store c.objects_numbered-2.new.self in
-    let open_two = c.objects_numbered-3.ensures.read.stays.was_open opened in
-    let open_one = c.objects_numbered-2.ensures.read.stays.was_open open_two in
-    let now_one = c.objects_numbered.ensures.read.stays.now open_one in
-    let now_two = c.objects_numbered-2.ensures.read.stays.now open_two in
-    let first = of_found _ _ _ c.in_ok-vendors.ensures.same (c.objects_numbered.ensures.rows open_one) in
-    let second = of_found _ _ _ c.in_ok-modules.ensures.same (c.objects_numbered-2.ensures.rows open_two) in
-    let third = of_found _ _ _ c.in_ok-environments.ensures.same (c.objects_numbered-3.ensures.rows opened) in
+    let one = state g.S.Store c.of_kind.new.tables in
+    let two = state g.S.Store c.of_kind-2.new.tables in
+    let open_two = c.in_ok-environments.ensures.read.stays.was_open opened in
+    let open_one = c.in_ok-modules.ensures.read.stays.was_open open_two in
+    let now_one = c.in_ok-vendors.ensures.read.stays.now open_one in
+    let now_two = c.in_ok-modules.ensures.read.stays.now open_two in
     told_more c.joined.result (λ found. found.items ≡ (vendors ++ modules) ++ environments) _
     (λ found is layout schema inside. record {
       vendors = vendors;
       modules = modules;
       environments = environments;
       joined = is;
-      of_vendors = first inside.objects;
-      of_modules = earlier old one (λ layout trees. AreOfKind 2 trees u modules) now_one (λ layout schema inside. second inside.objects) layout schema inside;
-      of_environments = earlier old two (λ layout trees. AreOfKind 3 trees u environments) (now_two ∙ now_one) (λ layout schema inside. third inside.objects) layout schema inside;
+      of_vendors = c.in_ok-vendors.ensures.rows open_one layout schema inside;
+      of_modules = earlier old one (λ layout trees. AreOfKind 2 trees u modules) now_one (c.in_ok-modules.ensures.rows open_two) layout schema inside;
+      of_environments = earlier old two (λ layout trees. AreOfKind 3 trees u environments) (now_two ∙ now_one) (c.in_ok-environments.ensures.rows opened) layout schema inside;
     }) c.joined.ensures.rows

@@ -48,6 +48,6 @@ returns-clause-stray g c live =
     let u = c.args.account in
     let first : SFits w64 c.numbers_of-numbers.result.first = search rules in
     let last : SFits w64 c.numbers_of-numbers.result.last = search rules in
-    stray_same (λ number. HasStrayRow HoldsRequests IsRequestRow FitsRequest 0 number (old.now.trees request_tree)) c.ranged-found.result c.read_back.result c.read_back.ensures.stray
+    stray_same (λ number. HasStrayRow HoldsRequests IsRequestRow FitsRequest (is_between (first_number u) (last_number u)) 0 number (old.now.trees request_tree)) c.ranged-found.result c.read_back.result c.read_back.ensures.stray
     (stray_of HoldsRequests IsRequestRow FitsRequest each IsMember request_shown request_columns 0 0 (λ r. refl) shows (is_between (first_number u) (last_number u)) (old.now.trees request_tree) c.query_all.result (λ v. v.items) c.ranged-found.result c.ranged-found.ensures.stray
     (IfOk-weaker c.query_all.result _ _ (λ rows shown. requests_met (c.requires was).schema.0 (first_number u) (last_number u) old new rows.items (c.requires was).schema.1 (rw (c.params-to_sql.ensures, c.params-to_sql-2.ensures, to_z-of_z first, to_z-of_z last, c.numbers_of-numbers.ensures.first, c.numbers_of-numbers.ensures.last) at shown)) (c.query_all.ensures.ok clean)))
