@@ -8,8 +8,10 @@ use acvp_audit::Watch;
 use acvp_commands::{Fault, SystemFiles, keys_in, moment_of};
 use acvp_files::{FileTables, tables_of_copy};
 use acvp_view::{
-    ViewFault, show_accounts, show_certificate, show_check, show_request, show_requests,
+    Printed, ViewFault, show_accounts, show_certificate, show_certified, show_check, show_request,
+    show_requests,
 };
+use std::alloc::AllocGlobal;
 use std::io::IsTerminal;
 
 /// What is looked at, in the database at a path.
@@ -63,27 +65,44 @@ fn seen(outcome: Result<(), ViewFault>) -> Result<bool, Fault> {
 /// Prints a line for each account.
 fn accounts(rt: &HostRuntime, database: &str) -> Result<bool, Fault> {
     let mut tables = copy_of(rt, database)?;
-    seen(show_accounts(rt, &mut tables))
+    seen(show_accounts(rt.alloc(), &mut tables, &mut Printed(rt)))
 }
 
 /// Prints a line for each request that waits for a decision, or for all.
 fn requests(rt: &HostRuntime, database: &str, all: bool) -> Result<bool, Fault> {
     let mut tables = copy_of(rt, database)?;
-    seen(show_requests(rt, &mut tables, all))
+    seen(show_requests(rt.alloc(), &mut tables, &mut Printed(rt), all))
 }
 
 /// Prints what a decision on the request of a number needs.
 fn request_show(rt: &HostRuntime, database: &str, keys: &str, number: u64) -> Result<bool, Fault> {
     let keys = keys_in(&SystemFiles(rt), keys)?;
-    let tables = copy_of(rt, database)?;
-    seen(show_request(rt, tables, keys, moment_of(rt), number))
+    let mut tables = copy_of(rt, database)?;
+    let mut lines = Printed(rt);
+    match show_request(rt.alloc(), &mut tables, &mut lines, number) {
+        Ok(request) => seen(show_certified(
+            rt.alloc(),
+            tables,
+            &mut lines,
+            keys,
+            moment_of(rt),
+            request,
+        )),
+        Err(fault) => Err(fault_of_view(fault)),
+    }
 }
 
 /// Prints the document of the approved certification of a request's number.
 fn certificate(rt: &HostRuntime, database: &str, keys: &str, number: u64) -> Result<bool, Fault> {
     let keys = keys_in(&SystemFiles(rt), keys)?;
     let mut tables = copy_of(rt, database)?;
-    seen(show_certificate(rt, &mut tables, &keys.seed, number))
+    seen(show_certificate(
+        rt.alloc(),
+        &mut tables,
+        &mut Printed(rt),
+        &keys.seed,
+        number,
+    ))
 }
 
 /// How far a check has come, as it is shown on a terminal.
@@ -113,7 +132,14 @@ fn checked(rt: &HostRuntime, database: &str, keys: &str, grades: bool) -> Result
     let mut tables = copy_of(rt, database)?;
     let is_shown = rt.stderr().is_terminal();
     let progress = Progress { rt, is_shown };
-    let outcome = show_check(rt, &mut tables, &keys.seed, grades, &progress);
+    let outcome = show_check(
+        rt.alloc(),
+        &mut tables,
+        &mut Printed(rt),
+        &keys.seed,
+        grades,
+        &progress,
+    );
     if is_shown {
         let _ = eprintln!(rt; "");
     }

@@ -1,1 +1,5 @@
 pub mod CertificateLemmas
+pub mod CertifiedLemmas
+pub mod LineLemmas
+pub mod ReadLemmas
+pub mod RequestLines

@@ -1,5 +1,5 @@
 -- What a check of a file prints: how many rows there are, or what is wrong.
-use Rattle.std.specs.Prelude.{ℕ, ℤ, List, ◌++◌, codes, decimal}
+use Rattle.std.specs.Prelude.{ℕ, List, ◌++◌, codes, decimal}
 use Rattle.std.specs.Fmt.{signed_decimal}
 use Rattle.acvp_check.specs.declared.finding.RowKey.{RowKey}
 use Rattle.acvp_check.specs.declared.finding.RowKey.TheVariants as key

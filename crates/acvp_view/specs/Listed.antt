@@ -1,10 +1,12 @@
 -- What the operator is shown of accounts and of requests, a line each.
 use Rattle.std.specs.Prelude.{ℕ, List, ◌++◌, codes, decimal, Bool, true, false, ◌||◌, if◌then◌else◌, Option, Some, None}
 use Rattle.std.specs.Prelude.{option_and_then, option_map}
+use Rattle.std.specs.List.{flat_map}
 use Rattle.acvp_registry.specs.declared.counts.Counts.{Counts}
 use Rattle.acvp_registry.specs.declared.kind.Kind.{Kind}
 use Rattle.acvp_registry.specs.declared.kind.Kind.TheVariants.{Vendor, Module, Environment, Certification}
-use Rattle.acvp_tables.specs.Content.{Content, account_at, counts_of, request_at, request_summary}
+use Rattle.acvp_tables.specs.Content.{Content, account_at, account_numbers, counts_of, request_at, request_summary}
+use Rattle.acvp_tables.specs.Content.{requests_of}
 use Rattle.acvp_tables.specs.declared.rows.AccountRow.{AccountRow}
 use Rattle.acvp_tables.specs.declared.rows.RequestStatus.{RequestStatus}
 use Rattle.acvp_tables.specs.declared.rows.RequestStatus.TheVariants as status
@@ -12,6 +14,7 @@ use Rattle.acvp_tables.specs.declared.summary.RequestPurpose.{RequestPurpose}
 use Rattle.acvp_tables.specs.declared.summary.RequestPurpose.TheVariants as asks
 use Rattle.acvp_tables.specs.declared.summary.RequestSummary.{RequestSummary}
 use Rattle.acvp_desk.specs.Orders.{is_initial}
+use Rattle.acvp_view.specs.Lines.{lines_of}
 
 -- ---- an account
 
@@ -65,3 +68,18 @@ if_shown all it = if all || is_initial it.status then Some (request_text it) els
 -- the line of the request of a number, where it is shown
 unfoldable pub request_line : Bool → ℕ → Content → Option (List ℕ)
 request_line all number c = option_and_then (if_shown all) (option_map request_summary (request_at number c.requests))
+
+-- ---- all of them
+
+-- the line of each account, by their numbers
+abbrev pub account_lines : Content → List (List ℕ)
+account_lines c = flat_map (λ number. lines_of (account_line number c)) account_numbers
+
+-- the line of each request of an account that is shown, in their order
+abbrev pub request_lines_of : Bool → Content → ℕ → List (List ℕ)
+request_lines_of all c account =
+    flat_map (λ row. lines_of (if_shown all (request_summary row))) (requests_of account c.requests)
+
+-- those of one account after another, by their numbers
+abbrev pub request_lines : Bool → Content → List (List ℕ)
+request_lines all c = flat_map (request_lines_of all c) account_numbers

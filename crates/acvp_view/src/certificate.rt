@@ -3,7 +3,6 @@
 ghost use Rattle.std.specs.Prelude.{◌≡◌, ◌++◌, ◌<◌, IfOk, codes, decimal, map, string_bytes};
 ghost use Rattle.hex.specs.Hex.{encode_lower};
 ghost use Rattle.acvp_json.specs.SetResults.{disposition_word};
-ghost use Rattle.acvp_json.specs.Time.{time_of};
 ghost use Rattle.acvp_view.specs.Certificate.{certificate_text, certified_text, named_text, session_text};
 ghost use Rattle.acvp_view.specs.Certificate.{set_front_text, set_rest_text, set_text, sets_text};
 

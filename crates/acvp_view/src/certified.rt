@@ -1,14 +1,22 @@
 //! What is certified by an approved request, as the records have it.
-ghost use Rattle.std.specs.Prelude.{◌≡◌, ◌<◌, IfOk, IfSome, Ok, Some, slice_get, string_bytes};
-ghost use Rattle.acvp_answers.specs.declared.verdict.Disposition.TheVariants.{Passed};
-ghost use Rattle.acvp_caps.specs.Registered.{registered_text};
+ghost use Rattle.std.specs.Prelude.{◌≡◌, ◌<◌, ◌++◌, List, [], ◌∷◌, IfOk, IsTrue, OnOk, Some, option_map};
+ghost use Rattle.std.specs.Prelude.{string_bytes};
+ghost use Rattle.std.specs.List.{AllZip};
+ghost use Rattle.sqlite.specs.Held.{state};
 ghost use Rattle.acvp_desk.specs.Serves.{Looks};
+ghost use Rattle.acvp_store.specs.Store.{meaning_of, stands};
 ghost use Rattle.acvp_tables.specs.Calls.{Finds};
-ghost use Rattle.acvp_view.specs.Certificate.{answers_digest, approved_by, approved_in, disposition_under};
+ghost use Rattle.acvp_tables.specs.Content.{Content, is_live_in, live_sets, object_at, session_at};
+ghost use Rattle.acvp_tables.specs.State.{AreWellNumbered};
+ghost use Rattle.acvp_view.specs.Certificate.{answers_digest, approved_by, approved_in, certificate_text};
+ghost use Rattle.acvp_view.specs.Certificate.{disposition_under};
+ghost use Rattle.acvp_view.specs.Certified.{AreSetsOf, IsCertificate, IsCertifiedSet, read_text};
+ghost use Rattle.acvp_view.specs.declared.certificate.Certificate.{Certificate as CertificateValue};
+ghost use Rattle.acvp_view.specs.declared.certificate.CertifiedSet.{CertifiedSet as CertifiedSetValue};
 
 use crate::certificate::{Certificate, CertifiedSet, certificate_text};
 use crate::fault::ViewFault;
-use crate::lists::print;
+use crate::lines::Lines;
 use acvp_answers::{Answers, Disposition, disposition, grade, standard};
 use acvp_desk::Seeds;
 use acvp_gen::prompts;
@@ -21,7 +29,7 @@ use acvp_tables::{
     Tables,
 };
 use sqlite::Alter;
-use std::alloc::{AllocError, AllocGlobal, Global};
+use std::alloc::{AllocError, Global};
 
 /// The first moment whose year has five digits.
 const END_OF_YEARS: u64 = 253402300800;
@@ -53,15 +61,7 @@ fn disposition_under(
 
 /// A vector set that is certified. Its answers are there, and under its seed they pass.
 fn certified_set(alloc: Global, row: &SetRow, seeds: &Seeds) -> Result<CertifiedSet, ViewFault>
-    ensures number { IfOk result (λ set. set.number ≡ row.now.number) }
-    ensures capability { IfOk result
-        (λ set. registered_text (string_bytes set.capability) ≡ Ok (Some row.now.capability)) }
-    ensures digest { IfOk result
-        (λ set. IfSome row.now.graded (λ graded. set.digest ≡ answers_digest graded.answers)) }
-    ensures passed { IfOk result (λ set. set.disposition ≡ Passed) }
-    ensures anew { IfOk result (λ _. IfSome row.now.graded
-        (λ graded. IfSome (slice_get seeds.now row.now.epoch)
-        (λ seed. disposition_under seed row.now.number row.now.capability graded.answers ≡ Passed))) }
+    ensures { IfOk result (IsCertifiedSet seeds.now row.now) }
 {
     let Some(graded) = &row.graded else {
         return Err(ViewFault::Refused);
@@ -82,21 +82,45 @@ fn certified_set(alloc: Global, row: &SetRow, seeds: &Seeds) -> Result<Certified
     })
 }
 
-/// The vector sets of a session that are certified, of these rows.
+/// Whether a vector set is of the session, and wasn't cancelled.
+fn is_live_in(row: &SetRow, session: u64) -> bool
+    ensures { result ≡ is_live_in session row.now }
+{
+    row.session == session && !row.cancelled
+}
+
+/// Adds what is certified of a vector set, where it is of the session and wasn't cancelled.
+fn add_certified(
+    alloc: Global,
+    sets: &mut Vec<CertifiedSet>,
+    row: &SetRow,
+    session: u64,
+    seeds: &Seeds,
+) -> Result<(), ViewFault>
+    ensures { IfOk result (λ _. (added : List CertifiedSetValue) × (sets.new.items ≡ sets.old.items ++ added)
+        × AllZip (IsCertifiedSet seeds.now) (live_sets session (row.now ∷ [])) added) }
+{
+    if is_live_in(row, session) {
+        let set = certified_set(alloc, row, seeds)?;
+        if sets.push(set).is_err() {
+            return Err(ViewFault::Memory);
+        }
+    }
+    Ok(())
+}
+
+/// The vector sets of a session that are certified, of these rows: all that weren't cancelled.
 fn certified_sets(
     alloc: Global,
     rows: &[SetRow],
     session: u64,
     seeds: &Seeds,
-) -> Result<Vec<CertifiedSet>, ViewFault> {
+) -> Result<Vec<CertifiedSet>, ViewFault>
+    ensures { IfOk result (λ sets. AllZip (IsCertifiedSet seeds.now) (live_sets session rows.now) sets.items) }
+{
     let mut sets = Vec::new(alloc);
     for row in rows {
-        if row.session == session && !row.cancelled {
-            let set = certified_set(alloc, row, seeds)?;
-            if sets.push(set).is_err() {
-                return Err(ViewFault::Memory);
-            }
-        }
+        add_certified(alloc, &mut sets, row, session, seeds)?;
     }
     Ok(sets)
 }
@@ -105,7 +129,11 @@ fn certified_sets(
 fn sets_of_account<S: Alter + Drop>(
     tables: &mut SqlTables<S>,
     account: u16,
-) -> Result<Vec<SetRow>, ViewFault> {
+) -> Result<Vec<SetRow>, ViewFault>
+    ensures rows { IsTrue (state S.Store tables.new).is_open → IfOk result (λ rows. (c : Content)
+        → stands S.Store tables.old c → AreSetsOf c account rows.items) }
+    ensures looks { Looks (meaning_of S.Store) result tables.old tables.new }
+{
     match tables.sets_numbered(account) {
         Ok(rows) => Ok(rows),
         Err(RangeFault::Stray(_)) => Err(ViewFault::Refused),
@@ -143,7 +171,11 @@ pub fn approved_certification<T: Tables>(
 }
 
 /// The object of a kind and number.
-fn registered<T: Tables>(tables: &mut T, kind: Kind, number: u64) -> Result<ObjectRow, ViewFault> {
+fn registered<T: Tables>(tables: &mut T, kind: Kind, number: u64) -> Result<ObjectRow, ViewFault>
+    ensures found { Finds T.meaning (λ row. Some row) result tables.old tables.new
+        (λ c. object_at kind number c.objects) }
+    ensures looks { Looks T.meaning result tables.old tables.new }
+{
     match tables.object(kind, number)? {
         Some(row) => Ok(row),
         None => Err(ViewFault::Refused),
@@ -151,7 +183,9 @@ fn registered<T: Tables>(tables: &mut T, kind: Kind, number: u64) -> Result<Obje
 }
 
 /// The text of an object as its account reads it.
-fn object_text(alloc: Global, row: &ObjectRow) -> Result<String, AllocError> {
+fn object_text(alloc: Global, row: &ObjectRow) -> Result<String, AllocError>
+    ensures { IfOk result (λ text. string_bytes text ≡ read_text row.now) }
+{
     match with_url(alloc, &row.object, row.number) {
         Ok(value) => value.to_string(alloc),
         Err(_) => Err(AllocError),
@@ -164,14 +198,21 @@ fn text_of<T: Tables>(
     tables: &mut T,
     kind: Kind,
     number: u64,
-) -> Result<String, ViewFault> {
+) -> Result<String, ViewFault>
+    ensures found { Finds T.meaning (λ text. Some (string_bytes text)) result tables.old tables.new
+        (λ c. option_map read_text (object_at kind number c.objects)) }
+    ensures looks { Looks T.meaning result tables.old tables.new }
+{
     let row = registered(tables, kind, number)?;
     Ok(object_text(alloc, &row)?)
 }
 
 /// When a session was made.
 fn created<T: Tables>(tables: &mut T, session: u64) -> Result<u64, ViewFault>
-    ensures { IfOk result (λ moment. moment < 253402300800) }
+    ensures early { IfOk result (λ moment. moment < 253402300800) }
+    ensures found { Finds T.meaning (λ moment. Some moment) result tables.old tables.new
+        (λ c. option_map (λ row. row.created) (session_at session c.sessions)) }
+    ensures looks { Looks T.meaning result tables.old tables.new }
 {
     match tables.session(session)? {
         Some(row) if row.created < END_OF_YEARS => Ok(row.created),
@@ -186,7 +227,9 @@ fn certificate<S: Alter + Drop>(
     seeds: &Seeds,
     number: u64,
 ) -> Result<Certificate, ViewFault>
-    ensures { IfOk result (λ it. it.created < 253402300800) }
+    ensures early { IfOk result (λ it. it.created < 253402300800) }
+    ensures said { IsTrue (state S.Store tables.new).is_open → IfOk result (λ it. (c : Content)
+        → AreWellNumbered c → stands S.Store tables.old c → IsCertificate seeds.now number c it) }
 {
     let Some((account, certification)) = approved_certification(tables, number)? else {
         return Err(ViewFault::Unknown);
@@ -196,6 +239,8 @@ fn certificate<S: Alter + Drop>(
     let Some(vendor) = module.object.vendor() else {
         return Err(ViewFault::Refused);
     };
+    let vendor = text_of(alloc, tables, Kind::Vendor, vendor)?;
+    let environment = text_of(alloc, tables, Kind::Environment, certification.environment)?;
     let rows = sets_of_account(tables, account)?;
     Ok(Certificate {
         request: number,
@@ -203,20 +248,26 @@ fn certificate<S: Alter + Drop>(
         session: certification.session,
         created,
         module: object_text(alloc, &module)?,
-        vendor: text_of(alloc, tables, Kind::Vendor, vendor)?,
-        environment: text_of(alloc, tables, Kind::Environment, certification.environment)?,
+        vendor,
+        environment,
         sets: certified_sets(alloc, &rows, certification.session, seeds)?,
     })
 }
 
-/// Prints the document of the approved certification of a request's number.
-pub fn show_certificate<S: Alter + Drop, R: Print + AllocGlobal>(
-    rt: &R,
+/// Hands on the document of the approved certification of a request's number. Where it can't be made, nothing is handed
+/// on.
+pub fn show_certificate<S: Alter + Drop, L: Lines>(
+    alloc: Global,
     tables: &mut SqlTables<S>,
+    lines: &mut L,
     seeds: &Seeds,
     number: u64,
-) -> Result<(), ViewFault> {
-    let it = certificate(rt.alloc(), tables, seeds, number)?;
-    let text = certificate_text(rt.alloc(), &it)?;
-    print(rt, text.as_str())
+) -> Result<(), ViewFault>
+    ensures { IsTrue (state S.Store tables.new).is_open → OnOk result ((c : Content)
+        → AreWellNumbered c → stands S.Store tables.old c → (it : CertificateValue)
+        × IsCertificate seeds.now number c it × L.takes lines.old (certificate_text it) lines.new) }
+{
+    let it = certificate(alloc, tables, seeds, number)?;
+    let text = certificate_text(alloc, &it)?;
+    lines.take(text.as_str())
 }

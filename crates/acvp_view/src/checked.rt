@@ -9,12 +9,12 @@ ghost use Rattle.acvp_view.specs.Checked.{IsWholeLine, IsWrongLine};
 
 use crate::damaged::{damage_text, whole_text};
 use crate::fault::ViewFault;
-use crate::lists::print;
+use crate::lines::Lines;
 use acvp_audit::{AuditFault, Watch, check};
 use acvp_gen::Seeds;
 use acvp_store::SqlTables;
 use sqlite::Alter;
-use std::alloc::{AllocGlobal, Global};
+use std::alloc::Global;
 
 /// The line of a check, which says how many rows there are or what is wrong with them, and whether they are whole.
 fn check_text<S: Alter, W: Watch>(
@@ -40,10 +40,11 @@ fn check_text<S: Alter, W: Watch>(
     }
 }
 
-/// Prints how many rows there are, or what is wrong with them, and says whether they are whole.
-pub fn show_check<S: Alter, R: Print + AllocGlobal, W: Watch>(
-    rt: &R,
+/// Hands on how many rows there are, or what is wrong with them, and says whether they are whole.
+pub fn show_check<S: Alter, L: Lines, W: Watch>(
+    alloc: Global,
     tables: &mut SqlTables<S>,
+    lines: &mut L,
     seeds: &Seeds,
     grades: bool,
     watch: &W,
@@ -51,13 +52,15 @@ pub fn show_check<S: Alter, R: Print + AllocGlobal, W: Watch>(
     ensures whole { IsTrue (state S.Store tables.new).is_open
         → IfOk result (λ whole. whole ≡ true → (ours : IsOurs (state S.Store tables.old).now)
         → AreInTrees ours.layout (state S.Store tables.old).now.trees
-        → (line : List ℕ) × IsWholeLine grades seeds.now ours.layout (state S.Store tables.old).now.trees line) }
+        → (line : List ℕ) × IsWholeLine grades seeds.now ours.layout (state S.Store tables.old).now.trees line
+        × L.takes lines.old line lines.new) }
     ensures wrong { IsTrue (state S.Store tables.new).is_open
         → IfOk result (λ whole. whole ≡ false → InStore (state S.Store tables.old).now
-        (λ layout. (line : List ℕ) × IsWrongLine grades seeds.now layout (state S.Store tables.old).now.trees line)) }
+        (λ layout. (line : List ℕ) × IsWrongLine grades seeds.now layout (state S.Store tables.old).now.trees line
+        × L.takes lines.old line lines.new)) }
     ensures read { IsReading result (state S.Store tables.old) (state S.Store tables.new) }
 {
-    let (line, whole) = check_text(rt.alloc(), tables, seeds, grades, watch)?;
-    print(rt, line.as_str())?;
+    let (line, whole) = check_text(alloc, tables, seeds, grades, watch)?;
+    lines.take(line.as_str())?;
     Ok(whole)
 }

@@ -1,8 +1,15 @@
 //! All accounts, and the requests that wait for a decision, or all: a line each.
+ghost use Rattle.std.specs.Prelude.{◌+◌, ◌<◌, ◌^◌};
+ghost use Rattle.std.specs.List.{flat_map, range_with_len};
+ghost use Rattle.acvp_desk.specs.Serves.{Looks};
+ghost use Rattle.acvp_view.specs.Listed.{account_line, account_lines, request_line, request_lines, request_lines_of};
+ghost use Rattle.acvp_view.specs.Lines.{Tells, lines_of};
+
 use crate::fault::ViewFault;
+use crate::lines::{Lines, hand_on};
 use crate::listed::{account_line, request_line};
 use acvp_tables::{Counted, Tables};
-use std::alloc::AllocGlobal;
+use std::alloc::Global;
 
 /// The greatest number of an account.
 const MOST_ACCOUNT: u16 = 9999;
@@ -10,53 +17,108 @@ const MOST_ACCOUNT: u16 = 9999;
 /// How many numbers an account has.
 const NUMBERS_OF_AN_ACCOUNT: u64 = 1_000_000;
 
-/// Prints a line.
-pub(crate) fn print<R: Print>(rt: &R, line: &str) -> Result<(), ViewFault> {
-    match println!(rt; "{line}") {
-        Ok(()) => Ok(()),
-        Err(_) => Err(ViewFault::Write),
-    }
+/// Hands on the line of the account of a number, where there is one.
+fn show_account<T: Tables, L: Lines>(
+    alloc: Global,
+    tables: &mut T,
+    lines: &mut L,
+    number: u16,
+) -> Result<(), ViewFault>
+    ensures told { Tells L.takes T.meaning result tables.old tables.new lines.old lines.new
+        (λ c. lines_of (account_line number c)) }
+    ensures looks { Looks T.meaning result tables.old tables.new }
+{
+    let line = account_line(alloc, tables, number)?;
+    hand_on(lines, line)
 }
 
-/// Prints a line for each account.
-pub fn show_accounts<T: Tables, R: Print + AllocGlobal>(
-    rt: &R,
+/// Hands on a line for each account.
+pub fn show_accounts<T: Tables, L: Lines>(
+    alloc: Global,
     tables: &mut T,
-) -> Result<(), ViewFault> {
+    lines: &mut L,
+) -> Result<(), ViewFault>
+    ensures told { Tells L.takes T.meaning result tables.old tables.new lines.old lines.new account_lines }
+    ensures looks { Looks T.meaning result tables.old tables.new }
+{
     for number in 1..=MOST_ACCOUNT {
-        if let Some(line) = account_line(rt.alloc(), tables, number)? {
-            print(rt, line.as_str())?;
-        }
+        show_account(alloc, tables, lines, number)?;
     }
     Ok(())
 }
 
-/// Prints a line for each request of an account that waits for a decision, or for all of its requests.
-fn show_requests_of<T: Tables, R: Print + AllocGlobal>(
-    rt: &R,
+/// Hands on the line of the request of a number, where it is shown.
+pub(crate) fn show_numbered<T: Tables, L: Lines>(
+    alloc: Global,
     tables: &mut T,
+    lines: &mut L,
+    number: u64,
+    all: bool,
+) -> Result<(), ViewFault>
+    ensures told { Tells L.takes T.meaning result tables.old tables.new lines.old lines.new
+        (λ c. lines_of (request_line all number c)) }
+    ensures looks { Looks T.meaning result tables.old tables.new }
+{
+    let line = request_line(alloc, tables, number, all)?;
+    hand_on(lines, line)
+}
+
+/// Hands on the lines of so many requests that are shown, from a number on.
+fn show_range<T: Tables, L: Lines>(
+    alloc: Global,
+    tables: &mut T,
+    lines: &mut L,
+    first: u64,
+    count: u64,
+    all: bool,
+) -> Result<(), ViewFault>
+    requires { first + count < 2 ^ 64 }
+    ensures told { Tells L.takes T.meaning result tables.old tables.new lines.old lines.new
+        (λ c. flat_map (λ number. lines_of (request_line all number c)) (range_with_len first count)) }
+    ensures looks { Looks T.meaning result tables.old tables.new }
+{
+    for place in 0..count {
+        show_numbered(alloc, tables, lines, first + place, all)?;
+    }
+    Ok(())
+}
+
+/// Hands on a line for each request of an account that waits for a decision, or for all of its requests.
+fn show_requests_of<T: Tables, L: Lines>(
+    alloc: Global,
+    tables: &mut T,
+    lines: &mut L,
     account: u16,
     all: bool,
-) -> Result<(), ViewFault> {
+) -> Result<(), ViewFault>
+    ensures told { Tells L.takes T.meaning result tables.old tables.new lines.old lines.new
+        (λ c. request_lines_of all c account) }
+    ensures looks { Looks T.meaning result tables.old tables.new }
+{
     let count = tables.count(account, Counted::Requests)?;
-    let first = u64::from(account) * NUMBERS_OF_AN_ACCOUNT;
-    for place in 1..=count {
-        let number = first.saturating_add(place);
-        if let Some(line) = request_line(rt.alloc(), tables, number, all)? {
-            print(rt, line.as_str())?;
-        }
-    }
-    Ok(())
+    let first = u64::from(account) * NUMBERS_OF_AN_ACCOUNT + 1;
+    show_range(
+        alloc,
+        tables,
+        lines,
+        first,
+        count.min(u64::MAX - first),
+        all,
+    )
 }
 
-/// Prints a line for each request that waits for a decision, or for all.
-pub fn show_requests<T: Tables, R: Print + AllocGlobal>(
-    rt: &R,
+/// Hands on a line for each request that waits for a decision, or for all.
+pub fn show_requests<T: Tables, L: Lines>(
+    alloc: Global,
     tables: &mut T,
+    lines: &mut L,
     all: bool,
-) -> Result<(), ViewFault> {
+) -> Result<(), ViewFault>
+    ensures told { Tells L.takes T.meaning result tables.old tables.new lines.old lines.new (request_lines all) }
+    ensures looks { Looks T.meaning result tables.old tables.new }
+{
     for account in 1..=MOST_ACCOUNT {
-        show_requests_of(rt, tables, account, all)?;
+        show_requests_of(alloc, tables, lines, account, all)?;
     }
     Ok(())
 }

@@ -1,16 +1,31 @@
 //! What a decision on a request needs: the request's line, and then what it asks for. Nothing is changed.
+ghost use Rattle.std.specs.Prelude.{◌≡◌, IfOk, IsTrue, OnOk, Some, option_map, true};
+ghost use Rattle.std.specs.List.{flat_map};
+ghost use Rattle.sqlite.specs.Held.{state};
+ghost use Rattle.acvp_desk.specs.Serves.{Looks};
+ghost use Rattle.acvp_registry.specs.declared.kind.Kind.{Kind as KindValue};
+ghost use Rattle.acvp_store.specs.Store.{meaning_of, stands};
+ghost use Rattle.acvp_tables.specs.Calls.{Finds};
+ghost use Rattle.acvp_tables.specs.Content.{Content, request_at, request_summary};
+ghost use Rattle.acvp_tables.specs.State.{AreWellNumbered};
+ghost use Rattle.acvp_view.specs.Lines.{HandsOn, TakesAll, Tells, lines_of};
+ghost use Rattle.acvp_view.specs.Listed.{request_line};
+ghost use Rattle.acvp_view.specs.Shown.{AreRequestsOf, IsAsked, object_lines};
+
 use crate::fault::ViewFault;
-use crate::listed::request_line;
-use crate::lists::print;
+use crate::lines::Lines;
+use crate::lists::show_numbered;
 use acvp_desk::{Desk, Keys};
 use acvp_http::{Routes, handle_bytes};
 use acvp_json::{ReplyObject, write_reply};
 use acvp_registry::{Kind, object_url};
 use acvp_store::SqlTables;
-use acvp_tables::{Certification, RequestBody, RequestPurpose, RequestSummary, SetSummary, Tables};
+use acvp_tables::{
+    Certification, RequestBody, RequestPurpose, RequestRow, RequestSummary, SetSummary, Tables,
+};
 use acvp_token::{Claims, KeyRing, issue_ring};
 use sqlite::Alter;
-use std::alloc::{AllocGlobal, Global};
+use std::alloc::Global;
 
 /// How many vector sets a session has at most.
 const MOST_SETS: u64 = 20;
@@ -31,8 +46,8 @@ fn body_of(reply: &[u8]) -> &str {
 
 /// An account that reads in the copy, with a token for its own paths and one for those of a test session.
 #[derive(Drop)]
-struct Reader<'a, R> {
-    rt: &'a R,
+struct Reader<'a> {
+    alloc: Global,
     routes: &'a Routes,
     moment: u64,
     own: &'a str,
@@ -59,60 +74,63 @@ fn token_of(
     }
 }
 
-/// Prints a path, and the body that a request to read it with a token is answered.
-fn show<T: Tables, R: Print + AllocGlobal>(
-    reader: &Reader<'_, R>,
+/// Hands on a path, and the body that a request to read it with a token is answered.
+fn show<T: Tables, L: Lines>(
+    reader: &Reader<'_>,
     desk: &mut Desk<T>,
+    lines: &mut L,
     path: &str,
     token: &str,
 ) -> Result<(), ViewFault> {
-    let alloc = reader.rt.alloc();
+    let alloc = reader.alloc;
     let request = format!(in alloc;
         "GET {path} HTTP/1.1\r\nHost: localhost\r\nAuthorization: Bearer {token}\r\n\r\n"
     )?;
     let reply = handle_bytes(reader.routes, desk, reader.moment, request.as_bytes());
     let body = body_of(reply.bytes());
     let line = format!(in alloc; "{path} {body}")?;
-    print(reader.rt, line.as_str())
+    lines.take(line.as_str())
 }
 
-/// Prints a test session as `show` does, or what lies below it.
-fn show_session<T: Tables, R: Print + AllocGlobal>(
-    reader: &Reader<'_, R>,
+/// Hands on a test session as `show` does, or what lies below it.
+fn show_session<T: Tables, L: Lines>(
+    reader: &Reader<'_>,
     desk: &mut Desk<T>,
+    lines: &mut L,
     session: u64,
     below: &str,
 ) -> Result<(), ViewFault> {
-    let path = format!(in reader.rt.alloc(); "/acvp/v1/testSessions/{session}{below}")?;
-    show(reader, desk, path.as_str(), reader.bound)
+    let path = format!(in reader.alloc; "/acvp/v1/testSessions/{session}{below}")?;
+    show(reader, desk, lines, path.as_str(), reader.bound)
 }
 
-/// Prints an object of a registry as `show` does.
-fn show_registered<T: Tables, R: Print + AllocGlobal>(
-    reader: &Reader<'_, R>,
+/// Hands on an object of a registry as `show` does.
+fn show_registered<T: Tables, L: Lines>(
+    reader: &Reader<'_>,
     desk: &mut Desk<T>,
+    lines: &mut L,
     kind: Kind,
     number: u64,
 ) -> Result<(), ViewFault> {
-    match object_url(reader.rt.alloc(), kind, number)? {
-        Some(path) => show(reader, desk, path.as_str(), reader.own),
+    match object_url(reader.alloc, kind, number)? {
+        Some(path) => show(reader, desk, lines, path.as_str(), reader.own),
         None => Ok(()),
     }
 }
 
-/// Prints a vector set: whether it was cancelled, its capability, and what its last answers came to.
-fn show_set<T: Tables, R: Print + AllocGlobal>(
-    rt: &R,
+/// Hands on a vector set: whether it was cancelled, its capability, and what its last answers came to.
+fn show_set<T: Tables, L: Lines>(
+    alloc: Global,
     tables: &mut T,
+    lines: &mut L,
     set: &SetSummary,
 ) -> Result<(), ViewFault> {
-    let alloc = rt.alloc();
     let number = set.number;
     let state = if set.cancelled { "cancelled" } else { "kept" };
     if let Some(capability) = tables.capability(number)? {
         let text = capability.to_text(alloc)?;
         let line = format!(in alloc; "vectorSet {number} {state} {text}")?;
-        print(rt, line.as_str())?;
+        lines.take(line.as_str())?;
     }
     let Some(disposition) = set.disposition else {
         return Ok(());
@@ -128,38 +146,46 @@ fn show_set<T: Tables, R: Print + AllocGlobal>(
     let body = write_reply(alloc, &results)?;
     let text = std::str::from_utf8(&body).unwrap_or("");
     let line = format!(in alloc; "vectorSet {number} {text}")?;
-    print(rt, line.as_str())
+    lines.take(line.as_str())
 }
 
-/// Prints each vector set of a test session, the cancelled ones too.
-fn show_sets<T: Tables, R: Print + AllocGlobal>(
-    rt: &R,
+/// Hands on each vector set of a test session, the cancelled ones too.
+fn show_sets<T: Tables, L: Lines>(
+    alloc: Global,
     tables: &mut T,
+    lines: &mut L,
     session: u64,
 ) -> Result<(), ViewFault> {
     for place in 1..=MOST_SETS {
         let number = session.saturating_mul(100).saturating_add(place);
         if let Some(set) = tables.set(number)? {
-            show_set(rt, tables, &set)?;
+            show_set(alloc, tables, lines, &set)?;
         }
     }
     Ok(())
 }
 
-/// Prints what a certification names, as the account that asks for it reads it.
-fn show_named<T: Tables, R: Print + AllocGlobal>(
-    reader: &Reader<'_, R>,
+/// Hands on what a certification names, as the account that asks for it reads it.
+fn show_named<T: Tables, L: Lines>(
+    reader: &Reader<'_>,
     desk: &mut Desk<T>,
+    lines: &mut L,
     certification: Certification,
     vendor: Option<u64>,
 ) -> Result<(), ViewFault> {
-    show_session(reader, desk, certification.session, "")?;
-    show_session(reader, desk, certification.session, "/results")?;
-    show_registered(reader, desk, Kind::Module, certification.module)?;
+    show_session(reader, desk, lines, certification.session, "")?;
+    show_session(reader, desk, lines, certification.session, "/results")?;
+    show_registered(reader, desk, lines, Kind::Module, certification.module)?;
     if let Some(vendor) = vendor {
-        show_registered(reader, desk, Kind::Vendor, vendor)?;
+        show_registered(reader, desk, lines, Kind::Vendor, vendor)?;
     }
-    show_registered(reader, desk, Kind::Environment, certification.environment)
+    show_registered(
+        reader,
+        desk,
+        lines,
+        Kind::Environment,
+        certification.environment,
+    )
 }
 
 /// The number of the vendor of a module, where there is one.
@@ -178,108 +204,166 @@ fn desk_over<T: Tables + Drop>(alloc: Global, keys: Keys, tables: T) -> Result<D
     }
 }
 
-/// Prints what a certification names, as the account reads it that asks for it, at a desk of its own.
-fn show_read<T: Tables + Drop, R: Print + AllocGlobal>(
-    rt: &R,
+/// Hands on what a certification names, as the account reads it that asks for it, at a desk of its own.
+fn show_read<T: Tables + Drop, L: Lines>(
+    alloc: Global,
     tables: T,
+    lines: &mut L,
     keys: Keys,
     moment: u64,
     account: u16,
     certification: Certification,
     vendor: Option<u64>,
 ) -> Result<(), ViewFault> {
-    let alloc = rt.alloc();
     let own = token_of(alloc, &keys.token, account, None, moment)?;
     let session = Some(certification.session);
     let bound = token_of(alloc, &keys.token, account, session, moment)?;
     let routes = Routes::new(alloc)?;
     let mut desk = desk_over(alloc, keys, tables)?;
     let reader = Reader {
-        rt,
+        alloc,
         routes: &routes,
         moment,
         own: own.as_str(),
         bound: bound.as_str(),
     };
-    show_named(&reader, &mut desk, certification, vendor)
+    show_named(&reader, &mut desk, lines, certification, vendor)
 }
 
-/// Prints what a decision on a certification needs.
-fn show_certification<T: Tables + Drop, R: Print + AllocGlobal>(
-    rt: &R,
+/// Hands on what a decision on a certification needs.
+fn show_certification<T: Tables + Drop, L: Lines>(
+    alloc: Global,
     mut tables: T,
+    lines: &mut L,
     keys: Keys,
     moment: u64,
     account: u16,
     certification: Certification,
 ) -> Result<(), ViewFault> {
-    show_sets(rt, &mut tables, certification.session)?;
+    show_sets(alloc, &mut tables, lines, certification.session)?;
     let vendor = vendor_of(&mut tables, certification.module)?;
-    show_read(rt, tables, keys, moment, account, certification, vendor)
+    show_read(
+        alloc,
+        tables,
+        lines,
+        keys,
+        moment,
+        account,
+        certification,
+        vendor,
+    )
 }
 
-/// Prints the object that a request asks to register, where it asks for that.
-fn show_object<S: Alter + Drop, R: Print + AllocGlobal>(
-    rt: &R,
+/// The requests of an account.
+fn requests_of_account<S: Alter + Drop>(
     tables: &mut SqlTables<S>,
-    request: &RequestSummary,
-) -> Result<(), ViewFault> {
-    let Ok(rows) = tables.requests_numbered(request.account) else {
-        return Err(ViewFault::Refused);
-    };
-    for row in rows.iter() {
-        if row.number == request.number
-            && let RequestBody::Registration(object) = &row.body
-        {
-            print(rt, object.text())?;
+    account: u16,
+) -> Result<Vec<RequestRow>, ViewFault>
+    ensures rows { IsTrue (state S.Store tables.new).is_open → IfOk result (λ rows. (c : Content)
+        → stands S.Store tables.old c → AreRequestsOf S.Store c account rows.items) }
+    ensures looks { Looks (meaning_of S.Store) result tables.old tables.new }
+{
+    match tables.requests_numbered(account) {
+        Ok(rows) => Ok(rows),
+        Err(_) => Err(ViewFault::Refused),
+    }
+}
+
+/// Hands on the object that a row asks to register, where it is the request of this number and asks for that.
+fn show_registration<L: Lines>(
+    lines: &mut L,
+    row: &RequestRow,
+    number: u64,
+) -> Result<(), ViewFault>
+    ensures { HandsOn L.takes result (object_lines number row.now) lines.old lines.new }
+{
+    if row.number == number {
+        match &row.body {
+            RequestBody::Registration(object) => lines.take(object.text()),
+            RequestBody::Certification(_) => Ok(()),
         }
+    } else {
+        Ok(())
+    }
+}
+
+/// Hands on the object that the request of a number asks to register, which is among these rows.
+fn show_registrations<L: Lines>(
+    lines: &mut L,
+    rows: &[RequestRow],
+    number: u64,
+) -> Result<(), ViewFault>
+    ensures { OnOk result (TakesAll L.takes (flat_map (object_lines number) rows.now) lines.old lines.new) }
+{
+    for row in rows {
+        show_registration(lines, row, number)?;
     }
     Ok(())
 }
 
-/// Prints the line of a request, and gives it.
-fn request_of<T: Tables, R: Print + AllocGlobal>(
-    rt: &R,
+/// Hands on the line of a request, and gives the request.
+fn request_of<T: Tables, L: Lines>(
+    alloc: Global,
     tables: &mut T,
+    lines: &mut L,
     number: u64,
-) -> Result<RequestSummary, ViewFault> {
+) -> Result<RequestSummary, ViewFault>
+    ensures found { Finds T.meaning (λ request. Some request) result tables.old tables.new
+        (λ c. option_map request_summary (request_at number c.requests)) }
+    ensures told { Tells L.takes T.meaning result tables.old tables.new lines.old lines.new
+        (λ c. lines_of (request_line true number c)) }
+    ensures looks { Looks T.meaning result tables.old tables.new }
+{
     let Some(request) = tables.request(number)? else {
         return Err(ViewFault::Unknown);
     };
-    if let Some(line) = request_line(rt.alloc(), tables, number, true)? {
-        print(rt, line.as_str())?;
-    }
+    show_numbered(alloc, tables, lines, number, true)?;
     Ok(request)
 }
 
-/// Prints what a request asks for, where that is a certification: each vector set of the session, and what the account
-/// reads of all that it names.
-fn show_certified<T: Tables + Drop, R: Print + AllocGlobal>(
-    rt: &R,
-    tables: T,
+/// Hands on the line of the request of a number, and then the object that it asks to register, where it asks for that.
+/// Gives the request.
+pub fn show_request<S: Alter + Drop, L: Lines>(
+    alloc: Global,
+    tables: &mut SqlTables<S>,
+    lines: &mut L,
+    number: u64,
+) -> Result<RequestSummary, ViewFault>
+    ensures { IsTrue (state S.Store tables.new).is_open → IfOk result (λ request. (c : Content)
+        → AreWellNumbered c → stands S.Store tables.old c
+        → IsAsked S.Store L.takes number c request lines.old lines.new) }
+{
+    let request = request_of(alloc, tables, lines, number)?;
+    let rows = requests_of_account(tables, request.account)?;
+    show_registrations(lines, &rows, request.number)?;
+    Ok(request)
+}
+
+/// Hands on what a decision on a request needs beside its line, where it asks for a certification: each vector set of
+/// the session, and what the account reads at this moment of all that the certification names. Of any other request
+/// nothing is handed on.
+pub fn show_certified<S: Alter + Drop, L: Lines>(
+    alloc: Global,
+    tables: SqlTables<S>,
+    lines: &mut L,
     keys: Keys,
     moment: u64,
     request: RequestSummary,
-) -> Result<(), ViewFault> {
+) -> Result<(), ViewFault>
+    ensures { (kind : KindValue) → request.purpose ≡ RequestPurpose.Registration kind → lines.new ≡ lines.old }
+{
     match request.purpose {
         RequestPurpose::Registration(_) => Ok(()),
         RequestPurpose::Certification(certification) => {
-            show_certification(rt, tables, keys, moment, request.account, certification)
+            show_certification(
+                alloc,
+                tables,
+                lines,
+                keys,
+                moment,
+                request.account,
+                certification,
+            )
         }
     }
-}
-
-/// Prints what a decision on the request of a number needs: its line, and then what it asks for: the object that it
-/// asks to register; or each vector set of the session, and what the account reads at this moment of all that the
-/// certification names.
-pub fn show_request<S: Alter + Drop, R: Print + AllocGlobal>(
-    rt: &R,
-    mut tables: SqlTables<S>,
-    keys: Keys,
-    moment: u64,
-    number: u64,
-) -> Result<(), ViewFault> {
-    let request = request_of(rt, &mut tables, number)?;
-    show_object(rt, &mut tables, &request)?;
-    show_certified(rt, tables, keys, moment, request)
 }
