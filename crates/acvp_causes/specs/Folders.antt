@@ -1,6 +1,6 @@
--- The folder that a path leads into.
+-- The folder that a path leads into, and the name there.
 use Rattle.std.specs.Prelude.{◌==◌, ℕ, Bool, List, [], codes, if◌then◌else◌}
-use Rattle.std.specs.List.{before_last, list_any}
+use Rattle.std.specs.List.{after_last, before_last, list_any}
 
 abbrev pub is_slash : ℕ → Bool
 is_slash byte = byte == 47
@@ -13,3 +13,7 @@ or_root folder = folder
 -- what stands before the last slash, and without one the folder where the program runs
 abbrev pub folder_of : List ℕ → List ℕ
 folder_of path = if list_any is_slash path then or_root (before_last is_slash path) else codes "."
+
+-- what stands behind the last slash, and without one the whole
+abbrev pub last_of : List ℕ → List ℕ
+last_of path = after_last is_slash path

@@ -1,4 +1,7 @@
 //! Why a command, or a request, failed.
+ghost use Rattle.std.specs.Prelude.{◌≡◌};
+ghost use Rattle.acvp_causes.specs.declared.cause.Place.TheVariants.{Itself};
+
 use crate::texts::TextFault;
 use std::{fmt, io};
 
@@ -23,6 +26,18 @@ pub enum Cause {
 
     /// The file has so many names.
     Names(u64),
+
+    /// The file is mounted by itself, so its log isn't beside it.
+    Mounted,
+
+    /// Somebody has the file, but not the log beside it.
+    Moved,
+
+    /// Another user, of this number, has made the file.
+    Owner(u32),
+
+    /// Others may do more with the file than with the database.
+    Open,
 
     /// Beside the file there is a journal.
     Journal,
@@ -81,6 +96,16 @@ impl fmt::Display for Cause {
             Cause::Unmade => f.write_str("it can't be made in its folder"),
             Cause::NoFile => f.write_str("it is no regular file"),
             Cause::Names(count) => write!(f, "it has {count} names (hard links), and may have one"),
+            Cause::Mounted => f.write_str(
+                "it is mounted by itself: name it where its log (-wal) is beside it",
+            ),
+            Cause::Moved => f.write_str(
+                "another process has it, but not the log beside it (-wal): it was moved, or is served by another name",
+            ),
+            Cause::Owner(user) => write!(f, "user {user} has made it, who isn't its owner's"),
+            Cause::Open => f.write_str(
+                "others may read or write it, who may not with the database",
+            ),
             Cause::Journal => f.write_str(
                 "a journal is beside it (-journal), which sqlite3 has to settle",
             ),
@@ -114,9 +139,54 @@ impl fmt::Display for Cause {
     }
 }
 
-/// A cause, and the option whose file it is of.
+/// Which file a cause is of, as an option of a command names it.
+#[derive(Clone, Copy)]
+pub enum Place {
+    /// The file itself.
+    Itself,
+
+    /// The log beside it.
+    Log,
+
+    /// The socket of orders beside it.
+    Socket,
+}
+
+impl fmt::Display for Place {
+    fn fmt<W: fmt::Write>(&self, f: &mut fmt::Formatter<W>) -> fmt::Result {
+        f.write_str(match *self {
+            Place::Itself => "",
+            Place::Log => ", its log (-wal)",
+            Place::Socket => ", its socket (-orders)",
+        })
+    }
+}
+
+/// A cause, and the file that it is of.
 #[derive(Clone, Copy)]
 pub struct Because {
     pub option: &'static str,
+    pub place: Place,
     pub cause: Cause,
+}
+
+impl Because {
+    /// The cause of the file that an option names.
+    pub fn of(option: &'static str, cause: Cause) -> Because
+        ensures option { result.option.now ≡ option.now }
+        ensures place { result.place ≡ Itself }
+        ensures cause { result.cause ≡ cause }
+    {
+        Because {
+            option,
+            place: Place::Itself,
+            cause,
+        }
+    }
+}
+
+impl fmt::Display for Because {
+    fn fmt<W: fmt::Write>(&self, f: &mut fmt::Formatter<W>) -> fmt::Result {
+        write!(f, "because: {}{}: {}", self.option, self.place, self.cause)
+    }
 }

@@ -3,14 +3,19 @@
 
 mod begins;
 mod cause;
+mod holders;
+mod names;
+mod owners;
 mod pages;
 mod places;
 mod texts;
 
 pub use begins::{LOG_HEADER, header_of, is_database, is_foreign};
-pub use cause::{Because, Cause};
+pub use cause::{Because, Cause, Place};
+pub use names::name_of;
+pub use owners::{OF_OTHERS, cause_of_maker};
 pub use places::{
-    EMPTY_LOG, are_there, cause_of_database, cause_of_error, cause_of_folder, cause_of_source,
-    folder_of, has_log, holds_any, why_refused,
+    EMPTY_LOG, are_there, cause_of_database, cause_of_error, cause_of_folder, cause_of_neighbours,
+    cause_of_source, folder_of, has_log, holds_any, is_moved, last_of, why_refused,
 };
 pub use texts::{TextFault, keys_fault, secret_fault};

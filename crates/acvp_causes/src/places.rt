@@ -1,15 +1,18 @@
 //! What can be seen at a database's files afterwards. They are looked at once more, and nothing is written.
-ghost use Rattle.std.specs.Prelude.{◌≡◌, ◌≢◌, ◌↔◌, IfErr, IfOk, Some, false, nat_lt};
+ghost use Rattle.std.specs.Prelude.{◌≡◌, ◌≢◌, ◌↔◌, IfErr, IfOk, IsErr, None, Some, false, nat_lt, true};
 ghost use Rattle.std.specs.IoError.{error_kind};
 ghost use Rattle.std.specs.Fs.{IsFile, file_type};
 ghost use Rattle.acvp_causes.specs.Causes.{cause_of_error, cause_of_length};
-ghost use Rattle.acvp_causes.specs.Folders.{folder_of};
+ghost use Rattle.acvp_causes.specs.Folders.{folder_of, last_of};
 ghost use Rattle.acvp_causes.specs.Pages.{bytes_told};
 
 use crate::begins::{begin_of, is_foreign};
-use crate::cause::{Because, Cause};
+use crate::cause::{Because, Cause, Place};
+use crate::holders::is_locked;
+use crate::names::{is_mounted, name_of};
+use crate::owners::{cause_of_log_access, cause_of_neighbour};
 use crate::pages::{HEADER, bytes_told, has_tables};
-use std::alloc::{AllocGlobal, Global};
+use std::alloc::{AllocError, AllocGlobal, Global};
 use std::fs::{self, File, Files, Metadata, OpenOptions};
 use std::io::{self, ErrorKind};
 use std::os::fd::AsRawFd;
@@ -60,6 +63,16 @@ pub fn folder_of(path: &str) -> &str
     }
 }
 
+/// The last part of a path.
+pub fn last_of(path: &str) -> &str
+    ensures { result.now ≡ last_of path.now }
+{
+    match path.rsplit_once('/') {
+        Some((_, name)) => name,
+        None => path,
+    }
+}
+
 /// Why a file can't be looked at, by the error: there is none, or the system refuses.
 pub fn cause_of_error(error: io::Error) -> Cause
     ensures { result ≡ cause_of_error error }
@@ -83,6 +96,30 @@ fn cause_of_place(there: &Metadata) -> Option<Cause>
     }
 }
 
+/// Why what a path names isn't taken for a file of a database: it is no file of one name, or is mounted by itself.
+fn cause_of_name(rt: &HostRuntime, path: &str) -> Option<Cause> {
+    match fs::symlink_metadata(rt, path) {
+        Ok(there) => match cause_of_place(&there) {
+            None => cause_where(is_mounted(rt, path), Cause::Mounted),
+            cause => cause,
+        },
+        Err(error) => Some(cause_of_error(error)),
+    }
+}
+
+/// A cause, if it is so. That memory ran out while it was looked is a cause, too.
+fn cause_where(is_so: Result<bool, AllocError>, cause: Cause) -> Option<Cause>
+    ensures so { is_so ≡ Ok true → result ≡ Some cause }
+    ensures not { is_so ≡ Ok false → result ≡ None }
+    ensures memory { IsErr is_so → result ≡ Some Cause.Memory }
+{
+    match is_so {
+        Ok(true) => Some(cause),
+        Ok(false) => None,
+        Err(_) => Some(Cause::Memory),
+    }
+}
+
 /// Whether another process has an open file locked. The lock that is tried ends with the file's close.
 fn is_held(file: &File) -> bool {
     os::try_lock_range(
@@ -95,13 +132,8 @@ fn is_held(file: &File) -> bool {
 
 /// Why a file can't be had alone.
 fn cause_of_hold(rt: &HostRuntime, path: &str) -> Option<Cause> {
-    match fs::symlink_metadata(rt, path) {
-        Ok(there) => {
-            if let Some(cause) = cause_of_place(&there) {
-                return Some(cause);
-            }
-        }
-        Err(error) => return Some(cause_of_error(error)),
+    if let Some(cause) = cause_of_name(rt, path) {
+        return Some(cause);
     }
     match OpenOptions::new().read(true).write(true).open(rt, path) {
         Ok(file) if is_held(&file) => Some(Cause::Held),
@@ -111,17 +143,15 @@ fn cause_of_hold(rt: &HostRuntime, path: &str) -> Option<Cause> {
 }
 
 /// Whether there is something beside a file that another program has to settle: a journal that begins with no zero.
-fn has_journal(rt: &HostRuntime, path: &str) -> bool {
-    let Ok(journal) = format!(in rt.alloc(); "{path}-journal") else {
-        return false;
-    };
+fn has_journal(rt: &HostRuntime, path: &str) -> Result<bool, AllocError> {
+    let journal = format!(in rt.alloc(); "{path}-journal")?;
     let Ok(there) = fs::symlink_metadata(rt, journal.as_str()) else {
-        return false;
+        return Ok(false);
     };
     let mut first = [0];
     match begin_of(rt, journal.as_str(), &mut first) {
-        Ok(_) => !there.is_file() || first != [0],
-        Err(_) => true,
+        Ok(_) => Ok(!there.is_file() || first != [0]),
+        Err(_) => Ok(true),
     }
 }
 
@@ -133,14 +163,51 @@ pub fn has_log(rt: &HostRuntime, path: &str) -> bool {
     }
 }
 
-/// Why the log beside a file can't be had alone.
-fn cause_of_log(rt: &HostRuntime, path: &str) -> Option<Cause> {
-    let Ok(log) = format!(in rt.alloc(); "{path}-wal") else {
-        return Some(Cause::Memory);
+/// A cause that there is no file is none.
+fn unless_missing(cause: Option<Cause>) -> Option<Cause>
+    ensures missing { cause ≡ Some Cause.Missing → result ≡ None }
+    ensures other { cause ≢ Some Cause.Missing → result ≡ cause }
+{
+    match cause {
+        Some(Cause::Missing) => None,
+        cause => cause,
+    }
+}
+
+/// Why the log beside a database isn't taken, whoever has it.
+fn cause_of_log(rt: &HostRuntime, database: &str, log: &str) -> Option<Cause> {
+    match unless_missing(cause_of_name(rt, log)) {
+        None => cause_of_log_access(rt, database, log),
+        cause => cause,
+    }
+}
+
+/// Why the files beside a database aren't taken, whoever has them: the log is no file of its own, another user has made
+/// it or the socket of orders, or others may do more with the log than with the database.
+pub fn cause_of_neighbours(rt: &HostRuntime, option: &'static str, db: &str) -> Option<Because> {
+    let alloc = rt.alloc();
+    let (Ok(log), Ok(socket)) = (
+        format!(in alloc; "{db}-wal"),
+        format!(in alloc; "{db}-orders"),
+    ) else {
+        return Some(Because::of(option, Cause::Memory));
     };
-    match cause_of_hold(rt, log.as_str()) {
-        Some(Cause::Missing) | None => None,
-        Some(cause) => Some(cause),
+    if let Some(cause) = cause_of_log(rt, db, log.as_str()) {
+        let place = Place::Log;
+        return Some(Because {
+            option,
+            place,
+            cause,
+        });
+    }
+    let place = Place::Socket;
+    match cause_of_neighbour(rt, db, socket.as_str()) {
+        Some(cause) => Some(Because {
+            option,
+            place,
+            cause,
+        }),
+        None => None,
     }
 }
 
@@ -184,32 +251,46 @@ pub fn are_there(rt: &HostRuntime, path: &str) -> bool {
     }
 }
 
+/// Why the log beside a file can't be had alone.
+fn cause_of_held_log(rt: &HostRuntime, path: &str) -> Option<Cause> {
+    match format!(in rt.alloc(); "{path}-wal") {
+        Ok(log) => unless_missing(cause_of_hold(rt, log.as_str())),
+        Err(_) => Some(Cause::Memory),
+    }
+}
+
+/// Why a database can't be opened, as can be seen at its file.
+fn cause_of_file(rt: &HostRuntime, path: &str) -> Option<Cause> {
+    match cause_of_hold(rt, path) {
+        None => cause_where(has_journal(rt, path), Cause::Journal),
+        cause => cause,
+    }
+}
+
 /// Why a database can't be opened, where that can be seen.
 pub fn cause_of_database(rt: &HostRuntime, db: &str) -> Option<Because> {
-    let of_file = |cause| Because {
-        option: "--db",
-        cause,
+    let option = "--db";
+    let name = match name_of(rt, db) {
+        Ok(name) => name,
+        Err(error) => return Some(Because::of(option, cause_of_error(error))),
     };
-    // The files lie where a link leads.
-    let path = match fs::canonicalize(rt, db) {
-        Ok(path) => path,
-        Err(error) => return Some(of_file(cause_of_error(error))),
-    };
-    match cause_of_hold(rt, path.as_str()) {
-        Some(cause) => return Some(of_file(cause)),
-        None => {}
+    let path = name.as_str();
+    if let Some(cause) = cause_of_file(rt, path) {
+        return Some(Because::of(option, cause));
     }
-    if has_journal(rt, path.as_str()) {
-        return Some(of_file(Cause::Journal));
+    if let Some(because) = cause_of_neighbours(rt, option, path) {
+        return Some(because);
     }
-    if let Some(cause) = cause_of_log(rt, path.as_str()) {
+    if let Some(cause) = cause_of_held_log(rt, path) {
+        let place = Place::Log;
         return Some(Because {
-            option: "--db, its log (-wal)",
+            option,
+            place,
             cause,
         });
     }
-    match cause_of_content(rt, path.as_str()) {
-        Some(cause) => Some(of_file(cause)),
+    match cause_of_content(rt, path) {
+        Some(cause) => Some(Because::of(option, cause)),
         None => None,
     }
 }
@@ -222,16 +303,51 @@ pub fn cause_of_folder(rt: &HostRuntime, path: &str) -> Option<Cause> {
     }
 }
 
-/// Why a database can't be copied, where that can be seen.
-pub fn cause_of_source(rt: &HostRuntime, path: &str) -> Option<Cause> {
-    match File::open(rt, path) {
-        Ok(_) => {}
-        Err(error) => return Some(cause_of_error(error)),
+/// Whether somebody has the file of a name locked. One that isn't there is locked by nobody.
+fn is_held_by_any(rt: &HostRuntime, path: &str) -> Result<bool, AllocError> {
+    match fs::symlink_metadata(rt, path) {
+        Ok(there) => is_locked(rt, &there),
+        Err(_) => Ok(false),
     }
+}
+
+/// Whether whoever has a database has another log than that beside it, as far as the system tells. The error is that
+/// memory ran out.
+pub fn is_moved(rt: &HostRuntime, path: &str, log: &str) -> Result<bool, AllocError> {
+    Ok(is_held_by_any(rt, path)? && !is_held_by_any(rt, log)?)
+}
+
+/// What is wrong with the file that a database is to be copied from, whoever has it.
+fn cause_of_copied_file(rt: &HostRuntime, path: &str) -> Option<Cause> {
+    match cause_of_name(rt, path) {
+        None => match File::open(rt, path) {
+            Ok(_) => cause_where(has_journal(rt, path), Cause::Journal),
+            Err(error) => Some(cause_of_error(error)),
+        },
+        cause => cause,
+    }
+}
+
+/// What is wrong with what a database holds that is to be copied.
+fn cause_of_copied_content(rt: &HostRuntime, path: &str) -> Option<Cause> {
     match fs::metadata(rt, path) {
-        Ok(there) if !there.is_file() => Some(Cause::NoFile),
         Ok(there) if there.len() == 0 && !has_log(rt, path) => Some(Cause::Foreign),
         _ => cause_of_content(rt, path),
+    }
+}
+
+/// Why the database of a name, which this option gives, isn't copied, where that can be seen. Whoever has it goes on
+/// having it.
+pub fn cause_of_source(rt: &HostRuntime, option: &'static str, name: &str) -> Option<Because> {
+    if let Some(cause) = cause_of_copied_file(rt, name) {
+        return Some(Because::of(option, cause));
+    }
+    if let Some(because) = cause_of_neighbours(rt, option, name) {
+        return Some(because);
+    }
+    match cause_of_copied_content(rt, name) {
+        Some(cause) => Some(Because::of(option, cause)),
+        None => None,
     }
 }
 

@@ -6,6 +6,8 @@ use Rattle.sqlite.specs.declared.error.Error.TheVariants.{SqliteFailure}
 use Rattle.sqlite.specs.declared.error.ErrorCode.TheVariants.{DatabaseBusy, OutOfMemory}
 use Rattle.acvp_store.specs.declared.fault.AdoptFault.{AdoptFault}
 use Rattle.acvp_store.specs.declared.fault.AdoptFault.TheVariants as adopted
+use Rattle.acvp_causes.specs.declared.cause.Cause.{Cause}
+use Rattle.acvp_causes.specs.declared.cause.Cause.TheVariants as cause
 use Rattle.acvp_files.specs.declared.connection.Unopened.{Unopened}
 use Rattle.acvp_files.specs.declared.connection.Unopened.TheVariants.{Failed, Taken}
 use Rattle.acvp_files.specs.declared.fault.FileFault.{FileFault}
@@ -31,3 +33,8 @@ fault_of_adopt adopted.Memory = Memory
 abbrev pub fault_of_kind : ErrorKind → FileFault
 fault_of_kind kind.OutOfMemory = Memory
 fault_of_kind _ = Unavailable
+
+-- a file that isn't taken, for whatever else than want of memory, is unavailable
+abbrev pub fault_of_cause : Cause → FileFault
+fault_of_cause cause.Memory = Memory
+fault_of_cause _ = Unavailable

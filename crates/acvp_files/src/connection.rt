@@ -10,9 +10,10 @@ ghost use Rattle.sqlite_wal.specs.Files.{image_at};
 ghost use Rattle.sqlite_wal.specs.Reads.{AreClean};
 ghost use Rattle.acvp_files.specs.Faults.{fault_of_open, why_unopened};
 
-use crate::fault::{FileFault, refused};
+use crate::fault::{FileFault, fault_of_cause, refused};
+use crate::number::{FileNumber, file_at};
 use crate::privacy::{has_no_log, make_private};
-use acvp_causes::is_foreign;
+use acvp_causes::{cause_of_neighbours, is_foreign};
 use sqlite::{Connection, Error, ErrorCode, FileFrom, FileStore, Files, Start};
 use sqlite_disk::Disk;
 use std::fs;
@@ -62,8 +63,47 @@ fn connect<S: Start>(rt: &HostRuntime, path: &str, start: S) -> Result<FileConne
     }
 }
 
-/// A connection to the database in a file. Where the file holds something else, and there is no log that could make it
-/// one, it isn't opened.
+/// Whether the files of a name may be taken for a database's: no other user has made what lies beside the file.
+fn may_be_taken(rt: &HostRuntime, path: &str) -> Result<(), FileFault> {
+    match cause_of_neighbours(rt, "", path) {
+        None => Ok(()),
+        Some(because) => Err(fault_of_cause(because.cause)),
+    }
+}
+
+/// Whether a name is still that of the file that it was of, and the files beside it may be taken.
+fn is_still(rt: &HostRuntime, path: &str, file: FileNumber) -> Result<(), FileFault> {
+    match file_at(rt, path) {
+        Ok(there) if there == file => may_be_taken(rt, path),
+        Ok(_) => Err(FileFault::Unavailable),
+        Err(error) => Err(refused(&error)),
+    }
+}
+
+/// A connection to the database in a file that is there. The system opens a name and locks the file only then: a file
+/// that was replaced between the two is nobody's any more, so it is looked at the name once more behind the lock.
+fn connect_held<S: Start>(
+    rt: &HostRuntime,
+    path: &str,
+    start: S,
+) -> Result<FileConnection<S>, Unopened>
+    ensures memory { path.now ≡ codes ":memory:" → IsErr result }
+    ensures fresh { IfOk result IsNew }
+    ensures found { IfOk result (λ c. HasCleanDisk (file_state c) → FindsIn (image_at S.Start) (file_state c)) }
+{
+    let file = match file_at(rt, path) {
+        Ok(file) => file,
+        Err(error) => return Err(Unopened::Failed(refused(&error))),
+    };
+    let connection = connect(rt, path, start)?;
+    match is_still(rt, path, file) {
+        Ok(()) => Ok(connection),
+        Err(fault) => Err(Unopened::Failed(fault)),
+    }
+}
+
+/// A connection to the database in a file. If the file holds something else, and there is no log that could make it
+/// one, it isn't opened; nor if another user has made what lies beside it.
 fn connect_known<S: Start>(
     rt: &HostRuntime,
     path: &str,
@@ -73,10 +113,13 @@ fn connect_known<S: Start>(
     ensures fresh { IfOk result IsNew }
     ensures found { IfOk result (λ c. HasCleanDisk (file_state c) → FindsIn (image_at S.Start) (file_state c)) }
 {
+    if let Err(fault) = may_be_taken(rt, path) {
+        return Err(Unopened::Failed(fault));
+    }
     if has_no_log(rt, path) && is_foreign(rt, path) {
         return Err(Unopened::Failed(FileFault::Unavailable));
     }
-    connect(rt, path, start)
+    connect_held(rt, path, start)
 }
 
 /// A connection to the database in a file, which is made for its owner alone where there is none.

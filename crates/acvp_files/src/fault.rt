@@ -1,8 +1,9 @@
 //! Why a database isn't opened, or isn't copied.
-ghost use Rattle.std.specs.Prelude.{◌≡◌};
+ghost use Rattle.std.specs.Prelude.{◌≡◌, IfErr, IfOk};
 ghost use Rattle.std.specs.IoError.{error_kind};
-ghost use Rattle.acvp_files.specs.Faults.{fault_of_kind};
+ghost use Rattle.acvp_files.specs.Faults.{fault_of_cause, fault_of_kind};
 
+use acvp_causes::Cause;
 use acvp_store::AdoptFault;
 use std::alloc::AllocError;
 use std::io;
@@ -49,6 +50,16 @@ impl From<AdoptFault> for FileFault {
     }
 }
 
+/// The fault of a file that isn't taken.
+pub(crate) fn fault_of_cause(cause: Cause) -> FileFault
+    ensures { result ≡ fault_of_cause cause }
+{
+    match cause {
+        Cause::Memory => FileFault::Memory,
+        _ => FileFault::Unavailable,
+    }
+}
+
 /// The fault of what the system refuses.
 pub(crate) fn refused(error: &io::Error) -> FileFault
     ensures { result ≡ fault_of_kind (error_kind error.now) }
@@ -56,5 +67,16 @@ pub(crate) fn refused(error: &io::Error) -> FileFault
     match error.kind() {
         io::ErrorKind::OutOfMemory => FileFault::Memory,
         _ => FileFault::Unavailable,
+    }
+}
+
+/// What an answer of the system comes to.
+pub(crate) fn done<T>(answer: io::Result<T>) -> Result<T, FileFault>
+    ensures ok { IfOk answer (λ value. result ≡ Ok value) }
+    ensures err { IfErr answer (λ error. result ≡ Err (fault_of_kind (error_kind error))) }
+{
+    match answer {
+        Ok(value) => Ok(value),
+        Err(error) => Err(refused(&error)),
     }
 }

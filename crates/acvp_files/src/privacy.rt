@@ -1,20 +1,37 @@
 //! Who may read the files of a laboratory. A database is made for its owner alone, and its log for whom the database
-//! is; a file with secrets that others may read is told.
-use acvp_causes::EMPTY_LOG;
+//! is; what others may read, or a folder that others may write, can be warned of.
+use acvp_causes::{EMPTY_LOG, OF_OTHERS, folder_of, name_of};
 use std::alloc::AllocGlobal;
-use std::fs::{self, OpenOptions, Permissions};
+use std::fs::{self, OpenOptions};
 use std::io::ErrorKind;
-use std::os::unix::fs::{MetadataExt, OpenOptionsExt, PermissionsExt};
+use std::os::unix::fs::{MetadataExt, OpenOptionsExt};
 
-/// The bits of a file's mode by which others than its owner read and write it.
-const OF_OTHERS: u32 = 0o066;
+/// The bits of a folder's mode by which others than its owner make files in it.
+const WRITE_OF_OTHERS: u32 = 0o022;
 
-/// Tells a file on standard error that others than its owner may read or write.
+/// Warns on standard error of a file that others than its owner may read or write.
 pub fn tell_open(rt: &HostRuntime, path: &str) {
     if let Ok(there) = fs::metadata(rt, path)
         && there.mode() & OF_OTHERS != 0
     {
         let _ = eprintln!(rt; "warning: others than its owner may read {path}");
+    }
+}
+
+/// Warns on standard error of a database, its log, or their folder that others may read or write.
+pub fn tell_open_database(rt: &HostRuntime, path: &str) {
+    let Ok(name) = name_of(rt, path) else {
+        return;
+    };
+    tell_open(rt, name.as_str());
+    if let Ok(log) = format!(in rt.alloc(); "{}-wal", name.as_str()) {
+        tell_open(rt, log.as_str());
+    }
+    let folder = folder_of(name.as_str());
+    if let Ok(there) = fs::metadata(rt, folder)
+        && there.mode() & WRITE_OF_OTHERS != 0
+    {
+        let _ = eprintln!(rt; "warning: others than its owner may make files in {folder}");
     }
 }
 
@@ -36,16 +53,6 @@ pub fn has_no_log(rt: &HostRuntime, path: &str) -> bool {
             Err(error) => error.kind() == ErrorKind::NotFound,
         },
         Err(_) => false,
-    }
-}
-
-/// Leaves a new log to those alone who may read its database.
-pub fn keep_log_private(rt: &HostRuntime, path: &str) {
-    if let Ok(log) = format!(in rt.alloc(); "{path}-wal")
-        && let Ok(there) = fs::metadata(rt, path)
-    {
-        let mode = Permissions::from_mode(there.mode() & 0o666);
-        let _ = fs::set_permissions(rt, log.as_str(), mode);
     }
 }
 

@@ -1,0 +1,76 @@
+//! The name of a database: beside it lie the log, the socket of orders and the copies that are made.
+ghost use Rattle.std.specs.Prelude.{◌≡◌, ◌≢◌, IfErr, IfOk, IsErr, None, Some};
+ghost use Rattle.std.specs.IoError.{error_kind};
+
+use std::alloc::{AllocError, AllocGlobal, Global};
+use std::fs;
+use std::io::{self, ErrorKind};
+
+/// The system's table of mounts (proc_pid_mountinfo(5)).
+const MOUNTS: &str = "/proc/self/mountinfo";
+
+/// The name under which the database at a path is opened: where the path leads, if its last part is a link, and else
+/// the path as it is. The error of a link that leads nowhere is NotFound.
+pub fn name_of(rt: &HostRuntime, path: &str) -> io::Result<String> {
+    let is_link = match fs::symlink_metadata(rt, path) {
+        Ok(there) => there.is_symlink(),
+        Err(error) if error.kind() == ErrorKind::NotFound => false,
+        Err(error) => return Err(error),
+    };
+    if is_link {
+        let real = fs::canonicalize(rt, path)?;
+        return Ok(String::from_str(rt.alloc(), real.as_str())?);
+    }
+    Ok(String::from_str(rt.alloc(), path)?)
+}
+
+/// How the table of mounts writes a character that would end a field: by its octal number.
+fn octal(character: char) -> Option<&'static str> {
+    match character {
+        '\t' => Some("\\011"),
+        '\n' => Some("\\012"),
+        ' ' => Some("\\040"),
+        '\\' => Some("\\134"),
+        _ => None,
+    }
+}
+
+/// How the line of a mount at a path goes on from the path: a space, the path, and the options `rw` or `ro`. No other
+/// field of a line is a path before such options.
+fn mount_at(alloc: Global, path: &str) -> Result<String, AllocError> {
+    let mut text = String::from_str(alloc, " ")?;
+    for character in path.chars() {
+        match octal(character) {
+            Some(number) => text.push_str(number)?,
+            None => text.push(character)?,
+        }
+    }
+    text.push_str(" r")?;
+    Ok(text)
+}
+
+/// Whether the file of a path is mounted there by itself: what lies beside the path doesn't lie beside the file. False
+/// where the system doesn't tell. The error is that memory ran out.
+pub(crate) fn is_mounted(rt: &HostRuntime, path: &str) -> Result<bool, AllocError> {
+    let Some(real) = unless_refused(fs::canonicalize(rt, path))? else {
+        return Ok(false);
+    };
+    let mount = mount_at(rt.alloc(), real.as_str())?;
+    match unless_refused(fs::read_to_string(rt, MOUNTS))? {
+        Some(table) => Ok(table.contains(mount.as_str())),
+        None => Ok(false),
+    }
+}
+
+/// What the system tells, if it does. The error is that memory ran out.
+pub(crate) fn unless_refused<T>(told: io::Result<T>) -> Result<Option<T>, AllocError>
+    ensures told { IfOk told (λ value. result ≡ Ok (Some value)) }
+    ensures memory { IfErr told (λ error. error_kind error ≡ ErrorKind.OutOfMemory → IsErr result) }
+    ensures refused { IfErr told (λ error. error_kind error ≢ ErrorKind.OutOfMemory → result ≡ Ok None) }
+{
+    match told {
+        Ok(value) => Ok(Some(value)),
+        Err(error) if error.kind() == ErrorKind::OutOfMemory => Err(AllocError),
+        Err(_) => Ok(None),
+    }
+}

@@ -1,0 +1,199 @@
+//! The copies that a command makes beside a file, and those that a killed command has left there.
+//!
+//! Whoever makes a copy has it locked until it is taken away or has its name. So a copy that nobody has locked was left.
+ghost use Rattle.std.specs.Prelude.{◌≡◌};
+ghost use Rattle.std.specs.List.{list_all};
+ghost use Rattle.std.specs.Char.{is_ascii_digit};
+ghost use Rattle.acvp_files.specs.Parts.{is_moment};
+
+use crate::fault::{FileFault, done};
+use crate::number::{file_at, number_of};
+use acvp_causes::{folder_of, last_of};
+use std::alloc::{AllocGlobal, Global};
+use std::fs::{self, File, OpenOptions};
+use std::io::{self, ErrorKind};
+use std::os::unix::fs::OpenOptionsExt;
+use std::time::{SystemTime, UNIX_EPOCH};
+
+/// How many digits the moment of a copy has, in billionths of a second since 1970: from 2001 to 2286.
+const MOMENT_DIGITS: usize = 19;
+
+/// What a copy is made for.
+#[derive(Clone, Copy)]
+pub(crate) enum Use {
+    /// To be a file of its own.
+    Part,
+
+    /// To be looked at.
+    Look,
+}
+
+impl Use {
+    /// The word of a use in the name of a copy.
+    fn word(self) -> &'static str {
+        match self {
+            Use::Part => "-part-",
+            Use::Look => "-look-",
+        }
+    }
+}
+
+/// The paths of a database and of its log.
+#[derive(Drop)]
+pub(crate) struct Pair {
+    pub(crate) file: String,
+    pub(crate) log: String,
+}
+
+/// The database at a path, with its log.
+pub(crate) fn pair_at(alloc: Global, path: &str) -> Result<Pair, FileFault> {
+    Ok(Pair {
+        file: String::from_str(alloc, path)?,
+        log: format!(in alloc; "{path}-wal")?,
+    })
+}
+
+/// A copy that is being made. Its file is locked by this command alone as long as this is kept.
+#[derive(Drop)]
+pub(crate) struct Part {
+    pub(crate) pair: Pair,
+    lock: File,
+}
+
+/// The moment to the billionth of a second; 0 if the clock doesn't tell it.
+fn precise_moment(rt: &HostRuntime) -> u128 {
+    match SystemTime::now(rt) {
+        Ok(now) => match now.duration_since(UNIX_EPOCH) {
+            Ok(since) => since.as_nanos(),
+            Err(_) => 0,
+        },
+        Err(_) => 0,
+    }
+}
+
+/// Makes an empty file that only its owner may read. If there is one, it stays as it is, and that is the error.
+pub(crate) fn make_new(rt: &HostRuntime, path: &str) -> io::Result<File> {
+    OpenOptions::new()
+        .write(true)
+        .create_new(true)
+        .mode(0o600)
+        .open(rt, path)
+}
+
+/// Takes a file away, if it is there.
+pub(crate) fn remove(rt: &HostRuntime, path: &str) -> io::Result<()> {
+    match fs::remove_file(rt, path) {
+        Ok(()) => Ok(()),
+        Err(error) if error.kind() == ErrorKind::NotFound => Ok(()),
+        Err(error) => Err(error),
+    }
+}
+
+/// Takes both files away, if they are there.
+fn remove_pair(rt: &HostRuntime, pair: &Pair) {
+    let _ = remove(rt, pair.file.as_str());
+    let _ = remove(rt, pair.log.as_str());
+}
+
+/// Locks a file that was just made. It must still have its name: until the lock another command may take it away.
+fn lock_new(rt: &HostRuntime, path: &str, file: &File) -> io::Result<()> {
+    if file.try_lock().is_err() || file_at(rt, path)? != number_of(&file.metadata()?) {
+        return Err(ErrorKind::ResourceBusy.into());
+    }
+    Ok(())
+}
+
+/// Makes the two empty files of a copy, and locks the first, or makes none.
+fn make_pair(rt: &HostRuntime, pair: &Pair) -> io::Result<File> {
+    let file = make_new(rt, pair.file.as_str())?;
+    let locked = lock_new(rt, pair.file.as_str(), &file);
+    let made = match locked {
+        Ok(()) => make_new(rt, pair.log.as_str()),
+        Err(error) => Err(error),
+    };
+    match made {
+        Ok(_) => Ok(file),
+        Err(error) => {
+            let _ = remove(rt, pair.file.as_str());
+            Err(error)
+        }
+    }
+}
+
+/// The empty files of a copy beside a path. No other command has their names, and no file that was there is touched.
+/// Copies of the same name that a killed command has left are taken away before.
+pub(crate) fn new_copy(rt: &HostRuntime, base: &str, what: Use) -> Result<Part, FileFault> {
+    remove_left(rt, base);
+    let (word, moment) = (what.word(), precise_moment(rt));
+    let name = format!(in rt.alloc(); "{base}{word}{moment}")?;
+    let pair = pair_at(rt.alloc(), name.as_str())?;
+    let lock = done(make_pair(rt, &pair))?;
+    Ok(Part { pair, lock })
+}
+
+/// Takes the files of a copy away that are still there.
+pub(crate) fn give_up(rt: &HostRuntime, part: &Part) {
+    remove_pair(rt, &part.pair);
+}
+
+/// Whether all bytes are decimal digits.
+fn are_digits(text: &[u8]) -> bool
+    ensures { result ≡ list_all is_ascii_digit text.now }
+{
+    text.iter().all(|byte| byte.is_ascii_digit())
+}
+
+/// Whether a text is the digits of a moment.
+fn is_moment(text: &[u8]) -> bool
+    ensures { result ≡ is_moment text.now }
+{
+    text.len() == MOMENT_DIGITS && are_digits(text)
+}
+
+/// Whether a name is that of a copy that is made beside the file of another.
+fn is_copy_name(name: &str, base: &str) -> bool {
+    match name.strip_prefix(base) {
+        Some(rest) => match (rest.strip_prefix("-part-"), rest.strip_prefix("-look-")) {
+            (Some(moment), _) | (None, Some(moment)) => is_moment(moment.as_bytes()),
+            (None, None) => false,
+        },
+        None => false,
+    }
+}
+
+/// Takes a copy away that nobody has: its file is there and can be locked, or only its log is left.
+fn remove_unheld(rt: &HostRuntime, pair: &Pair) {
+    match fs::symlink_metadata(rt, pair.file.as_str()) {
+        Ok(there) if there.is_file() => {
+            if let Ok(file) = File::open(rt, pair.file.as_str())
+                && file.try_lock().is_ok()
+            {
+                remove_pair(rt, pair);
+            }
+        }
+        Err(error) if error.kind() == ErrorKind::NotFound => {
+            let _ = remove(rt, pair.log.as_str());
+        }
+        _ => {}
+    }
+}
+
+/// Takes away what killed commands have left of copies beside a path.
+fn remove_left(rt: &HostRuntime, base: &str) {
+    let Ok(names) = fs::read_dir(rt, folder_of(base)) else {
+        return;
+    };
+    for entry in names {
+        let Ok(entry) = entry else {
+            continue;
+        };
+        let name = entry.file_name();
+        let file = name.strip_suffix("-wal").unwrap_or(name);
+        if is_copy_name(file, last_of(base))
+            && let Ok(path) = format!(in rt.alloc(); "{}/{file}", folder_of(base))
+            && let Ok(pair) = pair_at(rt.alloc(), path.as_str())
+        {
+            remove_unheld(rt, &pair);
+        }
+    }
+}
