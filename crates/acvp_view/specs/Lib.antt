@@ -1,5 +1,6 @@
 pub mod Certificate
 pub mod Certified
+pub mod Escaped
 pub mod Faults
 pub mod Lines
 pub mod Listed

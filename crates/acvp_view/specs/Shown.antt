@@ -12,12 +12,13 @@ use Rattle.acvp_tables.specs.declared.rows.RequestBody.{RequestBody}
 use Rattle.acvp_tables.specs.declared.rows.RequestBody.TheVariants as body
 use Rattle.acvp_tables.specs.declared.rows.RequestRow.{RequestRow}
 use Rattle.acvp_tables.specs.declared.summary.RequestSummary.{RequestSummary}
+use Rattle.acvp_view.specs.Escaped.{escaped}
 use Rattle.acvp_view.specs.Lines.{TakesAll, lines_of}
 use Rattle.acvp_view.specs.Listed.{request_line}
 
--- the text of the object that a request asks to register, where it asks for that
+-- the text of the object that a request asks to register, escaped, where it asks for that
 abbrev pub registration_lines : RequestBody → List (List ℕ)
-registration_lines (body.Registration object) = object_text object ∷ []
+registration_lines (body.Registration object) = escaped (object_text object) ∷ []
 registration_lines (body.Certification c) = []
 
 -- the same of a row, where it is the request of this number

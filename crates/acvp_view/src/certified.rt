@@ -11,10 +11,12 @@ ghost use Rattle.acvp_tables.specs.State.{AreWellNumbered};
 ghost use Rattle.acvp_view.specs.Certificate.{answers_digest, approved_by, approved_in, certificate_text};
 ghost use Rattle.acvp_view.specs.Certificate.{disposition_under};
 ghost use Rattle.acvp_view.specs.Certified.{AreSetsOf, IsCertificate, IsCertifiedSet, read_text};
+ghost use Rattle.acvp_view.specs.Escaped.{escaped};
 ghost use Rattle.acvp_view.specs.declared.certificate.Certificate.{Certificate as CertificateValue};
 ghost use Rattle.acvp_view.specs.declared.certificate.CertifiedSet.{CertifiedSet as CertifiedSetValue};
 
 use crate::certificate::{Certificate, CertifiedSet, certificate_text};
+use crate::escape::show_text;
 use crate::fault::ViewFault;
 use crate::lines::Lines;
 use acvp_answers::{Answers, Disposition, disposition, grade, standard};
@@ -254,8 +256,8 @@ fn certificate<S: Alter + Drop>(
     })
 }
 
-/// Hands on the document of the approved certification of a request's number. Where it can't be made, nothing is handed
-/// on.
+/// Hands on the document of the approved certification of a request's number, escaped, which leaves it the same JSON
+/// value. Where it can't be made, nothing is handed on.
 pub fn show_certificate<S: Alter + Drop, L: Lines>(
     alloc: Global,
     tables: &mut SqlTables<S>,
@@ -265,9 +267,9 @@ pub fn show_certificate<S: Alter + Drop, L: Lines>(
 ) -> Result<(), ViewFault>
     ensures { IsTrue (state S.Store tables.new).is_open → OnOk result ((c : Content)
         → AreWellNumbered c → stands S.Store tables.old c → (it : CertificateValue)
-        × IsCertificate seeds.now number c it × L.takes lines.old (certificate_text it) lines.new) }
+        × IsCertificate seeds.now number c it × L.takes lines.old (escaped (certificate_text it)) lines.new) }
 {
     let it = certificate(alloc, tables, seeds, number)?;
     let text = certificate_text(alloc, &it)?;
-    lines.take(text.as_str())
+    show_text(alloc, lines, text.as_str())
 }

@@ -6,6 +6,7 @@ mod certificate;
 mod certified;
 mod checked;
 mod damaged;
+mod escape;
 mod fault;
 mod lines;
 mod listed;

@@ -1,4 +1,5 @@
-//! What a decision on a request needs: the request's line, and then what it asks for. Nothing is changed.
+//! What a decision on a request needs: the request's line, and then what it asks for. Nothing is changed. Each text
+//! that a client wrote is escaped.
 ghost use Rattle.std.specs.Prelude.{◌≡◌, IfOk, IsTrue, OnOk, Some, option_map, true};
 ghost use Rattle.std.specs.List.{flat_map};
 ghost use Rattle.sqlite.specs.Held.{state};
@@ -8,10 +9,12 @@ ghost use Rattle.acvp_store.specs.Store.{meaning_of, stands};
 ghost use Rattle.acvp_tables.specs.Calls.{Finds};
 ghost use Rattle.acvp_tables.specs.Content.{Content, request_at, request_summary};
 ghost use Rattle.acvp_tables.specs.State.{AreWellNumbered};
+ghost use Rattle.acvp_view.specs.Escaped.{HandsOnEscaped};
 ghost use Rattle.acvp_view.specs.Lines.{HandsOn, TakesAll, Tells, lines_of};
 ghost use Rattle.acvp_view.specs.Listed.{request_line};
 ghost use Rattle.acvp_view.specs.Shown.{AreRequestsOf, IsAsked, object_lines};
 
+use crate::escape::show_text;
 use crate::fault::ViewFault;
 use crate::lines::Lines;
 use crate::lists::show_numbered;
@@ -19,7 +22,7 @@ use acvp_desk::{Desk, Keys};
 use acvp_http::{Routes, handle_bytes};
 use acvp_json::{ReplyObject, write_reply};
 use acvp_registry::{Kind, object_url};
-use acvp_store::SqlTables;
+use acvp_store::{RangeFault, SqlTables};
 use acvp_tables::{
     Certification, RequestBody, RequestPurpose, RequestRow, RequestSummary, SetSummary, Tables,
 };
@@ -81,7 +84,9 @@ fn show<T: Tables, L: Lines>(
     lines: &mut L,
     path: &str,
     token: &str,
-) -> Result<(), ViewFault> {
+) -> Result<(), ViewFault>
+    ensures { HandsOnEscaped L.takes lines.old lines.new }
+{
     let alloc = reader.alloc;
     let request = format!(in alloc;
         "GET {path} HTTP/1.1\r\nHost: localhost\r\nAuthorization: Bearer {token}\r\n\r\n"
@@ -89,7 +94,7 @@ fn show<T: Tables, L: Lines>(
     let reply = handle_bytes(reader.routes, desk, reader.moment, request.as_bytes());
     let body = body_of(reply.bytes());
     let line = format!(in alloc; "{path} {body}")?;
-    lines.take(line.as_str())
+    show_text(alloc, lines, line.as_str())
 }
 
 /// Hands on a test session as `show` does, or what lies below it.
@@ -99,7 +104,9 @@ fn show_session<T: Tables, L: Lines>(
     lines: &mut L,
     session: u64,
     below: &str,
-) -> Result<(), ViewFault> {
+) -> Result<(), ViewFault>
+    ensures { HandsOnEscaped L.takes lines.old lines.new }
+{
     let path = format!(in reader.alloc; "/acvp/v1/testSessions/{session}{below}")?;
     show(reader, desk, lines, path.as_str(), reader.bound)
 }
@@ -111,27 +118,44 @@ fn show_registered<T: Tables, L: Lines>(
     lines: &mut L,
     kind: Kind,
     number: u64,
-) -> Result<(), ViewFault> {
+) -> Result<(), ViewFault>
+    ensures { HandsOnEscaped L.takes lines.old lines.new }
+{
     match object_url(reader.alloc, kind, number)? {
         Some(path) => show(reader, desk, lines, path.as_str(), reader.own),
         None => Ok(()),
     }
 }
 
-/// Hands on a vector set: whether it was cancelled, its capability, and what its last answers came to.
-fn show_set<T: Tables, L: Lines>(
+/// Hands on whether a vector set was cancelled, and its capability.
+fn show_capability<T: Tables, L: Lines>(
     alloc: Global,
     tables: &mut T,
     lines: &mut L,
     set: &SetSummary,
-) -> Result<(), ViewFault> {
+) -> Result<(), ViewFault>
+    ensures { HandsOnEscaped L.takes lines.old lines.new }
+{
     let number = set.number;
     let state = if set.cancelled { "cancelled" } else { "kept" };
-    if let Some(capability) = tables.capability(number)? {
-        let text = capability.to_text(alloc)?;
-        let line = format!(in alloc; "vectorSet {number} {state} {text}")?;
-        lines.take(line.as_str())?;
-    }
+    let Some(capability) = tables.capability(number)? else {
+        return Ok(());
+    };
+    let text = capability.to_text(alloc)?;
+    let line = format!(in alloc; "vectorSet {number} {state} {text}")?;
+    show_text(alloc, lines, line.as_str())
+}
+
+/// Hands on what the last answers to a vector set came to.
+fn show_verdicts<T: Tables, L: Lines>(
+    alloc: Global,
+    tables: &mut T,
+    lines: &mut L,
+    set: &SetSummary,
+) -> Result<(), ViewFault>
+    ensures { HandsOnEscaped L.takes lines.old lines.new }
+{
+    let number = set.number;
     let Some(disposition) = set.disposition else {
         return Ok(());
     };
@@ -146,46 +170,132 @@ fn show_set<T: Tables, L: Lines>(
     let body = write_reply(alloc, &results)?;
     let text = std::str::from_utf8(&body).unwrap_or("");
     let line = format!(in alloc; "vectorSet {number} {text}")?;
-    lines.take(line.as_str())
+    show_text(alloc, lines, line.as_str())
+}
+
+/// Hands on a vector set: whether it was cancelled, its capability, and what its last answers came to.
+#[tactic(auto, using(crate::proofs::EscapeLemmas::escaped_both))]
+fn show_set<T: Tables, L: Lines>(
+    alloc: Global,
+    tables: &mut T,
+    lines: &mut L,
+    set: &SetSummary,
+) -> Result<(), ViewFault>
+    ensures { HandsOnEscaped L.takes lines.old lines.new }
+{
+    show_capability(alloc, tables, lines, set)?;
+    show_verdicts(alloc, tables, lines, set)
+}
+
+/// Hands on the vector set of a number, where there is one.
+fn show_set_at<T: Tables, L: Lines>(
+    alloc: Global,
+    tables: &mut T,
+    lines: &mut L,
+    number: u64,
+) -> Result<(), ViewFault>
+    ensures { HandsOnEscaped L.takes lines.old lines.new }
+{
+    match tables.set(number)? {
+        Some(set) => show_set(alloc, tables, lines, &set),
+        None => Ok(()),
+    }
 }
 
 /// Hands on each vector set of a test session, the cancelled ones too.
+#[tactic(auto, using(crate::proofs::EscapeLemmas::escaped_both))]
 fn show_sets<T: Tables, L: Lines>(
     alloc: Global,
     tables: &mut T,
     lines: &mut L,
     session: u64,
-) -> Result<(), ViewFault> {
+) -> Result<(), ViewFault>
+    ensures { HandsOnEscaped L.takes lines.old lines.new }
+{
     for place in 1..=MOST_SETS {
         let number = session.saturating_mul(100).saturating_add(place);
-        if let Some(set) = tables.set(number)? {
-            show_set(alloc, tables, lines, &set)?;
-        }
+        show_set_at(alloc, tables, lines, number)?;
     }
     Ok(())
 }
 
+/// Hands on the vendor of a number, where there is one, as `show` does.
+fn show_vendor<T: Tables, L: Lines>(
+    reader: &Reader<'_>,
+    desk: &mut Desk<T>,
+    lines: &mut L,
+    vendor: Option<u64>,
+) -> Result<(), ViewFault>
+    ensures { HandsOnEscaped L.takes lines.old lines.new }
+{
+    match vendor {
+        Some(vendor) => show_registered(reader, desk, lines, Kind::Vendor, vendor),
+        None => Ok(()),
+    }
+}
+
+/// Hands on a test session and its results, as `show` does.
+#[tactic(auto, using(crate::proofs::EscapeLemmas::escaped_both))]
+fn show_whole_session<T: Tables, L: Lines>(
+    reader: &Reader<'_>,
+    desk: &mut Desk<T>,
+    lines: &mut L,
+    session: u64,
+) -> Result<(), ViewFault>
+    ensures { HandsOnEscaped L.takes lines.old lines.new }
+{
+    show_session(reader, desk, lines, session, "")?;
+    show_session(reader, desk, lines, session, "/results")
+}
+
+/// Hands on the vendor of a number, where there is one, and an operational environment, as `show` does.
+#[tactic(auto, using(crate::proofs::EscapeLemmas::escaped_both))]
+fn show_vendor_and_environment<T: Tables, L: Lines>(
+    reader: &Reader<'_>,
+    desk: &mut Desk<T>,
+    lines: &mut L,
+    vendor: Option<u64>,
+    environment: u64,
+) -> Result<(), ViewFault>
+    ensures { HandsOnEscaped L.takes lines.old lines.new }
+{
+    show_vendor(reader, desk, lines, vendor)?;
+    show_registered(reader, desk, lines, Kind::Environment, environment)
+}
+
+/// Hands on the module, the vendor and the environment that a certification names, as `show` does.
+#[tactic(auto, using(crate::proofs::EscapeLemmas::escaped_both))]
+fn show_objects<T: Tables, L: Lines>(
+    reader: &Reader<'_>,
+    desk: &mut Desk<T>,
+    lines: &mut L,
+    certification: Certification,
+    vendor: Option<u64>,
+) -> Result<(), ViewFault>
+    ensures { HandsOnEscaped L.takes lines.old lines.new }
+{
+    let Certification {
+        module,
+        environment,
+        ..
+    } = certification;
+    show_registered(reader, desk, lines, Kind::Module, module)?;
+    show_vendor_and_environment(reader, desk, lines, vendor, environment)
+}
+
 /// Hands on what a certification names, as the account that asks for it reads it.
+#[tactic(auto, using(crate::proofs::EscapeLemmas::escaped_both))]
 fn show_named<T: Tables, L: Lines>(
     reader: &Reader<'_>,
     desk: &mut Desk<T>,
     lines: &mut L,
     certification: Certification,
     vendor: Option<u64>,
-) -> Result<(), ViewFault> {
-    show_session(reader, desk, lines, certification.session, "")?;
-    show_session(reader, desk, lines, certification.session, "/results")?;
-    show_registered(reader, desk, lines, Kind::Module, certification.module)?;
-    if let Some(vendor) = vendor {
-        show_registered(reader, desk, lines, Kind::Vendor, vendor)?;
-    }
-    show_registered(
-        reader,
-        desk,
-        lines,
-        Kind::Environment,
-        certification.environment,
-    )
+) -> Result<(), ViewFault>
+    ensures { HandsOnEscaped L.takes lines.old lines.new }
+{
+    show_whole_session(reader, desk, lines, certification.session)?;
+    show_objects(reader, desk, lines, certification, vendor)
 }
 
 /// The number of the vendor of a module, where there is one.
@@ -214,7 +324,9 @@ fn show_read<T: Tables + Drop, L: Lines>(
     account: u16,
     certification: Certification,
     vendor: Option<u64>,
-) -> Result<(), ViewFault> {
+) -> Result<(), ViewFault>
+    ensures { HandsOnEscaped L.takes lines.old lines.new }
+{
     let own = token_of(alloc, &keys.token, account, None, moment)?;
     let session = Some(certification.session);
     let bound = token_of(alloc, &keys.token, account, session, moment)?;
@@ -230,8 +342,8 @@ fn show_read<T: Tables + Drop, L: Lines>(
     show_named(&reader, &mut desk, lines, certification, vendor)
 }
 
-/// Hands on what a decision on a certification needs.
-fn show_certification<T: Tables + Drop, L: Lines>(
+/// Hands on what a certification names, by `show_read`, with the vendor of its module.
+fn show_with_vendor<T: Tables + Drop, L: Lines>(
     alloc: Global,
     mut tables: T,
     lines: &mut L,
@@ -239,8 +351,9 @@ fn show_certification<T: Tables + Drop, L: Lines>(
     moment: u64,
     account: u16,
     certification: Certification,
-) -> Result<(), ViewFault> {
-    show_sets(alloc, &mut tables, lines, certification.session)?;
+) -> Result<(), ViewFault>
+    ensures { HandsOnEscaped L.takes lines.old lines.new }
+{
     let vendor = vendor_of(&mut tables, certification.module)?;
     show_read(
         alloc,
@@ -254,6 +367,23 @@ fn show_certification<T: Tables + Drop, L: Lines>(
     )
 }
 
+/// Hands on what a decision on a certification needs.
+#[tactic(auto, using(crate::proofs::EscapeLemmas::escaped_both))]
+fn show_certification<T: Tables + Drop, L: Lines>(
+    alloc: Global,
+    mut tables: T,
+    lines: &mut L,
+    keys: Keys,
+    moment: u64,
+    account: u16,
+    certification: Certification,
+) -> Result<(), ViewFault>
+    ensures { HandsOnEscaped L.takes lines.old lines.new }
+{
+    show_sets(alloc, &mut tables, lines, certification.session)?;
+    show_with_vendor(alloc, tables, lines, keys, moment, account, certification)
+}
+
 /// The requests of an account.
 fn requests_of_account<S: Alter + Drop>(
     tables: &mut SqlTables<S>,
@@ -265,12 +395,14 @@ fn requests_of_account<S: Alter + Drop>(
 {
     match tables.requests_numbered(account) {
         Ok(rows) => Ok(rows),
-        Err(_) => Err(ViewFault::Refused),
+        Err(RangeFault::Stray(_)) => Err(ViewFault::Refused),
+        Err(RangeFault::Store(fault)) => Err(ViewFault::from(fault)),
     }
 }
 
 /// Hands on the object that a row asks to register, where it is the request of this number and asks for that.
 fn show_registration<L: Lines>(
+    alloc: Global,
     lines: &mut L,
     row: &RequestRow,
     number: u64,
@@ -279,7 +411,7 @@ fn show_registration<L: Lines>(
 {
     if row.number == number {
         match &row.body {
-            RequestBody::Registration(object) => lines.take(object.text()),
+            RequestBody::Registration(object) => show_text(alloc, lines, object.text()),
             RequestBody::Certification(_) => Ok(()),
         }
     } else {
@@ -289,6 +421,7 @@ fn show_registration<L: Lines>(
 
 /// Hands on the object that the request of a number asks to register, which is among these rows.
 fn show_registrations<L: Lines>(
+    alloc: Global,
     lines: &mut L,
     rows: &[RequestRow],
     number: u64,
@@ -296,7 +429,7 @@ fn show_registrations<L: Lines>(
     ensures { OnOk result (TakesAll L.takes (flat_map (object_lines number) rows.now) lines.old lines.new) }
 {
     for row in rows {
-        show_registration(lines, row, number)?;
+        show_registration(alloc, lines, row, number)?;
     }
     Ok(())
 }
@@ -335,7 +468,7 @@ pub fn show_request<S: Alter + Drop, L: Lines>(
 {
     let request = request_of(alloc, tables, lines, number)?;
     let rows = requests_of_account(tables, request.account)?;
-    show_registrations(lines, &rows, request.number)?;
+    show_registrations(alloc, lines, &rows, request.number)?;
     Ok(request)
 }
 
@@ -350,7 +483,8 @@ pub fn show_certified<S: Alter + Drop, L: Lines>(
     moment: u64,
     request: RequestSummary,
 ) -> Result<(), ViewFault>
-    ensures { (kind : KindValue) → request.purpose ≡ RequestPurpose.Registration kind → lines.new ≡ lines.old }
+    ensures none { (kind : KindValue) → request.purpose ≡ RequestPurpose.Registration kind → lines.new ≡ lines.old }
+    ensures escaped { HandsOnEscaped L.takes lines.old lines.new }
 {
     match request.purpose {
         RequestPurpose::Registration(_) => Ok(()),
