@@ -190,15 +190,31 @@ impl Clients {
         }
     }
 
-    /// Gives up the clients that take too long.
-    pub(crate) fn give_up<C: Clock>(&mut self, patience: u64, clock: &C) {
+    /// Whether the client of a place has taken too long, and doesn't wait to be served.
+    fn is_late<C: Clock>(&self, place: usize, patience: u64, clock: &C) -> bool {
+        match self.visits.get(place) {
+            Some(Some(visit)) => visit.is_late(patience, clock) && !self.is_ready(place),
+            _ => false,
+        }
+    }
+
+    /// Gives up the client of a place.
+    fn drop_at(&mut self, place: usize) {
+        if let Some(Some(visit)) = self.visits.get(place) {
+            let coming = visit.client.is_coming();
+            self.sort(place, coming, Next::IsGone);
+        }
+    }
+
+    /// Gives up the clients that take too long. Before that, what can be moved of them is moved: while this process was
+    /// stopped a request may have come whole, and is served.
+    pub(crate) fn give_up<C: Clock>(&mut self, patience: u64, poll: &Poll, clock: &C) {
         for place in 0..MOST_CLIENTS {
-            let Some(Some(visit)) = self.visits.get(place) else {
-                continue;
-            };
-            if visit.is_late(patience, clock) && !self.is_ready(place) {
-                let coming = visit.client.is_coming();
-                self.sort(place, coming, Next::IsGone);
+            if self.is_late(place, patience, clock) {
+                self.advance(place, poll, clock);
+                if self.is_late(place, patience, clock) {
+                    self.drop_at(place);
+                }
             }
         }
     }

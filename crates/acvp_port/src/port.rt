@@ -72,6 +72,9 @@ pub struct Port<'a, R> {
 
     /// When it was looked last for clients that take too long.
     swept: Option<Instant>,
+
+    /// Whether errors of the network are told on standard error.
+    tells: bool,
 }
 
 /// Has one that listens be waited for.
@@ -103,13 +106,15 @@ fn doors_at<R: Files + Net>(
     }
 }
 
-/// The port of a number, and the socket beside a database. A client is waited for so many seconds in all.
+/// The port of a number, and the socket beside a database. A client is waited for so many seconds in all. If `tells`, an
+/// error of the network is told on standard error.
 pub fn port_on<'a, R: Clock + Files + Net>(
     rt: &'a R,
     alloc: Global,
     database: &'a str,
     number: u16,
     patience: u64,
+    tells: bool,
 ) -> io::Result<Port<'a, R>> {
     let Ok(clients) = Clients::new(alloc) else {
         return Err(ErrorKind::OutOfMemory.into());
@@ -130,6 +135,7 @@ pub fn port_on<'a, R: Clock + Files + Net>(
             serving: (MOST_CLIENTS, Duration::ZERO, false),
             erred: None,
             swept: None,
+            tells,
         }),
         Err(error) => {
             close_socket(rt, alloc, database, socket);
@@ -194,10 +200,12 @@ impl<'a, R: Clock + Eprint + Files> Port<'a, R> {
         self.clients.advance(place, &self.doors.poll, self.rt);
     }
 
-    /// Tells an error of the network on standard error, and takes no connection for a while.
+    /// Takes no connection for a while, after an error of the network.
     fn pause(&mut self, error: &io::Error) {
         self.erred = time_of(self.rt);
-        let _ = eprintln!(self.rt; "a connection isn't taken, and serving goes on: {error}");
+        if self.tells {
+            let _ = eprintln!(self.rt; "a connection isn't taken, and serving goes on: {error}");
+        }
     }
 
     /// Takes a connection that waits at the port. One that has no place is closed.
@@ -274,7 +282,8 @@ impl<'a, R: Clock + Eprint + Files> Port<'a, R> {
             }
         }
         if is_over(self.swept, 1, self.rt) {
-            self.clients.give_up(self.patience, self.rt);
+            self.clients
+                .give_up(self.patience, &self.doors.poll, self.rt);
             self.swept = time_of(self.rt);
         }
         Ok(())

@@ -5,12 +5,14 @@ ghost use Rattle.acvp_commands.specs.Work.{IsWork};
 ghost use Rattle.acvp_desk.specs.Orders.{IsOrder};
 ghost use Rattle.acvp_server.specs.Faults.{fault_of_files};
 
+use crate::flags::Flags;
 use crate::host::Machine;
+use acvp_causes::name_of;
 use acvp_commands::{Fault, Message, Task, Work, done_over, make_tables, moment_of, order_line};
 use acvp_desk::Order;
 use acvp_files::{
     FileConnection, FileFault, Unopened, close, connect_existing, connect_new, has_no_log,
-    keep_log_private, remove_empty_log,
+    remove_empty_log,
 };
 use acvp_port::answer_to;
 use acvp_store::SqlTables;
@@ -44,25 +46,30 @@ pub(crate) enum Said {
     Relayed(String),
 }
 
-/// Does this over a connection to the database in a file. Where it is done, or was served, the connection is closed; a
-/// command that is refused leaves the file and its log as they are, and no log where there was none.
+/// The name of the database at a path: where a link leads. All that lies beside the file has this name in front.
+pub(crate) fn named(rt: &HostRuntime, path: &str) -> Result<String, Fault> {
+    match name_of(rt, path) {
+        Ok(name) => Ok(name),
+        Err(error) => Err(Fault::Unavailable.of_system(&error)),
+    }
+}
+
+/// Does this over a connection to the database in a file. If it is done, or was served, the connection is closed; a
+/// command that is refused leaves the file and its log as they are, and no log if there was none.
 fn done_and_closed<S: Start>(
     rt: &HostRuntime,
     path: &str,
     connection: FileConnection<S>,
     work: Work,
     is_new_log: bool,
-    is_logged: bool,
+    flags: Flags,
 ) -> Result<Said, Fault>
     requires { IsWork work }
 {
-    if is_new_log {
-        keep_log_private(rt, path);
-    }
     let mut machine = Machine {
         rt,
         database: path,
-        is_logged,
+        flags,
     };
     let serves = matches!(work, Work::Take(Task::Serve { .. }));
     let (connection, outcome) = done_over(&mut machine, connection, work);
@@ -76,7 +83,7 @@ fn done_and_closed<S: Start>(
     Ok(Said::Line(outcome?))
 }
 
-/// Has the server that holds a database carry an order out, and gives the line that it answers. Where nobody answers,
+/// Has the server that holds a database carry an order out, and gives the line that it answers. If nobody answers,
 /// the database is unavailable.
 fn relayed(rt: &HostRuntime, database: &str, order: &Order) -> Result<String, Fault>
     requires { IsOrder order.now }
@@ -99,14 +106,14 @@ fn done_by_server(rt: &HostRuntime, path: &str, work: &Work) -> Result<Said, Fau
     }
 }
 
-/// Does this with the database in a file, and gives the line that says so. Only tables that are made may be in a file
+/// Does this with the database of a name, and gives the line that says so. Only tables that are made may be in a file
 /// that isn't there yet.
 pub(crate) fn done_in<S: Start>(
     rt: &HostRuntime,
     path: &str,
     start: S,
     work: Work,
-    is_logged: bool,
+    flags: Flags,
 ) -> Result<Said, Fault>
     requires { IsWork work }
 {
@@ -116,7 +123,7 @@ pub(crate) fn done_in<S: Start>(
         Work::Move | Work::Take(_) => connect_existing(rt, path, start),
     };
     match opened {
-        Ok(connection) => done_and_closed(rt, path, connection, work, is_new_log, is_logged),
+        Ok(connection) => done_and_closed(rt, path, connection, work, is_new_log, flags),
         Err(Unopened::Taken) => done_by_server(rt, path, &work),
         Err(Unopened::Failed(fault)) => Err(fault_of_files(fault)),
     }

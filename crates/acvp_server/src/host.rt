@@ -1,4 +1,5 @@
 //! The machine: its ports, and what it prints.
+use crate::flags::Flags;
 use crate::port::{LoggedPort, logged_port};
 use crate::printing::print_line;
 use acvp_commands::{Fault, Host, Message, Service};
@@ -7,13 +8,12 @@ use std::fs::Files;
 use std::net::Net;
 use std::time::Clock;
 
-/// The machine that the program runs on, the path of the database that is open, and whether a line is written for each
-/// event that is served.
+/// The machine that the program runs on, the name of the database that is open, and the flags of the command.
 #[derive(Drop)]
 pub(crate) struct Machine<'a, R> {
     pub rt: &'a R,
     pub database: &'a str,
-    pub is_logged: bool,
+    pub flags: Flags,
 }
 
 impl<'a, R: AllocGlobal + Clock + Eprint + Files + Net + Print> Host for Machine<'a, R> {
@@ -35,13 +35,7 @@ impl<'a, R: AllocGlobal + Clock + Eprint + Files + Net + Print> Host for Machine
     }
 
     fn listen(&mut self, service: Service) -> Result<LoggedPort<'a, R>, Fault> {
-        logged_port(
-            self.rt,
-            self.rt.alloc(),
-            self.database,
-            service,
-            self.is_logged,
-        )
+        logged_port(self.rt, self.rt.alloc(), self.database, service, self.flags)
     }
 
     fn finish(&mut self, port: &mut LoggedPort<'a, R>) {

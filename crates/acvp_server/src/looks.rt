@@ -3,7 +3,8 @@
 ghost use Rattle.std.specs.Prelude.{◌≡◌};
 ghost use Rattle.acvp_server.specs.Faults.{fault_of_view};
 
-use crate::database::fault_of_files;
+use crate::database::{fault_of_files, named};
+use crate::makers::own_keys;
 use acvp_audit::Watch;
 use acvp_commands::{Fault, SystemFiles, keys_in, moment_of};
 use acvp_files::{FileTables, tables_of_copy};
@@ -46,9 +47,10 @@ fn fault_of_view(fault: ViewFault) -> Fault
     }
 }
 
-/// The tables of a copy of a database.
+/// The tables of a copy of the database at a path.
 fn copy_of(rt: &HostRuntime, database: &str) -> Result<FileTables, Fault> {
-    match tables_of_copy(rt, database) {
+    let name = named(rt, database)?;
+    match tables_of_copy(rt, name.as_str()) {
         Ok(tables) => Ok(tables),
         Err(fault) => Err(fault_of_files(fault)),
     }
@@ -76,6 +78,7 @@ fn requests(rt: &HostRuntime, database: &str, all: bool) -> Result<bool, Fault> 
 
 /// Prints what a decision on the request of a number needs.
 fn request_show(rt: &HostRuntime, database: &str, keys: &str, number: u64) -> Result<bool, Fault> {
+    own_keys(rt, keys)?;
     let keys = keys_in(&SystemFiles(rt), keys)?;
     let mut tables = copy_of(rt, database)?;
     let mut lines = Printed(rt);
@@ -94,6 +97,7 @@ fn request_show(rt: &HostRuntime, database: &str, keys: &str, number: u64) -> Re
 
 /// Prints the document of the approved certification of a request's number.
 fn certificate(rt: &HostRuntime, database: &str, keys: &str, number: u64) -> Result<bool, Fault> {
+    own_keys(rt, keys)?;
     let keys = keys_in(&SystemFiles(rt), keys)?;
     let mut tables = copy_of(rt, database)?;
     seen(show_certificate(
@@ -128,6 +132,7 @@ fn tell_damaged(rt: &HostRuntime) -> bool {
 
 /// Prints what a check of the rows comes to, and says whether they are whole.
 fn checked(rt: &HostRuntime, database: &str, keys: &str, grades: bool) -> Result<bool, Fault> {
+    own_keys(rt, keys)?;
     let keys = keys_in(&SystemFiles(rt), keys)?;
     let mut tables = copy_of(rt, database)?;
     let is_shown = rt.stderr().is_terminal();

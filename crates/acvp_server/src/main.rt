@@ -5,16 +5,20 @@ ghost use Rattle.acvp_commands.specs.Asked.{NamesAccount};
 
 mod command;
 mod database;
+mod flags;
 mod host;
 mod looks;
+mod makers;
 mod port;
 mod printing;
 mod script;
 mod why;
 
 use crate::command::{ALL, LOG, VERBOSE, command};
-use crate::database::{Said, done_in, fault_of_files};
+use crate::database::{Said, done_in, fault_of_files, named};
+use crate::flags::Flags;
 use crate::looks::{Look, shown};
+use crate::makers::{own_keys, own_secret};
 use crate::printing::print_line;
 use crate::script::script;
 use crate::why::{Copying, tell_because, why_failed, why_not_copied, why_not_shown};
@@ -22,11 +26,11 @@ use acvp_causes::{Because, Cause};
 use acvp_commands::{
     BadNumber, Deed, Fault, Invocation, SystemFiles, asked_by, exit_status, request_number, work_of,
 };
-use acvp_files::{FileFault, backup, restore, tell_open};
+use acvp_files::{backup, restore, tell_open, tell_open_database};
 use clap::error::ErrorKind;
 use clap::{ArgMatches, Error};
 use sqlite::Wary;
-use std::io;
+use std::io::{self, IsTerminal};
 use std::process::ExitCode;
 
 /// Prints the line of a server, and says whether it is that of an order that is done. A fault is told on standard
@@ -43,22 +47,10 @@ fn relay(rt: &HostRuntime, line: &str) -> Result<bool, Fault> {
     }
 }
 
-/// The flags of a command.
-#[derive(Clone, Copy)]
-struct Flags {
-    /// Whether it says why it failed.
-    is_verbose: bool,
-
-    /// Whether a line is written for each event that is served.
-    is_logged: bool,
-}
-
 /// Says why the server of a database has refused an order, where that is asked for and the word doesn't say all.
 fn tell_relayed(rt: &HostRuntime, line: &str, flags: Flags) {
     if flags.is_verbose && line == "fault: unavailable" {
-        let option = "--db";
-        let cause = Cause::Relayed;
-        tell_because(rt, Because { option, cause });
+        tell_because(rt, Because::of("--db", Cause::Relayed));
     }
 }
 
@@ -77,11 +69,11 @@ fn say(rt: &HostRuntime, said: Said, flags: Flags) -> Result<bool, Fault> {
     }
 }
 
-/// Tells which of the files of a command others may read: the database, and that of keys or of a secret.
+/// Warns of the files of a command that others may read: the database, and that of keys or of a secret.
 fn tell_open_files(rt: &HostRuntime, asked: Invocation<'_>) {
     match asked {
         Invocation::On(db, deed) => {
-            tell_open(rt, db);
+            tell_open_database(rt, db);
             match deed {
                 Deed::AddAccount { secret, .. } => tell_open(rt, secret),
                 Deed::Serve { keys, .. } => tell_open(rt, keys),
@@ -92,19 +84,33 @@ fn tell_open_files(rt: &HostRuntime, asked: Invocation<'_>) {
     }
 }
 
+/// Whether the files of keys and of secrets that a deed names may be taken.
+fn are_own(rt: &HostRuntime, deed: Deed<'_>) -> Result<(), Fault> {
+    match deed {
+        Deed::AddAccount { secret, .. } => own_secret(rt, secret),
+        Deed::Serve { keys, .. } => own_keys(rt, keys),
+        _ => Ok(()),
+    }
+}
+
 /// Carries out what the command line asks for, prints the line that says so, where there is one, and says whether it is
 /// done.
 fn run(rt: &HostRuntime, asked: Invocation<'_>, flags: Flags) -> Result<bool, Fault>
     requires { NamesAccount asked }
 {
-    tell_open_files(rt, asked);
+    if flags.warns {
+        tell_open_files(rt, asked);
+    }
     match asked {
         Invocation::On(db, deed) => {
+            are_own(rt, deed)?;
             let work = work_of(&SystemFiles(rt), deed)?;
-            let said = done_in(rt, db, Wary, work, flags.is_logged)?;
+            let name = named(rt, db)?;
+            let said = done_in(rt, name.as_str(), Wary, work, flags)?;
             say(rt, said, flags)
         }
         Invocation::Script(keys) => {
+            own_keys(rt, keys)?;
             script(rt, keys)?;
             Ok(true)
         }
@@ -159,14 +165,27 @@ fn value<'a>(options: &ArgMatches<'a>, name: &str) -> &'a str {
     options.get_str(name).unwrap_or("")
 }
 
-/// Prints a line where something is done.
-fn say_done(rt: &HostRuntime, outcome: Result<(), FileFault>, line: &str) -> Result<bool, Fault> {
-    if let Err(fault) = outcome {
-        return Err(fault_of_files(fault));
+/// Makes a backup, and prints how many rows it has.
+fn make_backup(rt: &HostRuntime, db: &str, to: &str) -> Result<bool, Fault> {
+    let name = named(rt, db)?;
+    match backup(rt, name.as_str(), to) {
+        Ok(rows) => match println!(rt; "backed up: {rows} rows") {
+            Ok(()) => Ok(true),
+            Err(_) => Err(Fault::Write),
+        },
+        Err(fault) => Err(fault_of_files(fault)),
     }
-    match println!(rt; "{line}") {
-        Ok(()) => Ok(true),
-        Err(_) => Err(Fault::Write),
+}
+
+/// Puts a backup in the place of a database, and prints that it is there.
+fn put_back(rt: &HostRuntime, from: &str, db: &str) -> Result<bool, Fault> {
+    let (backup, name) = (named(rt, from)?, named(rt, db)?);
+    match restore(rt, backup.as_str(), name.as_str()) {
+        Ok(()) => match println!(rt; "restored") {
+            Ok(()) => Ok(true),
+            Err(_) => Err(Fault::Write),
+        },
+        Err(fault) => Err(fault_of_files(fault)),
     }
 }
 
@@ -186,31 +205,34 @@ fn copying_of<'a>(matches: &ArgMatches<'a>) -> Option<Copying<'a>> {
 }
 
 /// Copies a whole database.
-fn copy(rt: &HostRuntime, copying: Copying<'_>) -> Result<bool, Fault> {
+fn copy(rt: &HostRuntime, copying: Copying<'_>, flags: Flags) -> Result<bool, Fault> {
     match copying {
         Copying::Backup { db, to } => {
-            tell_open(rt, db);
-            say_done(rt, backup(rt, db, to), "backed up")
+            if flags.warns {
+                tell_open_database(rt, db);
+            }
+            make_backup(rt, db, to)
         }
         Copying::Restore { from, db } => {
-            tell_open(rt, from);
-            tell_open(rt, db);
-            say_done(rt, restore(rt, from, db), "restored")
+            if flags.warns {
+                tell_open(rt, from);
+                tell_open_database(rt, db);
+            }
+            put_back(rt, from, db)
         }
     }
 }
 
 /// The flags of the command that the command line asks for.
-fn flags_of(matches: &ArgMatches<'_>) -> Flags {
-    match matches.subcommand() {
-        Some((_, options)) => Flags {
-            is_verbose: options.get_flag(VERBOSE),
-            is_logged: options.get_flag(LOG),
-        },
-        None => Flags {
-            is_verbose: false,
-            is_logged: false,
-        },
+fn flags_of(rt: &HostRuntime, matches: &ArgMatches<'_>) -> Flags {
+    let (is_verbose, is_logged) = match matches.subcommand() {
+        Some((_, options)) => (options.get_flag(VERBOSE), options.get_flag(LOG)),
+        None => (false, false),
+    };
+    Flags {
+        is_verbose,
+        is_logged,
+        warns: is_verbose || is_logged || rt.stderr().is_terminal(),
     }
 }
 
@@ -223,7 +245,7 @@ fn tell_why(rt: &HostRuntime, because: Option<Because>) {
 
 /// Copies a whole database, and gives the exit status.
 fn execute_copy(rt: &HostRuntime, copying: Copying<'_>, flags: Flags) -> ExitCode {
-    let outcome = copy(rt, copying);
+    let outcome = copy(rt, copying, flags);
     let code = ended(rt, outcome);
     if let Err(fault) = outcome
         && flags.is_verbose
@@ -277,14 +299,21 @@ fn look_of<'a>(matches: &ArgMatches<'a>) -> Option<Result<(&'a str, Look<'a>), &
     Some(Ok((value(options, "db"), look)))
 }
 
-/// Shows what is looked at in a database, and gives the exit status.
-fn execute_look(rt: &HostRuntime, db: &str, look: Look<'_>, flags: Flags) -> ExitCode {
-    tell_open(rt, db);
+/// Warns of the files that others may read of what is looked at.
+fn tell_open_looked_at(rt: &HostRuntime, db: &str, look: Look<'_>) {
+    tell_open_database(rt, db);
     match look {
         Look::Request { keys, .. } | Look::Certificate { keys, .. } | Look::Check { keys, .. } => {
             tell_open(rt, keys);
         }
         Look::Accounts | Look::Requests { .. } => {}
+    }
+}
+
+/// Shows what is looked at in a database, and gives the exit status.
+fn execute_look(rt: &HostRuntime, db: &str, look: Look<'_>, flags: Flags) -> ExitCode {
+    if flags.warns {
+        tell_open_looked_at(rt, db, look);
     }
     let outcome = shown(rt, db, look);
     let code = ended(rt, outcome);
@@ -337,7 +366,7 @@ fn execute_words(rt: &HostRuntime, words: &[String]) -> ExitCode {
         }
         Err(error) => return refused(rt, &error),
     };
-    let flags = flags_of(&matches);
+    let flags = flags_of(rt, &matches);
     if let Some(copying) = copying_of(&matches) {
         return execute_copy(rt, copying, flags);
     }

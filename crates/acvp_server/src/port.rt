@@ -1,4 +1,5 @@
 //! The port of this machine, as what is served takes connections and orders from it.
+use crate::flags::Flags;
 use acvp_causes::why_refused;
 use acvp_commands::{Arrival, Fault, Listener, Message, Service, Taken, moment_of};
 use acvp_http::Flagged;
@@ -36,10 +37,11 @@ pub(crate) fn logged_port<'a, R: Clock + Files + Net>(
     alloc: Global,
     database: &'a str,
     service: Service,
-    is_logged: bool,
+    flags: Flags,
 ) -> Result<LoggedPort<'a, R>, Fault> {
-    let log = log_for(alloc, is_logged)?;
-    match port_on(rt, alloc, database, service.port, service.patience) {
+    let log = log_for(alloc, flags.is_logged)?;
+    let Service { port, patience, .. } = service;
+    match port_on(rt, alloc, database, port, patience, flags.warns) {
         Ok(port) => Ok(LoggedPort {
             alloc,
             rt,

@@ -1,13 +1,13 @@
 //! Why a command failed, as far as it can be seen at its files afterwards.
 use crate::looks::Look;
 use acvp_causes::{
-    Because, Cause, are_there, cause_of_database, cause_of_error, cause_of_folder, cause_of_source,
-    has_log, keys_fault, secret_fault,
+    Because, Cause, Place, are_there, cause_of_database, cause_of_error, cause_of_folder,
+    cause_of_maker, cause_of_source, has_log, is_moved, keys_fault, name_of, secret_fault,
 };
 use acvp_commands::{Deed, Fault, Invocation, bytes_of, read_keys};
 use acvp_port::has_server;
 use std::alloc::AllocGlobal;
-use std::fs;
+use std::{fs, io};
 
 /// A copy of a whole database that is asked for, by the paths of its files.
 #[derive(Clone, Copy)]
@@ -16,27 +16,42 @@ pub(crate) enum Copying<'a> {
     Restore { from: &'a str, db: &'a str },
 }
 
+/// The name of a database, or its path where there is no name: whoever looks at the path then tells why.
+fn name_or<'a>(name: &'a io::Result<String>, path: &'a str) -> &'a str {
+    match name {
+        Ok(name) => name.as_str(),
+        Err(_) => path,
+    }
+}
+
 /// Tells a cause on standard error.
 pub(crate) fn tell_because(rt: &HostRuntime, because: Because) {
-    let Because { option, cause } = because;
-    let _ = eprintln!(rt; "because: {option}: {cause}");
+    let _ = eprintln!(rt; "{because}");
 }
 
 /// Why a database can't be opened, where that can be seen. One that is held, beside whose file a server answers, is
 /// that server's.
 fn cause_of_held(rt: &HostRuntime, db: &str) -> Option<Because> {
+    let name = name_of(rt, db);
     match cause_of_database(rt, db) {
-        Some(
-            Because {
-                option: "--db",
-                cause: Cause::Held,
-            },
-        ) if has_server(rt, rt.alloc(), db) => Some(Because {
-            option: "--db",
-            cause: Cause::Served,
-        }),
+        Some(because) if is_held(because) && has_server(rt, rt.alloc(), name_or(&name, db)) => {
+            Some(Because::of("--db", Cause::Served))
+        }
         because => because,
     }
+}
+
+/// Whether a database's file can't be opened because another process has it.
+fn is_held(because: Because) -> bool {
+    matches!((because.place, because.cause), (Place::Itself, Cause::Held))
+}
+
+/// Whether there is no file of the database.
+fn is_missing(because: Because) -> bool {
+    matches!(
+        (because.place, because.cause),
+        (Place::Itself, Cause::Missing)
+    )
 }
 
 /// Of which tables the rows are that a command reads.
@@ -51,124 +66,105 @@ fn tables_of(deed: Deed<'_>) -> &'static str {
 
 /// Why a database was unavailable.
 fn why_unavailable(rt: &HostRuntime, db: &str, deed: Deed<'_>) -> Because {
-    let option = "--db";
     let is_new = matches!(deed, Deed::Init);
     match cause_of_held(rt, db) {
-        Some(
-            Because {
-                option,
-                cause: Cause::Missing,
-            },
-        ) if is_new => Because {
-            option,
-            cause: cause_of_folder(rt, db).unwrap_or(Cause::Unmade),
-        },
+        Some(because) if is_new && is_missing(because) => {
+            Because::of("--db", cause_of_folder(rt, db).unwrap_or(Cause::Unmade))
+        }
         Some(because) => because,
-        None if is_new && are_there(rt, db) => Because {
-            option,
-            cause: Cause::Tables,
-        },
-        None => Because {
-            option,
-            cause: Cause::Store(tables_of(deed)),
-        },
+        None if is_new && are_there(rt, db) => Because::of("--db", Cause::Tables),
+        None => Because::of("--db", Cause::Store(tables_of(deed))),
     }
 }
 
 /// Why the keys in a file were refused, and what that comes to where its text is of their form.
 fn why_keys(rt: &HostRuntime, path: &str, good: Cause) -> Because {
-    let cause = match fs::read(rt, path) {
-        Ok(text) => match read_keys(&text) {
+    let cause = match (cause_of_maker(rt, path), fs::read(rt, path)) {
+        (Some(cause), _) => cause,
+        (None, Ok(text)) => match read_keys(&text) {
             Some(_) => good,
             None => Cause::Text(keys_fault(&text)),
         },
-        Err(error) => cause_of_error(error),
+        (None, Err(error)) => cause_of_error(error),
     };
-    Because {
-        option: "--keys",
-        cause,
-    }
+    Because::of("--keys", cause)
 }
 
 /// Why the secret in a file was refused.
 fn why_secret(rt: &HostRuntime, path: &str) -> Because {
-    let cause = match fs::read(rt, path) {
-        Ok(text) => match bytes_of(&text) {
+    let cause = match (cause_of_maker(rt, path), fs::read(rt, path)) {
+        (Some(cause), _) => cause,
+        (None, Ok(text)) => match bytes_of(&text) {
             Some(_) => Cause::Good,
             None => Cause::Text(secret_fault(&text)),
         },
-        Err(error) => cause_of_error(error),
+        (None, Err(error)) => cause_of_error(error),
     };
-    Because {
-        option: "--secret",
-        cause,
+    Because::of("--secret", cause)
+}
+
+/// Why a command on the database of a name failed so, where its fault's word doesn't say all.
+fn why_failed_on(rt: &HostRuntime, name: &str, deed: Deed<'_>, fault: Fault) -> Option<Because> {
+    match (deed, fault) {
+        (_, Fault::Unavailable) => Some(why_unavailable(rt, name, deed)),
+        (Deed::Serve { keys, .. }, Fault::Keys) => Some(why_keys(rt, keys, Cause::NoSeed)),
+        (Deed::AddAccount { secret, .. }, Fault::Secret) => Some(why_secret(rt, secret)),
+        _ => None,
     }
 }
 
 /// Why a command failed so, where its fault's word doesn't say all.
 pub(crate) fn why_failed(rt: &HostRuntime, asked: Invocation<'_>, fault: Fault) -> Option<Because> {
     match (asked, fault) {
-        (Invocation::On(db, deed), Fault::Unavailable) => Some(why_unavailable(rt, db, deed)),
-        (Invocation::On(_, Deed::Serve { keys, .. }), Fault::Keys) => Some(why_keys(
-            rt,
-            keys,
-            Cause::NoSeed,
-        )),
-        (Invocation::On(_, Deed::AddAccount { secret, .. }), Fault::Secret) => {
-            Some(why_secret(rt, secret))
+        (Invocation::On(db, deed), _) => {
+            let name = name_of(rt, db);
+            why_failed_on(rt, name_or(&name, db), deed, fault)
         }
         (Invocation::Script(keys), Fault::Keys) => Some(why_keys(rt, keys, Cause::Good)),
         _ => None,
     }
 }
 
+/// Why the database that an option names can't be copied, where that can be seen.
+fn why_uncopied(rt: &HostRuntime, option: &'static str, path: &str) -> Option<Because> {
+    let name = match name_of(rt, path) {
+        Ok(name) => name,
+        Err(error) => return Some(Because::of(option, cause_of_error(error))),
+    };
+    if let Some(because) = cause_of_source(rt, option, name.as_str()) {
+        return Some(because);
+    }
+    match format!(in rt.alloc(); "{}-wal", name.as_str()) {
+        Ok(log) => match is_moved(rt, name.as_str(), log.as_str()) {
+            Ok(true) => Some(Because::of(option, Cause::Moved)),
+            _ => None,
+        },
+        Err(_) => None,
+    }
+}
+
 /// Why a backup failed.
 fn why_no_backup(rt: &HostRuntime, db: &str, to: &str) -> Because {
-    if let Some(cause) = cause_of_source(rt, db) {
-        return Because {
-            option: "--db",
-            cause,
-        };
-    }
-    Because {
-        option: "--to",
-        cause: cause_of_folder(rt, to).unwrap_or(Cause::Copy),
+    match why_uncopied(rt, "--db", db) {
+        Some(because) => because,
+        None => Because::of("--to", cause_of_folder(rt, to).unwrap_or(Cause::Copy)),
     }
 }
 
 /// Why a restore failed.
 fn why_not_restored(rt: &HostRuntime, from: &str, db: &str) -> Because {
-    if let Some(cause) = cause_of_source(rt, from) {
-        return Because {
-            option: "--from",
-            cause,
-        };
+    if let Some(because) = why_uncopied(rt, "--from", from) {
+        return because;
+    }
+    if let Err(error) = name_of(rt, db) {
+        return Because::of("--db", cause_of_error(error));
     }
     match cause_of_held(rt, db) {
-        Some(
-            Because {
-                option: _,
-                cause: Cause::Missing,
-            },
-        ) if has_log(rt, db) => {
-            Because {
-                option: "--db",
-                cause: Cause::LogAlone,
-            }
+        Some(because) if is_missing(because) && has_log(rt, db) => {
+            Because::of("--db", Cause::LogAlone)
         }
-        Some(
-            Because {
-                option: _,
-                cause: Cause::Missing,
-            },
-        )
-        | None => {
-            Because {
-                option: "--from",
-                cause: Cause::Copy,
-            }
-        }
-        Some(because) => because,
+        Some(because) if !is_missing(because) => because,
+        _ => Because::of("--from", Cause::Copy),
     }
 }
 
@@ -197,10 +193,10 @@ pub(crate) fn why_not_shown(
             Some(why_keys(rt, keys, Cause::NoSeed))
         }
         (Look::Certificate { keys, .. }, Fault::Keys) => Some(why_keys(rt, keys, Cause::OtherSeed)),
-        (_, Fault::Unavailable) => Some(Because {
-            option: "--db",
-            cause: cause_of_source(rt, db).unwrap_or(Cause::Store("")),
-        }),
+        (_, Fault::Unavailable) => match why_uncopied(rt, "--db", db) {
+            Some(because) => Some(because),
+            None => Some(Because::of("--db", Cause::Store(""))),
+        },
         _ => None,
     }
 }

@@ -1,0 +1,15 @@
+//! The flags of a command.
+
+/// The flags of a command.
+#[derive(Clone, Copy)]
+pub(crate) struct Flags {
+    /// Whether it says why it failed.
+    pub(crate) is_verbose: bool,
+
+    /// Whether a line is written for each event that is served.
+    pub(crate) is_logged: bool,
+
+    /// Whether it warns of files that others may read, and tells errors of the network: to a terminal, and if it is
+    /// verbose or writes a log. Else standard error has a fault's line alone.
+    pub(crate) warns: bool,
+}
