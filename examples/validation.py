@@ -17,12 +17,16 @@ https://laboratory.example/acvp/v1, for an account whose secret is in the file S
 who signed the front's, and CERTIFICATE and KEY are the client's own. It ends once its test session has passed, since the
 operator isn't there.
 
+With --without-monte-carlo in front of all these the longest message has 760 bits. That is less than three digests, and
+so the vector sets have no Monte Carlo test, which takes an unproved build with its checks more than a minute.
+
 It prints what happens, and stops with status 1 where anything isn't as it must be."""
 import contextlib
 import hashlib
 import hmac
 import json
 import os
+import signal
 import socket
 import ssl
 import subprocess
@@ -332,6 +336,11 @@ def validated_at(url, account, secret, *files):
 
 
 def main():
+    # whoever ends the client ends its server, too
+    signal.signal(signal.SIGTERM, lambda number, frame: sys.exit(128 + number))
+    if sys.argv[1:2] == ["--without-monte-carlo"]:
+        del sys.argv[1]
+        REGISTRATION["algorithms"][0]["messageLength"][0]["max"] = 760
     if sys.argv[1:2] == ["--url"] and len(sys.argv) in (5, 6, 8):
         validated_at(*sys.argv[2:])
         return

@@ -224,8 +224,8 @@ def main():
     asked = parser.parse_args()
     program = os.path.abspath(asked.program or os.path.join(TOP, BUILT))
     if not (os.path.isfile(program) and os.access(program, os.X_OK)):
-        sys.exit(f"There is no program {asked.program or BUILT}: build it by ./demo or ./test, or name another by "
-                 "--program PATH.")
+        sys.exit(f"There is no program {asked.program or BUILT}: build it by ./test or ./demo --proved, or name "
+                 "another by --program PATH.")
     rounds = FEW_ROUNDS if asked.quick else ROUNDS
     kinds = [LOGINS, MADE, CACHED, SUBMISSIONS, MEMORY]
     with tempfile.TemporaryDirectory() as folder:

@@ -20,6 +20,32 @@ from validation import answers
 
 TOP = os.path.dirname(os.path.dirname(os.path.dirname(os.path.abspath(__file__))))
 REGISTRATION = {"algorithms": [{"algorithm": "SHA2-256", "messageLength": [8], "revision": "1.0"}]}
+TWENTY_SETS = {"algorithms": [{"algorithm": "HMAC-SHA2-256", "keyLen": [256], "macLen": [256], "revision": "1.0"}] * 20}
+# What nginx answers itself, or would, and what is answered: a request line, the fields behind Host, a status and an error.
+# Of a request line that can't be read nginx knows no path.
+SHAPES = [
+    ("POST /acvp/v1/testSessions HTTP/1.1", ["Transfer-Encoding: xchunked"], 501, "transferCoding"),
+    ("POST /acvp/v1/testSessions HTTP/1.1", ["Transfer-Encoding: gzip, chunked"], 501, "transferCoding"),
+    ("POST /acvp/v1/testSessions HTTP/1.1", ["Content-Length: 1", "Content-Length: 2"], 400, "badRequest"),
+    ("TRACE /acvp/v1/account HTTP/1.1", [], 405, "noMethod"),
+    ("CONNECT /acvp/v1/account HTTP/1.1", [], 405, "noMethod"),
+    ("CONNECT 127.0.0.1:443 HTTP/1.1", [], 400, "badRequest"),
+    ("OPTIONS * HTTP/1.1", [], 400, "badRequest"),
+    ("PRI * HTTP/2.0", [], 400, "badRequest"),
+    ("GET /acvp/v1/account HTTP/2.0", [], 400, "badRequest"),
+    ("GET /acvp/v1/account HTTX/1.1", [], 400, "badRequest"),
+    ("get /acvp/v1/account HTTP/1.1", [], 400, "badRequest"),
+    ("nothing like it", [], 400, "badRequest"),
+    ("GET /acvp/v1/%zz HTTP/1.1", [], 400, "badRequest"),
+    ("GET /../other HTTP/1.1", [], 400, "badRequest"),
+    ("GET /acvp/v1/account HTTP/1.1", ["Host: another"], 400, "badRequest"),
+    (f"GET /{'a' * 20000} HTTP/1.1", [], 431, "headTooLarge"),
+    ("GET /acvp/v1/account HTTP/1.1", [f"Long: {'a' * 20000}"], 431, "headTooLarge"),
+    ("GET /refused/now HTTP/1.1", [], 404, "noResource"),
+    ("GET /acvp/v1 HTTP/1.1", [], 404, "noRoute"),
+    ("POST /acvp/v1 HTTP/1.1", ["Content-Length: 0"], 404, "noRoute"),
+    ("FOO /acvp/v1/account HTTP/1.1", [], 405, "noMethod"),
+]
 
 
 def openssl(lab, *args):
@@ -27,11 +53,11 @@ def openssl(lab, *args):
 
 
 def certificates(lab):
-    """An authority, the server's certificate and a client's."""
+    """An authority, the server's certificate and those of three clients."""
     for name, subject in [("authority", "/CN=laboratory"), ("stranger", "/CN=stranger")]:
         openssl(lab, "req", "-x509", "-newkey", "ec", "-pkeyopt", "ec_paramgen_curve:prime256v1", "-nodes", "-days", "2",
                 "-keyout", f"{name}-key.pem", "-out", f"{name}.pem", "-subj", subject)
-    for name, by in [("server", "authority"), ("client", "authority"), ("other", "stranger")]:
+    for name, by in [("server", "authority"), ("client", "authority"), ("second", "authority"), ("third", "authority"), ("other", "stranger")]:
         lab.write(lab.path(f"{name}.ext"), "subjectAltName=IP:127.0.0.1\n")
         openssl(lab, "req", "-newkey", "ec", "-pkeyopt", "ec_paramgen_curve:prime256v1", "-nodes", "-keyout", f"{name}-key.pem",
                 "-out", f"{name}.csr", "-subj", f"/CN={name}")
@@ -64,6 +90,34 @@ class Front:
         if certificate:
             self.context.load_cert_chain(lab.path(f"{certificate}.pem"), lab.path(f"{certificate}-key.pem"))
 
+    def connect(self):
+        return self.context.wrap_socket(socket.create_connection(("127.0.0.1", self.port), timeout=60), server_hostname="127.0.0.1")
+
+    def tells(self, line, fields):
+        """The status and the second object of the reply to a request line and these fields."""
+        with self.connect() as connection:
+            connection.sendall("\r\n".join([line, "Host: 127.0.0.1", *fields, "", ""]).encode())
+            reply = http.client.HTTPResponse(connection)
+            reply.begin()
+            expect(f"the type of the reply to {line[:40]}", reply.headers["Content-Type"], "application/json")
+            version, thing = json.loads(reply.read())
+        expect(f"the envelope of the reply to {line[:40]}", version, {"acvVersion": "1.0"})
+        return reply.status, thing
+
+    def until_refused(self, method, path, most=2000):
+        """How many requests for a path are handed on before one is refused for their rate, where so many are sent at most."""
+        connection = http.client.HTTPSConnection("127.0.0.1", self.port, context=self.context, timeout=60)
+        for count in range(most):
+            connection.request(method, path)
+            reply = connection.getresponse()
+            text = json.loads(reply.read())
+            if reply.status == 429:
+                expect("what is told of a rate", (reply.headers["Content-Type"], text), ("application/json", [{"acvVersion": "1.0"}, {"error": "tooManyRequests"}]))
+                connection.close()
+                return count
+            expect("a request below a rate", (reply.status, text[1]), (401, {"error": "tokenMissing"}))
+        raise SystemExit(f"{most} requests for {path} are handed on")
+
     def call(self, method, path, token=None, thing=None, body=None):
         connection = http.client.HTTPSConnection("127.0.0.1", self.port, context=self.context, timeout=60)
         if thing is not None:
@@ -92,11 +146,44 @@ def waits(port):
     raise SystemExit("nginx doesn't listen")
 
 
+def shapes(client):
+    """What nginx answers itself is in the protocol's envelope."""
+    for line, fields, status, error in SHAPES:
+        expect(f"{line[:40]} {fields[:1]}", client.tells(line, fields), (status, {"error": error}))
+
+
+def twenty_sets(client, token):
+    """Twenty vector sets that are fetched, answered, corrected and read again one after another stay below the rates."""
+    session = client.must("POST", "/acvp/v1/testSessions", token, TWENTY_SETS)
+    bound = session["accessToken"]
+    for of_set in session["vectorSetUrls"]:
+        given = answers(client.must("GET", of_set, bound))
+        client.must("POST", of_set + "/results", bound, given)
+        client.must("PUT", of_set + "/results", bound, given)
+        expect("the results of one of twenty", client.must("GET", of_set + "/results", bound)["disposition"], "passed")
+    expect("the results of twenty", client.must("GET", session["url"] + "/results", bound)["passed"], True)
+
+
+def rates(lab, port):
+    """Who sends on and on is refused, and not for another's requests. What costs the server more has a rate of its own."""
+    first, second, third = Front(lab, port), Front(lab, port, "second"), Front(lab, port, "third")
+    of_set = "/acvp/v1/testSessions/7000001/vectorSets/700000101"
+    few = second.until_refused("GET", of_set)
+    expect(f"{few} costly requests at once, where 120 may be", few >= 120, True)
+    for method, path in [("GET", of_set + "/expected"), ("POST", of_set + "/results"), ("PUT", of_set + "/results")]:
+        few = second.until_refused(method, path)
+        expect(f"{few} of {method} {path} behind them", few < 60, True)
+    expect("what costs less beside them", second.call("GET", of_set + "/results"), (401, {"error": "tokenMissing"}))
+    few = third.until_refused("GET", "/acvp/v1/account")
+    expect(f"{few} requests at once, where 200 may be", few >= 200, True)
+    expect("another client beside them", first.call("GET", of_set), (401, {"error": "tokenMissing"}))
+
+
 def over_tls(lab, port):
     """A session passes through the front, beside a client that stops half way; what isn't a request of a client's is
     told in the protocol's envelope."""
     client = Front(lab, port)
-    slow = client.context.wrap_socket(socket.create_connection(("127.0.0.1", port)), server_hostname="127.0.0.1")
+    slow = client.connect()
     slow.sendall(b"POST /acvp/v1/login HTTP/1.1\r\nHost: x\r\nContent-Length: 100\r\n\r\n[")
     expect("the version of TLS", slow.version(), "TLSv1.3")
     within_a_step(5)
@@ -108,6 +195,8 @@ def over_tls(lab, port):
     expect("the results over TLS", client.must("GET", session["url"] + "/results", bound)["passed"], True)
     expect("a validation beside a slow client, in ten seconds", time.time() - began < 10, True)
     slow.close()
+    shapes(client)
+    twenty_sets(client, token)
     certificate = [lab.path(name) for name in ("authority.pem", "client.pem", "client-key.pem")]
     done = subprocess.run([sys.executable, os.path.join(TOP, "examples", "validation.py"), "--url", f"https://127.0.0.1:{port}/acvp/v1", "8",
                            lab.path("secret-8"), *certificate], capture_output=True, text=True, timeout=120)
@@ -120,6 +209,7 @@ def over_tls(lab, port):
         expect(what, Front(lab, port, certificate).call("GET", "/acvp/v1/account"), (400, {"error": "badRequest"}))
     tries = [client.call("POST", "/acvp/v1/login", thing={"password": "00000000", "user": "7"})[0] for _ in range(20)]
     expect("logins that are tried on and on", (tries[0], tries[-1]), (403, 429))
+    rates(lab, port)
     lab.kill()
     expect("a server that isn't there", client.call("GET", "/acvp/v1/account"), (503, {"error": "unavailable"}))
 

@@ -12,6 +12,7 @@ import random
 import re
 import resource
 import shutil
+import socket
 import sqlite3
 import stat
 import struct
@@ -21,7 +22,7 @@ import tempfile
 import threading
 import time
 
-from laboratory import Laboratory, expect, free_port, within_a_step
+from laboratory import Laboratory, expect, free_port, rows_of, within_a_step
 import laboratory
 
 EMPTY_LOG = 41
@@ -73,7 +74,7 @@ def restore(lab, name="backup.db", db=None):
 def backups_while_nobody_serves(lab):
     """A backup is one file for its owner, with the same rows; what is there already isn't written over."""
     lab.add(1)
-    lab.does("backed up", *backup(lab))
+    lab.backs_up()
     expect("the backup's mode", mode(lab.path("backup.db")), 0o600)
     expect("the files beside the backup", sorted(os.listdir(lab.folder)),
            ["backup.db", "keys.txt", "laboratory.db", "laboratory.db-wal", "secret-1"])
@@ -92,7 +93,7 @@ def backups_while_nobody_serves(lab):
         connection.execute("PRAGMA journal_mode=WAL")
         connection.execute("CREATE TABLE early (number INTEGER PRIMARY KEY)")
         connection.execute("INSERT INTO early VALUES (7)")
-    lab.does("backed up", *backup(lab, "early-backup.db", lab.path("early.db")))
+    lab.backs_up("early-backup.db", lab.path("early.db"))
     expect("the rows of another schema", content(lab.path("early-backup.db")), {"early": [(7,)]})
 
 
@@ -113,7 +114,7 @@ def backups_while_serving(lab):
     adding.start()
     for number in range(20):
         before = acknowledged[0]
-        lab.does("backed up", *backup(lab, f"b{number}.db"))
+        lab.backs_up(f"b{number}.db")
         least, most = before, given[0]
         there = accounts(lab.path(f"b{number}.db"))
         expect(f"backup {number}: the accounts are the first ones", there, list(range(1, len(there) + 1)))
@@ -146,8 +147,8 @@ def copies_apart(lab):
         running = [subprocess.Popen([lab.program, *backup(lab)], stdin=subprocess.DEVNULL, stdout=subprocess.PIPE, stderr=subprocess.PIPE)
                    for _ in range(4)]
         ends = sorted((run.communicate(timeout=60), run.returncode) for run in running)
-        taken = ((b"", b"fault: taken\n"), 1)
-        expect(f"four backups at once, {number}", ends, [taken] * 3 + [((b"backed up\n", b""), 0)])
+        taken, made = ((b"", b"fault: taken\n"), 1), b"backed up: %d rows\n" % rows_of(lab.path("backup.db"))
+        expect(f"four backups at once, {number}", ends, [taken] * 3 + [((made, b""), 0)])
         expect("the rows of the one", content(lab.path("backup.db")), content(lab.db))
         if number < 9:
             os.remove(lab.path("backup.db"))
@@ -162,7 +163,7 @@ def copies_apart(lab):
 def restores(lab):
     """A restored file is the backup, whatever log a killed run has left; what is refused changes nothing."""
     lab.add(1)
-    lab.does("backed up", *backup(lab))
+    lab.backs_up()
     backed_up = content(lab.path("backup.db"))
     lab.serve(count=None)
     lab.add(2)
@@ -172,7 +173,7 @@ def restores(lab):
     expect("what is restored", content(lab.db), backed_up)
     expect("its mode", mode(lab.db), 0o600)
     lab.add(2)
-    lab.does("backed up", *backup(lab, "later.db"))
+    lab.backs_up("later.db")
     lab.does("restored", *restore(lab))
     lab.does("restored", *restore(lab, "later.db"))
     expect("the accounts of the later backup", accounts(lab.db), [1, 2])
@@ -212,7 +213,7 @@ def killed_restores(lab, kills):
     """A restore that is killed leaves the one or the other, whole."""
     for number in range(1, 4):
         lab.add(number)
-    lab.does("backed up", *backup(lab))
+    lab.backs_up()
     backed_up = content(lab.path("backup.db"))
     kept, replaced = 0, 0
     began = time.time()
@@ -237,44 +238,57 @@ def killed_restores(lab, kills):
         kept, replaced = kept + (now == there), replaced + (now == backed_up)
         lab.does("restored", *restore(lab))
         expect("the restore behind it", content(lab.db), backed_up)
-        left = parts(lab)
-        expect(f"what a killed restore leaves beside it: {left}", len(left) <= 2 and all(mode(lab.path(name)) == 0o600 for name in left), True)
-        for name in left:
-            os.remove(lab.path(name))
+        expect("what killed restores leave beside it, behind one that isn't", parts(lab), [])
     print(f"of {kills} restores that were killed {kept} left the file as it was, and {replaced} had put the backup there")
 
 
 # ---- who may read
 
 
+def warned(lab, told, output, *args):
+    """With --verbose a command warns of the files that others may read. Without, standard error has nothing."""
+    status, printed, faults = lab.run(*args, "--verbose")
+    expect(f"the command {args} with --verbose", (status, printed, faults), (0, output, "".join(f"warning: others than its owner may {what}\n" for what in told)))
+
+
 def what_others_may_read(lab):
-    """A database and its log are made for their owner alone, whatever the umask is. A file that others may read is told,
-    and the command does what it does without."""
+    """A database and its log are made for their owner alone, whatever the umask is. Of a file that others may read a
+    command warns if it is verbose, and does what it does without."""
     open_mask = os.umask(0o022)
     try:
         lab.db = lab.path("made.db")
         lab.does("ready", "init", "--db", lab.db)
         expect("the modes of the file and its log", (mode(lab.db), mode(lab.db + "-wal")), (0o600, 0o600))
-        lab.does("backed up", *backup(lab))
+        lab.backs_up()
         expect("the backup's mode", mode(lab.path("backup.db")), 0o600)
         os.remove(lab.db + "-wal")
         lab.fails("unknown", "account-disable", "--db", lab.db, "--account", "1")
         expect("no new log beside it", os.path.exists(lab.db + "-wal"), False)
         secret = lab.write(lab.path("open-secret"), "ab" * 32 + "\n")
-        done = lab.run("account-add", "--db", lab.db, "--account", "1", "--secret", secret)
-        expect("a secret that others may read", done, (0, "account 1 added\n", f"warning: others than its owner may read {secret}\n"))
+        warned(lab, [f"read {secret}"], "account 1 added\n", "account-add", "--db", lab.db, "--account", "1", "--secret", secret)
+        lab.does("account 2 added", "account-add", "--db", lab.db, "--account", "2", "--secret", secret)
         os.chmod(lab.db, 0o640)
-        done = lab.run("account-disable", "--db", lab.db, "--account", "1")
-        expect("a database that others may read", done, (0, "account 1 disabled\n", f"warning: others than its owner may read {lab.db}\n"))
-        told = f"warning: others than its owner may read {lab.db}\n"
-        expect("a backup of it", lab.run(*backup(lab, "more.db")), (0, "backed up\n", told))
+        warned(lab, [f"read {lab.db}"], "account 1 disabled\n", "account-disable", "--db", lab.db, "--account", "1")
+        lab.does("account 2 disabled", "account-disable", "--db", lab.db, "--account", "2")
+        os.chmod(lab.db + "-wal", 0o640)
+        warned(lab, [f"read {lab.db}", f"read {lab.db}-wal"], "schema 3\n", "migrate", "--db", lab.db)
+        os.chmod(lab.folder, 0o733)
+        of_folder = f"make files in {lab.folder}"
+        warned(lab, [f"read {lab.db}", f"read {lab.db}-wal", of_folder], "schema 3\n", "migrate", "--db", lab.db)
+        os.chmod(lab.folder, 0o700)
+        warned(lab, [f"read {lab.db}", f"read {lab.db}-wal"], f"backed up: {rows_of(lab.db)} rows\n", *backup(lab, "more.db"))
         os.chmod(lab.path("more.db"), 0o604)
-        told = f"warning: others than its owner may read {lab.path('more.db')}\n" + told
-        expect("a restore of one over it", lab.run(*restore(lab, "more.db")), (0, "restored\n", told))
-        expect("what is restored", mode(lab.db), 0o600)
+        warned(lab, [f"read {lab.path('more.db')}", f"read {lab.db}", f"read {lab.db}-wal"], "restored\n", *restore(lab, "more.db"))
+        expect("what is restored has the mode of what was there", mode(lab.db), 0o640)
         os.chmod(lab.keys, 0o604)
-        done = lab.run("script", "--keys", lab.keys)
-        expect("keys that others may read", done, (0, "", f"warning: others than its owner may read {lab.keys}\n"))
+        warned(lab, [f"read {lab.keys}"], "", "script", "--keys", lab.keys)
+        lab.serve(count=1, more=["--log"], faults=open(lab.path("told"), "wb"))
+        lab.ask(b"GET / HTTP/1.1\r\n\r\n")
+        lab.process.wait(60)
+        lab.kill()
+        told = bytes_of(lab.path("told")).decode().splitlines()
+        expect("a log begins with what others may read", told[:2],
+               [f"warning: others than its owner may read {path}" for path in (lab.db, lab.keys)])
         os.chmod(lab.keys, 0o600)
     finally:
         os.umask(open_mask)
@@ -339,7 +353,7 @@ def serving(lab, path, keys=None):
 def why_a_database_is_unavailable(lab):
     """Each cause by itself, made here: what has the path, who has the file, what is beside it, and what it holds."""
     lab.add(1)
-    lab.does("backed up", *backup(lab))
+    lab.backs_up()
     gone = lab.path("gone.db")
     for command in (disable(gone), ["migrate", "--db", gone], serving(lab, gone), backup(lab, "b.db", gone),
                     ["account-add", "--db", gone, "--account", "2", "--secret", lab.path("secret-1")]):
@@ -420,7 +434,7 @@ def why_a_database_is_unavailable(lab):
     lab.serve(count=None)
     lab.add(3)
     lab.kill()
-    lab.does("backed up", *backup(lab))
+    lab.backs_up()
     os.remove(lab.db)
     because(lab, "unavailable", "--db: there is no such file, but its log (-wal) holds records", *restore(lab))
 
@@ -478,8 +492,10 @@ def what_verbose_leaves(lab):
         else:
             because(lab, word, None, *command)
     for told, command in [("ready", ["init", "--db", lab.path("a.db")]), ("schema 3", ["migrate", "--db", lab.db]),
-                          ("account 1 disabled", disable(lab.db)), ("backed up", backup(lab)), ("restored", restore(lab))]:
+                          ("account 1 disabled", disable(lab.db))]:
         lab.does(told, *command, "--verbose")
+    lab.backs_up(more=["--verbose"])
+    lab.does("restored", *restore(lab), "--verbose")
     lab.serve(count=1, more=["--verbose"])
     lab.ask(b"GET / HTTP/1.1\r\n\r\n")
     lab.served(1)
@@ -489,6 +505,71 @@ def what_verbose_leaves(lab):
         expect(f"the help of {command}", (status, "--verbose" in output, "--log" in output, faults), (0, True, command == "serve", ""))
         if command != "serve":
             expect(f"{command} with --log", lab.run(command, "--log")[:2], (2, ""))
+
+
+def told_both_ways(lab, word, *args, **more):
+    """A command that fails says its word and nothing else. With --verbose it says as much behind its warnings, and then
+    at most one cause."""
+    expect(f"what {args} says", lab.run(*args, **more)[::2], (1, f"fault: {word}\n"))
+    status, _, faults = lab.run(*args, "--verbose", **more)
+    lines = faults.splitlines()
+    warnings = [line for line in lines if line.startswith("warning: ")]
+    behind = [line for line in lines[len(warnings) + 1:] if not line.startswith("because: --")]
+    expect(f"what {args} says with --verbose", (status, lines[:len(warnings)], lines[len(warnings)], behind, len(lines) - len(warnings) <= 2),
+           (1, warnings, f"fault: {word}", [], True))
+
+
+def each_fault_both_ways(lab):
+    """Each command with each of its faults that can be made here, over files that others may read."""
+    lab.add(1)
+    lab.add(2)
+    lab.serve(count=None)
+    within_a_step(5)
+    token = lab.token(1)
+    for name in ("one", "two"):
+        lab.must("POST", "/vendors", token, {"name": name})
+    lab.kill()
+    lab.does("request 1000002 rejected", "request-reject", "--db", lab.db, "--request", "1000002")
+    lab.backs_up()
+    secret, bad = lab.path("secret-1"), lab.write(lab.path("text"), "no key\n")
+    other = changed(lab, "other.db", "CREATE TABLE other (a)")
+    stray = changed(lab, "stray.db", "UPDATE account SET secret = X'00' WHERE account = 2")
+    gone, keys = lab.path("gone.db"), ["--keys", lab.keys]
+    for name in os.listdir(lab.folder):
+        os.chmod(lab.path(name), 0o644)
+    one = ["--request", "1000001"]
+    of_database = [["migrate"], ["account-add", "--account", "3", "--secret", secret], ["account-disable", "--account", "1"],
+                   ["request-approve", *one], ["request-reject", *one], ["accounts"], ["requests"], ["request-show", *keys, *one],
+                   ["certificate", *keys, *one], ["check", *keys], ["serve", *keys, "--port", str(free_port()), "--count", "1"]]
+    for command in of_database:
+        told_both_ways(lab, "unavailable", *command, "--db", gone)
+        told_both_ways(lab, "schema", *command, "--db", other)
+        if keys[0] in command:
+            told_both_ways(lab, "keys", *[bad if word == lab.keys else word for word in command], "--db", lab.db)
+    for command in (["request-approve"], ["request-reject"], ["request-show", *keys], ["certificate", *keys]):
+        told_both_ways(lab, "unknown", *command, "--db", lab.db, "--request", "9")
+    for word, command in [("unavailable", ["init", "--db", lab.db]), ("unavailable", ["backup", "--db", gone, "--to", lab.path("b.db")]),
+                          ("taken", ["backup", "--db", lab.db, "--to", lab.path("text")]),
+                          ("unavailable", ["restore", "--from", gone, "--db", lab.db]), ("schema", ["restore", "--from", other, "--db", lab.db]),
+                          ("taken", ["account-add", "--db", lab.db, "--account", "1", "--secret", secret]),
+                          ("secret", ["account-add", "--db", lab.db, "--account", "3", "--secret", bad]),
+                          ("unavailable", ["account-disable", "--db", stray, "--account", "2"]),
+                          ("unknown", ["account-disable", "--db", lab.db, "--account", "9"]),
+                          ("notInitial", ["request-approve", "--db", lab.db, "--request", "1000002"]),
+                          ("notInitial", ["request-reject", "--db", lab.db, "--request", "1000002"]),
+                          ("unavailable", ["accounts", "--db", stray]), ("rows", ["check", *keys, "--db", stray]),
+                          ("keys", ["script", "--keys", bad])]:
+        told_both_ways(lab, word, *command)
+    with socket.socket() as taken:
+        taken.bind(("127.0.0.1", 0))
+        taken.listen()
+        told_both_ways(lab, "bind", "serve", "--db", lab.db, *keys, "--port", str(taken.getsockname()[1]), "--count", "1")
+    full = open("/dev/full", "w")
+    for command in (["accounts", "--db", lab.db], ["requests", "--db", lab.db], ["request-show", "--db", lab.db, *keys, *one],
+                    ["check", "--db", lab.db, *keys], ["migrate", "--db", lab.db],
+                    ["serve", "--db", lab.db, *keys, "--port", str(free_port()), "--count", "1"]):
+        done = subprocess.run([lab.program, *command], stdin=subprocess.DEVNULL, stdout=full, stderr=subprocess.PIPE, timeout=60)
+        expect(f"{command[0]} to a full output", (done.returncode, done.stderr), (1, b"fault: write\n"))
 
 
 # ---- a machine that gives little
@@ -526,7 +607,7 @@ def main():
 
     killed.__name__ = "killed_restores"
     for part in (backups_while_nobody_serves, backups_while_serving, copies_apart, restores, killed, what_others_may_read, foreign_files,
-                 why_a_database_is_unavailable, why_a_text_is_refused, what_verbose_leaves, little_stack):
+                 why_a_database_is_unavailable, why_a_text_is_refused, what_verbose_leaves, each_fault_both_ways, little_stack):
         with tempfile.TemporaryDirectory() as folder:
             lab = Laboratory(program, folder)
             lab.does("ready", "init", "--db", lab.db)

@@ -370,7 +370,7 @@ def main():
         lab = life.lab
         try:
             first = first_run(life)
-            lab.does("backed up", "backup", "--db", lab.db, "--to", lab.path("backup.db"))
+            lab.backs_up()
             backed_up = life.rows
             life.has("behind the backup", backed_up)
             second = second_run(life, *first[:2])

@@ -4,7 +4,8 @@ they aren't.
     operators-view.py PROGRAM
 
 The wanted lines are written from what was asked for here, and the bodies are those that the account itself gets by its
-own requests. Nothing is left beside the database, and nothing of it changes."""
+own requests. Nothing is left beside the database, and nothing of it changes. What a vendor wrote to act on the terminal
+that shows it is escaped."""
 import contextlib
 import hashlib
 import json
@@ -22,6 +23,8 @@ CAPABILITIES = [{"algorithm": "SHA2-256", "messageLength": [8], "revision": "1.0
                 {"algorithm": "HMAC-SHA2-256", "keyLen": [256], "macLen": [256], "revision": "1.0"}]
 VENDOR, MODULE, ENVIRONMENT = {"name": "Acme"}, {"name": "Hash \u00fc", "version": "2"}, {"name": "Linux"}
 BODY = b"\r\n\r\n"
+# controls, separators of lines and paragraphs, and what turns the direction of writing
+ACTING = "".join(map(chr, [*range(32), *range(0x7F, 0xA0), 0x61C, 0x200E, 0x200F, *range(0x2028, 0x202F), *range(0x2066, 0x206A)]))
 
 
 def short(url):
@@ -164,6 +167,38 @@ def certificates(lab, wanted, token, bound, given):
     expect("the document after a restart", document(lab), text)
 
 
+def shows_plainly(lab, *args):
+    """The lines of a command, none of which acts on a terminal."""
+    lines = shows(lab, *args, "--db", lab.db, "--keys", lab.keys)
+    expect(f"what acts on a terminal, of the command {args}", set(ACTING) & set("".join(lines)), set())
+    return lines
+
+
+def acting_text(lab):
+    """A vendor, a module and an environment whose names act on a terminal, and a certification of them: what is printed
+    doesn't, and has the names that were sent."""
+    lab.add(7)
+    lab.serve()
+    token = lab.token(7)
+    things = [("/vendors", {"name": f"vendor \\{ACTING}\\u0085"}), ("/modules", {"name": f"module {ACTING}", "vendorUrl": "/acvp/v1/vendors/7000001"}),
+              ("/oes", {"name": f"{ACTING} environment"})]
+    for number, (path, thing) in enumerate(things, 7000001):
+        lab.must("POST", path, token, thing)
+        shown = shows_plainly(lab, "request-show", "--request", str(number))
+        expect(f"the object of request {number} as it was sent", [json.loads(line) for line in shown[1:]], [thing])
+        lab.does(f"request {number} approved /acvp/v1{path}/7000001", "request-approve", "--db", lab.db, "--request", str(number))
+    made = lab.must("POST", "/testSessions", token, {"algorithms": CAPABILITIES[1:]})
+    bound, session, of_set = made["accessToken"], short(made["url"]), short(made["vectorSetUrls"][0])
+    lab.must("POST", of_set + "/results", bound, answers(lab.must("GET", of_set, bound)))
+    lab.must("PUT", session, bound, {"moduleUrl": "/acvp/v1/modules/7000001", "oeUrl": "/acvp/v1/oes/7000001"})
+    shown = dict(line.split(" ", 1) for line in shows_plainly(lab, "request-show", "--request", "7000004"))
+    for path, thing in things:
+        expect(f"{path} as it is read", json.loads(shown[f"/acvp/v1{path}/7000001"])[1], lab.must("GET", f"{path}/7000001", token))
+    lab.does("request 7000004 approved /acvp/v1/testSessions/7000001", "request-approve", "--db", lab.db, "--request", "7000004")
+    text, = shows_plainly(lab, "certificate", "--request", "7000004")
+    expect("the names in a document", [json.loads(text)[member]["name"] for member in ("vendor", "module", "oe")], [thing["name"] for _, thing in things])
+
+
 def looks(lab, wanted):
     """All that is shown at the end, of three accounts."""
     expect("the accounts", shows(lab, "accounts", "--db", lab.db),
@@ -214,6 +249,13 @@ def main():
         expect("the line of what is approved", shown[0], wanted[0].replace("initial", "approved 7000001"))
         expect("its session", json.loads(shown[5].split(" ", 1)[1])[1]["status"], "approved")
         certificates(lab, wanted, token, bound, given)
+    with tempfile.TemporaryDirectory() as folder:
+        lab = Laboratory(program, folder)
+        lab.does("ready", "init", "--db", lab.db)
+        try:
+            acting_text(lab)
+        finally:
+            lab.kill()
     print(f"{laboratory.checked} comparisons")
 
 

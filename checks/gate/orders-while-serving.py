@@ -1,10 +1,11 @@
 """Serving that no client holds up, and orders that are carried out while it serves.
 
-    orders-while-serving.py PROGRAM SHIM [STOPS]
+    orders-while-serving.py PROGRAM FAIL_ACCEPT STOP_POLL [STOPS]
 
-SHIM is the library that fails the taking of connections. STOPS is how often serving is killed while clients and the operator write: 40 without it."""
+FAIL_ACCEPT is the library that fails the taking of connections, and STOP_POLL the one that stops the program behind a wait. STOPS is how often serving is killed while clients and the operator write: 40 without it."""
 import os
 import random
+import signal
 import socket
 import sqlite3
 import stat
@@ -296,13 +297,55 @@ def patience(lab):
     lab.kill()
 
 
+def answer(connection):
+    """What a connection is answered, or why it isn't."""
+    try:
+        return shown(read_all(connection))
+    except (OSError, BrokenOff) as wrong:
+        return wrong
+
+
+def beside_a_stop(lab, what, stop):
+    """The process is stopped for four seconds, where a client has two. Whole requests come meanwhile, of twenty clients
+    that were there before and of twenty that weren't. All are answered."""
+    whole = request("GET", "/account")
+    there = [lab.connect() for _ in range(20)]
+    # connections are taken in their order, so those before this one are taken by now
+    expect("a client before a stop", lab.call("GET", "/account"), MISSING)
+    stop()
+    expect("a stop", os.WIFSTOPPED(os.waitpid(lab.process.pid, os.WUNTRACED)[1]), True)
+    come = [lab.connect() for _ in range(20)]
+    for connection in there + come:
+        connection.sendall(whole)
+    time.sleep(4)
+    lab.process.send_signal(signal.SIGCONT)
+    for when, connections in (("before", there), ("during", come)):
+        for connection in connections:
+            expect(f"a request during {what}, of a client that came {when} it", answer(connection), MISSING)
+            connection.close()
+
+
+def stops_and_goes_on(lab, shim):
+    """A stop that is longer than a client's time costs nobody a request that came whole, also where it begins just before
+    the program looks who has taken too long."""
+    flag = lab.path("stop")
+    os.environ.update({"LD_PRELOAD": shim, "STOP_POLL": flag})
+    try:
+        lab.serve(count=None, more=["--patience", "2"])
+    finally:
+        del os.environ["LD_PRELOAD"], os.environ["STOP_POLL"]
+    beside_a_stop(lab, "a stop", lambda: lab.process.send_signal(signal.SIGSTOP))
+    beside_a_stop(lab, "a stop behind a wait", lambda: lab.write(flag, ""))
+    lab.kill()
+
+
 def errors_of_the_network(lab, shim):
-    """An error of the network that accept(2) passes on is told, and the connection is taken a second later; other errors
-    end serving."""
+    """An error of the network that accept(2) passes on is told with --verbose, and the connection is taken a second later;
+    other errors end serving."""
     passing = [100, 71, 92, 112, 64, 113, 95, 101]
     os.environ.update({"LD_PRELOAD": shim, "FAIL_ACCEPT": ",".join(map(str, [103, *passing[:2]]))})
     try:
-        lab.serve(count=1)
+        lab.serve(count=1, more=["--verbose"])
         began = time.time()
         expect("a client behind two errors", lab.call("GET", "/account"), MISSING)
         expect("the pauses behind them", 1.5 < time.time() - began < 6, True)
@@ -314,7 +357,7 @@ def errors_of_the_network(lab, shim):
             lab.serve(count=1)
             expect(f"a client behind error {number}", lab.call("GET", "/account"), MISSING)
             output, faults = lab.process.communicate(timeout=60)
-            expect(f"what is told of error {number}", (output, faults.count(b"\n")), (b"served 1\n", 1))
+            expect(f"what is told of error {number} without --verbose", (output, faults), (b"served 1\n", b""))
         for number in (24, 23, 22):
             os.environ["FAIL_ACCEPT"] = str(number)
             lab.serve(count=1)
@@ -432,16 +475,20 @@ def stops_with_orders(lab, count):
 
 
 def main():
-    program, shim, count = os.path.abspath(sys.argv[1]), os.path.abspath(sys.argv[2]), int((sys.argv[3:] or ["40"])[0])
+    program, fail_accept, stop_poll = map(os.path.abspath, sys.argv[1:4])
+    count = int((sys.argv[4:] or ["40"])[0])
     began = time.time()
 
     def stops(lab):
         stops_with_orders(lab, count)
 
-    def network(lab):
-        errors_of_the_network(lab, shim)
+    def pauses(lab):
+        stops_and_goes_on(lab, stop_poll)
 
-    for part in (a_validation_without_an_outage, lines_at_the_socket, the_socket, two_hundred_clients, patience, network, stops):
+    def network(lab):
+        errors_of_the_network(lab, fail_accept)
+
+    for part in (a_validation_without_an_outage, lines_at_the_socket, the_socket, two_hundred_clients, patience, pauses, network, stops):
         with tempfile.TemporaryDirectory() as folder:
             lab = Laboratory(program, folder)
             lab.does("ready", "init", "--db", lab.db)

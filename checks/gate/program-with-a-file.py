@@ -24,7 +24,7 @@ import threading
 import time
 
 import laboratory
-from laboratory import BrokenOff, Laboratory, expect, free_port, read_all, request, shown, signed, within_a_step
+from laboratory import BrokenOff, Laboratory, expect, free_port, read_all, request, rows_of, shown, signed, within_a_step
 from validation import answers
 
 TOP = os.path.join(os.path.dirname(os.path.abspath(__file__)), "..", "..")
@@ -233,10 +233,10 @@ def no_connection_can_be_taken(lab):
     raise SystemExit("serving doesn't begin with 31 open files")
 
 
-def serve_with(lab, **more):
-    """Serves without an end."""
+def serve_with(lab, before=(), **more):
+    """Serves without an end, by a command that these words begin."""
     lab.port = free_port()
-    lab.process = subprocess.Popen([lab.program, "serve", "--db", lab.db, "--keys", lab.keys, "--port", str(lab.port)],
+    lab.process = subprocess.Popen([*before, lab.program, "serve", "--db", lab.db, "--keys", lab.keys, "--port", str(lab.port)],
                                    stdin=subprocess.DEVNULL, stdout=subprocess.PIPE, stderr=subprocess.PIPE, **more)
     expect("the first line of serve", lab.process.stdout.readline(), b"listening 127.0.0.1:%d\n" % lab.port)
 
@@ -253,8 +253,8 @@ def a_full_disk(lab):
     and with room the change is made."""
     lab.add(25)
     within_a_step(10)
-    # the limit is told as an error of the write, since the signal that goes with it stays ignored
-    serve_with(lab, restore_signals=False)
+    # as the unit in examples/ starts it: a limit is told as an error of the write where its signal is ignored
+    serve_with(lab, before=["env", "--ignore-signal=XFSZ"])
     resource.prlimit(lab.process.pid, resource.RLIMIT_FSIZE, (0, resource.RLIM_INFINITY))
     expect("a login without room", lab.login(25), (503, {"error": "unavailable"}))
     now = int(time.time())
@@ -676,7 +676,7 @@ def documents(lab):
     rest = [line for line in lines[place:] if "account-disable" not in line]
     output = shell(other, rest, folder)
     wanted = ["7 enabled sessions 0 requests 2 ", "7000002 account 7 vendor initial\n",
-              '7000001 account 7 vendor initial\n{"name":"Vendor one"}\n', "request 7000001 approved /acvp/v1/vendors/7000001\n", "request 7000002 rejected\n", "backed up\n", "restored\n", "whole: accounts 1 sessions 0 sets 0 requests 2\n", "schema 3\n"]
+              '7000001 account 7 vendor initial\n{"name":"Vendor one"}\n', "request 7000001 approved /acvp/v1/vendors/7000001\n", "request 7000002 rejected\n", f"backed up: {rows_of(os.path.join(folder, 'backup.db'))} rows\n", "restored\n", "whole: accounts 1 sessions 0 sets 0 requests 2\n", "schema 3\n"]
     if shutil.which("sqlite3"):
         wanted += ["ok\n"]
     for part in wanted:

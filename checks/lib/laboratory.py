@@ -1,11 +1,13 @@
 """A laboratory whose records are in a file, as the checks of the program see it: its operator's commands, what is
 served, and a client of it, in standard Python."""
 import base64
+import contextlib
 import hashlib
 import hmac
 import json
 import os
 import socket
+import sqlite3
 import subprocess
 import sys
 import time
@@ -44,6 +46,13 @@ def request(method, path, token=None, thing=None, body=None):
 def compact(value):
     """The text of a value as JSON without white space, with its members in ascending order."""
     return json.dumps(value, separators=(",", ":"), sort_keys=True).encode()
+
+
+def rows_of(path):
+    """How many rows the tables of a database have that is in one file, as SQLite counts them."""
+    with contextlib.closing(sqlite3.connect(f"file:{path}?mode=ro&immutable=1", uri=True)) as connection:
+        tables = [name for name, in connection.execute("SELECT name FROM sqlite_master WHERE type = 'table'")]
+        return sum(connection.execute(f'SELECT count(*) FROM "{table}"').fetchone()[0] for table in tables)
 
 
 def encoded(part):
@@ -138,6 +147,12 @@ class Laboratory:
 
     def fails(self, word, *args, what="", **more):
         expect(f"the command {args} {what}", self.run(*args, **more), (1, "", f"fault: {word}\n"))
+
+    def backs_up(self, name="backup.db", db=None, more=()):
+        """A backup is made, and says how many rows it has: as many as SQLite counts in it."""
+        to = self.path(name)
+        done = self.run("backup", "--db", db or self.db, "--to", to, *more)
+        expect(f"the backup {name}", done, (0, f"backed up: {rows_of(to)} rows\n", ""))
 
     def secret(self, account):
         return hashlib.sha256(b"secret of %d" % account).digest()

@@ -1,0 +1,394 @@
+"""A database under other names, and its files in a folder that others can write.
+
+    names-and-owners-of-files.py PROGRAM SLOW_LOCK NO_LINKS
+
+SLOW_LOCK and NO_LINKS are libraries that are preloaded into the program: the one holds it up before it locks a file, the
+other lets it make no second name."""
+import contextlib
+import os
+import shutil
+import signal
+import socket
+import sqlite3
+import stat
+import subprocess
+import sys
+import tempfile
+import time
+
+from laboratory import Laboratory, expect, free_port, rows_of
+import laboratory
+
+NOBODY = 65534
+IS_ROOT = os.geteuid() == 0
+
+
+def mode(path):
+    return stat.S_IMODE(os.stat(path).st_mode)
+
+
+def bytes_of(path):
+    with open(path, "rb") as file:
+        return file.read()
+
+
+def account_lines(lab, path):
+    status, output, faults = lab.run("accounts", "--db", path)
+    expect(f"the command accounts over {path}", (status, faults), (0, ""))
+    return [line.split()[0] for line in output.splitlines()]
+
+
+def refused(lab, cause, *args, word="unavailable"):
+    """A command is refused, changes nothing, and says why with --verbose."""
+    lab.fails(word, *args)
+    status, output, faults = lab.run(*args, "--verbose")
+    told = [line for line in faults.splitlines() if not line.startswith("warning: ")]
+    expect(f"why {args} is refused", (status, output, told), (1, "", [f"fault: {word}", f"because: {cause}"]))
+
+
+def commands_over(lab, path):
+    """Each command that takes a database that is there, beside serve."""
+    return [["migrate", "--db", path], ["account-disable", "--db", path, "--account", "9"],
+            ["account-add", "--db", path, "--account", "8", "--secret", lab.path("secret-1")],
+            ["request-approve", "--db", path, "--request", "1000001"], ["request-reject", "--db", path, "--request", "1000001"],
+            ["restore", "--from", lab.path("kept.db"), "--db", path]]
+
+
+def looks_over(lab, path):
+    """Each command that reads a database, whoever has it."""
+    return [["accounts", "--db", path], ["requests", "--db", path, "--all"],
+            ["request-show", "--db", path, "--keys", lab.keys, "--request", "1000001"],
+            ["certificate", "--db", path, "--keys", lab.keys, "--request", "1000001"],
+            ["check", "--db", path, "--keys", lab.keys], ["backup", "--db", path, "--to", lab.path("none.db")]]
+
+
+def serving(lab, path, keys=None):
+    return ["serve", "--db", path, "--keys", keys or lab.keys, "--port", str(free_port()), "--count", "1"]
+
+
+# ---- names
+
+
+def links(lab):
+    """A link to a database is that database to each command: what is acknowledged is there, and the link stays."""
+    link, far = lab.path("link.db"), lab.path("far.db")
+    os.symlink("laboratory.db", link)
+    os.symlink(link, far)
+    lab.add(1)
+    lab.backs_up("kept.db")
+    lab.serve(count=None)
+    for number in range(2, 22):
+        lab.add(number)
+        for name in (link, far):
+            lab.backs_up(f"by-link-{number}-{os.path.basename(name)}", name)
+            expect(f"the accounts of a backup by {name}", account_lines(lab, lab.path(f"by-link-{number}-{os.path.basename(name)}"))[-1],
+                   str(number))
+    everyone = [str(number) for number in range(1, 22)]
+    for name in (link, far):
+        expect(f"the accounts by {name}", account_lines(lab, name), everyone)
+        status, output, faults = lab.run("check", "--db", name, "--keys", lab.keys)
+        expect(f"a check by {name}", (status, output.split(" sessions")[0], faults), (0, "whole: accounts 21", ""))
+        lab.does("account 20 disabled", "account-disable", "--db", name, "--account", "20")
+        lab.fails("unavailable", "restore", "--from", lab.path("kept.db"), "--db", name)
+    lab.kill()
+    expect("the accounts behind the kill, by a link", account_lines(lab, link), everyone)
+    lab.does("restored", "restore", "--from", lab.path("kept.db"), "--db", far)
+    expect("the links", [os.readlink(link), os.readlink(far)], ["laboratory.db", link])
+    expect("what was restored by a link", (account_lines(lab, lab.db), account_lines(lab, far)), (["1"], ["1"]))
+    # a backup that is named by a link, and a server that is
+    os.symlink("kept.db", lab.path("kept-link.db"))
+    lab.does("restored", "restore", "--from", lab.path("kept-link.db"), "--db", lab.db)
+    lab.db = link
+    lab.serve(count=None)
+    lab.add(2)
+    lab.db = lab.path("laboratory.db")
+    lab.add(3)
+    expect("what beside the file is named by", sorted(name for name in os.listdir(lab.folder) if name.startswith(("link", "far"))),
+           ["far.db", "link.db"])
+    lab.kill()
+    expect("the accounts of a file that was served by a link", account_lines(lab, lab.db), ["1", "2", "3"])
+    # a link that leads nowhere
+    nowhere = lab.path("nowhere.db")
+    os.symlink("not-there.db", nowhere)
+    for command in commands_over(lab, nowhere) + looks_over(lab, nowhere) + [serving(lab, nowhere)]:
+        refused(lab, "--db: there is no such file", *command)
+    refused(lab, "--db: it can't be made in its folder", "init", "--db", nowhere)
+    expect("what a link that leads nowhere leads to", os.path.lexists(lab.path("not-there.db")), False)
+
+
+def hard_links(lab):
+    """A file of two names is refused by either, by each command."""
+    lab.add(1)
+    lab.backs_up("kept.db")
+    other = lab.path("other.db")
+    os.link(lab.db, other)
+    before = bytes_of(lab.db)
+    for path in (lab.db, other):
+        for command in commands_over(lab, path) + looks_over(lab, path) + [["init", "--db", path], serving(lab, path)]:
+            refused(lab, "--db: it has 2 names (hard links), and may have one", *command)
+    refused(lab, "--from: it has 2 names (hard links), and may have one", "restore", "--from", other, "--db", lab.path("new.db"))
+    expect("a file of two names", bytes_of(lab.db), before)
+    os.remove(other)
+    expect("the file of one name again", account_lines(lab, lab.db), ["1"])
+
+
+def mounts(lab):
+    """A file that is mounted by itself has no log beside it, and is refused."""
+    lab.add(1)
+    lab.backs_up("kept.db")
+    mounted = lab.write(lab.path("a mounted.db"), "")
+    if not IS_ROOT or subprocess.run(["mount", "--bind", lab.db, mounted], capture_output=True).returncode != 0:
+        print("skipped: a file that is mounted by itself (the system lets nobody mount it here)")
+        return
+    try:
+        lab.serve(count=None)
+        lab.add(2)
+        why = "it is mounted by itself: name it where its log (-wal) is beside it"
+        for command in commands_over(lab, mounted) + looks_over(lab, mounted) + [["init", "--db", mounted], serving(lab, mounted)]:
+            refused(lab, f"--db: {why}", *command)
+        refused(lab, f"--from: {why}", "restore", "--from", mounted, "--db", lab.path("new.db"))
+        lab.kill()
+    finally:
+        subprocess.run(["umount", mounted], check=True)
+
+
+def moved_while_serving(lab):
+    """A file that was moved away from its log while it is served is copied by no command."""
+    lab.add(1)
+    lab.backs_up("kept.db")
+    lab.serve(count=None)
+    lab.add(2)
+    moved = lab.path("moved.db")
+    os.rename(lab.db, moved)
+    for command in looks_over(lab, moved):
+        refused(lab, "--db: another process has it, but not the log beside it (-wal): it was moved, or is served by another name",
+                *command)
+    os.rename(moved, lab.db)
+    expect("the accounts with the log again", account_lines(lab, lab.db), ["1", "2"])
+    lab.kill()
+
+
+def journals(lab):
+    """Beside a journal that sqlite3 has to settle no command takes the file as it is."""
+    lab.add(1)
+    lab.backs_up("kept.db")
+    lab.write(lab.db + "-journal", b"\xd9\xd5\x05\xf9 the rest of a journal")
+    for command in commands_over(lab, lab.db) + looks_over(lab, lab.db) + [["init", "--db", lab.db], serving(lab, lab.db)]:
+        refused(lab, "--db: a journal is beside it (-journal), which sqlite3 has to settle", *command)
+    os.rename(lab.db + "-journal", lab.path("kept.db-journal"))
+    refused(lab, "--from: a journal is beside it (-journal), which sqlite3 has to settle",
+            "restore", "--from", lab.path("kept.db"), "--db", lab.db)
+    expect("the accounts without the journal", account_lines(lab, lab.db), ["1"])
+
+
+def restore_beside_a_start(lab, slow_lock):
+    """Between a command's look at the name and its lock a restore puts another file there: the command gives up, and
+    what is restored stays."""
+    lab.add(1)
+    lab.backs_up("kept.db")
+    for number, command in enumerate([serving(lab, lab.db), ["account-add", "--db", lab.db, "--account", "7", "--secret", lab.path("secret-1")],
+                                      ["account-disable", "--db", lab.db, "--account", "1"], ["migrate", "--db", lab.db]]):
+        lab.add(2 + number)
+        gate = lab.path("gate")
+        slow = subprocess.Popen([lab.program, *command], env={**os.environ, "LD_PRELOAD": slow_lock, "LOCK_GATE": gate},
+                                stdin=subprocess.DEVNULL, stdout=subprocess.PIPE, stderr=subprocess.PIPE, text=True)
+        while not os.path.exists(gate):
+            expect("a command that waits for its lock runs", slow.poll(), None)
+            time.sleep(0.01)
+        lab.does("restored", "restore", "--from", lab.path("kept.db"), "--db", lab.db)
+        os.remove(gate)
+        expect(f"the command {command[0]} that has lost the race", (*slow.communicate(timeout=60), slow.returncode),
+               ("", "fault: unavailable\n", 1))
+        expect(f"the accounts behind {command[0]}", account_lines(lab, lab.db), ["1"])
+        lab.does("schema 3", "migrate", "--db", lab.db)
+
+
+# ---- owners
+
+
+def foreign_neighbours(lab):
+    """A log or a socket that another user has made beforehand isn't taken, nor one that gives others more than the
+    database does. Nothing is written into it."""
+    lab.add(1)
+    lab.backs_up("kept.db")
+    log, orders = lab.db + "-wal", lab.db + "-orders"
+    everything = [["init", "--db", lab.db], serving(lab, lab.db)] + commands_over(lab, lab.db) + looks_over(lab, lab.db)
+    for rights in (0o666, 0o640, 0o602):
+        os.remove(log)
+        lab.write(log, "")
+        os.chmod(log, rights)
+        for command in everything:
+            refused(lab, "--db, its log (-wal): others may read or write it, who may not with the database", *command)
+        expect("a log that others may use", (bytes_of(log), mode(log)), (b"", rights))
+    os.remove(log)
+    os.mkdir(log)
+    for command in everything:
+        refused(lab, "--db, its log (-wal): it is no regular file", *command)
+    os.rmdir(log)
+    if not IS_ROOT:
+        print("skipped: files of another user (only root may make them)")
+        return
+    lab.write(log, "")
+    os.chown(log, NOBODY, NOBODY)
+    for command in everything:
+        refused(lab, f"--db, its log (-wal): user {NOBODY} has made it, who isn't its owner's", *command)
+    expect("a log of another user", (bytes_of(log), os.stat(log).st_uid), (b"", NOBODY))
+    # beside a file that isn't there yet
+    new = lab.path("new.db")
+    shutil.move(log, new + "-wal")
+    lab.fails("unavailable", "init", "--db", new)
+    expect("a log of another user beside a new file", bytes_of(new + "-wal"), b"")
+    os.remove(new + "-wal")
+    with socket.socket(socket.AF_UNIX) as listener:
+        listener.bind(orders)
+        listener.listen()
+        os.chown(orders, NOBODY, NOBODY)
+        for command in everything:
+            refused(lab, f"--db, its socket (-orders): user {NOBODY} has made it, who isn't its owner's", *command)
+        listener.setblocking(False)
+        with contextlib.suppress(BlockingIOError):
+            listener.accept()
+            raise SystemExit("a command has called a socket of another user")
+    os.remove(orders)
+    expect("the accounts without them", account_lines(lab, lab.db), ["1"])
+
+
+def foreign_texts(lab):
+    """Keys and secrets that another user has made aren't taken."""
+    if not IS_ROOT:
+        print("skipped: keys of another user (only root may make them)")
+        return
+    lab.add(1)
+    keys = lab.write(lab.path("other-keys"), bytes_of(lab.keys))
+    secret = lab.write(lab.path("other-secret"), bytes_of(lab.path("secret-1")))
+    # a user that runs no command here, and owns no database
+    os.chmod(lab.folder, 0o777)
+    for path in (keys, secret):
+        os.chown(path, NOBODY, NOBODY)
+    why = f"user {NOBODY} has made it, who isn't its owner's"
+    for command in (["script", "--keys", keys], serving(lab, lab.db, keys), ["check", "--db", lab.db, "--keys", keys]):
+        status, output, faults = lab.run(*command)
+        expect(f"the command {command[0]} with keys of another user", (status, output, faults), (1, "", "fault: keys\n"))
+        expect(f"why {command[0]} is refused", lab.run(*command, "--verbose")[2].splitlines()[-1], f"because: --keys: {why}")
+    command = ["account-add", "--db", lab.db, "--account", "2", "--secret", secret]
+    lab.fails("secret", *command)
+    expect("why a secret is refused", lab.run(*command, "--verbose")[2].splitlines()[-1], f"because: --secret: {why}")
+    # that user's own are taken by itself, and root's by all
+    own = {"user": NOBODY, "group": NOBODY}
+    expect("a script with keys of one's own", lab.run("script", "--keys", keys, **own), (0, "", ""))
+    os.chmod(lab.keys, 0o644)
+    expect("a script with keys of root", lab.run("script", "--keys", lab.keys, **own), (0, "", ""))
+
+
+def kept_owner(lab):
+    """A restore keeps the owner, the group and the mode of what it replaces."""
+    lab.add(1)
+    lab.backs_up("kept.db")
+    owners = [(os.geteuid(), os.getegid(), 0o640), (os.geteuid(), os.getegid(), 0o600)]
+    if IS_ROOT:
+        owners += [(NOBODY, NOBODY, 0o640), (NOBODY, 0, 0o600), (0, NOBODY, 0o660)]
+    else:
+        print("skipped: a restore over another user's file (only root may make one)")
+    for owner, group, rights in owners:
+        for path in (lab.db, lab.db + "-wal"):
+            if os.path.exists(path):
+                os.chown(path, owner, group)
+                os.chmod(path, rights)
+        lab.does("restored", "restore", "--from", lab.path("kept.db"), "--db", lab.db)
+        there = os.stat(lab.db)
+        expect("whose a restored file is", (there.st_uid, there.st_gid, stat.S_IMODE(there.st_mode)), (owner, group, rights))
+        lab.does("schema 3", "migrate", "--db", lab.db)
+        there = os.stat(lab.db + "-wal")
+        expect("whose its new log is", (there.st_uid, there.st_gid, stat.S_IMODE(there.st_mode)), (owner, group, rights))
+
+
+# ---- copies
+
+
+def without_links(lab, no_links):
+    """On a file system without second names a backup is whole all the same, and no file is written over."""
+    lab.add(1)
+    for number in (1, 95, 38):
+        os.environ.update({"LD_PRELOAD": no_links, "NO_LINKS": str(number)})
+        try:
+            lab.backs_up(f"without-{number}.db")
+            lab.fails("taken", "backup", "--db", lab.db, "--to", lab.path(f"without-{number}.db"))
+            lab.does("restored", "restore", "--from", lab.path(f"without-{number}.db"), "--db", lab.path(f"new-{number}.db"))
+        finally:
+            del os.environ["LD_PRELOAD"], os.environ["NO_LINKS"]
+        expect("its accounts", account_lines(lab, lab.path(f"without-{number}.db")), ["1"])
+        expect("its mode", mode(lab.path(f"without-{number}.db")), 0o600)
+    expect("what is left of copies", copies(lab), [])
+
+
+def copies(lab):
+    return sorted(name for name in os.listdir(lab.folder) if "-part-" in name or "-look-" in name)
+
+
+def left_copies(lab, slow_lock):
+    """What a killed command has left of its copy, the next one takes away; what somebody makes stays, and so does what
+    no command has made."""
+    lab.add(1)
+    lab.backs_up("kept.db")
+    others = ["laboratory.db-part-12", "laboratory.db-look-", "other.db-part-1795862400123456789",
+              "laboratory.db-part-1795862400123456789-old", "laboratory.db-part-17958624001234567890"]
+    for name in others:
+        lab.write(lab.path(name), "what somebody keeps")
+    left = ["laboratory.db-part-1795862400123456789", "laboratory.db-part-1795862400123456789-wal",
+            "laboratory.db-look-1795862400123456788", "laboratory.db-look-1795862400123456787-wal"]
+    commands = [["backup", "--db", lab.db, "--to", lab.path("a.db")], ["restore", "--from", lab.path("kept.db"), "--db", lab.db],
+                ["accounts", "--db", lab.db], ["requests", "--db", lab.db], ["check", "--db", lab.db, "--keys", lab.keys]]
+    for command in commands:
+        for name in left:
+            lab.write(lab.path(name), "what a killed command has left")
+        os.mkfifo(lab.path("laboratory.db-look-1795862400123456786"))
+        expect(f"the command {command[0]}", lab.run(*command)[0], 0)
+        os.remove(lab.path("laboratory.db-look-1795862400123456786"))
+        expect(f"the copies that {command[0]} leaves", [name for name in copies(lab) if name not in others], [])
+    expect("the files of other names", [bytes_of(lab.path(name)) for name in others], [b"what somebody keeps"] * len(others))
+    # one that is being made: its maker waits before it locks what it has copied
+    gate = lab.path("gate")
+    making = subprocess.Popen([lab.program, "backup", "--db", lab.db, "--to", lab.path("slow.db")], stdin=subprocess.DEVNULL,
+                              stdout=subprocess.PIPE, stderr=subprocess.PIPE, env={**os.environ, "LD_PRELOAD": slow_lock, "LOCK_GATE": gate})
+    while not os.path.exists(gate):
+        time.sleep(0.01)
+    made = [name for name in copies(lab) if name not in others]
+    expect("a copy that is being made", len(made), 2)
+    for command in (["accounts", "--db", lab.db], ["backup", "--db", lab.db, "--to", lab.path("b.db")]):
+        expect(f"the command {command[0]} beside it", lab.run(*command)[0], 0)
+        expect(f"the copy that is being made, behind {command[0]}", [name for name in copies(lab) if name not in others], made)
+    os.remove(gate)
+    expect("the backup that was made beside others", (making.communicate(timeout=60)[1], making.returncode), (b"", 0))
+    expect("its rows", rows_of(lab.path("slow.db")), rows_of(lab.path("b.db")))
+    # one whose maker is killed
+    making = subprocess.Popen([lab.program, "backup", "--db", lab.db, "--to", lab.path("killed.db")], stdin=subprocess.DEVNULL,
+                              stdout=subprocess.PIPE, stderr=subprocess.PIPE, env={**os.environ, "LD_PRELOAD": slow_lock, "LOCK_GATE": gate})
+    while not os.path.exists(gate):
+        time.sleep(0.01)
+    making.send_signal(signal.SIGKILL)
+    making.communicate()
+    os.remove(gate)
+    expect("what a killed backup leaves", len([name for name in copies(lab) if name not in others]), 2)
+    lab.backs_up("another-day.db")
+    expect("what is left behind a backup to another name", [name for name in copies(lab) if name not in others], [])
+
+
+def main():
+    program, slow_lock, no_links = (os.path.abspath(path) for path in sys.argv[1:])
+    os.umask(0o077)
+    began = time.time()
+    parts = [(links,), (hard_links,), (mounts,), (moved_while_serving,), (journals,), (restore_beside_a_start, slow_lock),
+             (foreign_neighbours,), (foreign_texts,), (kept_owner,), (without_links, no_links), (left_copies, slow_lock)]
+    for part, *more in parts:
+        with tempfile.TemporaryDirectory() as folder:
+            lab = Laboratory(program, folder)
+            lab.does("ready", "init", "--db", lab.db)
+            try:
+                part(lab, *more)
+            finally:
+                lab.kill()
+        print(f"{part.__name__.replace('_', ' ')}: done after {time.time() - began:.0f} s", flush=True)
+    print(f"{laboratory.checked} comparisons")
+
+
+main()
