@@ -206,6 +206,11 @@ def restore_beside_a_start(lab, slow_lock):
 # ---- owners
 
 
+def of_another(user):
+    """Why what belongs to a user isn't taken."""
+    return f"it belongs to user {user}, not to root, the database's owner or the user of the command"
+
+
 def foreign_neighbours(lab):
     """A log or a socket that another user has made beforehand isn't taken, nor one that gives others more than the
     database does. Nothing is written into it."""
@@ -231,7 +236,7 @@ def foreign_neighbours(lab):
     lab.write(log, "")
     os.chown(log, NOBODY, NOBODY)
     for command in everything:
-        refused(lab, f"--db, its log (-wal): user {NOBODY} has made it, who isn't its owner's", *command)
+        refused(lab, f"--db, its log (-wal): {of_another(NOBODY)}", *command)
     expect("a log of another user", (bytes_of(log), os.stat(log).st_uid), (b"", NOBODY))
     # beside a file that isn't there yet
     new = lab.path("new.db")
@@ -244,7 +249,7 @@ def foreign_neighbours(lab):
         listener.listen()
         os.chown(orders, NOBODY, NOBODY)
         for command in everything:
-            refused(lab, f"--db, its socket (-orders): user {NOBODY} has made it, who isn't its owner's", *command)
+            refused(lab, f"--db, its socket (-orders): {of_another(NOBODY)}", *command)
         listener.setblocking(False)
         with contextlib.suppress(BlockingIOError):
             listener.accept()
@@ -254,19 +259,24 @@ def foreign_neighbours(lab):
 
 
 def foreign_texts(lab):
-    """Keys and secrets that another user has made aren't taken."""
+    """Keys and secrets of another user aren't taken; those of the database's owner, of the command's user and of root
+    are."""
     if not IS_ROOT:
         print("skipped: keys of another user (only root may make them)")
         return
     lab.add(1)
     keys = lab.write(lab.path("other-keys"), bytes_of(lab.keys))
     secret = lab.write(lab.path("other-secret"), bytes_of(lab.path("secret-1")))
-    # a user that runs no command here, and owns no database
     os.chmod(lab.folder, 0o777)
     for path in (keys, secret):
         os.chown(path, NOBODY, NOBODY)
-    why = f"user {NOBODY} has made it, who isn't its owner's"
-    for command in (["script", "--keys", keys], serving(lab, lab.db, keys), ["check", "--db", lab.db, "--keys", keys]):
+    link = lab.path("link.db")
+    os.symlink(lab.db, link)
+    why = of_another(NOBODY)
+    numbered = ["--db", lab.db, "--keys", keys, "--request", "1000001"]
+    for command in (["script", "--keys", keys], serving(lab, lab.db, keys), serving(lab, link, keys),
+                    ["check", "--db", lab.db, "--keys", keys], ["check", "--db", link, "--keys", keys],
+                    ["request-show", *numbered], ["certificate", *numbered]):
         status, output, faults = lab.run(*command)
         expect(f"the command {command[0]} with keys of another user", (status, output, faults), (1, "", "fault: keys\n"))
         expect(f"why {command[0]} is refused", lab.run(*command, "--verbose")[2].splitlines()[-1], f"because: --keys: {why}")
@@ -278,6 +288,17 @@ def foreign_texts(lab):
     expect("a script with keys of one's own", lab.run("script", "--keys", keys, **own), (0, "", ""))
     os.chmod(lab.keys, 0o644)
     expect("a script with keys of root", lab.run("script", "--keys", lab.keys, **own), (0, "", ""))
+    # those of the database's owner by root too, through a link as well; a script has no database
+    for path in (lab.db, lab.db + "-wal"):
+        os.chown(path, NOBODY, NOBODY)
+    for number, path in (("2", lab.db), ("3", link)):
+        expect("a check with keys of the database's owner", lab.run("check", "--db", path, "--keys", keys)[::2], (0, ""))
+        lab.does(f"account {number} added", "account-add", "--db", path, "--account", number, "--secret", secret)
+        expect("a request that isn't there", lab.run("request-show", "--db", path, "--keys", keys, "--request", "1000001"),
+               (1, "", "fault: unknown\n"))
+    lab.serve(keys=keys)
+    lab.kill()
+    lab.fails("keys", "script", "--keys", keys)
 
 
 def kept_owner(lab):

@@ -102,7 +102,10 @@ impl fmt::Display for Cause {
             Cause::Moved => f.write_str(
                 "another process has it, but not the log beside it (-wal): it was moved, or is served by another name",
             ),
-            Cause::Owner(user) => write!(f, "user {user} has made it, who isn't its owner's"),
+            Cause::Owner(user) => write!(
+                f,
+                "it belongs to user {user}, not to root, the database's owner or the user of the command"
+            ),
             Cause::Open => f.write_str(
                 "others may read or write it, who may not with the database",
             ),

@@ -70,29 +70,35 @@ fn cause_of_owner(
     }
 }
 
-/// Why a file of keys or of a secret isn't taken: another user has made it. What can't be looked at, its reader tells.
-pub fn cause_of_maker(rt: &HostRuntime, path: &str) -> Option<Cause> {
-    match fs::metadata(rt, path) {
-        Ok(there) => cause_of_owner(rt, &there, None),
-        Err(_) => None,
+/// Why a file isn't taken that goes with the database at a path.
+fn cause_beside(rt: &HostRuntime, there: &Metadata, database: &str) -> Option<Cause> {
+    match fs::metadata(rt, database) {
+        Ok(database) => cause_of_owner(rt, there, Some(&database)),
+        Err(_) => cause_of_owner(rt, there, None),
     }
 }
 
-/// Why what lies beside a database isn't taken: another user has made it.
+/// Why a file of keys or of a secret isn't taken, for a database or for none: it belongs to another user. What can't be
+/// looked at, its reader tells.
+pub fn cause_of_maker(rt: &HostRuntime, path: &str, database: Option<&str>) -> Option<Cause> {
+    match (fs::metadata(rt, path), database) {
+        (Ok(there), Some(database)) => cause_beside(rt, &there, database),
+        (Ok(there), None) => cause_of_owner(rt, &there, None),
+        (Err(_), _) => None,
+    }
+}
+
+/// Why what lies beside a database isn't taken: it belongs to another user.
 pub(crate) fn cause_of_neighbour(rt: &HostRuntime, database: &str, path: &str) -> Option<Cause> {
-    let there = match fs::symlink_metadata(rt, path) {
-        Ok(there) => there,
-        Err(error) if error.kind() == ErrorKind::NotFound => return None,
-        Err(error) => return Some(cause_of_error(error)),
-    };
-    match fs::symlink_metadata(rt, database) {
-        Ok(database) => cause_of_owner(rt, &there, Some(&database)),
-        Err(_) => cause_of_owner(rt, &there, None),
+    match fs::symlink_metadata(rt, path) {
+        Ok(there) => cause_beside(rt, &there, database),
+        Err(error) if error.kind() == ErrorKind::NotFound => None,
+        Err(error) => Some(cause_of_error(error)),
     }
 }
 
-/// Why the log beside a database isn't taken, as its owner and its mode tell: another user has made it, or others may
-/// do more with it than with the database.
+/// Why the log beside a database isn't taken, as its owner and its mode tell: it belongs to another user, or others
+/// may do more with it than with the database.
 pub(crate) fn cause_of_log_access(rt: &HostRuntime, database: &str, log: &str) -> Option<Cause> {
     if let Some(cause) = cause_of_neighbour(rt, database, log) {
         return Some(cause);

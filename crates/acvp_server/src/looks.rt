@@ -78,7 +78,7 @@ fn requests(rt: &HostRuntime, database: &str, all: bool) -> Result<bool, Fault> 
 
 /// Prints what a decision on the request of a number needs.
 fn request_show(rt: &HostRuntime, database: &str, keys: &str, number: u64) -> Result<bool, Fault> {
-    own_keys(rt, keys)?;
+    own_keys(rt, keys, Some(database))?;
     let keys = keys_in(&SystemFiles(rt), keys)?;
     let mut tables = copy_of(rt, database)?;
     let mut lines = Printed(rt);
@@ -97,7 +97,7 @@ fn request_show(rt: &HostRuntime, database: &str, keys: &str, number: u64) -> Re
 
 /// Prints the document of the approved certification of a request's number.
 fn certificate(rt: &HostRuntime, database: &str, keys: &str, number: u64) -> Result<bool, Fault> {
-    own_keys(rt, keys)?;
+    own_keys(rt, keys, Some(database))?;
     let keys = keys_in(&SystemFiles(rt), keys)?;
     let mut tables = copy_of(rt, database)?;
     seen(show_certificate(
@@ -132,7 +132,7 @@ fn tell_damaged(rt: &HostRuntime) -> bool {
 
 /// Prints what a check of the rows comes to, and says whether they are whole.
 fn checked(rt: &HostRuntime, database: &str, keys: &str, grades: bool) -> Result<bool, Fault> {
-    own_keys(rt, keys)?;
+    own_keys(rt, keys, Some(database))?;
     let keys = keys_in(&SystemFiles(rt), keys)?;
     let mut tables = copy_of(rt, database)?;
     let is_shown = rt.stderr().is_terminal();

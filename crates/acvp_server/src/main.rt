@@ -84,11 +84,11 @@ fn tell_open_files(rt: &HostRuntime, asked: Invocation<'_>) {
     }
 }
 
-/// Whether the files of keys and of secrets that a deed names may be taken.
-fn are_own(rt: &HostRuntime, deed: Deed<'_>) -> Result<(), Fault> {
+/// Whether the files of keys and of secrets that a deed on a database names may be taken.
+fn are_own(rt: &HostRuntime, db: &str, deed: Deed<'_>) -> Result<(), Fault> {
     match deed {
-        Deed::AddAccount { secret, .. } => own_secret(rt, secret),
-        Deed::Serve { keys, .. } => own_keys(rt, keys),
+        Deed::AddAccount { secret, .. } => own_secret(rt, secret, db),
+        Deed::Serve { keys, .. } => own_keys(rt, keys, Some(db)),
         _ => Ok(()),
     }
 }
@@ -103,14 +103,14 @@ fn run(rt: &HostRuntime, asked: Invocation<'_>, flags: Flags) -> Result<bool, Fa
     }
     match asked {
         Invocation::On(db, deed) => {
-            are_own(rt, deed)?;
+            are_own(rt, db, deed)?;
             let work = work_of(&SystemFiles(rt), deed)?;
             let name = named(rt, db)?;
             let said = done_in(rt, name.as_str(), Wary, work, flags)?;
             say(rt, said, flags)
         }
         Invocation::Script(keys) => {
-            own_keys(rt, keys)?;
+            own_keys(rt, keys, None)?;
             script(rt, keys)?;
             Ok(true)
         }

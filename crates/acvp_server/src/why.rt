@@ -77,9 +77,10 @@ fn why_unavailable(rt: &HostRuntime, db: &str, deed: Deed<'_>) -> Because {
     }
 }
 
-/// Why the keys in a file were refused, and what that comes to where its text is of their form.
-fn why_keys(rt: &HostRuntime, path: &str, good: Cause) -> Because {
-    let cause = match (cause_of_maker(rt, path), fs::read(rt, path)) {
+/// Why the keys in a file were refused, for a database or for none, and what that comes to where its text is of their
+/// form.
+fn why_keys(rt: &HostRuntime, path: &str, db: Option<&str>, good: Cause) -> Because {
+    let cause = match (cause_of_maker(rt, path, db), fs::read(rt, path)) {
         (Some(cause), _) => cause,
         (None, Ok(text)) => match read_keys(&text) {
             Some(_) => good,
@@ -90,9 +91,9 @@ fn why_keys(rt: &HostRuntime, path: &str, good: Cause) -> Because {
     Because::of("--keys", cause)
 }
 
-/// Why the secret in a file was refused.
-fn why_secret(rt: &HostRuntime, path: &str) -> Because {
-    let cause = match (cause_of_maker(rt, path), fs::read(rt, path)) {
+/// Why the secret in a file was refused, for an account of a database.
+fn why_secret(rt: &HostRuntime, path: &str, db: &str) -> Because {
+    let cause = match (cause_of_maker(rt, path, Some(db)), fs::read(rt, path)) {
         (Some(cause), _) => cause,
         (None, Ok(text)) => match bytes_of(&text) {
             Some(_) => Cause::Good,
@@ -107,8 +108,10 @@ fn why_secret(rt: &HostRuntime, path: &str) -> Because {
 fn why_failed_on(rt: &HostRuntime, name: &str, deed: Deed<'_>, fault: Fault) -> Option<Because> {
     match (deed, fault) {
         (_, Fault::Unavailable) => Some(why_unavailable(rt, name, deed)),
-        (Deed::Serve { keys, .. }, Fault::Keys) => Some(why_keys(rt, keys, Cause::NoSeed)),
-        (Deed::AddAccount { secret, .. }, Fault::Secret) => Some(why_secret(rt, secret)),
+        (Deed::Serve { keys, .. }, Fault::Keys) => {
+            Some(why_keys(rt, keys, Some(name), Cause::NoSeed))
+        }
+        (Deed::AddAccount { secret, .. }, Fault::Secret) => Some(why_secret(rt, secret, name)),
         _ => None,
     }
 }
@@ -120,7 +123,9 @@ pub(crate) fn why_failed(rt: &HostRuntime, asked: Invocation<'_>, fault: Fault) 
             let name = name_of(rt, db);
             why_failed_on(rt, name_or(&name, db), deed, fault)
         }
-        (Invocation::Script(keys), Fault::Keys) => Some(why_keys(rt, keys, Cause::Good)),
+        (Invocation::Script(keys), Fault::Keys) => {
+            Some(why_keys(rt, keys, None, Cause::Good))
+        }
         _ => None,
     }
 }
@@ -190,9 +195,11 @@ pub(crate) fn why_not_shown(
 ) -> Option<Because> {
     match (look, fault) {
         (Look::Request { keys, .. } | Look::Check { keys, .. }, Fault::Keys) => {
-            Some(why_keys(rt, keys, Cause::NoSeed))
+            Some(why_keys(rt, keys, Some(db), Cause::NoSeed))
         }
-        (Look::Certificate { keys, .. }, Fault::Keys) => Some(why_keys(rt, keys, Cause::OtherSeed)),
+        (Look::Certificate { keys, .. }, Fault::Keys) => {
+            Some(why_keys(rt, keys, Some(db), Cause::OtherSeed))
+        }
         (_, Fault::Unavailable) => match why_uncopied(rt, "--db", db) {
             Some(because) => Some(because),
             None => Some(Because::of("--db", Cause::Store(""))),
