@@ -6,7 +6,7 @@ ghost use Rattle.std.specs.List.{list_all};
 ghost use Rattle.std.specs.Char.{is_ascii_digit};
 ghost use Rattle.acvp_files.specs.Parts.{is_moment};
 
-use crate::fault::{FileFault, done};
+use crate::fault::{FileFault, refused};
 use crate::number::{file_at, number_of};
 use acvp_causes::{folder_of, last_of};
 use std::alloc::{AllocGlobal, Global};
@@ -17,6 +17,9 @@ use std::time::{SystemTime, UNIX_EPOCH};
 
 /// How many digits the moment of a copy has, in billionths of a second since 1970: from 2001 to 2286.
 const MOMENT_DIGITS: usize = 19;
+
+/// How often a copy is begun anew, if another command has its name or has taken it for one that was left.
+const TRIES: u32 = 100;
 
 /// What a copy is made for.
 #[derive(Clone, Copy)]
@@ -95,12 +98,24 @@ fn remove_pair(rt: &HostRuntime, pair: &Pair) {
     let _ = remove(rt, pair.log.as_str());
 }
 
-/// Locks a file that was just made. It must still have its name: until the lock another command may take it away.
-fn lock_new(rt: &HostRuntime, path: &str, file: &File) -> io::Result<()> {
-    if file.try_lock().is_err() || file_at(rt, path)? != number_of(&file.metadata()?) {
-        return Err(ErrorKind::ResourceBusy.into());
+/// Whether a file has a name.
+fn has_name(rt: &HostRuntime, file: &File, path: &str) -> io::Result<bool> {
+    let number = number_of(&file.metadata()?);
+    match file_at(rt, path) {
+        Ok(there) => Ok(there == number),
+        Err(error) if error.kind() == ErrorKind::NotFound => Ok(false),
+        Err(error) => Err(error),
     }
-    Ok(())
+}
+
+/// Locks a file that was just made. Until the lock another command may take it for one that was left: it locks it, and
+/// takes it away.
+fn lock_new(rt: &HostRuntime, path: &str, file: &File) -> io::Result<()> {
+    if file.try_lock().is_ok() && has_name(rt, file, path)? {
+        Ok(())
+    } else {
+        Err(ErrorKind::ResourceBusy.into())
+    }
 }
 
 /// Makes the two empty files of a copy, and locks the first, or makes none.
@@ -120,15 +135,34 @@ fn make_pair(rt: &HostRuntime, pair: &Pair) -> io::Result<File> {
     }
 }
 
+/// Whether a copy can't be begun by this name alone: another command has it, or has locked it.
+fn is_passing(error: &io::Error) -> bool {
+    matches!(
+        error.kind(),
+        ErrorKind::AlreadyExists | ErrorKind::ResourceBusy
+    )
+}
+
+/// The paths of a copy beside a path, named after this moment.
+fn pair_of_now(rt: &HostRuntime, base: &str, what: Use) -> Result<Pair, FileFault> {
+    let (word, moment) = (what.word(), precise_moment(rt));
+    let name = format!(in rt.alloc(); "{base}{word}{moment}")?;
+    pair_at(rt.alloc(), name.as_str())
+}
+
 /// The empty files of a copy beside a path. No other command has their names, and no file that was there is touched.
 /// Copies of the same name that a killed command has left are taken away before.
 pub(crate) fn new_copy(rt: &HostRuntime, base: &str, what: Use) -> Result<Part, FileFault> {
     remove_left(rt, base);
-    let (word, moment) = (what.word(), precise_moment(rt));
-    let name = format!(in rt.alloc(); "{base}{word}{moment}")?;
-    let pair = pair_at(rt.alloc(), name.as_str())?;
-    let lock = done(make_pair(rt, &pair))?;
-    Ok(Part { pair, lock })
+    for _ in 0..TRIES {
+        let pair = pair_of_now(rt, base, what)?;
+        match make_pair(rt, &pair) {
+            Ok(lock) => return Ok(Part { pair, lock }),
+            Err(error) if is_passing(&error) => {}
+            Err(error) => return Err(refused(&error)),
+        }
+    }
+    Err(FileFault::Unavailable)
 }
 
 /// Takes the files of a copy away that are still there.
