@@ -1,6 +1,6 @@
 //! An entry of the cache.
 
-ghost use Rattle.std.specs.Prelude.{◌≡◌, None, Some, IfOk, IsTrue, OnOk, OnErr, IsSome};
+ghost use Rattle.std.specs.Prelude.{◌≡◌, Some, IfOk, IsTrue, OnOk, OnErr, IsSome};
 ghost use Rattle.acvp_gen.specs.Prompts.{prompts_of};
 ghost use Rattle.acvp_answers.specs.Standards.{standard_of};
 ghost use Rattle.acvp_desk.specs.Cached.{HasItsStandard, StaysTrue};
@@ -22,19 +22,20 @@ pub(crate) struct Entry {
 }
 
 impl Entry {
-    /// The entry of the vector set of a number, without its standard answers.
+    /// The entry of the vector set of a number, with these standard answers.
     pub(crate) fn make(
         alloc: Global,
         seed: &[u8; 32],
         number: u64,
         capability: Capability,
         epoch: u64,
+        standard: Option<Answers>,
     ) -> Result<Entry, AllocError>
         ensures { IfOk result (λ e. e ≡ record {
           capability = capability;
           epoch = epoch;
           prompts = prompts_of seed.now number capability;
-          standard = None;
+          standard = standard;
         }) }
     {
         let prompts = prompts(alloc, seed, number, &capability)?;
@@ -42,7 +43,7 @@ impl Entry {
             capability,
             epoch,
             prompts,
-            standard: None,
+            standard,
         })
     }
 
@@ -52,6 +53,11 @@ impl Entry {
         ensures epoch { IsTrue result → self.now.epoch ≡ epoch }
     {
         self.epoch == epoch && self.capability.is_same(capability)
+    }
+
+    /// Whether its standard answers take long to make: those of a Monte Carlo test do.
+    pub(crate) fn takes_long(&self) -> bool {
+        !self.capability.algorithm().is_hmac()
     }
 
     /// Makes the standard answers where they aren't there. Where memory is refused, the entry stays as it was.

@@ -51,6 +51,7 @@ mod reviewers;
 mod serve;
 mod session;
 mod set;
+mod standard;
 mod submit;
 mod token;
 mod wish;

@@ -1,0 +1,15 @@
+use Rattle.std.proofs.Common.{IfSome, subst, ap}
+use Rattle.acvp_desk.specs.Cached.{IsStandardOf}
+use Rattle.acvp_desk.proofs.CacheLemmas.{true_looked_up, true_removed}
+use Rattle.acvp_desk.proofs.cache.Cache.take_kept_standard.Goals as goal
+
+pub invariant_of-self : goal.invariant_of-self
+invariant_of-self c = rw c.pop.ensures.entries (
+    c.self.invariant.0,
+    c.self.invariant.1,
+    true_removed (IsStandardOf c.self.inside.seeds) c.self.inside.standards.entries c.args.number c.self.invariant.2)
+
+pub returns-clause-is_true : goal.returns-clause-is_true
+returns-clause-is_true c =
+    subst (λ s. IfSome c.pop.result (IsStandardOf s c.args.number)) (ap (λ v. v.seeds) c.self.view_is)
+    (true_looked_up (IsStandardOf c.self.inside.seeds) c.pop.result c.self.inside.standards.entries c.args.number c.self.invariant.2 c.pop.ensures.value)
