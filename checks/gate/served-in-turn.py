@@ -1,0 +1,128 @@
+"""Clients are served in the order in which their requests were whole, and a reply that its client didn't wait for is
+logged as unsent.
+
+    served-in-turn.py PROGRAM
+
+While the server makes the standard answers of a vector set with a Monte Carlo test, other clients send the ends of their
+requests one after another. The lines of `serve --log` tell in which order they were served."""
+import os
+import random
+import socket
+import struct
+import sys
+import tempfile
+import time
+
+from laboratory import Laboratory, expect, read_all, request, shown, signed
+import laboratory
+
+HASHES = ["SHA2-224", "SHA2-256", "SHA2-384", "SHA2-512", "SHA2-512/224", "SHA2-512/256"]
+# three digests long, as the messages of a Monte Carlo test are
+LENGTHS = [672, 768, 1152, 1536]
+REGISTRATION = {"isSample": True,
+                "algorithms": [{"algorithm": name, "revision": "1.0", "messageLength": LENGTHS} for name in HASHES]}
+ACCOUNTS, TURNS = 16, 10
+
+
+class Watched:
+    """A laboratory with accounts, that is served with a log."""
+
+    def __init__(self, program, folder):
+        self.lab = Laboratory(program, folder)
+        self.path, self.read, self.sets = self.lab.path("log"), 0, []
+        self.lab.does("ready", "init", "--db", self.lab.db)
+        for account in range(1, ACCOUNTS + 1):
+            self.lab.add(account)
+        with open(self.path, "ab") as log:
+            self.lab.serve(count=None, more=["--log"], faults=log)
+
+    def token(self, account):
+        now = int(time.time())
+        return signed({"exp": now + 900, "iat": now, "sub": str(account)})
+
+    def lines(self, count):
+        """The next lines, so many: of each the account, the action, the status, the word, and what stands behind the
+        milliseconds."""
+        for _ in range(1000):
+            with open(self.path, encoding="ascii") as file:
+                file.seek(self.read)
+                text = file.read()
+            if text.count("\n") >= count:
+                self.read += len(text)
+                found = [line.split(" ", 6) for line in text.splitlines()]
+                expect("how many lines there are", len(found), count)
+                return [tuple(words[1:5] + words[6:]) for words in found]
+            time.sleep(0.01)
+        raise SystemExit(f"a line is missing: {text!r}")
+
+    def dear(self):
+        """A request that keeps the server busy: for the expected answers of a vector set that nobody has asked for."""
+        if not self.sets:
+            session = self.lab.must("POST", "/testSessions", self.token(1), REGISTRATION)
+            self.lines(1)
+            self.sets = [(url.removeprefix("/acvp/v1"), session["accessToken"]) for url in session["vectorSetUrls"]]
+        path, token = self.sets.pop()
+        return request("GET", path + "/expected", token)
+
+
+def in_turn(it, order):
+    """Of clients that wait in any order, each is served once its request is whole, in that order."""
+    accounts, clients, rest = list(range(1, ACCOUNTS + 1)), {}, {}
+    dear = it.dear()
+    order.shuffle(accounts)
+    for account in accounts:
+        text = request("GET", "/account", it.token(account))
+        clients[account], rest[account] = it.lab.connect(), text[-20:]
+        clients[account].sendall(text[:-20])
+    time.sleep(0.1)
+    order.shuffle(accounts)
+    with it.lab.connect() as busy:
+        busy.sendall(dear)
+        time.sleep(0.01)
+        for account in accounts:
+            clients[account].sendall(rest[account])
+            time.sleep(0.001)
+        expect("the answer that took long", shown(read_all(busy))[0], 200)
+    for account in accounts:
+        with clients[account] as client:
+            expect("an answer", shown(read_all(client))[0], 200)
+    first, *lines = it.lines(ACCOUNTS + 1)
+    expect("the line of the answer that took long", first, ("1", "Expected", "200", "ok"))
+    expect("who was served, in turn", lines, [(str(account), "ReadAccount", "200", "ok") for account in accounts])
+
+
+def unsent(it):
+    """A client that is gone before its reply: the line says so. One that only says no more gets its reply."""
+    with it.lab.connect() as client:
+        client.sendall(it.dear())
+        time.sleep(0.02)
+        client.setsockopt(socket.SOL_SOCKET, socket.SO_LINGER, struct.pack("ii", 1, 0))
+    expect("the line of a reply that nobody took", it.lines(1), [("-", "Expected", "-", "-", "unsent")])
+    dear, vendor = it.dear(), request("POST", "/vendors", it.token(2), {"name": "a"})
+    with it.lab.connect() as busy, it.lab.connect() as client:
+        busy.sendall(dear)
+        time.sleep(0.01)
+        client.sendall(vendor)
+        time.sleep(0.01)
+        client.shutdown(socket.SHUT_WR)
+        expect("the answer that took long", shown(read_all(busy))[0], 200)
+        expect("an answer to a client that says no more", shown(read_all(client))[0], 200)
+    expect("their lines", it.lines(2), [("1", "Expected", "200", "ok"), ("2", "NewVendor", "200", "ok")])
+
+
+def main():
+    program = os.path.abspath(sys.argv[1])
+    with tempfile.TemporaryDirectory() as folder:
+        it = Watched(program, folder)
+        try:
+            order = random.Random(25)
+            for _ in range(TURNS):
+                in_turn(it, order)
+            for _ in range(3):
+                unsent(it)
+        finally:
+            it.lab.kill()
+    print(f"{TURNS} times {ACCOUNTS} clients in turn; {laboratory.checked} comparisons")
+
+
+main()
