@@ -4,6 +4,8 @@ use Rattle.acvp_gen.specs.Prompts.{prompts_of}
 use Rattle.acvp_answers.specs.Standards.{standard_of}
 use Rattle.acvp_caps.specs.Capability.{CapabilityValue}
 use Rattle.acvp_answers.specs.Answer.{Answer}
+use Rattle.acvp_json.specs.VectorSet.{vector_set_data}
+use Rattle.acvp_desk.specs.Answer.{IsReply}
 use Rattle.acvp_desk.specs.declared.entry.Entry.{Entry}
 use Rattle.acvp_desk.specs.declared.standard.Standard.{Standard}
 
@@ -15,10 +17,15 @@ seed_at seeds epoch = get_or seeds epoch []
 abbrev pub HasItsStandard : Entry → Type 0
 HasItsStandard e = IfSome e.standard (λ s. s ≡ standard_of e.prompts)
 
+-- the reply that shows the prompts, where it was written, shows these
+abbrev pub HasItsReply : Entry → Type 0
+HasItsReply e = IfSome e.shown (λ s. IsReply s.reply.items (Some (vector_set_data s.sample e.prompts)))
+
 -- the entry is what the vector set of this number has, by the entry's capability and its epoch's seed
 pub record IsTrueTo (seeds : List (List ℕ)) (number : ℕ) (e : Entry) : Type 0 where
   pub prompts : e.prompts ≡ prompts_of (seed_at seeds e.epoch) number e.capability
   pub standard : HasItsStandard e
+  pub reply : HasItsReply e
 
 -- the standard answers are those of the vector set of a number, by a capability and under an epoch's seed
 abbrev pub AreStandard : List (List ℕ) → ℕ → CapabilityValue → ℕ → List Answer → Type 0

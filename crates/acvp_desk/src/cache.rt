@@ -157,7 +157,8 @@ impl Cache {
         requires { IsTrueTo self.old.seeds number entry.now }
         ensures { self.new ≡ self.old }
     {
-        if entry.takes_long() && !self.standards.contains(&number)
+        if entry.takes_long()
+            && !self.standards.contains(&number)
             && let Some(standard) = Standard::of(entry)
         {
             self.put_standard(number, standard);

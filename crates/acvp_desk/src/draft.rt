@@ -76,6 +76,21 @@ pub(crate) fn told<'a>(
     }
 }
 
+/// A copy of a reply that was written before, and tells of no change.
+pub(crate) fn told_again(reply: &Vec<u8>) -> Result<Draft, Rule>
+    ensures reply { IfOk result (λ draft. draft.reply.items ≡ reply.now.items) }
+    ensures change { IfOk result (λ draft. draft.change ≡ None) }
+    ensures denied { IfErr result (λ rule. rule ≡ Rule.Unavailable) }
+{
+    match reply.clone() {
+        Ok(reply) => Ok(Draft {
+            reply,
+            change: None,
+        }),
+        Err(_) => Err(Rule::Unavailable),
+    }
+}
+
 /// The reply with the new token of an account, and the change that it tells of.
 #[tactic(auto, unfolding(acvp_json::specs::ReplyData::reply_data))]
 fn token_told(alloc: Global, ring: &KeyRing, claims: &Claims, change: Change) -> Result<Draft, Rule>

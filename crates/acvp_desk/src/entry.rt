@@ -1,14 +1,23 @@
 //! An entry of the cache.
 
-ghost use Rattle.std.specs.Prelude.{◌≡◌, Some, IfOk, IsTrue, OnOk, OnErr, IsSome};
+ghost use Rattle.std.specs.Prelude.{◌≡◌, None, Some, IfOk, IfSome, IsTrue, OnOk, OnErr, IsSome};
 ghost use Rattle.acvp_gen.specs.Prompts.{prompts_of};
 ghost use Rattle.acvp_answers.specs.Standards.{standard_of};
-ghost use Rattle.acvp_desk.specs.Cached.{HasItsStandard, StaysTrue};
+ghost use Rattle.acvp_json.specs.VectorSet.{vector_set_data};
+ghost use Rattle.acvp_desk.specs.Answer.{IsReply};
+ghost use Rattle.acvp_desk.specs.Cached.{HasItsReply, HasItsStandard, StaysTrue};
 
 use acvp_answers::{Answers, standard};
 use acvp_caps::Capability;
 use acvp_gen::{Prompts, prompts};
 use std::alloc::{AllocError, Global};
+
+/// The reply that shows the prompts of a vector set, by whether it is a sample.
+#[derive(Drop)]
+pub(crate) struct Shown {
+    pub sample: bool,
+    pub reply: Vec<u8>,
+}
 
 /// What was computed of a vector set, by its capability and under the seed of its epoch.
 #[derive(Drop)]
@@ -19,6 +28,9 @@ pub(crate) struct Entry {
 
     /// The standard answers, once they were asked for.
     pub standard: Option<Answers>,
+
+    /// The reply that shows the prompts, once it was asked for.
+    pub shown: Option<Shown>,
 }
 
 impl Entry {
@@ -36,6 +48,7 @@ impl Entry {
           epoch = epoch;
           prompts = prompts_of seed.now number capability;
           standard = standard;
+          shown = None;
         }) }
     {
         let prompts = prompts(alloc, seed, number, &capability)?;
@@ -44,6 +57,7 @@ impl Entry {
             epoch,
             prompts,
             standard,
+            shown: None,
         })
     }
 
@@ -72,6 +86,27 @@ impl Entry {
             self.standard = Some(standard(alloc, &self.prompts)?);
         }
         Ok(())
+    }
+
+    /// The reply that shows the prompts, where it is kept.
+    pub(crate) fn reply(&self, sample: bool) -> Option<&Vec<u8>>
+        requires { HasItsReply self.now }
+        ensures { IfSome result (λ reply. IsReply reply.now.items (Some (vector_set_data sample self.now.prompts))) }
+    {
+        match &self.shown {
+            Some(shown) if shown.sample == sample => Some(&shown.reply),
+            _ => None,
+        }
+    }
+
+    /// Keeps a copy of the reply that shows the prompts. Where memory is refused, the entry stays as it was.
+    pub(crate) fn keep_reply(&mut self, sample: bool, reply: &Vec<u8>)
+        requires { IsReply reply.now.items (Some (vector_set_data sample self.old.prompts)) }
+        ensures { StaysTrue self.old self.new }
+    {
+        if let Ok(reply) = reply.clone() {
+            self.shown = Some(Shown { sample, reply });
+        }
     }
 
     /// The prompts.

@@ -4,15 +4,16 @@ ghost use Rattle.std.specs.Prelude.{◌≡◌, ◌⊎◌, ◌++◌, [], map, Som
 ghost use Rattle.acvp_answers.specs.Standards.{standard_of};
 ghost use Rattle.acvp_answers.specs.Verdicts.{verdicts_of};
 ghost use Rattle.acvp_answers.specs.declared.verdict.Verdict.TheVariants as verdict;
+ghost use Rattle.acvp_json.specs.VectorSet.{vector_set_data};
 ghost use Rattle.acvp_mac.specs.Conditions.{first_broken};
 ghost use Rattle.acvp_desk.specs.Answer.{IsReply};
-ghost use Rattle.acvp_desk.specs.Cached.{HasItsStandard, StaysTrue};
+ghost use Rattle.acvp_desk.specs.Cached.{HasItsReply, HasItsStandard, StaysTrue};
 ghost use Rattle.acvp_desk.specs.OwnConditions.{set_place_conditions};
 ghost use Rattle.acvp_desk.specs.Replies.{prompts_reply, set_change, set_reply, set_results_reply, source_reply};
 
 use crate::ask::END_OF_MOMENTS;
 use crate::cache::Cache;
-use crate::draft::{Draft, told};
+use crate::draft::{Draft, told, told_again};
 use crate::entry::Entry;
 use crate::found::{ByPrompts, SetPlace, SetSource};
 use crate::session::disposition_at;
@@ -71,6 +72,28 @@ fn told_results(
     told(alloc, &object, None)
 }
 
+/// The prompts of a vector set. The reply that was written last is kept.
+#[tactic(auto, unfolding(acvp_json::specs::ReplyData::reply_data))]
+fn told_prompts(alloc: Global, sample: bool, entry: &mut Entry) -> Result<Draft, Rule>
+    requires { HasItsReply entry.old }
+    ensures reply { IfOk result
+        (λ draft. IsReply draft.reply.items (Some (vector_set_data sample entry.old.prompts))) }
+    ensures change { IfOk result (λ draft. draft.change ≡ None) }
+    ensures denied { IfErr result (λ rule. rule ≡ Rule.Unavailable) }
+    ensures stays { StaysTrue entry.old entry.new }
+{
+    if let Some(kept) = entry.reply(sample) {
+        return told_again(kept);
+    }
+    let object = ReplyObject::ReadSet {
+        sample,
+        prompts: entry.prompts(),
+    };
+    let draft = told(alloc, &object, None)?;
+    entry.keep_reply(sample, &draft.reply);
+    Ok(draft)
+}
+
 /// What is given by the prompts of a vector set.
 #[tactic(auto, unfolding(acvp_json::specs::ReplyData::reply_data))]
 fn told_of(
@@ -81,7 +104,8 @@ fn told_of(
     it: ByPrompts,
     entry: &mut Entry,
 ) -> Result<Draft, Rule>
-    requires { HasItsStandard entry.old }
+    requires standard { HasItsStandard entry.old }
+    requires reply { HasItsReply entry.old }
     ensures reply { IfOk result
         (λ draft. IsReply draft.reply.items (Some (prompts_reply moment number facts.now it entry.old.prompts))) }
     ensures change { IfOk result (λ draft. draft.change ≡ None) }
@@ -89,13 +113,7 @@ fn told_of(
     ensures stays { StaysTrue entry.old entry.new }
 {
     match it {
-        ByPrompts::Prompts => {
-            let object = ReplyObject::ReadSet {
-                sample: facts.session.sample,
-                prompts: entry.prompts(),
-            };
-            told(alloc, &object, None)
-        }
+        ByPrompts::Prompts => told_prompts(alloc, facts.session.sample, entry),
         ByPrompts::Expected => {
             if entry.complete(alloc).is_err() {
                 return Err(Rule::Unavailable);

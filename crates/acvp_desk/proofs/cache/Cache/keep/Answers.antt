@@ -6,10 +6,11 @@ use Rattle.acvp_desk.proofs.cache.Cache.keep.Goals as goal
 
 pub invariant_of-self : goal.invariant_of-self
 invariant_of-self c = (
-    capacity_after_put c.put.result c.self.inside.entries c.put.new.self c.args.number c.args.entry c.put.ensures.entries c.put.ensures.err ∙ c.self.invariant.0,
-    true_after_put (IsTrueTo c.self.inside.seeds) c.put.result c.self.inside.entries c.put.new.self c.args.number c.args.entry c.put.ensures.entries c.put.ensures.err c.self.invariant.1
-    (subst (λ s. IsTrueTo s c.args.number c.args.entry) (ap (λ v. v.seeds) (sym c.keep_standard.ensures ∙ sym c.self.view_is)) c.requires),
-    c.self.invariant.2)
+  capacity_after_put c.put.result c.self.inside.entries c.put.new.self c.args.number c.args.entry c.put.ensures.entries c.put.ensures.err ∙ c.self.invariant.0,
+  true_after_put (IsTrueTo c.self.inside.seeds) c.put.result c.self.inside.entries c.put.new.self c.args.number c.args.entry c.put.ensures.entries c.put.ensures.err c.self.invariant.1
+      (subst (λ s. IsTrueTo s c.args.number c.args.entry) (ap (λ v. v.seeds) (sym c.keep_standard.ensures ∙ sym c.self.view_is)) c.requires),
+  c.self.invariant.2,
+)
 
 pub returns-clause-entries : goal.returns-clause-entries
 returns-clause-entries c =

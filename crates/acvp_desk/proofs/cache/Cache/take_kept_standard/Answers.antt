@@ -5,9 +5,10 @@ use Rattle.acvp_desk.proofs.cache.Cache.take_kept_standard.Goals as goal
 
 pub invariant_of-self : goal.invariant_of-self
 invariant_of-self c = rw c.pop.ensures.entries (
-    c.self.invariant.0,
-    c.self.invariant.1,
-    true_removed (IsStandardOf c.self.inside.seeds) c.self.inside.standards.entries c.args.number c.self.invariant.2)
+  c.self.invariant.0,
+  c.self.invariant.1,
+  true_removed (IsStandardOf c.self.inside.seeds) c.self.inside.standards.entries c.args.number c.self.invariant.2,
+)
 
 pub returns-clause-is_true : goal.returns-clause-is_true
 returns-clause-is_true c =
