@@ -123,9 +123,7 @@ pub(crate) fn why_failed(rt: &HostRuntime, asked: Invocation<'_>, fault: Fault) 
             let name = name_of(rt, db);
             why_failed_on(rt, name_or(&name, db), deed, fault)
         }
-        (Invocation::Script(keys), Fault::Keys) => {
-            Some(why_keys(rt, keys, None, Cause::Good))
-        }
+        (Invocation::Script(keys), Fault::Keys) => { Some(why_keys(rt, keys, None, Cause::Good)) }
         _ => None,
     }
 }
