@@ -1,5 +1,6 @@
-"""The memory that hostile requests make `acvp_server serve` take, in megabytes: bodies that are almost whole on every
-connection that the server holds, and then bodies of nested arrays, as deep and as many as a body has room for.
+"""The memory that hostile requests make `acvp_server serve` take, in megabytes: as many vector sets of the widest
+capability as its cache holds, bodies that are almost whole on every connection that the server holds, and then bodies of
+nested arrays, as deep and as many as a body has room for.
 
     ./bench --hostile-memory [PROGRAM]
 
@@ -13,7 +14,9 @@ import time
 import laboratory
 from laboratory import Laboratory, expect, shown, read_all
 
-CONNECTIONS, BODY = 256, 2097152
+CONNECTIONS, BODY, CACHED = 256, 2097152, 64
+WIDEST = {"algorithm": "HMAC-SHA2-512", "keyLen": [{"increment": 8, "max": 524288, "min": 8}],
+          "macLen": [{"increment": 8, "max": 512, "min": 32}], "revision": "1.0"}
 
 
 def megabytes(process, word):
@@ -33,12 +36,23 @@ def login(body):
     return b"POST /acvp/v1/login HTTP/1.1\r\nHost: a\r\nContent-Length: %d\r\n\r\n" % len(body) + body
 
 
+def read_widest(lab):
+    """Reads as many vector sets as the cache holds, and what is expected of each."""
+    account = lab.token(1)
+    for _ in range(CACHED):
+        session = lab.must("POST", "/testSessions", account, {"isSample": True, "algorithms": [WIDEST]})
+        path = session["vectorSetUrls"][0].removeprefix("/acvp/v1")
+        for more in ("", "/expected"):
+            lab.must("GET", path + more, session["accessToken"])
+
+
 def main():
     program = sys.argv[1]
     text = login(nested())
     with tempfile.TemporaryDirectory() as folder:
         lab = Laboratory(program, folder)
         lab.does("ready", "init", "--db", lab.db)
+        lab.add(1)
         lab.serve(count=None, more=["--patience", "600"])
         print("| What the clients have done | Resident | At most so far |")
         print("|---|---|---|")
@@ -47,6 +61,8 @@ def main():
             print(f"| {what} | {megabytes(lab.process, 'VmRSS')} | {megabytes(lab.process, 'VmHWM')} |", flush=True)
 
         row("nothing")
+        read_widest(lab)
+        row(f"{CACHED} vector sets of the widest capability")
         expect("a login of nested arrays", shown(lab.ask(text))[0], 400)
         row("one login of 2 MiB of nested arrays")
         clients = [socket.create_connection(("127.0.0.1", lab.port)) for _ in range(CONNECTIONS)]
