@@ -30,6 +30,7 @@ import tempfile
 import time
 
 import laboratory
+import page_sums
 from baseline_server import API, TOKEN_LIFE, graded, prompts, standard
 from laboratory import SEED, Laboratory, compact, expect, request, shown, signed
 from rates import CAPABILITY
@@ -69,7 +70,7 @@ def filled(lab, sessions, accounts):
         right = standard(SEED, vs, capability) if answered else None
         rows.append((session, account, now, 1, answered))
         sets.append((vs, session, capability, *(graded(right, right) if answered else (None, None, None))))
-    with contextlib.closing(sqlite3.connect(lab.db)) as connection, connection:
+    with contextlib.closing(page_sums.connect(lab.db)) as connection, connection:
         expect("the journal of the file", connection.execute("PRAGMA journal_mode").fetchone(), ("wal",))
         connection.executemany("INSERT INTO account VALUES (?, ?, 1, NULL)",
                                [(account, lab.secret(account)) for account in numbers])

@@ -13,6 +13,7 @@ import sys
 import tempfile
 import time
 
+import page_sums
 from laboratory import Laboratory, expect
 
 SESSIONS = 20000
@@ -40,7 +41,7 @@ def file_of(lab, accounts, capability, answered):
     path = lab.path(f"of-{accounts}.db")
     lab.does("ready", "init", "--db", path)
     moment, each = int(time.time()) - 60, SESSIONS // accounts
-    connection = sqlite3.connect(path)
+    connection = page_sums.connect(path)
     for account in range(1, accounts + 1):
         connection.execute("INSERT INTO account VALUES (?, ?, 1, NULL)", (account, os.urandom(32)))
         numbers = range(account * 1000000 + 1, account * 1000000 + each + 1)

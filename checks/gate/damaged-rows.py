@@ -15,11 +15,11 @@ import collections
 import json
 import os
 import shutil
-import sqlite3
 import sys
 import tempfile
 
 import laboratory
+import page_sums
 from laboratory import Laboratory, compact, expect, free_port, request, shown, signed
 from validation import HASHES, answers
 
@@ -400,7 +400,7 @@ def whole_file(lab):
 
 
 def opened(path):
-    connection = sqlite3.connect(path, isolation_level=None)
+    connection = page_sums.connect(path, isolation_level=None)
     connection.execute("PRAGMA synchronous = OFF")
     connection.execute("PRAGMA foreign_keys = OFF")
     return connection

@@ -24,6 +24,7 @@ import time
 
 from laboratory import Laboratory, expect, free_port, rows_of, within_a_step
 import laboratory
+import page_sums
 
 EMPTY_LOG = 41
 
@@ -209,12 +210,89 @@ def restores(lab):
     expect("the accounts of who was served", accounts(lab.db), [1, 2, 3])
 
 
-def killed_restores(lab, kills):
-    """A restore that is killed leaves the one or the other, whole."""
+def numbered_rows(path):
+    """All rows of a database with the numbers under which they are, as SQLite reads them: texts as bytes."""
+    with contextlib.closing(sqlite3.connect(path)) as connection:
+        connection.text_factory = bytes
+        tables = [name.decode() for name, in connection.execute("SELECT name FROM sqlite_master WHERE type = 'table' ORDER BY name")]
+        return {table: connection.execute(f"SELECT rowid, * FROM {table} ORDER BY rowid").fetchall() for table in tables}
+
+
+def has_sums(path):
+    """Whether each page of a file has a sum, and each sum is right."""
+    pages = page_sums.pages_of(path)
+    expect(f"the pages of {path} whose sums are wrong", page_sums.wrong_sums(pages), [])
+    return pages != []
+
+
+# Rows that no request makes, also some that stand for nothing: they are copied as they are.
+ODD_ROWS = ["INSERT INTO meta (rowid, name, value) VALUES (-9, 'laboratory', 5)",
+            "UPDATE meta SET rowid = 4 WHERE name = 'schema'",
+            "INSERT INTO account VALUES (-1, x'', -5, NULL), (9223372036854775807, zeroblob(70000), 2, -1)",
+            "INSERT INTO request VALUES (1000001, 1, 1, 'a' || char(0) || 'b', 1, -9223372036854775808)",
+            "INSERT INTO request VALUES (7, 3, 99, CAST(x'7bff7d' AS TEXT), 3, NULL)",
+            "INSERT INTO object (rowid, kind, number, account, body) VALUES (-5, 2, 7, 1, ''), (90, -1, 6, 2, 'ö')",
+            "INSERT INTO session VALUES (1000001, 1, 0, 5, 0, 1000001, 1, 0), (-3, 2, 9, 9, 9, NULL, 9, 9)",
+            "INSERT INTO reviewer (rowid, session, account) VALUES (77, 1000001, 9), (-77, -3, 9)",
+            "WITH RECURSIVE number(n) AS (SELECT 1 UNION ALL SELECT n + 1 FROM number WHERE n < 60) INSERT INTO vset2 "
+            "SELECT n * n, -3, hex(zeroblob(n * 100)), 0, hex(zeroblob(n * 3000)), hex(zeroblob(n)), NULL, n FROM number"]
+
+
+def sums_by_a_restore(lab):
+    """A new file has sums, and so has its backup. A restore gives them to a file that has none, with each row as it was."""
     for number in range(1, 4):
         lab.add(number)
+    expect("whether a new file has sums", has_sums(lab.db), True)
+    lab.backs_up("summed.db")
+    expect("whether its backup has sums", has_sums(lab.path("summed.db")), True)
+    with contextlib.closing(page_sums.connect(lab.path("summed.db"))) as connection, connection:
+        for statement in ODD_ROWS:
+            connection.execute(statement)
+    wanted = numbered_rows(lab.path("summed.db"))
+    plain = page_sums.copy_without(lab.path("summed.db"), lab.path("plain.db"))
+    for name in ("summed.db", "plain.db"):
+        expect(f"whether {name} has sums", has_sums(lab.path(name)), name == "summed.db")
+        lab.does("restored", *restore(lab, name))
+        expect(f"whether the file has sums after a restore of {name}", has_sums(lab.db), True)
+        expect(f"the rows after a restore of {name}", numbered_rows(lab.db), wanted)
+        expect(f"what a restore of {name} leaves beside it", parts(lab), [])
+    expect("whether a file without sums has some after an order", (lab.run(*disable(plain))[0], has_sums(plain)), (0, False))
+    lab.backs_up("plain-backup.db", plain)
+    expect("whether its backup has", has_sums(lab.path("plain-backup.db")), False)
+    lab.does("restored", *restore(lab, "plain-backup.db"))
+    expect("the rows after a restore of that", numbered_rows(lab.db), numbered_rows(plain))
+
+
+def wrong_sums(lab):
+    """What writes without sums spoils them: each command refuses the file, until its sums are made anew. `check` warns
+    of a file without sums."""
+    lab.add(1)
     lab.backs_up()
-    backed_up = content(lab.path("backup.db"))
+    with contextlib.closing(sqlite3.connect(lab.path("backup.db"))) as connection, connection:
+        connection.execute("UPDATE account SET enabled = 0")
+    before = files(lab)
+    lab.fails("unavailable", *restore(lab), what="of a backup with wrong sums")
+    lab.fails("unavailable", "accounts", "--db", lab.path("backup.db"))
+    expect("the files after what is refused", files(lab), before)
+    done = subprocess.run([sys.executable, page_sums.__file__, lab.path("backup.db")], capture_output=True, text=True)
+    expect("what makes the sums anew", (done.returncode, "0 sums" in done.stdout, done.stderr), (0, False, ""))
+    lab.does("restored", *restore(lab))
+    expect("what was written", content(lab.db)["account"][0][2], 0)
+    plain = page_sums.copy_without(lab.db, lab.path("plain.db"))
+    warning = f"warning: pages of {plain} have no sums: a restore of a backup gives them some\n"
+    for path, told in ((lab.db, ""), (plain, warning)):
+        for more in ([], ["--verbose"]):
+            expect(f"check {path} {more}", lab.run("check", "--db", path, "--keys", lab.keys, *more),
+                   (0, "whole: accounts 1 sessions 0 sets 0 requests 0\n", told if more else ""))
+
+
+def killed_restores(lab, kills):
+    """A restore that is killed leaves the one or the other, whole; also of a backup without sums."""
+    for number in range(1, 4):
+        lab.add(number)
+    lab.backs_up("summed.db")
+    backed_up = content(lab.path("summed.db"))
+    page_sums.copy_without(lab.path("summed.db"), lab.path("backup.db"))
     kept, replaced = 0, 0
     began = time.time()
     lab.does("restored", *restore(lab))
@@ -236,7 +314,7 @@ def killed_restores(lab, kills):
         expect("a killed restore leaves one of the two", now in (there, backed_up), True)
         expect("a restore that was told is there", output == b"" or now == backed_up, True)
         kept, replaced = kept + (now == there), replaced + (now == backed_up)
-        lab.does("restored", *restore(lab))
+        lab.does("restored", *restore(lab, "summed.db"))
         expect("the restore behind it", content(lab.db), backed_up)
         expect("what killed restores leave beside it, behind one that isn't", parts(lab), [])
     print(f"of {kills} restores that were killed {kept} left the file as it was, and {replaced} had put the backup there")
@@ -336,7 +414,7 @@ def changed(lab, name, *statements):
     """A copy of the database in which SQLite has carried statements out."""
     path = lab.path(name)
     shutil.copy(lab.db, path)
-    with contextlib.closing(sqlite3.connect(path)) as connection, connection:
+    with contextlib.closing(page_sums.connect(path)) as connection, connection:
         for statement in statements:
             connection.execute(statement)
     return path
@@ -606,8 +684,8 @@ def main():
         killed_restores(lab, kills)
 
     killed.__name__ = "killed_restores"
-    for part in (backups_while_nobody_serves, backups_while_serving, copies_apart, restores, killed, what_others_may_read, foreign_files,
-                 why_a_database_is_unavailable, why_a_text_is_refused, what_verbose_leaves, each_fault_both_ways, little_stack):
+    for part in (backups_while_nobody_serves, backups_while_serving, copies_apart, restores, sums_by_a_restore, wrong_sums, killed,
+                 what_others_may_read, foreign_files, why_a_database_is_unavailable, why_a_text_is_refused, what_verbose_leaves, each_fault_both_ways, little_stack):
         with tempfile.TemporaryDirectory() as folder:
             lab = Laboratory(program, folder)
             lab.does("ready", "init", "--db", lab.db)

@@ -4,12 +4,12 @@ the one behind it is refused as `accountFull`, unless its body is refused first.
 
     full-account.py PROGRAM"""
 import os
-import sqlite3
 import sys
 import tempfile
 import time
 
 import laboratory
+import page_sums
 from laboratory import Laboratory, compact, expect
 
 MOST = 999999
@@ -19,7 +19,7 @@ CAPABILITY = {"algorithm": "SHA2-256", "messageLength": [8], "revision": "1.0"}
 
 def fill(path, created):
     """Account 7 gets all test sessions but the last, with a vector set each."""
-    connection = sqlite3.connect(path)
+    connection = page_sums.connect(path)
     connection.executemany("INSERT INTO session VALUES (?, 7, 0, ?, 0, NULL, 1, 0)",
                            ((number, created) for number in range(FIRST, LAST)))
     connection.executemany("INSERT INTO vset2 VALUES (?, ?, ?, 0, NULL, NULL, NULL, 0)",

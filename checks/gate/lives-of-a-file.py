@@ -75,7 +75,8 @@ def right_answers(seed, number):
 
 
 def all_rows(path):
-    """All rows of each table, as SQLite reads them from a copy of the file and its log."""
+    """All rows of each table, as SQLite reads them from a copy of the file and its log. The table of the sets of schema 1,
+    which is empty after a migration, a restore takes away, since it copies a file without sums row by row."""
     with tempfile.TemporaryDirectory() as folder:
         copy = os.path.join(folder, "copy.db")
         for end in ("", "-wal"):
@@ -85,7 +86,8 @@ def all_rows(path):
             for question, whole in (("integrity_check", [("ok",)]), ("foreign_key_check", [])):
                 expect(f"{question} of {path}", connection.execute(f"PRAGMA {question}").fetchall(), whole)
             tables = [name for name, in connection.execute("SELECT name FROM sqlite_master WHERE type = 'table'")]
-            return {table: sorted(connection.execute(f"SELECT * FROM {table}"), key=repr) for table in tables}
+            rows = {table: sorted(connection.execute(f"SELECT * FROM {table}"), key=repr) for table in tables}
+    return {table: there for table, there in rows.items() if table != "vset" or there}
 
 
 def with_changes(rows, gone, added):
@@ -114,7 +116,7 @@ def moved_rows(lab):
     """The rows that `migrate` leaves."""
     rows = [("meta", "schema", 3), account_row(lab, OLD, None), session_row(OLD_SESSION, BEGINS[1] - 60, 2, 1),
             set_row(OLD_SET, 0), set_row(ANSWERED_SET, 0, right_answers(SEED, ANSWERED_SET)[1])]
-    tables = ("account", "meta", "object", "request", "reviewer", "session", "vset", "vset2")
+    tables = ("account", "meta", "object", "request", "reviewer", "session", "vset2")
     return with_changes({table: [] for table in tables}, [], rows)
 
 

@@ -24,6 +24,7 @@ import threading
 import time
 
 import laboratory
+import page_sums
 from laboratory import BrokenOff, Laboratory, expect, free_port, read_all, request, rows_of, shown, signed, within_a_step
 from validation import answers
 
@@ -151,7 +152,7 @@ def made_once(lab):
                             ("no version", "DELETE FROM meta"), ("an older version", "UPDATE meta SET value = 2")]:
         copy = lab.path("copy.db")
         shutil.copy(empty, copy)
-        connection = sqlite3.connect(copy)
+        connection = page_sums.connect(copy)
         connection.execute(statement)
         connection.commit()
         connection.close()
@@ -390,7 +391,7 @@ def rows_that_stand_for_nothing(lab):
     def spoilt(name, *statements):
         lab.db = lab.path(name)
         shutil.copy(whole, lab.db)
-        connection = sqlite3.connect(lab.db)
+        connection = page_sums.connect(lab.db)
         for statement in statements:
             connection.execute(statement)
         connection.commit()

@@ -7,7 +7,6 @@ SHIM is the library of set_clock.c, which shows the program one moment."""
 import os
 import re
 import socket
-import sqlite3
 import struct
 import sys
 import tempfile
@@ -15,6 +14,7 @@ import time
 
 from laboratory import Laboratory, encoded, expect, one_time_code, read_all, request, shown, signed
 import laboratory
+import page_sums
 
 MOMENT, END_OF_MOMENTS = 1790000000, 4102444800
 MARK = "marked-by-who-sent-it"
@@ -182,7 +182,7 @@ def what_is_unavailable(it):
     """For each 503 the line says why, as far as it can be told."""
     lab = it.lab
     it.lab.kill()
-    connection = sqlite3.connect(lab.db)
+    connection = page_sums.connect(lab.db)
     with connection:
         connection.execute("INSERT INTO account SELECT 8, X'00', 1, last_step FROM account")
     connection.close()

@@ -19,6 +19,7 @@ import sys
 import tempfile
 
 import laboratory
+import page_sums
 from laboratory import Laboratory, compact, expect
 
 
@@ -381,6 +382,7 @@ def main():
             connection.execute("PRAGMA wal_checkpoint(TRUNCATE)")
             connection.execute("VACUUM INTO ?", (whole,))
             connection.close()
+            page_sums.renew(whole)
             os.chmod(whole, 0o600)
             is_whole(lab, whole)
             is_whole(lab, whole, "--grades", "no")

@@ -23,3 +23,7 @@ bytes_told header =
 -- the first page has a row, or pages below it
 abbrev pub has_tables : List ℕ → Bool
 has_tables header = nat_lt 0 (two_at header 103) || (slice_index header 100 == 5)
+
+-- each page ends in the eight bytes of a sum (SQLite's file format, section 1.3.4, and its page on cksumvfs)
+abbrev pub has_sums : List ℕ → Bool
+has_sums header = slice_index header 20 == 8

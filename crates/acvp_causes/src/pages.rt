@@ -1,6 +1,6 @@
 //! What the first bytes of a database tell of it (SQLite's file format, sections 1.3 and 1.6).
 ghost use Rattle.std.specs.Prelude.{◌≡◌, ◌≤◌, ◌<◌, ◌+◌};
-ghost use Rattle.acvp_causes.specs.Pages.{bytes_told, four_at, has_tables, page_bytes, two_at};
+ghost use Rattle.acvp_causes.specs.Pages.{bytes_told, four_at, has_sums, has_tables, page_bytes, two_at};
 
 /// As many bytes as are looked at: the header, and behind it that of the first page, which holds the tables' names.
 pub(crate) const HEADER: usize = 108;
@@ -50,4 +50,11 @@ pub(crate) fn has_tables(header: &[u8; HEADER]) -> bool
     ensures { result ≡ has_tables header.now }
 {
     two_at(header, 103) > 0 || header[100] == 5
+}
+
+/// Whether each page ends in a sum of its bytes.
+pub(crate) fn has_sums(header: &[u8; HEADER]) -> bool
+    ensures { result ≡ has_sums header.now }
+{
+    header[20] == 8
 }

@@ -11,7 +11,7 @@ use crate::cause::{Because, Cause, Place};
 use crate::holders::is_locked;
 use crate::names::{is_mounted, name_of};
 use crate::owners::{cause_of_log_access, cause_of_neighbour};
-use crate::pages::{HEADER, bytes_told, has_tables};
+use crate::pages::{self, HEADER, bytes_told, has_tables};
 use std::alloc::{AllocError, AllocGlobal, Global};
 use std::fs::{self, File, Files, Metadata, OpenOptions};
 use std::io::{self, ErrorKind};
@@ -249,6 +249,13 @@ pub fn are_there(rt: &HostRuntime, path: &str) -> bool {
         Ok(HEADER) => has_log(rt, path) || has_tables(&header),
         _ => has_log(rt, path),
     }
+}
+
+/// Whether the pages of the database in a file have sums, by which changed bits are found.
+pub fn has_sums(rt: &HostRuntime, path: &str) -> io::Result<bool> {
+    let mut header = [0; HEADER];
+    let count = begin_of(rt, path, &mut header)?;
+    Ok(count == HEADER && pages::has_sums(&header))
 }
 
 /// Why the log beside a file can't be had alone.

@@ -6,6 +6,8 @@ use Rattle.sqlite.specs.declared.error.Error.TheVariants.{SqliteFailure}
 use Rattle.sqlite.specs.declared.error.ErrorCode.TheVariants.{DatabaseBusy, OutOfMemory}
 use Rattle.acvp_store.specs.declared.fault.AdoptFault.{AdoptFault}
 use Rattle.acvp_store.specs.declared.fault.AdoptFault.TheVariants as adopted
+use Rattle.acvp_tables.specs.declared.tables.StoreFault.{StoreFault}
+use Rattle.acvp_tables.specs.declared.tables.StoreFault.TheVariants as made
 use Rattle.acvp_causes.specs.declared.cause.Cause.{Cause}
 use Rattle.acvp_causes.specs.declared.cause.Cause.TheVariants as cause
 use Rattle.acvp_files.specs.declared.connection.Unopened.{Unopened}
@@ -28,6 +30,11 @@ abbrev pub fault_of_adopt : AdoptFault → FileFault
 fault_of_adopt adopted.Schema = Schema
 fault_of_adopt adopted.Refused = Unavailable
 fault_of_adopt adopted.Memory = Memory
+
+-- tables that can't be made
+abbrev pub fault_of_store : StoreFault → FileFault
+fault_of_store made.Refused = Unavailable
+fault_of_store made.Memory = Memory
 
 -- what the system refuses, for whatever else than want of memory, is unavailable
 abbrev pub fault_of_kind : ErrorKind → FileFault

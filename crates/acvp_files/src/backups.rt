@@ -4,7 +4,8 @@ use crate::copies::{connection_to, connection_to_copy, merge, with_tables};
 use crate::fault::{FileFault, done, refused};
 use crate::parts::{Pair, Part, Use, give_up, make_new, new_copy, pair_at, remove};
 use crate::rows::count_rows;
-use acvp_causes::{folder_of, holds_any, is_database, last_of};
+use crate::sums::copy_with_sums;
+use acvp_causes::{folder_of, has_sums, holds_any, is_database, last_of};
 use std::alloc::{AllocError, AllocGlobal, Global};
 use std::fs::{self, File, Metadata, Permissions};
 use std::io::{self, ErrorKind};
@@ -150,11 +151,43 @@ fn replace(rt: &HostRuntime, part: &Part, database: &Pair) -> Result<(), FileFau
     }
 }
 
-/// Puts the copy of a backup in the place of the database of a name, whole or not at all.
+/// Puts a copy in the place of the database of a name.
+fn replace_named(rt: &HostRuntime, part: &Part, database: &str) -> Result<(), FileFault> {
+    let place = pair_at(rt.alloc(), database)?;
+    replace(rt, part, &place)
+}
+
+/// Puts another copy in the place of a database, which has the rows of one without sums, so many, and sums.
+fn replace_with_sums(
+    rt: &HostRuntime,
+    part: &Part,
+    database: &str,
+    rows: u64,
+) -> Result<(), FileFault> {
+    let other = new_copy(rt, database, Use::Part)?;
+    let outcome = match copy_with_sums(rt, part, &other, rows) {
+        Ok(()) => replace_named(rt, &other, database),
+        Err(fault) => Err(fault),
+    };
+    give_up(rt, &other);
+    outcome
+}
+
+/// Puts a whole copy of so many rows in the place of a database; one without sums gets them before.
+fn put_back(rt: &HostRuntime, part: &Part, database: &str, rows: u64) -> Result<(), FileFault> {
+    match has_sums(rt, part.pair.file.as_str()) {
+        Ok(true) => replace_named(rt, part, database),
+        Ok(false) => replace_with_sums(rt, part, database, rows),
+        Err(error) => Err(refused(&error)),
+    }
+}
+
+/// Puts the copy of a backup in the place of the database of a name, whole or not at all. Its pages have sums then,
+/// also where those of the backup have none.
 pub fn restore(rt: &HostRuntime, backup: &str, database: &str) -> Result<(), FileFault> {
     let part = new_copy(rt, database, Use::Part)?;
     let outcome = match make_part(rt, backup, &part, true) {
-        Ok(_) => replace(rt, &part, &pair_at(rt.alloc(), database)?),
+        Ok(rows) => put_back(rt, &part, database, rows),
         Err(fault) => Err(fault),
     };
     give_up(rt, &part);

@@ -1,11 +1,12 @@
 //! Connections to the database in a file.
-ghost use Rattle.std.specs.Prelude.{◌≡◌, IfNone, IfOk, IfSome, IsErr, codes};
+ghost use Rattle.std.specs.Prelude.{◌≡◌, IfNone, IfOk, IfSome, IsErr, codes, true};
 ghost use Rattle.std.specs.Result.{result_ok};
 ghost use Rattle.sqlite.specs.Closing.{IsCopied};
-ghost use Rattle.sqlite.specs.Files.{IsClosed, file_state};
+ghost use Rattle.sqlite.specs.Files.{IsBlankAs, IsClosed, file_state};
 ghost use Rattle.sqlite.specs.Held.{IsNew};
 ghost use Rattle.sqlite.specs.Start.{FindsIn};
 ghost use Rattle.sqlite.specs.State.{HasCleanDisk};
+ghost use Rattle.sqlite_store.specs.FileStore.{view};
 ghost use Rattle.sqlite_wal.specs.Files.{image_at};
 ghost use Rattle.sqlite_wal.specs.Reads.{AreClean};
 ghost use Rattle.acvp_files.specs.Faults.{fault_of_open, why_unopened};
@@ -51,13 +52,15 @@ fn why_unopened(error: Error) -> Unopened
     Unopened::Failed(fault_of_database(error))
 }
 
-/// A connection to the database in a file, which is made where there is none.
+/// A connection to the database in a file, which is made where there is none. The pages of a new one have sums.
 fn connect<S: Start>(rt: &HostRuntime, path: &str, start: S) -> Result<FileConnection<S>, Unopened>
     ensures memory { path.now ≡ codes ":memory:" → IsErr result }
     ensures fresh { IfOk result IsNew }
     ensures found { IfOk result (λ c. HasCleanDisk (file_state c) → FindsIn (image_at S.Start) (file_state c)) }
+    ensures sums { IfOk result (λ c. HasCleanDisk (file_state c) → IsBlankAs true (image_at S.Start)
+        → (view c.store).has_sums ≡ true) }
 {
-    match Connection::open_from(rt, path, false, start) {
+    match Connection::open_from(rt, path, true, start) {
         Ok(connection) => Ok(connection),
         Err((error, _)) => Err(why_unopened(error)),
     }
@@ -90,6 +93,8 @@ fn connect_held<S: Start>(
     ensures memory { path.now ≡ codes ":memory:" → IsErr result }
     ensures fresh { IfOk result IsNew }
     ensures found { IfOk result (λ c. HasCleanDisk (file_state c) → FindsIn (image_at S.Start) (file_state c)) }
+    ensures sums { IfOk result (λ c. HasCleanDisk (file_state c) → IsBlankAs true (image_at S.Start)
+        → (view c.store).has_sums ≡ true) }
 {
     let file = match file_at(rt, path) {
         Ok(file) => file,
@@ -112,6 +117,8 @@ fn connect_known<S: Start>(
     ensures memory { path.now ≡ codes ":memory:" → IsErr result }
     ensures fresh { IfOk result IsNew }
     ensures found { IfOk result (λ c. HasCleanDisk (file_state c) → FindsIn (image_at S.Start) (file_state c)) }
+    ensures sums { IfOk result (λ c. HasCleanDisk (file_state c) → IsBlankAs true (image_at S.Start)
+        → (view c.store).has_sums ≡ true) }
 {
     if let Err(fault) = may_be_taken(rt, path) {
         return Err(Unopened::Failed(fault));
@@ -131,6 +138,8 @@ pub fn connect_new<S: Start>(
     ensures memory { path.now ≡ codes ":memory:" → IsErr result }
     ensures fresh { IfOk result IsNew }
     ensures found { IfOk result (λ c. HasCleanDisk (file_state c) → FindsIn (image_at S.Start) (file_state c)) }
+    ensures sums { IfOk result (λ c. HasCleanDisk (file_state c) → IsBlankAs true (image_at S.Start)
+        → (view c.store).has_sums ≡ true) }
 {
     if path != ":memory:" {
         make_private(rt, path);
@@ -147,6 +156,8 @@ pub fn connect_existing<S: Start>(
     ensures memory { path.now ≡ codes ":memory:" → IsErr result }
     ensures fresh { IfOk result IsNew }
     ensures found { IfOk result (λ c. HasCleanDisk (file_state c) → FindsIn (image_at S.Start) (file_state c)) }
+    ensures sums { IfOk result (λ c. HasCleanDisk (file_state c) → IsBlankAs true (image_at S.Start)
+        → (view c.store).has_sums ≡ true) }
 {
     match fs::exists(rt, path) {
         Ok(true) => connect_known(rt, path, start),

@@ -5,6 +5,7 @@ ghost use Rattle.acvp_files.specs.Faults.{fault_of_cause, fault_of_kind};
 
 use acvp_causes::Cause;
 use acvp_store::AdoptFault;
+use acvp_tables::StoreFault;
 use std::alloc::AllocError;
 use std::io;
 
@@ -46,6 +47,20 @@ impl From<AdoptFault> for FileFault {
             AdoptFault::Schema => FileFault::Schema,
             AdoptFault::Refused => FileFault::Unavailable,
             AdoptFault::Memory => FileFault::Memory,
+        }
+    }
+}
+
+impl From<StoreFault> for FileFault {
+    ghost use Rattle.std.specs.Prelude.{◌≡◌};
+    ghost use Rattle.acvp_files.specs.Faults.{fault_of_store};
+
+    ghost from_gives = { λ refused fault. fault ≡ fault_of_store refused };
+
+    fn from(fault: StoreFault) -> FileFault {
+        match fault {
+            StoreFault::Refused => FileFault::Unavailable,
+            StoreFault::Memory => FileFault::Memory,
         }
     }
 }

@@ -9,9 +9,11 @@ mod number;
 mod parts;
 mod privacy;
 mod rows;
+mod sums;
 
 pub use backups::{backup, restore};
 pub use connection::{FileConnection, Unopened, close, connect_existing, connect_new};
 pub use copies::{FileTables, tables_of_copy};
 pub use fault::FileFault;
 pub use privacy::{has_no_log, remove_empty_log, tell_open, tell_open_database};
+pub use sums::tell_without_sums;

@@ -1,10 +1,15 @@
 //! How many rows a database has, whatever its tables are.
+ghost use Rattle.std.specs.Prelude.{◌≡◌};
+ghost use Rattle.acvp_files.specs.Faults.{fault_of_open};
+
 use crate::fault::FileFault;
 use sqlite::{Alter, Connection, Error, ErrorCode};
 use std::alloc::{AllocError, Global};
 
 /// The fault of a statement that isn't carried out.
-fn fault_of_statement(error: Error) -> FileFault {
+pub(crate) fn fault_of_statement(error: Error) -> FileFault
+    ensures { result ≡ fault_of_open error }
+{
     match error {
         Error::SqliteFailure(ErrorCode::OutOfMemory) => FileFault::Memory,
         _ => FileFault::Unavailable,

@@ -26,7 +26,7 @@ use acvp_causes::{Because, Cause};
 use acvp_commands::{
     BadNumber, Deed, Fault, Invocation, SystemFiles, asked_by, exit_status, request_number, work_of,
 };
-use acvp_files::{backup, restore, tell_open, tell_open_database};
+use acvp_files::{backup, restore, tell_open, tell_open_database, tell_without_sums};
 use clap::error::ErrorKind;
 use clap::{ArgMatches, Error};
 use sqlite::Wary;
@@ -310,6 +310,13 @@ fn tell_open_looked_at(rt: &HostRuntime, db: &str, look: Look<'_>) {
     }
 }
 
+/// Warns of what a check of the rows doesn't tell.
+fn tell_looked_at(rt: &HostRuntime, db: &str, look: Look<'_>) {
+    if matches!(look, Look::Check { .. }) {
+        tell_without_sums(rt, db);
+    }
+}
+
 /// Shows what is looked at in a database, and gives the exit status.
 fn execute_look(rt: &HostRuntime, db: &str, look: Look<'_>, flags: Flags) -> ExitCode {
     if flags.warns {
@@ -317,6 +324,9 @@ fn execute_look(rt: &HostRuntime, db: &str, look: Look<'_>, flags: Flags) -> Exi
     }
     let outcome = shown(rt, db, look);
     let code = ended(rt, outcome);
+    if flags.warns && outcome.is_ok() {
+        tell_looked_at(rt, db, look);
+    }
     if let Err(fault) = outcome
         && flags.is_verbose
     {

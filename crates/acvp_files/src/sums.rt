@@ -1,0 +1,260 @@
+//! Sums on the pages of a database, by which changed bits are found (SQLite's cksumvfs). A new file has them. The rows
+//! of one that has none are copied into a new one, each under its own number.
+use crate::connection::FileConnection;
+use crate::copies::{connection_to, merge};
+use crate::fault::FileFault;
+use crate::parts::Part;
+use crate::rows::{count_rows, fault_of_statement};
+use acvp_causes::{has_sums, name_of};
+use acvp_store::{SqlTables, create};
+use sqlite::{Alter, Connection, Row, Rows, Transaction, Wary};
+use sqlite_value::value::ValueRef;
+use std::alloc::{AllocGlobal, Global};
+
+/// About how many bytes of rows are written in one transaction.
+const BATCH_BYTES: usize = 1 << 22;
+
+/// A table whose rows are copied.
+#[derive(Clone, Copy)]
+struct Copied {
+    /// The statement that reads its rows.
+    read: &'static str,
+
+    /// The statement that writes one.
+    write: &'static str,
+}
+
+/// The tables, each behind those that its rows refer to. A row that no column numbers has its number as `rowid`.
+static TABLES: [Copied; 7] = [
+    Copied {
+        read: "SELECT account, secret, enabled, last_step FROM account",
+        write: "INSERT INTO account (account, secret, enabled, last_step) VALUES (?1, ?2, ?3, ?4)",
+    },
+    Copied {
+        read: "SELECT request, account, kind, body, status, approved FROM request",
+        write: "INSERT INTO request (request, account, kind, body, status, approved) VALUES (?1, ?2, ?3, ?4, ?5, ?6)",
+    },
+    Copied {
+        read: "SELECT rowid, kind, number, account, body FROM object",
+        write: "INSERT INTO object (rowid, kind, number, account, body) VALUES (?1, ?2, ?3, ?4, ?5)",
+    },
+    Copied {
+        read: "SELECT session, account, sample, created, cancelled, certify, live, passed FROM session",
+        write: "INSERT INTO session (session, account, sample, created, cancelled, certify, live, passed) VALUES (?1, ?2, ?3, ?4, ?5, ?6, ?7, ?8)",
+    },
+    Copied {
+        read: "SELECT vs, session, capability, cancelled, answers, verdicts, disposition, epoch FROM vset2",
+        write: "INSERT INTO vset2 (vs, session, capability, cancelled, answers, verdicts, disposition, epoch) VALUES (?1, ?2, ?3, ?4, ?5, ?6, ?7, ?8)",
+    },
+    Copied {
+        read: "SELECT rowid, session, account FROM reviewer",
+        write: "INSERT INTO reviewer (rowid, session, account) VALUES (?1, ?2, ?3)",
+    },
+    Copied {
+        read: "SELECT rowid, name, value FROM meta",
+        write: "INSERT INTO meta (rowid, name, value) VALUES (?1, ?2, ?3)",
+    },
+];
+
+/// The values of a row.
+fn values_of(alloc: Global, row: &Row) -> Result<Vec<ValueRef<'_>>, FileFault> {
+    let mut values = Vec::new(alloc);
+    for place in 0..row.column_count() {
+        let value = match row.get_ref(place) {
+            Ok(value) => value,
+            Err(error) => return Err(fault_of_statement(error)),
+        };
+        if values.push(value).is_err() {
+            return Err(FileFault::Memory);
+        }
+    }
+    Ok(values)
+}
+
+/// About how many bytes values take.
+fn bytes_of(values: &[ValueRef<'_>]) -> usize {
+    let mut bytes: usize = 0;
+    for value in values {
+        let length = match value {
+            ValueRef::Text(text) => text.len(),
+            ValueRef::Blob(blob) => blob.len(),
+            _ => 0,
+        };
+        bytes = bytes.saturating_add(length).saturating_add(16);
+    }
+    bytes
+}
+
+/// Writes one row, and says about how many bytes it takes.
+fn write_row<S: Alter + Drop>(
+    alloc: Global,
+    batch: &mut Transaction<'_, S>,
+    write: &str,
+    row: &Row,
+) -> Result<usize, FileFault> {
+    let values = values_of(alloc, row)?;
+    match batch.execute(write, values.as_slice()) {
+        Ok(_) => Ok(bytes_of(values.as_slice())),
+        Err(error) => Err(fault_of_statement(error)),
+    }
+}
+
+/// Writes the rows that come next, about as many as one transaction is for, and says whether more may come.
+fn write_next<S: Alter + Drop, T: Alter + Drop>(
+    alloc: Global,
+    rows: &mut Rows<'_, S>,
+    batch: &mut Transaction<'_, T>,
+    write: &str,
+) -> Result<bool, FileFault> {
+    let mut bytes: usize = 0;
+    for _ in 0..u64::MAX {
+        if bytes >= BATCH_BYTES {
+            break;
+        }
+        match rows.next() {
+            Ok(Some(row)) => bytes = bytes.saturating_add(write_row(alloc, batch, write, row)?),
+            Ok(None) => return Ok(false),
+            Err(error) => return Err(fault_of_statement(error)),
+        }
+    }
+    Ok(true)
+}
+
+/// Writes the rows that come next in a transaction, and says whether more may come.
+fn copy_next<S: Alter + Drop, T: Alter + Drop>(
+    alloc: Global,
+    rows: &mut Rows<'_, S>,
+    to: &mut Connection<T>,
+    write: &str,
+) -> Result<bool, FileFault> {
+    if !to.is_autocommit() {
+        return Err(FileFault::Unavailable);
+    }
+    let mut batch = to.transaction();
+    let more = write_next(alloc, rows, &mut batch, write)?;
+    match batch.commit() {
+        Ok(()) => Ok(more),
+        Err(error) => Err(fault_of_statement(error)),
+    }
+}
+
+/// Copies the rows of a table.
+fn copy_table<S: Alter + Drop, T: Alter + Drop>(
+    alloc: Global,
+    from: &mut Connection<S>,
+    to: &mut Connection<T>,
+    table: Copied,
+) -> Result<(), FileFault> {
+    let mut rows = match from.query(table.read, &[]) {
+        Ok(rows) => rows,
+        Err(error) => return Err(fault_of_statement(error)),
+    };
+    for _ in 0..u64::MAX {
+        if !copy_next(alloc, &mut rows, to, table.write)? {
+            break;
+        }
+    }
+    Ok(())
+}
+
+/// Makes the tables of this version in a database that has none.
+fn new_tables<S: Alter + Drop>(
+    alloc: Global,
+    connection: Connection<S>,
+) -> Result<SqlTables<S>, FileFault> {
+    match create(alloc, connection) {
+        Ok(tables) => Ok(tables),
+        Err((_, fault)) => Err(FileFault::from(fault)),
+    }
+}
+
+/// Makes the tables of this version in a database that has none, and gives the connection to them back.
+fn with_new_tables<S: Alter + Drop>(
+    alloc: Global,
+    connection: Connection<S>,
+) -> Result<Connection<S>, FileFault> {
+    match new_tables(alloc, connection) {
+        Ok(tables) => Ok(tables.into_connection()),
+        Err(fault) => Err(fault),
+    }
+}
+
+/// Takes out the row that names the version of new tables: it is copied as all others.
+fn take_version_out<S: Alter + Drop>(connection: &mut Connection<S>) -> Result<(), FileFault> {
+    match connection.execute("DELETE FROM meta", &[]) {
+        Ok(_) => Ok(()),
+        Err(error) => Err(fault_of_statement(error)),
+    }
+}
+
+/// Copies the rows of all tables.
+fn copy_tables<S: Alter + Drop, T: Alter + Drop>(
+    alloc: Global,
+    from: &mut Connection<S>,
+    to: &mut Connection<T>,
+) -> Result<(), FileFault> {
+    for table in &TABLES {
+        copy_table(alloc, from, to, *table)?;
+    }
+    Ok(())
+}
+
+/// A connection to the empty files of a copy, once the tables of this version are in them, without a row.
+fn connection_to_new(rt: &HostRuntime, to: &Part) -> Result<FileConnection<Wary>, FileFault> {
+    let connection = connection_to(rt, to.pair.file.as_str())?;
+    let mut made = with_new_tables(rt.alloc(), connection)?;
+    match take_version_out(&mut made) {
+        Ok(()) => Ok(made),
+        Err(fault) => Err(fault),
+    }
+}
+
+/// Copies the rows of a database into the empty files of a copy.
+fn filled<S: Alter + Drop>(
+    rt: &HostRuntime,
+    from: &mut Connection<S>,
+    to: &Part,
+) -> Result<FileConnection<Wary>, FileFault> {
+    let mut made = connection_to_new(rt, to)?;
+    match copy_tables(rt.alloc(), from, &mut made) {
+        Ok(()) => Ok(made),
+        Err(fault) => Err(fault),
+    }
+}
+
+/// Opens a whole database without a log, and copies its rows into the empty files of a copy.
+fn filled_from(
+    rt: &HostRuntime,
+    from: &Part,
+    to: &Part,
+) -> Result<FileConnection<Wary>, FileFault> {
+    let mut source = connection_to(rt, from.pair.file.as_str())?;
+    filled(rt, &mut source, to)
+}
+
+/// Copies the rows of a whole database without a log, so many of the tables of this version, into the empty files of
+/// another copy, whose pages get sums.
+pub(crate) fn copy_with_sums(
+    rt: &HostRuntime,
+    from: &Part,
+    to: &Part,
+    rows: u64,
+) -> Result<(), FileFault> {
+    let mut made = filled_from(rt, from, to)?;
+    if count_rows(rt.alloc(), &mut made)? != rows {
+        return Err(FileFault::Unavailable);
+    }
+    merge(rt, &to.pair, made)
+}
+
+/// Warns on standard error of a database whose pages have no sums.
+pub fn tell_without_sums(rt: &HostRuntime, path: &str) {
+    let Ok(name) = name_of(rt, path) else {
+        return;
+    };
+    if let Ok(false) = has_sums(rt, name.as_str()) {
+        let _ = eprintln!(rt;
+            "warning: pages of {path} have no sums: a restore of a backup gives them some"
+        );
+    }
+}
