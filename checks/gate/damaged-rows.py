@@ -72,9 +72,14 @@ def of_shown_moment(session):
     return {("session", session, "created: served")}
 
 
-def of_set(number):
-    """How a vector set stands. Of its answers it is read whether there are any, and never the text."""
+def of_listed_set(number):
+    """How a vector set of a list stands. Of its answers it is read whether there are any, and never the text."""
     return columns("vset2", number, "session cancelled disposition verdicts epoch answers")
+
+
+def of_set(number):
+    """How a vector set stands that is read by its number, which judges the text of its answers too."""
+    return of_listed_set(number) | {("vset2", number, "answers: text")}
 
 
 def of_capability(number):
@@ -85,7 +90,7 @@ def of_sets(session):
     """The list of a session's vector sets, which passes over those that are cancelled."""
     rests = set()
     for number, _, state in sets_of(session):
-        rests |= columns("vset2", number, "cancelled") if state == "cancelled" else of_set(number)
+        rests |= columns("vset2", number, "cancelled") if state == "cancelled" else of_listed_set(number)
     return rests
 
 
@@ -420,7 +425,7 @@ def rows_of(path):
 
 
 # A column of a row, and what it is made to hold; under which name events rest on that, where it isn't the column's; and
-# whether a change writes the column anew.
+# whether the column is said to be written anew.
 Damage = collections.namedtuple("Damage", "table key column value read is_mended", defaults=(None, False))
 
 
@@ -450,11 +455,13 @@ def damaged(table, key, **values):
     return [Damage(table, key, column, value) for column, some in values.items() for value in some]
 
 
-def read_as(read, damages, is_mended=False):
-    return [damage._replace(read=read, is_mended=is_mended) for damage in damages]
+def read_as(read, damages):
+    return [damage._replace(read=read) for damage in damages]
 
 
 NO_TEXTS = ("", "[", "{}", "[]", "null")
+# Texts in which no answers are kept: what isn't JSON, JSON of another form, and other texts of the same JSON.
+NO_ANSWERS = ("", "[", "[[1]]", '[[1,["00"]], [2,["00"]]]', '[[2,["00"]],[1,["00"]]]', '[[1,["\\u0030"]]]')
 SETS_OF_SEVEN = 700000000
 
 
@@ -491,7 +498,7 @@ def of_how_sets_stand():
 
 
 def of_texts_of_sets():
-    """No request reads the text of answers that are kept, and one that sends others puts them in its place."""
+    """A list of vector sets reads no text of answers, and each set that is read by its number has its own judged."""
     passed, failed, missing, unanswered, cancelled = (SETS_OF_SEVEN + OPEN * 100 + place for place in range(1, 6))
     others = [{**SHORT, "algorithm": "SHA-1"}, {**SHORT, "messageLength": [7]}, {**SHORT, "revision": "2.0"},
               {**KEYED, "macLen": [1024]}]
@@ -499,8 +506,10 @@ def of_texts_of_sets():
     return [*damaged("vset2", passed, capability=texts),
             *[damage for number in (failed, missing, unanswered, cancelled, SETS_OF_SEVEN + CANCELLED * 100 + 1)
               for damage in damaged("vset2", number, capability=["{}"])],
-            *read_as("answers: text", damaged("vset2", passed, answers=["", "[", "no answers"])),
-            *read_as("answers: text", damaged("vset2", failed, answers=["no answers"]), is_mended=True)]
+            *read_as("answers: text", damaged("vset2", passed, answers=NO_ANSWERS)),
+            *read_as("answers: text", [*damaged("vset2", failed, answers=["no answers"]),
+                                       *damaged("vset2", SETS_OF_SEVEN + SAMPLE * 100 + 1, answers=["["]),
+                                       *damaged("vset2", cancelled, answers=["[]]"])])]
 
 
 def of_objects():

@@ -86,8 +86,10 @@ def stray():
         yield [update("session", column, value, session=SAMPLE)], f"session {SAMPLE} stray"
     passed = OPEN * 100 + 1
     for column, value in (("capability", "{}"), ("capability", "["), ("cancelled", 2), ("epoch", -1), ("answers", None),
-                          ("answers", "no answers"), ("verdicts", "px"), ("verdicts", None), ("disposition", 99),
-                          ("disposition", None), ("disposition", 0)):
+                          ("answers", "no answers"), ("answers", ""), ("answers", "["), ("answers", "[[1]]"),
+                          ("answers", '[[1,["00"]], [2,["00"]]]'), ("answers", '[[2,["00"]],[1,["00"]]]'),
+                          ("verdicts", "px"), ("verdicts", None), ("disposition", 99), ("disposition", None),
+                          ("disposition", 0)):
         yield [update("vset2", column, value, vs=passed)], f"set {passed} stray"
     yield ([("UPDATE vset2 SET capability = CAST(x'7bff7d' AS TEXT) WHERE vs = ?", (passed,))], f"set {passed} stray")
     yield [update("vset2", "verdicts", "p", vs=OPEN * 100 + 4)], f"set {OPEN * 100 + 4} stray"

@@ -80,7 +80,7 @@ unfolding IsStrictlySortedBy
 rising-after m [] s = refl
 rising-after m (n ∷ ns) s = rw (lt-from_less m n s.0.0) (rising-after n ns s.1)
 
-rising : (ns : List ℕ) → IsStrictlySortedBy nat_cmp ns → are_rising None ns ≡ true
+pub rising : (ns : List ℕ) → IsStrictlySortedBy nat_cmp ns → are_rising None ns ≡ true
 rising [] s = refl
 rising (n ∷ ns) s = rising-after n ns s
 
@@ -105,7 +105,7 @@ sorted-after m (n ∷ ns) h =
     let first = less m n parts.0 in
     ((first, above-all m n ns first more.0), more)
 
-sorted : (ns : List ℕ) → are_rising None ns ≡ true → IsStrictlySortedBy nat_cmp ns
+pub sorted : (ns : List ℕ) → are_rising None ns ≡ true → IsStrictlySortedBy nat_cmp ns
 unfolding IsStrictlySortedBy
 sorted [] h = tt
 sorted (n ∷ ns) h = sorted-after n ns h
@@ -225,7 +225,7 @@ texts-no_float : (texts : List (List ℕ)) → items_have_float (items_of (map s
 texts-no_float [] = refl
 texts-no_float (t ∷ ts) = texts-no_float ts
 
-items-no_float : (answers : List Answer) → items_have_float (items_of (map answer_data answers)) ≡ false
+pub items-no_float : (answers : List Answer) → items_have_float (items_of (map answer_data answers)) ≡ false
 items-no_float [] = refl
 items-no_float (a ∷ as') = rw (texts-no_float a.1, items-no_float as') refl
 

@@ -5,3 +5,5 @@ pub mod ReplyLemmas
 pub mod UrlLemmas
 pub mod AnswersLemmas
 pub mod TimeLemmas
+mod ScanLemmas
+mod ExactLemmas

@@ -5,3 +5,4 @@ pub mod Said
 pub mod AnswersReading
 pub mod Civil
 pub mod Placed
+pub mod Scan

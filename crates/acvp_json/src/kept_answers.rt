@@ -105,7 +105,7 @@ fn answer_in(alloc: Global, value: &Value) -> Result<(u64, Vec<String>), BodyFau
 }
 
 /// Whether a number is above the one before it, if any.
-fn is_above(last: Option<u64>, number: u64) -> bool
+pub(crate) fn is_above(last: Option<u64>, number: u64) -> bool
     ensures { result ≡ is_above last number }
 {
     match last {

@@ -3,8 +3,8 @@
 use crate::lines::{cut, fault_of, number};
 use acvp_answers::Answers;
 use acvp_json::{
-    BodyFault, CertifyBody, LoginBody, answers_from_text, answers_to_text, open_envelope,
-    read_certify, read_login, read_reviewer, time_text,
+    BodyFault, CertifyBody, LoginBody, answers_from_text, answers_to_text, are_kept_answers,
+    open_envelope, read_certify, read_login, read_reviewer, time_text,
 };
 use serde_json::Value;
 use std::alloc::{AllocError, Global};
@@ -334,6 +334,7 @@ const KEPT: &str = r#"[[0,[]]]
 fn the_same_text_is_written_again(rt: HostRuntime) {
     for line in KEPT.lines() {
         assert!(rt; is_written_again(rt.alloc(), line) == Ok(true), "{line}");
+        assert!(rt; are_kept_answers(line), "{line}");
     }
 }
 

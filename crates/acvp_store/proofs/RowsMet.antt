@@ -16,7 +16,7 @@ use Rattle.acvp_store.specs.Schema.{Layout, schema_of}
 use Rattle.acvp_store.specs.Stands.{object_tree, set_tree, request_tree}
 use Rattle.acvp_store.specs.Values.{whole}
 use Rattle.acvp_store.specs.Private.Columns.{account_columns, capability_column, columns_of_object, request_columns, session_columns, status_columns}
-use Rattle.acvp_store.specs.Private.Sets.{ShortColumns, short_columns, is_live_row, IsJudged, IsSummary, IsSummaryOf}
+use Rattle.acvp_store.specs.Private.Sets.{ShortColumns, ReadColumns, short_columns, read_columns, is_live_row, IsJudged, IsJudgedWhole, IsSummary, IsSummaryOf}
 use Rattle.acvp_store.specs.Private.Shown.{is_of, is_under}
 use Rattle.acvp_store.specs.Private.SetTexts.{IsOfCapability, TellsCapability}
 use Rattle.acvp_store.proofs.QueryRows.{test_from, test_until, test_other, rows_under, selected_in_order}
@@ -25,7 +25,7 @@ use Rattle.acvp_store.proofs.Parts.{both_true}
 use Rattle.acvp_store.proofs.Places.{sets_seen}
 use Rattle.acvp_store.proofs.SessionSets.{three_true}
 use Rattle.acvp_store.proofs.SelectedRows.{null_flag, selected}
-use Rattle.acvp_store.proofs.Texts.{equals, find_capability, capability_is, capability_plain, capability_unlisted, find_account, account_query, account_is, account_plain, account_unlisted, find_session, session_query, session_is, session_plain, session_unlisted, short_terms, find_set, set_is, set_plain, set_unlisted, find_sets, sets_query, sets_is, sets_plain, sets_unlisted}
+use Rattle.acvp_store.proofs.Texts.{equals, find_capability, capability_is, capability_plain, capability_unlisted, find_account, account_query, account_is, account_plain, account_unlisted, find_session, session_query, session_is, session_plain, session_unlisted, short_terms, read_terms, find_set, set_is, set_plain, set_unlisted, find_sets, sets_query, sets_is, sets_plain, sets_unlisted}
 use Rattle.acvp_store.proofs.Versions.{map_same, test_whole}
 
 -- ---- vector sets
@@ -34,8 +34,8 @@ short_shown_of : (params : Row) (r : Row) → eval_all short_terms (params ∷ r
 short_shown_of params r = rw (null_flag (column r 5)) refl
 
 pub set_met : (layout : Layout) (n : ℕ) (k : ℤ) → n < 2 ^ 63 → (n < 2 ^ 63 → k ≡ pos n) → (old new : State) (rows : List Row) → old.now.schema ≡ schema_of layout → Shown find_set (Int k ∷ []) old new rows
-    → IsPermutation (map short_columns (filter (is_under n) (old.now.trees (set_tree layout)))) rows
-set_met layout = rows_under layout (set_tree layout) find_set _ short_terms short_columns (λ k. short_shown_of (Int k ∷ [])) (set_is layout) (set_plain layout) (set_unlisted layout) (λ trees. sets_seen layout trees)
+    → IsPermutation (map read_columns (filter (is_under n) (old.now.trees (set_tree layout)))) rows
+set_met layout = rows_under layout (set_tree layout) find_set _ read_terms read_columns (λ k r. refl) (set_is layout) (set_plain layout) (set_unlisted layout) (λ trees. sets_seen layout trees)
 
 pub sets_met : (layout : Layout) (s : ℕ) (old new : State) (rows : List Row) → old.now.schema ≡ schema_of layout → Shown find_sets (whole (s * 100) ∷ whole (s * 100 + 99) ∷ []) old new rows
     → IsPermutation (map short_columns (filter (is_live_row s) (old.now.trees (set_tree layout)))) rows
@@ -45,10 +45,10 @@ sets_met layout s old new rows schema h =
     (overlay old.now.trees []) (old.now.trees (set_tree layout)) rows (sets_seen layout old.now.trees ∙ map_same _)
     ((reads_as find_sets params old new (schema_of layout) schema _ (sets_is layout) (sets_plain layout) (sets_unlisted layout) rows h).answer Null)
 
-pub judged_one : (found : Option ShortColumns) (told : Option SetSummary) → IsSummaryOf found told → AllByRecursion IsJudged (option_to_list found)
+pub judged_one : (found : Option ReadColumns) (told : Option SetSummary) → IsSummaryOf found told → AllByRecursion IsJudgedWhole (option_to_list found)
 judged_one None told is = tt
 judged_one (Some c) None is = absurd is
-judged_one (Some c) (Some s) is = ((s.disposition, is.disposition), tt)
+judged_one (Some c) (Some s) is = ((is.0, (s.disposition, is.1.disposition)), tt)
 
 pub judged_each : (found : List ShortColumns) (told : List SetSummary) → AllZip IsSummary found told → AllByRecursion IsJudged found
 judged_each [] told is = tt

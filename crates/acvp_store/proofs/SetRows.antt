@@ -43,14 +43,14 @@ use Rattle.acvp_store.specs.Alters.{Alters}
 use Rattle.acvp_store.specs.Connection.{UnderStore, Both}
 use Rattle.acvp_store.specs.Kept.{AreKept}
 use Rattle.acvp_store.specs.Stands.{SetColumns, set_key, set_row, set_tree, disposition_number, IsGradedAs, IsSet, HoldsSets}
-use Rattle.acvp_store.specs.Private.Sets.{ShortColumns, short_shown, short_of, IsDispositionOf, IsGiven, IsSummary, IsSummaryOf, new_set, AddsSets}
+use Rattle.acvp_store.specs.Private.Sets.{ShortColumns, short_shown, short_of, read_shown, read_of, IsDispositionOf, IsGiven, IsSummary, IsSummaryOf, new_set, AddsSets}
 use Rattle.acvp_store.specs.Private.SetTexts.{text_shown, TellsCapability, AreVerdictsOf}
 use Rattle.acvp_store.proofs.Keyed.{none_passes, keyed, changing, keyed_same, find_is, none_fits}
 use Rattle.acvp_store.proofs.Parts.{and_true, cast_null, cast_whole, cast_flag, cast_option, cast_text_option}
 use Rattle.acvp_store.proofs.SelectedRows.{null_flag, test_equals, test_none, selected}
 use Rattle.acvp_store.proofs.Effects.{insert_effect, update_effect, spares_then}
 use Rattle.acvp_store.proofs.Places.{sets_at, sets_seen}
-use Rattle.acvp_store.proofs.Texts.{set_place, simple, equals, short_terms, find_set, set_is, set_plain, set_unlisted, find_capability, capability_is, capability_plain, capability_unlisted, find_verdicts, verdicts_is, verdicts_plain, verdicts_unlisted, cancel_set, cancel_set_query, grade_set, grade_query, add_set, add_set_terms}
+use Rattle.acvp_store.proofs.Texts.{set_place, simple, equals, short_terms, read_terms, find_set, set_is, set_plain, set_unlisted, find_capability, capability_is, capability_plain, capability_unlisted, find_verdicts, verdicts_is, verdicts_plain, verdicts_unlisted, cancel_set, cancel_set_query, grade_set, grade_query, add_set, add_set_terms}
 
 abbrev pub set_shown : SetColumns → Row
 set_shown c = short_shown (short_of c)
@@ -94,8 +94,8 @@ module _ (layout : Layout) (text : List ℕ) (names : List (List ℕ)) (project 
       small_or_large n = search arith
 
 pub set_rows : (layout : Layout) (n : ℕ) (k : ℤ) → (n < 2 ^ 63 → k ≡ pos n) → (2 ^ 63 ≤ n → k ≡ negsuc 0) → (old new : State) (rows : List Row) → old.now.schema ≡ schema_of layout → Shown find_set (Int k ∷ []) old new rows
-    → (list : List SetColumns) (kept : AreKept set_key set_row (old.now.trees (set_tree layout)) list) → IsPermutation (map set_shown (keyed set_key n kept.ordered)) rows
-set_rows layout = rows_at layout find_set _ short_terms set_shown (λ k. short_shows (Int k ∷ [])) (set_is layout) (set_plain layout) (set_unlisted layout)
+    → (list : List SetColumns) (kept : AreKept set_key set_row (old.now.trees (set_tree layout)) list) → IsPermutation (map (λ c. read_shown (read_of c)) (keyed set_key n kept.ordered)) rows
+set_rows layout = rows_at layout find_set _ read_terms (λ c. read_shown (read_of c)) (λ k c. refl) (set_is layout) (set_plain layout) (set_unlisted layout)
 
 pub capability_rows : (layout : Layout) (n : ℕ) (k : ℤ) → (n < 2 ^ 63 → k ≡ pos n) → (2 ^ 63 ≤ n → k ≡ negsuc 0) → (old new : State) (rows : List Row) → old.now.schema ≡ schema_of layout → Shown find_capability (Int k ∷ []) old new rows
     → (list : List SetColumns) (kept : AreKept set_key set_row (old.now.trees (set_tree layout)) list) → IsPermutation (map (λ c. text_shown (Some c.capability)) (keyed set_key n kept.ordered)) rows
@@ -136,9 +136,9 @@ pub none_told : (s : Option SetSummary) → IsSummaryOf None s → s ≡ None
 none_told None h = refl
 none_told (Some s) h = absurd h
 
-pub one_told : (c : SetColumns) (row : SetRow) (s : Option SetSummary) → IsSet c row → IsSummaryOf (Some (short_of c)) s → s ≡ Some (set_summary row)
+pub one_told : (c : SetColumns) (row : SetRow) (s : Option SetSummary) → IsSet c row → IsSummaryOf (Some (read_of c)) s → s ≡ Some (set_summary row)
 one_told c row None h is = absurd is
-one_told c row (Some s) h is = ap Some (summary_is c row s h is)
+one_told c row (Some s) h is = ap Some (summary_is c row s h is.1)
 
 -- ---- the whole: of the columns of the set of a number, as `shown`, a query's answer tells what `pick` has of the set
 

@@ -451,16 +451,16 @@ register_plain Migrated = (refl, refl)
 -- ---- vector sets
 
 abbrev pub find_set : List ℕ
-find_set = codes "SELECT vs, session, cancelled, answers IS NULL, verdicts, disposition, epoch FROM vset2 WHERE vs = ?1"
+find_set = codes "SELECT vs, session, cancelled, answers, verdicts, disposition, epoch FROM vset2 WHERE vs = ?1"
 
 -- the columns of a vector set that are read of it
-abbrev pub short_terms : List Term
-short_terms = col 1 0 ∷ col 1 2 ∷ col 1 4 ∷ op2 (Is Binary) (col 1 5) (lit Null) ∷ col 1 6 ∷ col 1 7 ∷ col 1 8 ∷ []
+abbrev pub read_terms : List Term
+read_terms = col 1 0 ∷ col 1 2 ∷ col 1 4 ∷ col 1 5 ∷ col 1 6 ∷ col 1 7 ∷ col 1 8 ∷ []
 
 abbrev pub set_query : Layout → Query
-set_query layout = simple (set_tree layout) (equals 0 0 ∷ []) short_terms
+set_query layout = simple (set_tree layout) (equals 0 0 ∷ []) read_terms
 
-pub set_is : (layout : Layout) → command_of (understood (schema_of layout) find_set) ≡ Select (record { lets = []; body = set_query layout }) (codes "vs" ∷ codes "session" ∷ codes "cancelled" ∷ codes "answers IS NULL" ∷ codes "verdicts" ∷ codes "disposition" ∷ codes "epoch" ∷ [])
+pub set_is : (layout : Layout) → command_of (understood (schema_of layout) find_set) ≡ Select (record { lets = []; body = set_query layout }) (codes "vs" ∷ codes "session" ∷ codes "cancelled" ∷ codes "answers" ∷ codes "verdicts" ∷ codes "disposition" ∷ codes "epoch" ∷ [])
 unfolding understood everything
 set_is Created = refl
 set_is Migrated = refl
@@ -525,6 +525,10 @@ verdicts_asks = refl
 
 abbrev pub find_sets : List ℕ
 find_sets = codes "SELECT vs, session, cancelled, answers IS NULL, verdicts, disposition, epoch FROM vset2 WHERE vs BETWEEN ?1 AND ?2 AND cancelled <> 1 ORDER BY vs"
+
+-- those that are read of many
+abbrev pub short_terms : List Term
+short_terms = col 1 0 ∷ col 1 2 ∷ col 1 4 ∷ op2 (Is Binary) (col 1 5) (lit Null) ∷ col 1 6 ∷ col 1 7 ∷ col 1 8 ∷ []
 
 abbrev pub sets_query : Layout → Query
 sets_query layout = ordered_by 0 (set_tree layout) (op2 (Compare Ge Binary) (col 1 0) (col 0 0) ∷ op2 (Compare Le Binary) (col 1 0) (col 0 1) ∷ op2 (Compare Ne Binary) (col 1 4) (lit (Int (pos 1))) ∷ []) short_terms

@@ -11,9 +11,10 @@ ghost use Rattle.acvp_tables.specs.Changes.{changed, is_set, cancelled_set, with
 ghost use Rattle.acvp_store.specs.Alters.{Alters};
 ghost use Rattle.acvp_store.specs.Connection.{ServesStore, InStore, IsRead, IsInside, UnderStore};
 ghost use Rattle.acvp_store.specs.Stands.{HoldsSets, disposition_number, set_tree};
-ghost use Rattle.acvp_store.specs.Private.Sets.{HasUnjudged, IsDispositionOf, IsGiven, IsJudged, IsSummary};
-ghost use Rattle.acvp_store.specs.Private.Sets.{IsSummaryOf, is_live_row, new_set, short_columns, short_shown};
-ghost use Rattle.acvp_store.specs.Private.Sets.{AddsSets};
+ghost use Rattle.acvp_store.specs.Private.Sets.{HasUnjudged, IsDispositionOf, IsGiven, IsJudged, IsJudgedWhole};
+ghost use Rattle.acvp_store.specs.Private.Sets.{IsSummary, IsSummaryOf, KeepsAnswers, is_live_row, keeps_answers};
+ghost use Rattle.acvp_store.specs.Private.Sets.{new_set, read_columns, read_shown, short_columns, short_shown};
+ghost use Rattle.acvp_store.specs.Private.Sets.{AddsSets, without_text};
 ghost use Rattle.acvp_store.specs.Private.Shown.{AreMet, is_under};
 
 use crate::fault::done;
@@ -22,14 +23,14 @@ use crate::shown::{Shown, answered, field, fitting, key, truth};
 use crate::work::Work;
 use acvp_answers::{Disposition, TextFault, disposition, verdicts_from_text, verdicts_to_text};
 use acvp_caps::Capability;
-use acvp_json::answers_to_text;
+use acvp_json::{answers_to_text, are_kept_answers};
 use acvp_tables::{Graded, NewSession, SetSummary, StoreFault};
 use sqlite::{Alter, Connection, Row, Transaction, params};
 use std::alloc::Global;
 use std::marker::Model;
 
-/// The columns of a vector set that a request rests on, whichever it is: all but its capability, and of its answers
-/// whether there are any.
+/// The columns of a vector set that a list of sets rests on: all but its capability, and of its answers whether there
+/// are any.
 #[derive(Drop)]
 pub(crate) struct ShortSet {
     number: u64,
@@ -58,18 +59,20 @@ impl Model for ShortSet {
     } };
 }
 
-impl Shown for ShortSet {
-    ghost use Rattle.std.specs.Prelude.{⊤};
+impl Member for ShortSet {
     ghost use Rattle.acvp_store.specs.Private.Shown.{IsText};
+    ghost use Rattle.std.specs.Prelude.{⊤};
     ghost use Rattle.acvp_store.specs.Private.Sets.{short_shown};
 
-    ghost shown = { short_shown };
+    ghost listed_as = { short_shown };
+
+    ghost reads = { λ _. ⊤ };
 
     ghost fits = { λ s. IsText s.verdicts };
 
     ghost judged_so = { λ _. ⊤ };
 
-    fn read(row: &Row) -> Result<ShortSet, StoreFault> {
+    fn from_row(row: &Row) -> Result<ShortSet, StoreFault> {
         let number: u64 = field(row, 0)?;
         let session: u64 = field(row, 1)?;
         let cancelled = truth(row, 2)?;
@@ -89,21 +92,63 @@ impl Shown for ShortSet {
     }
 }
 
-impl Member for ShortSet {
-    ghost use Rattle.acvp_store.specs.Private.Shown.{IsText};
+/// The columns of the vector set of a number: all but its capability.
+#[derive(Drop)]
+pub(crate) struct ReadSet {
+    number: u64,
+    session: u64,
+    cancelled: bool,
+    answers: Option<String>,
+    verdicts: Option<String>,
+    disposition: Option<u64>,
+    epoch: u64,
+}
+
+impl Model for ReadSet {
+    ghost use Rattle.std.specs.Prelude.{string_bytes, option_map};
+    ghost use Rattle.acvp_store.specs.Private.Sets.{ReadColumns};
+
+    ghost Value = { ReadColumns };
+
+    ghost view = { λ s. record {
+      number = s.number;
+      session = s.session;
+      cancelled = s.cancelled;
+      answers = option_map string_bytes s.answers;
+      verdicts = option_map string_bytes s.verdicts;
+      disposition = s.disposition;
+      epoch = s.epoch;
+    } };
+}
+
+impl Shown for ReadSet {
     ghost use Rattle.std.specs.Prelude.{⊤};
-    ghost use Rattle.acvp_store.specs.Private.Sets.{short_shown};
+    ghost use Rattle.acvp_store.specs.Private.Shown.{IsText};
+    ghost use Rattle.acvp_store.specs.Private.Sets.{read_shown};
 
-    ghost listed_as = { short_shown };
+    ghost shown = { read_shown };
 
-    ghost reads = { λ _. ⊤ };
-
-    ghost fits = { λ s. IsText s.verdicts };
+    ghost fits = { λ s. IsText s.answers × IsText s.verdicts };
 
     ghost judged_so = { λ _. ⊤ };
 
-    fn from_row(row: &Row) -> Result<ShortSet, StoreFault> {
-        ShortSet::read(row)
+    fn read(row: &Row) -> Result<ReadSet, StoreFault> {
+        let number: u64 = field(row, 0)?;
+        let session: u64 = field(row, 1)?;
+        let cancelled = truth(row, 2)?;
+        let answers: Option<String> = field(row, 3)?;
+        let verdicts: Option<String> = field(row, 4)?;
+        let disposition: Option<u64> = field(row, 5)?;
+        let epoch: u64 = field(row, 6)?;
+        Ok(ReadSet {
+            number,
+            session,
+            cancelled,
+            answers,
+            verdicts,
+            disposition,
+            epoch,
+        })
     }
 }
 
@@ -171,20 +216,57 @@ fn summary(alloc: Global, set: &ShortSet) -> Result<SetSummary, StoreFault>
     })
 }
 
+/// Whether the text of answers keeps some, where there is one.
+fn keeps_answers(set: &ReadSet) -> bool
+    ensures { result ≡ keeps_answers set.now.answers }
+{
+    match &set.answers {
+        Some(text) => are_kept_answers(text.as_str()),
+        None => true,
+    }
+}
+
+/// The columns without the text of the answers.
+fn without_text(set: ReadSet) -> ShortSet
+    ensures { result ≡ without_text set }
+{
+    ShortSet {
+        number: set.number,
+        session: set.session,
+        cancelled: set.cancelled,
+        unanswered: set.answers.is_none(),
+        verdicts: set.verdicts,
+        disposition: set.disposition,
+        epoch: set.epoch,
+    }
+}
+
+/// What the columns tell, with the text of the answers. They are Refused where they are those of no set.
+fn whole_summary(alloc: Global, set: ReadSet) -> Result<SetSummary, StoreFault>
+    ensures told { IfOk result (λ told. KeepsAnswers set.answers × IsSummary (without_text set) told) }
+    ensures refused { IfErr result (λ fault. fault ≡ StoreFault.Refused → ¬ IsJudgedWhole set) }
+{
+    if !keeps_answers(&set) {
+        return Err(StoreFault::Refused);
+    }
+    let short = without_text(set);
+    summary(alloc, &short)
+}
+
 /// What the columns that were found tell.
 fn summarized(
     alloc: Global,
-    found: Result<Option<ShortSet>, StoreFault>,
+    found: Result<Option<ReadSet>, StoreFault>,
 ) -> Result<Option<SetSummary>, StoreFault>
     ensures told { IfOk result (λ told. IfOk found (λ set. IsSummaryOf set told)) }
     ensures refused { IfErr result (λ fault. fault ≡ StoreFault.Refused
-        → MatchResult found (λ set. IsSomeAnd set (λ columns. ¬ IsJudged columns))
+        → MatchResult found (λ set. IsSomeAnd set (λ columns. ¬ IsJudgedWhole columns))
         (λ fault. fault ≡ StoreFault.Refused)) }
     ensures ok { IsOk result → IsOk found }
 {
     match found {
         Ok(None) => Ok(None),
-        Ok(Some(set)) => match summary(alloc, &set) {
+        Ok(Some(set)) => match whole_summary(alloc, set) {
             Ok(told) => Ok(Some(told)),
             Err(fault) => Err(fault),
         },
@@ -192,7 +274,7 @@ fn summarized(
     }
 }
 
-/// The vector set of a number, without its capability and answers.
+/// The vector set of a number, without its capability. The text of its answers is judged, and not told.
 pub(crate) fn find_set<S: Alter>(
     alloc: Global,
     conn: &mut Connection<S>,
@@ -205,14 +287,14 @@ pub(crate) fn find_set<S: Alter>(
         → found ≡ option_map set_summary (set_at number sets))) }
     ensures judged { IsTrue (state S.Store conn.new).is_open → number < 2 ^ 63
         → IfOk result (λ _. InStore (state S.Store conn.old).now
-        (λ layout. AreMet (is_under number) short_columns short_shown IsJudged
+        (λ layout. AreMet (is_under number) read_columns read_shown IsJudgedWhole
         ((state S.Store conn.old).now.trees (set_tree layout)))) }
     ensures read { IsRead result (state S.Store conn.old) (state S.Store conn.new) }
 {
     summarized(
         alloc,
         answered(conn.query_all(
-            "SELECT vs, session, cancelled, answers IS NULL, verdicts, disposition, epoch FROM vset2 WHERE vs = ?1",
+            "SELECT vs, session, cancelled, answers, verdicts, disposition, epoch FROM vset2 WHERE vs = ?1",
             params![key(number)],
         )),
     )

@@ -317,6 +317,7 @@ account 7: found|account 7: refused|account 9: found|UPDATE account SET enabled 
 account 7: found|account 7: refused|account 9: found|UPDATE account SET secret = x'00' WHERE account = 7
 status 7000001: found|status 7000001: refused|status 7000002: found|UPDATE request SET status = 7 WHERE request = 7000001
 set 700000101: found|set 700000101: refused|set 700000102: found|UPDATE vset2 SET disposition = 3 WHERE vs = 700000101
+set 700000101: found|set 700000101: refused|set 700000102: found|UPDATE vset2 SET answers = '[' WHERE vs = 700000101
 verdicts 700000101: found|verdicts 700000101: refused|verdicts 700000102: found|UPDATE vset2 SET verdicts = 'x' WHERE vs = 700000101
 algorithm 700000101: found|algorithm 700000101: refused|algorithm 700000102: found|UPDATE vset2 SET capability = '{}' WHERE vs = 700000101
 object Vendor 7000001: found|object Vendor 7000001: refused|object Vendor 7000002: found|UPDATE object SET body = '[' WHERE kind = 1 AND number = 7000001

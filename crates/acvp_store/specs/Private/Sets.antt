@@ -1,6 +1,6 @@
--- A vector set without its texts, as its columns keep it.
-use Rattle.std.specs.Prelude.{◌≡◌, ℕ, ◌+◌, ◌*◌, Bool, ◌&&◌, true, false, is_none, slice_get, List, [], ◌∷◌, ◌++◌}
-use Rattle.std.specs.Prelude.{Option, Some, None, ⊤}
+-- A vector set without its capability, as its columns keep it.
+use Rattle.std.specs.Prelude.{◌≡◌, ℕ, ◌+◌, ◌*◌, Bool, ◌&&◌, true, false, is_none, is_some, slice_get, List, [], ◌∷◌}
+use Rattle.std.specs.Prelude.{◌++◌, Option, Some, None, ⊤}
 use Rattle.sqlite.specs.Values.{or_null}
 use Rattle.sqlite_sql.specs.Ops.{is_null}
 use Rattle.sqlite_value.specs.declared.value.Value.TheVariants.{Text}
@@ -11,6 +11,7 @@ use Rattle.acvp_answers.specs.VerdictText.{verdicts_text}
 use Rattle.acvp_answers.specs.Verdicts.{disposition_of}
 use Rattle.acvp_answers.specs.declared.verdict.Disposition.{Disposition}
 use Rattle.acvp_answers.specs.declared.verdict.Verdict.{Verdict}
+use Rattle.acvp_json.specs.KeptAnswers.{kept_answers}
 use Rattle.acvp_tables.specs.declared.rows.SetRow.{SetRow}
 use Rattle.acvp_tables.specs.declared.summary.SetSummary.{SetSummary}
 use Rattle.acvp_store.specs.Values.{whole, flag}
@@ -19,7 +20,7 @@ use Rattle.acvp_store.specs.Alters.{Alters}
 use Rattle.acvp_store.specs.Private.Shown.{is_at_least, is_at_most, is_other}
 use Rattle.acvp_store.specs.Stands.{SetColumns, disposition_number, set_tree, HoldsSets}
 
--- What is read of a vector set: all but its capability, and of its answers whether there are any.
+-- What is read of many vector sets: all but their capabilities, and of their answers whether there are any.
 pub record ShortColumns : Type 0 where
   pub number : ℕ
   pub session : ℕ
@@ -85,11 +86,65 @@ abbrev pub is_live_row : ℕ → Row → Bool
 is_live_row session row = is_at_least (session * 100) (column row 0)
     && (is_at_most (session * 100 + 99) (column row 0) && is_other 1 (column row 4))
 
-abbrev pub IsSummaryOf : Option ShortColumns → Option SetSummary → Type 0
+-- ---- the vector set of a number, with the text of its answers
+
+pub record ReadColumns : Type 0 where
+  pub number : ℕ
+  pub session : ℕ
+  pub cancelled : Bool
+  pub answers : Option (List ℕ)
+  pub verdicts : Option (List ℕ)
+  pub disposition : Option ℕ
+  pub epoch : ℕ
+
+abbrev pub read_shown : ReadColumns → Row
+read_shown c = whole c.number ∷ whole c.session ∷ flag c.cancelled ∷ or_null Text c.answers ∷ or_null Text c.verdicts
+    ∷ or_null whole c.disposition ∷ whole c.epoch ∷ []
+
+abbrev pub read_of : SetColumns → ReadColumns
+read_of c = record {
+  number = c.number;
+  session = c.session;
+  cancelled = c.cancelled;
+  answers = c.answers;
+  verdicts = c.verdicts;
+  disposition = c.disposition;
+  epoch = c.epoch;
+}
+
+-- the columns that are read of a row
+abbrev pub read_columns : Row → Row
+read_columns row = column row 0 ∷ column row 2 ∷ column row 4 ∷ column row 5 ∷ column row 6 ∷ column row 7
+    ∷ column row 8 ∷ []
+
+abbrev pub without_text : ReadColumns → ShortColumns
+without_text c = record {
+  number = c.number;
+  session = c.session;
+  cancelled = c.cancelled;
+  unanswered = is_none c.answers;
+  verdicts = c.verdicts;
+  disposition = c.disposition;
+  epoch = c.epoch;
+}
+
+-- whether a text keeps answers, where there is one
+abbrev pub keeps_answers : Option (List ℕ) → Bool
+keeps_answers None = true
+keeps_answers (Some text) = is_some (kept_answers text)
+
+abbrev pub KeepsAnswers : Option (List ℕ) → Type 0
+KeepsAnswers answers = keeps_answers answers ≡ true
+
+-- the columns are those of a set, and the text of its answers keeps some
+abbrev pub IsJudgedWhole : ReadColumns → Type 0
+IsJudgedWhole c = KeepsAnswers c.answers × IsJudged (without_text c)
+
+abbrev pub IsSummaryOf : Option ReadColumns → Option SetSummary → Type 0
 IsSummaryOf None None = ⊤
 IsSummaryOf None (Some s) = ⊥
 IsSummaryOf (Some c) None = ⊥
-IsSummaryOf (Some c) (Some s) = IsSummary c s
+IsSummaryOf (Some c) (Some s) = KeepsAnswers c.answers × IsSummary (without_text c) s
 
 -- an epoch alone in its row, or NULL
 abbrev pub epoch_shown : Option ℕ → Row
