@@ -3,8 +3,9 @@
 after another, with nobody else there; then their events run together in several orders, and each account's replies must
 be byte for byte those that it got alone. Then one adds another as a reviewer: the reviewer's replies must be those of
 the run of its own events and of the one that added it. Over files the same goes for a reviewer that an earlier run has
-added: each run begins with a copy of the file that this one has left. And a request for another account's vector set
-under a session of one's own gets the same bytes whether that set is there or not.
+added: each run begins with a copy of the file that this one has left. And each
+action that an account asks for by another's numbers, by such that nobody has and by its own gets the same bytes whether
+the other's rows are there or not, and never 503.
 
     accounts-apart.py COMMAND..
     accounts-apart.py --file PROGRAM KEYS SHIM
@@ -267,18 +268,92 @@ def a_reviewer_from_the_start(command):
     print(f"{len(events)} events with a reviewer from the start: it is told what its own events and account 7's tell")
 
 
-def a_set_of_another_session(command):
-    add = [(None, f"account-add 0 {account} {secret_of(account).hex()}") for account in (7, 9)]
-    mine = [(7, request("POST", "/testSessions", token_of(7), REGISTRATION))]
-    theirs = [(9, request("POST", "/testSessions", token_of(9), REGISTRATION))]
-    asked = [(7, request("GET", "/testSessions/7000001/vectorSets/900000101", token_of(7, 7000001)))]
-    there = [(9, request("GET", "/testSessions/9000001/vectorSets/900000101", token_of(9, 9000001)))]
-    made = replies(command, add + mine + theirs + there)[-3:]
-    assert [shown(reply)[0] for reply in made] == [200] * 3, made
-    told = [replies(command, events)[-1] for events in (add + mine + asked, add + mine + theirs + asked, add + theirs + mine + asked)]
-    assert told[0] == told[1] == told[2], told
-    assert shown(told[0]) == (404, {"error": "noResource"}), told[0]
-    print("a vector set of another account under a session of one's own: 404 noResource, whether it is there or not")
+SAMPLE = {**REGISTRATION, "isSample": True}
+KINDS = {"vendors": {"name": "n"}, "modules": {"name": "n", "vendorUrl": None}, "oes": {"name": "n"}}
+
+
+def rows_of_seven():
+    """Account 7 makes more of everything than one: sessions, samples, answers, reviewers, requests and objects."""
+    token, first, events = token_of(7), 7000001, []
+
+    def does(*asked):
+        events.append((7, request(asked[0], asked[1], asked[3] if len(asked) > 3 else token, asked[2])))
+    for session in range(first, first + 5):
+        does("POST", "/testSessions", SAMPLE if session == first + 1 else REGISTRATION)
+        path, bound = f"/testSessions/{session}", token_of(7, session)
+        does("POST", f"{path}/vectorSets/{session}01/results", {"testGroups": [], "vsId": session * 100 + 1}, bound)
+        does("POST", f"{path}/reviewers", {"account": 11}, bound)
+    for kind, thing in KINDS.items():
+        for number in range(2):
+            does("POST", "/" + kind, {**thing, **({"vendorUrl": f"/acvp/v1/vendors/{first}"} if "vendorUrl" in thing else {})})
+            events.append((None, f"request-approve 0 {first + list(KINDS).index(kind) * 2 + number}"))
+    return events
+
+
+def asks_on_session(number, token):
+    """Each action on a session and its vector sets."""
+    path, thing = f"/testSessions/{number}", {"testGroups": [], "vsId": number * 100 + 1}
+    parts = {"moduleUrl": "/acvp/v1/modules/7000001", "oeUrl": "/acvp/v1/oes/7000001"}
+    asked = [("GET", path, None), ("PUT", path, parts), ("DELETE", path, None), ("GET", path + "/results", None),
+             ("GET", path + "/vectorSets", None), ("GET", path + "/reviewers", None), ("POST", path + "/reviewers", {"account": 9}),
+             ("DELETE", path + "/reviewers/11", None)]
+    for vector_set in (number * 100 + 1, number * 100 + 9):
+        of_set = f"{path}/vectorSets/{vector_set}"
+        asked += [("GET", of_set, None), ("GET", of_set + "/results", None), ("GET", of_set + "/expected", None),
+                  ("POST", of_set + "/results", thing), ("PUT", of_set + "/results", thing), ("DELETE", of_set, None)]
+    return [(9, request(method, where, token, thing)) for method, where, thing in asked]
+
+
+def asks_of_nine():
+    """What account 9 asks for: by account 7's numbers, by such that nobody has, and by its own."""
+    token, own, events = token_of(9), 9000001, []
+    bound = token_of(9, own)
+    events.append((9, request("POST", "/testSessions", token, SAMPLE)))
+    for number in (*range(7000001, 7000006), 7000009, 9000009, 11000001, 1, 9999999999, own):
+        for by in (token, token_of(9, number), bound):
+            # on its own session it acts last of all, since that is accepted
+            if number != own or by == token:
+                events += asks_on_session(number, by)
+    for foreign in (7000001, 7000002, 7000009, 9000009):
+        of_set = f"/testSessions/{own}/vectorSets/{foreign}01"
+        events += [(9, request("GET", of_set + more, bound)) for more in ("", "/results", "/expected")]
+        events += [(9, request(method, of_set + "/results", bound, {"testGroups": [], "vsId": foreign * 100 + 1}))
+                   for method in ("POST", "PUT")]
+        events.append((9, request("DELETE", of_set, bound)))
+    for kind in (*KINDS, "requests", "algorithms"):
+        for number in (*range(7000001, 7000008), 7000099, 9000001, 9000099, 1, 13, 9999999999):
+            events.append((9, request("GET", f"/{kind}/{number}", token)))
+        events += [(9, request("GET", f"/{kind}{page}", token)) for page in ("", "?limit=1", "?offset=3&limit=2")]
+    for number in (7000001, 7000002, 7000099, 9000099):
+        events.append((9, request("POST", "/modules", token, {"name": "m", "vendorUrl": f"/acvp/v1/vendors/{number}"})))
+    events += [(9, request("GET", path, token)) for path in ("/account", "/testSessions", "/testSessions?limit=2")]
+    # long ones, of each part of a request
+    events.append((9, request("POST", "/vendors", token, {"name": "n" * 20000})))
+    events.append((9, request("GET", "/account", token).replace(b"Host: ", b"A: " + b"a" * 9000 + b"\r\nHost: ")))
+    events.append((9, request("GET", "/testSessions?limit=" + "0" * 4000 + "7", token)))
+    return events + asks_on_session(own, bound)
+
+
+def by_any_number(command):
+    add = [(None, f"account-add 0 {account} {secret_of(account).hex()}") for account in (7, 9, 11)]
+    theirs, asked = rows_of_seven(), asks_of_nine()
+    made = replies(command, add + theirs)[len(add):]
+    for reply in made:
+        assert reply == "order done" or shown(reply)[0] == 200, reply
+    alone = replies(command, add + asked)[len(add):]
+    beside = replies(command, add + theirs + asked)[len(add) + len(theirs):]
+    after = replies(command, add + asked + theirs)[len(add):len(add) + len(asked)]
+    statuses = {}
+    for (_, text), one, other, third in zip(asked, alone, beside, after, strict=True):
+        assert one == other == third, f"{text!r}: {one!r} alone, {other!r} beside the rows of account 7, {third!r} before"
+        status, thing = shown(one)
+        statuses[status] = statuses.get(status, 0) + 1
+        assert status != 503, f"{text!r}: {thing}"
+        if b"/testSessions/9000001/vectorSets/70" in text:
+            assert (status, thing) == (404, {"error": "noResource"}), f"{text!r}: {status} {thing}"
+    assert {200, 400, 403, 404, 409} <= set(statuses), statuses
+    told = ", ".join(f"{count} of {status}" for status, count in sorted(statuses.items()))
+    print(f"{len(asked)} requests by any numbers: {told}; the same bytes whether account 7 has rows or not")
 
 
 def main():
@@ -286,7 +361,7 @@ def main():
     a_reviewer(sys.argv[1:])
     if sys.argv[1] == "--file":
         a_reviewer_from_the_start(sys.argv[1:])
-    a_set_of_another_session(sys.argv[1:])
+    by_any_number(sys.argv[1:])
 
 
 main()
