@@ -15,7 +15,8 @@ pub use cause::{Because, Cause, Place};
 pub use names::name_of;
 pub use owners::{OF_OTHERS, cause_of_maker};
 pub use places::{
-    EMPTY_LOG, are_there, cause_of_database, cause_of_error, cause_of_folder, cause_of_neighbours,
-    cause_of_source, folder_of, has_log, has_sums, holds_any, is_moved, last_of, why_refused,
+    EMPTY_LOG, are_there, cause_of_database, cause_of_error, cause_of_files, cause_of_folder,
+    cause_of_source, folder_of, has_journal, has_log, has_sums, holds_any, is_moved, last_of,
+    why_refused,
 };
 pub use texts::{TextFault, keys_fault, secret_fault};

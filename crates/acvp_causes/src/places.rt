@@ -143,7 +143,7 @@ fn cause_of_hold(rt: &HostRuntime, path: &str) -> Option<Cause> {
 }
 
 /// Whether there is something beside a file that another program has to settle: a journal that begins with no zero.
-fn has_journal(rt: &HostRuntime, path: &str) -> Result<bool, AllocError> {
+pub fn has_journal(rt: &HostRuntime, path: &str) -> Result<bool, AllocError> {
     let journal = format!(in rt.alloc(); "{path}-journal")?;
     let Ok(there) = fs::symlink_metadata(rt, journal.as_str()) else {
         return Ok(false);
@@ -184,7 +184,7 @@ fn cause_of_log(rt: &HostRuntime, database: &str, log: &str) -> Option<Cause> {
 
 /// Why the files beside a database aren't taken, whoever has them: the log is no file of its own, another user has made
 /// it or the socket of orders, or others may do more with the log than with the database.
-pub fn cause_of_neighbours(rt: &HostRuntime, option: &'static str, db: &str) -> Option<Because> {
+fn cause_of_neighbours(rt: &HostRuntime, option: &'static str, db: &str) -> Option<Because> {
     let alloc = rt.alloc();
     let (Ok(log), Ok(socket)) = (
         format!(in alloc; "{db}-wal"),
@@ -208,6 +208,15 @@ pub fn cause_of_neighbours(rt: &HostRuntime, option: &'static str, db: &str) -> 
             cause,
         }),
         None => None,
+    }
+}
+
+/// Why the files of a database's name aren't taken, whoever has them: the database, if it is there, is no file of one
+/// name or is mounted by itself, or what lies beside it isn't taken.
+pub fn cause_of_files(rt: &HostRuntime, option: &'static str, db: &str) -> Option<Because> {
+    match unless_missing(cause_of_name(rt, db)) {
+        Some(cause) => Some(Because::of(option, cause)),
+        None => cause_of_neighbours(rt, option, db),
     }
 }
 

@@ -2,17 +2,13 @@
 use crate::connection::copied;
 use crate::copies::{connection_to, connection_to_copy, merge, with_tables};
 use crate::fault::{FileFault, done, refused};
-use crate::parts::{Pair, Part, Use, give_up, make_new, new_copy, pair_at, remove};
+use crate::parts::{Pair, Part, Use, give_up, is_copy, make_new, new_copy, pair_at, remove};
 use crate::rows::count_rows;
 use crate::sums::copy_with_sums;
-use acvp_causes::{folder_of, has_sums, holds_any, is_database, last_of};
+use acvp_causes::{folder_of, has_journal, has_log, has_sums, holds_any, is_database, last_of};
 use std::alloc::{AllocError, AllocGlobal, Global};
-use std::fs::{self, File, Metadata, Permissions};
+use std::fs::{self, File};
 use std::io::{self, ErrorKind};
-use std::os::unix::fs::{MetadataExt, PermissionsExt, chown};
-
-/// The bits of a file's mode by which its owner, its group and others read, write and run it.
-const RIGHTS: u32 = 0o777;
 
 /// Whether there is a file of a path, whatever it is.
 fn is_there(rt: &HostRuntime, path: &str) -> io::Result<bool> {
@@ -21,6 +17,11 @@ fn is_there(rt: &HostRuntime, path: &str) -> io::Result<bool> {
         Err(error) if error.kind() == ErrorKind::NotFound => Ok(false),
         Err(error) => Err(error),
     }
+}
+
+/// Whether a new database can't have a name: there is a file, or a log or a journal that would be taken for its own.
+fn is_taken(rt: &HostRuntime, path: &str) -> Result<bool, FileFault> {
+    Ok(done(is_there(rt, path))? || has_log(rt, path) || has_journal(rt, path)?)
 }
 
 /// Makes one whole file of the database of a name, beside where it is to be, and says how many rows it has. If it is
@@ -85,7 +86,7 @@ fn base_for(alloc: Global, database: &str, to: &str) -> Result<String, AllocErro
 /// Makes a copy of the database of a name, whole, also while it is served, and says how many rows it has. Another file
 /// isn't written over.
 pub fn backup(rt: &HostRuntime, database: &str, to: &str) -> Result<u64, FileFault> {
-    if done(is_there(rt, to))? {
+    if is_taken(rt, to)? {
         return Err(FileFault::Taken);
     }
     let base = base_for(rt.alloc(), database, to)?;
@@ -101,23 +102,16 @@ pub fn backup(rt: &HostRuntime, database: &str, to: &str) -> Result<u64, FileFau
     outcome
 }
 
-/// Gives a copy the owner, the group and the mode of the file that it is to replace. If the system refuses the owner or
-/// the group, the copy stays its maker's alone.
-fn keep_access(rt: &HostRuntime, file: &str, there: &Metadata) -> io::Result<()> {
-    match chown(rt, file, Some(there.uid()), Some(there.gid())) {
-        Ok(()) => fs::set_permissions(rt, file, Permissions::from_mode(there.mode() & RIGHTS)),
-        Err(error) if error.kind() == ErrorKind::PermissionDenied => Ok(()),
-        Err(error) => Err(error),
-    }
-}
-
 /// Puts a copy in the place of a database whose log holds nothing.
-fn put_in_place(rt: &HostRuntime, part: &Pair, database: &Pair) -> io::Result<()> {
+fn put_in_place(rt: &HostRuntime, part: &Part, database: &Pair) -> io::Result<()> {
     let path = database.file.as_str();
-    keep_access(rt, part.file.as_str(), &fs::symlink_metadata(rt, path)?)?;
+    part.keep_access(&fs::symlink_metadata(rt, path)?)?;
+    if !part.is_named(rt)? {
+        return Err(ErrorKind::NotFound.into());
+    }
     // The log goes first: it isn't one of the copy's.
     remove(rt, database.log.as_str())?;
-    fs::rename(rt, part.file.as_str(), path)?;
+    fs::rename(rt, part.pair.file.as_str(), path)?;
     keep_names(rt, path)
 }
 
@@ -131,13 +125,16 @@ fn replace_there(rt: &HostRuntime, part: &Part, database: &Pair) -> Result<(), F
     if held.is_none() {
         return Err(FileFault::Unavailable);
     }
-    let outcome = put_in_place(rt, &part.pair, database);
+    let outcome = put_in_place(rt, part, database);
     drop(held);
     done(outcome)
 }
 
 /// Puts a copy in the place of a database, or where there is none.
 fn replace(rt: &HostRuntime, part: &Part, database: &Pair) -> Result<(), FileFault> {
+    if has_journal(rt, database.file.as_str())? {
+        return Err(FileFault::Unavailable);
+    }
     if done(is_there(rt, database.file.as_str()))? {
         return replace_there(rt, part, database);
     }
@@ -185,6 +182,10 @@ fn put_back(rt: &HostRuntime, part: &Part, database: &str, rows: u64) -> Result<
 /// Puts the copy of a backup in the place of the database of a name, whole or not at all. Its pages have sums then,
 /// also where those of the backup have none.
 pub fn restore(rt: &HostRuntime, backup: &str, database: &str) -> Result<(), FileFault> {
+    // A copy that was left may be half of one, and the next copy takes it away.
+    if is_copy(backup) {
+        return Err(FileFault::Unavailable);
+    }
     let part = new_copy(rt, database, Use::Part)?;
     let outcome = match make_part(rt, backup, &part, true) {
         Ok(rows) => put_back(rt, &part, database, rows),

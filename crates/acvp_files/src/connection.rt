@@ -14,7 +14,7 @@ ghost use Rattle.acvp_files.specs.Faults.{fault_of_open, why_unopened};
 use crate::fault::{FileFault, fault_of_cause, refused};
 use crate::number::{FileNumber, file_at};
 use crate::privacy::{has_no_log, make_private};
-use acvp_causes::{cause_of_neighbours, is_foreign};
+use acvp_causes::{cause_of_files, has_log, is_foreign};
 use sqlite::{Connection, Error, ErrorCode, FileFrom, FileStore, Files, Start};
 use sqlite_disk::Disk;
 use std::fs;
@@ -66,9 +66,10 @@ fn connect<S: Start>(rt: &HostRuntime, path: &str, start: S) -> Result<FileConne
     }
 }
 
-/// Whether the files of a name may be taken for a database's: no other user has made what lies beside the file.
+/// Whether the files of a name may be taken for a database's: the file, if it is there, isn't mounted by itself, and no
+/// other user has made what lies beside it.
 fn may_be_taken(rt: &HostRuntime, path: &str) -> Result<(), FileFault> {
-    match cause_of_neighbours(rt, "", path) {
+    match cause_of_files(rt, "", path) {
         None => Ok(()),
         Some(because) => Err(fault_of_cause(because.cause)),
     }
@@ -129,7 +130,13 @@ fn connect_known<S: Start>(
     connect_held(rt, path, start)
 }
 
-/// A connection to the database in a file, which is made for its owner alone where there is none.
+/// Whether a log holds something, and its file isn't there: a new one would have the log for its own.
+fn is_left_alone(rt: &HostRuntime, path: &str) -> bool {
+    has_log(rt, path) && matches!(fs::exists(rt, path), Ok(false))
+}
+
+/// A connection to the database in a file, which is made for its owner alone where there is none. It isn't made beside
+/// a log that another has left.
 pub fn connect_new<S: Start>(
     rt: &HostRuntime,
     path: &str,
@@ -141,6 +148,9 @@ pub fn connect_new<S: Start>(
     ensures sums { IfOk result (λ c. HasCleanDisk (file_state c) → IsBlankAs true (image_at S.Start)
         → (view c.store).has_sums ≡ true) }
 {
+    if is_left_alone(rt, path) {
+        return Err(Unopened::Failed(FileFault::Unavailable));
+    }
     if path != ":memory:" {
         make_private(rt, path);
     }

@@ -10,13 +10,16 @@ use crate::fault::{FileFault, refused};
 use crate::number::{file_at, number_of};
 use acvp_causes::{folder_of, last_of};
 use std::alloc::{AllocGlobal, Global};
-use std::fs::{self, File, OpenOptions};
+use std::fs::{self, File, Metadata, OpenOptions, Permissions};
 use std::io::{self, ErrorKind};
-use std::os::unix::fs::OpenOptionsExt;
+use std::os::unix::fs::{MetadataExt, OpenOptionsExt, PermissionsExt, fchown};
 use std::time::{SystemTime, UNIX_EPOCH};
 
 /// How many digits the moment of a copy has, in billionths of a second since 1970: from 2001 to 2286.
 const MOMENT_DIGITS: usize = 19;
+
+/// The bits of a file's mode by which its owner, its group and others read, write and run it.
+const RIGHTS: u32 = 0o777;
 
 /// How often a copy is begun anew, if another command has its name or has taken it for one that was left.
 const TRIES: u32 = 100;
@@ -61,6 +64,25 @@ pub(crate) fn pair_at(alloc: Global, path: &str) -> Result<Pair, FileFault> {
 pub(crate) struct Part {
     pub(crate) pair: Pair,
     lock: File,
+}
+
+impl Part {
+    /// Whether the copy that was made still has its name.
+    pub(crate) fn is_named(&self, rt: &HostRuntime) -> io::Result<bool> {
+        has_name(rt, &self.lock, self.pair.file.as_str())
+    }
+
+    /// Gives a copy the owner, the group and the mode of the file that it is to replace. If the system refuses the
+    /// owner or the group, the copy stays its maker's alone. The file that was made gets them, whatever has its name.
+    pub(crate) fn keep_access(&self, there: &Metadata) -> io::Result<()> {
+        match fchown(&self.lock, Some(there.uid()), Some(there.gid())) {
+            Ok(()) => self
+                .lock
+                .set_permissions(Permissions::from_mode(there.mode() & RIGHTS)),
+            Err(error) if error.kind() == ErrorKind::PermissionDenied => Ok(()),
+            Err(error) => Err(error),
+        }
+    }
 }
 
 /// The moment to the billionth of a second; 0 if the clock doesn't tell it.
@@ -191,6 +213,14 @@ fn is_copy_name(name: &str, base: &str) -> bool {
             (Some(moment), _) | (None, Some(moment)) => is_moment(moment.as_bytes()),
             (None, None) => false,
         },
+        None => false,
+    }
+}
+
+/// Whether a path has the name of a copy that is being made, or that was left.
+pub(crate) fn is_copy(path: &str) -> bool {
+    match last_of(path).rsplit_once("-part-") {
+        Some((_, moment)) => is_moment(moment.as_bytes()),
         None => false,
     }
 }
