@@ -144,10 +144,13 @@ def mounts(lab):
         lab.serve(count=None)
         lab.add(2)
         why = "it is mounted by itself: name it where its log (-wal) is beside it"
-        for command in commands_over(lab, mounted) + looks_over(lab, mounted) + [["init", "--db", mounted], serving(lab, mounted)]:
-            refused(lab, f"--db: {why}", *command)
-        refused(lab, f"--from: {why}", "restore", "--from", mounted, "--db", lab.path("new.db"))
-        lab.kill()
+        for is_served in (True, False):
+            for command in commands_over(lab, mounted) + looks_over(lab, mounted) + [["init", "--db", mounted], serving(lab, mounted)]:
+                refused(lab, f"--db: {why}", *command)
+            refused(lab, f"--from: {why}", "restore", "--from", mounted, "--db", lab.path("new.db"))
+            expect("what is beside a mounted file", os.path.exists(mounted + "-wal"), False)
+            if is_served:
+                lab.kill()
     finally:
         subprocess.run(["umount", mounted], check=True)
 
@@ -179,6 +182,66 @@ def journals(lab):
     refused(lab, "--from: a journal is beside it (-journal), which sqlite3 has to settle",
             "restore", "--from", lab.path("kept.db"), "--db", lab.db)
     expect("the accounts without the journal", account_lines(lab, lab.db), ["1"])
+
+
+def left_beside(lab):
+    """Beside a log that holds something, or a journal, no other file gets the name. What a killed command has left of a
+    copy isn't restored, and stays."""
+    lab.add(1)
+    lab.backs_up("kept.db")
+    lab.serve(count=None)
+    lab.add(2)
+    lab.kill()
+    away, log = lab.path("away.db"), lab.db + "-wal"
+    os.rename(lab.db, away)
+    before = bytes_of(log)
+    lab.fails("unavailable", "init", "--db", lab.db)
+    lab.fails("unavailable", *serving(lab, lab.db))
+    lab.fails("unavailable", "restore", "--from", lab.path("kept.db"), "--db", lab.db)
+    lab.fails("taken", "backup", "--db", lab.path("kept.db"), "--to", lab.db)
+    expect("a log without its file", (bytes_of(log), os.path.exists(lab.db)), (before, False))
+    os.rename(away, lab.db)
+    expect("the accounts with their log", account_lines(lab, lab.db), ["1", "2"])
+    new = lab.path("new.db")
+    journal = lab.write(new + "-journal", b"\xd9\xd5\x05\xf9 the rest of a journal")
+    lab.fails("unavailable", "restore", "--from", lab.path("kept.db"), "--db", new)
+    lab.fails("taken", "backup", "--db", lab.db, "--to", new)
+    expect("a name beside a journal", (os.path.exists(new), os.path.exists(journal)), (False, True))
+    left = lab.db + "-part-1790000000000000000"
+    shutil.copy(lab.path("kept.db"), left)
+    lab.fails("unavailable", "restore", "--from", left, "--db", lab.db)
+    expect("what was left of a copy", bytes_of(left), bytes_of(lab.path("kept.db")))
+    expect("the accounts behind it", account_lines(lab, lab.db), ["1", "2"])
+
+
+def renamed_meanwhile(lab, slow_lock):
+    """While a restore has its copy ready, another file gets the copy's name: it keeps its owner, its rights and its
+    bytes, and the database stays."""
+    lab.add(1)
+    lab.backs_up("kept.db")
+    lab.add(2)
+    victim = lab.write(lab.path("victim"), "for root alone")
+    os.chmod(victim, 0o600)
+    if IS_ROOT:
+        for path in (lab.db, lab.db + "-wal"):
+            os.chown(path, NOBODY, NOBODY)
+    os.chmod(lab.db, 0o640)
+    before, gate = os.stat(victim), lab.path("gate")
+    slow = subprocess.Popen([lab.program, "restore", "--from", lab.path("kept.db"), "--db", lab.db],
+                            env={**os.environ, "LD_PRELOAD": slow_lock, "LOCK_GATE": gate, "LOCK_TURN": "3"},
+                            stdin=subprocess.DEVNULL, stdout=subprocess.PIPE, stderr=subprocess.PIPE, text=True)
+    while not os.path.exists(gate):
+        expect("a restore that waits for its lock runs", slow.poll(), None)
+        time.sleep(0.01)
+    copy, = (lab.path(name) for name in os.listdir(lab.folder) if "-part-" in name and not name.endswith("-wal"))
+    os.rename(copy, lab.path("stolen"))
+    os.symlink(victim, copy)
+    os.remove(gate)
+    expect("a restore whose copy was renamed", (*slow.communicate(timeout=60), slow.returncode), ("", "fault: unavailable\n", 1))
+    after = os.stat(victim)
+    expect("whose the other file is", (after.st_uid, after.st_gid, after.st_mode), (before.st_uid, before.st_gid, before.st_mode))
+    expect("what it holds", bytes_of(victim), b"for root alone")
+    expect("the database behind it", (os.path.islink(lab.db), account_lines(lab, lab.db)), (False, ["1", "2"]))
 
 
 def restore_beside_a_start(lab, slow_lock):
@@ -400,6 +463,7 @@ def main():
     began = time.time()
     parts = [(links,), (hard_links,), (mounts,), (moved_while_serving,), (journals,), (restore_beside_a_start, slow_lock),
              (foreign_neighbours,), (foreign_texts,), (kept_owner,), (without_links, no_links), (left_copies, slow_lock)]
+    parts += [(left_beside,), (renamed_meanwhile, slow_lock)]
     for part, *more in parts:
         with tempfile.TemporaryDirectory() as folder:
             lab = Laboratory(program, folder)
