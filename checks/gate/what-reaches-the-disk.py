@@ -176,7 +176,7 @@ def emptied_meanwhile(it):
         expect("the backup", (backup.returncode, output.partition(":")[0], faults), (0, "backed up", ""))
         expect("the backup is whole", lab.run("check", "--db", to, "--keys", lab.keys)[::2], (0, ""))
         with contextlib.closing(sqlite3.connect(f"file:{to}?mode=ro&immutable=1", uri=True)) as connection:
-            there = connection.execute("SELECT count(*) FROM session WHERE ts = ?", (int(session.rpartition("/")[2]),))
+            there = connection.execute("SELECT count(*) FROM session WHERE session = ?", (int(session.rpartition("/")[2]),))
             expect("the session in the backup", there.fetchone(), (1,))
 
 
