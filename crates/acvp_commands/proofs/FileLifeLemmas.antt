@@ -24,9 +24,8 @@ use Rattle.acvp_http.specs.Left.{LeavesOneMore, LeavesRun}
 use Rattle.acvp_http.specs.Life.{AddsSeeds, GoesOver, Life, Passes, Run}
 use Rattle.acvp_http.specs.Serve.{GoesThrough, HasEffect}
 use Rattle.acvp_commands.specs.FileLife.{GoesOverFile, HasLived, Resumes}
-use Rattle.acvp_commands.specs.Reopened.{FindsClosed, FindsLeft}
+use Rattle.acvp_commands.specs.Reopened.{FindsClosed, ShowsLeft}
 use Rattle.acvp_commands.proofs.ClosedFiles.{shows_committed, was_open}
-use Rattle.acvp_commands.proofs.LeftFiles.{shows_left}
 
 -- one run more behind others
 longer : (runs : List Run) (run : Run) (first c next start : Content) → Life runs first c → GoesOver run c next → Passes run next start → Life (runs ++ run ∷ []) first start
@@ -93,11 +92,11 @@ module _ (request_kept : (keys : Keys) (m : ℕ) (r : RequestValue) (c : Content
       ]
 
       began_at : HasCleanDisk (file_state last) → (IsTrue (file_state last).is_open → stands over_files last next) → Left → (by_close : Bool) → run.closed ≡ by_close
-          → MatchBool by_close (FindsClosed last resumes.connection) (FindsLeft last resumes.connection) → ∥ Began ∥₁
+          → MatchBool by_close (FindsClosed last resumes.connection) (ShowsLeft last resumes.connection) → ∥ Began ∥₁
       began_at clean holds left true is ended =
           let up = was_open last resumes.connection ended in
           ∣ (next, inl refl, stands_closed up next (holds up) (shows_committed last resumes.connection ended)) ∣₁
-      began_at clean holds left false is given = ∥∥₁_map (shows_left last resumes.connection given) (λ may. began_left is clean left may)
+      began_at clean holds left false is shown = ∥∥₁_map shown (λ may. began_left is clean left may)
 
       began : HasCleanDisk (file_state last) → (IsTrue (file_state last).is_open → stands over_files last next) → Left → ∥ Began ∥₁
       began clean holds left = began_at clean holds left closed ended resumes.found

@@ -15,7 +15,7 @@ use Rattle.acvp_desk.specs.declared.keys.Keys.{Keys}
 use Rattle.acvp_http.specs.Event.{CanHappen, order}
 use Rattle.acvp_http.specs.Life.{Life, Run}
 use Rattle.acvp_http.specs.Serve.{GoesThrough}
-use Rattle.acvp_commands.specs.Reopened.{FindsClosed, FindsLeft}
+use Rattle.acvp_commands.specs.Reopened.{FindsClosed, ShowsLeft}
 use Rattle.acvp_commands.specs.Work.{IsNoDesk, IsNotTaken, IsTaken}
 use Rattle.acvp_commands.specs.declared.fault.Fault.{Fault}
 use Rattle.acvp_commands.specs.declared.lines.Message.{Message}
@@ -75,12 +75,12 @@ keys_of_task keys (task.Order it) = keys
 keys_of_task keys (task.Serve own service) = own
 
 module _ {D E : Type 0} {g : Ghosts D} {h : Ghosts E} where
-  -- The next run begins. An open found what the last one had closed, or had left of the file where it was given up. Its
-  -- tables were taken over, and the desk may have looked at them.
+  -- The next run begins. An open found what the last one had closed, or shows what a crash may leave of the connection
+  -- that it held. Its tables were taken over, and the desk may have looked at them.
   pub record Resumes (closed : Bool) (last : Held (FileStore D g)) (opened : Held (FileStore E h)) : Type 0 where
     pub connection : Held (FileStore E h)
     pub tables : Held (FileStore E h)
-    pub found : MatchBool closed (FindsClosed last connection) (FindsLeft last connection)
+    pub found : MatchBool closed (FindsClosed last connection) (ShowsLeft last connection)
     pub takes : TakesOver over_files connection tables
     pub looks : AreLooked tables opened
     pub is_open : IsTrue (file_state opened).is_open

@@ -23,6 +23,11 @@ module _ {D E : Type 0} {g : Ghosts D} {h : Ghosts E} where
     pub found : FindsIn image (file_state connection)
     pub opened : IsOpened connection
 
+  -- The later connection shows what a crash may leave of the earlier one, as it is held: also behind a close that
+  -- failed, since a crash has no other outcome then.
+  abbrev pub ShowsLeft : Held (FileStore D g) → Held (FileStore E h) → Type 0
+  ShowsLeft before connection = ∥ (file_state before).may_leave (file_state connection).now.trees ∥₁
+
   -- The earlier connection was given up with nothing copied, so that its store is what `into_store` says; the later one
   -- is open, and shows what it found of the files that a crash left from then on.
   pub record FindsLeft (before : Held (FileStore D g)) (connection : Held (FileStore E h)) : Type 0 where

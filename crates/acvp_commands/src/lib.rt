@@ -24,7 +24,7 @@ pub use host::{Host, Service, desk_over};
 pub use keys::{bytes_of, read_keys};
 pub use life::{
     closed_files_are_found, commands_are_runs, commands_run_over_files, files_live_on,
-    left_files_are_found, runs_follow, tables_live_on,
+    left_files_are_found,
 };
 pub use lines::Message;
 pub use numbers::{account_number, connection_count, patience_number, port_number, request_number};

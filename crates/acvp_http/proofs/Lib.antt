@@ -17,7 +17,6 @@ pub mod RequestLemmas
 pub mod LineLemmas
 pub mod KnownLemmas
 pub mod LeftLemmas
-pub mod LifeLemmas
 pub mod ReadLineLemmas
 pub mod EventLemmas
 pub mod GrammarLemmas

@@ -1,13 +1,12 @@
 -- The life of the records over several runs of the server, each of which ends by a stop or by a close. Of a stop
 -- within a turn nothing is said.
-use Rattle.std.specs.Prelude.{◌≡◌, ◌⊎◌, ℕ, ◌≤◌, List, [], ◌∷◌, ◌++◌, length, Bool, true, false, MatchBool, ⊤}
+use Rattle.std.specs.Prelude.{◌≡◌, ◌⊎◌, ℕ, ◌≤◌, List, [], ◌∷◌, ◌++◌, length, Bool, true, false, ⊤}
 use Rattle.std.specs.List.{All}
 use Rattle.acvp_tables.specs.Content.{Content}
-use Rattle.acvp_tables.specs.Meaning.{Meaning}
 use Rattle.acvp_desk.specs.Kept.{IsKept}
 use Rattle.acvp_desk.specs.declared.keys.Keys.{Keys}
 use Rattle.acvp_http.specs.Event.{EventAnswer, CanHappen, Turn}
-use Rattle.acvp_http.specs.Serve.{GoesThrough, HasEffect, Runs}
+use Rattle.acvp_http.specs.Serve.{HasEffect, Runs}
 
 -- one run of the server: its keys, its turns, their answers, and whether it ended by a close
 pub record Run : Type 0 where
@@ -23,8 +22,6 @@ AddsSeeds seeds [] = ⊤
 AddsSeeds seeds (run ∷ runs) =
     ((more : List (List ℕ)) × (run.keys.seed ≡ seeds ++ more)) × (1 ≤ length run.keys.seed)
     × AddsSeeds run.keys.seed runs
-
--- ---- over records
 
 -- The records after the turns of a run are there when the next one begins. Or, where it was stopped, those with the
 -- effect of one event more, which was unavailable.
@@ -47,25 +44,3 @@ abbrev pub Life : List Run → Content → Content → Type 0
 Life [] old new = new ≡ old
 Life (run ∷ runs) old new =
     (next : Content) × (start : Content) × GoesOver run old next × Passes run next start × Life runs start new
-
--- ---- over tables
-
-module _ {T : Type 0} (meaning : Meaning T) where
-  open meaning use {stands, is_open, is_clean, leaves}
-
-  -- an open has found what a crash left of other tables, and it was taken over
-  abbrev pub Reopens : T → T → Type 0
-  Reopens old new = is_open new × ((c d : Content) → leaves old c d → stands new c ⊎ stands new d)
-
-  -- an open has found what a close left of other tables, and it was taken over
-  abbrev pub GoesOn : T → T → Type 0
-  GoesOn old new = is_open old × is_open new × ((c : Content) → stands old c → stands new c)
-
-  -- The tables went through the runs, each from what was opened after the one before, which ended by a crash or by a
-  -- close, while the disk was clean.
-  abbrev pub Lives : List Run → T → T → Type 0
-  Lives [] old new = new ≡ old
-  Lives (run ∷ runs) old new =
-      (last : T) × (opened : T) × GoesThrough meaning run.keys run.turns run.answers old last × is_clean last
-      × All (λ turn. CanHappen turn.event) run.turns × MatchBool run.closed (GoesOn last opened) (Reopens last opened)
-      × Lives runs opened new
