@@ -3,12 +3,13 @@ use Rattle.std.specs.Prelude.{◌≡◌, ◌≢◌, ◌⊎◌, ◌≤◌, ◌<�
 use Rattle.std.specs.Prelude.{None, Some, Result, Ok, Err, ⊤}
 use Rattle.std.specs.Io.KnownBytes.{IsAtEnd}
 use Rattle.acvp_desk.specs.declared.keys.Keys.{Keys}
+use Rattle.acvp_tables.specs.Content.{Content, no_rows}
 use Rattle.acvp_tables.specs.Meaning.{Meaning}
 use Rattle.acvp_http.specs.declared.script.ScriptFault.{ScriptFault}
 use Rattle.acvp_http.specs.declared.script.ScriptFault.TheVariants.{Read, Write, Syntax, Limit, Memory}
 use Rattle.acvp_http.specs.Event.{Event, EventAnswer, Turn}
 use Rattle.acvp_http.specs.Left.{LeavesRun}
-use Rattle.acvp_http.specs.Promise.{GoesAsPromised}
+use Rattle.acvp_http.specs.Promise.{GoesAsPromised, IsPromised}
 use Rattle.acvp_http.specs.Script.{IsScript, HasNoEvent, LeavesGrammar, answer_text, output_of}
 use Rattle.acvp_http.specs.Serve.{GoesThrough}
 use Rattle.acvp_http.specs.Source.{InputStream, OutputStream, Gives, Gets, ReadsTooOften}
@@ -87,6 +88,15 @@ module _ {T : Type 0} (meaning : Meaning T) where
       × GoesThrough meaning keys turns answers tables last × IsScript (events_of turns) text
       × StopsAfter input left turns text result × WritesAnswers old new answers result
       × (length turns ≤ most_events)
+
+-- Over no row at all: the input begins with the script of some turns, whose answers are written, and of these turns,
+-- answers and the records that they leave all is promised.
+abbrev pub RunsFromNothing : Keys → InputStream → InputStream → OutputStream → OutputStream → Result ℕ ScriptFault
+    → Type 0
+RunsFromNothing keys input left old new result =
+    (turns : List Turn) × (answers : List EventAnswer) × (text : List ℕ) × (next : Content)
+    × IsPromised keys turns answers no_rows next × IsScript (events_of turns) text
+    × StopsAfter input left turns text result × WritesAnswers old new answers result × (length turns ≤ most_events)
 
 -- whether the answer is that the reader, or the writer, has failed
 abbrev pub is_read_answer : Result ℕ ScriptFault → Bool
