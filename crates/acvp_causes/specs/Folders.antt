@@ -1,6 +1,6 @@
 -- The folder that a path leads into, and the name there.
-use Rattle.std.specs.Prelude.{◌==◌, ℕ, Bool, List, [], codes, if◌then◌else◌}
-use Rattle.std.specs.List.{after_last, before_last, list_any}
+use Rattle.std.specs.Prelude.{◌==◌, ◌||◌, ℕ, Bool, List, [], codes, if◌then◌else◌}
+use Rattle.std.specs.List.{after_last, before_last, ends_with, list_any}
 
 abbrev pub is_slash : ℕ → Bool
 is_slash byte = byte == 47
@@ -17,3 +17,12 @@ folder_of path = if list_any is_slash path then or_root (before_last is_slash pa
 -- what stands behind the last slash, and without one the whole
 abbrev pub last_of : List ℕ → List ℕ
 last_of path = after_last is_slash path
+
+abbrev pub ends : List ℕ → List ℕ → Bool
+ends path name = ends_with (λ a b. a == b) path name
+
+-- a path that ends as that of a database's log, of sqlite3's shared memory and journal, or of the socket of orders
+abbrev pub is_companion : List ℕ → Bool
+is_companion path =
+    ends path (codes "-wal") || ends path (codes "-shm")
+    || ends path (codes "-journal") || ends path (codes "-orders")

@@ -36,6 +36,18 @@ pub enum Cause {
     /// Another user, of this number, has made the file.
     Owner(u32),
 
+    /// Another user, of this number, has made the database.
+    Planted(u32),
+
+    /// Another user, of this number, has made the link to the file.
+    Link(u32),
+
+    /// The file has the name of one that lies beside a database.
+    Companion,
+
+    /// The file is a copy that a killed command may have left.
+    Left,
+
     /// Others may do more with the file than with the database.
     Open,
 
@@ -66,8 +78,14 @@ pub enum Cause {
     /// A server that has the file carried the order out, and its store refused something there.
     Relayed,
 
-    /// A copy couldn't be read or written.
+    /// The file can't be copied.
     Copy,
+
+    /// What was copied is damaged.
+    Damaged,
+
+    /// The copy is whole, and can't be put in its place.
+    Unplaced,
 
     /// The text in the file is of another form.
     Text(TextFault),
@@ -106,6 +124,20 @@ impl fmt::Display for Cause {
                 f,
                 "it belongs to user {user}, not to root, the database's owner or the user of the command"
             ),
+            Cause::Planted(user) => write!(
+                f,
+                "it belongs to user {user}, not to root, its folder's owner or the user of the command"
+            ),
+            Cause::Link(user) => write!(
+                f,
+                "it is a link of user {user}, not of root, the owner of what it leads to or the user of the command"
+            ),
+            Cause::Companion => f.write_str(
+                "its name is that of a file beside a database (-wal, -shm, -journal, -orders)",
+            ),
+            Cause::Left => f.write_str(
+                "it is a copy that a killed command may have left: copy it to another name, if it is whole",
+            ),
             Cause::Open => f.write_str(
                 "others may read or write it, who may not with the database",
             ),
@@ -128,8 +160,10 @@ impl fmt::Display for Cause {
                 "its server's store refused a statement, or met a page or a row that stands for nothing",
             ),
             Cause::Copy => f.write_str(
-                "the copy can't be read or written, or has a page that stands for nothing",
+                "it can't be copied: reading it, or writing the copy, fails (a full disk)",
             ),
+            Cause::Damaged => f.write_str("a page of it is damaged, or it can't be opened"),
+            Cause::Unplaced => f.write_str("the copy is whole, and can't be put there"),
             Cause::Text(fault) => write!(f, "{fault}"),
             Cause::Good => f.write_str("it can be read now"),
             Cause::NoSeed => f.write_str("a vector set names a seed that isn't in it"),

@@ -12,8 +12,8 @@ mod texts;
 
 pub use begins::{LOG_HEADER, header_of, is_database, is_foreign};
 pub use cause::{Because, Cause, Place};
-pub use names::name_of;
-pub use owners::{OF_OTHERS, cause_of_maker};
+pub use names::{is_companion, name_of, why_unnamed};
+pub use owners::{OF_OTHERS, cause_of_maker, own_text};
 pub use places::{
     EMPTY_LOG, are_there, cause_of_database, cause_of_error, cause_of_files, cause_of_folder,
     cause_of_source, folder_of, has_journal, has_log, has_sums, holds_any, is_moved, last_of,

@@ -1,7 +1,11 @@
 //! The name of a database: beside it lie the log, the socket of orders and the copies that are made.
 ghost use Rattle.std.specs.Prelude.{◌≡◌, ◌≢◌, IfErr, IfOk, IsErr, None, Some};
 ghost use Rattle.std.specs.IoError.{error_kind};
+ghost use Rattle.acvp_causes.specs.Folders.{is_companion};
 
+use crate::cause::Cause;
+use crate::owners::cause_of_link;
+use crate::places::cause_of_error;
 use std::alloc::{AllocError, AllocGlobal, Global};
 use std::fs;
 use std::io::{self, ErrorKind};
@@ -10,7 +14,8 @@ use std::io::{self, ErrorKind};
 const MOUNTS: &str = "/proc/self/mountinfo";
 
 /// The name under which the database at a path is opened: where the path leads, if its last part is a link, and else
-/// the path as it is. The error of a link that leads nowhere is NotFound.
+/// the path as it is. The error of a link that leads nowhere is NotFound, and of a link that another user has made
+/// PermissionDenied.
 pub fn name_of(rt: &HostRuntime, path: &str) -> io::Result<String> {
     let is_link = match fs::symlink_metadata(rt, path) {
         Ok(there) => there.is_symlink(),
@@ -19,9 +24,31 @@ pub fn name_of(rt: &HostRuntime, path: &str) -> io::Result<String> {
     };
     if is_link {
         let real = fs::canonicalize(rt, path)?;
+        if cause_of_link(rt, path).is_some() {
+            return Err(ErrorKind::PermissionDenied.into());
+        }
         return Ok(String::from_str(rt.alloc(), real.as_str())?);
     }
     Ok(String::from_str(rt.alloc(), path)?)
+}
+
+/// Why a path has no name, by the error.
+pub fn why_unnamed(rt: &HostRuntime, path: &str, error: io::Error) -> Cause {
+    match cause_of_link(rt, path) {
+        Some(cause) => cause,
+        None => cause_of_error(error),
+    }
+}
+
+/// Whether a path ends as that of a file that lies beside a database.
+pub fn is_companion(path: &str) -> bool
+    ensures { result ≡ is_companion path.now }
+{
+    let name = path.as_bytes();
+    name.ends_with(b"-wal")
+        || name.ends_with(b"-shm")
+        || name.ends_with(b"-journal")
+        || name.ends_with(b"-orders")
 }
 
 /// How the table of mounts writes a character that would end a field: by its octal number.

@@ -1,15 +1,13 @@
-//! Whose the files are that a command takes beside what it is told to take, and who else may use them.
+//! Whose the files are that a command takes, and who else may use them.
 ghost use Rattle.std.specs.Prelude.{◌≡◌};
 ghost use Rattle.acvp_causes.specs.Owners.{gives_more, is_of, may_own};
 
 use crate::cause::Cause;
-use crate::places::cause_of_error;
-use std::fs::{self, Metadata};
-use std::io::ErrorKind;
+use crate::places::{cause_of_error, folder_of};
+use std::alloc::AllocGlobal;
+use std::fs::{self, File, Metadata};
+use std::io::{self, ErrorKind, Read};
 use std::os::unix::fs::MetadataExt;
-
-/// What the system tells of the process that asks (proc_pid(5)). Its owner is the user that the process acts as.
-const THIS_PROCESS: &str = "/proc/self";
 
 /// The bits of a file's mode by which others than its owner read and write it.
 pub const OF_OTHERS: u32 = 0o066;
@@ -17,25 +15,22 @@ pub const OF_OTHERS: u32 = 0o066;
 /// The mode of a file that is for its owner alone.
 const PRIVATE: u32 = 0o600;
 
-/// Whether an owner is a user, if that is known.
-fn is_of(owner: u32, user: Option<u32>) -> bool
-    ensures { result ≡ is_of owner user }
+/// Whether an owner is this one, if there is one.
+fn is_of(owner: u32, other: Option<u32>) -> bool
+    ensures { result ≡ is_of owner other }
 {
-    match user {
-        Some(user) => owner == user,
+    match other {
+        Some(other) => owner == other,
         None => false,
     }
 }
 
-/// Whether a file of this owner is taken: it is of root, of the user that the command runs as, or of the owner of the
-/// database. If the system doesn't tell the user, each is.
-fn may_own(owner: u32, user: Option<u32>, database: Option<u32>) -> bool
-    ensures { result ≡ may_own owner user database }
+/// Whether a file of this owner is taken: it is of root, of the user that the command runs as, or of the owner of what
+/// the command was told to take.
+fn may_own(owner: u32, user: u32, other: Option<u32>) -> bool
+    ensures { result ≡ may_own owner user other }
 {
-    match user {
-        Some(user) => owner == 0 || owner == user || is_of(owner, database),
-        None => true,
-    }
+    owner == 0 || owner == user || is_of(owner, other)
 }
 
 /// Whether a mode lets others read or write what another mode doesn't.
@@ -45,53 +40,88 @@ fn gives_more(mode: u32, bound: u32) -> bool
     mode & OF_OTHERS & bound != mode & OF_OTHERS
 }
 
-/// The user that this command runs as.
-fn user(rt: &HostRuntime) -> Option<u32> {
-    match fs::metadata(rt, THIS_PROCESS) {
-        Ok(process) => Some(process.uid()),
+/// Whether what the command was told to take, with this owner if it has one, makes it take this file too.
+fn is_taken(there: &Metadata, other: Option<u32>) -> bool {
+    may_own(there.uid(), libc::geteuid(), other)
+}
+
+/// The owner of what a path leads to, if it can be looked at.
+fn owner_at(rt: &HostRuntime, path: &str) -> Option<u32> {
+    match fs::metadata(rt, path) {
+        Ok(there) => Some(there.uid()),
         Err(_) => None,
     }
 }
 
-/// Why a file isn't taken whose owner is somebody else.
-fn cause_of_owner(
-    rt: &HostRuntime,
-    there: &Metadata,
-    database: Option<&Metadata>,
-) -> Option<Cause> {
-    let of_database = match database {
-        Some(database) => Some(database.uid()),
+/// The owner of a database, if there is one.
+fn owner_of(rt: &HostRuntime, database: Option<&str>) -> Option<u32> {
+    match database {
+        Some(database) => owner_at(rt, database),
         None => None,
-    };
-    if may_own(there.uid(), user(rt), of_database) {
-        None
-    } else {
-        Some(Cause::Owner(there.uid()))
     }
 }
 
-/// Why a file isn't taken that goes with the database at a path.
-fn cause_beside(rt: &HostRuntime, there: &Metadata, database: &str) -> Option<Cause> {
-    match fs::metadata(rt, database) {
-        Ok(database) => cause_of_owner(rt, there, Some(&database)),
-        Err(_) => cause_of_owner(rt, there, None),
+/// Why a path isn't followed: it is a link of another user.
+fn cause_of_link_to(rt: &HostRuntime, path: &str, other: Option<u32>) -> Option<Cause> {
+    match fs::symlink_metadata(rt, path) {
+        Ok(there) if there.is_symlink() && !is_taken(&there, other) => {
+            Some(Cause::Link(there.uid()))
+        }
+        _ => None,
     }
 }
 
-/// Why a file of keys or of a secret isn't taken, for a database or for none: it belongs to another user. What can't be
-/// looked at, its reader tells.
+/// Why a path isn't followed: it is a link of somebody else than root, the user of the command or the owner of what it
+/// leads to.
+pub(crate) fn cause_of_link(rt: &HostRuntime, path: &str) -> Option<Cause> {
+    cause_of_link_to(rt, path, owner_at(rt, path))
+}
+
+/// Why the file of a database isn't opened: it belongs to somebody else than root, the user of the command or the owner
+/// of its folder.
+pub(crate) fn cause_of_planted(rt: &HostRuntime, path: &str) -> Option<Cause> {
+    match fs::symlink_metadata(rt, path) {
+        Ok(there) if !is_taken(&there, owner_at(rt, folder_of(path))) => {
+            Some(Cause::Planted(there.uid()))
+        }
+        _ => None,
+    }
+}
+
+/// Why a file of keys or of a secret isn't taken, for a database or for none: it, or the link to it, belongs to another
+/// user. What can't be looked at, its reader tells.
 pub fn cause_of_maker(rt: &HostRuntime, path: &str, database: Option<&str>) -> Option<Cause> {
-    match (fs::metadata(rt, path), database) {
-        (Ok(there), Some(database)) => cause_beside(rt, &there, database),
-        (Ok(there), None) => cause_of_owner(rt, &there, None),
-        (Err(_), _) => None,
+    let other = owner_of(rt, database);
+    if let Some(cause) = cause_of_link_to(rt, path, other) {
+        return Some(cause);
     }
+    match fs::metadata(rt, path) {
+        Ok(there) if !is_taken(&there, other) => Some(Cause::Owner(there.uid())),
+        _ => None,
+    }
+}
+
+/// What a file of keys or of a secret holds, for a database or for none. If it, or the link to it, belongs to another
+/// user, that is PermissionDenied. Whose it is, is asked of the open file: one that is put there meanwhile isn't read.
+pub fn own_text(rt: &HostRuntime, path: &str, database: Option<&str>) -> io::Result<Vec<u8>> {
+    let other = owner_of(rt, database);
+    if cause_of_link_to(rt, path, other).is_some() {
+        return Err(ErrorKind::PermissionDenied.into());
+    }
+    let mut file = File::open(rt, path)?;
+    if !is_taken(&file.metadata()?, other) {
+        return Err(ErrorKind::PermissionDenied.into());
+    }
+    let mut text = Vec::new(rt.alloc());
+    file.read_to_end(&mut text)?;
+    Ok(text)
 }
 
 /// Why what lies beside a database isn't taken: it belongs to another user.
 pub(crate) fn cause_of_neighbour(rt: &HostRuntime, database: &str, path: &str) -> Option<Cause> {
     match fs::symlink_metadata(rt, path) {
-        Ok(there) => cause_beside(rt, &there, database),
+        Ok(there) if is_taken(&there, owner_at(rt, database)) => None,
+        Ok(there) => Some(Cause::Owner(there.uid())),
         Err(error) if error.kind() == ErrorKind::NotFound => None,
         Err(error) => Some(cause_of_error(error)),
     }

@@ -8,20 +8,14 @@ ghost use Rattle.acvp_causes.specs.Pages.{bytes_told};
 
 use crate::begins::{begin_of, is_foreign};
 use crate::cause::{Because, Cause, Place};
-use crate::holders::is_locked;
-use crate::names::{is_mounted, name_of};
-use crate::owners::{cause_of_log_access, cause_of_neighbour};
+use crate::holders::{is_held, is_locked};
+use crate::names::{is_companion, is_mounted, name_of, why_unnamed};
+use crate::owners::{cause_of_log_access, cause_of_neighbour, cause_of_planted};
 use crate::pages::{self, HEADER, bytes_told, has_tables};
 use std::alloc::{AllocError, AllocGlobal, Global};
 use std::fs::{self, File, Files, Metadata, OpenOptions};
 use std::io::{self, ErrorKind};
-use std::os::fd::AsRawFd;
 use std::os::unix::fs::MetadataExt;
-
-/// The bytes that SQLite locks, from the first on.
-const LOCK_START: u64 = 1 << 30;
-
-const LOCK_BYTES: u64 = 512;
 
 /// The most bytes of a log that holds nothing.
 pub const EMPTY_LOG: u64 = 41;
@@ -120,23 +114,13 @@ fn cause_where(is_so: Result<bool, AllocError>, cause: Cause) -> Option<Cause>
     }
 }
 
-/// Whether another process has an open file locked. The lock that is tried ends with the file's close.
-fn is_held(file: &File) -> bool {
-    os::try_lock_range(
-        file.as_raw_fd(),
-        os::RangeLock::Exclusive,
-        LOCK_START,
-        LOCK_BYTES,
-    ) != 0
-}
-
 /// Why a file can't be had alone.
 fn cause_of_hold(rt: &HostRuntime, path: &str) -> Option<Cause> {
     if let Some(cause) = cause_of_name(rt, path) {
         return Some(cause);
     }
     match OpenOptions::new().read(true).write(true).open(rt, path) {
-        Ok(file) if is_held(&file) => Some(Cause::Held),
+        Ok(file) if is_held(&file, os::RangeLock::Exclusive) => Some(Cause::Held),
         Ok(_) => None,
         Err(error) => Some(cause_of_error(error)),
     }
@@ -211,10 +195,27 @@ fn cause_of_neighbours(rt: &HostRuntime, option: &'static str, db: &str) -> Opti
     }
 }
 
-/// Why the files of a database's name aren't taken, whoever has them: the database, if it is there, is no file of one
-/// name or is mounted by itself, or what lies beside it isn't taken.
+/// Why a name isn't taken for that of a database's file, whether it is there or not: it is that of a file that lies
+/// beside one, or of no file of one name, or the file is mounted by itself.
+fn cause_of_database_name(rt: &HostRuntime, db: &str) -> Option<Cause> {
+    if is_companion(db) {
+        return Some(Cause::Companion);
+    }
+    cause_of_name(rt, db)
+}
+
+/// Why the file of a database's name isn't taken, if it is there: by its name, or since another user has made it.
+fn cause_of_database_file(rt: &HostRuntime, db: &str) -> Option<Cause> {
+    match unless_missing(cause_of_database_name(rt, db)) {
+        None => cause_of_planted(rt, db),
+        cause => cause,
+    }
+}
+
+/// Why the files of a database's name aren't taken, whoever has them: the database, if it is there, or what lies beside
+/// it.
 pub fn cause_of_files(rt: &HostRuntime, option: &'static str, db: &str) -> Option<Because> {
-    match unless_missing(cause_of_name(rt, db)) {
+    match cause_of_database_file(rt, db) {
         Some(cause) => Some(Because::of(option, cause)),
         None => cause_of_neighbours(rt, option, db),
     }
@@ -277,6 +278,9 @@ fn cause_of_held_log(rt: &HostRuntime, path: &str) -> Option<Cause> {
 
 /// Why a database can't be opened, as can be seen at its file.
 fn cause_of_file(rt: &HostRuntime, path: &str) -> Option<Cause> {
+    if let Some(cause) = cause_of_database_file(rt, path) {
+        return Some(cause);
+    }
     match cause_of_hold(rt, path) {
         None => cause_where(has_journal(rt, path), Cause::Journal),
         cause => cause,
@@ -288,7 +292,7 @@ pub fn cause_of_database(rt: &HostRuntime, db: &str) -> Option<Because> {
     let option = "--db";
     let name = match name_of(rt, db) {
         Ok(name) => name,
-        Err(error) => return Some(Because::of(option, cause_of_error(error))),
+        Err(error) => return Some(Because::of(option, why_unnamed(rt, db, error))),
     };
     let path = name.as_str();
     if let Some(cause) = cause_of_file(rt, path) {
@@ -322,7 +326,7 @@ pub fn cause_of_folder(rt: &HostRuntime, path: &str) -> Option<Cause> {
 /// Whether somebody has the file of a name locked. One that isn't there is locked by nobody.
 fn is_held_by_any(rt: &HostRuntime, path: &str) -> Result<bool, AllocError> {
     match fs::symlink_metadata(rt, path) {
-        Ok(there) => is_locked(rt, &there),
+        Ok(there) => is_locked(rt, path, &there),
         Err(_) => Ok(false),
     }
 }
@@ -335,7 +339,7 @@ pub fn is_moved(rt: &HostRuntime, path: &str, log: &str) -> Result<bool, AllocEr
 
 /// What is wrong with the file that a database is to be copied from, whoever has it.
 fn cause_of_copied_file(rt: &HostRuntime, path: &str) -> Option<Cause> {
-    match cause_of_name(rt, path) {
+    match cause_of_database_name(rt, path) {
         None => match File::open(rt, path) {
             Ok(_) => cause_where(has_journal(rt, path), Cause::Journal),
             Err(error) => Some(cause_of_error(error)),

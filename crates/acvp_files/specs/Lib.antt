@@ -1,3 +1,4 @@
+pub mod Connections
 pub mod Copies
 pub mod Faults
 pub mod Parts

@@ -1,11 +1,16 @@
 //! Backups of a database, and the way back from one.
 use crate::connection::copied;
-use crate::copies::{connection_to, connection_to_copy, merge, with_tables};
-use crate::fault::{FileFault, done, refused};
+use crate::copies::{connection_to, connection_to_part, copy_into, merge, with_tables};
+use crate::fault::{CopyFault, FileFault, Step, at, done, refused};
 use crate::parts::{Pair, Part, Use, give_up, is_copy, make_new, new_copy, pair_at, remove};
 use crate::rows::count_rows;
 use crate::sums::copy_with_sums;
-use acvp_causes::{folder_of, has_journal, has_log, has_sums, holds_any, is_database, last_of};
+use acvp_causes::{
+    folder_of, has_journal, has_log, has_sums, holds_any, is_companion, is_database, last_of,
+    name_of,
+};
+use sqlite::{Alter, Connection, FileStore};
+use sqlite_disk::Disk;
 use std::alloc::{AllocError, AllocGlobal, Global};
 use std::fs::{self, File};
 use std::io::{self, ErrorKind};
@@ -24,16 +29,71 @@ fn is_taken(rt: &HostRuntime, path: &str) -> Result<bool, FileFault> {
     Ok(done(is_there(rt, path))? || has_log(rt, path) || has_journal(rt, path)?)
 }
 
-/// Makes one whole file of the database of a name, beside where it is to be, and says how many rows it has. If it is
-/// to be served, its tables must be those of this version.
-fn make_part(rt: &HostRuntime, from: &str, part: &Part, is_served: bool) -> Result<u64, FileFault> {
-    let mut connection = connection_to_copy(rt, from, part)?;
-    if is_served {
-        connection = with_tables(rt.alloc(), connection)?;
+/// Refuses a path that a new database can't have: it is taken, or that of a file that lies beside a database.
+fn may_be_made(rt: &HostRuntime, path: &str) -> Result<(), FileFault> {
+    if is_companion(path) || is_copy(path) {
+        return Err(FileFault::Unavailable);
     }
-    let count = count_rows(rt.alloc(), &mut connection)?;
-    merge(rt, &part.pair, connection)?;
-    Ok(count)
+    if is_taken(rt, path)? {
+        return Err(FileFault::Taken);
+    }
+    Ok(())
+}
+
+/// Takes over tables that are to be served, which must be those of this version.
+fn if_known<S: Alter + Drop>(
+    alloc: Global,
+    connection: Connection<S>,
+    is_served: bool,
+) -> Result<Connection<S>, FileFault> {
+    if is_served {
+        with_tables(alloc, connection)
+    } else {
+        Ok(connection)
+    }
+}
+
+/// Has all that a copy's database and its log hold in the file alone, and says how many rows it has.
+fn merge_counted<D: Disk + Drop>(
+    rt: &HostRuntime,
+    mut connection: Connection<FileStore<D>>,
+    part: &Part,
+) -> Result<u64, FileFault> {
+    match count_rows(rt.alloc(), &mut connection) {
+        Ok(count) => match merge(rt, part, connection) {
+            Ok(()) => Ok(count),
+            Err(fault) => Err(fault),
+        },
+        Err(fault) => Err(fault),
+    }
+}
+
+/// Has all that a copy's database and its log hold in the file alone, and says how many rows it has. If it is to be
+/// served, its tables must be those of this version.
+fn finish<D: Disk + Drop>(
+    rt: &HostRuntime,
+    connection: Connection<FileStore<D>>,
+    part: &Part,
+    is_served: bool,
+) -> Result<u64, FileFault> {
+    match if_known(rt.alloc(), connection, is_served) {
+        Ok(known) => merge_counted(rt, known, part),
+        Err(fault) => Err(fault),
+    }
+}
+
+/// Makes one whole file of a copy and its log, and says how many rows it has.
+fn finish_part(rt: &HostRuntime, part: &Part, is_served: bool) -> Result<u64, FileFault> {
+    match connection_to_part(rt, part) {
+        Ok(connection) => finish(rt, connection, part, is_served),
+        Err(fault) => Err(fault),
+    }
+}
+
+/// Makes one whole file of the database of a name, beside where it is to be, and says how many rows it has.
+fn make_part(rt: &HostRuntime, from: &str, part: &Part, is_served: bool) -> Result<u64, CopyFault> {
+    copy_into(rt, from, part)?;
+    at(Step::Content, finish_part(rt, part, is_served))
 }
 
 /// Has the names in the folder of a path kept by the disk.
@@ -61,6 +121,7 @@ fn rename_new(rt: &HostRuntime, file: &str, to: &str) -> io::Result<()> {
 
 /// Gives a copy its name, if no file has it. Some file systems know no second names.
 fn name_new(rt: &HostRuntime, part: &Part, to: &str) -> Result<(), FileFault> {
+    done(part.is_still_named(rt))?;
     let file = part.pair.file.as_str();
     let named = match link_new(rt, file, to) {
         Err(error)
@@ -83,32 +144,40 @@ fn base_for(alloc: Global, database: &str, to: &str) -> Result<String, AllocErro
     format!(in alloc; "{}/{}", folder_of(to), last_of(database))
 }
 
-/// Makes a copy of the database of a name, whole, also while it is served, and says how many rows it has. Another file
-/// isn't written over.
-pub fn backup(rt: &HostRuntime, database: &str, to: &str) -> Result<u64, FileFault> {
-    if is_taken(rt, to)? {
-        return Err(FileFault::Taken);
-    }
+/// The empty files of the copy of a database that is to have a path.
+fn new_part(rt: &HostRuntime, database: &str, to: &str) -> Result<Part, FileFault> {
+    may_be_made(rt, to)?;
     let base = base_for(rt.alloc(), database, to)?;
-    let part = new_copy(rt, base.as_str(), Use::Part)?;
-    let outcome = match make_part(rt, database, &part, false) {
-        Ok(count) => match name_new(rt, &part, to) {
-            Ok(()) => Ok(count),
-            Err(fault) => Err(fault),
-        },
-        Err(fault) => Err(fault),
-    };
+    new_copy(rt, base.as_str(), Use::Part)
+}
+
+/// Makes a whole copy of the database of a name, and gives it a path that no file has.
+fn back_up(rt: &HostRuntime, database: &str, part: &Part, to: &str) -> Result<u64, CopyFault> {
+    let count = make_part(rt, database, part, false)?;
+    at(Step::Target, name_new(rt, part, to))?;
+    Ok(count)
+}
+
+/// Makes a copy of the database of a name, whole, and says how many rows it has.
+fn backup_of(rt: &HostRuntime, database: &str, to: &str) -> Result<u64, CopyFault> {
+    let part = at(Step::Target, new_part(rt, database, to))?;
+    let outcome = back_up(rt, database, &part, to);
     give_up(rt, &part);
     outcome
+}
+
+/// Makes a copy of the database at a path, whole, also while it is served, and says how many rows it has. Another file
+/// isn't written over.
+pub fn backup(rt: &HostRuntime, database: &str, to: &str) -> Result<u64, CopyFault> {
+    let name = at(Step::Source, done(name_of(rt, database)))?;
+    backup_of(rt, name.as_str(), to)
 }
 
 /// Puts a copy in the place of a database whose log holds nothing.
 fn put_in_place(rt: &HostRuntime, part: &Part, database: &Pair) -> io::Result<()> {
     let path = database.file.as_str();
     part.keep_access(&fs::symlink_metadata(rt, path)?)?;
-    if !part.is_named(rt)? {
-        return Err(ErrorKind::NotFound.into());
-    }
+    part.is_still_named(rt)?;
     // The log goes first: it isn't one of the copy's.
     remove(rt, database.log.as_str())?;
     fs::rename(rt, part.pair.file.as_str(), path)?;
@@ -179,18 +248,36 @@ fn put_back(rt: &HostRuntime, part: &Part, database: &str, rows: u64) -> Result<
     }
 }
 
-/// Puts the copy of a backup in the place of the database of a name, whole or not at all. Its pages have sums then,
-/// also where those of the backup have none.
-pub fn restore(rt: &HostRuntime, backup: &str, database: &str) -> Result<(), FileFault> {
-    // A copy that was left may be half of one, and the next copy takes it away.
-    if is_copy(backup) {
-        return Err(FileFault::Unavailable);
-    }
-    let part = new_copy(rt, database, Use::Part)?;
-    let outcome = match make_part(rt, backup, &part, true) {
-        Ok(rows) => put_back(rt, &part, database, rows),
-        Err(fault) => Err(fault),
-    };
+/// Makes a whole copy of the backup of a name, and puts it in the place of a database.
+fn bring_back(
+    rt: &HostRuntime,
+    backup: &str,
+    part: &Part,
+    database: &str,
+) -> Result<(), CopyFault> {
+    let rows = make_part(rt, backup, part, true)?;
+    at(Step::Target, put_back(rt, part, database, rows))
+}
+
+/// Puts the copy of a backup in the place of a database, by their names.
+fn restore_named(rt: &HostRuntime, backup: &str, database: &str) -> Result<(), CopyFault> {
+    let part = at(Step::Target, new_copy(rt, database, Use::Part))?;
+    let outcome = bring_back(rt, backup, &part, database);
     give_up(rt, &part);
     outcome
+}
+
+/// Puts the copy of the backup at a path in the place of the database at another, whole or not at all. Its pages have
+/// sums then, also where those of the backup have none.
+pub fn restore(rt: &HostRuntime, backup: &str, database: &str) -> Result<(), CopyFault> {
+    let from = at(Step::Source, done(name_of(rt, backup)))?;
+    let to = at(Step::Target, done(name_of(rt, database)))?;
+    // A copy that was left may be half of one, and the next copy takes it away.
+    if is_copy(from.as_str()) {
+        return at(Step::Source, Err(FileFault::Unavailable));
+    }
+    if is_companion(to.as_str()) || is_copy(to.as_str()) {
+        return at(Step::Target, Err(FileFault::Unavailable));
+    }
+    restore_named(rt, from.as_str(), to.as_str())
 }

@@ -1,20 +1,18 @@
 //! Connections to the database in a file.
-ghost use Rattle.std.specs.Prelude.{◌≡◌, IfNone, IfOk, IfSome, IsErr, codes, true};
+ghost use Rattle.std.specs.Prelude.{◌≡◌, IfNone, IfOk, IfSome, IsErr, codes};
 ghost use Rattle.std.specs.Result.{result_ok};
 ghost use Rattle.sqlite.specs.Closing.{IsCopied};
-ghost use Rattle.sqlite.specs.Files.{IsBlankAs, IsClosed, file_state};
-ghost use Rattle.sqlite.specs.Held.{IsNew};
-ghost use Rattle.sqlite.specs.Start.{FindsIn};
-ghost use Rattle.sqlite.specs.State.{HasCleanDisk};
-ghost use Rattle.sqlite_store.specs.FileStore.{view};
+ghost use Rattle.sqlite.specs.Files.{IsClosed};
 ghost use Rattle.sqlite_wal.specs.Files.{image_at};
 ghost use Rattle.sqlite_wal.specs.Reads.{AreClean};
+ghost use Rattle.acvp_files.specs.Connections.{IsConnected};
 ghost use Rattle.acvp_files.specs.Faults.{fault_of_open, why_unopened};
 
 use crate::fault::{FileFault, fault_of_cause, refused};
 use crate::number::{FileNumber, file_at};
+use crate::parts::{is_copy, settle_names};
 use crate::privacy::{has_no_log, make_private};
-use acvp_causes::{cause_of_files, has_log, is_foreign};
+use acvp_causes::{cause_of_files, has_log, is_companion, is_foreign};
 use sqlite::{Connection, Error, ErrorCode, FileFrom, FileStore, Files, Start};
 use sqlite_disk::Disk;
 use std::fs;
@@ -55,10 +53,7 @@ fn why_unopened(error: Error) -> Unopened
 /// A connection to the database in a file, which is made where there is none. The pages of a new one have sums.
 fn connect<S: Start>(rt: &HostRuntime, path: &str, start: S) -> Result<FileConnection<S>, Unopened>
     ensures memory { path.now ≡ codes ":memory:" → IsErr result }
-    ensures fresh { IfOk result IsNew }
-    ensures found { IfOk result (λ c. HasCleanDisk (file_state c) → FindsIn (image_at S.Start) (file_state c)) }
-    ensures sums { IfOk result (λ c. HasCleanDisk (file_state c) → IsBlankAs true (image_at S.Start)
-        → (view c.store).has_sums ≡ true) }
+    ensures connected { IfOk result (IsConnected (image_at S.Start)) }
 {
     match Connection::open_from(rt, path, true, start) {
         Ok(connection) => Ok(connection),
@@ -92,10 +87,7 @@ fn connect_held<S: Start>(
     start: S,
 ) -> Result<FileConnection<S>, Unopened>
     ensures memory { path.now ≡ codes ":memory:" → IsErr result }
-    ensures fresh { IfOk result IsNew }
-    ensures found { IfOk result (λ c. HasCleanDisk (file_state c) → FindsIn (image_at S.Start) (file_state c)) }
-    ensures sums { IfOk result (λ c. HasCleanDisk (file_state c) → IsBlankAs true (image_at S.Start)
-        → (view c.store).has_sums ≡ true) }
+    ensures connected { IfOk result (IsConnected (image_at S.Start)) }
 {
     let file = match file_at(rt, path) {
         Ok(file) => file,
@@ -116,11 +108,9 @@ fn connect_known<S: Start>(
     start: S,
 ) -> Result<FileConnection<S>, Unopened>
     ensures memory { path.now ≡ codes ":memory:" → IsErr result }
-    ensures fresh { IfOk result IsNew }
-    ensures found { IfOk result (λ c. HasCleanDisk (file_state c) → FindsIn (image_at S.Start) (file_state c)) }
-    ensures sums { IfOk result (λ c. HasCleanDisk (file_state c) → IsBlankAs true (image_at S.Start)
-        → (view c.store).has_sums ≡ true) }
+    ensures connected { IfOk result (IsConnected (image_at S.Start)) }
 {
+    settle_names(rt, path);
     if let Err(fault) = may_be_taken(rt, path) {
         return Err(Unopened::Failed(fault));
     }
@@ -136,19 +126,16 @@ fn is_left_alone(rt: &HostRuntime, path: &str) -> bool {
 }
 
 /// A connection to the database in a file, which is made for its owner alone where there is none. It isn't made beside
-/// a log that another has left.
+/// a log that another has left, nor with the name of a file that lies beside a database.
 pub fn connect_new<S: Start>(
     rt: &HostRuntime,
     path: &str,
     start: S,
 ) -> Result<FileConnection<S>, Unopened>
     ensures memory { path.now ≡ codes ":memory:" → IsErr result }
-    ensures fresh { IfOk result IsNew }
-    ensures found { IfOk result (λ c. HasCleanDisk (file_state c) → FindsIn (image_at S.Start) (file_state c)) }
-    ensures sums { IfOk result (λ c. HasCleanDisk (file_state c) → IsBlankAs true (image_at S.Start)
-        → (view c.store).has_sums ≡ true) }
+    ensures connected { IfOk result (IsConnected (image_at S.Start)) }
 {
-    if is_left_alone(rt, path) {
+    if is_left_alone(rt, path) || is_companion(path) || is_copy(path) {
         return Err(Unopened::Failed(FileFault::Unavailable));
     }
     if path != ":memory:" {
@@ -157,23 +144,40 @@ pub fn connect_new<S: Start>(
     connect_known(rt, path, start)
 }
 
-/// A connection to the database in a file that is there.
-pub fn connect_existing<S: Start>(
+/// A connection to the database in a file that is there, or to an empty file.
+pub(crate) fn connect_there<S: Start>(
     rt: &HostRuntime,
     path: &str,
     start: S,
 ) -> Result<FileConnection<S>, Unopened>
     ensures memory { path.now ≡ codes ":memory:" → IsErr result }
-    ensures fresh { IfOk result IsNew }
-    ensures found { IfOk result (λ c. HasCleanDisk (file_state c) → FindsIn (image_at S.Start) (file_state c)) }
-    ensures sums { IfOk result (λ c. HasCleanDisk (file_state c) → IsBlankAs true (image_at S.Start)
-        → (view c.store).has_sums ≡ true) }
+    ensures connected { IfOk result (IsConnected (image_at S.Start)) }
 {
     match fs::exists(rt, path) {
         Ok(true) => connect_known(rt, path, start),
         Ok(false) => Err(Unopened::Failed(FileFault::Unavailable)),
         Err(error) => Err(Unopened::Failed(refused(&error))),
     }
+}
+
+/// Whether a file is there that holds nothing, and no log that could fill it: an open would make it a database.
+fn is_blank(rt: &HostRuntime, path: &str) -> bool {
+    matches!(fs::metadata(rt, path), Ok(there) if there.len() == 0) && !has_log(rt, path)
+}
+
+/// A connection to the database in a file that is there. An empty file has no tables, and stays as it is.
+pub fn connect_existing<S: Start>(
+    rt: &HostRuntime,
+    path: &str,
+    start: S,
+) -> Result<FileConnection<S>, Unopened>
+    ensures memory { path.now ≡ codes ":memory:" → IsErr result }
+    ensures connected { IfOk result (IsConnected (image_at S.Start)) }
+{
+    if is_blank(rt, path) {
+        return Err(Unopened::Failed(FileFault::Schema));
+    }
+    connect_there(rt, path, start)
 }
 
 /// The files that a close has handed back. None where it failed: its store is given up.

@@ -6,16 +6,17 @@
 ghost use Rattle.std.specs.Prelude.{◌↔◌, IsTrue};
 ghost use Rattle.acvp_files.specs.Copies.{IsWhole};
 
-use crate::connection::{FileConnection, Unopened, connect_existing, copied};
-use crate::fault::{FileFault, done, fault_of_cause};
+use crate::connection::{FileConnection, Unopened, connect_there, copied};
+use crate::fault::{CopyFault, FileFault, Step, at, done, fault_of_cause};
 use crate::number::{FileNumber, file_at};
-use crate::parts::{Pair, Part, Use, give_up, new_copy, pair_at, remove};
-use acvp_causes::{LOG_HEADER, cause_of_source, header_of, is_database, is_moved};
+use crate::parts::{Pair, Part, Use, give_up, new_copy, pair_at, remove, settle_names};
+use acvp_causes::{LOG_HEADER, cause_of_source, header_of, is_database, is_moved, name_of};
 use acvp_store::{SqlTables, adopt};
 use sqlite::{Alter, Connection, FileFrom, FileStore, Wary};
+use sqlite_disk::Disk;
 use std::alloc::{AllocGlobal, Global};
-use std::fs::{self, File, OpenOptions};
-use std::io::{self, ErrorKind};
+use std::fs::{self, File};
+use std::io::{self, ErrorKind, Seek};
 
 /// How often a copy is begun anew, if the log was emptied meanwhile.
 const TRIES: u32 = 100;
@@ -72,26 +73,27 @@ fn is_whole(before: &Mark, after: &Mark, copy: &Mark) -> bool
     before.header == after.header && before.header == copy.header && before.bytes <= copy.bytes
 }
 
-/// Copies a file into one that was made for it. One that isn't there has an empty copy.
-fn copy_file(rt: &HostRuntime, from: &str, to: &str) -> io::Result<()> {
-    let mut target = OpenOptions::new().write(true).truncate(true).open(rt, to)?;
+/// Copies a file into an open one, in the place of all that this holds. One that isn't there has an empty copy.
+fn copy_file(rt: &HostRuntime, from: &str, mut to: &File) -> io::Result<()> {
+    to.set_len(0)?;
+    to.rewind()?;
     let mut source = match File::open(rt, from) {
         Ok(source) => source,
         Err(error) if error.kind() == ErrorKind::NotFound => return Ok(()),
         Err(error) => return Err(error),
     };
-    io::copy(&mut source, &mut target)?;
-    target.sync_all()
+    io::copy(&mut source, &mut to)?;
+    to.sync_all()
 }
 
 /// Copies a database once, and says whether that is it, as it is at one moment between two changes. Whoever has the
 /// file must have the log, before and after.
-fn copy_once(rt: &HostRuntime, from: &Pair, to: &Pair) -> io::Result<bool> {
+fn copy_once(rt: &HostRuntime, from: &Pair, to: &Part) -> io::Result<bool> {
     let before = looked_at(rt, from)?;
     let was_moved = is_moved(rt, from.file.as_str(), from.log.as_str())?;
-    copy_file(rt, from.file.as_str(), to.file.as_str())?;
-    copy_file(rt, from.log.as_str(), to.log.as_str())?;
-    let copy = mark_of(rt, to.log.as_str())?;
+    copy_file(rt, from.file.as_str(), &to.file)?;
+    copy_file(rt, from.log.as_str(), &to.log)?;
+    let copy = mark_of(rt, to.pair.log.as_str())?;
     let after = looked_at(rt, from)?;
     let is_moved = was_moved || is_moved(rt, from.file.as_str(), from.log.as_str())?;
     let is_same = before.file == after.file && before.log == after.log;
@@ -99,13 +101,24 @@ fn copy_once(rt: &HostRuntime, from: &Pair, to: &Pair) -> io::Result<bool> {
 }
 
 /// Copies a database, as it is at one moment between two changes.
-fn copy_pair(rt: &HostRuntime, from: &Pair, to: &Pair) -> io::Result<()> {
+fn copy_pair(rt: &HostRuntime, from: &Pair, to: &Part) -> Result<(), CopyFault> {
     for _ in 0..TRIES {
-        if copy_once(rt, from, to)? {
+        if at(Step::Copying, done(copy_once(rt, from, to)))? {
             return Ok(());
         }
     }
-    Err(ErrorKind::ResourceBusy.into())
+    at(Step::Source, Err(FileFault::Unavailable))
+}
+
+/// Copies the database of a name into the empty files of a copy, which still have their names then.
+pub(crate) fn copy_into(rt: &HostRuntime, from: &str, part: &Part) -> Result<(), CopyFault> {
+    settle_names(rt, from);
+    if let Some(because) = cause_of_source(rt, "", from) {
+        return at(Step::Source, Err(fault_of_cause(because.cause)));
+    }
+    let source = at(Step::Copying, pair_at(rt.alloc(), from))?;
+    copy_pair(rt, &source, part)?;
+    at(Step::Target, done(part.is_still_named(rt)))
 }
 
 /// A connection to a database that nobody else has.
@@ -113,7 +126,7 @@ pub(crate) fn connection_to(
     rt: &HostRuntime,
     path: &str,
 ) -> Result<FileConnection<Wary>, FileFault> {
-    match connect_existing(rt, path, Wary) {
+    match connect_there(rt, path, Wary) {
         Ok(connection) => Ok(connection),
         Err(Unopened::Taken) => Err(FileFault::Unavailable),
         Err(Unopened::Failed(fault)) => Err(fault),
@@ -142,46 +155,61 @@ pub(crate) fn with_tables<S: Alter + Drop>(
     }
 }
 
-/// Copies what the log of a copy holds into its file, and takes the log away.
-pub(crate) fn merge(
+/// Copies what the log of a copy holds into its file, and takes the log away. The copy still has its name then.
+pub(crate) fn merge<D: Disk + Drop>(
     rt: &HostRuntime,
-    pair: &Pair,
-    connection: FileConnection<Wary>,
+    part: &Part,
+    connection: Connection<FileStore<D>>,
 ) -> Result<(), FileFault> {
-    if copied(connection).is_none() || !done(is_database(rt, pair.file.as_str()))? {
+    if copied(connection).is_none() || !done(is_database(rt, part.pair.file.as_str()))? {
         return Err(FileFault::Unavailable);
     }
-    done(remove(rt, pair.log.as_str()))
+    done(part.is_still_named(rt))?;
+    done(remove(rt, part.pair.log.as_str()))
 }
 
-/// Copies the database of a name, and opens the copy.
-pub(crate) fn connection_to_copy(
+/// A connection to a copy that was made.
+pub(crate) fn connection_to_part(
     rt: &HostRuntime,
-    from: &str,
     part: &Part,
 ) -> Result<FileConnection<Wary>, FileFault> {
-    if let Some(because) = cause_of_source(rt, "", from) {
-        return Err(fault_of_cause(because.cause));
-    }
-    let source = pair_at(rt.alloc(), from)?;
-    done(copy_pair(rt, &source, &part.pair))?;
     connection_to(rt, part.pair.file.as_str())
 }
 
 /// The tables in a file.
 pub type FileTables = SqlTables<FileStore<FileFrom<Wary>>>;
 
-/// The tables of a copy of the database of a name.
-fn tables_of(rt: &HostRuntime, from: &str, part: &Part) -> Result<FileTables, FileFault> {
-    let connection = connection_to_copy(rt, from, part)?;
-    taken_over(rt.alloc(), connection)
+/// Copies the database of a name, and opens the copy.
+fn connection_to_copy(
+    rt: &HostRuntime,
+    from: &str,
+    part: &Part,
+) -> Result<FileConnection<Wary>, FileFault> {
+    match copy_into(rt, from, part) {
+        Ok(()) => connection_to_part(rt, part),
+        Err(told) => Err(told.fault),
+    }
 }
 
-/// The tables of a copy of the database of a name, also while it is served. Its files have no names any more, so
-/// nothing of it is left when it is given up.
-pub fn tables_of_copy(rt: &HostRuntime, database: &str) -> Result<FileTables, FileFault> {
-    let part = new_copy(rt, database, Use::Look)?;
-    let tables = tables_of(rt, database, &part);
+/// A connection to a copy of the database of a name, whose files have no names any more: nothing of it is left when it
+/// is given up.
+fn connection_to_look(rt: &HostRuntime, from: &str) -> Result<FileConnection<Wary>, FileFault> {
+    let part = new_copy(rt, from, Use::Look)?;
+    let connection = connection_to_copy(rt, from, &part);
     give_up(rt, &part);
-    tables
+    connection
+}
+
+/// A connection to a copy of the database at a path.
+fn connection_to_look_at(rt: &HostRuntime, path: &str) -> Result<FileConnection<Wary>, FileFault> {
+    let name = done(name_of(rt, path))?;
+    connection_to_look(rt, name.as_str())
+}
+
+/// The tables of a copy of the database at a path, also while it is served.
+pub fn tables_of_copy(rt: &HostRuntime, database: &str) -> Result<FileTables, FileFault> {
+    match connection_to_look_at(rt, database) {
+        Ok(connection) => taken_over(rt.alloc(), connection),
+        Err(fault) => Err(fault),
+    }
 }

@@ -25,6 +25,40 @@ pub enum FileFault {
     Memory,
 }
 
+/// At what a copy of a whole database failed.
+#[derive(Clone, Copy, Debug, PartialEq, Eq)]
+pub enum Step {
+    /// What is copied isn't taken, or changes too often.
+    Source,
+
+    /// Reading it, or writing the copy, is refused.
+    Copying,
+
+    /// The copy can't be opened, or a page of it is damaged.
+    Content,
+
+    /// The copy can't be begun where it is to be, or put there.
+    Target,
+}
+
+/// Why a whole database isn't copied.
+#[derive(Clone, Copy, Debug, PartialEq, Eq)]
+pub struct CopyFault {
+    pub step: Step,
+    pub fault: FileFault,
+}
+
+/// What a step of a copy comes to.
+pub(crate) fn at<T>(step: Step, outcome: Result<T, FileFault>) -> Result<T, CopyFault>
+    ensures ok { IfOk outcome (λ value. result ≡ Ok value) }
+    ensures err { IfErr outcome (λ fault. IfErr result (λ told. (told.step ≡ step) × (told.fault ≡ fault))) }
+{
+    match outcome {
+        Ok(value) => Ok(value),
+        Err(fault) => Err(CopyFault { step, fault }),
+    }
+}
+
 impl From<AllocError> for FileFault {
     ghost use Rattle.std.specs.Prelude.{◌≡◌};
     ghost use Rattle.acvp_files.specs.declared.fault.FileFault.TheVariants.{Memory};

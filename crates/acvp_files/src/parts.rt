@@ -7,7 +7,7 @@ ghost use Rattle.std.specs.Char.{is_ascii_digit};
 ghost use Rattle.acvp_files.specs.Parts.{is_moment};
 
 use crate::fault::{FileFault, refused};
-use crate::number::{file_at, number_of};
+use crate::number::{FileNumber, file_at, number_of};
 use acvp_causes::{folder_of, last_of};
 use std::alloc::{AllocGlobal, Global};
 use std::fs::{self, File, Metadata, OpenOptions, Permissions};
@@ -59,25 +59,36 @@ pub(crate) fn pair_at(alloc: Global, path: &str) -> Result<Pair, FileFault> {
     })
 }
 
-/// A copy that is being made. Its file is locked by this command alone as long as this is kept.
+/// A copy that is being made, and its two open files. The first is locked by this command alone as long as this is
+/// kept. What is copied goes into these, whatever has their names.
 #[derive(Drop)]
 pub(crate) struct Part {
     pub(crate) pair: Pair,
-    lock: File,
+    pub(crate) file: File,
+    pub(crate) log: File,
 }
 
 impl Part {
     /// Whether the copy that was made still has its name.
-    pub(crate) fn is_named(&self, rt: &HostRuntime) -> io::Result<bool> {
-        has_name(rt, &self.lock, self.pair.file.as_str())
+    fn has_its_name(&self, rt: &HostRuntime) -> io::Result<bool> {
+        has_name(rt, &self.file, self.pair.file.as_str())
+    }
+
+    /// Refuses a copy whose name another file has.
+    pub(crate) fn is_still_named(&self, rt: &HostRuntime) -> io::Result<()> {
+        if self.has_its_name(rt)? {
+            Ok(())
+        } else {
+            Err(ErrorKind::NotFound.into())
+        }
     }
 
     /// Gives a copy the owner, the group and the mode of the file that it is to replace. If the system refuses the
     /// owner or the group, the copy stays its maker's alone. The file that was made gets them, whatever has its name.
     pub(crate) fn keep_access(&self, there: &Metadata) -> io::Result<()> {
-        match fchown(&self.lock, Some(there.uid()), Some(there.gid())) {
+        match fchown(&self.file, Some(there.uid()), Some(there.gid())) {
             Ok(()) => self
-                .lock
+                .file
                 .set_permissions(Permissions::from_mode(there.mode() & RIGHTS)),
             Err(error) if error.kind() == ErrorKind::PermissionDenied => Ok(()),
             Err(error) => Err(error),
@@ -140,16 +151,17 @@ fn lock_new(rt: &HostRuntime, path: &str, file: &File) -> io::Result<()> {
     }
 }
 
+/// Makes the empty log of a copy whose file was just made, once the file is locked.
+fn make_log(rt: &HostRuntime, pair: &Pair, file: &File) -> io::Result<File> {
+    lock_new(rt, pair.file.as_str(), file)?;
+    make_new(rt, pair.log.as_str())
+}
+
 /// Makes the two empty files of a copy, and locks the first, or makes none.
-fn make_pair(rt: &HostRuntime, pair: &Pair) -> io::Result<File> {
+fn make_pair(rt: &HostRuntime, pair: Pair) -> io::Result<Part> {
     let file = make_new(rt, pair.file.as_str())?;
-    let locked = lock_new(rt, pair.file.as_str(), &file);
-    let made = match locked {
-        Ok(()) => make_new(rt, pair.log.as_str()),
-        Err(error) => Err(error),
-    };
-    match made {
-        Ok(_) => Ok(file),
+    match make_log(rt, &pair, &file) {
+        Ok(log) => Ok(Part { pair, file, log }),
         Err(error) => {
             let _ = remove(rt, pair.file.as_str());
             Err(error)
@@ -178,8 +190,8 @@ pub(crate) fn new_copy(rt: &HostRuntime, base: &str, what: Use) -> Result<Part, 
     remove_left(rt, base);
     for _ in 0..TRIES {
         let pair = pair_of_now(rt, base, what)?;
-        match make_pair(rt, &pair) {
-            Ok(lock) => return Ok(Part { pair, lock }),
+        match make_pair(rt, pair) {
+            Ok(part) => return Ok(part),
             Err(error) if is_passing(&error) => {}
             Err(error) => return Err(refused(&error)),
         }
@@ -218,10 +230,18 @@ fn is_copy_name(name: &str, base: &str) -> bool {
 }
 
 /// Whether a path has the name of a copy that is being made, or that was left.
-pub(crate) fn is_copy(path: &str) -> bool {
+pub fn is_copy(path: &str) -> bool {
     match last_of(path).rsplit_once("-part-") {
         Some((_, moment)) => is_moment(moment.as_bytes()),
         None => false,
+    }
+}
+
+/// Whether nobody makes a copy any more whose file is at a path.
+fn is_left(rt: &HostRuntime, path: &str) -> bool {
+    match File::open(rt, path) {
+        Ok(file) => file.try_lock().is_ok(),
+        Err(_) => false,
     }
 }
 
@@ -229,9 +249,7 @@ pub(crate) fn is_copy(path: &str) -> bool {
 fn remove_unheld(rt: &HostRuntime, pair: &Pair) {
     match fs::symlink_metadata(rt, pair.file.as_str()) {
         Ok(there) if there.is_file() => {
-            if let Ok(file) = File::open(rt, pair.file.as_str())
-                && file.try_lock().is_ok()
-            {
+            if is_left(rt, pair.file.as_str()) {
                 remove_pair(rt, pair);
             }
         }
@@ -258,6 +276,34 @@ fn remove_left(rt: &HostRuntime, base: &str) {
             && let Ok(pair) = pair_at(rt.alloc(), path.as_str())
         {
             remove_unheld(rt, &pair);
+        }
+    }
+}
+
+/// Takes a name away if it is a copy's that nobody makes any more, and of this file.
+fn remove_name(rt: &HostRuntime, path: &str, number: FileNumber) {
+    if is_copy(path)
+        && matches!(file_at(rt, path), Ok(there) if there == number)
+        && is_left(rt, path)
+    {
+        let _ = remove(rt, path);
+    }
+}
+
+/// Takes the second name of a file away that a killed command has left: the file was its copy, and has its own name.
+pub(crate) fn settle_names(rt: &HostRuntime, path: &str) {
+    let there = match fs::symlink_metadata(rt, path) {
+        Ok(there) if there.is_file() && there.nlink() == 2 && !is_copy(path) => there,
+        _ => return,
+    };
+    let Ok(names) = fs::read_dir(rt, folder_of(path)) else {
+        return;
+    };
+    for entry in names {
+        if let Ok(entry) = entry
+            && let Ok(other) = format!(in rt.alloc(); "{}/{}", folder_of(path), entry.file_name())
+        {
+            remove_name(rt, other.as_str(), number_of(&there));
         }
     }
 }

@@ -1,13 +1,13 @@
 //! Sums on the pages of a database, by which changed bits are found (SQLite's cksumvfs). A new file has them. The rows
 //! of one that has none are copied into a new one, each under its own number.
-use crate::connection::FileConnection;
-use crate::copies::{connection_to, merge};
+use crate::copies::{connection_to_part, merge};
 use crate::fault::FileFault;
 use crate::parts::Part;
 use crate::rows::{count_rows, fault_of_statement};
 use acvp_causes::{has_sums, name_of};
-use acvp_store::{SqlTables, create};
-use sqlite::{Alter, Connection, Row, Rows, Transaction, Wary};
+use acvp_store::create;
+use sqlite::{Alter, Connection, FileStore, Row, Rows, Transaction};
+use sqlite_disk::Disk;
 use sqlite_value::value::ValueRef;
 use std::alloc::{AllocGlobal, Global};
 
@@ -157,25 +157,14 @@ fn copy_table<S: Alter + Drop, T: Alter + Drop>(
     Ok(())
 }
 
-/// Makes the tables of this version in a database that has none.
-fn new_tables<S: Alter + Drop>(
-    alloc: Global,
-    connection: Connection<S>,
-) -> Result<SqlTables<S>, FileFault> {
-    match create(alloc, connection) {
-        Ok(tables) => Ok(tables),
-        Err((_, fault)) => Err(FileFault::from(fault)),
-    }
-}
-
 /// Makes the tables of this version in a database that has none, and gives the connection to them back.
 fn with_new_tables<S: Alter + Drop>(
     alloc: Global,
     connection: Connection<S>,
 ) -> Result<Connection<S>, FileFault> {
-    match new_tables(alloc, connection) {
+    match create(alloc, connection) {
         Ok(tables) => Ok(tables.into_connection()),
-        Err(fault) => Err(fault),
+        Err((_, fault)) => Err(FileFault::from(fault)),
     }
 }
 
@@ -199,37 +188,61 @@ fn copy_tables<S: Alter + Drop, T: Alter + Drop>(
     Ok(())
 }
 
-/// A connection to the empty files of a copy, once the tables of this version are in them, without a row.
-fn connection_to_new(rt: &HostRuntime, to: &Part) -> Result<FileConnection<Wary>, FileFault> {
-    let connection = connection_to(rt, to.pair.file.as_str())?;
-    let mut made = with_new_tables(rt.alloc(), connection)?;
-    match take_version_out(&mut made) {
-        Ok(()) => Ok(made),
-        Err(fault) => Err(fault),
-    }
-}
-
-/// Copies the rows of a database into the empty files of a copy.
-fn filled<S: Alter + Drop>(
-    rt: &HostRuntime,
+/// Copies the rows of a database, so many, into tables of this version that have none.
+fn fill_tables<S: Alter + Drop, T: Alter + Drop>(
+    alloc: Global,
     from: &mut Connection<S>,
-    to: &Part,
-) -> Result<FileConnection<Wary>, FileFault> {
-    let mut made = connection_to_new(rt, to)?;
-    match copy_tables(rt.alloc(), from, &mut made) {
+    to: &mut Connection<T>,
+    rows: u64,
+) -> Result<(), FileFault> {
+    take_version_out(to)?;
+    copy_tables(alloc, from, to)?;
+    if count_rows(alloc, to)? == rows {
+        Ok(())
+    } else {
+        Err(FileFault::Unavailable)
+    }
+}
+
+/// Makes the tables of this version in a database that has none, and copies the rows of another into them, so many.
+fn filled<S: Alter + Drop, T: Alter + Drop>(
+    alloc: Global,
+    from: &mut Connection<S>,
+    to: Connection<T>,
+    rows: u64,
+) -> Result<Connection<T>, FileFault> {
+    let mut made = with_new_tables(alloc, to)?;
+    match fill_tables(alloc, from, &mut made, rows) {
         Ok(()) => Ok(made),
         Err(fault) => Err(fault),
     }
 }
 
-/// Opens a whole database without a log, and copies its rows into the empty files of a copy.
-fn filled_from(
+/// Copies the rows of a database, so many, into an empty one that a copy is to be.
+fn fill<S: Alter + Drop, D: Disk + Drop>(
     rt: &HostRuntime,
-    from: &Part,
+    mut from: Connection<S>,
+    to: Connection<FileStore<D>>,
+    part: &Part,
+    rows: u64,
+) -> Result<(), FileFault> {
+    match filled(rt.alloc(), &mut from, to, rows) {
+        Ok(made) => merge(rt, part, made),
+        Err(fault) => Err(fault),
+    }
+}
+
+/// Copies the rows of a database, so many, into the empty files of a copy.
+fn fill_part<S: Alter + Drop>(
+    rt: &HostRuntime,
+    from: Connection<S>,
     to: &Part,
-) -> Result<FileConnection<Wary>, FileFault> {
-    let mut source = connection_to(rt, from.pair.file.as_str())?;
-    filled(rt, &mut source, to)
+    rows: u64,
+) -> Result<(), FileFault> {
+    match connection_to_part(rt, to) {
+        Ok(made) => fill(rt, from, made, to, rows),
+        Err(fault) => Err(fault),
+    }
 }
 
 /// Copies the rows of a whole database without a log, so many of the tables of this version, into the empty files of
@@ -240,11 +253,10 @@ pub(crate) fn copy_with_sums(
     to: &Part,
     rows: u64,
 ) -> Result<(), FileFault> {
-    let mut made = filled_from(rt, from, to)?;
-    if count_rows(rt.alloc(), &mut made)? != rows {
-        return Err(FileFault::Unavailable);
+    match connection_to_part(rt, from) {
+        Ok(source) => fill_part(rt, source, to, rows),
+        Err(fault) => Err(fault),
     }
-    merge(rt, &to.pair, made)
 }
 
 /// Warns on standard error of a database whose pages have no sums.
