@@ -6,8 +6,8 @@ use Rattle.clap.specs.declared.parser.matches.ArgMatches.{ArgMatches}
 use Rattle.clap.specs.declared.parser.matches.ArgMatches.TheViews.{out-ArgMatches, out-SubCommand}
 use Rattle.clap.proofs.WalkLemmas.{first_value-rows}
 use Rattle.std.specs.Box.{box_value}
-use Rattle.acvp_commands.specs.Asked.{AsksFor, IsAsked, IsNoName, IsNothingAsked, IsRefused, RefusesDeed, options_of, value_of}
-use Rattle.acvp_commands.specs.declared.asked.BadNumber.{BadNumber}
+use Rattle.acvp_commands.specs.Asked.{AsksFor, IsAsked, IsNoName, IsNothingAsked, IsRefused, RefusesName, options_of, value_of}
+use Rattle.acvp_commands.specs.declared.asked.BadValue.{BadValue}
 use Rattle.acvp_commands.specs.declared.asked.Invocation.{Invocation}
 
 -- what is read of an option by its id is its value among the rows
@@ -29,22 +29,22 @@ pub entered : (matches : ArgMatches) (name : List ℕ) (rows : List Row) → Som
 entered matches name rows named is =
     met (λ b. (out-SubCommand (box_value b)).name.now) (λ b. options_of (out-SubCommand (box_value b)).matches) (out-ArgMatches matches).subcommand name rows named is
 
-pub asked_read : (read : Option (List ℕ × List Row)) (name : List ℕ) (options : List Row) (r : Result (Option Invocation) BadNumber) → read ≡ Some (name, options)
+pub asked_read : (read : Option (List ℕ × List Row)) (name : List ℕ) (options : List Row) (r : Result (Option Invocation) BadValue) → read ≡ Some (name, options)
     → IfOk r (λ asked. MatchOption asked (IsNoName name) (AsksFor name options))
     → IfOk r (λ asked. MatchOption asked (IsNothingAsked read) (IsAsked read))
 asked_read read name options r is h =
     subst (λ (read : Option (List ℕ × List Row)). IfOk r (λ asked. MatchOption asked (IsNothingAsked read) (IsAsked read))) (sym is) (go r h)
   where
-    go : (r : Result (Option Invocation) BadNumber) → IfOk r (λ asked. MatchOption asked (IsNoName name) (AsksFor name options))
+    go : (r : Result (Option Invocation) BadValue) → IfOk r (λ asked. MatchOption asked (IsNoName name) (AsksFor name options))
         → IfOk r (λ asked. MatchOption asked (IsNothingAsked (Some (name, options))) (IsAsked (Some (name, options))))
     go (Ok None) h = h
     go (Ok (Some it)) h = h
     go (Err bad) h = tt
 
-pub refused_read : (read : Option (List ℕ × List Row)) (name : List ℕ) (options : List Row) (r : Result (Option Invocation) BadNumber) → read ≡ Some (name, options)
-    → IfErr r (RefusesDeed name options) → IfErr r (IsRefused read)
+pub refused_read : (read : Option (List ℕ × List Row)) (name : List ℕ) (options : List Row) (r : Result (Option Invocation) BadValue) → read ≡ Some (name, options)
+    → IfErr r (RefusesName name options) → IfErr r (IsRefused read)
 refused_read read name options r is h = subst (λ (read : Option (List ℕ × List Row)). IfErr r (IsRefused read)) (sym is) (go r h)
   where
-    go : (r : Result (Option Invocation) BadNumber) → IfErr r (RefusesDeed name options) → IfErr r (IsRefused (Some (name, options)))
+    go : (r : Result (Option Invocation) BadValue) → IfErr r (RefusesName name options) → IfErr r (IsRefused (Some (name, options)))
     go (Ok asked) h = tt
     go (Err bad) h = h

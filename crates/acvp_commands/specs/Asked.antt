@@ -1,16 +1,19 @@
 -- What the command line asks for.
-use Rattle.std.specs.Prelude.{◌≡◌, ◌≢◌, ◌⊎◌, ℕ, List, [], codes, Option, Some, None, unwrap_or, true, ⊤}
+use Rattle.std.specs.Prelude.{◌≡◌, ◌≢◌, ◌↔◌, ◌⊎◌, ℕ, Bool, List, [], codes, Option, Some, None, IsTrue, unwrap_or}
+use Rattle.std.specs.Prelude.{false, true, ⊤}
 use Rattle.clap.specs.Words.{Row, first_of, found_of, rows_of}
 use Rattle.clap.specs.declared.parser.matches.ArgMatches.{ArgMatches}
 use Rattle.acvp_tables.specs.State.{is_account_number}
 use Rattle.acvp_commands.specs.Numbers.{IsNumber, most_account, most_request, most_port, most_count}
 use Rattle.acvp_commands.specs.Numbers.{most_patience}
-use Rattle.acvp_commands.specs.declared.asked.BadNumber.{BadNumber}
-use Rattle.acvp_commands.specs.declared.asked.BadNumber.TheVariants as bad
+use Rattle.acvp_commands.specs.declared.asked.BadValue.{BadValue}
+use Rattle.acvp_commands.specs.declared.asked.BadValue.TheVariants as bad
 use Rattle.acvp_commands.specs.declared.asked.Deed.{Deed}
 use Rattle.acvp_commands.specs.declared.asked.Deed.TheVariants as deed
 use Rattle.acvp_commands.specs.declared.asked.Invocation.{Invocation}
-use Rattle.acvp_commands.specs.declared.asked.Invocation.TheVariants.{On, Script}
+use Rattle.acvp_commands.specs.declared.asked.Invocation.TheVariants.{At, Backup, On, Restore, Script}
+use Rattle.acvp_commands.specs.declared.asked.Look.{Look}
+use Rattle.acvp_commands.specs.declared.asked.Look.TheVariants as look
 
 -- ---- the options
 
@@ -26,13 +29,14 @@ value_of options option = unwrap_or (first_of option options) []
 abbrev pub IsNoNumber : ℕ → List ℕ → Type 0
 IsNoNumber most text = (n : ℕ) → IsNumber most text n → ⊥
 
--- what is told of a text that is none
-abbrev pub bad_number_text : BadNumber → List ℕ
-bad_number_text bad.Account = codes "--account wants a whole number from 1 to 9999, as 7"
-bad_number_text bad.Request = codes "--request wants a whole number from 1 to 9999999999, as 7000001"
-bad_number_text bad.Port = codes "--port wants a whole number from 1 to 65535, as 8080"
-bad_number_text bad.Count = codes "--count wants a whole number from 1 to 1000000, as 1000"
-bad_number_text bad.Patience = codes "--patience wants a whole number of seconds from 1 to 3600, as 30"
+-- what is told of a value that its option doesn't have
+abbrev pub bad_value_text : BadValue → List ℕ
+bad_value_text bad.Account = codes "--account wants a whole number from 1 to 9999, as 7"
+bad_value_text bad.Request = codes "--request wants a whole number from 1 to 9999999999, as 7000001"
+bad_value_text bad.Port = codes "--port wants a whole number from 1 to 65535, as 8080"
+bad_value_text bad.Count = codes "--count wants a whole number from 1 to 1000000, as 1000"
+bad_value_text bad.Patience = codes "--patience wants a whole number of seconds from 1 to 3600, as 30"
+bad_value_text bad.Grades = codes "--grades is yes or no"
 
 -- ---- the subcommands
 
@@ -59,7 +63,7 @@ abbrev pub RefusesOption : ℕ → Option (List ℕ) → Type 0
 RefusesOption most None = ⊥
 RefusesOption most (Some text) = IsNoNumber most text
 
-abbrev pub RefusesToServe : List Row → BadNumber → Type 0
+abbrev pub RefusesToServe : List Row → BadValue → Type 0
 RefusesToServe options bad.Port = IsNoNumber most_port (value_of options (codes "port"))
 RefusesToServe options bad.Count = RefusesOption most_count (first_of (codes "count") options)
 RefusesToServe options bad.Patience = RefusesOption most_patience (first_of (codes "patience") options)
@@ -81,28 +85,82 @@ AsksDeed name options (deed.RejectRequest request) =
 AsksDeed name options (deed.Serve keys service) =
     (name ≡ codes "serve") × AsksToServe options (deed.Serve keys service)
 
+-- whether verdicts are compared, which they are where nothing else is asked for
+abbrev pub AsksGrades : Option (List ℕ) → Bool → Type 0
+AsksGrades None grades = grades ≡ true
+AsksGrades (Some text) true = text ≡ codes "yes"
+AsksGrades (Some text) false = text ≡ codes "no"
+
+abbrev pub RefusesGrades : Option (List ℕ) → Type 0
+RefusesGrades None = ⊥
+RefusesGrades (Some text) = (text ≢ codes "yes") × (text ≢ codes "no")
+
+-- the subcommand of a name asks to look at it by its options, beside the database's
+abbrev pub AsksLook : List ℕ → List Row → Look → Type 0
+AsksLook name options look.Accounts = name ≡ codes "accounts"
+AsksLook name options (look.Requests all) =
+    (name ≡ codes "requests") × (IsTrue all ↔ (first_of (codes "all") options ≡ Some (codes "true")))
+AsksLook name options (look.Request keys request) =
+    (name ≡ codes "request-show") × (keys.now ≡ value_of options (codes "keys"))
+    × IsNumber most_request (value_of options (codes "request")) request
+AsksLook name options (look.Certificate keys request) =
+    (name ≡ codes "certificate") × (keys.now ≡ value_of options (codes "keys"))
+    × IsNumber most_request (value_of options (codes "request")) request
+AsksLook name options (look.Check keys grades) =
+    (name ≡ codes "check") × (keys.now ≡ value_of options (codes "keys"))
+    × AsksGrades (first_of (codes "grades") options) grades
+
 abbrev pub AsksFor : List ℕ → List Row → Invocation → Type 0
 AsksFor name options (On db it) = (db.now ≡ value_of options (codes "db")) × AsksDeed name options it
+AsksFor name options (At db it) = (db.now ≡ value_of options (codes "db")) × AsksLook name options it
+AsksFor name options (Backup db to) =
+    (name ≡ codes "backup") × (db.now ≡ value_of options (codes "db")) × (to.now ≡ value_of options (codes "to"))
+AsksFor name options (Restore from db) =
+    (name ≡ codes "restore") × (from.now ≡ value_of options (codes "from"))
+    × (db.now ≡ value_of options (codes "db"))
 AsksFor name options (Script keys) = (name ≡ codes "script") × (keys.now ≡ value_of options (codes "keys"))
 
--- none of the subcommands has the name
-abbrev pub IsNoName : List ℕ → Type 0
-IsNoName name =
+-- none of the subcommands that do something with a database has the name
+abbrev pub IsNoDeed : List ℕ → Type 0
+IsNoDeed name =
     (name ≢ codes "init") × (name ≢ codes "migrate") × (name ≢ codes "account-add")
     × (name ≢ codes "account-disable") × (name ≢ codes "request-approve") × (name ≢ codes "request-reject")
-    × (name ≢ codes "serve") × (name ≢ codes "script")
+    × (name ≢ codes "serve")
+
+-- none of those that look at one
+abbrev pub IsNoLook : List ℕ → Type 0
+IsNoLook name =
+    (name ≢ codes "accounts") × (name ≢ codes "requests") × (name ≢ codes "request-show")
+    × (name ≢ codes "certificate") × (name ≢ codes "check")
+
+-- none of all
+abbrev pub IsNoName : List ℕ → Type 0
+IsNoName name =
+    IsNoDeed name × IsNoLook name
+    × (name ≢ codes "backup") × (name ≢ codes "restore") × (name ≢ codes "script")
 
 -- the subcommand of a name wants a number, and its option's text is none
-abbrev pub RefusesDeed : List ℕ → List Row → BadNumber → Type 0
+abbrev pub RefusesDeed : List ℕ → List Row → BadValue → Type 0
 RefusesDeed name options bad.Account =
     ((name ≡ codes "account-add") ⊎ (name ≡ codes "account-disable"))
     × IsNoNumber most_account (value_of options (codes "account"))
 RefusesDeed name options bad.Request =
     ((name ≡ codes "request-approve") ⊎ (name ≡ codes "request-reject"))
     × IsNoNumber most_request (value_of options (codes "request"))
+RefusesDeed name options bad.Grades = ⊥
 RefusesDeed name options bad.Port = (name ≡ codes "serve") × RefusesToServe options bad.Port
 RefusesDeed name options bad.Count = (name ≡ codes "serve") × RefusesToServe options bad.Count
 RefusesDeed name options bad.Patience = (name ≡ codes "serve") × RefusesToServe options bad.Patience
+
+abbrev pub RefusesLook : List ℕ → List Row → BadValue → Type 0
+RefusesLook name options bad.Request =
+    ((name ≡ codes "request-show") ⊎ (name ≡ codes "certificate"))
+    × IsNoNumber most_request (value_of options (codes "request"))
+RefusesLook name options bad.Grades = (name ≡ codes "check") × RefusesGrades (first_of (codes "grades") options)
+RefusesLook name options _ = ⊥
+
+abbrev pub RefusesName : List ℕ → List Row → BadValue → Type 0
+RefusesName name options it = RefusesDeed name options it ⊎ RefusesLook name options it
 
 -- the subcommand that was read asks for it, by the options that were read of it
 abbrev pub IsAsked : Option (List ℕ × List Row) → Invocation → Type 0
@@ -110,9 +168,9 @@ IsAsked None it = ⊥
 IsAsked (Some (name, options)) it = AsksFor name options it
 
 -- or it is refused
-abbrev pub IsRefused : Option (List ℕ × List Row) → BadNumber → Type 0
+abbrev pub IsRefused : Option (List ℕ × List Row) → BadValue → Type 0
 IsRefused None bad = ⊥
-IsRefused (Some (name, options)) bad = RefusesDeed name options bad
+IsRefused (Some (name, options)) bad = RefusesName name options bad
 
 -- no subcommand was read, or none of the program's
 abbrev pub IsNothingAsked : Option (List ℕ × List Row) → Type 0
@@ -129,4 +187,4 @@ NamesAccountToDo _ = ⊤
 
 abbrev pub NamesAccount : Invocation → Type 0
 NamesAccount (On db it) = NamesAccountToDo it
-NamesAccount (Script keys) = ⊤
+NamesAccount _ = ⊤

@@ -1,13 +1,14 @@
 //! What a command line asks for.
-ghost use Rattle.std.specs.Prelude.{◌≡◌, codes, true, IfErr, IfOk, IfSome, MatchOption, MatchResult, None, Some};
+ghost use Rattle.std.specs.Prelude.{◌≡◌, ◌↔◌, codes, true, IfErr, IfOk, IfSome, IsTrue, MatchOption, MatchResult, None, Some};
 ghost use Rattle.clap.specs.Words.{first_of, subcommand_rows_of};
 ghost use Rattle.acvp_tables.specs.State.{is_account_number};
 ghost use Rattle.acvp_commands.specs.Numbers.{IsNumber, most_account, most_request};
-ghost use Rattle.acvp_commands.specs.Asked.{AsksCount, AsksPatience, RefusesOption};
+ghost use Rattle.acvp_commands.specs.Asked.{AsksCount, AsksGrades, AsksPatience, RefusesGrades, RefusesOption};
 ghost use Rattle.acvp_commands.specs.Numbers.{most_count, most_patience};
 ghost use Rattle.acvp_commands.specs.Asked.{AsksFor, AsksToServe, IsAsked, IsNoNumber, NamesAccount, RefusesToServe};
-ghost use Rattle.acvp_commands.specs.Asked.{IsNoName, IsNothingAsked, IsRefused, RefusesDeed, bad_number_text};
-ghost use Rattle.acvp_commands.specs.Asked.{options_of, value_of};
+ghost use Rattle.acvp_commands.specs.Asked.{AsksDeed, AsksLook, IsNoDeed, IsNoLook, IsNoName, IsNothingAsked};
+ghost use Rattle.acvp_commands.specs.Asked.{IsRefused, NamesAccountToDo, RefusesDeed, RefusesLook, RefusesName};
+ghost use Rattle.acvp_commands.specs.Asked.{bad_value_text, options_of, value_of};
 
 use crate::host::Service;
 use crate::numbers::{
@@ -30,38 +31,68 @@ pub enum Deed<'a> {
     Serve { keys: &'a str, service: Service },
 }
 
+/// What is looked at in a database. Other files are named by their paths.
+#[derive(Clone, Copy)]
+pub enum Look<'a> {
+    /// All accounts.
+    Accounts,
+
+    /// The requests that wait for a decision, or all.
+    Requests { all: bool },
+
+    /// What a decision on the request of a number needs, under the keys in a file.
+    Request { keys: &'a str, request: u64 },
+
+    /// The document of the approved certification of a request's number, under the keys in a file.
+    Certificate { keys: &'a str, request: u64 },
+
+    /// Whether the rows are records that are kept under the keys in a file, with the verdicts on answers or without.
+    Check { keys: &'a str, grades: bool },
+}
+
 /// What the command line asks for.
 #[derive(Clone, Copy)]
 pub enum Invocation<'a> {
     /// Something is done with the database in the file of a path.
     On(&'a str, Deed<'a>),
 
+    /// Something is looked at in a copy of the database in the file of a path.
+    At(&'a str, Look<'a>),
+
+    /// The database in a file is copied to another, which is made.
+    Backup { db: &'a str, to: &'a str },
+
+    /// A copy of one database is put in the place of another.
+    Restore { from: &'a str, db: &'a str },
+
     /// The script on standard input is run, under the keys in the file of a path.
     Script(&'a str),
 }
 
-/// A value that is no number of its option.
+/// A value that its option doesn't have.
 #[derive(Clone, Copy)]
-pub enum BadNumber {
+pub enum BadValue {
     Account,
     Request,
     Port,
     Count,
     Patience,
+    Grades,
 }
 
-impl BadNumber {
+impl BadValue {
     /// What the refusal says.
     pub fn message(self) -> &'static str
-        ensures { result.now ≡ bad_number_text self }
+        ensures { result.now ≡ bad_value_text self }
     {
         match self {
-            BadNumber::Account => "--account wants a whole number from 1 to 9999, as 7",
-            BadNumber::Request => "--request wants a whole number from 1 to 9999999999, as 7000001",
-            BadNumber::Port => "--port wants a whole number from 1 to 65535, as 8080",
-            BadNumber::Count => "--count wants a whole number from 1 to 1000000, as 1000",
-            BadNumber::Patience =>
+            BadValue::Account => "--account wants a whole number from 1 to 9999, as 7",
+            BadValue::Request => "--request wants a whole number from 1 to 9999999999, as 7000001",
+            BadValue::Port => "--port wants a whole number from 1 to 65535, as 8080",
+            BadValue::Count => "--count wants a whole number from 1 to 1000000, as 1000",
+            BadValue::Patience =>
                 "--patience wants a whole number of seconds from 1 to 3600, as 30",
+            BadValue::Grades => "--grades is yes or no",
         }
     }
 }
@@ -73,21 +104,21 @@ fn value<'a>(matches: &ArgMatches<'a>, option: &str) -> &'a str
     matches.get_str(option).unwrap_or("")
 }
 
-fn account(matches: &ArgMatches<'_>) -> Result<u16, BadNumber>
+fn account(matches: &ArgMatches<'_>) -> Result<u16, BadValue>
     ensures number { MatchResult result (IsNumber most_account (value_of (options_of matches.now) (codes "account")))
-        (λ bad. (bad ≡ BadNumber.Account)
+        (λ bad. (bad ≡ BadValue.Account)
         × IsNoNumber most_account (value_of (options_of matches.now) (codes "account"))) }
     ensures account { IfOk result (λ account. is_account_number account ≡ true) }
 {
-    account_number(value(matches, "account")).ok_or(BadNumber::Account)
+    account_number(value(matches, "account")).ok_or(BadValue::Account)
 }
 
-fn request(matches: &ArgMatches<'_>) -> Result<u64, BadNumber>
+fn request(matches: &ArgMatches<'_>) -> Result<u64, BadValue>
     ensures number { MatchResult result (IsNumber most_request (value_of (options_of matches.now) (codes "request")))
-        (λ bad. (bad ≡ BadNumber.Request)
+        (λ bad. (bad ≡ BadValue.Request)
         × IsNoNumber most_request (value_of (options_of matches.now) (codes "request"))) }
 {
-    request_number(value(matches, "request")).ok_or(BadNumber::Request)
+    request_number(value(matches, "request")).ok_or(BadValue::Request)
 }
 
 /// The value of an option that may be left out.
@@ -99,38 +130,38 @@ fn optional<'a>(matches: &ArgMatches<'a>, option: &str) -> Option<&'a str>
 }
 
 /// The number of connections, where one is asked for.
-fn count_asked(matches: &ArgMatches<'_>) -> Result<Option<u64>, BadNumber>
+fn count_asked(matches: &ArgMatches<'_>) -> Result<Option<u64>, BadValue>
     ensures { MatchResult result (AsksCount (first_of (codes "count") (options_of matches.now)))
-        (λ bad. (bad ≡ BadNumber.Count)
+        (λ bad. (bad ≡ BadValue.Count)
         × RefusesOption most_count (first_of (codes "count") (options_of matches.now))) }
 {
     match optional(matches, "count") {
         Some(text) => match connection_count(text) {
             Some(count) => Ok(Some(count)),
-            None => Err(BadNumber::Count),
+            None => Err(BadValue::Count),
         },
         None => Ok(None),
     }
 }
 
 /// The seconds that a client has, as they are asked for, or 30.
-fn patience_asked(matches: &ArgMatches<'_>) -> Result<u64, BadNumber>
+fn patience_asked(matches: &ArgMatches<'_>) -> Result<u64, BadValue>
     ensures { MatchResult result (AsksPatience (first_of (codes "patience") (options_of matches.now)))
-        (λ bad. (bad ≡ BadNumber.Patience)
+        (λ bad. (bad ≡ BadValue.Patience)
         × RefusesOption most_patience (first_of (codes "patience") (options_of matches.now))) }
 {
     match optional(matches, "patience") {
-        Some(text) => patience_number(text).ok_or(BadNumber::Patience),
+        Some(text) => patience_number(text).ok_or(BadValue::Patience),
         None => Ok(PATIENCE),
     }
 }
 
 /// What `serve` with these options asks for.
-fn serve_deed<'a>(matches: &ArgMatches<'a>) -> Result<Deed<'a>, BadNumber>
+fn serve_deed<'a>(matches: &ArgMatches<'a>) -> Result<Deed<'a>, BadValue>
     ensures asked { IfOk result (AsksToServe (options_of matches.now)) }
     ensures refused { IfErr result (RefusesToServe (options_of matches.now)) }
 {
-    let port = port_number(value(matches, "port")).ok_or(BadNumber::Port)?;
+    let port = port_number(value(matches, "port")).ok_or(BadValue::Port)?;
     let count = count_asked(matches)?;
     let patience = patience_asked(matches)?;
     Ok(Deed::Serve {
@@ -143,17 +174,38 @@ fn serve_deed<'a>(matches: &ArgMatches<'a>) -> Result<Deed<'a>, BadNumber>
     })
 }
 
-/// What a subcommand with these options asks for; nothing where there is no such subcommand.
-fn asked_by_name<'a>(
-    name: &str,
-    matches: &ArgMatches<'a>,
-) -> Result<Option<Invocation<'a>>, BadNumber>
-    ensures asked { IfOk result
-        (λ asked. MatchOption asked (IsNoName name.now) (AsksFor name.now (options_of matches.now))) }
-    ensures refused { IfErr result (RefusesDeed name.now (options_of matches.now)) }
-    ensures account { IfOk result (λ asked. IfSome asked NamesAccount) }
+/// Whether a flag is given.
+fn is_set(matches: &ArgMatches<'_>, flag: &str) -> bool
+    ensures { IsTrue result ↔ (first_of flag.now (options_of matches.now) ≡ Some (codes "true")) }
 {
-    let deed = match name {
+    match optional(matches, flag) {
+        Some(text) => text == "true",
+        None => false,
+    }
+}
+
+/// Whether verdicts are compared, as it is asked for, or else they are.
+fn grades_asked(matches: &ArgMatches<'_>) -> Result<bool, BadValue>
+    ensures { MatchResult result (AsksGrades (first_of (codes "grades") (options_of matches.now)))
+        (λ bad. (bad ≡ BadValue.Grades)
+        × RefusesGrades (first_of (codes "grades") (options_of matches.now))) }
+{
+    match optional(matches, "grades") {
+        None => Ok(true),
+        Some("yes") => Ok(true),
+        Some("no") => Ok(false),
+        Some(_) => Err(BadValue::Grades),
+    }
+}
+
+/// What a subcommand with these options does with a database; nothing where there is no such subcommand.
+fn deed_by_name<'a>(name: &str, matches: &ArgMatches<'a>) -> Result<Option<Deed<'a>>, BadValue>
+    ensures asked { IfOk result
+        (λ asked. MatchOption asked (IsNoDeed name.now) (AsksDeed name.now (options_of matches.now))) }
+    ensures refused { IfErr result (RefusesDeed name.now (options_of matches.now)) }
+    ensures account { IfOk result (λ asked. IfSome asked NamesAccountToDo) }
+{
+    Ok(Some(match name {
         "init" => Deed::Init,
         "migrate" => Deed::Migrate,
         "account-add" => Deed::AddAccount {
@@ -170,14 +222,71 @@ fn asked_by_name<'a>(
             request: request(matches)?,
         },
         "serve" => serve_deed(matches)?,
-        "script" => return Ok(Some(Invocation::Script(value(matches, "keys")))),
         _ => return Ok(None),
-    };
-    Ok(Some(Invocation::On(value(matches, "db"), deed)))
+    }))
+}
+
+/// What a subcommand with these options looks at in a database; nothing where there is no such subcommand.
+fn look_by_name<'a>(name: &str, matches: &ArgMatches<'a>) -> Result<Option<Look<'a>>, BadValue>
+    ensures asked { IfOk result
+        (λ asked. MatchOption asked (IsNoLook name.now) (AsksLook name.now (options_of matches.now))) }
+    ensures refused { IfErr result (RefusesLook name.now (options_of matches.now)) }
+{
+    let keys = value(matches, "keys");
+    Ok(Some(match name {
+        "accounts" => Look::Accounts,
+        "requests" => Look::Requests {
+            all: is_set(matches, "all"),
+        },
+        "request-show" => Look::Request {
+            keys,
+            request: request(matches)?,
+        },
+        "certificate" => Look::Certificate {
+            keys,
+            request: request(matches)?,
+        },
+        "check" => Look::Check {
+            keys,
+            grades: grades_asked(matches)?,
+        },
+        _ => return Ok(None),
+    }))
+}
+
+/// What a subcommand with these options asks for; nothing where there is no such subcommand.
+fn asked_by_name<'a>(
+    name: &str,
+    matches: &ArgMatches<'a>,
+) -> Result<Option<Invocation<'a>>, BadValue>
+    ensures asked { IfOk result
+        (λ asked. MatchOption asked (IsNoName name.now) (AsksFor name.now (options_of matches.now))) }
+    ensures refused { IfErr result (RefusesName name.now (options_of matches.now)) }
+    ensures account { IfOk result (λ asked. IfSome asked NamesAccount) }
+{
+    let db = value(matches, "db");
+    if let Some(deed) = deed_by_name(name, matches)? {
+        return Ok(Some(Invocation::On(db, deed)));
+    }
+    if let Some(look) = look_by_name(name, matches)? {
+        return Ok(Some(Invocation::At(db, look)));
+    }
+    Ok(match name {
+        "backup" => Some(Invocation::Backup {
+            db,
+            to: value(matches, "to"),
+        }),
+        "restore" => Some(Invocation::Restore {
+            from: value(matches, "from"),
+            db,
+        }),
+        "script" => Some(Invocation::Script(value(matches, "keys"))),
+        _ => None,
+    })
 }
 
 /// What the command line asks for.
-pub fn asked_by<'a>(matches: &ArgMatches<'a>) -> Result<Option<Invocation<'a>>, BadNumber>
+pub fn asked_by<'a>(matches: &ArgMatches<'a>) -> Result<Option<Invocation<'a>>, BadValue>
     ensures asked { IfOk result (λ asked. MatchOption asked (IsNothingAsked (subcommand_rows_of matches.now))
         (IsAsked (subcommand_rows_of matches.now))) }
     ensures refused { IfErr result (IsRefused (subcommand_rows_of matches.now)) }

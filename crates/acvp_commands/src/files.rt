@@ -5,9 +5,7 @@ ghost use Rattle.acvp_commands.specs.Files.{HasNoKeys, HasNoSecret, HoldsKeys, H
 use crate::fault::Fault;
 use crate::keys::{bytes_of, read_keys};
 use acvp_desk::Keys;
-use std::alloc::AllocGlobal;
-use std::rt::Files;
-use std::{fs, io};
+use std::io;
 
 /// Where files are read from.
 pub trait TextFiles {
@@ -25,24 +23,6 @@ pub trait TextFiles {
     fn text_of(&self, path: &str) -> io::Result<Vec<u8>>
         ensures { MatchResult result (λ text. holds self.now path.now text.items)
             (λ error. fails self.now path.now (error_kind error)) };
-}
-
-/// The files of the machine.
-#[derive(Drop)]
-pub struct SystemFiles<'a, R>(pub &'a R);
-
-impl<'a, R: Files + AllocGlobal> TextFiles for SystemFiles<'a, R> {
-    ghost use Rattle.std.specs.Prelude.{⊤};
-
-    // No contract can say what a file of the machine holds.
-    ghost holds = { λ _ _ _. ⊤ };
-
-    ghost fails = { λ _ _ _. ⊤ };
-
-    fn text_of(&self, path: &str) -> io::Result<Vec<u8>> {
-        let SystemFiles(rt) = self;
-        fs::read(*rt, path)
-    }
 }
 
 /// The keys in a file.

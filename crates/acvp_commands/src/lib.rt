@@ -16,10 +16,10 @@ mod serving;
 mod status;
 mod work;
 
-pub use asked::{BadNumber, Deed, Invocation, asked_by};
+pub use asked::{BadValue, Deed, Invocation, Look, asked_by};
 pub use done::{done_over, make_tables};
 pub use fault::Fault;
-pub use files::{SystemFiles, TextFiles, keys_in, secret_in};
+pub use files::{TextFiles, keys_in, secret_in};
 pub use host::{Host, Service, desk_over};
 pub use keys::{bytes_of, read_keys};
 pub use life::{

@@ -8,9 +8,6 @@ pub(crate) const VERBOSE: &str = "verbose";
 /// The flag by which a line is written for each event that is served.
 pub(crate) const LOG: &str = "log";
 
-/// The flag by which all requests are shown.
-pub(crate) const ALL: &str = "all";
-
 /// An option that a subcommand has.
 struct Wanted {
     /// Its name.
@@ -132,7 +129,7 @@ const FROM_OPTION: Wanted = Wanted {
 };
 
 const ALL_FLAG: Wanted = Wanted {
-    name: ALL,
+    name: "all",
     value: "",
     help: "Shows the requests that were decided, too",
     form: Form::Flag,

@@ -3,10 +3,10 @@
 ghost use Rattle.std.specs.Prelude.{◌≡◌};
 ghost use Rattle.acvp_server.specs.Faults.{fault_of_view};
 
-use crate::database::{fault_of_files, named};
-use crate::makers::own_keys;
+use crate::database::fault_of_files;
+use crate::makers::own_files;
 use acvp_audit::Watch;
-use acvp_commands::{Fault, SystemFiles, keys_in, moment_of};
+use acvp_commands::{Fault, Look, keys_in, moment_of};
 use acvp_files::{FileTables, tables_of_copy};
 use acvp_view::{
     Printed, ViewFault, show_accounts, show_certificate, show_certified, show_check, show_request,
@@ -14,25 +14,6 @@ use acvp_view::{
 };
 use std::alloc::AllocGlobal;
 use std::io::IsTerminal;
-
-/// What is looked at, in the database at a path.
-#[derive(Clone, Copy)]
-pub(crate) enum Look<'a> {
-    /// All accounts.
-    Accounts,
-
-    /// The requests that wait for a decision, or all.
-    Requests { all: bool },
-
-    /// What a decision on the request of a number needs, under the keys in a file.
-    Request { keys: &'a str, number: u64 },
-
-    /// The document of the approved certification of a request's number, under the keys in a file.
-    Certificate { keys: &'a str, number: u64 },
-
-    /// Whether the rows are records that are kept under the keys in a file, with the verdicts on answers or without.
-    Check { keys: &'a str, grades: bool },
-}
 
 /// The fault of what isn't shown.
 fn fault_of_view(fault: ViewFault) -> Fault
@@ -49,8 +30,7 @@ fn fault_of_view(fault: ViewFault) -> Fault
 
 /// The tables of a copy of the database at a path.
 fn copy_of(rt: &HostRuntime, database: &str) -> Result<FileTables, Fault> {
-    let name = named(rt, database)?;
-    match tables_of_copy(rt, name.as_str()) {
+    match tables_of_copy(rt, database) {
         Ok(tables) => Ok(tables),
         Err(fault) => Err(fault_of_files(fault)),
     }
@@ -78,8 +58,7 @@ fn requests(rt: &HostRuntime, database: &str, all: bool) -> Result<bool, Fault> 
 
 /// Prints what a decision on the request of a number needs.
 fn request_show(rt: &HostRuntime, database: &str, keys: &str, number: u64) -> Result<bool, Fault> {
-    own_keys(rt, keys, Some(database))?;
-    let keys = keys_in(&SystemFiles(rt), keys)?;
+    let keys = keys_in(&own_files(rt, database), keys)?;
     let mut tables = copy_of(rt, database)?;
     let mut lines = Printed(rt);
     match show_request(rt.alloc(), &mut tables, &mut lines, number) {
@@ -97,8 +76,7 @@ fn request_show(rt: &HostRuntime, database: &str, keys: &str, number: u64) -> Re
 
 /// Prints the document of the approved certification of a request's number.
 fn certificate(rt: &HostRuntime, database: &str, keys: &str, number: u64) -> Result<bool, Fault> {
-    own_keys(rt, keys, Some(database))?;
-    let keys = keys_in(&SystemFiles(rt), keys)?;
+    let keys = keys_in(&own_files(rt, database), keys)?;
     let mut tables = copy_of(rt, database)?;
     seen(show_certificate(
         rt.alloc(),
@@ -132,8 +110,7 @@ fn tell_damaged(rt: &HostRuntime) -> bool {
 
 /// Prints what a check of the rows comes to, and says whether they are whole.
 fn checked(rt: &HostRuntime, database: &str, keys: &str, grades: bool) -> Result<bool, Fault> {
-    own_keys(rt, keys, Some(database))?;
-    let keys = keys_in(&SystemFiles(rt), keys)?;
+    let keys = keys_in(&own_files(rt, database), keys)?;
     let mut tables = copy_of(rt, database)?;
     let is_shown = rt.stderr().is_terminal();
     let progress = Progress { rt, is_shown };
@@ -159,8 +136,8 @@ pub(crate) fn shown(rt: &HostRuntime, database: &str, look: Look<'_>) -> Result<
     match look {
         Look::Accounts => accounts(rt, database),
         Look::Requests { all } => requests(rt, database, all),
-        Look::Request { keys, number } => request_show(rt, database, keys, number),
-        Look::Certificate { keys, number } => certificate(rt, database, keys, number),
+        Look::Request { keys, request } => request_show(rt, database, keys, request),
+        Look::Certificate { keys, request } => certificate(rt, database, keys, request),
         Look::Check { keys, grades } => checked(rt, database, keys, grades),
     }
 }

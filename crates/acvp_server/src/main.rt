@@ -1,10 +1,11 @@
 //! The program: its command line, and what each subcommand runs.
 #![tactic(auto)]
 
-ghost use Rattle.acvp_commands.specs.Asked.{NamesAccount};
+ghost use Rattle.acvp_commands.specs.Asked.{NamesAccount, NamesAccountToDo};
 
 mod command;
 mod database;
+mod failure;
 mod flags;
 mod host;
 mod looks;
@@ -14,18 +15,17 @@ mod printing;
 mod script;
 mod why;
 
-use crate::command::{ALL, LOG, VERBOSE, command};
-use crate::database::{Said, done_in, fault_of_files, named};
+use crate::command::{LOG, VERBOSE, command};
+use crate::database::{Said, done_in, named};
+use crate::failure::Failed;
 use crate::flags::Flags;
-use crate::looks::{Look, shown};
-use crate::makers::{own_keys, own_secret};
+use crate::looks::shown;
+use crate::makers::{OwnFiles, own_files};
 use crate::printing::print_line;
 use crate::script::script;
-use crate::why::{Copying, tell_because, why_failed, why_not_copied, why_not_shown};
+use crate::why::{tell_because, why_failed};
 use acvp_causes::{Because, Cause};
-use acvp_commands::{
-    BadNumber, Deed, Fault, Invocation, SystemFiles, asked_by, exit_status, request_number, work_of,
-};
+use acvp_commands::{Deed, Fault, Invocation, Look, asked_by, exit_status, work_of};
 use acvp_files::{backup, restore, tell_open, tell_open_database, tell_without_sums};
 use clap::error::ErrorKind;
 use clap::{ArgMatches, Error};
@@ -69,49 +69,92 @@ fn say(rt: &HostRuntime, said: Said, flags: Flags) -> Result<bool, Fault> {
     }
 }
 
-/// Warns of the files of a command that others may read: the database, and that of keys or of a secret.
+/// Warns of a file of keys or of a secret that others may read, which is taken with a deed.
+fn tell_open_deed(rt: &HostRuntime, deed: Deed<'_>) {
+    match deed {
+        Deed::AddAccount { secret, .. } => tell_open(rt, secret),
+        Deed::Serve { keys, .. } => tell_open(rt, keys),
+        _ => {}
+    }
+}
+
+/// Warns of a file of keys that others may read, under which is looked.
+fn tell_open_look(rt: &HostRuntime, look: Look<'_>) {
+    match look {
+        Look::Request { keys, .. } | Look::Certificate { keys, .. } | Look::Check { keys, .. } => {
+            tell_open(rt, keys);
+        }
+        Look::Accounts | Look::Requests { .. } => {}
+    }
+}
+
+/// Warns of the files of a command that others may read: the database, and those of keys, of a secret or of a backup.
 fn tell_open_files(rt: &HostRuntime, asked: Invocation<'_>) {
     match asked {
         Invocation::On(db, deed) => {
             tell_open_database(rt, db);
-            match deed {
-                Deed::AddAccount { secret, .. } => tell_open(rt, secret),
-                Deed::Serve { keys, .. } => tell_open(rt, keys),
-                _ => {}
-            }
+            tell_open_deed(rt, deed);
+        }
+        Invocation::At(db, look) => {
+            tell_open_database(rt, db);
+            tell_open_look(rt, look);
+        }
+        Invocation::Backup { db, .. } => tell_open_database(rt, db),
+        Invocation::Restore { from, db } => {
+            tell_open(rt, from);
+            tell_open_database(rt, db);
         }
         Invocation::Script(keys) => tell_open(rt, keys),
     }
 }
 
-/// Whether the files of keys and of secrets that a deed on a database names may be taken.
-fn are_own(rt: &HostRuntime, db: &str, deed: Deed<'_>) -> Result<(), Fault> {
-    match deed {
-        Deed::AddAccount { secret, .. } => own_secret(rt, secret, db),
-        Deed::Serve { keys, .. } => own_keys(rt, keys, Some(db)),
-        _ => Ok(()),
+/// Does something with a database, prints the line that says so, and says whether it is done.
+fn run_deed(rt: &HostRuntime, db: &str, deed: Deed<'_>, flags: Flags) -> Result<bool, Fault>
+    requires { NamesAccountToDo deed }
+{
+    let work = work_of(&own_files(rt, db), deed)?;
+    let name = named(rt, db)?;
+    let said = done_in(rt, name.as_str(), Wary, work, flags)?;
+    say(rt, said, flags)
+}
+
+/// Shows what is looked at in a database, and says whether it is as it must be. What a check of the rows doesn't tell is
+/// warned of.
+fn run_look(rt: &HostRuntime, db: &str, look: Look<'_>, flags: Flags) -> Result<bool, Fault> {
+    let is_well = shown(rt, db, look)?;
+    if flags.warns && matches!(look, Look::Check { .. }) {
+        tell_without_sums(rt, db);
+    }
+    Ok(is_well)
+}
+
+/// What printing a line came to.
+fn printed(outcome: io::Result<()>) -> Result<bool, Failed> {
+    match outcome {
+        Ok(()) => Ok(true),
+        Err(_) => Err(Failed::from(Fault::Write)),
     }
 }
 
 /// Carries out what the command line asks for, prints the line that says so, where there is one, and says whether it is
 /// done.
-fn run(rt: &HostRuntime, asked: Invocation<'_>, flags: Flags) -> Result<bool, Fault>
+fn run(rt: &HostRuntime, asked: Invocation<'_>, flags: Flags) -> Result<bool, Failed>
     requires { NamesAccount asked }
 {
-    if flags.warns {
-        tell_open_files(rt, asked);
-    }
     match asked {
-        Invocation::On(db, deed) => {
-            are_own(rt, db, deed)?;
-            let work = work_of(&SystemFiles(rt), deed)?;
-            let name = named(rt, db)?;
-            let said = done_in(rt, name.as_str(), Wary, work, flags)?;
-            say(rt, said, flags)
+        Invocation::On(db, deed) => Ok(run_deed(rt, db, deed, flags)?),
+        Invocation::At(db, look) => Ok(run_look(rt, db, look, flags)?),
+        Invocation::Backup { db, to } => {
+            let rows = backup(rt, db, to)?;
+            printed(println!(rt; "backed up: {rows} rows"))
+        }
+        Invocation::Restore { from, db } => {
+            restore(rt, from, db)?;
+            printed(println!(rt; "restored"))
         }
         Invocation::Script(keys) => {
-            own_keys(rt, keys, None)?;
-            script(rt, keys)?;
+            let database = None;
+            script(rt, &OwnFiles { rt, database }, keys)?;
             Ok(true)
         }
     }
@@ -151,78 +194,6 @@ fn failed(rt: &impl Eprint, fault: Fault) -> ExitCode {
     }
 }
 
-/// The exit status of a command that has ended so. A fault of its own is told.
-fn ended(rt: &HostRuntime, outcome: Result<bool, Fault>) -> ExitCode {
-    let status = exit_status(&outcome);
-    if let Err(fault) = outcome {
-        let _ = failed(rt, fault);
-    }
-    ExitCode::from(status)
-}
-
-/// The value of an option that the command wants.
-fn value<'a>(options: &ArgMatches<'a>, name: &str) -> &'a str {
-    options.get_str(name).unwrap_or("")
-}
-
-/// Makes a backup, and prints how many rows it has.
-fn make_backup(rt: &HostRuntime, db: &str, to: &str) -> Result<bool, Fault> {
-    let name = named(rt, db)?;
-    match backup(rt, name.as_str(), to) {
-        Ok(rows) => match println!(rt; "backed up: {rows} rows") {
-            Ok(()) => Ok(true),
-            Err(_) => Err(Fault::Write),
-        },
-        Err(fault) => Err(fault_of_files(fault)),
-    }
-}
-
-/// Puts a backup in the place of a database, and prints that it is there.
-fn put_back(rt: &HostRuntime, from: &str, db: &str) -> Result<bool, Fault> {
-    let (backup, name) = (named(rt, from)?, named(rt, db)?);
-    match restore(rt, backup.as_str(), name.as_str()) {
-        Ok(()) => match println!(rt; "restored") {
-            Ok(()) => Ok(true),
-            Err(_) => Err(Fault::Write),
-        },
-        Err(fault) => Err(fault_of_files(fault)),
-    }
-}
-
-/// The copy of a whole database that the command line asks for.
-fn copying_of<'a>(matches: &ArgMatches<'a>) -> Option<Copying<'a>> {
-    match matches.subcommand() {
-        Some(("backup", options)) => Some(Copying::Backup {
-            db: value(options, "db"),
-            to: value(options, "to"),
-        }),
-        Some(("restore", options)) => Some(Copying::Restore {
-            from: value(options, "from"),
-            db: value(options, "db"),
-        }),
-        _ => None,
-    }
-}
-
-/// Copies a whole database.
-fn copy(rt: &HostRuntime, copying: Copying<'_>, flags: Flags) -> Result<bool, Fault> {
-    match copying {
-        Copying::Backup { db, to } => {
-            if flags.warns {
-                tell_open_database(rt, db);
-            }
-            make_backup(rt, db, to)
-        }
-        Copying::Restore { from, db } => {
-            if flags.warns {
-                tell_open(rt, from);
-                tell_open_database(rt, db);
-            }
-            put_back(rt, from, db)
-        }
-    }
-}
-
 /// The flags of the command that the command line asks for.
 fn flags_of(rt: &HostRuntime, matches: &ArgMatches<'_>) -> Flags {
     let (is_verbose, is_logged) = match matches.subcommand() {
@@ -236,117 +207,30 @@ fn flags_of(rt: &HostRuntime, matches: &ArgMatches<'_>) -> Flags {
     }
 }
 
-/// Says why a command failed, behind its fault.
-fn tell_why(rt: &HostRuntime, because: Option<Because>) {
-    if let Some(because) = because {
+/// Tells a fault of a command, and why it failed, if that is asked for.
+fn tell_failed(rt: &HostRuntime, asked: Invocation<'_>, told: Failed, flags: Flags) {
+    let _ = failed(rt, told.fault);
+    if flags.is_verbose
+        && let Some(because) = why_failed(rt, asked, told)
+    {
         tell_because(rt, because);
     }
-}
-
-/// Copies a whole database, and gives the exit status.
-fn execute_copy(rt: &HostRuntime, copying: Copying<'_>, flags: Flags) -> ExitCode {
-    let outcome = copy(rt, copying, flags);
-    let code = ended(rt, outcome);
-    if let Err(fault) = outcome
-        && flags.is_verbose
-    {
-        tell_why(rt, why_not_copied(rt, copying, fault));
-    }
-    code
-}
-
-/// What of a request is looked at, by the name of the command, its keys and the request's number.
-fn request_look<'a>(name: &str, keys: &'a str, number: u64) -> Look<'a> {
-    if name == "certificate" {
-        Look::Certificate { keys, number }
-    } else {
-        Look::Request { keys, number }
-    }
-}
-
-/// What is said where it isn't told whether verdicts are compared.
-const BAD_GRADES: &str = "--grades is yes or no";
-
-/// The check that is asked for: with the verdicts, unless it is to leave them out.
-fn check_look<'a>(options: &ArgMatches<'a>) -> Option<Look<'a>> {
-    let grades = match options.get_str("grades") {
-        None | Some("yes") => true,
-        Some("no") => false,
-        Some(_) => return None,
-    };
-    let keys = value(options, "keys");
-    Some(Look::Check { keys, grades })
-}
-
-/// What the command line asks to look at, and in which database; or why it is refused.
-fn look_of<'a>(matches: &ArgMatches<'a>) -> Option<Result<(&'a str, Look<'a>), &'static str>> {
-    let (name, options) = matches.subcommand()?;
-    let look = match name {
-        "accounts" => Look::Accounts,
-        "requests" => Look::Requests {
-            all: options.get_flag(ALL),
-        },
-        "request-show" | "certificate" => match request_number(value(options, "request")) {
-            Some(number) => request_look(name, value(options, "keys"), number),
-            None => return Some(Err(BadNumber::Request.message())),
-        },
-        "check" => match check_look(options) {
-            Some(look) => look,
-            None => return Some(Err(BAD_GRADES)),
-        },
-        _ => return None,
-    };
-    Some(Ok((value(options, "db"), look)))
-}
-
-/// Warns of the files that others may read of what is looked at.
-fn tell_open_looked_at(rt: &HostRuntime, db: &str, look: Look<'_>) {
-    tell_open_database(rt, db);
-    match look {
-        Look::Request { keys, .. } | Look::Certificate { keys, .. } | Look::Check { keys, .. } => {
-            tell_open(rt, keys);
-        }
-        Look::Accounts | Look::Requests { .. } => {}
-    }
-}
-
-/// Warns of what a check of the rows doesn't tell.
-fn tell_looked_at(rt: &HostRuntime, db: &str, look: Look<'_>) {
-    if matches!(look, Look::Check { .. }) {
-        tell_without_sums(rt, db);
-    }
-}
-
-/// Shows what is looked at in a database, and gives the exit status.
-fn execute_look(rt: &HostRuntime, db: &str, look: Look<'_>, flags: Flags) -> ExitCode {
-    if flags.warns {
-        tell_open_looked_at(rt, db, look);
-    }
-    let outcome = shown(rt, db, look);
-    let code = ended(rt, outcome);
-    if flags.warns && outcome.is_ok() {
-        tell_looked_at(rt, db, look);
-    }
-    if let Err(fault) = outcome
-        && flags.is_verbose
-    {
-        tell_why(rt, why_not_shown(rt, db, look, fault));
-    }
-    code
 }
 
 /// Carries out what the command line asks for, and gives the exit status.
 fn execute_asked(rt: &HostRuntime, asked: Invocation<'_>, flags: Flags) -> ExitCode
     requires { NamesAccount asked }
 {
-    let outcome = run(rt, asked, flags);
-    let code = ended(rt, outcome);
-    if let Err(fault) = outcome
-        && flags.is_verbose
-    {
-        tell_why(rt, why_failed(rt, asked, fault));
+    if flags.warns {
+        tell_open_files(rt, asked);
     }
-    code
+    match run(rt, asked, flags) {
+        Ok(is_done) => ExitCode::from(exit_status(&Ok(is_done))),
+        Err(told) => {
+            tell_failed(rt, asked, told, flags);
+            ExitCode::from(exit_status(&Err(told.fault)))
+        }
+    }
 }
 
 /// How many bytes of the stack are touched before anything is done.
@@ -377,14 +261,6 @@ fn execute_words(rt: &HostRuntime, words: &[String]) -> ExitCode {
         Err(error) => return refused(rt, &error),
     };
     let flags = flags_of(rt, &matches);
-    if let Some(copying) = copying_of(&matches) {
-        return execute_copy(rt, copying, flags);
-    }
-    match look_of(&matches) {
-        Some(Ok((db, look))) => return execute_look(rt, db, look, flags),
-        Some(Err(why)) => return refused_for(rt, why),
-        None => {}
-    }
     match asked_by(&matches) {
         Ok(Some(asked)) => execute_asked(rt, asked, flags),
         Ok(None) => ExitCode::from(2),

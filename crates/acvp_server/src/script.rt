@@ -1,12 +1,11 @@
 //! Script mode: a script on standard input, over records in memory.
 use crate::database::tables_in_memory;
-use acvp_commands::{Fault, SystemFiles, desk_over, keys_in};
+use acvp_commands::{Fault, TextFiles, desk_over, keys_in};
 use acvp_desk::Desk;
 use acvp_http::{Flagged, Routes, run};
 use acvp_tables::Tables;
 use std::alloc::{AllocGlobal, Global};
 use std::io::{self, BufReader, Read, Write};
-use std::rt::Files;
 
 /// Runs the script that a reader holds at a desk, and writes its output to a writer.
 fn run_over<T: Tables, R: Read + Drop, W: Write + Drop>(
@@ -34,13 +33,14 @@ fn run_input<T: Tables, R: Input + Print + AllocGlobal>(
     }
 }
 
-/// Runs the script on standard input, over records in memory and under the keys in a file, and writes its output to
-/// standard output.
-pub(crate) fn script<R: Files + Input + Print + AllocGlobal>(
+/// Runs the script on standard input, over records in memory and under the keys in one of these files, and writes its
+/// output to standard output.
+pub(crate) fn script<F: TextFiles, R: Input + Print + AllocGlobal>(
     rt: &R,
+    files: &F,
     keys: &str,
 ) -> Result<(), Fault> {
-    let keys = keys_in(&SystemFiles(rt), keys)?;
+    let keys = keys_in(files, keys)?;
     let tables = tables_in_memory(rt.alloc())?;
     let mut desk = desk_over(rt.alloc(), keys, tables)?;
     run_input(rt, &mut desk)

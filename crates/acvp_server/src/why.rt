@@ -1,20 +1,15 @@
 //! Why a command failed, as far as it can be seen at its files afterwards.
-use crate::looks::Look;
+use crate::failure::Failed;
 use acvp_causes::{
     Because, Cause, Place, are_there, cause_of_database, cause_of_error, cause_of_folder,
-    cause_of_maker, cause_of_source, has_log, is_moved, keys_fault, name_of, secret_fault,
+    cause_of_maker, cause_of_source, has_log, is_companion, is_moved, keys_fault, name_of,
+    secret_fault, why_unnamed,
 };
-use acvp_commands::{Deed, Fault, Invocation, bytes_of, read_keys};
+use acvp_commands::{Deed, Fault, Invocation, Look, bytes_of, read_keys};
+use acvp_files::{Step, is_copy};
 use acvp_port::has_server;
 use std::alloc::AllocGlobal;
 use std::{fs, io};
-
-/// A copy of a whole database that is asked for, by the paths of its files.
-#[derive(Clone, Copy)]
-pub(crate) enum Copying<'a> {
-    Backup { db: &'a str, to: &'a str },
-    Restore { from: &'a str, db: &'a str },
-}
 
 /// The name of a database, or its path where there is no name: whoever looks at the path then tells why.
 fn name_or<'a>(name: &'a io::Result<String>, path: &'a str) -> &'a str {
@@ -116,24 +111,15 @@ fn why_failed_on(rt: &HostRuntime, name: &str, deed: Deed<'_>, fault: Fault) -> 
     }
 }
 
-/// Why a command failed so, where its fault's word doesn't say all.
-pub(crate) fn why_failed(rt: &HostRuntime, asked: Invocation<'_>, fault: Fault) -> Option<Because> {
-    match (asked, fault) {
-        (Invocation::On(db, deed), _) => {
-            let name = name_of(rt, db);
-            why_failed_on(rt, name_or(&name, db), deed, fault)
-        }
-        (Invocation::Script(keys), Fault::Keys) => { Some(why_keys(rt, keys, None, Cause::Good)) }
-        _ => None,
-    }
-}
-
 /// Why the database that an option names can't be copied, where that can be seen.
 fn why_uncopied(rt: &HostRuntime, option: &'static str, path: &str) -> Option<Because> {
     let name = match name_of(rt, path) {
         Ok(name) => name,
-        Err(error) => return Some(Because::of(option, cause_of_error(error))),
+        Err(error) => return Some(Because::of(option, why_unnamed(rt, path, error))),
     };
+    if is_copy(name.as_str()) {
+        return Some(Because::of(option, Cause::Left));
+    }
     if let Some(because) = cause_of_source(rt, option, name.as_str()) {
         return Some(because);
     }
@@ -146,51 +132,63 @@ fn why_uncopied(rt: &HostRuntime, option: &'static str, path: &str) -> Option<Be
     }
 }
 
-/// Why a backup failed.
-fn why_no_backup(rt: &HostRuntime, db: &str, to: &str) -> Because {
-    match why_uncopied(rt, "--db", db) {
-        Some(because) => because,
-        None => Because::of("--to", cause_of_folder(rt, to).unwrap_or(Cause::Copy)),
-    }
+/// Why a copy can't have a path where there is no file.
+fn why_unplaced(rt: &HostRuntime, option: &'static str, path: &str) -> Because {
+    let cause = if is_companion(path) {
+        Cause::Companion
+    } else if is_copy(path) {
+        Cause::Left
+    } else {
+        cause_of_folder(rt, path).unwrap_or(Cause::Unplaced)
+    };
+    Because::of(option, cause)
 }
 
-/// Why a restore failed.
-fn why_not_restored(rt: &HostRuntime, from: &str, db: &str) -> Because {
-    if let Some(because) = why_uncopied(rt, "--from", from) {
-        return because;
-    }
+/// Why a copy can't be put in the place of a database.
+fn why_not_replaced(rt: &HostRuntime, db: &str) -> Because {
     if let Err(error) = name_of(rt, db) {
-        return Because::of("--db", cause_of_error(error));
+        return Because::of("--db", why_unnamed(rt, db, error));
     }
     match cause_of_held(rt, db) {
         Some(because) if is_missing(because) && has_log(rt, db) => {
             Because::of("--db", Cause::LogAlone)
         }
         Some(because) if !is_missing(because) => because,
-        _ => Because::of("--from", Cause::Copy),
+        _ => why_unplaced(rt, "--db", db),
     }
 }
 
-/// Why a copy failed so, where its fault's word doesn't say all.
-pub(crate) fn why_not_copied(
-    rt: &HostRuntime,
-    asked: Copying<'_>,
-    fault: Fault,
-) -> Option<Because> {
-    match (asked, fault) {
-        (Copying::Backup { db, to }, Fault::Unavailable) => Some(why_no_backup(rt, db, to)),
-        (Copying::Restore { from, db }, Fault::Unavailable) => Some(why_not_restored(rt, from, db)),
-        _ => None,
+/// Why a database that an option names wasn't copied, by the step that failed.
+fn why_at_source(rt: &HostRuntime, option: &'static str, path: &str, step: Step) -> Because {
+    let seen = match step {
+        Step::Content => None,
+        _ => why_uncopied(rt, option, path),
+    };
+    match (seen, step) {
+        (Some(because), _) => because,
+        (None, Step::Content) => Because::of(option, Cause::Damaged),
+        (None, _) => Because::of(option, Cause::Copy),
+    }
+}
+
+/// Why there is no backup, by the step that failed.
+fn why_no_backup(rt: &HostRuntime, db: &str, to: &str, step: Step) -> Because {
+    match step {
+        Step::Target => why_unplaced(rt, "--to", to),
+        _ => why_at_source(rt, "--db", db, step),
+    }
+}
+
+/// Why a backup wasn't restored, by the step that failed.
+fn why_not_restored(rt: &HostRuntime, from: &str, db: &str, step: Step) -> Because {
+    match step {
+        Step::Target => why_not_replaced(rt, db),
+        _ => why_at_source(rt, "--from", from, step),
     }
 }
 
 /// Why nothing was shown of a database, where the fault's word doesn't say all.
-pub(crate) fn why_not_shown(
-    rt: &HostRuntime,
-    db: &str,
-    look: Look<'_>,
-    fault: Fault,
-) -> Option<Because> {
+fn why_not_shown(rt: &HostRuntime, db: &str, look: Look<'_>, fault: Fault) -> Option<Because> {
     match (look, fault) {
         (Look::Request { keys, .. } | Look::Check { keys, .. }, Fault::Keys) => {
             Some(why_keys(rt, keys, Some(db), Cause::NoSeed))
@@ -202,6 +200,30 @@ pub(crate) fn why_not_shown(
             Some(because) => Some(because),
             None => Some(Because::of("--db", Cause::Store(""))),
         },
+        _ => None,
+    }
+}
+
+/// Why a command failed so, where its fault's word doesn't say all.
+pub(crate) fn why_failed(
+    rt: &HostRuntime,
+    asked: Invocation<'_>,
+    failed: Failed,
+) -> Option<Because> {
+    let fault = failed.fault;
+    match (asked, fault, failed.step) {
+        (Invocation::On(db, deed), _, _) => {
+            let name = name_of(rt, db);
+            why_failed_on(rt, name_or(&name, db), deed, fault)
+        }
+        (Invocation::At(db, look), _, _) => why_not_shown(rt, db, look, fault),
+        (Invocation::Backup { db, to }, Fault::Unavailable, Some(step)) => {
+            Some(why_no_backup(rt, db, to, step))
+        }
+        (Invocation::Restore { from, db }, Fault::Unavailable, Some(step)) => {
+            Some(why_not_restored(rt, from, db, step))
+        }
+        (Invocation::Script(keys), Fault::Keys, _) => Some(why_keys(rt, keys, None, Cause::Good)),
         _ => None,
     }
 }
