@@ -5,6 +5,7 @@
 SLOW_LOCK and NO_LINKS are libraries that are preloaded into the program: the one holds it up before it locks a file, the
 other lets it make no second name."""
 import contextlib
+import fcntl
 import os
 import shutil
 import signal
@@ -60,6 +61,17 @@ def looks_over(lab, path):
             ["request-show", "--db", path, "--keys", lab.keys, "--request", "1000001"],
             ["certificate", "--db", path, "--keys", lab.keys, "--request", "1000001"],
             ["check", "--db", path, "--keys", lab.keys], ["backup", "--db", path, "--to", lab.path("none.db")]]
+
+
+def elsewhere(script, lab, *args):
+    """Runs the program with mounts of its own, which a script has made before."""
+    ran = subprocess.run(["unshare", "--mount", "sh", "-c", f'{script} && exec "$@"', "sh", lab.program, *args],
+                         stdin=subprocess.DEVNULL, capture_output=True, text=True, timeout=60)
+    return ran.returncode, ran.stdout, ran.stderr
+
+
+def may_mount():
+    return IS_ROOT and subprocess.run(["unshare", "--mount", "mount", "-t", "tmpfs", "none", "/mnt"], capture_output=True).returncode == 0
 
 
 def serving(lab, path, keys=None):
@@ -171,6 +183,146 @@ def moved_while_serving(lab):
     lab.kill()
 
 
+def without_proc(lab):
+    """A command that can't read /proc refuses all the same what was moved from its log, and what another user made."""
+    lab.add(1)
+    lab.backs_up("kept.db")
+    if not may_mount():
+        print("skipped: a system without /proc (it lets nobody mount here)")
+        return
+    no_proc = "mount -t tmpfs none /proc"
+    expect("an order without /proc", elsewhere(no_proc, lab, "account-disable", "--db", lab.db, "--account", "1"),
+           (0, "account 1 disabled\n", ""))
+    lab.serve(count=None)
+    lab.add(2)
+    expect("a backup without /proc", elsewhere(no_proc, lab, "backup", "--db", lab.db, "--to", lab.path("b.db"))[0], 0)
+    expect("its accounts", account_lines(lab, lab.path("b.db")), ["1", "2"])
+    moved = lab.path("moved.db")
+    os.rename(lab.db, moved)
+    for command in looks_over(lab, moved):
+        expect(f"the command {command[0]} over a moved file, without /proc", elsewhere(no_proc, lab, *command),
+               (1, "", "fault: unavailable\n"))
+    os.rename(moved, lab.db)
+    lab.kill()
+    for path in (lab.db + "-wal", lab.keys):
+        os.chown(path, NOBODY, NOBODY)
+    expect("a log of another user, without /proc", elsewhere(no_proc, lab, "accounts", "--db", lab.db), (1, "", "fault: unavailable\n"))
+    expect("keys of another user, without /proc", elsewhere(no_proc, lab, "script", "--keys", lab.keys), (1, "", "fault: keys\n"))
+
+
+def same_numbers(lab):
+    """Files of one number on two file systems in memory are told apart: while one is served, the other is backed up."""
+    one, other = lab.path("one"), lab.path("other")
+    os.mkdir(one)
+    os.mkdir(other)
+    if not IS_ROOT or any(subprocess.run(["mount", "-t", "tmpfs", "none", folder], capture_output=True).returncode for folder in (one, other)):
+        print("skipped: two file systems in memory (the system lets nobody mount here)")
+        return
+    own = lab.db
+    try:
+        numbers = []
+        for folder in (one, other):
+            lab.db = os.path.join(folder, "laboratory.db")
+            lab.does("ready", "init", "--db", lab.db)
+            lab.add(1)
+            numbers.append(os.stat(lab.db).st_ino)
+        expect("the numbers of the files", numbers[0], numbers[1])
+        lab.serve(count=None)
+        idle = os.path.join(one, "laboratory.db")
+        expect("the accounts of the idle file", account_lines(lab, idle), ["1"])
+        lab.backs_up("of-idle.db", idle)
+        lab.add(2)
+        expect("the accounts of the served file", account_lines(lab, lab.db), ["1", "2"])
+        lab.kill()
+    finally:
+        lab.kill()
+        lab.db = own
+        for folder in (one, other):
+            subprocess.run(["umount", folder], check=True)
+
+
+def names_of_neighbours(lab):
+    """No command makes or takes a database by a name of what lies beside one."""
+    lab.add(1)
+    lab.backs_up("kept.db")
+    why = "its name is that of a file beside a database (-wal, -shm, -journal, -orders)"
+    for end in ("-wal", "-shm", "-journal", "-orders"):
+        path = lab.path("other.db" + end)
+        refused(lab, f"--db: {why}", "init", "--db", path)
+        refused(lab, f"--to: {why}", "backup", "--db", lab.db, "--to", path)
+        refused(lab, f"--db: {why}", "restore", "--from", lab.path("kept.db"), "--db", path)
+        expect(f"a file of the name {path}", os.path.lexists(path), False)
+        shutil.copy(lab.path("kept.db"), path)
+        for command in commands_over(lab, path) + looks_over(lab, path) + [serving(lab, path)]:
+            refused(lab, f"--db: {why}", *command)
+        refused(lab, f"--from: {why}", "restore", "--from", path, "--db", lab.db)
+        expect("what it holds", bytes_of(path), bytes_of(lab.path("kept.db")))
+    copy = lab.path("other.db-part-1795862400123456789")
+    left = "it is a copy that a killed command may have left: copy it to another name, if it is whole"
+    refused(lab, f"--to: {left}", "backup", "--db", lab.db, "--to", copy)
+    refused(lab, f"--db: {left}", "restore", "--from", lab.path("kept.db"), "--db", copy)
+    lab.fails("unavailable", "init", "--db", copy)
+    expect("a file of a copy's name", os.path.lexists(copy), False)
+    expect("the accounts", account_lines(lab, lab.db), ["1"])
+
+
+def second_names(lab):
+    """The second name that a killed command has left of a file whose copy it made is taken away; while somebody makes
+    the copy, it stays."""
+    lab.add(1)
+    lab.backs_up("kept.db")
+    kept, part = lab.path("kept.db"), lab.path("laboratory.db-part-1795862400123456789")
+    os.link(kept, part)
+    lab.does("restored", "restore", "--from", kept, "--db", lab.db)
+    expect("the names of a backup that was restored", (os.path.lexists(part), os.stat(kept).st_nlink), (False, 1))
+    for number, command in enumerate([["account-disable", "--db", lab.db, "--account", "1"], ["accounts", "--db", lab.db],
+                                      ["backup", "--db", lab.db, "--to", lab.path("b.db")]]):
+        os.link(lab.db, part)
+        os.link(kept, part[:-1] + "8")
+        expect(f"the command {command[0]} over a file of two names", lab.run(*command)[::2], (0, ""))
+        expect(f"its names behind {command[0]}", os.stat(lab.db).st_nlink, 1)
+        if os.path.exists(part[:-1] + "8"):
+            os.remove(part[:-1] + "8")
+    os.link(lab.db, part)
+    with open(part, "rb") as making:
+        fcntl.flock(making, fcntl.LOCK_EX)
+        refused(lab, "--db: it has 2 names (hard links), and may have one", "account-disable", "--db", lab.db, "--account", "1")
+        expect("a copy that is being made", os.path.lexists(part), True)
+    lab.does("account 1 disabled", "account-disable", "--db", lab.db, "--account", "1")
+
+
+def blamed(lab):
+    """A cause names the option whose file it is of, also behind the first step of a copy."""
+    lab.add(1)
+    lab.backs_up("kept.db")
+    damaged = lab.path("damaged.db")
+    whole = bytes_of(lab.path("kept.db"))
+    lab.write(damaged, whole[:-40] + bytes(byte ^ 255 for byte in whole[-40:]))
+    page = "a page of it is damaged, or it can't be opened"
+    refused(lab, f"--db: {page}", "backup", "--db", damaged, "--to", lab.path("b.db"))
+    refused(lab, f"--from: {page}", "restore", "--from", damaged, "--db", lab.db)
+    refused(lab, "--db: the copy is whole, and can't be put there", "restore", "--from", lab.path("kept.db"), "--db", damaged)
+    missing = "it can't be opened: No such file or directory (os error 2)"
+    refused(lab, f"--to: {missing}", "backup", "--db", lab.db, "--to", lab.path("no/b.db"))
+    refused(lab, f"--db: {missing}", "restore", "--from", lab.path("kept.db"), "--db", lab.path("no/b.db"))
+    left = lab.path("laboratory.db-part-1790000000000000000")
+    shutil.copy(lab.path("kept.db"), left)
+    refused(lab, "--from: it is a copy that a killed command may have left: copy it to another name, if it is whole",
+            "restore", "--from", left, "--db", lab.db)
+    expect("the accounts", account_lines(lab, lab.db), ["1"])
+
+
+def empty_files(lab):
+    """An empty file has no tables: but for init, no command writes into it."""
+    lab.add(1)
+    lab.backs_up("kept.db")
+    empty = lab.write(lab.path("empty.db"), "")
+    for command in commands_over(lab, empty)[:-1] + [serving(lab, empty)]:
+        lab.fails("schema", *command)
+        expect(f"an empty file behind {command[0]}", (bytes_of(empty), os.path.exists(empty + "-wal")), (b"", False))
+    lab.does("ready", "init", "--db", empty)
+
+
 def journals(lab):
     """Beside a journal that sqlite3 has to settle no command takes the file as it is."""
     lab.add(1)
@@ -225,6 +377,7 @@ def renamed_meanwhile(lab, slow_lock):
     if IS_ROOT:
         for path in (lab.db, lab.db + "-wal"):
             os.chown(path, NOBODY, NOBODY)
+        os.chown(lab.folder, NOBODY, NOBODY)
     os.chmod(lab.db, 0o640)
     before, gate = os.stat(victim), lab.path("gate")
     slow = subprocess.Popen([lab.program, "restore", "--from", lab.path("kept.db"), "--db", lab.db],
@@ -352,7 +505,7 @@ def foreign_texts(lab):
     os.chmod(lab.keys, 0o644)
     expect("a script with keys of root", lab.run("script", "--keys", lab.keys, **own), (0, "", ""))
     # those of the database's owner by root too, through a link as well; a script has no database
-    for path in (lab.db, lab.db + "-wal"):
+    for path in (lab.db, lab.db + "-wal", lab.folder):
         os.chown(path, NOBODY, NOBODY)
     for number, path in (("2", lab.db), ("3", link)):
         expect("a check with keys of the database's owner", lab.run("check", "--db", path, "--keys", keys)[::2], (0, ""))
@@ -362,6 +515,49 @@ def foreign_texts(lab):
     lab.serve(keys=keys)
     lab.kill()
     lab.fails("keys", "script", "--keys", keys)
+
+
+def planted(lab):
+    """A database that another user has made beforehand isn't opened, nor one by a link that another user has made. The
+    owner of the folder isn't another."""
+    if not IS_ROOT:
+        print("skipped: a database of another user (only root may make one)")
+        return
+    lab.add(1)
+    lab.backs_up("kept.db")
+    new = lab.write(lab.path("new.db"), "")
+    os.chown(new, NOBODY, NOBODY)
+    why = f"--db: it belongs to user {NOBODY}, not to root, its folder's owner or the user of the command"
+    refused(lab, why, "init", "--db", new)
+    expect("an empty file of another user", (bytes_of(new), os.path.exists(new + "-wal")), (b"", False))
+    for path in (lab.db, lab.db + "-wal"):
+        os.chown(path, NOBODY, NOBODY)
+    before = bytes_of(lab.db)
+    for command in commands_over(lab, lab.db) + [["init", "--db", lab.db], serving(lab, lab.db)]:
+        refused(lab, why, *command)
+    expect("a database of another user", (bytes_of(lab.db), os.stat(lab.db).st_uid), (before, NOBODY))
+    # it may be read
+    expect("the accounts of another user's database", account_lines(lab, lab.db), ["1"])
+    lab.backs_up("of-another.db")
+    # in that user's own folder it is served
+    os.chown(lab.folder, NOBODY, NOBODY)
+    lab.does("account 1 disabled", "account-disable", "--db", lab.db, "--account", "1")
+    for path in (lab.folder, lab.db, lab.db + "-wal"):
+        os.chown(path, 0, 0)
+    link = lab.path("link.db")
+    os.symlink(lab.db, link)
+    os.chown(link, NOBODY, NOBODY, follow_symlinks=False)
+    why = f"it is a link of user {NOBODY}, not of root, the owner of what it leads to or the user of the command"
+    for command in commands_over(lab, link) + looks_over(lab, link) + [["init", "--db", link], serving(lab, link)]:
+        refused(lab, f"--db: {why}", *command)
+    refused(lab, f"--from: {why}", "restore", "--from", link, "--db", lab.db)
+    expect("the accounts behind the link", account_lines(lab, lab.db), ["1"])
+    keys = lab.path("link-to-keys")
+    os.symlink(lab.keys, keys)
+    os.chown(keys, NOBODY, NOBODY, follow_symlinks=False)
+    for command in (["script", "--keys", keys], serving(lab, lab.db, keys), ["check", "--db", lab.db, "--keys", keys]):
+        lab.fails("keys", *command)
+        expect(f"why {command[0]} is refused", lab.run(*command, "--verbose")[2].splitlines()[-1], f"because: --keys: {why}")
 
 
 def kept_owner(lab):
@@ -374,6 +570,7 @@ def kept_owner(lab):
     else:
         print("skipped: a restore over another user's file (only root may make one)")
     for owner, group, rights in owners:
+        os.chown(lab.folder, owner, group)
         for path in (lab.db, lab.db + "-wal"):
             if os.path.exists(path):
                 os.chown(path, owner, group)
@@ -463,7 +660,8 @@ def main():
     began = time.time()
     parts = [(links,), (hard_links,), (mounts,), (moved_while_serving,), (journals,), (restore_beside_a_start, slow_lock),
              (foreign_neighbours,), (foreign_texts,), (kept_owner,), (without_links, no_links), (left_copies, slow_lock)]
-    parts += [(left_beside,), (renamed_meanwhile, slow_lock)]
+    parts += [(left_beside,), (renamed_meanwhile, slow_lock), (planted,), (without_proc,), (same_numbers,), (names_of_neighbours,),
+              (second_names,), (blamed,), (empty_files,)]
     for part, *more in parts:
         with tempfile.TemporaryDirectory() as folder:
             lab = Laboratory(program, folder)
