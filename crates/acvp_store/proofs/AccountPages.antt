@@ -23,7 +23,8 @@ use Rattle.acvp_store.specs.Schema.{Layout, schema_of}
 use Rattle.acvp_store.specs.Rows.{session_tree, session_row, HoldsSessions, session_shown}
 use Rattle.acvp_store.proofs.Owned.{last_number, in_range, range_drops, rising_dropped, session_numbers, session_selection}
 use Rattle.acvp_store.proofs.OrderedPages.{paged, capped_page}
-use Rattle.acvp_store.proofs.PageTexts.{within, page_sessions, sessions_is, sessions_plain, sessions_unlisted, session_columns}
+use Rattle.acvp_store.proofs.QueryForms.{within}
+use Rattle.acvp_store.proofs.Readings.{SessionPage, answers, reading_text, session_terms}
 use Rattle.acvp_store.proofs.Parts.{both_true}
 use Rattle.acvp_store.proofs.SelectedRows.{truth_back}
 
@@ -48,7 +49,7 @@ page_params u o l = whole (first_of_account u + min o 999999) ∷ whole (last_nu
 
 -- ---- sessions
 
-pub session_page : (layout : Layout) (u o l : ℕ) (old new : State) (rows : List Row) → old.now.schema ≡ schema_of layout → Shown page_sessions (page_params u o l) old new rows
+pub session_page : (layout : Layout) (u o l : ℕ) (old new : State) (rows : List Row) → old.now.schema ≡ schema_of layout → Shown (reading_text SessionPage) (page_params u o l) old new rows
     → (c : Content) → AreWellNumbered c → HoldsSessions (old.now.trees session_tree) c.sessions → rows ≡ map session_shown (page o l (sessions_of u c.sessions))
 session_page layout u o l old new rows schema shown c sound h =
     let key = λ (s : SessionRow). s.number in
@@ -56,7 +57,7 @@ session_page layout u o l old new rows schema shown c sound h =
     let selection = session_selection c u sound in
     let picked = range_drops key account u (min o 999999) (λ s. true) c.sessions (session_numbers c sound) selection.numbered in
     let whole_list = subst (λ xs. IsPermutation xs c.sessions) (sym (map-id h.ordered)) h.same in
-    let it = paged (page_params u o l) session_row (λ s. s) (in_range key account u (min o 999999)) (within 0) session_columns 0 key session_shown (λ s. test_range s.number (first_of_account u + min o 999999) (last_number u)) (λ s. refl) (λ s. refl) session_tree (min l most) refl
+    let it = paged (page_params u o l) session_row (λ s. s) (in_range key account u (min o 999999)) (within 0) session_terms 0 key session_shown (λ s. test_range s.number (first_of_account u + min o 999999) (last_number u)) (λ s. refl) (λ s. refl) session_tree (min l most) refl
     (overlay old.now.trees []) h.ordered c.sessions rows h.rows_are whole_list (rw picked (rising_dropped key (min o 999999) (first_of_account u) (sessions_of u c.sessions) selection.numbered))
-    ((reads_as page_sessions (page_params u o l) old new (schema_of layout) schema _ (sessions_is layout) (sessions_plain layout) (sessions_unlisted layout) rows shown).answer Null) in
+    (answers SessionPage layout (page_params u o l) old new rows schema shown) in
     it ∙ ap (map session_shown) (ap (take (min l most)) picked ∙ capped_page o l (sessions_of u c.sessions) selection.few)

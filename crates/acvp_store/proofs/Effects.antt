@@ -1,11 +1,11 @@
 -- What a statement makes of the one table that it writes, whichever that is.
-use Rattle.std.proofs.Common.{◌≡◌, ◌<◌, ◌^◌, ◌/◌, ◌≢◌, ℕ, pos, List, [], ◌∷◌, ◌++◌, map, length, false, Option, Some, None, Ok, sym, ap, subst, ◌∙◌}
-use Rattle.std.specs.Prelude.{◌==◌, drop, slice_get}
+use Rattle.std.proofs.Common.{◌≡◌, ◌<◌, ◌^◌, ◌/◌, ◌≢◌, ℕ, List, [], ◌∷◌, ◌++◌, map, length, false, Option, Some, None, Ok, sym, ap, subst, ◌∙◌}
+use Rattle.std.specs.Prelude.{◌==◌, slice_get}
 use Rattle.std.specs.List.{list_all}
 use Rattle.sqlite.specs.declared.types.Value.TheVariants.{Null}
 use Rattle.sqlite.specs.Order.{Row}
 use Rattle.sqlite.specs.Program.{overlay}
-use Rattle.sqlite.specs.Command.TheVariants.{Insert, Update}
+use Rattle.sqlite.specs.Command.TheVariants.{Insert}
 use Rattle.sqlite.specs.Source.TheVariants.{Values}
 use Rattle.sqlite.specs.Edit.{edit_of}
 use Rattle.sqlite.specs.Rowids.TheVariants.{Chosen}
@@ -19,10 +19,15 @@ use Rattle.sqlite.specs.Rows.{Written, Task}
 use Rattle.sqlite.specs.State.{State, mode_of}
 use Rattle.sqlite.specs.declared.run.Mode.{Mode}
 use Rattle.sqlite_rules.specs.Action.{Writes}
-use Rattle.sqlite_rules.specs.Calls.{ids_of}
+use Rattle.sqlite_schema.specs.declared.command.Command.{Command}
 use Rattle.sqlite_schema.specs.declared.schema.Column.{Column}
 use Rattle.sqlite_schema.specs.declared.schema.Keys.TheVariants.{Enforced}
 use Rattle.sqlite_schema.specs.declared.schema.Reference.{Reference}
+use Rattle.sqlite_schema.specs.declared.schema.Schema.{Schema}
+use Rattle.sqlite_sql.specs.declared.ops.BinaryOp.TheVariants.{Compare}
+use Rattle.sqlite_sql.specs.declared.ops.CompareOp.TheVariants.{Eq}
+use Rattle.sqlite.specs.Collation.TheVariants.{Binary}
+use Rattle.sqlite.specs.Ops.{is_true, binary}
 use Rattle.sqlite_trees.proofs.ListLemmas.{all_both}
 use Rattle.acvp_store.specs.Values.{whole}
 use Rattle.acvp_store.specs.Schema.{Layout, schema_of, table_by_number}
@@ -30,11 +35,12 @@ use Rattle.acvp_store.specs.Kept.{AreKept}
 use Rattle.acvp_store.specs.Alters.{Alters, SparesOthers}
 use Rattle.acvp_store.proofs.Idle.{applied}
 use Rattle.acvp_store.proofs.Keyed.{changing}
-use Rattle.acvp_store.proofs.Parts.{went, same_value}
-use Rattle.acvp_store.proofs.SelectedRows.{selected}
+use Rattle.acvp_store.proofs.Parts.{went, same_value, and_true}
+use Rattle.acvp_store.proofs.SelectedRows.{selected, test_equals}
 use Rattle.acvp_store.proofs.InsertedRow.{inserts}
 use Rattle.acvp_store.proofs.UpdatedRow.{edit_for, updates}
-use Rattle.acvp_store.proofs.Texts.{simple}
+use Rattle.acvp_store.proofs.QueryForms.{equals}
+use Rattle.acvp_store.proofs.Writings.{update, updating}
 
 abbrev pub mode : Mode
 mode = record { keys = Enforced; in_doubt = false; may_wait = false }
@@ -51,71 +57,73 @@ pub spares_then : (layout : Layout) (tree : ℕ) (a b c : Trees) → SparesOther
 spares_then layout tree a b c p q =
     all_both (λ (t : Table). t.tree ≢ tree → b t.tree ≡ a t.tree) (λ t. t.tree ≢ tree → c t.tree ≡ b t.tree) (λ t. t.tree ≢ tree → c t.tree ≡ a t.tree) (λ t p q apart. q apart ∙ p apart) (schema_of layout).tables p q
 
--- ---- an UPDATE of the row of a number: `renewed a` is the number of `a` and the row that is written for it
+-- a statement does to a store's database what it does to each of that schema
+pub under_schema : (schema : Schema) (old : State) (params : Row) (text : List ℕ) (command : Command) (Change : Database → Database → Type 0)
+    → ((limit : Option ℕ) (trees : Trees) (tally : Tally) (after : Database) → Does limit mode params (record { schema = schema; trees = trees }) text None command (Ok (tally, after)) → Change (record { schema = schema; trees = trees }) after)
+    → old.now.schema ≡ schema → (tally : Tally) (after : Database) → Does old.step_limit (mode_of old) params old.now text None command (Ok (tally, after)) → Change old.now after
+under_schema schema old params text command Change does is tally after h =
+    let now = λ (s : Schema). let it : Database = record old.now { schema = s } in it in
+    subst (λ s. Change (now s) after) (sym is) (does old.step_limit old.now.trees tally after (subst (λ s. Does old.step_limit mode params (now s) text None command (Ok (tally, after))) is h))
 
-module _ (layout : Layout) {A : Type 0} (key : A → ℕ) (stored : A → Row) (rowid_is : (a : A) → rowid (stored a) ≡ whole (key a)) (at : ℕ) (table : Table) (is_at : slice_get (schema_of layout).tables at ≡ Some table)
-    (seen : (trees : Trees) → overlay trees [] table.tree ≡ trees table.tree) (terms project : List Term) (params : Row) (n : ℕ) (f : A → A) (keeps : (a : A) → key (f a) ≡ key a) (renewed : A → Row) (ids : (a : A) → ids_of (renewed a ∷ []) ≡ pos (key a) ∷ [])
-    (casts : (a : A) → cast_row table (drop 1 (renewed a)) ≡ stored (f a)) (tests : (a : A) → list_all (holds (params ∷ stored a ∷ [])) terms ≡ (key a == n))
-    (shows : (a : A) → eval_all project (params ∷ stored a ∷ []) ≡ renewed a) where
-  updated : (limit : Option ℕ) (trees : Trees) (tally : Tally) (after : Database)
-      → OnRows (task_of layout limit table params) mode None (Update at (record { lets = []; body = simple table.tree terms project })) trees (Ok (tally, after))
-      → Alters layout table.tree (AreKept key stored) (map (changing key n f)) (record { schema = schema_of layout; trees = trees }) after
-  updated limit trees tally after does =
-      let done = went does in
-      let now = concluded (task_of layout limit table params) done.0 tally after done.2 in
-      let found = went done.1 in
-      let written = went found.2 in
-      let trees_are : done.0.trees ≡ written.0 = ap (λ (it : Written). it.trees) (same_value written.2) in
-      let next : written.0 ≡ after.trees = sym (ap (λ (d : Database). d.trees) now ∙ trees_are) in
-      record {
-        schema = ap (λ (d : Database). d.schema) now;
-        kept = λ list kept. subst (λ (t : Trees). AreKept key stored (t table.tree) (map (changing key n f) list)) next
-            (updates layout key stored rowid_is table n f keeps renewed ids casts trees written.0 list kept found.0
-            (selected params stored (λ a. key a == n) terms tests table.tree project renewed shows (overlay trees []) kept.ordered found.0 (seen trees ∙ kept.rows_are) (found.1.answer Null)) written.1);
-        others = subst (SparesOthers layout table.tree trees) next (applied layout trees written.0 (edit_for table trees found.0) written.1).tables;
-      }
+-- ---- of a table that casts no row that it keeps to another, and has numbers as keys
 
-  pub update_effect : (old : State) (text : List ℕ) → old.now.schema ≡ schema_of layout → (tally : Tally) (after : Database)
-      → Does old.step_limit (mode_of old) params old.now text None (Update at (record { lets = []; body = simple table.tree terms project })) (Ok (tally, after))
-      → Alters layout table.tree (AreKept key stored) (map (changing key n f)) old.now after
-  update_effect old text schema tally after does =
-      let q = Update at (record { lets = []; body = simple table.tree terms project }) in
-      let it = subst (λ s. Does old.step_limit (mode_of old) params (record old.now { schema = s }) text None q (Ok (tally, after))) schema does in
-      let on = subst (λ (o : Option Table). AtPlace (λ t. OnRows (task_of layout old.step_limit t params) mode None q old.now.trees) o (Ok (tally, after))) is_at it in
-      let made = updated old.step_limit old.now.trees tally after on in
-      record { schema = made.schema; kept = made.kept; others = made.others }
+module _ (layout : Layout) {A : Type 0} (key : A → ℕ) (stored : A → Row) (rowid_is : (a : A) → rowid (stored a) ≡ whole (key a)) (at : ℕ) where
+  -- an UPDATE of the row of a number
+  module _ (table : Table) (is_at : slice_get (schema_of layout).tables at ≡ Some table) (seen : (trees : Trees) → overlay trees [] table.tree ≡ trees table.tree) (casts : (a : A) → cast_row table (stored a) ≡ stored a)
+      (terms : List Term) (n : ℕ) (more : Row) (f : A → A) (keeps : (a : A) → key (f a) ≡ key a) (shows : (a : A) → eval_all (updating terms) ((whole n ∷ more) ∷ stored a ∷ []) ≡ whole (key a) ∷ stored (f a)) where
+    has_number : (a : A) → list_all (holds ((whole n ∷ more) ∷ stored a ∷ [])) (equals 0 0 ∷ []) ≡ (key a == n)
+    has_number a = and_true _ ∙ subst (λ v. is_true (binary (Compare Eq Binary) v (whole n)) ≡ (key a == n)) (sym (rowid_is a)) (test_equals (key a) n)
 
--- ---- an INSERT of a row with a number
+    updated : (limit : Option ℕ) (trees : Trees) (tally : Tally) (after : Database)
+        → OnRows (task_of layout limit table (whole n ∷ more)) mode None (update at table.tree terms) trees (Ok (tally, after))
+        → Alters layout table.tree (AreKept key stored) (map (changing key n f)) (record { schema = schema_of layout; trees = trees }) after
+    updated limit trees tally after does =
+        let done = went does in
+        let now = concluded (task_of layout limit table (whole n ∷ more)) done.0 tally after done.2 in
+        let found = went done.1 in
+        let written = went found.2 in
+        let trees_are : done.0.trees ≡ written.0 = ap (λ (it : Written). it.trees) (same_value written.2) in
+        let next : written.0 ≡ after.trees = sym (ap (λ (d : Database). d.trees) now ∙ trees_are) in
+        record {
+          schema = ap (λ (d : Database). d.schema) now;
+          kept = λ list kept. subst (λ (t : Trees). AreKept key stored (t table.tree) (map (changing key n f) list)) next
+              (updates layout key stored rowid_is table casts n f keeps trees written.0 list kept found.0
+              (selected (whole n ∷ more) stored (λ a. key a == n) (equals 0 0 ∷ []) has_number table.tree (updating terms) (λ a. whole (key a) ∷ stored (f a)) shows (overlay trees []) kept.ordered found.0 (seen trees ∙ kept.rows_are) (found.1.answer Null)) written.1);
+          others = subst (SparesOthers layout table.tree trees) next (applied layout trees written.0 (edit_for table trees found.0) written.1).tables;
+        }
 
-module _ (layout : Layout) {A : Type 0} (key : A → ℕ) (stored : A → Row) (rowid_is : (a : A) → rowid (stored a) ≡ whole (key a)) (at : ℕ) (name : List ℕ) (tree : ℕ) (columns : List Column) (references : List Reference)
-    (is_at : slice_get (schema_of layout).tables at ≡ Some (table_by_number name tree columns references)) (terms : List Term) (width : ℕ) (params given : Row)
-    (values : value_rows (params ++ []) width (length terms / width) terms ≡ given ∷ []) (new : A) (casts : cast_row (table_by_number name tree columns references) given ≡ stored new) (low : key new < 2 ^ 63) where
-  abbrev table : Table
-  table = table_by_number name tree columns references
+    pub update_effect : (old : State) → old.now.schema ≡ schema_of layout → (tally : Tally) (after : Database) → Does old.step_limit (mode_of old) (whole n ∷ more) old.now [] None (update at table.tree terms) (Ok (tally, after))
+        → Alters layout table.tree (AreKept key stored) (map (changing key n f)) old.now after
+    update_effect old =
+        under_schema (schema_of layout) old (whole n ∷ more) [] (update at table.tree terms) (Alters layout table.tree (AreKept key stored) (map (changing key n f)))
+        (λ limit trees tally after does. updated limit trees tally after (subst (λ (o : Option Table). AtPlace (λ t. OnRows (task_of layout limit t (whole n ∷ more)) mode None (update at table.tree terms) trees) o (Ok (tally, after))) is_at does))
 
-  inserted : (limit : Option ℕ) (trees : Trees) (tally : Tally) (after : Database) → OnRows (task_of layout limit table params) mode None (Insert at (Values terms width)) trees (Ok (tally, after))
-      → Alters layout tree (AreKept key stored) (λ list. list ++ new ∷ []) (record { schema = schema_of layout; trees = trees }) after
-  inserted limit trees tally after does =
-      let done = went does in
-      let now = concluded (task_of layout limit table params) done.0 tally after done.2 in
-      let source = went done.1 in
-      let written = went (went source.2).2 in
-      let counted = went written.2 in
-      let trees_are : done.0.trees ≡ written.0 = ap (λ (it : Written). it.trees) (same_value counted.2) ∙ same_value counted.1 in
-      let wrote = subst (λ rs. Writes (schema_of layout) Enforced trees (edit_of trees table [] Chosen 0 rs) (Ok written.0)) (source.1.1 ∙ values) written.1 in
-      let next : written.0 ≡ after.trees = sym (ap (λ (d : Database). d.trees) now ∙ trees_are) in
-      record {
-        schema = ap (λ (d : Database). d.schema) now;
-        kept = λ list kept. subst (λ (t : Trees). AreKept key stored (t tree) (list ++ new ∷ [])) next (inserts layout key stored rowid_is table new given casts trees written.0 low wrote list kept);
-        others = subst (SparesOthers layout tree trees) next (applied layout trees written.0 (edit_of trees table [] Chosen 0 (given ∷ [])) wrote).tables;
-      }
+  -- an INSERT of a row with a number
+  module _ (name : List ℕ) (tree : ℕ) (columns : List Column) (references : List Reference) (is_at : slice_get (schema_of layout).tables at ≡ Some (table_by_number name tree columns references))
+      (casts : (a : A) → cast_row (table_by_number name tree columns references) (stored a) ≡ stored a) (terms : List Term) (width : ℕ) (params : Row) (new : A)
+      (values : value_rows (params ++ []) width (length terms / width) terms ≡ stored new ∷ []) (low : key new < 2 ^ 63) where
+    abbrev table : Table
+    table = table_by_number name tree columns references
 
-  pub insert_effect : (old : State) (text : List ℕ) → old.now.schema ≡ schema_of layout → (tally : Tally) (after : Database)
-      → Does old.step_limit (mode_of old) params old.now text None (Insert at (Values terms width)) (Ok (tally, after))
-      → Alters layout tree (AreKept key stored) (λ list. list ++ new ∷ []) old.now after
-  insert_effect old text schema tally after does =
-      let q = Insert at (Values terms width) in
-      let it = subst (λ s. Does old.step_limit (mode_of old) params (record old.now { schema = s }) text None q (Ok (tally, after))) schema does in
-      let on = subst (λ (o : Option Table). AtPlace (λ t. OnRows (task_of layout old.step_limit t params) mode None q old.now.trees) o (Ok (tally, after))) is_at it in
-      let made = inserted old.step_limit old.now.trees tally after on in
-      record { schema = made.schema; kept = made.kept; others = made.others }
+    inserted : (limit : Option ℕ) (trees : Trees) (tally : Tally) (after : Database) → OnRows (task_of layout limit table params) mode None (Insert at (Values terms width)) trees (Ok (tally, after))
+        → Alters layout tree (AreKept key stored) (λ list. list ++ new ∷ []) (record { schema = schema_of layout; trees = trees }) after
+    inserted limit trees tally after does =
+        let done = went does in
+        let now = concluded (task_of layout limit table params) done.0 tally after done.2 in
+        let source = went done.1 in
+        let written = went (went source.2).2 in
+        let counted = went written.2 in
+        let trees_are : done.0.trees ≡ written.0 = ap (λ (it : Written). it.trees) (same_value counted.2) ∙ same_value counted.1 in
+        let wrote = subst (λ rs. Writes (schema_of layout) Enforced trees (edit_of trees table [] Chosen 0 rs) (Ok written.0)) (source.1.1 ∙ values) written.1 in
+        let next : written.0 ≡ after.trees = sym (ap (λ (d : Database). d.trees) now ∙ trees_are) in
+        record {
+          schema = ap (λ (d : Database). d.schema) now;
+          kept = λ list kept. subst (λ (t : Trees). AreKept key stored (t tree) (list ++ new ∷ [])) next (inserts layout key stored rowid_is table new (stored new) (casts new) trees written.0 low wrote list kept);
+          others = subst (SparesOthers layout tree trees) next (applied layout trees written.0 (edit_of trees table [] Chosen 0 (stored new ∷ [])) wrote).tables;
+        }
+
+    pub insert_effect : (old : State) → old.now.schema ≡ schema_of layout → (tally : Tally) (after : Database) → Does old.step_limit (mode_of old) params old.now [] None (Insert at (Values terms width)) (Ok (tally, after))
+        → Alters layout tree (AreKept key stored) (λ list. list ++ new ∷ []) old.now after
+    insert_effect old =
+        under_schema (schema_of layout) old params [] (Insert at (Values terms width)) (Alters layout tree (AreKept key stored) (λ list. list ++ new ∷ []))
+        (λ limit trees tally after does. inserted limit trees tally after (subst (λ (o : Option Table). AtPlace (λ t. OnRows (task_of layout limit t params) mode None (Insert at (Values terms width)) trees) o (Ok (tally, after))) is_at does))

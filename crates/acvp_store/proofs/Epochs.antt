@@ -36,7 +36,7 @@ use Rattle.acvp_store.specs.Private.Sets.{epoch_shown}
 use Rattle.acvp_store.proofs.Keyed.{none_left}
 use Rattle.acvp_store.proofs.SelectedRows.{matched}
 use Rattle.acvp_store.proofs.Places.{sets_seen}
-use Rattle.acvp_store.proofs.Texts.{find_epoch, epoch_query, epoch_is, epoch_plain, epoch_unlisted}
+use Rattle.acvp_store.proofs.Readings.{GreatestEpoch, answers, reading_query, reading_text}
 
 abbrev pub greatest : List ℕ → Option ℕ
 greatest [] = None
@@ -162,7 +162,7 @@ all_pass : (columns : List SetColumns) → filter (λ c. true) columns ≡ colum
 all_pass [] = refl
 all_pass (c ∷ columns) = ap (λ l. c ∷ l) (all_pass columns)
 
-epoch_row : (layout : Layout) (db : Trees) (columns : List SetColumns) (rows : List Row) → db (set_tree layout) ≡ map set_row columns → IsAnswer (epoch_query layout) db [] rows → rows ≡ epoch_shown (greatest (epochs columns)) ∷ []
+epoch_row : (layout : Layout) (db : Trees) (columns : List SetColumns) (rows : List Row) → db (set_tree layout) ≡ map set_row columns → IsAnswer (reading_query GreatestEpoch layout) db [] rows → rows ≡ epoch_shown (greatest (epochs columns)) ∷ []
 epoch_row layout db columns rows has a =
     let s = a.grouped in
     let met = rw has at s.grouping.1 in
@@ -175,13 +175,13 @@ epoch_row layout db columns rows has a =
     let n = or_null whole (greatest (epochs columns)) in
     let staged : a.staged ≡ ([] ∷ (n ∷ []) ∷ []) ∷ [] = s.having ∙ rw (row, max) refl in
     let o : Output = ([], n ∷ []) in
-    let kept : a.kept ≡ o ∷ [] = a.distinct ∙ ap (map (output (epoch_query layout))) staged in
+    let kept : a.kept ≡ o ∷ [] = a.distinct ∙ ap (map (output (reading_query GreatestEpoch layout))) staged in
     let ordered = one_permutation o a.ordered (subst (λ k. IsPermutation k a.ordered) kept a.same) in
-    a.shown ∙ ap (λ xs. page (epoch_query layout) [] (map (λ (x : Output). x.1) xs)) ordered
+    a.shown ∙ ap (λ xs. page (reading_query GreatestEpoch layout) [] (map (λ (x : Output). x.1) xs)) ordered
 
-pub epoch_rows : (layout : Layout) (old new : State) (rows : List Row) → old.now.schema ≡ schema_of layout → Shown find_epoch [] old new rows → (list : List SetColumns) → AreKept set_key set_row (old.now.trees (set_tree layout)) list → rows ≡ epoch_shown (greatest (epochs list)) ∷ []
+pub epoch_rows : (layout : Layout) (old new : State) (rows : List Row) → old.now.schema ≡ schema_of layout → Shown (reading_text GreatestEpoch) [] old new rows → (list : List SetColumns) → AreKept set_key set_row (old.now.trees (set_tree layout)) list → rows ≡ epoch_shown (greatest (epochs list)) ∷ []
 epoch_rows layout old new rows schema h list kept =
-    epoch_row layout (overlay old.now.trees []) kept.ordered rows (sets_seen layout old.now.trees ∙ kept.rows_are) ((reads_as find_epoch [] old new (schema_of layout) schema _ (epoch_is layout) (epoch_plain layout) (epoch_unlisted layout) rows h).answer Null)
+    epoch_row layout (overlay old.now.trees []) kept.ordered rows (sets_seen layout old.now.trees ∙ kept.rows_are) (answers GreatestEpoch layout [] old new rows schema h)
     ∙ ap (λ e. epoch_shown e ∷ []) (greatest_same _ _ (IsPermutation-map (λ (c : SetColumns). c.epoch) kept.ordered list kept.same))
 
 -- ---- the whole

@@ -29,6 +29,9 @@ pub none_left : {X : Type 0} (ys : List X) → IsPermutation [] ys → ys ≡ []
 none_left [] h = refl
 none_left (y ∷ ys) h = absurd (omega (arith, length_permutation _ _ h))
 
+pub small_or_large : (n : ℕ) → (n < 2 ^ 63) ⊎ (2 ^ 63 ≤ n)
+small_or_large n = search arith
+
 pub none_passes : {A : Type 0} (xs : List A) → filter (λ x. false) xs ≡ []
 none_passes [] = refl
 none_passes (x ∷ xs) = none_passes xs

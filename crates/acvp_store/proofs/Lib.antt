@@ -5,6 +5,10 @@ pub mod Together
 pub mod Parts
 pub mod Places
 pub mod Texts
+pub mod QueryForms
+pub mod Readings
+pub mod RowsAt
+pub mod Writings
 pub mod MadeTables
 pub mod Idle
 pub mod SelectedRows
@@ -29,7 +33,6 @@ pub mod Versions
 pub mod QueryRows
 pub mod RowsMet
 pub mod RangeRows
-pub mod RangeTexts
 pub mod RangeColumns
 pub mod RangeOutside
 pub mod RangeJoins
@@ -44,7 +47,6 @@ pub mod ObjectRanges
 pub mod RegisteredObject
 pub mod Sound
 pub mod KeptPromises
-pub mod PageTexts
 pub mod OrderedPages
 pub mod RowLists
 pub mod Owned

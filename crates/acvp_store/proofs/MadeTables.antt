@@ -30,7 +30,9 @@ use Rattle.acvp_store.specs.Private.Creating.{text_of, table_of, before, Makes, 
 use Rattle.acvp_store.specs.declared.setup.StoreTable.{StoreTable}
 use Rattle.acvp_store.specs.declared.setup.StoreTable.TheVariants as table
 use Rattle.acvp_store.proofs.Versions.{named_so}
-use Rattle.acvp_store.proofs.Texts.{is_making, add_version, version_terms}
+use Rattle.acvp_store.proofs.Texts.{is_making}
+use Rattle.acvp_store.proofs.Writings.{Effects, VersionAdded, writing_command, writing_terms}
+use Rattle.acvp_store.proofs.Effects.{under_schema}
 use Rattle.acvp_store.proofs.Parts.{went, same_value, cast_null, cast_whole}
 
 -- a table is added, without a row, and the others keep theirs
@@ -74,7 +76,7 @@ numbered_first : (r : Row) (rows : List Row) → rows ≡ [] → r ≡ given →
 numbered_first r rows none is = rw (is, none) refl
 
 versions : (limit : Option ℕ) (text : List ℕ) (trees : Trees) (tally : Tally) (after : Database)
-    → Does limit (record { keys = Enforced; in_doubt = false; may_wait = false }) [] (record { schema = schema_of Created; trees = trees }) text None (Insert 0 (Values version_terms 3)) (Ok (tally, after))
+    → Does limit (record { keys = Enforced; in_doubt = false; may_wait = false }) [] (record { schema = schema_of Created; trees = trees }) text None (Insert 0 (Values (writing_terms VersionAdded) 3)) (Ok (tally, after))
     → WritesVersion 3 (record { schema = schema_of Created; trees = trees }) after
 versions limit text trees tally after does =
     let done = went does in
@@ -93,10 +95,7 @@ versions limit text trees tally after does =
       others = subst (SparesOthers Created 0 trees) next applied.tables;
     }
 
-pub version_effect : (old : State) → old.now.schema ≡ schema_of Created → (tally : Tally) (after : Database)
-    → Does old.step_limit (mode_of old) [] old.now (statement_of add_version (understood (schema_of Created) add_version)) None (Insert 0 (Values version_terms 3)) (Ok (tally, after)) → WritesVersion 3 old.now after
-version_effect old schema tally after does =
-    let text = statement_of add_version (understood (schema_of Created) add_version) in
-    let it = subst (λ s. Does old.step_limit (mode_of old) [] (record old.now { schema = s }) text None (Insert 0 (Values version_terms 3)) (Ok (tally, after))) schema does in
-    let made = versions old.step_limit text old.now.trees tally after it in
-    record { schema = made.schema; written = made.written; others = made.others }
+pub version_effect : (old : State) → Effects VersionAdded Created [] old (WritesVersion 3)
+version_effect old =
+    under_schema (schema_of Created) old [] [] (writing_command VersionAdded Created) (WritesVersion 3)
+    (λ limit trees tally after does. versions limit [] trees tally after does)

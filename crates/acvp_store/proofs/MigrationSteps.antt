@@ -39,7 +39,7 @@ use Rattle.acvp_store.specs.Schema.{Layout, Migrated, schema_of, meta_table, old
 use Rattle.acvp_store.specs.Stands.{SetColumns, set_key, set_row, old_set_columns, old_set_row, of_first_epoch, HoldsSets, HoldsOldSets, Entry, entry_row}
 use Rattle.acvp_store.specs.Values.{whole, flag}
 use Rattle.acvp_store.specs.Private.Migration.{CopiesSets, EmptiesOldSets, RaisesVersion}
-use Rattle.acvp_store.proofs.Effects.{task_of, mode, concluded}
+use Rattle.acvp_store.proofs.Effects.{concluded, mode, task_of, under_schema}
 use Rattle.acvp_store.proofs.Entries.{removed}
 use Rattle.acvp_store.proofs.Idle.{applied}
 use Rattle.acvp_store.proofs.InsertedRow.{not_false}
@@ -48,9 +48,11 @@ use Rattle.acvp_store.proofs.Parts.{went, same_value, and_true, cast_null, cast_
 use Rattle.acvp_store.proofs.SelectedRows.{selected, selected_by}
 use Rattle.acvp_store.proofs.Sound.{first_of, then_of}
 use Rattle.acvp_store.proofs.KeptPromises.{kept_none}
-use Rattle.acvp_store.proofs.Texts.{copy_sets, copy_query, delete_sets, delete_query, raise_version, raise_query}
+use Rattle.acvp_store.proofs.Texts.{copy_sets, copy_query, delete_sets, old_sets_query}
+use Rattle.acvp_store.proofs.Writings.{Effects, VersionRaised, raise_query, writing_command}
 use Rattle.acvp_store.proofs.UpdatedRow.{edit_for}
 use Rattle.acvp_store.proofs.Versions.{map_same, test_text, its_text, its_name}
+use Rattle.acvp_store.proofs.Readings.{answers}
 
 -- ---- many rows under numbers that they bring
 
@@ -137,11 +139,8 @@ copying limit text trees tally after does =
 pub copy_effect : (old : State) → old.now.schema ≡ schema_of Migrated → (tally : Tally) (after : Database)
     → Does old.step_limit (mode_of old) [] old.now (statement_of copy_sets (understood (schema_of Migrated) copy_sets)) None (Insert 6 (source.Query (record { lets = []; body = copy_query }))) (Ok (tally, after))
     → CopiesSets old.now after
-copy_effect old schema tally after does =
-    let text = statement_of copy_sets (understood (schema_of Migrated) copy_sets) in
-    let it = subst (λ s. Does old.step_limit (mode_of old) [] (record old.now { schema = s }) text None (Insert 6 (source.Query (record { lets = []; body = copy_query }))) (Ok (tally, after))) schema does in
-    let made = copying old.step_limit text old.now.trees tally after it in
-    record { schema = made.schema; copied = made.copied; others = made.others }
+copy_effect old =
+    under_schema (schema_of Migrated) old [] [] (Insert 6 (source.Query (record { lets = []; body = copy_query }))) CopiesSets (λ limit trees tally after does. copying limit [] trees tally after does)
 
 -- ---- the sets that are taken out
 
@@ -161,7 +160,7 @@ entry_rows [] = refl
 entry_rows (x ∷ xs) = ap (λ l. old_set_row x ∷ l) (entry_rows xs)
 
 deleting : (limit : Option ℕ) (text : List ℕ) (trees : Trees) (tally : Tally) (after : Database)
-    → Does limit mode [] (record { schema = schema_of Migrated; trees = trees }) text None (Delete 3 (record { lets = []; body = delete_query })) (Ok (tally, after))
+    → Does limit mode [] (record { schema = schema_of Migrated; trees = trees }) text None (Delete 3 (record { lets = []; body = old_sets_query })) (Ok (tally, after))
     → EmptiesOldSets (record { schema = schema_of Migrated; trees = trees }) after
 deleting limit text trees tally after does =
     let done = went does in
@@ -176,20 +175,17 @@ deleting limit text trees tally after does =
       emptied = λ sets h.
           let entries = map entry_of h.kept.ordered in
           let has : trees 4 ≡ map (entry_row old_set_columns) entries = h.kept.rows_are ∙ entry_rows h.kept.ordered in
-          let rows = selected [] (entry_row old_set_columns) (λ e. true) [] (λ e. refl) 4 delete_query.project (λ e. Int e.id ∷ []) (λ e. refl) (overlay trees []) entries found.0 has (found.1.answer Null) in
+          let rows = selected [] (entry_row old_set_columns) (λ e. true) [] (λ e. refl) 4 old_sets_query.project (λ e. Int e.id ∷ []) (λ e. refl) (overlay trees []) entries found.0 has (found.1.answer Null) in
           let left = it.rows ∙ ap (λ all. without_all all (ids_of found.0)) has ∙ removed old_set_columns (λ e. true) entries found.0 (entries_rise h.kept.ordered h.kept.rising) rows in
           subst (λ (t : Trees). t 4 ≡ []) next (left ∙ ap (map (entry_row old_set_columns)) (none_passes entries));
       others = subst (SparesOthers Migrated 4 trees) next it.tables;
     }
 
 pub delete_effect : (old : State) → old.now.schema ≡ schema_of Migrated → (tally : Tally) (after : Database)
-    → Does old.step_limit (mode_of old) [] old.now (statement_of delete_sets (understood (schema_of Migrated) delete_sets)) None (Delete 3 (record { lets = []; body = delete_query })) (Ok (tally, after))
+    → Does old.step_limit (mode_of old) [] old.now (statement_of delete_sets (understood (schema_of Migrated) delete_sets)) None (Delete 3 (record { lets = []; body = old_sets_query })) (Ok (tally, after))
     → EmptiesOldSets old.now after
-delete_effect old schema tally after does =
-    let text = statement_of delete_sets (understood (schema_of Migrated) delete_sets) in
-    let it = subst (λ s. Does old.step_limit (mode_of old) [] (record old.now { schema = s }) text None (Delete 3 (record { lets = []; body = delete_query })) (Ok (tally, after))) schema does in
-    let made = deleting old.step_limit text old.now.trees tally after it in
-    record { schema = made.schema; emptied = made.emptied; others = made.others }
+delete_effect old =
+    under_schema (schema_of Migrated) old [] [] (Delete 3 (record { lets = []; body = old_sets_query })) EmptiesOldSets (λ limit trees tally after does. deleting limit [] trees tally after does)
 
 -- ---- the version
 
@@ -286,11 +282,7 @@ raising layout limit text trees tally after does =
       others = subst (SparesOthers layout 0 trees) next it.tables;
     }
 
-pub raise_effect : (layout : Layout) (old : State) → old.now.schema ≡ schema_of layout → (tally : Tally) (after : Database)
-    → Does old.step_limit (mode_of old) [] old.now (statement_of raise_version (understood (schema_of layout) raise_version)) None (Update 0 (record { lets = []; body = raise_query })) (Ok (tally, after))
-    → RaisesVersion layout old.now after
-raise_effect layout old schema tally after does =
-    let text = statement_of raise_version (understood (schema_of layout) raise_version) in
-    let it = subst (λ s. Does old.step_limit (mode_of old) [] (record old.now { schema = s }) text None (Update 0 (record { lets = []; body = raise_query })) (Ok (tally, after))) schema does in
-    let made = raising layout old.step_limit text old.now.trees tally after it in
-    record { schema = made.schema; raised = made.raised; others = made.others }
+pub raise_effect : (layout : Layout) (old : State) → Effects VersionRaised layout [] old (RaisesVersion layout)
+raise_effect layout old =
+    under_schema (schema_of layout) old [] [] (writing_command VersionRaised layout) (RaisesVersion layout)
+    (λ limit trees tally after does. raising layout limit [] trees tally after does)

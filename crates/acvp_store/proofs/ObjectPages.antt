@@ -22,30 +22,30 @@ use Rattle.acvp_tables.specs.declared.rows.ObjectRow.{ObjectRow}
 use Rattle.acvp_store.specs.Values.{whole}
 use Rattle.acvp_store.specs.Schema.{Layout, schema_of}
 use Rattle.acvp_store.specs.Stands.{Entry, entry_row, HoldsObjects, object_columns, object_tree, IsKeepable, FitColumns}
-use Rattle.acvp_store.proofs.Keyed.{none_passes}
+use Rattle.acvp_store.proofs.Keyed.{none_passes, small_or_large}
 use Rattle.acvp_store.proofs.AccountPages.{test_range, most}
 use Rattle.acvp_store.proofs.RowLists.{all_taken, all_dropped}
 use Rattle.acvp_store.proofs.ObjectRows.{is_it, neither, none_fits}
 use Rattle.acvp_store.proofs.Owned.{last_number, in_range, range_drops, rising_dropped, object_numbers, object_selection}
 use Rattle.acvp_store.proofs.OrderedPages.{paged, capped_page}
-use Rattle.acvp_store.proofs.PageTexts.{within, find_object, object_is, object_plain, object_unlisted, object_fields, page_objects, objects_is, objects_plain, objects_unlisted}
+use Rattle.acvp_store.proofs.QueryForms.{equals, within}
+use Rattle.acvp_store.proofs.Readings.{ObjectAt, ObjectPage, answers, object_terms, reading_text}
 use Rattle.acvp_store.proofs.Parts.{both_true}
 use Rattle.acvp_store.proofs.SelectedRows.{test_equals, test_none, selected}
-use Rattle.acvp_store.proofs.Texts.{equals}
 
 -- ---- by its kind and number
 
 -- the rows that pass, as those of the list
 module _ (layout : Layout) (k : ℕ) (n : ℤ) (p : ObjectRow → Bool) (tests : (o : ObjectRow) → (is_true (binary (Compare Eq Binary) (whole (kind_number o.object.kind)) (whole k)) && (is_true (binary (Compare Eq Binary) (whole o.number) (Int n)) && true)) ≡ p o) where
-  rows_of : (old new : State) (rows : List Row) → old.now.schema ≡ schema_of layout → Shown find_object (whole k ∷ Int n ∷ []) old new rows → (objects : List ObjectRow) → HoldsObjects (old.now.trees object_tree) objects → IsPermutation (map object_columns (filter p objects)) rows
+  rows_of : (old new : State) (rows : List Row) → old.now.schema ≡ schema_of layout → Shown (reading_text ObjectAt) (whole k ∷ Int n ∷ []) old new rows → (objects : List ObjectRow) → HoldsObjects (old.now.trees object_tree) objects → IsPermutation (map object_columns (filter p objects)) rows
   rows_of old new rows schema shown objects h =
       let row = λ (e : Entry ObjectRow). e.row in
-      let found = selected (whole k ∷ Int n ∷ []) (entry_row object_columns) (λ e. p e.row) (equals 1 0 ∷ equals 2 1 ∷ []) (λ e. tests e.row) object_tree object_fields (λ e. object_columns e.row) (λ e. refl) (overlay old.now.trees []) h.entries rows h.rows_are
-      ((reads_as find_object (whole k ∷ Int n ∷ []) old new (schema_of layout) schema _ (object_is layout) (object_plain layout) (object_unlisted layout) rows shown).answer Null) in
+      let found = selected (whole k ∷ Int n ∷ []) (entry_row object_columns) (λ e. p e.row) (equals 1 0 ∷ equals 2 1 ∷ []) (λ e. tests e.row) object_tree object_terms (λ e. object_columns e.row) (λ e. refl) (overlay old.now.trees []) h.entries rows h.rows_are
+      (answers ObjectAt layout (whole k ∷ Int n ∷ []) old new rows schema shown) in
       let same : IsPermutation (map row (filter (λ e. p e.row) h.entries)) (filter p objects) = subst (λ xs. IsPermutation xs (filter p objects)) (filter-map p row h.entries) (IsPermutation-filter p _ objects h.same) in
       IsPermutation-trans _ _ _ (IsPermutation-sym _ _ (IsPermutation-map object_columns _ _ same)) (subst (λ xs. IsPermutation xs rows) (sym (map-map object_columns row (filter (λ e. p e.row) h.entries))) found)
 
-object_rows : (layout : Layout) (kind : Kind) (n : ℕ) (k : ℤ) → (n < 2 ^ 63 → k ≡ pos n) → (2 ^ 63 ≤ n → k ≡ negsuc 0) → (old new : State) (rows : List Row) → old.now.schema ≡ schema_of layout → Shown find_object (whole (kind_number kind) ∷ Int k ∷ []) old new rows
+object_rows : (layout : Layout) (kind : Kind) (n : ℕ) (k : ℤ) → (n < 2 ^ 63 → k ≡ pos n) → (2 ^ 63 ≤ n → k ≡ negsuc 0) → (old new : State) (rows : List Row) → old.now.schema ≡ schema_of layout → Shown (reading_text ObjectAt) (whole (kind_number kind) ∷ Int k ∷ []) old new rows
     → (objects : List ObjectRow) → HoldsObjects (old.now.trees object_tree) objects → FitColumns objects → IsPermutation (map object_columns (filter (is_it kind n) objects)) rows
 object_rows layout kind n k fits large old new rows schema shown objects h fit = elim (small_or_large n) [
   | inl low ↦
@@ -54,11 +54,8 @@ object_rows layout kind n k fits large old new rows schema shown objects h fit =
       let found = rows_of layout (kind_number kind) k (λ o. false) (λ o. both_true _ _ (is_kind o.object.kind kind) false (test_equals (kind_number o.object.kind) (kind_number kind)) (rw (large high) (test_none o.number)) ∙ neither _) old new rows schema shown objects h in
       rw (none_fits kind n objects high fit) (rw (none_passes objects) at found)
 ]
-  where
-    small_or_large : (n : ℕ) → (n < 2 ^ 63) ⊎ (2 ^ 63 ≤ n)
-    small_or_large n = search arith
 
-pub object_found : (layout : Layout) (kind : Kind) (n : ℕ) (k : ℤ) → (n < 2 ^ 63 → k ≡ pos n) → (2 ^ 63 ≤ n → k ≡ negsuc 0) → (old new : State) (rows : List Row) → old.now.schema ≡ schema_of layout → Shown find_object (whole (kind_number kind) ∷ Int k ∷ []) old new rows
+pub object_found : (layout : Layout) (kind : Kind) (n : ℕ) (k : ℤ) → (n < 2 ^ 63 → k ≡ pos n) → (2 ^ 63 ≤ n → k ≡ negsuc 0) → (old new : State) (rows : List Row) → old.now.schema ≡ schema_of layout → Shown (reading_text ObjectAt) (whole (kind_number kind) ∷ Int k ∷ []) old new rows
     → (objects : List ObjectRow) → HoldsObjects (old.now.trees object_tree) objects → FitColumns objects → AllByRecursion IsKeepable (filter (is_it kind n) objects) × IsPermutation (map object_columns (filter (is_it kind n) objects)) rows
 object_found layout kind n k fits large old new rows schema shown objects h fit = (all-filter IsKeepable (is_it kind n) objects fit, object_rows layout kind n k fits large old new rows schema shown objects h fit)
 
@@ -74,7 +71,7 @@ first_object kind n (o ∷ objects) = elim (cases_Bool (is_it kind n o)) [
 abbrev pub objects_params : Kind → ℕ → ℕ → ℕ → Row
 objects_params kind u o l = whole (first_of_account u + min o 999999) ∷ whole (last_number u) ∷ whole (min l most) ∷ whole (kind_number kind) ∷ []
 
-pub object_page : (layout : Layout) (kind : Kind) (u o l : ℕ) (old new : State) (rows : List Row) → old.now.schema ≡ schema_of layout → Shown page_objects (objects_params kind u o l) old new rows
+pub object_page : (layout : Layout) (kind : Kind) (u o l : ℕ) (old new : State) (rows : List Row) → old.now.schema ≡ schema_of layout → Shown (reading_text ObjectPage) (objects_params kind u o l) old new rows
     → (c : Content) → AreWellNumbered c → HoldsObjects (old.now.trees object_tree) c.objects → FitColumns c.objects
     → AllByRecursion IsKeepable (page o l (objects_of kind u c.objects)) × (rows ≡ map object_columns (page o l (objects_of kind u c.objects)))
 object_page layout kind u o l old new rows schema shown c sound h fit =
@@ -84,10 +81,10 @@ object_page layout kind u o l old new rows schema shown c sound h fit =
     let mine = objects_of kind u c.objects in
     let selection = object_selection c kind u sound in
     let picked = range_drops key account u (min o 999999) of_kind c.objects (object_numbers c sound) selection.numbered in
-    let it = paged (objects_params kind u o l) (entry_row object_columns) (λ (e : Entry ObjectRow). e.row) (λ x. of_kind x && in_range key account u (min o 999999) x) (equals 1 3 ∷ within 2) object_fields 2 key object_columns
+    let it = paged (objects_params kind u o l) (entry_row object_columns) (λ (e : Entry ObjectRow). e.row) (λ x. of_kind x && in_range key account u (min o 999999) x) (equals 1 3 ∷ within 2) object_terms 2 key object_columns
     (λ e. ap₂ (λ a b. a && b) (test_equals (kind_number e.row.object.kind) (kind_number kind)) (test_range e.row.number (first_of_account u + min o 999999) (last_number u))) (λ e. refl) (λ e. refl) object_tree (min l most) refl
     (overlay old.now.trees []) h.entries c.objects rows h.rows_are h.same (rw picked (rising_dropped key (min o 999999) (first_of_account u) mine selection.numbered))
-    ((reads_as page_objects (objects_params kind u o l) old new (schema_of layout) schema _ (objects_is layout) (objects_plain layout) (objects_unlisted layout) rows shown).answer Null) in (
+    (answers ObjectPage layout (objects_params kind u o l) old new rows schema shown) in (
       all_taken IsKeepable l _ (all_dropped IsKeepable o mine (all-filter IsKeepable (λ x. of_kind x && (x.account == u)) c.objects fit)),
       it ∙ ap (map object_columns) (ap (take (min l most)) picked ∙ capped_page o l mine selection.few),
     )

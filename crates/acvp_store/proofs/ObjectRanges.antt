@@ -40,27 +40,26 @@ use Rattle.acvp_store.specs.Private.Shown.{AreLedBy, AreShown}
 use Rattle.acvp_store.specs.Private.Strays.{HasStray}
 use Rattle.acvp_store.proofs.ColumnNumbers.{is_whole, number_within, not_outside, all_fail, column_test}
 use Rattle.acvp_store.proofs.EntryRanges.{shown_exactly, entries_hold, each_entry, both_hold, entries_joined, entries_tree, joined_all, IsNumbered, IsParted}
-use Rattle.acvp_store.proofs.PageTexts.{within as within_terms, object_fields}
+use Rattle.acvp_store.proofs.QueryForms.{equals, first_where, not_between, within as within_terms}
+use Rattle.acvp_store.proofs.Readings.{ObjectOutside, ObjectRange, answers, object_terms, reading_text}
 use Rattle.acvp_store.proofs.QueryRows.{selected_in_order}
 use Rattle.acvp_store.proofs.RangeColumns.{left_true, not_longer}
 use Rattle.acvp_store.proofs.RangeOutside.{is_outside, none_passing, first_told, only_true, test_outside}
 use Rattle.acvp_store.proofs.RangeRows.{test_between, right_true, all_passed, within_last}
 use Rattle.acvp_store.proofs.RangeStrays.{stray_of, stray_same}
-use Rattle.acvp_store.proofs.RangeTexts.{range_objects, objects_is, objects_plain, objects_unlisted, first_where, not_between, outside_objects, outside_objects_is, outside_objects_plain, outside_objects_unlisted}
 use Rattle.acvp_store.proofs.RequestRanges.{text_of_json}
-use Rattle.acvp_store.proofs.Texts.{equals}
 use Rattle.acvp_store.proofs.Versions.{map_same, test_whole}
 
 -- ---- what the query meets
 
-module _ (layout : Layout) (kind f l : ℕ) (old new : State) (rows : List Row) (schema : old.now.schema ≡ schema_of layout) (h : Shown range_objects (whole f ∷ whole l ∷ whole kind ∷ []) old new rows) where
+module _ (layout : Layout) (kind f l : ℕ) (old new : State) (rows : List Row) (schema : old.now.schema ≡ schema_of layout) (h : Shown (reading_text ObjectRange) (whole f ∷ whole l ∷ whole kind ∷ []) old new rows) where
   abbrev params : Row
   params = whole f ∷ whole l ∷ whole kind ∷ []
 
   pub objects_met : IsPermutation (map columns_of_object (filter (is_object_between kind f l) (old.now.trees object_tree))) rows
   objects_met =
-      selected_in_order params (λ (r : Row). r) (is_object_between kind f l) (equals 1 2 ∷ within_terms 2) (λ r. ap₂ (λ a b. a && b) (test_whole (column r 1) kind) (test_between (column r 2) f l)) 2 object_tree object_fields columns_of_object (λ r. refl) (overlay old.now.trees []) (old.now.trees object_tree) rows (map_same _)
-      ((reads_as range_objects params old new (schema_of layout) schema _ (objects_is layout) (objects_plain layout) (objects_unlisted layout) rows h).answer Null)
+      selected_in_order params (λ (r : Row). r) (is_object_between kind f l) (equals 1 2 ∷ within_terms 2) (λ r. ap₂ (λ a b. a && b) (test_whole (column r 1) kind) (test_between (column r 2) f l)) 2 object_tree object_terms columns_of_object (λ r. refl) (overlay old.now.trees []) (old.now.trees object_tree) rows (map_same _)
+      (answers ObjectRange layout params old new rows schema h)
 
 -- ---- what the schema says of a row
 
@@ -191,9 +190,9 @@ Within = IsRegisteredWithin 9999
 not_elsewhere : (row : Row) → Within row → is_elsewhere row ≡ false
 not_elsewhere row is = ap₂ (λ a b. a || b) (not_outside 1 1 3 row is.0) (not_outside 2 (first_number 1) (last_number 9999) row is.1)
 
-module _ (layout : Layout) (old new : State) (rows : List Row) (schema : old.now.schema ≡ schema_of layout) (h : Shown outside_objects [] old new rows) where
+module _ (layout : Layout) (old new : State) (rows : List Row) (schema : old.now.schema ≡ schema_of layout) (h : Shown (reading_text ObjectOutside) [] old new rows) where
   outside_answer : IsAnswer (first_where object_tree 2 elsewhere) (overlay old.now.trees []) [] rows
-  outside_answer = (reads_as outside_objects [] old new (schema_of layout) schema _ (outside_objects_is layout) (outside_objects_plain layout) (outside_objects_unlisted layout) rows h).answer Null
+  outside_answer = answers ObjectOutside layout [] old new rows schema h
 
   pub objects_outside : rows ≡ [] → filter is_elsewhere (old.now.trees object_tree) ≡ []
   objects_outside = none_passing object_tree 2 elsewhere is_elsewhere test_elsewhere (overlay old.now.trees []) (old.now.trees object_tree) rows (map_same _) outside_answer

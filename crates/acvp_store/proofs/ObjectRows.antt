@@ -22,10 +22,10 @@ use Rattle.acvp_tables.specs.declared.rows.ObjectRow.{ObjectRow}
 use Rattle.acvp_store.specs.Values.{whole}
 use Rattle.acvp_store.specs.Schema.{Layout, schema_of}
 use Rattle.acvp_store.specs.Stands.{Entry, entry_row, HoldsObjects, object_columns, object_tree, FitColumns}
-use Rattle.acvp_store.proofs.Keyed.{none_passes}
+use Rattle.acvp_store.proofs.Keyed.{none_passes, small_or_large}
 use Rattle.acvp_store.proofs.Parts.{both_true}
 use Rattle.acvp_store.proofs.SelectedRows.{test_equals, test_none, selected}
-use Rattle.acvp_store.proofs.Texts.{find_owner, owner_query, owner_is, owner_plain, owner_unlisted}
+use Rattle.acvp_store.proofs.Readings.{OwnerAt, answers, reading_query, reading_text}
 
 abbrev pub is_it : Kind → ℕ → ObjectRow → Bool
 is_it kind n o = is_kind o.object.kind kind && (o.number == n)
@@ -42,11 +42,11 @@ neither false = refl
 
 -- the rows that pass, in the order of the list
 module _ (layout : Layout) (k : ℕ) (n : ℤ) (p : ObjectRow → Bool) (tests : (o : ObjectRow) → (is_true (binary (Compare Eq Binary) (whole (kind_number o.object.kind)) (whole k)) && (is_true (binary (Compare Eq Binary) (whole o.number) (Int n)) && true)) ≡ p o) where
-  rows_of : (old new : State) (rows : List Row) → old.now.schema ≡ schema_of layout → Shown find_owner (whole k ∷ Int n ∷ []) old new rows → (objects : List ObjectRow) (h : HoldsObjects (old.now.trees object_tree) objects)
+  rows_of : (old new : State) (rows : List Row) → old.now.schema ≡ schema_of layout → Shown (reading_text OwnerAt) (whole k ∷ Int n ∷ []) old new rows → (objects : List ObjectRow) (h : HoldsObjects (old.now.trees object_tree) objects)
       → IsPermutation (map (λ (e : Entry ObjectRow). owner_shown e.row.account) (filter (λ e. p e.row) h.entries)) rows
   rows_of old new rows schema shown objects h =
-      selected (whole k ∷ Int n ∷ []) (entry_row object_columns) (λ e. p e.row) owner_query.filter (λ e. tests e.row) object_tree owner_query.project (λ e. owner_shown e.row.account) (λ e. refl) (overlay old.now.trees []) h.entries rows h.rows_are
-      ((reads_as find_owner (whole k ∷ Int n ∷ []) old new (schema_of layout) schema _ (owner_is layout) (owner_plain layout) (owner_unlisted layout) rows shown).answer Null)
+      selected (whole k ∷ Int n ∷ []) (entry_row object_columns) (λ e. p e.row) (reading_query OwnerAt layout).filter (λ e. tests e.row) object_tree (reading_query OwnerAt layout).project (λ e. owner_shown e.row.account) (λ e. refl) (overlay old.now.trees []) h.entries rows h.rows_are
+      (answers OwnerAt layout (whole k ∷ Int n ∷ []) old new rows schema shown)
 
   shown_of : (entries : List (Entry ObjectRow)) → map (λ (e : Entry ObjectRow). owner_shown e.row.account) (filter (λ e. p e.row) entries) ≡ map owner_shown (map (λ (o : ObjectRow). o.account) (filter p (map (λ (e : Entry ObjectRow). e.row) entries)))
   shown_of [] = refl
@@ -61,7 +61,7 @@ none_fits kind n (o ∷ objects) high fits =
     let other : (o.number == n) ≡ false = let low = fits.0.0 in grind (arith, nat_tests, low, high) in
     rw (other, neither (is_kind o.object.kind kind)) (none_fits kind n objects high fits.1)
 
-pub owner_rows : (layout : Layout) (kind : Kind) (n : ℕ) (k : ℤ) → (n < 2 ^ 63 → k ≡ pos n) → (2 ^ 63 ≤ n → k ≡ negsuc 0) → (old new : State) (rows : List Row) → old.now.schema ≡ schema_of layout → Shown find_owner (whole (kind_number kind) ∷ Int k ∷ []) old new rows
+pub owner_rows : (layout : Layout) (kind : Kind) (n : ℕ) (k : ℤ) → (n < 2 ^ 63 → k ≡ pos n) → (2 ^ 63 ≤ n → k ≡ negsuc 0) → (old new : State) (rows : List Row) → old.now.schema ≡ schema_of layout → Shown (reading_text OwnerAt) (whole (kind_number kind) ∷ Int k ∷ []) old new rows
     → (objects : List ObjectRow) → HoldsObjects (old.now.trees object_tree) objects → FitColumns objects → IsPermutation (map owner_shown (owners kind n objects)) rows
 owner_rows layout kind n k fits large old new rows schema shown objects h fit = elim (small_or_large n) [
   | inl low ↦
@@ -73,9 +73,6 @@ owner_rows layout kind n k fits large old new rows schema shown objects h fit = 
       let found = rows_of layout (kind_number kind) k (λ o. false) (λ o. both_true _ _ (is_kind o.object.kind kind) false (test_equals (kind_number o.object.kind) (kind_number kind)) (rw (large high) (test_none o.number)) ∙ neither _) old new rows schema shown objects h in
       rw (none_fits kind n objects high fit) (rw (none_passes h.entries) at found)
 ]
-  where
-    small_or_large : (n : ℕ) → (n < 2 ^ 63) ⊎ (2 ^ 63 ≤ n)
-    small_or_large n = search arith
 
 first_owner : (kind : Kind) (n : ℕ) (objects : List ObjectRow) → slice_get (owners kind n objects) 0 ≡ option_map (λ (o : ObjectRow). o.account) (object_at kind n objects)
 first_owner kind n [] = refl

@@ -15,7 +15,7 @@ use Rattle.sqlite_sql.proofs.QueryLemmas.{output_cmp_total}
 use Rattle.sqlite_keyed.proofs.SortLemmas.{sorted_unique}
 use Rattle.acvp_store.specs.Values.{whole}
 use Rattle.acvp_store.proofs.SelectedRows.{matched}
-use Rattle.acvp_store.proofs.Texts.{ordered_by}
+use Rattle.acvp_store.proofs.QueryForms.{ordered_by}
 
 -- Of rows of `A`, what is shown of each that passes is told of it as a `B`, which has the number that is ordered by.
 module _ {A B : Type 0} (params : Row) (encode : A → Row) (p : A → Bool) (terms : List Term) (tests : (a : A) → list_all (holds (params ∷ encode a ∷ [])) terms ≡ p a) (told : A → B) (key : B → ℕ) (show : B → Row)

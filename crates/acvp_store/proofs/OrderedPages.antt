@@ -18,7 +18,7 @@ use Rattle.sqlite_sql.proofs.QueryLemmas.{output_cmp_total}
 use Rattle.sqlite_keyed.proofs.SortLemmas.{sorted_unique}
 use Rattle.acvp_tables.specs.Content.{page}
 use Rattle.acvp_store.specs.Values.{whole}
-use Rattle.acvp_store.proofs.PageTexts.{paging}
+use Rattle.acvp_store.proofs.QueryForms.{paging}
 use Rattle.acvp_store.proofs.SelectedRows.{matched}
 
 -- E is what a row of the table is of, and A the member in it

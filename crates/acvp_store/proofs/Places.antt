@@ -9,7 +9,7 @@ use Rattle.acvp_store.specs.Schema.{Layout, Created, Migrated, schema_of, set_ta
 use Rattle.acvp_store.specs.Stands.{set_tree, reviewer_tree, HasNoOldSets}
 use Rattle.acvp_store.specs.Alters.{SparesOthers}
 use Rattle.acvp_store.proofs.Parts.{apart}
-use Rattle.acvp_store.proofs.Texts.{set_place, reviewer_place}
+use Rattle.acvp_store.proofs.Writings.{reviewer_place, set_place}
 
 pub sets_at : (layout : Layout) → slice_get (schema_of layout).tables (set_place layout) ≡ Some (set_table (set_tree layout))
 sets_at Created = refl

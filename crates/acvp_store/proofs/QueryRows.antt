@@ -27,7 +27,7 @@ use Rattle.acvp_store.specs.Values.{whole}
 use Rattle.acvp_store.specs.Private.Shown.{BeginsWith, AreShown, AreMet, is_at_least, is_at_most, is_other, is_under}
 use Rattle.acvp_store.proofs.Parts.{and_true}
 use Rattle.acvp_store.proofs.SelectedRows.{matched, truth_back, selected}
-use Rattle.acvp_store.proofs.Texts.{equals, ordered_by, simple}
+use Rattle.acvp_store.proofs.QueryForms.{ordered_by}
 use Rattle.acvp_store.proofs.Versions.{map_same, test_whole}
 
 -- ---- what SQL's operators say of any value
@@ -53,15 +53,6 @@ test_other Null n = refl
 test_other _ n = truth_back _ ∙ other _
 
 -- ---- the rows that a query meets
-
--- of a table whose rows have its key as their number, the row under one
-module _ (layout : Layout) (tree : ℕ) (text : List ℕ) (names : List (List ℕ)) (project : List Term) (columns : Row → Row) (shows : (k : ℤ) (r : Row) → eval_all project ((Int k ∷ []) ∷ r ∷ []) ≡ columns r)
-    (is : command_of (understood (schema_of layout) text) ≡ Select (record { lets = []; body = simple tree (equals 0 0 ∷ []) project }) names) (plain : IsPlain (understood (schema_of layout) text)) (unlisted : reads_listing (schema_of layout) text ≡ false)
-    (seen : (trees : Trees) → overlay trees [] tree ≡ trees tree) where
-  pub rows_under : (n : ℕ) (k : ℤ) → n < 2 ^ 63 → (n < 2 ^ 63 → k ≡ pos n) → (old new : State) (rows : List Row) → old.now.schema ≡ schema_of layout → Shown text (Int k ∷ []) old new rows → IsPermutation (map columns (filter (is_under n) (old.now.trees tree))) rows
-  rows_under n k low fits old new rows schema h =
-      selected (Int k ∷ []) (λ (r : Row). r) (is_under n) (equals 0 0 ∷ []) (λ r. rw (fits low) (and_true _ ∙ test_whole (column r 0) n)) tree project columns (shows k) (overlay old.now.trees []) (old.now.trees tree) rows (seen old.now.trees ∙ map_same _)
-      ((reads_as text (Int k ∷ []) old new (schema_of layout) schema _ is plain unlisted rows h).answer Null)
 
 -- in the order of a column
 module _ {A : Type 0} (params : Row) (encode : A → Row) (p : A → Bool) (terms : List Term) (tests : (a : A) → list_all (holds (params ∷ encode a ∷ [])) terms ≡ p a) where

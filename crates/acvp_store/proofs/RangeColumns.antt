@@ -29,11 +29,11 @@ use Rattle.acvp_store.specs.Private.Requests.{request_shown}
 use Rattle.acvp_store.specs.Stands.{request_tree, request_row}
 use Rattle.acvp_tables.specs.declared.rows.RequestRow.{RequestRow}
 use Rattle.acvp_store.specs.Private.Shown.{BeginsWith, AreLedBy}
-use Rattle.acvp_store.proofs.PageTexts.{within, session_columns as session_terms, whole_request}
+use Rattle.acvp_store.proofs.QueryForms.{outside, within}
+use Rattle.acvp_store.proofs.Readings.{AccountOutside, AccountRange, RequestOutside, RequestRange, SessionOutside, SessionRange, account_terms, answers, reading_text, request_terms, session_terms}
 use Rattle.acvp_store.proofs.QueryRows.{selected_in_order}
 use Rattle.acvp_store.proofs.RangeOutside.{is_outside, none_outside, number_told}
 use Rattle.acvp_store.proofs.RangeRows.{test_between, in_tree_order}
-use Rattle.acvp_store.proofs.RangeTexts.{outside_requests, outside_requests_is, outside_requests_plain, outside_requests_unlisted, range_requests, requests_is, requests_plain, requests_unlisted, outside, outside_accounts, outside_accounts_is, outside_accounts_plain, outside_accounts_unlisted, outside_sessions, outside_sessions_is, outside_sessions_plain, outside_sessions_unlisted, range_accounts, account_terms, accounts_is, accounts_plain, accounts_unlisted, range_sessions, sessions_is, sessions_plain, sessions_unlisted}
 use Rattle.acvp_store.proofs.Versions.{map_same}
 
 pub left_true : (a b : Bool) → (a && b) ≡ true → a ≡ true
@@ -88,19 +88,19 @@ session_is (a ∷ k ∷ b ∷ c ∷ d ∷ e ∷ f ∷ g ∷ h ∷ []) s typed is
 session_is (a ∷ k ∷ b ∷ c ∷ d ∷ e ∷ f ∷ g ∷ h ∷ i ∷ row) s typed is =
     absurd (let few = not_longer (Some 0) 0 (session_table 3).columns (k ∷ b ∷ c ∷ d ∷ e ∷ f ∷ g ∷ h ∷ i ∷ row) typed in omega (arith, few))
 
-module _ (layout : Layout) (f l : ℕ) (old new : State) (rows : List Row) (schema : old.now.schema ≡ schema_of layout) (h : Shown range_sessions (whole f ∷ whole l ∷ []) old new rows) where
+module _ (layout : Layout) (f l : ℕ) (old new : State) (rows : List Row) (schema : old.now.schema ≡ schema_of layout) (h : Shown (reading_text SessionRange) (whole f ∷ whole l ∷ []) old new rows) where
   abbrev params : Row
   params = whole f ∷ whole l ∷ []
 
   pub sessions_met : IsPermutation (map session_columns (filter (is_between f l) (old.now.trees session_tree))) rows
   sessions_met =
       selected_in_order params (λ (r : Row). r) (is_between f l) (within 0) (λ r. test_between (column r 0) f l) 0 session_tree session_terms session_columns (λ r. refl) (overlay old.now.trees []) (old.now.trees session_tree) rows (map_same _)
-      ((reads_as range_sessions params old new (schema_of layout) schema _ (sessions_is layout) (sessions_plain layout) (sessions_unlisted layout) rows h).answer Null)
+      (answers SessionRange layout params old new rows schema h)
 
   pub sessions_in_order : IsTree (old.now.trees session_tree) → rows ≡ map session_columns (filter (is_between f l) (old.now.trees session_tree))
   sessions_in_order tree =
       in_tree_order params (is_between f l) (within 0) (λ r. test_between (column r 0) f l) session_tree session_terms session_columns (λ r. refl) (overlay old.now.trees []) (old.now.trees session_tree) rows (map_same _) tree.0
-      ((reads_as range_sessions params old new (schema_of layout) schema _ (sessions_is layout) (sessions_plain layout) (sessions_unlisted layout) rows h).answer Null)
+      (answers SessionRange layout params old new rows schema h)
 
 -- ---- accounts
 
@@ -122,19 +122,19 @@ account_is (r ∷ k ∷ b ∷ c ∷ []) a typed is = absurd (let n = typed.1 in 
 account_is (r ∷ k ∷ b ∷ c ∷ d ∷ []) a typed is = ap (λ v. r ∷ v ∷ b ∷ c ∷ d ∷ []) (null_is k (left_true _ _ typed.0)) ∙ ap with_null is
 account_is (r ∷ k ∷ b ∷ c ∷ d ∷ e ∷ row) a typed is = absurd (let n = typed.1 in omega (arith, n))
 
-module _ (layout : Layout) (f l : ℕ) (old new : State) (rows : List Row) (schema : old.now.schema ≡ schema_of layout) (h : Shown range_accounts (whole f ∷ whole l ∷ []) old new rows) where
+module _ (layout : Layout) (f l : ℕ) (old new : State) (rows : List Row) (schema : old.now.schema ≡ schema_of layout) (h : Shown (reading_text AccountRange) (whole f ∷ whole l ∷ []) old new rows) where
   abbrev ends : Row
   ends = whole f ∷ whole l ∷ []
 
   pub accounts_met : IsPermutation (map account_columns (filter (is_between f l) (old.now.trees account_tree))) rows
   accounts_met =
       selected_in_order ends (λ (r : Row). r) (is_between f l) (within 0) (λ r. test_between (column r 0) f l) 0 account_tree account_terms account_columns (λ r. refl) (overlay old.now.trees []) (old.now.trees account_tree) rows (map_same _)
-      ((reads_as range_accounts ends old new (schema_of layout) schema _ (accounts_is layout) (accounts_plain layout) (accounts_unlisted layout) rows h).answer Null)
+      (answers AccountRange layout ends old new rows schema h)
 
   pub accounts_in_order : IsTree (old.now.trees account_tree) → rows ≡ map account_columns (filter (is_between f l) (old.now.trees account_tree))
   accounts_in_order tree =
       in_tree_order ends (is_between f l) (within 0) (λ r. test_between (column r 0) f l) account_tree account_terms account_columns (λ r. refl) (overlay old.now.trees []) (old.now.trees account_tree) rows (map_same _) tree.0
-      ((reads_as range_accounts ends old new (schema_of layout) schema _ (accounts_is layout) (accounts_plain layout) (accounts_unlisted layout) rows h).answer Null)
+      (answers AccountRange layout ends old new rows schema h)
 
 -- ---- requests
 
@@ -158,25 +158,25 @@ request_is (a ∷ k ∷ b ∷ c ∷ d ∷ e ∷ []) r typed is = absurd (let n =
 request_is (a ∷ k ∷ b ∷ c ∷ d ∷ e ∷ f ∷ []) r typed is = ap (λ v. a ∷ v ∷ b ∷ c ∷ d ∷ e ∷ f ∷ []) (null_is k (left_true _ _ typed.0)) ∙ ap with_null is
 request_is (a ∷ k ∷ b ∷ c ∷ d ∷ e ∷ f ∷ g ∷ row) r typed is = absurd (let n = typed.1 in omega (arith, n))
 
-module _ (layout : Layout) (f l : ℕ) (old new : State) (rows : List Row) (schema : old.now.schema ≡ schema_of layout) (h : Shown range_requests (whole f ∷ whole l ∷ []) old new rows) where
+module _ (layout : Layout) (f l : ℕ) (old new : State) (rows : List Row) (schema : old.now.schema ≡ schema_of layout) (h : Shown (reading_text RequestRange) (whole f ∷ whole l ∷ []) old new rows) where
   abbrev limits : Row
   limits = whole f ∷ whole l ∷ []
 
   pub requests_met : IsPermutation (map request_columns (filter (is_between f l) (old.now.trees request_tree))) rows
   requests_met =
-      selected_in_order limits (λ (r : Row). r) (is_between f l) (within 0) (λ r. test_between (column r 0) f l) 0 request_tree whole_request request_columns (λ r. refl) (overlay old.now.trees []) (old.now.trees request_tree) rows (map_same _)
-      ((reads_as range_requests limits old new (schema_of layout) schema _ (requests_is layout) (requests_plain layout) (requests_unlisted layout) rows h).answer Null)
+      selected_in_order limits (λ (r : Row). r) (is_between f l) (within 0) (λ r. test_between (column r 0) f l) 0 request_tree request_terms request_columns (λ r. refl) (overlay old.now.trees []) (old.now.trees request_tree) rows (map_same _)
+      (answers RequestRange layout limits old new rows schema h)
 
   pub requests_in_order : IsTree (old.now.trees request_tree) → rows ≡ map request_columns (filter (is_between f l) (old.now.trees request_tree))
   requests_in_order tree =
-      in_tree_order limits (is_between f l) (within 0) (λ r. test_between (column r 0) f l) request_tree whole_request request_columns (λ r. refl) (overlay old.now.trees []) (old.now.trees request_tree) rows (map_same _) tree.0
-      ((reads_as range_requests limits old new (schema_of layout) schema _ (requests_is layout) (requests_plain layout) (requests_unlisted layout) rows h).answer Null)
+      in_tree_order limits (is_between f l) (within 0) (λ r. test_between (column r 0) f l) request_tree request_terms request_columns (λ r. refl) (overlay old.now.trees []) (old.now.trees request_tree) rows (map_same _) tree.0
+      (answers RequestRange layout limits old new rows schema h)
 
 -- ---- rows outside
 
-module _ (layout : Layout) (old new : State) (rows : List Row) (schema : old.now.schema ≡ schema_of layout) (h : Shown outside_sessions [] old new rows) where
+module _ (layout : Layout) (old new : State) (rows : List Row) (schema : old.now.schema ≡ schema_of layout) (h : Shown (reading_text SessionOutside) [] old new rows) where
   outside_session_answer : IsAnswer (outside session_tree 1000000 9999999999) (overlay old.now.trees []) [] rows
-  outside_session_answer = (reads_as outside_sessions [] old new (schema_of layout) schema _ (outside_sessions_is layout) (outside_sessions_plain layout) (outside_sessions_unlisted layout) rows h).answer Null
+  outside_session_answer = answers SessionOutside layout [] old new rows schema h
 
   pub sessions_outside : rows ≡ [] → filter (λ r. is_outside 1000000 9999999999 (column r 0)) (old.now.trees session_tree) ≡ []
   sessions_outside = none_outside session_tree 1000000 9999999999 (overlay old.now.trees []) (old.now.trees session_tree) rows (map_same _) outside_session_answer
@@ -184,9 +184,9 @@ module _ (layout : Layout) (old new : State) (rows : List Row) (schema : old.now
   pub session_told : (number : ℤ) → AreLedBy number rows → HasRowOutside (λ row. is_between 1000000 9999999999 row ≡ true) 0 number (old.now.trees session_tree)
   session_told = number_told session_tree 1000000 9999999999 (overlay old.now.trees []) (old.now.trees session_tree) rows (map_same _) outside_session_answer
 
-module _ (layout : Layout) (old new : State) (rows : List Row) (schema : old.now.schema ≡ schema_of layout) (h : Shown outside_accounts [] old new rows) where
+module _ (layout : Layout) (old new : State) (rows : List Row) (schema : old.now.schema ≡ schema_of layout) (h : Shown (reading_text AccountOutside) [] old new rows) where
   outside_account_answer : IsAnswer (outside account_tree 1 9999) (overlay old.now.trees []) [] rows
-  outside_account_answer = (reads_as outside_accounts [] old new (schema_of layout) schema _ (outside_accounts_is layout) (outside_accounts_plain layout) (outside_accounts_unlisted layout) rows h).answer Null
+  outside_account_answer = answers AccountOutside layout [] old new rows schema h
 
   pub accounts_outside : rows ≡ [] → filter (λ r. is_outside 1 9999 (column r 0)) (old.now.trees account_tree) ≡ []
   accounts_outside = none_outside account_tree 1 9999 (overlay old.now.trees []) (old.now.trees account_tree) rows (map_same _) outside_account_answer
@@ -194,9 +194,9 @@ module _ (layout : Layout) (old new : State) (rows : List Row) (schema : old.now
   pub account_told : (number : ℤ) → AreLedBy number rows → HasRowOutside (λ row. is_between 1 9999 row ≡ true) 0 number (old.now.trees account_tree)
   account_told = number_told account_tree 1 9999 (overlay old.now.trees []) (old.now.trees account_tree) rows (map_same _) outside_account_answer
 
-module _ (layout : Layout) (old new : State) (rows : List Row) (schema : old.now.schema ≡ schema_of layout) (h : Shown outside_requests [] old new rows) where
+module _ (layout : Layout) (old new : State) (rows : List Row) (schema : old.now.schema ≡ schema_of layout) (h : Shown (reading_text RequestOutside) [] old new rows) where
   outside_request_answer : IsAnswer (outside request_tree 1000000 9999999999) (overlay old.now.trees []) [] rows
-  outside_request_answer = (reads_as outside_requests [] old new (schema_of layout) schema _ (outside_requests_is layout) (outside_requests_plain layout) (outside_requests_unlisted layout) rows h).answer Null
+  outside_request_answer = answers RequestOutside layout [] old new rows schema h
 
   pub requests_outside : rows ≡ [] → filter (λ r. is_outside 1000000 9999999999 (column r 0)) (old.now.trees request_tree) ≡ []
   requests_outside = none_outside request_tree 1000000 9999999999 (overlay old.now.trees []) (old.now.trees request_tree) rows (map_same _) outside_request_answer

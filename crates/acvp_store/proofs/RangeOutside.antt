@@ -25,7 +25,7 @@ use Rattle.acvp_store.specs.Ranges.{is_between, IsTree, HasRowOutside}
 use Rattle.acvp_store.specs.Values.{whole}
 use Rattle.acvp_store.specs.Private.Shown.{AreLedBy}
 use Rattle.acvp_store.proofs.RangeStrays.{IsShown, all_shown}
-use Rattle.acvp_store.proofs.RangeTexts.{outside, first_where, not_between}
+use Rattle.acvp_store.proofs.QueryForms.{first_where, not_between, outside}
 use Rattle.acvp_store.proofs.SelectedRows.{matched}
 
 -- NULL is neither within nor outside

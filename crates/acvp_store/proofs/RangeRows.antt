@@ -29,7 +29,7 @@ use Rattle.acvp_store.specs.Private.Shown.{BeginsWith, AreShown, is_at_least, is
 use Rattle.acvp_store.proofs.Parts.{both_true}
 use Rattle.acvp_store.proofs.QueryRows.{test_from, test_until}
 use Rattle.acvp_store.proofs.SelectedRows.{matched}
-use Rattle.acvp_store.proofs.Texts.{ordered_by}
+use Rattle.acvp_store.proofs.QueryForms.{ordered_by}
 
 -- ---- BETWEEN
 

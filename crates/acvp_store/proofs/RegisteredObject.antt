@@ -36,13 +36,13 @@ use Rattle.acvp_store.specs.Schema.{Layout, schema_of, object_table}
 use Rattle.acvp_store.specs.Alters.{SparesOthers}
 use Rattle.acvp_store.specs.Stands.{object_tree, HoldsObjects, object_columns, request_tree, request_key, request_row, body_number, body_text}
 use Rattle.acvp_store.specs.Private.Objects.{IsOfKind, Registers}
-use Rattle.acvp_store.proofs.Effects.{task_of, concluded}
+use Rattle.acvp_store.proofs.Effects.{concluded, task_of, under_schema}
 use Rattle.acvp_store.proofs.Entries.{puts}
 use Rattle.acvp_store.proofs.Idle.{applied}
 use Rattle.acvp_store.proofs.Keyed.{none_left, keyed, few_keyed, keyed_same, find_is}
 use Rattle.acvp_store.proofs.Parts.{went, same_value, cast_null, cast_whole, both_true}
 use Rattle.acvp_store.proofs.SelectedRows.{test_equals, test_less, selected_by}
-use Rattle.acvp_store.proofs.Texts.{register_object, register_query}
+use Rattle.acvp_store.proofs.Writings.{Effects, ObjectRegistered, register_query, writing_command}
 
 abbrev is_registration : RequestRow → Bool
 is_registration r = nat_lt (body_number r.body) 4
@@ -135,11 +135,8 @@ registers layout limit text n number low trees tally after does =
       others = subst (SparesOthers layout object_tree trees) next (applied layout trees written.0 (edit_of trees (object_table 5) [] Chosen 0 rows.0) written.1).tables;
     }
 
-pub register_effect : (layout : Layout) (old : State) (n number : ℕ) → number < 2 ^ 63 → old.now.schema ≡ schema_of layout → (tally : Tally) (after : Database)
-    → Does old.step_limit (mode_of old) (register_params n number) old.now (statement_of register_object (understood (schema_of layout) register_object)) None (Insert 4 (source.Query (record { lets = []; body = register_query }))) (Ok (tally, after))
-    → Registers layout n number old.now after
-register_effect layout old n number low schema tally after does =
-    let text = statement_of register_object (understood (schema_of layout) register_object) in
-    let it = subst (λ s. Does old.step_limit (mode_of old) (register_params n number) (record old.now { schema = s }) text None (Insert 4 (source.Query (record { lets = []; body = register_query }))) (Ok (tally, after))) schema does in
-    let made = registers layout old.step_limit text n number low old.now.trees tally after it in
-    record { schema = made.schema; fits = made.fits; kept = made.kept; others = made.others }
+pub register_effect : (layout : Layout) (old : State) (n number : ℕ) → number < 2 ^ 63
+    → Effects ObjectRegistered layout (register_params n number) old (Registers layout n number)
+register_effect layout old n number low =
+    under_schema (schema_of layout) old (register_params n number) [] (writing_command ObjectRegistered layout) (Registers layout n number)
+    (λ limit trees tally after does. registers layout limit [] n number low trees tally after does)

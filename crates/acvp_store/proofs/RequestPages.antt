@@ -35,11 +35,12 @@ use Rattle.acvp_store.proofs.Keyed.{keyed, keyed_same, find_is, none_fits, none_
 use Rattle.acvp_store.proofs.RowLists.{all_taken, all_dropped}
 use Rattle.acvp_store.proofs.Owned.{last_number, in_range, range_drops, rising_dropped, request_numbers, request_selection}
 use Rattle.acvp_store.proofs.OrderedPages.{paged, capped_page}
-use Rattle.acvp_store.proofs.PageTexts.{within, whole_request, find_request, request_is, request_plain, request_unlisted, request_columns, page_requests, requests_is, requests_plain, requests_unlisted}
+use Rattle.acvp_store.proofs.QueryForms.{within}
+use Rattle.acvp_store.proofs.Readings.{RequestAt, RequestPage, answers, reading_text, request_terms, summary_terms}
 use Rattle.acvp_store.proofs.Parts.{and_true}
 use Rattle.acvp_store.proofs.SelectedRows.{test_equals, test_none, selected}
 use Rattle.acvp_store.proofs.Sound.{kinds_of}
-use Rattle.acvp_store.proofs.Texts.{equals}
+use Rattle.acvp_store.proofs.RowsAt.{ShowsAt, rows_at}
 
 -- ---- what a query shows of a request
 
@@ -49,7 +50,7 @@ body_shown b = if body_number b == 4 then Text (body_text b) else Null
 abbrev listed_request : RequestRow → Row
 listed_request r = whole r.number ∷ whole r.account ∷ whole (body_number r.body) ∷ body_shown r.body ∷ whole (status_number r.status) ∷ or_null whole (given_number r.status) ∷ []
 
-shows : (params : Row) (r : RequestRow) → eval_all request_columns (params ∷ request_row r ∷ []) ≡ listed_request r
+shows : (params : Row) (r : RequestRow) → eval_all summary_terms (params ∷ request_row r ∷ []) ≡ listed_request r
 shows params r = rw (test_equals (body_number r.body) 4) refl
 
 purpose_is : (b : RequestBody) → IsOfKind b → (whole (body_number b) ≡ whole (purpose_number (purpose_of b))) × (body_shown b ≡ or_null Text (purpose_text (purpose_of b)))
@@ -81,23 +82,12 @@ summaries_read (r ∷ list) kinds reads = (purpose_reads r.body kinds.0 reads.0,
 
 -- ---- by its number
 
-rows_by : (layout : Layout) (k : ℤ) (p : RequestRow → Bool) → ((r : RequestRow) → is_true (binary (Compare Eq Binary) (whole r.number) (Int k)) ≡ p r) → (old new : State) (rows : List Row) → old.now.schema ≡ schema_of layout → Shown find_request (Int k ∷ []) old new rows
-    → (list : List RequestRow) (kept : AreKept request_key request_row (old.now.trees request_tree) list) → IsPermutation (map request_shown (filter p kept.ordered)) rows
-rows_by layout k p tests old new rows schema h list kept =
-    selected (Int k ∷ []) request_row p (equals 0 0 ∷ []) (λ r. rw tests (and_true _)) request_tree whole_request request_shown (λ r. refl) (overlay old.now.trees []) kept.ordered rows kept.rows_are
-    ((reads_as find_request (Int k ∷ []) old new (schema_of layout) schema _ (request_is layout) (request_plain layout) (request_unlisted layout) rows h).answer Null)
+request_rows : (layout : Layout) → ShowsAt RequestAt layout request_tree request_key request_row request_shown
+request_rows layout =
+    rows_at RequestAt layout request_tree request_terms refl (λ trees. refl) request_key request_row request_shown
+    (λ r. refl) (λ k r. refl)
 
-request_rows : (layout : Layout) (n : ℕ) (k : ℤ) → (n < 2 ^ 63 → k ≡ pos n) → (2 ^ 63 ≤ n → k ≡ negsuc 0) → (old new : State) (rows : List Row) → old.now.schema ≡ schema_of layout → Shown find_request (Int k ∷ []) old new rows
-    → (list : List RequestRow) (kept : AreKept request_key request_row (old.now.trees request_tree) list) → IsPermutation (map request_shown (keyed request_key n kept.ordered)) rows
-request_rows layout n k fits large old new rows schema h list kept = elim (small_or_large n) [
-  | inl low ↦ rows_by layout k (λ r. r.number == n) (λ r. rw (fits low) (test_equals r.number n)) old new rows schema h list kept
-  | inr high ↦ rw (none_fits request_key n kept.ordered high kept.fits) (rw (none_passes kept.ordered) at (rows_by layout k (λ r. false) (λ r. rw (large high) (test_none r.number)) old new rows schema h list kept))
-]
-  where
-    small_or_large : (n : ℕ) → (n < 2 ^ 63) ⊎ (2 ^ 63 ≤ n)
-    small_or_large n = search arith
-
-pub request_found : (layout : Layout) (n : ℕ) (k : ℤ) → (n < 2 ^ 63 → k ≡ pos n) → (2 ^ 63 ≤ n → k ≡ negsuc 0) → (old new : State) (rows : List Row) → old.now.schema ≡ schema_of layout → Shown find_request (Int k ∷ []) old new rows
+pub request_found : (layout : Layout) (n : ℕ) (k : ℤ) → (n < 2 ^ 63 → k ≡ pos n) → (2 ^ 63 ≤ n → k ≡ negsuc 0) → (old new : State) (rows : List Row) → old.now.schema ≡ schema_of layout → Shown (reading_text RequestAt) (Int k ∷ []) old new rows
     → (c : Content) → AreWellNumbered c → HoldsRequests (old.now.trees request_tree) c.requests → AllByRecursion (λ (r : RequestRow). IsReadable r.body) (keyed request_key n c.requests) × IsPermutation (map request_shown (keyed request_key n c.requests)) rows
 request_found layout n k fits large old new rows schema shown c sound h =
     let mine = keyed request_key n c.requests in
@@ -125,7 +115,7 @@ summary_told Sound Held (Ok row) (Ok told) picked ok tells finds = λ c sound he
 
 -- ---- a page
 
-pub request_page : (layout : Layout) (u o l : ℕ) (old new : State) (rows : List Row) → old.now.schema ≡ schema_of layout → Shown page_requests (page_params u o l) old new rows
+pub request_page : (layout : Layout) (u o l : ℕ) (old new : State) (rows : List Row) → old.now.schema ≡ schema_of layout → Shown (reading_text RequestPage) (page_params u o l) old new rows
     → (c : Content) → AreWellNumbered c → HoldsRequests (old.now.trees request_tree) c.requests
     → AllByRecursion Reads (page o l (summaries (requests_of u c.requests))) × (rows ≡ map summary_shown (page o l (summaries (requests_of u c.requests))))
 request_page layout u o l old new rows schema shown c sound h =
@@ -135,9 +125,9 @@ request_page layout u o l old new rows schema shown c sound h =
     let selection = request_selection c u sound in
     let picked = range_drops key account u (min o 999999) (λ r. true) c.requests (request_numbers c sound) selection.numbered in
     let whole_list = subst (λ xs. IsPermutation xs c.requests) (sym (map-id h.kept.ordered)) h.kept.same in
-    let it = paged (page_params u o l) request_row (λ r. r) (in_range key account u (min o 999999)) (within 0) request_columns 0 key listed_request (λ r. test_range r.number (first_of_account u + min o 999999) (last_number u)) (λ r. refl) (shows (page_params u o l)) request_tree (min l most) refl
+    let it = paged (page_params u o l) request_row (λ r. r) (in_range key account u (min o 999999)) (within 0) summary_terms 0 key listed_request (λ r. test_range r.number (first_of_account u + min o 999999) (last_number u)) (λ r. refl) (shows (page_params u o l)) request_tree (min l most) refl
     (overlay old.now.trees []) h.kept.ordered c.requests rows h.kept.rows_are whole_list (rw picked (rising_dropped key (min o 999999) (first_of_account u) mine selection.numbered))
-    ((reads_as page_requests (page_params u o l) old new (schema_of layout) schema _ (requests_is layout) (requests_plain layout) (requests_unlisted layout) rows shown).answer Null) in
+    (answers RequestPage layout (page_params u o l) old new rows schema shown) in
     let kinds = all-filter (λ (r : RequestRow). IsOfKind r.body) (λ r. r.account == u) c.requests (kinds_of c sound) in
     let texts = all-filter (λ (r : RequestRow). BodyReads r.body) (λ r. r.account == u) c.requests h.texts in
     let exact = it ∙ ap (map listed_request) (ap (take (min l most)) picked ∙ capped_page o l mine selection.few) in (

@@ -26,13 +26,13 @@ use Rattle.acvp_store.specs.Private.Columns.{columns_of_reviewer}
 use Rattle.acvp_store.specs.Private.Shown.{AreLedBy, AreShown}
 use Rattle.acvp_store.proofs.ColumnNumbers.{is_whole, number_within, not_outside, all_fail, column_test}
 use Rattle.acvp_store.proofs.EntryRanges.{shown_exactly, entries_hold, each_entry, entries_joined, entries_tree, joined_all, IsNumbered}
-use Rattle.acvp_store.proofs.PageTexts.{within}
+use Rattle.acvp_store.proofs.QueryForms.{first_where, not_between, within}
+use Rattle.acvp_store.proofs.Readings.{ReviewerOutside, ReviewerRange, answers, reading_text, reviewer_terms}
 use Rattle.acvp_store.proofs.Places.{reviewers_seen, of_reviewers}
 use Rattle.acvp_store.proofs.QueryRows.{selected_in_order}
 use Rattle.acvp_store.proofs.RangeColumns.{left_true, not_longer}
 use Rattle.acvp_store.proofs.RangeOutside.{is_outside, none_passing, first_told, test_column}
 use Rattle.acvp_store.proofs.RangeRows.{test_between, right_true, all_passed, within_last}
-use Rattle.acvp_store.proofs.RangeTexts.{range_reviewers, reviewer_terms, reviewers_is, reviewers_plain, reviewers_unlisted, first_where, not_between, outside_reviewers, outside_reviewers_is, outside_reviewers_plain, outside_reviewers_unlisted}
 use Rattle.acvp_store.proofs.Versions.{map_same}
 
 -- ---- what the schema says of a row
@@ -62,14 +62,14 @@ session_is_whole (a ∷ b ∷ row) typed = is_whole b (left_true _ _ typed.0) (l
 
 -- ---- what the queries meet
 
-module _ (layout : Layout) (f l : ℕ) (old new : State) (rows : List Row) (schema : old.now.schema ≡ schema_of layout) (h : Shown range_reviewers (whole f ∷ whole l ∷ []) old new rows) where
+module _ (layout : Layout) (f l : ℕ) (old new : State) (rows : List Row) (schema : old.now.schema ≡ schema_of layout) (h : Shown (reading_text ReviewerRange) (whole f ∷ whole l ∷ []) old new rows) where
   abbrev params : Row
   params = whole f ∷ whole l ∷ []
 
   pub reviewers_met : IsPermutation (map columns_of_reviewer (filter (is_column_between 1 f l) (old.now.trees (reviewer_tree layout)))) rows
   reviewers_met =
       selected_in_order params (λ (r : Row). r) (is_column_between 1 f l) (within 1) (λ r. test_between (column r 1) f l) 1 (reviewer_tree layout) reviewer_terms columns_of_reviewer (λ r. refl) (overlay old.now.trees []) (old.now.trees (reviewer_tree layout)) rows (reviewers_seen layout old.now.trees ∙ map_same _)
-      ((reads_as range_reviewers params old new (schema_of layout) schema _ (reviewers_is layout) (reviewers_plain layout) (reviewers_unlisted layout) rows h).answer Null)
+      (answers ReviewerRange layout params old new rows schema h)
 
 abbrev pub is_elsewhere : Row → Bool
 is_elsewhere row = is_outside 1000000 9999999999 (column row 1)
@@ -77,9 +77,9 @@ is_elsewhere row = is_outside 1000000 9999999999 (column row 1)
 abbrev pub Within : Row → Type 0
 Within = HasNumberBetween 1 (first_number 1) (last_number 9999)
 
-module _ (layout : Layout) (old new : State) (rows : List Row) (schema : old.now.schema ≡ schema_of layout) (h : Shown outside_reviewers [] old new rows) where
+module _ (layout : Layout) (old new : State) (rows : List Row) (schema : old.now.schema ≡ schema_of layout) (h : Shown (reading_text ReviewerOutside) [] old new rows) where
   outside_answer : IsAnswer (first_where (reviewer_tree layout) 1 (not_between 1 1000000 9999999999)) (overlay old.now.trees []) [] rows
-  outside_answer = (reads_as outside_reviewers [] old new (schema_of layout) schema _ (outside_reviewers_is layout) (outside_reviewers_plain layout) (outside_reviewers_unlisted layout) rows h).answer Null
+  outside_answer = answers ReviewerOutside layout [] old new rows schema h
 
   pub reviewers_outside : rows ≡ [] → filter is_elsewhere (old.now.trees (reviewer_tree layout)) ≡ []
   reviewers_outside = none_passing (reviewer_tree layout) 1 (not_between 1 1000000 9999999999) is_elsewhere (test_column 1 1000000 9999999999) (overlay old.now.trees []) (old.now.trees (reviewer_tree layout)) rows (reviewers_seen layout old.now.trees ∙ map_same _) outside_answer

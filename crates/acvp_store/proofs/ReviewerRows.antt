@@ -38,15 +38,16 @@ use Rattle.acvp_store.specs.Values.{whole}
 use Rattle.acvp_store.specs.Schema.{Layout, Created, Migrated, schema_of, reviewer_table}
 use Rattle.acvp_store.specs.Alters.{Alters, SparesOthers}
 use Rattle.acvp_store.specs.Stands.{Entry, entry_row, HoldsEntries, HoldsReviewers, reviewer_columns, reviewer_tree}
-use Rattle.acvp_store.proofs.Effects.{mode, task_of, concluded}
+use Rattle.acvp_store.proofs.Effects.{concluded, mode, task_of, under_schema}
 use Rattle.acvp_store.proofs.Entries.{entry_for, map_last, rows_put, puts, was_free, removed, takes}
 use Rattle.acvp_store.proofs.Idle.{applied}
 use Rattle.acvp_store.proofs.InsertedRow.{not_false}
 use Rattle.acvp_store.proofs.Parts.{went, same_value, cast_null, cast_whole, both_true}
 use Rattle.acvp_store.proofs.SelectedRows.{test_equals, test_none, selected}
-use Rattle.acvp_store.proofs.Keyed.{none_passes}
+use Rattle.acvp_store.proofs.Keyed.{none_passes, small_or_large}
 use Rattle.acvp_store.proofs.Places.{reviewers_at, of_reviewers, reviewers_seen}
-use Rattle.acvp_store.proofs.Texts.{reviewer_place, find_reviewer, reviewer_query, reviewer_is, reviewer_plain, reviewer_unlisted, add_reviewer, add_reviewer_terms, remove_reviewer, remove_query}
+use Rattle.acvp_store.proofs.Readings.{ReviewerAt, answers, reading_query, reading_text}
+use Rattle.acvp_store.proofs.Writings.{Effects, ReviewerAdded, ReviewerRemoved, remove_query, reviewer_place, writing_command, writing_terms}
 
 -- ---- whether one is there
 
@@ -72,25 +73,22 @@ none_paired r (e ∷ es) high low =
     let apart : (e.row.session == r.session) ≡ false = grind (arith, nat_tests, under, high) in
     rw apart (none_paired r es high low.1)
 
-pub small_or_large : (n : ℕ) → (n < 2 ^ 63) ⊎ (2 ^ 63 ≤ n)
-small_or_large n = search arith
-
 module _ (layout : Layout) (r : ReviewerRow) (old new : State) (rows : List Row) (schema : old.now.schema ≡ schema_of layout) (list : List ReviewerRow) (h : HoldsReviewers (old.now.trees (reviewer_tree layout)) list) where
-  rows_by : (k : ℤ) (p : Entry ReviewerRow → Bool) → ((e : Entry ReviewerRow) → list_all (holds (pair_params k r.account ∷ entry_row reviewer_columns e ∷ [])) (reviewer_query layout).filter ≡ p e)
-      → Shown find_reviewer (pair_params k r.account) old new rows → IsPermutation (map (λ (e : Entry ReviewerRow). whole e.row.account ∷ []) (filter p h.kept.entries)) rows
+  rows_by : (k : ℤ) (p : Entry ReviewerRow → Bool) → ((e : Entry ReviewerRow) → list_all (holds (pair_params k r.account ∷ entry_row reviewer_columns e ∷ [])) (reading_query ReviewerAt layout).filter ≡ p e)
+      → Shown (reading_text ReviewerAt) (pair_params k r.account) old new rows → IsPermutation (map (λ (e : Entry ReviewerRow). whole e.row.account ∷ []) (filter p h.kept.entries)) rows
   rows_by k p tests shown =
-      selected (pair_params k r.account) (entry_row reviewer_columns) p (reviewer_query layout).filter tests
-      (reviewer_tree layout) (reviewer_query layout).project (λ e. whole e.row.account ∷ []) (λ e. refl) (overlay old.now.trees []) h.kept.entries rows (reviewers_seen layout old.now.trees ∙ h.kept.rows_are)
-      ((reads_as find_reviewer (pair_params k r.account) old new (schema_of layout) schema _ (reviewer_is layout) (reviewer_plain layout) (reviewer_unlisted layout) rows shown).answer Null)
+      selected (pair_params k r.account) (entry_row reviewer_columns) p (reading_query ReviewerAt layout).filter tests
+      (reviewer_tree layout) (reading_query ReviewerAt layout).project (λ e. whole e.row.account ∷ []) (λ e. refl) (overlay old.now.trees []) h.kept.entries rows (reviewers_seen layout old.now.trees ∙ h.kept.rows_are)
+      (answers ReviewerAt layout (pair_params k r.account) old new rows schema shown)
 
-  pub reviewer_rows : (k : ℤ) → (r.session < 2 ^ 63 → k ≡ pos r.session) → (2 ^ 63 ≤ r.session → k ≡ negsuc 0) → Shown find_reviewer (pair_params k r.account) old new rows
+  pub reviewer_rows : (k : ℤ) → (r.session < 2 ^ 63 → k ≡ pos r.session) → (2 ^ 63 ≤ r.session → k ≡ negsuc 0) → Shown (reading_text ReviewerAt) (pair_params k r.account) old new rows
       → IsPermutation (map (λ (e : Entry ReviewerRow). whole e.row.account ∷ []) (filter (λ e. is_pair r e.row) h.kept.entries)) rows
   reviewer_rows k fits large shown = elim (small_or_large r.session) [
     | inl low ↦
-        let at = subst (λ k. Shown find_reviewer (pair_params k r.account) old new rows) (fits low) shown in
+        let at = subst (λ k. Shown (reading_text ReviewerAt) (pair_params k r.account) old new rows) (fits low) shown in
         rows_by (pos r.session) (λ e. is_pair r e.row) (λ e. both_true _ _ (e.row.session == r.session) (e.row.account == r.account) (test_equals e.row.session r.session) (test_equals e.row.account r.account)) at
     | inr high ↦
-        let at = subst (λ k. Shown find_reviewer (pair_params k r.account) old new rows) (large high) shown in
+        let at = subst (λ k. Shown (reading_text ReviewerAt) (pair_params k r.account) old new rows) (large high) shown in
         let none = rows_by (negsuc 0) (λ e. false) (λ e. both_true _ _ false (e.row.account == r.account) (test_none e.row.session) (test_equals e.row.account r.account)) at in
         let empty : filter (λ (e : Entry ReviewerRow). false) h.kept.entries ≡ filter (λ (e : Entry ReviewerRow). is_pair r e.row) h.kept.entries = none_passes h.kept.entries ∙ sym (none_paired r h.kept.entries high (entries_fit (old.now.trees (reviewer_tree layout)) list h)) in
         subst (λ es. IsPermutation (map (λ (e : Entry ReviewerRow). whole e.row.account ∷ []) es) rows) empty none
@@ -164,10 +162,10 @@ module _ (layout : Layout) (r : ReviewerRow) (trees next : Trees) (wrote : Write
       }
 
 adds : (layout : Layout) (limit : Option ℕ) (text : List ℕ) (r : ReviewerRow) → r.session < 2 ^ 63 → (trees : Trees) (tally : Tally) (after : Database)
-    → Does limit (record { keys = Enforced; in_doubt = false; may_wait = false }) (reviewer_columns r) (record { schema = schema_of layout; trees = trees }) text None (Insert (reviewer_place layout) (Values add_reviewer_terms 3)) (Ok (tally, after))
+    → Does limit (record { keys = Enforced; in_doubt = false; may_wait = false }) (reviewer_columns r) (record { schema = schema_of layout; trees = trees }) text None (Insert (reviewer_place layout) (Values (writing_terms ReviewerAdded) 3)) (Ok (tally, after))
     → Alters layout (reviewer_tree layout) HoldsReviewers (with_reviewer r) (record { schema = schema_of layout; trees = trees }) after
 adds layout limit text r low trees tally after does =
-    let q = Insert (reviewer_place layout) (Values add_reviewer_terms 3) in
+    let q = Insert (reviewer_place layout) (Values (writing_terms ReviewerAdded) 3) in
     let done = went (subst (λ (o : Option Table). AtPlace (λ t. OnRows (task_of layout limit t (reviewer_columns r)) mode None q trees) o (Ok (tally, after))) (reviewers_at layout) does) in
     let now = concluded (task_of layout limit (reviewer_table (reviewer_tree layout)) (reviewer_columns r)) done.0 tally after done.2 in
     let source = went done.1 in
@@ -182,14 +180,12 @@ adds layout limit text r low trees tally after does =
       others = subst (SparesOthers layout (reviewer_tree layout) trees) next (applied layout trees written.0 (edit_of trees (reviewer_table (reviewer_tree layout)) [] Chosen 0 ((Null ∷ reviewer_columns r) ∷ [])) wrote).tables;
     }
 
-pub add_reviewer_effect : (layout : Layout) (old : State) (r : ReviewerRow) → r.session < 2 ^ 63 → old.now.schema ≡ schema_of layout → (tally : Tally) (after : Database)
-    → Does old.step_limit (mode_of old) (reviewer_columns r) old.now (statement_of add_reviewer (understood (schema_of layout) add_reviewer)) None (Insert (reviewer_place layout) (Values add_reviewer_terms 3)) (Ok (tally, after))
-    → Alters layout (reviewer_tree layout) HoldsReviewers (with_reviewer r) old.now after
-add_reviewer_effect layout old r low schema tally after does =
-    let text = statement_of add_reviewer (understood (schema_of layout) add_reviewer) in
-    let it = subst (λ s. Does old.step_limit (mode_of old) (reviewer_columns r) (record old.now { schema = s }) text None (Insert (reviewer_place layout) (Values add_reviewer_terms 3)) (Ok (tally, after))) schema does in
-    let made = adds layout old.step_limit text r low old.now.trees tally after it in
-    record { schema = made.schema; kept = made.kept; others = made.others }
+pub add_reviewer_effect : (layout : Layout) (old : State) (r : ReviewerRow) → r.session < 2 ^ 63
+    → Effects ReviewerAdded layout (reviewer_columns r) old (Alters layout (reviewer_tree layout) HoldsReviewers (with_reviewer r))
+add_reviewer_effect layout old r low =
+    under_schema (schema_of layout) old (reviewer_columns r) [] (writing_command ReviewerAdded layout)
+    (Alters layout (reviewer_tree layout) HoldsReviewers (with_reviewer r))
+    (λ limit trees tally after does. adds layout limit [] r low trees tally after does)
 
 -- ---- one who is taken out
 
@@ -220,11 +216,10 @@ removes layout limit text r trees tally after does =
       others = subst (SparesOthers layout (reviewer_tree layout) trees) next it.tables;
     }
 
-pub remove_reviewer_effect : (layout : Layout) (old : State) (r : ReviewerRow) → old.now.schema ≡ schema_of layout → (tally : Tally) (after : Database)
-    → Does old.step_limit (mode_of old) (reviewer_columns r) old.now (statement_of remove_reviewer (understood (schema_of layout) remove_reviewer)) None (Delete (reviewer_place layout) (record { lets = []; body = (remove_query layout) })) (Ok (tally, after))
-    → Alters layout (reviewer_tree layout) HoldsReviewers (filter (λ row. not (is_pair r row))) old.now after
-remove_reviewer_effect layout old r schema tally after does =
-    let text = statement_of remove_reviewer (understood (schema_of layout) remove_reviewer) in
-    let it = subst (λ s. Does old.step_limit (mode_of old) (reviewer_columns r) (record old.now { schema = s }) text None (Delete (reviewer_place layout) (record { lets = []; body = (remove_query layout) })) (Ok (tally, after))) schema does in
-    let made = removes layout old.step_limit text r old.now.trees tally after it in
-    record { schema = made.schema; kept = made.kept; others = made.others }
+pub remove_reviewer_effect : (layout : Layout) (old : State) (r : ReviewerRow)
+    → Effects ReviewerRemoved layout (reviewer_columns r) old
+    (Alters layout (reviewer_tree layout) HoldsReviewers (filter (λ row. not (is_pair r row))))
+remove_reviewer_effect layout old r =
+    under_schema (schema_of layout) old (reviewer_columns r) [] (writing_command ReviewerRemoved layout)
+    (Alters layout (reviewer_tree layout) HoldsReviewers (filter (λ row. not (is_pair r row))))
+    (λ limit trees tally after does. removes layout limit [] r trees tally after does)

@@ -32,9 +32,9 @@ use Rattle.acvp_store.specs.Stands.{Entry, entry_row, object_tree, object_column
 use Rattle.acvp_store.specs.Private.Pages.{greatest}
 use Rattle.acvp_store.proofs.AccountPages.{test_range}
 use Rattle.acvp_store.proofs.Owned.{last_number, in_range, range_drops, session_numbers, session_selection, request_numbers, request_selection, object_numbers, object_selection}
-use Rattle.acvp_store.proofs.PageTexts.{within, newest, newest_sessions, sessions_newest_is, sessions_newest_plain, sessions_newest_unlisted, newest_objects, objects_newest_is, objects_newest_plain, objects_newest_unlisted, newest_requests, requests_newest_is, requests_newest_plain, requests_newest_unlisted}
+use Rattle.acvp_store.proofs.QueryForms.{equals, newest, within}
+use Rattle.acvp_store.proofs.Readings.{NewestObject, NewestRequest, NewestSession, answers, reading_text}
 use Rattle.acvp_store.proofs.SelectedRows.{test_equals, matched}
-use Rattle.acvp_store.proofs.Texts.{equals}
 
 -- ---- numbers without gaps, the greatest first
 
@@ -104,7 +104,7 @@ module _ {E A : Type 0} (params : Row) (encode : E → Row) (member : E → A) (
 abbrev pub range_params : ℕ → Row
 range_params u = whole (first_of_account u + 0) ∷ whole (last_number u) ∷ []
 
-pub sessions_counted : (layout : Layout) (u : ℕ) (old new : State) (rows : List Row) → old.now.schema ≡ schema_of layout → Shown newest_sessions (range_params u) old new rows
+pub sessions_counted : (layout : Layout) (u : ℕ) (old new : State) (rows : List Row) → old.now.schema ≡ schema_of layout → Shown (reading_text NewestSession) (range_params u) old new rows
     → (c : Content) → AreWellNumbered c → HoldsSessions (old.now.trees session_tree) c.sessions → rows ≡ greatest (u * 1000000) (length (sessions_of u c.sessions))
 sessions_counted layout u old new rows schema shown c sound h =
     let key = λ (s : SessionRow). s.number in
@@ -113,10 +113,10 @@ sessions_counted layout u old new rows schema shown c sound h =
     let picked = range_drops key account u 0 (λ s. true) c.sessions (session_numbers c sound) selection.numbered in
     let it = greatest_shown (range_params u) session_row (λ s. s) (in_range key account u 0) (within 0) 0 key (λ s. test_range s.number (first_of_account u + 0) (last_number u)) (λ s. refl) session_tree (overlay old.now.trees []) h.ordered c.sessions (u * 1000000) rows h.rows_are
     (subst (λ xs. IsPermutation xs c.sessions) (sym (map-id h.ordered)) h.same) (rw picked selection.numbered)
-    ((reads_as newest_sessions (range_params u) old new (schema_of layout) schema _ (sessions_newest_is layout) (sessions_newest_plain layout) (sessions_newest_unlisted layout) rows shown).answer Null) in
+    (answers NewestSession layout (range_params u) old new rows schema shown) in
     it ∙ ap (λ xs. greatest (u * 1000000) (length xs)) picked
 
-pub requests_counted : (layout : Layout) (u : ℕ) (old new : State) (rows : List Row) → old.now.schema ≡ schema_of layout → Shown newest_requests (range_params u) old new rows
+pub requests_counted : (layout : Layout) (u : ℕ) (old new : State) (rows : List Row) → old.now.schema ≡ schema_of layout → Shown (reading_text NewestRequest) (range_params u) old new rows
     → (c : Content) → AreWellNumbered c → HoldsRequests (old.now.trees request_tree) c.requests → rows ≡ greatest (u * 1000000) (length (requests_of u c.requests))
 requests_counted layout u old new rows schema shown c sound h =
     let key = λ (r : RequestRow). r.number in
@@ -125,13 +125,13 @@ requests_counted layout u old new rows schema shown c sound h =
     let picked = range_drops key account u 0 (λ r. true) c.requests (request_numbers c sound) selection.numbered in
     let it = greatest_shown (range_params u) request_row (λ r. r) (in_range key account u 0) (within 0) 0 key (λ r. test_range r.number (first_of_account u + 0) (last_number u)) (λ r. refl) request_tree (overlay old.now.trees []) h.kept.ordered c.requests (u * 1000000) rows h.kept.rows_are
     (subst (λ xs. IsPermutation xs c.requests) (sym (map-id h.kept.ordered)) h.kept.same) (rw picked selection.numbered)
-    ((reads_as newest_requests (range_params u) old new (schema_of layout) schema _ (requests_newest_is layout) (requests_newest_plain layout) (requests_newest_unlisted layout) rows shown).answer Null) in
+    (answers NewestRequest layout (range_params u) old new rows schema shown) in
     it ∙ ap (λ xs. greatest (u * 1000000) (length xs)) picked
 
 abbrev pub kind_params : Kind → ℕ → Row
 kind_params kind u = whole (first_of_account u + 0) ∷ whole (last_number u) ∷ whole (kind_number kind) ∷ []
 
-pub objects_counted : (layout : Layout) (kind : Kind) (u : ℕ) (old new : State) (rows : List Row) → old.now.schema ≡ schema_of layout → Shown newest_objects (kind_params kind u) old new rows
+pub objects_counted : (layout : Layout) (kind : Kind) (u : ℕ) (old new : State) (rows : List Row) → old.now.schema ≡ schema_of layout → Shown (reading_text NewestObject) (kind_params kind u) old new rows
     → (c : Content) → AreWellNumbered c → HoldsObjects (old.now.trees object_tree) c.objects → rows ≡ greatest (u * 1000000) (length (objects_of kind u c.objects))
 objects_counted layout kind u old new rows schema shown c sound h =
     let key = λ (x : ObjectRow). x.number in
@@ -142,7 +142,7 @@ objects_counted layout kind u old new rows schema shown c sound h =
     let it = greatest_shown (kind_params kind u) (entry_row object_columns) (λ (e : Entry ObjectRow). e.row) (λ x. of_kind x && in_range key account u 0 x) (equals 1 2 ∷ within 2) 2 key
     (λ e. ap₂ (λ a b. a && b) (test_equals (kind_number e.row.object.kind) (kind_number kind)) (test_range e.row.number (first_of_account u + 0) (last_number u))) (λ e. refl) object_tree (overlay old.now.trees []) h.entries c.objects (u * 1000000) rows h.rows_are
     h.same (rw picked selection.numbered)
-    ((reads_as newest_objects (kind_params kind u) old new (schema_of layout) schema _ (objects_newest_is layout) (objects_newest_plain layout) (objects_newest_unlisted layout) rows shown).answer Null) in
+    (answers NewestObject layout (kind_params kind u) old new rows schema shown) in
     it ∙ ap (λ xs. greatest (u * 1000000) (length xs)) picked
 
 -- what a query's answer tells of how many there are, of each content that is meant

@@ -22,7 +22,7 @@ use Rattle.sqlite_sql.specs.declared.ops.BinaryOp.TheVariants.{Compare, Is}
 use Rattle.sqlite_sql.specs.declared.ops.CompareOp.TheVariants.{Eq, Ne, Lt, Le, Ge}
 use Rattle.sqlite_sql.specs.Ops.{is_null}
 use Rattle.acvp_store.specs.Values.{whole, flag}
-use Rattle.acvp_store.proofs.Texts.{simple, collated}
+use Rattle.acvp_store.proofs.QueryForms.{collated, simple}
 use Rattle.acvp_store.proofs.Keyed.{same_whole}
 
 pub truth_back : (b : Bool) → is_true (from_truth (Some b)) ≡ b

@@ -26,10 +26,9 @@ use Rattle.acvp_store.specs.Stands.{Entry, entry_row, HoldsReviewers, reviewer_c
 use Rattle.acvp_store.proofs.Parts.{and_true}
 use Rattle.acvp_store.proofs.OrderedColumn.{ranged}
 use Rattle.acvp_store.proofs.SelectedRows.{test_equals, test_none}
-use Rattle.acvp_store.proofs.Keyed.{none_left, none_passes}
-use Rattle.acvp_store.proofs.ReviewerRows.{small_or_large}
+use Rattle.acvp_store.proofs.Keyed.{none_left, none_passes, small_or_large}
 use Rattle.acvp_store.proofs.Places.{reviewers_seen}
-use Rattle.acvp_store.proofs.Texts.{find_reviewers, reviewers_query, reviewers_is, reviewers_plain, reviewers_unlisted}
+use Rattle.acvp_store.proofs.Readings.{ReviewersOf, answers, reading_query, reading_text}
 
 abbrev pub account_shown : ℕ → Row
 account_shown n = whole n ∷ []
@@ -48,20 +47,20 @@ none_reviews s (r ∷ list) high low =
     rw apart (none_reviews s list high low.1)
 
 module _ (layout : Layout) (s : ℕ) (old new : State) (rows : List Row) (schema : old.now.schema ≡ schema_of layout) (list : List ReviewerRow) (h : HoldsReviewers (old.now.trees (reviewer_tree layout)) list) (numbers : List ℕ) (rise : Rising numbers) where
-  rows_by : (k : ℤ) (p : Entry ReviewerRow → Bool) → ((e : Entry ReviewerRow) → list_all (holds ((Int k ∷ []) ∷ entry_row reviewer_columns e ∷ [])) (reviewers_query layout).filter ≡ p e)
-      → Shown find_reviewers (Int k ∷ []) old new rows → IsPermutation (map (λ (e : Entry ReviewerRow). e.row.account) (filter p h.kept.entries)) numbers → rows ≡ map account_shown numbers
+  rows_by : (k : ℤ) (p : Entry ReviewerRow → Bool) → ((e : Entry ReviewerRow) → list_all (holds ((Int k ∷ []) ∷ entry_row reviewer_columns e ∷ [])) (reading_query ReviewersOf layout).filter ≡ p e)
+      → Shown (reading_text ReviewersOf) (Int k ∷ []) old new rows → IsPermutation (map (λ (e : Entry ReviewerRow). e.row.account) (filter p h.kept.entries)) numbers → rows ≡ map account_shown numbers
   rows_by k p tests shown same =
-      ranged (Int k ∷ []) (entry_row reviewer_columns) p (reviewers_query layout).filter tests (λ e. e.row.account) (λ n. n) account_shown
-      2 (reviewer_tree layout) (reviewers_query layout).project (λ e. refl) (λ e. refl) (overlay old.now.trees []) h.kept.entries numbers rows (reviewers_seen layout old.now.trees ∙ h.kept.rows_are) same rise
-      ((reads_as find_reviewers (Int k ∷ []) old new (schema_of layout) schema _ (reviewers_is layout) (reviewers_plain layout) (reviewers_unlisted layout) rows shown).answer Null)
+      ranged (Int k ∷ []) (entry_row reviewer_columns) p (reading_query ReviewersOf layout).filter tests (λ e. e.row.account) (λ n. n) account_shown
+      2 (reviewer_tree layout) (reading_query ReviewersOf layout).project (λ e. refl) (λ e. refl) (overlay old.now.trees []) h.kept.entries numbers rows (reviewers_seen layout old.now.trees ∙ h.kept.rows_are) same rise
+      (answers ReviewersOf layout (Int k ∷ []) old new rows schema shown)
 
-  pub session_rows : (k : ℤ) → (s < 2 ^ 63 → k ≡ pos s) → (2 ^ 63 ≤ s → k ≡ negsuc 0) → Shown find_reviewers (Int k ∷ []) old new rows → IsPermutation (accounts_in s list) numbers → rows ≡ map account_shown numbers
+  pub session_rows : (k : ℤ) → (s < 2 ^ 63 → k ≡ pos s) → (2 ^ 63 ≤ s → k ≡ negsuc 0) → Shown (reading_text ReviewersOf) (Int k ∷ []) old new rows → IsPermutation (accounts_in s list) numbers → rows ≡ map account_shown numbers
   session_rows k fits large shown same = elim (small_or_large s) [
     | inl low ↦
-        let at = subst (λ k. Shown find_reviewers (Int k ∷ []) old new rows) (fits low) shown in
+        let at = subst (λ k. Shown (reading_text ReviewersOf) (Int k ∷ []) old new rows) (fits low) shown in
         rows_by (pos s) (λ e. e.row.session == s) (λ e. rw test_equals (and_true _)) at (IsPermutation-trans _ (accounts_in s list) _ (told h.kept.entries h.kept.same) same)
     | inr high ↦
-        let at = subst (λ k. Shown find_reviewers (Int k ∷ []) old new rows) (large high) shown in
+        let at = subst (λ k. Shown (reading_text ReviewersOf) (Int k ∷ []) old new rows) (large high) shown in
         let none = none_left numbers (rw (none_reviews s list high h.fits) at same) in
         let empty : filter (λ (e : Entry ReviewerRow). false) h.kept.entries ≡ [] = none_passes h.kept.entries in
         rows_by (negsuc 0) (λ e. false) (λ e. rw test_none refl) at (rw (empty, none) (IsPermutation-refl []))

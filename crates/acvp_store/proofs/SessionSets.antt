@@ -36,7 +36,7 @@ use Rattle.acvp_store.proofs.OrderedColumn.{ranged}
 use Rattle.acvp_store.proofs.SelectedRows.{truth_back, test_differs, test_at_least, test_at_most}
 use Rattle.acvp_store.proofs.SetRows.{set_shown, short_shows, summary_is}
 use Rattle.acvp_store.proofs.Places.{sets_seen}
-use Rattle.acvp_store.proofs.Texts.{find_sets, sets_query, sets_is, sets_plain, sets_unlisted}
+use Rattle.acvp_store.proofs.Readings.{SetsOf, answers, reading_query, reading_text}
 
 -- a number of a session's sets, of one that isn't cancelled
 abbrev pub is_live_within : ℕ → ℕ → Bool → Bool
@@ -58,14 +58,14 @@ test_off false = test_differs (pos 0) (pos 1) (omega (arith, ints))
 pub three_true : (a b c d e f : Bool) → a ≡ d → b ≡ e → c ≡ f → (a && (b && (c && true))) ≡ (d && (e && f))
 three_true a b c d e f p q r = rw (p, q, r, and_true f) refl
 
-pub live_rows : (layout : Layout) (s : ℕ) (old new : State) (rows : List Row) → old.now.schema ≡ schema_of layout → Shown find_sets (whole (s * 100) ∷ whole (s * 100 + 99) ∷ []) old new rows
+pub live_rows : (layout : Layout) (s : ℕ) (old new : State) (rows : List Row) → old.now.schema ≡ schema_of layout → Shown (reading_text SetsOf) (whole (s * 100) ∷ whole (s * 100 + 99) ∷ []) old new rows
     → (columns : List SetColumns) → AreKept set_key set_row (old.now.trees (set_tree layout)) columns → Rising (filter (is_live_set s) columns) → rows ≡ map set_shown (filter (is_live_set s) columns)
 live_rows layout s old new rows schema h columns kept rise =
     let params = whole (s * 100) ∷ whole (s * 100 + 99) ∷ [] in
-    ranged params set_row (is_live_set s) (sets_query layout).filter (λ c. three_true _ _ _ _ _ _ (test_at_least c.number (s * 100)) (test_at_most c.number (s * 100 + 99)) (test_off c.cancelled)) (λ c. c) set_key set_shown
-    0 (set_tree layout) (sets_query layout).project (λ c. refl) (short_shows params) (overlay old.now.trees []) kept.ordered (filter (is_live_set s) columns) rows (sets_seen layout old.now.trees ∙ kept.rows_are)
+    ranged params set_row (is_live_set s) (reading_query SetsOf layout).filter (λ c. three_true _ _ _ _ _ _ (test_at_least c.number (s * 100)) (test_at_most c.number (s * 100 + 99)) (test_off c.cancelled)) (λ c. c) set_key set_shown
+    0 (set_tree layout) (reading_query SetsOf layout).project (λ c. refl) (short_shows params) (overlay old.now.trees []) kept.ordered (filter (is_live_set s) columns) rows (sets_seen layout old.now.trees ∙ kept.rows_are)
     (same_told (filter (is_live_set s) kept.ordered) (IsPermutation-filter (is_live_set s) kept.ordered columns kept.same)) rise
-    ((reads_as find_sets params old new (schema_of layout) schema _ (sets_is layout) (sets_plain layout) (sets_unlisted layout) rows h).answer Null)
+    (answers SetsOf layout params old new rows schema h)
   where
     map_same : (xs : List SetColumns) → map (λ c. c) xs ≡ xs
     map_same [] = refl

@@ -39,7 +39,8 @@ use Rattle.acvp_store.specs.Private.Columns.{set_columns}
 use Rattle.acvp_store.specs.Private.SetRanges.{whole_shown, AreTexts, HasStraySet}
 use Rattle.acvp_store.specs.Private.Shown.{BeginsWith, AreLedBy, AreShown, IsText}
 use Rattle.acvp_store.specs.Private.Strays.{HasStray}
-use Rattle.acvp_store.proofs.PageTexts.{within}
+use Rattle.acvp_store.proofs.QueryForms.{outside, within}
+use Rattle.acvp_store.proofs.Readings.{SetOutside, SetRange, answers, reading_text, set_terms}
 use Rattle.acvp_store.proofs.Places.{sets_seen, of_sets}
 use Rattle.acvp_store.proofs.QueryRows.{selected_in_order}
 use Rattle.acvp_store.proofs.RangeColumns.{left_true, not_longer, null_is, with_null}
@@ -47,7 +48,6 @@ use Rattle.acvp_store.proofs.RangeJoins.{flag_once, option_once, kept_tree, kept
 use Rattle.acvp_store.proofs.RangeOutside.{is_outside, none_outside, number_told}
 use Rattle.acvp_store.proofs.RangeRows.{test_between, in_tree_order}
 use Rattle.acvp_store.proofs.RangeStrays.{row_shown, zip_at, stray_row, stray_shown}
-use Rattle.acvp_store.proofs.RangeTexts.{range_sets, set_terms, sets_is, sets_plain, sets_unlisted, outside, outside_sets, outside_sets_is, outside_sets_plain, outside_sets_unlisted}
 use Rattle.acvp_store.proofs.Versions.{map_same}
 
 -- ---- what the schema says of a row
@@ -100,7 +100,7 @@ begins (a ∷ b ∷ c ∷ d ∷ e ∷ f ∷ g ∷ h ∷ row) s long number sessi
 
 -- ---- what the queries meet
 
-module _ (layout : Layout) (f l : ℕ) (old new : State) (rows : List Row) (schema : old.now.schema ≡ schema_of layout) (h : Shown range_sets (whole f ∷ whole l ∷ []) old new rows) where
+module _ (layout : Layout) (f l : ℕ) (old new : State) (rows : List Row) (schema : old.now.schema ≡ schema_of layout) (h : Shown (reading_text SetRange) (whole f ∷ whole l ∷ []) old new rows) where
   abbrev params : Row
   params = whole f ∷ whole l ∷ []
 
@@ -110,16 +110,16 @@ module _ (layout : Layout) (f l : ℕ) (old new : State) (rows : List Row) (sche
   pub sets_met : IsPermutation (map set_columns (filter (is_between f l) table)) rows
   sets_met =
       selected_in_order params (λ (r : Row). r) (is_between f l) (within 0) (λ r. test_between (column r 0) f l) 0 (set_tree layout) set_terms set_columns (λ r. refl) (overlay old.now.trees []) table rows (sets_seen layout old.now.trees ∙ map_same _)
-      ((reads_as range_sets params old new (schema_of layout) schema _ (sets_is layout) (sets_plain layout) (sets_unlisted layout) rows h).answer Null)
+      (answers SetRange layout params old new rows schema h)
 
   pub sets_in_order : IsTree table → rows ≡ map set_columns (filter (is_between f l) table)
   sets_in_order tree =
       in_tree_order params (is_between f l) (within 0) (λ r. test_between (column r 0) f l) (set_tree layout) set_terms set_columns (λ r. refl) (overlay old.now.trees []) table rows (sets_seen layout old.now.trees ∙ map_same _) tree.0
-      ((reads_as range_sets params old new (schema_of layout) schema _ (sets_is layout) (sets_plain layout) (sets_unlisted layout) rows h).answer Null)
+      (answers SetRange layout params old new rows schema h)
 
-module _ (layout : Layout) (old new : State) (rows : List Row) (schema : old.now.schema ≡ schema_of layout) (h : Shown outside_sets [] old new rows) where
+module _ (layout : Layout) (old new : State) (rows : List Row) (schema : old.now.schema ≡ schema_of layout) (h : Shown (reading_text SetOutside) [] old new rows) where
   outside_answer : IsAnswer (outside (set_tree layout) 100000000 999999999999) (overlay old.now.trees []) [] rows
-  outside_answer = (reads_as outside_sets [] old new (schema_of layout) schema _ (outside_sets_is layout) (outside_sets_plain layout) (outside_sets_unlisted layout) rows h).answer Null
+  outside_answer = answers SetOutside layout [] old new rows schema h
 
   pub sets_outside : rows ≡ [] → filter (λ r. is_outside 100000000 999999999999 (column r 0)) (old.now.trees (set_tree layout)) ≡ []
   sets_outside = none_outside (set_tree layout) 100000000 999999999999 (overlay old.now.trees []) (old.now.trees (set_tree layout)) rows (sets_seen layout old.now.trees ∙ map_same _) outside_answer

@@ -48,9 +48,12 @@ use Rattle.acvp_store.specs.Private.SetTexts.{text_shown, TellsCapability, AreVe
 use Rattle.acvp_store.proofs.Keyed.{none_passes, keyed, changing, keyed_same, find_is, none_fits}
 use Rattle.acvp_store.proofs.Parts.{and_true, cast_null, cast_whole, cast_flag, cast_option, cast_text_option}
 use Rattle.acvp_store.proofs.SelectedRows.{null_flag, test_equals, test_none, selected}
-use Rattle.acvp_store.proofs.Effects.{insert_effect, update_effect, spares_then}
+use Rattle.acvp_store.proofs.Effects.{insert_effect, spares_then, update_effect}
 use Rattle.acvp_store.proofs.Places.{sets_at, sets_seen}
-use Rattle.acvp_store.proofs.Texts.{set_place, simple, equals, short_terms, read_terms, find_set, set_is, set_plain, set_unlisted, find_capability, capability_is, capability_plain, capability_unlisted, find_verdicts, verdicts_is, verdicts_plain, verdicts_unlisted, cancel_set, cancel_set_query, grade_set, grade_query, add_set, add_set_terms}
+use Rattle.acvp_store.proofs.QueryForms.{equals, simple}
+use Rattle.acvp_store.proofs.Readings.{CapabilityAt, Reading, SetAt, VerdictsAt, answers, read_terms, reading_query, short_terms}
+use Rattle.acvp_store.proofs.Writings.{Effects, SetAdded, SetCancelled, SetGraded, set_place, update, updating, writing_terms}
+use Rattle.acvp_store.proofs.RowsAt.{ShowsAt, rows_at}
 
 abbrev pub set_shown : SetColumns → Row
 set_shown c = short_shown (short_of c)
@@ -74,36 +77,23 @@ not_given c text number v n none (Some d) is =
 
 -- ---- the rows of a number
 
--- a SELECT of columns of the set of a number
-module _ (layout : Layout) (text : List ℕ) (names : List (List ℕ)) (project : List Term) (show : SetColumns → Row) (shows : (k : ℤ) (c : SetColumns) → eval_all project ((Int k ∷ []) ∷ set_row c ∷ []) ≡ show c)
-    (is : command_of (understood (schema_of layout) text) ≡ Select (record { lets = []; body = simple (set_tree layout) (equals 0 0 ∷ []) project }) names) (plain : IsPlain (understood (schema_of layout) text)) (unlisted : reads_listing (schema_of layout) text ≡ false) where
-  rows_by : (k : ℤ) (p : SetColumns → Bool) → ((c : SetColumns) → is_true (binary (Compare Eq Binary) (whole c.number) (Int k)) ≡ p c) → (old new : State) (rows : List Row) → old.now.schema ≡ schema_of layout → Shown text (Int k ∷ []) old new rows
-      → (list : List SetColumns) (kept : AreKept set_key set_row (old.now.trees (set_tree layout)) list) → IsPermutation (map show (filter p kept.ordered)) rows
-  rows_by k p tests old new rows schema h list kept =
-      selected (Int k ∷ []) set_row p (equals 0 0 ∷ []) (λ c. rw tests (and_true _)) (set_tree layout) project show (shows k) (overlay old.now.trees []) kept.ordered rows (sets_seen layout old.now.trees ∙ kept.rows_are)
-      ((reads_as text (Int k ∷ []) old new (schema_of layout) schema _ is plain unlisted rows h).answer Null)
+set_rows_at : (r : Reading) (layout : Layout) (project : List Term) → reading_query r layout ≡ simple (set_tree layout) (equals 0 0 ∷ []) project
+    → (show : SetColumns → Row) → ((k : ℤ) (c : SetColumns) → eval_all project ((Int k ∷ []) ∷ set_row c ∷ []) ≡ show c)
+    → ShowsAt r layout (set_tree layout) set_key set_row show
+set_rows_at r layout project is show shows =
+    rows_at r layout (set_tree layout) project is (sets_seen layout) set_key set_row show (λ c. refl) shows
 
-  pub rows_at : (n : ℕ) (k : ℤ) → (n < 2 ^ 63 → k ≡ pos n) → (2 ^ 63 ≤ n → k ≡ negsuc 0) → (old new : State) (rows : List Row) → old.now.schema ≡ schema_of layout → Shown text (Int k ∷ []) old new rows
-      → (list : List SetColumns) (kept : AreKept set_key set_row (old.now.trees (set_tree layout)) list) → IsPermutation (map show (keyed set_key n kept.ordered)) rows
-  rows_at n k fits large old new rows schema h list kept = elim (small_or_large n) [
-    | inl low ↦ rows_by k (λ c. c.number == n) (λ c. rw (fits low) (test_equals c.number n)) old new rows schema h list kept
-    | inr high ↦ rw (none_fits set_key n kept.ordered high kept.fits) (rw (none_passes kept.ordered) at (rows_by k (λ c. false) (λ c. rw (large high) (test_none c.number)) old new rows schema h list kept))
-  ]
-    where
-      small_or_large : (n : ℕ) → (n < 2 ^ 63) ⊎ (2 ^ 63 ≤ n)
-      small_or_large n = search arith
+pub set_rows : (layout : Layout) → ShowsAt SetAt layout (set_tree layout) set_key set_row (λ c. read_shown (read_of c))
+set_rows layout = set_rows_at SetAt layout read_terms refl (λ c. read_shown (read_of c)) (λ k c. refl)
 
-pub set_rows : (layout : Layout) (n : ℕ) (k : ℤ) → (n < 2 ^ 63 → k ≡ pos n) → (2 ^ 63 ≤ n → k ≡ negsuc 0) → (old new : State) (rows : List Row) → old.now.schema ≡ schema_of layout → Shown find_set (Int k ∷ []) old new rows
-    → (list : List SetColumns) (kept : AreKept set_key set_row (old.now.trees (set_tree layout)) list) → IsPermutation (map (λ c. read_shown (read_of c)) (keyed set_key n kept.ordered)) rows
-set_rows layout = rows_at layout find_set _ read_terms (λ c. read_shown (read_of c)) (λ k c. refl) (set_is layout) (set_plain layout) (set_unlisted layout)
+pub capability_rows : (layout : Layout)
+    → ShowsAt CapabilityAt layout (set_tree layout) set_key set_row (λ c. text_shown (Some c.capability))
+capability_rows layout =
+    set_rows_at CapabilityAt layout (col 1 3 ∷ []) refl (λ c. text_shown (Some c.capability)) (λ k c. refl)
 
-pub capability_rows : (layout : Layout) (n : ℕ) (k : ℤ) → (n < 2 ^ 63 → k ≡ pos n) → (2 ^ 63 ≤ n → k ≡ negsuc 0) → (old new : State) (rows : List Row) → old.now.schema ≡ schema_of layout → Shown find_capability (Int k ∷ []) old new rows
-    → (list : List SetColumns) (kept : AreKept set_key set_row (old.now.trees (set_tree layout)) list) → IsPermutation (map (λ c. text_shown (Some c.capability)) (keyed set_key n kept.ordered)) rows
-capability_rows layout = rows_at layout find_capability _ (col 1 3 ∷ []) (λ c. text_shown (Some c.capability)) (λ k c. refl) (capability_is layout) (capability_plain layout) (capability_unlisted layout)
-
-pub verdict_rows : (layout : Layout) (n : ℕ) (k : ℤ) → (n < 2 ^ 63 → k ≡ pos n) → (2 ^ 63 ≤ n → k ≡ negsuc 0) → (old new : State) (rows : List Row) → old.now.schema ≡ schema_of layout → Shown find_verdicts (Int k ∷ []) old new rows
-    → (list : List SetColumns) (kept : AreKept set_key set_row (old.now.trees (set_tree layout)) list) → IsPermutation (map (λ c. text_shown c.verdicts) (keyed set_key n kept.ordered)) rows
-verdict_rows layout = rows_at layout find_verdicts _ (col 1 6 ∷ []) (λ c. text_shown c.verdicts) (λ k c. refl) (verdicts_is layout) (verdicts_plain layout) (verdicts_unlisted layout)
+pub verdict_rows : (layout : Layout)
+    → ShowsAt VerdictsAt layout (set_tree layout) set_key set_row (λ c. text_shown c.verdicts)
+verdict_rows layout = set_rows_at VerdictsAt layout (col 1 6 ∷ []) refl (λ c. text_shown c.verdicts) (λ k c. refl)
 
 -- ---- what they tell
 
@@ -210,15 +200,20 @@ zip_changed n f g turns (c ∷ columns) (r ∷ sets) h = (
   zip_changed n f g turns columns sets h.1,
 )
 
--- An UPDATE of the set of a number: `renewed c` is the number of `c` and the row that is written for it.
-module _ (layout : Layout) (terms project : List Term) (params : Row) (n : ℕ) (f : SetColumns → SetColumns) (keeps : (c : SetColumns) → (f c).number ≡ c.number) (renewed : SetColumns → Row) (ids : (c : SetColumns) → ids_of (renewed c ∷ []) ≡ pos c.number ∷ [])
-    (casts : (c : SetColumns) → cast_row (set_table (set_tree layout)) (drop 1 (renewed c)) ≡ set_row (f c)) (tests : (c : SetColumns) → list_all (holds (params ∷ set_row c ∷ [])) terms ≡ (c.number == n))
-    (shows : (c : SetColumns) → eval_all project (params ∷ set_row c ∷ []) ≡ renewed c) (g : SetRow → SetRow) (turns : (c : SetColumns) (row : SetRow) → IsSet c row → IsSet (f c) (g row)) where
-  pub set_effect : (old : State) (text : List ℕ) → old.now.schema ≡ schema_of layout → (tally : Tally) (after : Database)
-      → Does old.step_limit (mode_of old) params old.now text None (Update (set_place layout) (record { lets = []; body = simple (set_tree layout) terms project })) (Ok (tally, after))
+casts : (tree : ℕ) (c : SetColumns) → cast_row (set_table tree) (set_row c) ≡ set_row c
+casts tree c = rw (cast_whole c.number, cast_null, cast_whole c.session, cast_flag c.cancelled, cast_text_option c.answers, cast_text_option c.verdicts, cast_option c.disposition, cast_whole c.epoch) refl
+
+-- An UPDATE of the set of a number
+module _ (layout : Layout) (old : State) (n : ℕ) (terms : List Term) (more : Row) (f : SetColumns → SetColumns)
+    (keeps : (c : SetColumns) → (f c).number ≡ c.number)
+    (shows : (c : SetColumns) → eval_all (updating terms) ((whole n ∷ more) ∷ set_row c ∷ []) ≡ whole c.number ∷ set_row (f c))
+    (g : SetRow → SetRow) (turns : (c : SetColumns) (row : SetRow) → IsSet c row → IsSet (f c) (g row)) where
+  set_effect : old.now.schema ≡ schema_of layout → (tally : Tally) (after : Database)
+      → Does old.step_limit (mode_of old) (whole n ∷ more) old.now [] None (update (set_place layout) (set_tree layout) terms) (Ok (tally, after))
       → Alters layout (set_tree layout) HoldsSets (changed (is_set n) g) old.now after
-  set_effect old text schema tally after does =
-      let made = update_effect layout set_key set_row (λ x. refl) (set_place layout) (set_table (set_tree layout)) (sets_at layout) (sets_seen layout) terms project params n f keeps renewed ids casts tests shows old text schema tally after does in
+  set_effect schema tally after does =
+      let tree = set_tree layout in
+      let made = update_effect layout set_key set_row (λ x. refl) (set_place layout) (set_table tree) (sets_at layout) (sets_seen layout) (casts tree) terms n more f keeps shows old schema tally after does in
       record {
         schema = made.schema;
         kept = λ sets h. record { columns = map (changing set_key n f) h.columns; kept = made.kept h.columns h.kept; same = zip_changed n f g turns h.columns sets h.same };
@@ -230,73 +225,55 @@ module _ (layout : Layout) (terms project : List Term) (params : Row) (n : ℕ) 
 abbrev off : SetColumns → SetColumns
 off c = record c { cancelled = true }
 
-abbrev called_off : SetColumns → Row
-called_off c = whole c.number ∷ whole c.number ∷ Null ∷ whole c.session ∷ Text c.capability ∷ whole 1 ∷ or_null Text c.answers ∷ or_null Text c.verdicts ∷ or_null whole c.disposition ∷ whole c.epoch ∷ []
-
-cast_off : (tree : ℕ) (c : SetColumns) → cast_row (set_table tree) (drop 1 (called_off c)) ≡ set_row (off c)
-cast_off tree c = rw (cast_whole c.number, cast_null, cast_whole c.session, cast_whole 1, cast_text_option c.answers, cast_text_option c.verdicts, cast_option c.disposition, cast_whole c.epoch) refl
-
 graded_off : (c : SetColumns) (g : Option GradedValue) → IsGradedAs c g → IsGradedAs (off c) g
 graded_off c None h = h
 graded_off c (Some g) h = h
 
-pub cancel_set_effect : (layout : Layout) (old : State) (n : ℕ) → old.now.schema ≡ schema_of layout → (tally : Tally) (after : Database)
-    → Does old.step_limit (mode_of old) (whole n ∷ []) old.now (statement_of cancel_set (understood (schema_of layout) cancel_set)) None (Update (set_place layout) (record { lets = []; body = (cancel_set_query layout) })) (Ok (tally, after))
-    → Alters layout (set_tree layout) HoldsSets (changed (is_set n) cancelled_set) old.now after
-cancel_set_effect layout old n schema tally after does =
-    set_effect layout (cancel_set_query layout).filter (cancel_set_query layout).project (whole n ∷ []) n off (λ c. refl) called_off (λ c. refl) (cast_off (set_tree layout)) (λ c. rw test_equals (and_true _)) (λ c. refl) cancelled_set
+pub cancel_set_effect : (layout : Layout) (old : State) (n : ℕ)
+    → Effects SetCancelled layout (whole n ∷ []) old (Alters layout (set_tree layout) HoldsSets (changed (is_set n) cancelled_set))
+cancel_set_effect layout old n =
+    set_effect layout old n (writing_terms SetCancelled) [] off (λ c. refl) (λ c. refl) cancelled_set
     (λ c row is. record { number = is.number; session = is.session; capability = is.capability; cancelled = refl; graded = graded_off c row.graded is.graded; epoch = is.epoch })
-    old (statement_of cancel_set (understood (schema_of layout) cancel_set)) schema tally after does
 
 -- ---- answers to a set
 
 abbrev answered : List ℕ → List ℕ → ℕ → SetColumns → SetColumns
 answered answers verdicts disposition c = record c { answers = Some answers; verdicts = Some verdicts; disposition = Some disposition }
 
-abbrev answers_in : List ℕ → List ℕ → ℕ → SetColumns → Row
-answers_in answers verdicts disposition c = whole c.number ∷ whole c.number ∷ Null ∷ whole c.session ∷ Text c.capability ∷ flag c.cancelled ∷ Text answers ∷ Text verdicts ∷ whole disposition ∷ whole c.epoch ∷ []
-
-cast_answers : (tree : ℕ) (answers verdicts : List ℕ) (disposition : ℕ) (c : SetColumns) → cast_row (set_table tree) (drop 1 (answers_in answers verdicts disposition c)) ≡ set_row (answered answers verdicts disposition c)
-cast_answers tree answers verdicts disposition c = rw (cast_whole c.number, cast_null, cast_whole c.session, cast_flag c.cancelled, cast_whole disposition, cast_whole c.epoch) refl
-
 abbrev pub grade_params : ℕ → List ℕ → List ℕ → ℕ → Row
 grade_params n answers verdicts disposition = whole n ∷ Text answers ∷ Text verdicts ∷ whole disposition ∷ []
 
 -- the columns are those of graded answers
-pub grade_effect : (layout : Layout) (old : State) (n : ℕ) (g : GradedValue) (answers verdicts : List ℕ) (disposition : ℕ) → answers ≡ kept_text g.answers → kept_answers answers ≡ Some g.answers → verdicts ≡ verdicts_text g.verdicts → disposition_number g.disposition ≡ Some disposition → g.disposition ≡ disposition_of g.verdicts
-    → old.now.schema ≡ schema_of layout → (tally : Tally) (after : Database)
-    → Does old.step_limit (mode_of old) (grade_params n answers verdicts disposition) old.now (statement_of grade_set (understood (schema_of layout) grade_set)) None (Update (set_place layout) (record { lets = []; body = (grade_query layout) })) (Ok (tally, after))
-    → Alters layout (set_tree layout) HoldsSets (changed (is_set n) (with_graded g)) old.now after
-grade_effect layout old n g answers verdicts disposition a back v d given schema tally after does =
-    set_effect layout (grade_query layout).filter (grade_query layout).project (grade_params n answers verdicts disposition) n (answered answers verdicts disposition) (λ c. refl) (answers_in answers verdicts disposition) (λ c. refl) (cast_answers (set_tree layout) answers verdicts disposition)
-    (λ c. rw test_equals (and_true _)) (λ c. refl) (with_graded g)
+pub grade_effect : (layout : Layout) (old : State) (n : ℕ) (g : GradedValue) (answers verdicts : List ℕ) (disposition : ℕ)
+    → answers ≡ kept_text g.answers → kept_answers answers ≡ Some g.answers → verdicts ≡ verdicts_text g.verdicts
+    → disposition_number g.disposition ≡ Some disposition → g.disposition ≡ disposition_of g.verdicts
+    → Effects SetGraded layout (grade_params n answers verdicts disposition) old
+    (Alters layout (set_tree layout) HoldsSets (changed (is_set n) (with_graded g)))
+grade_effect layout old n g answers verdicts disposition a back v d given =
+    set_effect layout old n (writing_terms SetGraded) (Text answers ∷ Text verdicts ∷ whole disposition ∷ [])
+    (answered answers verdicts disposition) (λ c. refl) (λ c. refl) (with_graded g)
     (λ c row is. record { number = is.number; session = is.session; capability = is.capability; cancelled = is.cancelled; graded = (ap Some a, ap Some v, disposition, refl, d, subst (λ t. kept_answers t ≡ Some g.answers) a back, given); epoch = is.epoch })
-    old (statement_of grade_set (understood (schema_of layout) grade_set)) schema tally after does
 
 -- ---- a new set
 
 abbrev new_columns : ℕ → ℕ → List ℕ → ℕ → SetColumns
 new_columns number session text epoch = record { number = number; session = session; capability = text; cancelled = false; answers = None; verdicts = None; disposition = None; epoch = epoch }
 
-abbrev given : ℕ → ℕ → List ℕ → ℕ → Row
-given number session text epoch = whole number ∷ Null ∷ whole session ∷ Text text ∷ whole 0 ∷ Null ∷ Null ∷ Null ∷ whole epoch ∷ []
-
-cast_given : (tree number session : ℕ) (text : List ℕ) (epoch : ℕ) → cast_row (set_table tree) (given number session text epoch) ≡ set_row (new_columns number session text epoch)
-cast_given tree number session text epoch = rw (cast_whole number, cast_null, cast_whole session, cast_whole 0, cast_whole epoch) refl
-
 abbrev pub add_set_params : ℕ → ℕ → List ℕ → ℕ → Row
 add_set_params number session text epoch = whole number ∷ whole session ∷ Text text ∷ whole epoch ∷ []
 
-pub add_set_effect : (layout : Layout) (old : State) (number session : ℕ) (capability : CapabilityValue) (text : List ℕ) (epoch : ℕ) → registered_text text ≡ Ok (Some capability) → number < 2 ^ 63 → old.now.schema ≡ schema_of layout → (tally : Tally) (after : Database)
-    → Does old.step_limit (mode_of old) (add_set_params number session text epoch) old.now (statement_of add_set (understood (schema_of layout) add_set)) None (Insert (set_place layout) (Values add_set_terms 9)) (Ok (tally, after))
-    → AddsSets layout (new_set number session capability epoch ∷ []) old.now after
+pub add_set_effect : (layout : Layout) (old : State) (number session : ℕ) (capability : CapabilityValue) (text : List ℕ) (epoch : ℕ)
+    → registered_text text ≡ Ok (Some capability) → number < 2 ^ 63
+    → Effects SetAdded layout (add_set_params number session text epoch) old
+    (AddsSets layout (new_set number session capability epoch ∷ []))
 add_set_effect layout old number session capability text epoch reads low schema tally after does =
-    let made = insert_effect layout set_key set_row (λ x. refl) (set_place layout) _ _ _ _ (sets_at layout) add_set_terms 9 (add_set_params number session text epoch) (given number session text epoch) refl (new_columns number session text epoch)
-    (cast_given (set_tree layout) number session text epoch) low old (statement_of add_set (understood (schema_of layout) add_set)) schema tally after does in
-    let is : IsSet (new_columns number session text epoch) (new_set number session capability epoch) = record { number = refl; session = refl; capability = reads; cancelled = refl; graded = (refl, refl, refl); epoch = refl } in
+    let columns = new_columns number session text epoch in
+    let made = insert_effect layout set_key set_row (λ x. refl) (set_place layout) _ _ _ _ (sets_at layout) (casts (set_tree layout))
+    (writing_terms SetAdded) 9 (add_set_params number session text epoch) columns refl low old schema tally after does in
+    let is : IsSet columns (new_set number session capability epoch) = record { number = refl; session = refl; capability = reads; cancelled = refl; graded = (refl, refl, refl); epoch = refl } in
     record {
       schema = made.schema;
-      kept = λ sets h. record { columns = h.columns ++ new_columns number session text epoch ∷ []; kept = made.kept h.columns h.kept; same = zip_push IsSet h.columns sets _ _ h.same is };
+      kept = λ sets h. record { columns = h.columns ++ columns ∷ []; kept = made.kept h.columns h.kept; same = zip_push IsSet h.columns sets _ _ h.same is };
       others = made.others;
     }
 

@@ -16,7 +16,7 @@ use Rattle.sqlite_schema.specs.declared.command.Command.{Command}
 use Rattle.sqlite_schema.specs.declared.schema.Schema.{Schema}
 use Rattle.acvp_store.specs.Schema.{Layout, Created, schema_of}
 use Rattle.acvp_store.specs.Connection.{IsReady, Stays, IsWritten, Kept, IsInside, Under, UnderStore, Both}
-use Rattle.acvp_store.proofs.QueryLeaves.{clean_before}
+use Rattle.acvp_store.proofs.QueryLeaves.{clean_before, clean_if_open}
 
 inside_kept : (sql : List ℕ) (params : Row) (old new : State) (r : Result ℕ Error) → ExecutesInside 0 sql params old new r → Kept old new
 inside_kept sql params old new (Ok count) h = record { was_open = λ _. h.1.was_open; committed = λ _. h.1.committed_is }
@@ -71,6 +71,18 @@ pub inside_as : {X Y E F : Type 0} (r : Result X E) (q : Result Y F) (old new : 
 inside_as (Ok x) (Ok y) old new Change same h = record { kept = h.kept; ok = h.ok; survives = h.survives }
 inside_as (Err e) (Ok y) old new Change same h = absurd (let impossible = same refl in cc)
 inside_as r (Err f) old new Change same h = record { kept = h.kept; ok = tt; survives = h.survives }
+
+-- of a connection that is clean while it is open, as another answer tells of it
+module _ (schema : Schema) (sql : List ℕ) (params : Row) (old new : State) (law : new.is_clean ≡ false → new.is_open ≡ false)
+    (command : Command) (is : (command_of (understood schema sql) ≡ command) × IsPlain (understood schema sql))
+    (writes : (count : ℕ) → Runs old new None command (statement_of sql (understood schema sql)) params count → Writes old new None command (statement_of sql (understood schema sql)) params count)
+    {X E : Type 0} (r : Result ℕ Error) (q : Result X E) (same : IsOk q → IsOk r) (runs : HasCleanDisk new → IsTrue old.in_transaction → ExecutesInside 0 sql params old new r)
+    (ended : old.in_transaction ≡ false → new ≡ old) (survives : Survives old new (λ _. ⊥)) (Effect : Database → Database → Type 0) where
+  pub does_inside : (old.now.schema ≡ schema → (tally : Tally) (after : Database) → Does old.step_limit (mode_of old) params old.now (statement_of sql (understood schema sql)) None command (Ok (tally, after)) → Effect old.now after)
+      → IsInside q old new (Under schema Effect)
+  does_inside effect =
+      inside_as r q old new (Under schema Effect) same
+      (inside schema sql params old new (clean_if_open new.is_clean new.is_open law) command is.0 is.1 writes Effect effect r runs ended survives)
 
 pub inside_turned : {X E : Type 0} (r : Result X E) (old new : State) (P Q : Database → Database → Type 0) → ((d e : Database) → P d e → Q d e) → IsInside r old new P → IsInside r old new Q
 inside_turned (Ok x) old new P Q turns h = record { kept = h.kept; ok = λ live on clean. let it = h.ok live on clean in (it.0, it.1, turns _ _ it.2); survives = h.survives }

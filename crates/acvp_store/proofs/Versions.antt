@@ -28,7 +28,7 @@ use Rattle.acvp_store.proofs.Keyed.{same_whole}
 use Rattle.acvp_store.proofs.Parts.{both_true}
 use Rattle.acvp_store.proofs.ReviewerRows.{any_passes}
 use Rattle.acvp_store.proofs.SelectedRows.{truth_back, selected}
-use Rattle.acvp_store.proofs.Texts.{find_version, find_version_query, find_version_is, find_version_plain, find_version_unlisted, find_old_sets, old_sets_query, FindsOldSets, old_sets_are, old_sets_were}
+use Rattle.acvp_store.proofs.Texts.{find_version, find_version_query, finds_version, find_old_sets, old_sets_query, FindsOldSets, old_sets_are, old_sets_were}
 
 -- a column of any type is tested against a text, and against a whole number
 pub test_text : (v : Value) (s : List ℕ) → is_true (binary (Compare Eq Binary) v (Text s)) ≡ is_equal v (Text s)
@@ -69,7 +69,7 @@ map_same (r ∷ rows) = ap (λ l. r ∷ l) (map_same rows)
 pub version_rows : (version : SchemaVersion) (n : ℕ) (old new : State) (rows : List Row) → old.now.schema ≡ schema_at version → Shown find_version (whole n ∷ []) old new rows → IsPermutation (map value_of (filter (is_version_row n) (old.now.trees 0))) rows
 version_rows version n old new rows schema h =
     selected (whole n ∷ []) (λ (r : Row). r) (is_version_row n) find_version_query.filter (λ r. both_true _ _ _ _ (test_text (column r 1) (codes "schema")) (test_whole (column r 2) n)) 0 find_version_query.project value_of (λ r. refl) (overlay old.now.trees []) (old.now.trees 0) rows (map_same _)
-    ((reads_as find_version (whole n ∷ []) old new (schema_at version) schema _ (find_version_is version) (find_version_plain version) (find_version_unlisted version) rows h).answer Null)
+    (let is = finds_version version in (reads_as find_version (whole n ∷ []) old new (schema_at version) schema _ is.0 is.1 is.2 rows h).answer Null)
 
 -- ---- the whole
 

@@ -1,8 +1,8 @@
 use Rattle.std.proofs.lemmas.Result.{IfOk-weaker}
 use Rattle.sqlite.specs.Held.{state}
 use Rattle.acvp_store.specs.Rows.{account_tree, account_key, account_row, account_shown}
-use Rattle.acvp_store.proofs.Texts.{find_account, account_asks}
-use Rattle.std.proofs.Common.{arith}
+use Rattle.acvp_store.proofs.Readings.{AccountAt, asks_rows, reading_text}
+use Rattle.std.proofs.Common.{pos, refl, arith}
 use Rattle.std.specs.Prelude.{option_to_list}
 use Rattle.acvp_store.specs.Private.Columns.{account_columns}
 use Rattle.acvp_store.specs.Private.Shown.{is_under}
@@ -18,7 +18,7 @@ returns-clause-read g c =
     let old = state g.S.Store c.args.conn.now in
     let new = state g.S.Store c.query_all.new.self in
     read_as c.query_all.result c.answered.result old new c.answered.ensures.ok
-    (read find_account _ old new (g.met.S.Store.shut_if_dirty c.query_all.new.self.store) (λ live. (c.requires live).ready) account_asks c.query_all.ensures.survives c.query_all.result (λ v. v.items) c.query_all.ensures.ok c.query_all.ensures.err)
+    (read (reading_text AccountAt) _ old new (g.met.S.Store.shut_if_dirty c.query_all.new.self.store) (λ live. (c.requires live).ready) (asks_rows AccountAt) c.query_all.ensures.survives c.query_all.result (λ v. v.items) c.query_all.ensures.ok c.query_all.ensures.err)
 
 pub returns-clause-found : goal.returns-clause-found
 returns-clause-found g c live =
@@ -36,4 +36,4 @@ returns-clause-judged g c live =
     let clean = clean_if_open new.is_clean new.is_open (g.met.S.Store.shut_if_dirty c.query_all.new.self.store) live in
     let was = (returns-clause-read g c).stays.was_open live in
     met_as_found (is_under c.args.number) account_columns account_shown _ (λ row x is. is) (old.now.trees account_tree) (λ v. v.items) option_to_list c.query_all.result c.answered.result c.answered.result c.answered.ensures.ok (λ ok. ok) c.answered.ensures.judged
-    (IfOk-weaker c.query_all.result _ _ (λ rows shown. account_met (c.requires was).schema.0 c.args.number (omega arith) old new rows.items (c.requires was).schema.1 (rw (c.params-to_sql.ensures, c.from.ensures) at shown)) (c.query_all.ensures.ok clean))
+    (IfOk-weaker c.query_all.result _ _ (λ rows shown. account_met (c.requires was).schema.0 c.args.number (pos c.args.number) (omega arith) (λ _. refl) old new rows.items (c.requires was).schema.1 (rw (c.params-to_sql.ensures, c.from.ensures) at shown)) (c.query_all.ensures.ok clean))

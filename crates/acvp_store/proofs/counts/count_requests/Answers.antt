@@ -9,7 +9,7 @@ use Rattle.acvp_store.specs.Private.Pages.{greatest}
 use Rattle.acvp_store.proofs.QueryLeaves.{clean_if_open, read}
 use Rattle.acvp_store.proofs.FoundRow.{read_as}
 use Rattle.acvp_store.proofs.RowCounts.{requests_counted, count_found}
-use Rattle.acvp_store.proofs.PageTexts.{newest_requests, requests_newest_ask}
+use Rattle.acvp_store.proofs.Readings.{NewestRequest, asks_rows, reading_text}
 use Rattle.acvp_store.proofs.counts.count_requests.Goals as goal
 
 pub returns-clause-read : goal.returns-clause-read
@@ -17,7 +17,7 @@ returns-clause-read g c =
     let old = state g.S.Store c.args.conn.now in
     let new = state g.S.Store c.query_all.new.self in
     read_as c.query_all.result c.counted.result old new c.counted.ensures.ok
-    (read newest_requests _ old new (g.met.S.Store.shut_if_dirty c.query_all.new.self.store) (λ live. (c.requires live).ready) requests_newest_ask c.query_all.ensures.survives c.query_all.result (λ v. v.items) c.query_all.ensures.ok c.query_all.ensures.err)
+    (read (reading_text NewestRequest) _ old new (g.met.S.Store.shut_if_dirty c.query_all.new.self.store) (λ live. (c.requires live).ready) (asks_rows NewestRequest) c.query_all.ensures.survives c.query_all.result (λ v. v.items) c.query_all.ensures.ok c.query_all.ensures.err)
 
 pub returns-clause-found : goal.returns-clause-found
 returns-clause-found g c live =

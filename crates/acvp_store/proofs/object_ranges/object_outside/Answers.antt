@@ -6,7 +6,7 @@ use Rattle.acvp_store.proofs.FoundRow.{read_as}
 use Rattle.acvp_store.proofs.ObjectRanges.{objects_typed, is_elsewhere, objects_outside, object_told, Within, all_within}
 use Rattle.acvp_store.proofs.QueryLeaves.{clean_if_open, read}
 use Rattle.acvp_store.proofs.RangeOutside.{none_left_told, led_told}
-use Rattle.acvp_store.proofs.RangeTexts.{outside_objects, outside_objects_ask}
+use Rattle.acvp_store.proofs.Readings.{ObjectOutside, asks_rows, reading_text}
 use Rattle.acvp_store.proofs.object_ranges.object_outside.Goals as goal
 
 pub returns-clause-read : goal.returns-clause-read
@@ -14,7 +14,7 @@ returns-clause-read g c =
     let old = state g.S.Store c.args.conn.now in
     let new = state g.S.Store c.query_all.new.self in
     read_as c.query_all.result c.number_in.result old new c.number_in.ensures.ok
-    (read outside_objects _ old new (g.met.S.Store.shut_if_dirty c.query_all.new.self.store) (λ live. (c.requires live).ready) outside_objects_ask c.query_all.ensures.survives c.query_all.result (λ v. v.items) c.query_all.ensures.ok c.query_all.ensures.err)
+    (read (reading_text ObjectOutside) _ old new (g.met.S.Store.shut_if_dirty c.query_all.new.self.store) (λ live. (c.requires live).ready) (asks_rows ObjectOutside) c.query_all.ensures.survives c.query_all.result (λ v. v.items) c.query_all.ensures.ok c.query_all.ensures.err)
 
 pub returns-clause-none : goal.returns-clause-none
 returns-clause-none g c live =

@@ -9,7 +9,7 @@ use Rattle.acvp_store.specs.Stands.{object_tree}
 use Rattle.acvp_store.proofs.FoundRow.{read_as}
 use Rattle.acvp_store.proofs.QueryLeaves.{clean_if_open, read}
 use Rattle.acvp_store.proofs.ObjectRanges.{objects_typed, objects_met, rows_told, stray_told}
-use Rattle.acvp_store.proofs.RangeTexts.{range_objects, objects_ask}
+use Rattle.acvp_store.proofs.Readings.{ObjectRange, asks_rows, reading_text}
 use Rattle.acvp_store.proofs.object_ranges.objects_numbered.Goals as goal
 
 pub returns-clause-read : goal.returns-clause-read
@@ -18,7 +18,7 @@ returns-clause-read g c =
     let new = state g.S.Store c.query_all.new.self in
     read_as c.ranged-found.result c.read_back.result old new c.read_back.ensures.ok
     (read_as c.query_all.result c.ranged-found.result old new c.ranged-found.ensures.ok
-    (read range_objects _ old new (g.met.S.Store.shut_if_dirty c.query_all.new.self.store) (λ live. (c.requires live).ready) objects_ask c.query_all.ensures.survives c.query_all.result (λ v. v.items) c.query_all.ensures.ok c.query_all.ensures.err))
+    (read (reading_text ObjectRange) _ old new (g.met.S.Store.shut_if_dirty c.query_all.new.self.store) (λ live. (c.requires live).ready) (asks_rows ObjectRange) c.query_all.ensures.survives c.query_all.result (λ v. v.items) c.query_all.ensures.ok c.query_all.ensures.err))
 
 pub returns-clause-rows : goal.returns-clause-rows
 returns-clause-rows g c live =

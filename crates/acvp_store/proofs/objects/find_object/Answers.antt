@@ -14,7 +14,7 @@ use Rattle.acvp_store.proofs.RowsMet.{object_met}
 use Rattle.acvp_store.proofs.QueryLeaves.{clean_if_open, read}
 use Rattle.acvp_store.proofs.FoundRow.{read_as}
 use Rattle.acvp_store.proofs.RowLists.{one_listed}
-use Rattle.acvp_store.proofs.PageTexts.{find_object, object_ask}
+use Rattle.acvp_store.proofs.Readings.{ObjectAt, asks_rows, reading_text}
 use Rattle.acvp_store.proofs.ObjectPages.{object_found, first_object}
 use Rattle.acvp_store.proofs.objects.find_object.Goals as goal
 
@@ -23,7 +23,7 @@ returns-clause-read g c =
     let old = state g.S.Store c.args.conn.now in
     let new = state g.S.Store c.query_all.new.self in
     read_as c.query_all.result c.only.result old new c.only.ensures.ok
-    (read find_object _ old new (g.met.S.Store.shut_if_dirty c.query_all.new.self.store) (λ live. (c.requires live).ready) object_ask c.query_all.ensures.survives c.query_all.result (λ v. v.items) c.query_all.ensures.ok c.query_all.ensures.err)
+    (read (reading_text ObjectAt) _ old new (g.met.S.Store.shut_if_dirty c.query_all.new.self.store) (λ live. (c.requires live).ready) (asks_rows ObjectAt) c.query_all.ensures.survives c.query_all.result (λ v. v.items) c.query_all.ensures.ok c.query_all.ensures.err)
 
 pub returns-clause-found : goal.returns-clause-found
 returns-clause-found g c live =

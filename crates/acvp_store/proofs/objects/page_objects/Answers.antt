@@ -8,7 +8,7 @@ use Rattle.acvp_store.proofs.QueryLeaves.{clean_if_open, read}
 use Rattle.acvp_store.proofs.FoundRow.{read_as}
 use Rattle.acvp_store.proofs.RowLists.{all_listed}
 use Rattle.acvp_store.proofs.ObjectPages.{object_page}
-use Rattle.acvp_store.proofs.PageTexts.{page_objects, objects_ask}
+use Rattle.acvp_store.proofs.Readings.{ObjectPage, asks_rows, reading_text}
 use Rattle.acvp_store.proofs.objects.page_objects.Goals as goal
 
 pub returns-clause-read : goal.returns-clause-read
@@ -16,7 +16,7 @@ returns-clause-read g c =
     let old = state g.S.Store c.args.conn.now in
     let new = state g.S.Store c.query_all.new.self in
     read_as c.query_all.result c.listed.result old new c.listed.ensures.ok
-    (read page_objects _ old new (g.met.S.Store.shut_if_dirty c.query_all.new.self.store) (λ live. (c.requires live).ready) objects_ask c.query_all.ensures.survives c.query_all.result (λ v. v.items) c.query_all.ensures.ok c.query_all.ensures.err)
+    (read (reading_text ObjectPage) _ old new (g.met.S.Store.shut_if_dirty c.query_all.new.self.store) (λ live. (c.requires live).ready) (asks_rows ObjectPage) c.query_all.ensures.survives c.query_all.result (λ v. v.items) c.query_all.ensures.ok c.query_all.ensures.err)
 
 pub returns-clause-found : goal.returns-clause-found
 returns-clause-found g c live =

@@ -5,7 +5,7 @@ use Rattle.acvp_store.proofs.FoundRow.{read_as}
 use Rattle.acvp_store.proofs.QueryLeaves.{clean_if_open, read}
 use Rattle.acvp_store.proofs.RangeColumns.{account_told, accounts_outside}
 use Rattle.acvp_store.proofs.RangeOutside.{none_told, led_told}
-use Rattle.acvp_store.proofs.RangeTexts.{outside_accounts, outside_accounts_ask}
+use Rattle.acvp_store.proofs.Readings.{AccountOutside, asks_rows, reading_text}
 use Rattle.acvp_store.proofs.ranges.account_outside.Goals as goal
 
 pub returns-clause-read : goal.returns-clause-read
@@ -13,7 +13,7 @@ returns-clause-read g c =
     let old = state g.S.Store c.args.conn.now in
     let new = state g.S.Store c.query_all.new.self in
     read_as c.query_all.result c.number_in.result old new c.number_in.ensures.ok
-    (read outside_accounts _ old new (g.met.S.Store.shut_if_dirty c.query_all.new.self.store) (λ live. (c.requires live).ready) outside_accounts_ask c.query_all.ensures.survives c.query_all.result (λ v. v.items) c.query_all.ensures.ok c.query_all.ensures.err)
+    (read (reading_text AccountOutside) _ old new (g.met.S.Store.shut_if_dirty c.query_all.new.self.store) (λ live. (c.requires live).ready) (asks_rows AccountOutside) c.query_all.ensures.survives c.query_all.result (λ v. v.items) c.query_all.ensures.ok c.query_all.ensures.err)
 
 pub returns-clause-none : goal.returns-clause-none
 returns-clause-none g c live =

@@ -6,7 +6,7 @@ use Rattle.acvp_store.proofs.FoundRow.{read_as}
 use Rattle.acvp_store.proofs.QueryLeaves.{clean_if_open, read}
 use Rattle.acvp_store.proofs.RangeColumns.{session_told, sessions_outside}
 use Rattle.acvp_store.proofs.RangeOutside.{none_told, led_told}
-use Rattle.acvp_store.proofs.RangeTexts.{outside_sessions, outside_sessions_ask}
+use Rattle.acvp_store.proofs.Readings.{SessionOutside, asks_rows, reading_text}
 use Rattle.acvp_store.proofs.ranges.session_outside.Goals as goal
 
 pub returns-clause-read : goal.returns-clause-read
@@ -14,7 +14,7 @@ returns-clause-read g c =
     let old = state g.S.Store c.args.conn.now in
     let new = state g.S.Store c.query_all.new.self in
     read_as c.query_all.result c.number_in.result old new c.number_in.ensures.ok
-    (read outside_sessions _ old new (g.met.S.Store.shut_if_dirty c.query_all.new.self.store) (λ live. (c.requires live).ready) outside_sessions_ask c.query_all.ensures.survives c.query_all.result (λ v. v.items) c.query_all.ensures.ok c.query_all.ensures.err)
+    (read (reading_text SessionOutside) _ old new (g.met.S.Store.shut_if_dirty c.query_all.new.self.store) (λ live. (c.requires live).ready) (asks_rows SessionOutside) c.query_all.ensures.survives c.query_all.result (λ v. v.items) c.query_all.ensures.ok c.query_all.ensures.err)
 
 pub returns-clause-none : goal.returns-clause-none
 returns-clause-none g c live =

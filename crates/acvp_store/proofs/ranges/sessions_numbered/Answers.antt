@@ -11,7 +11,7 @@ use Rattle.acvp_store.proofs.QueryLeaves.{clean_if_open, read}
 use Rattle.acvp_store.proofs.RangeColumns.{IsSessionTyped, sessions_typed, session_is, sessions_met, sessions_in_order}
 use Rattle.acvp_store.proofs.RangeRows.{range_read}
 use Rattle.acvp_store.proofs.RangeStrays.{stray_of, each_kept}
-use Rattle.acvp_store.proofs.RangeTexts.{range_sessions, sessions_ask}
+use Rattle.acvp_store.proofs.Readings.{SessionRange, asks_rows, reading_text}
 use Rattle.acvp_store.proofs.ranges.sessions_numbered.Goals as goal
 
 pub returns-clause-read : goal.returns-clause-read
@@ -19,7 +19,7 @@ returns-clause-read g c =
     let old = state g.S.Store c.args.conn.now in
     let new = state g.S.Store c.query_all.new.self in
     read_as c.query_all.result c.ranged.result old new c.ranged.ensures.ok
-    (read range_sessions _ old new (g.met.S.Store.shut_if_dirty c.query_all.new.self.store) (λ live. (c.requires live).ready) sessions_ask c.query_all.ensures.survives c.query_all.result (λ v. v.items) c.query_all.ensures.ok c.query_all.ensures.err)
+    (read (reading_text SessionRange) _ old new (g.met.S.Store.shut_if_dirty c.query_all.new.self.store) (λ live. (c.requires live).ready) (asks_rows SessionRange) c.query_all.ensures.survives c.query_all.result (λ v. v.items) c.query_all.ensures.ok c.query_all.ensures.err)
 
 pub returns-clause-rows : goal.returns-clause-rows
 returns-clause-rows g c live =

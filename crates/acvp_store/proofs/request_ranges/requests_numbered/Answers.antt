@@ -12,7 +12,7 @@ use Rattle.acvp_store.proofs.QueryLeaves.{clean_if_open, read}
 use Rattle.acvp_store.proofs.RangeColumns.{IsRequestTyped, requests_typed, request_is, requests_met, requests_in_order}
 use Rattle.acvp_store.proofs.RangeRows.{range_given}
 use Rattle.acvp_store.proofs.RangeStrays.{stray_of, stray_same}
-use Rattle.acvp_store.proofs.RangeTexts.{range_requests, requests_ask}
+use Rattle.acvp_store.proofs.Readings.{RequestRange, asks_rows, reading_text}
 use Rattle.acvp_store.proofs.RequestRanges.{IsMember, each, shows, rows_through}
 use Rattle.acvp_store.proofs.request_ranges.requests_numbered.Goals as goal
 
@@ -22,7 +22,7 @@ returns-clause-read g c =
     let new = state g.S.Store c.query_all.new.self in
     read_as c.ranged-found.result c.read_back.result old new c.read_back.ensures.ok
     (read_as c.query_all.result c.ranged-found.result old new c.ranged-found.ensures.ok
-    (read range_requests _ old new (g.met.S.Store.shut_if_dirty c.query_all.new.self.store) (λ live. (c.requires live).ready) requests_ask c.query_all.ensures.survives c.query_all.result (λ v. v.items) c.query_all.ensures.ok c.query_all.ensures.err))
+    (read (reading_text RequestRange) _ old new (g.met.S.Store.shut_if_dirty c.query_all.new.self.store) (λ live. (c.requires live).ready) (asks_rows RequestRange) c.query_all.ensures.survives c.query_all.result (λ v. v.items) c.query_all.ensures.ok c.query_all.ensures.err))
 
 pub returns-clause-rows : goal.returns-clause-rows
 returns-clause-rows g c live =

@@ -16,7 +16,7 @@ use Rattle.acvp_store.proofs.FoundRow.{read_as}
 use Rattle.acvp_store.proofs.RowLists.{one_listed}
 use Rattle.acvp_store.proofs.QueryRows.{met_as_found}
 use Rattle.acvp_store.proofs.RowsMet.{request_met}
-use Rattle.acvp_store.proofs.PageTexts.{find_request, request_ask}
+use Rattle.acvp_store.proofs.Readings.{RequestAt, asks_rows, reading_text}
 use Rattle.acvp_store.proofs.RequestPages.{request_found, request_is_at, summary_told}
 use Rattle.acvp_store.proofs.requests.find_request.Goals as goal
 
@@ -25,7 +25,7 @@ returns-clause-read g c =
     let old = state g.S.Store c.args.conn.now in
     let new = state g.S.Store c.query_all.new.self in
     read_as c.query_all.result c.summarized.result old new (λ ok. c.only.ensures.ok (c.summarized.ensures.ok ok))
-    (read find_request _ old new (g.met.S.Store.shut_if_dirty c.query_all.new.self.store) (λ live. (c.requires live).ready) request_ask c.query_all.ensures.survives c.query_all.result (λ v. v.items) c.query_all.ensures.ok c.query_all.ensures.err)
+    (read (reading_text RequestAt) _ old new (g.met.S.Store.shut_if_dirty c.query_all.new.self.store) (λ live. (c.requires live).ready) (asks_rows RequestAt) c.query_all.ensures.survives c.query_all.result (λ v. v.items) c.query_all.ensures.ok c.query_all.ensures.err)
 
 pub returns-clause-found : goal.returns-clause-found
 returns-clause-found g c live =

@@ -11,7 +11,7 @@ use Rattle.acvp_store.proofs.QueryRows.{met_as_found}
 use Rattle.acvp_store.proofs.RowsMet.{status_met}
 use Rattle.acvp_store.proofs.QueryLeaves.{clean_if_open, read}
 use Rattle.acvp_store.proofs.FoundRow.{read_as, one_answered}
-use Rattle.acvp_store.proofs.PageTexts.{find_status, status_ask}
+use Rattle.acvp_store.proofs.Readings.{StatusAt, asks_rows, reading_text}
 use Rattle.acvp_store.proofs.RequestStatuses.{statuses, status_rows, status_of}
 use Rattle.acvp_store.proofs.requests.find_status.Goals as goal
 
@@ -20,7 +20,7 @@ returns-clause-read g c =
     let old = state g.S.Store c.args.conn.now in
     let new = state g.S.Store c.query_all.new.self in
     read_as c.query_all.result c.answered.result old new c.answered.ensures.ok
-    (read find_status _ old new (g.met.S.Store.shut_if_dirty c.query_all.new.self.store) (λ live. (c.requires live).ready) status_ask c.query_all.ensures.survives c.query_all.result (λ v. v.items) c.query_all.ensures.ok c.query_all.ensures.err)
+    (read (reading_text StatusAt) _ old new (g.met.S.Store.shut_if_dirty c.query_all.new.self.store) (λ live. (c.requires live).ready) (asks_rows StatusAt) c.query_all.ensures.survives c.query_all.result (λ v. v.items) c.query_all.ensures.ok c.query_all.ensures.err)
 
 pub returns-clause-found : goal.returns-clause-found
 returns-clause-found g c live =

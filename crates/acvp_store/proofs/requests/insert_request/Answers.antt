@@ -3,11 +3,8 @@ use mir.Val.{SFits}
 use Rattle.sqlite.specs.Held.{state}
 use Rattle.acvp_store.specs.Alters.{Alters}
 use Rattle.acvp_store.specs.Stands.{request_tree, HoldsRequests}
-use Rattle.acvp_store.specs.Connection.{UnderStore}
-use Rattle.acvp_store.specs.Schema.{Layout, schema_of}
-use Rattle.acvp_store.proofs.QueryLeaves.{clean_if_open}
-use Rattle.acvp_store.proofs.Together.{inside, inside_as, inside_store}
-use Rattle.acvp_store.proofs.Texts.{add_request, add_request_is, add_request_plain}
+use Rattle.acvp_store.specs.Schema.{Layout}
+use Rattle.acvp_store.proofs.Writings.{RequestAdded, writes}
 use Rattle.acvp_store.proofs.RequestRows.{request_params, add_request_effect}
 use Rattle.acvp_store.proofs.requests.insert_request.Goals as goal
 
@@ -18,7 +15,7 @@ returns-clause-inside g c row is =
     let s = c.args in
     let fit_number : SFits w64 c.in_ok-number.number = search rules in
     let Change = λ (layout : Layout). Alters layout request_tree HoldsRequests (λ rows. rows ++ row ∷ []) in
-    inside_as c.execute.result c.done.result old new (UnderStore Change) c.done.ensures
-    (inside_store c.execute.result old new Change (λ layout. inside (schema_of layout) add_request (request_params s.number s.account s.kind s.body.now) old new (clean_if_open new.is_clean new.is_open (g.met.S.Store.shut_if_dirty c.execute.new.self.conn.now.store))
-    _ (add_request_is layout) (add_request_plain layout) (λ count w. w) (Change layout) (add_request_effect layout old row s.number s.account s.kind s.body.now is c.in_ok-number.ensures.0) c.execute.result
-    (λ clean on. rw (c.params-to_sql.ensures, c.params-to_sql-2.ensures, c.params-to_sql-3.ensures, c.params-to_sql-4.ensures, to_z-of_z fit_number, c.in_ok-number.ensures.1, c.from.ensures) at (c.execute.ensures.runs clean on)) (λ off. ap (state g.S.Store) (c.execute.ensures.ended off).1) c.execute.ensures.survives))
+    writes RequestAdded (request_params s.number s.account s.kind s.body.now) old new (g.met.S.Store.shut_if_dirty c.execute.new.self.conn.now.store)
+    c.execute.result c.done.result c.done.ensures (λ clean on. rw (c.params-to_sql.ensures, c.params-to_sql-2.ensures, c.params-to_sql-3.ensures, c.params-to_sql-4.ensures, to_z-of_z fit_number, c.in_ok-number.ensures.1, c.from.ensures) at (c.execute.ensures.runs clean on))
+    (λ off. ap (state g.S.Store) (c.execute.ensures.ended off).1) c.execute.ensures.survives
+    Change (λ layout. add_request_effect layout old row s.number s.account s.kind s.body.now is c.in_ok-number.ensures.0)

@@ -9,7 +9,7 @@ use Rattle.acvp_store.specs.Private.Columns.{columns_of_reviewer}
 use Rattle.acvp_store.proofs.FoundRow.{in_store, read_as}
 use Rattle.acvp_store.proofs.QueryLeaves.{clean_if_open, read}
 use Rattle.acvp_store.proofs.RangeStrays.{fault_in_store, stray_of}
-use Rattle.acvp_store.proofs.RangeTexts.{range_reviewers, reviewers_ask}
+use Rattle.acvp_store.proofs.Readings.{ReviewerRange, asks_rows, reading_text}
 use Rattle.acvp_store.proofs.ReviewerRanges.{reviewers_typed, reviewers_met, rows_told, each, shows}
 use Rattle.acvp_store.proofs.reviewer_ranges.reviewers_numbered.Goals as goal
 
@@ -18,7 +18,7 @@ returns-clause-read g c =
     let old = state g.S.Store c.args.conn.now in
     let new = state g.S.Store c.query_all.new.self in
     read_as c.query_all.result c.ranged.result old new c.ranged.ensures.ok
-    (read range_reviewers _ old new (g.met.S.Store.shut_if_dirty c.query_all.new.self.store) (λ live. (c.requires live).ready) reviewers_ask c.query_all.ensures.survives c.query_all.result (λ v. v.items) c.query_all.ensures.ok c.query_all.ensures.err)
+    (read (reading_text ReviewerRange) _ old new (g.met.S.Store.shut_if_dirty c.query_all.new.self.store) (λ live. (c.requires live).ready) (asks_rows ReviewerRange) c.query_all.ensures.survives c.query_all.result (λ v. v.items) c.query_all.ensures.ok c.query_all.ensures.err)
 
 pub returns-clause-rows : goal.returns-clause-rows
 returns-clause-rows g c live =

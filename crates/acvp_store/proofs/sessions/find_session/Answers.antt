@@ -3,7 +3,7 @@ use mir.Val.{SFits}
 use Rattle.std.proofs.lemmas.Result.{IfOk-weaker}
 use Rattle.sqlite.specs.Held.{state}
 use Rattle.acvp_store.specs.Rows.{session_tree, session_key, session_row, session_shown}
-use Rattle.acvp_store.proofs.Texts.{find_session, session_asks}
+use Rattle.acvp_store.proofs.Readings.{SessionAt, asks_rows, reading_text}
 use Rattle.std.specs.Prelude.{option_to_list}
 use Rattle.acvp_store.specs.Private.Columns.{session_columns}
 use Rattle.acvp_store.specs.Private.Shown.{is_under}
@@ -19,7 +19,7 @@ returns-clause-read g c =
     let old = state g.S.Store c.args.conn.now in
     let new = state g.S.Store c.query_all.new.self in
     read_as c.query_all.result c.answered.result old new c.answered.ensures.ok
-    (read find_session _ old new (g.met.S.Store.shut_if_dirty c.query_all.new.self.store) (λ live. (c.requires live).ready) session_asks c.query_all.ensures.survives c.query_all.result (λ v. v.items) c.query_all.ensures.ok c.query_all.ensures.err)
+    (read (reading_text SessionAt) _ old new (g.met.S.Store.shut_if_dirty c.query_all.new.self.store) (λ live. (c.requires live).ready) (asks_rows SessionAt) c.query_all.ensures.survives c.query_all.result (λ v. v.items) c.query_all.ensures.ok c.query_all.ensures.err)
 
 pub returns-clause-found : goal.returns-clause-found
 returns-clause-found g c live =

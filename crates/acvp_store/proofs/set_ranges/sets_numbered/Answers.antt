@@ -11,7 +11,7 @@ use Rattle.acvp_store.proofs.FoundRow.{in_store, read_as}
 use Rattle.acvp_store.proofs.QueryLeaves.{clean_if_open, read}
 use Rattle.acvp_store.proofs.RangeRows.{range_read}
 use Rattle.acvp_store.proofs.RangeStrays.{fault_in_store}
-use Rattle.acvp_store.proofs.RangeTexts.{range_sets, sets_ask}
+use Rattle.acvp_store.proofs.Readings.{SetRange, asks_rows, reading_text}
 use Rattle.acvp_store.proofs.SetRanges.{IsSetTyped, sets_typed, set_is, sets_met, sets_in_order, rows_through, stray_through}
 use Rattle.acvp_store.proofs.set_ranges.sets_numbered.Goals as goal
 
@@ -21,7 +21,7 @@ returns-clause-read g c =
     let new = state g.S.Store c.query_all.new.self in
     read_as c.ranged-found.result c.sets_in.result old new c.sets_in.ensures.ok
     (read_as c.query_all.result c.ranged-found.result old new c.ranged-found.ensures.ok
-    (read range_sets _ old new (g.met.S.Store.shut_if_dirty c.query_all.new.self.store) (λ live. (c.requires live).ready) sets_ask c.query_all.ensures.survives c.query_all.result (λ v. v.items) c.query_all.ensures.ok c.query_all.ensures.err))
+    (read (reading_text SetRange) _ old new (g.met.S.Store.shut_if_dirty c.query_all.new.self.store) (λ live. (c.requires live).ready) (asks_rows SetRange) c.query_all.ensures.survives c.query_all.result (λ v. v.items) c.query_all.ensures.ok c.query_all.ensures.err))
 
 pub returns-clause-rows : goal.returns-clause-rows
 returns-clause-rows g c live =

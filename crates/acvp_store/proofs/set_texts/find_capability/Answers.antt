@@ -8,7 +8,7 @@ use Rattle.acvp_store.proofs.SetRows.{capability_rows, capability_some, find_tol
 use Rattle.std.proofs.lemmas.Result.{IfOk-weaker}
 use Rattle.sqlite.specs.Held.{state}
 use Rattle.acvp_store.specs.Stands.{set_tree}
-use Rattle.acvp_store.proofs.Texts.{find_capability, capability_asks}
+use Rattle.acvp_store.proofs.Readings.{CapabilityAt, asks_rows, reading_text}
 use Rattle.acvp_store.specs.Private.Columns.{capability_column}
 use Rattle.acvp_store.specs.Private.Shown.{is_under}
 use Rattle.acvp_store.proofs.QueryRows.{met}
@@ -22,7 +22,7 @@ returns-clause-read g c =
     let old = state g.S.Store c.args.conn.now in
     let new = state g.S.Store c.query_all.new.self in
     read_as c.query_all.result c.capability_in.result old new (λ ok. c.answered.ensures.ok (c.capability_in.ensures.ok ok))
-    (read find_capability _ old new (g.met.S.Store.shut_if_dirty c.query_all.new.self.store) (λ live. (c.requires live).ready) capability_asks c.query_all.ensures.survives c.query_all.result (λ v. v.items) c.query_all.ensures.ok c.query_all.ensures.err)
+    (read (reading_text CapabilityAt) _ old new (g.met.S.Store.shut_if_dirty c.query_all.new.self.store) (λ live. (c.requires live).ready) (asks_rows CapabilityAt) c.query_all.ensures.survives c.query_all.result (λ v. v.items) c.query_all.ensures.ok c.query_all.ensures.err)
 
 pub returns-clause-found : goal.returns-clause-found
 returns-clause-found g c live =

@@ -8,7 +8,7 @@ use Rattle.acvp_store.proofs.SetRows.{verdict_rows, verdicts_told, find_told}
 use Rattle.std.proofs.lemmas.Result.{IfOk-weaker}
 use Rattle.sqlite.specs.Held.{state}
 use Rattle.acvp_store.specs.Stands.{set_tree}
-use Rattle.acvp_store.proofs.Texts.{find_verdicts, verdicts_asks}
+use Rattle.acvp_store.proofs.Readings.{VerdictsAt, asks_rows, reading_text}
 use Rattle.acvp_store.proofs.QueryLeaves.{clean_if_open, read}
 use Rattle.acvp_store.proofs.FoundRow.{in_store, read_as}
 use Rattle.acvp_store.proofs.set_texts.find_verdicts.Goals as goal
@@ -18,7 +18,7 @@ returns-clause-read g c =
     let old = state g.S.Store c.args.conn.now in
     let new = state g.S.Store c.query_all.new.self in
     read_as c.query_all.result c.verdicts_in.result old new (λ ok. c.answered.ensures.ok (c.verdicts_in.ensures.ok ok))
-    (read find_verdicts _ old new (g.met.S.Store.shut_if_dirty c.query_all.new.self.store) (λ live. (c.requires live).ready) verdicts_asks c.query_all.ensures.survives c.query_all.result (λ v. v.items) c.query_all.ensures.ok c.query_all.ensures.err)
+    (read (reading_text VerdictsAt) _ old new (g.met.S.Store.shut_if_dirty c.query_all.new.self.store) (λ live. (c.requires live).ready) (asks_rows VerdictsAt) c.query_all.ensures.survives c.query_all.result (λ v. v.items) c.query_all.ensures.ok c.query_all.ensures.err)
 
 pub returns-clause-found : goal.returns-clause-found
 returns-clause-found g c live =

@@ -7,7 +7,7 @@ use Rattle.acvp_tables.specs.Content.{set_summary}
 use Rattle.acvp_store.specs.Stands.{set_tree}
 use Rattle.acvp_store.specs.Private.Sets.{read_shown, read_columns, read_of, IsJudgedWhole, IsSummaryOf}
 use Rattle.acvp_store.specs.Private.Shown.{is_under}
-use Rattle.acvp_store.proofs.Texts.{find_set, set_asks}
+use Rattle.acvp_store.proofs.Readings.{SetAt, asks_rows, reading_text}
 use Rattle.acvp_store.proofs.QueryLeaves.{clean_if_open, read}
 use Rattle.acvp_store.proofs.FoundRow.{in_store, read_as}
 use Rattle.acvp_store.proofs.QueryRows.{met}
@@ -20,7 +20,7 @@ returns-clause-read g c =
     let old = state g.S.Store c.args.conn.now in
     let new = state g.S.Store c.query_all.new.self in
     read_as c.query_all.result c.summarized.result old new (λ ok. c.answered.ensures.ok (c.summarized.ensures.ok ok))
-    (read find_set _ old new (g.met.S.Store.shut_if_dirty c.query_all.new.self.store) (λ live. (c.requires live).ready) set_asks c.query_all.ensures.survives c.query_all.result (λ v. v.items) c.query_all.ensures.ok c.query_all.ensures.err)
+    (read (reading_text SetAt) _ old new (g.met.S.Store.shut_if_dirty c.query_all.new.self.store) (λ live. (c.requires live).ready) (asks_rows SetAt) c.query_all.ensures.survives c.query_all.result (λ v. v.items) c.query_all.ensures.ok c.query_all.ensures.err)
 
 pub returns-clause-found : goal.returns-clause-found
 returns-clause-found g c live =

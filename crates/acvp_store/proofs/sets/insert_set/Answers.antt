@@ -2,11 +2,8 @@ use Rattle.std.proofs.Common.{ap, [], ◌∷◌, rules, w64, to_z-of_z, string_b
 use mir.Val.{SFits}
 use Rattle.sqlite.specs.Held.{state}
 use Rattle.acvp_store.specs.Private.Sets.{new_set, AddsSets}
-use Rattle.acvp_store.specs.Connection.{UnderStore}
-use Rattle.acvp_store.specs.Schema.{Layout, schema_of}
-use Rattle.acvp_store.proofs.QueryLeaves.{clean_if_open}
-use Rattle.acvp_store.proofs.Together.{inside, inside_as, inside_store}
-use Rattle.acvp_store.proofs.Texts.{add_set, add_set_is, add_set_plain}
+use Rattle.acvp_store.specs.Schema.{Layout}
+use Rattle.acvp_store.proofs.Writings.{SetAdded, writes}
 use Rattle.acvp_store.proofs.SetRows.{add_set_params, add_set_effect}
 use Rattle.acvp_store.proofs.sets.insert_set.Goals as goal
 
@@ -20,7 +17,7 @@ returns-clause-inside g c =
     let fit_epoch : SFits w64 c.in_ok-epoch.epoch = search rules in
     let text = string_bytes c.in_ok-text.text in
     let Change = λ (layout : Layout). AddsSets layout (new_set s.number s.session s.capability.now s.epoch ∷ []) in
-    inside_as c.execute.result c.done.result old new (UnderStore Change) c.done.ensures
-    (inside_store c.execute.result old new Change (λ layout. inside (schema_of layout) add_set (add_set_params s.number s.session text s.epoch) old new (clean_if_open new.is_clean new.is_open (g.met.S.Store.shut_if_dirty c.execute.new.self.conn.now.store))
-    _ (add_set_is layout) (add_set_plain layout) (λ count w. w) (Change layout) (add_set_effect layout old s.number s.session s.capability.now text s.epoch c.in_ok-text.ensures c.in_ok-number.ensures.0) c.execute.result
-    (λ clean on. rw (c.params-to_sql.ensures, c.params-to_sql-2.ensures, c.params-to_sql-3.ensures, c.params-to_sql-4.ensures, to_z-of_z fit_number, to_z-of_z fit_session, to_z-of_z fit_epoch, c.in_ok-number.ensures.1, c.in_ok-session.ensures.1, c.in_ok-epoch.ensures.1) at (c.execute.ensures.runs clean on)) (λ off. ap (state g.S.Store) (c.execute.ensures.ended off).1) c.execute.ensures.survives))
+    writes SetAdded (add_set_params s.number s.session text s.epoch) old new (g.met.S.Store.shut_if_dirty c.execute.new.self.conn.now.store)
+    c.execute.result c.done.result c.done.ensures (λ clean on. rw (c.params-to_sql.ensures, c.params-to_sql-2.ensures, c.params-to_sql-3.ensures, c.params-to_sql-4.ensures, to_z-of_z fit_number, to_z-of_z fit_session, to_z-of_z fit_epoch, c.in_ok-number.ensures.1, c.in_ok-session.ensures.1, c.in_ok-epoch.ensures.1) at (c.execute.ensures.runs clean on))
+    (λ off. ap (state g.S.Store) (c.execute.ensures.ended off).1) c.execute.ensures.survives
+    Change (λ layout. add_set_effect layout old s.number s.session s.capability.now text s.epoch c.in_ok-text.ensures c.in_ok-number.ensures.0)

@@ -2,13 +2,10 @@ use Rattle.std.proofs.Common.{ap, [], ◌∷◌}
 use Rattle.sqlite.specs.Held.{state}
 use Rattle.acvp_tables.specs.Changes.{changed, is_account, disabled}
 use Rattle.acvp_store.specs.Alters.{Alters}
-use Rattle.acvp_store.specs.Connection.{UnderStore}
 use Rattle.acvp_store.specs.Rows.{account_tree, HoldsAccounts}
-use Rattle.acvp_store.specs.Schema.{Layout, schema_of}
+use Rattle.acvp_store.specs.Schema.{Layout}
 use Rattle.acvp_store.specs.Values.{whole}
-use Rattle.acvp_store.proofs.QueryLeaves.{clean_if_open}
-use Rattle.acvp_store.proofs.Together.{inside, inside_as, inside_store}
-use Rattle.acvp_store.proofs.Texts.{disable_account, disable_is, disable_plain}
+use Rattle.acvp_store.proofs.Writings.{AccountDisabled, writes}
 use Rattle.acvp_store.proofs.AccountRows.{disable_effect}
 use Rattle.acvp_store.proofs.accounts.DisabledAccountWork.run.Goals as goal
 
@@ -18,7 +15,7 @@ returns-clause-inside g c =
     let new = state g.S.Store c.execute.new.self.conn.now in
     let n = c.args.self.now.account in
     let Change = λ (layout : Layout). Alters layout account_tree HoldsAccounts (changed (is_account n) disabled) in
-    inside_as c.execute.result c.done.result old new (UnderStore Change) c.done.ensures
-    (inside_store c.execute.result old new Change (λ layout. inside (schema_of layout) disable_account (whole n ∷ []) old new (clean_if_open new.is_clean new.is_open (g.met.S.Store.shut_if_dirty c.execute.new.self.conn.now.store))
-    _ (disable_is layout) (disable_plain layout) (λ count w. w) (Change layout) (disable_effect layout old n) c.execute.result
-    (λ clean on. rw (c.params-to_sql.ensures, c.from.ensures) at (c.execute.ensures.runs clean on)) (λ off. ap (state g.S.Store) (c.execute.ensures.ended off).1) c.execute.ensures.survives))
+    writes AccountDisabled (whole n ∷ []) old new (g.met.S.Store.shut_if_dirty c.execute.new.self.conn.now.store)
+    c.execute.result c.done.result c.done.ensures (λ clean on. rw (c.params-to_sql.ensures, c.from.ensures) at (c.execute.ensures.runs clean on))
+    (λ off. ap (state g.S.Store) (c.execute.ensures.ended off).1) c.execute.ensures.survives
+    Change (λ layout. disable_effect layout old n)

@@ -3,13 +3,10 @@ use Rattle.sqlite.specs.declared.types.Value.TheVariants.{Blob}
 use Rattle.sqlite.specs.Held.{state}
 use Rattle.acvp_tables.specs.Changes.{new_account}
 use Rattle.acvp_store.specs.Alters.{Alters}
-use Rattle.acvp_store.specs.Connection.{UnderStore}
 use Rattle.acvp_store.specs.Rows.{account_tree, HoldsAccounts}
-use Rattle.acvp_store.specs.Schema.{Layout, schema_of}
+use Rattle.acvp_store.specs.Schema.{Layout}
 use Rattle.acvp_store.specs.Values.{whole}
-use Rattle.acvp_store.proofs.QueryLeaves.{clean_if_open}
-use Rattle.acvp_store.proofs.Together.{inside, inside_as, inside_store}
-use Rattle.acvp_store.proofs.Texts.{add_account, add_account_is, add_account_plain}
+use Rattle.acvp_store.proofs.Writings.{AccountAdded, writes}
 use Rattle.acvp_store.proofs.AccountRows.{add_effect}
 use Rattle.acvp_store.proofs.accounts.NewAccountWork.run.Goals as goal
 
@@ -20,7 +17,7 @@ returns-clause-inside g c =
     let a = c.args.self.now in
     let low : a.account < 2 ^ 63 = omega (arith, c.from.ensures) in
     let Change = λ (layout : Layout). Alters layout account_tree HoldsAccounts (λ accounts. accounts ++ new_account a ∷ []) in
-    inside_as c.execute.result c.done.result old new (UnderStore Change) c.done.ensures
-    (inside_store c.execute.result old new Change (λ layout. inside (schema_of layout) add_account (whole a.account ∷ Blob a.secret ∷ []) old new (clean_if_open new.is_clean new.is_open (g.met.S.Store.shut_if_dirty c.execute.new.self.conn.now.store))
-    _ (add_account_is layout) (add_account_plain layout) (λ count w. w) (Change layout) (add_effect layout old a low) c.execute.result
-    (λ clean on. rw (c.params-to_sql.ensures, c.params-to_sql-2.ensures, c.as_slice.ensures, c.from.ensures) at (c.execute.ensures.runs clean on)) (λ off. ap (state g.S.Store) (c.execute.ensures.ended off).1) c.execute.ensures.survives))
+    writes AccountAdded (whole a.account ∷ Blob a.secret ∷ []) old new (g.met.S.Store.shut_if_dirty c.execute.new.self.conn.now.store)
+    c.execute.result c.done.result c.done.ensures (λ clean on. rw (c.params-to_sql.ensures, c.params-to_sql-2.ensures, c.as_slice.ensures, c.from.ensures) at (c.execute.ensures.runs clean on))
+    (λ off. ap (state g.S.Store) (c.execute.ensures.ended off).1) c.execute.ensures.survives
+    Change (λ layout. add_effect layout old a low)

@@ -4,12 +4,9 @@ use Rattle.sqlite.specs.Held.{state}
 use Rattle.acvp_tables.specs.Changes.{changed, is_account, with_step}
 use Rattle.acvp_store.specs.Alters.{Alters}
 use Rattle.acvp_store.specs.Rows.{account_tree, HoldsAccounts}
-use Rattle.acvp_store.specs.Connection.{UnderStore}
-use Rattle.acvp_store.specs.Schema.{Layout, schema_of}
+use Rattle.acvp_store.specs.Schema.{Layout}
 use Rattle.acvp_store.specs.Values.{whole}
-use Rattle.acvp_store.proofs.QueryLeaves.{clean_if_open}
-use Rattle.acvp_store.proofs.Together.{inside, inside_as, inside_store}
-use Rattle.acvp_store.proofs.Texts.{set_step, step_is, step_plain}
+use Rattle.acvp_store.proofs.Writings.{StepUsed, writes}
 use Rattle.acvp_store.proofs.AccountRows.{step_effect}
 use Rattle.acvp_store.proofs.accounts.UsedStepWork.run.Goals as goal
 
@@ -20,7 +17,7 @@ returns-clause-inside g c =
     let u = c.args.self.now in
     let fit_step : SFits w64 c.in_ok-step.step = search rules in
     let Change = λ (layout : Layout). Alters layout account_tree HoldsAccounts (changed (is_account u.account) (with_step u.step)) in
-    inside_as c.execute.result c.done.result old new (UnderStore Change) c.done.ensures
-    (inside_store c.execute.result old new Change (λ layout. inside (schema_of layout) set_step (whole u.account ∷ whole u.step ∷ []) old new (clean_if_open new.is_clean new.is_open (g.met.S.Store.shut_if_dirty c.execute.new.self.conn.now.store))
-    _ (step_is layout) (step_plain layout) (λ count w. w) (Change layout) (step_effect layout old u.account u.step) c.execute.result
-    (λ clean on. rw (c.params-to_sql.ensures, c.params-to_sql-2.ensures, to_z-of_z fit_step, c.in_ok-step.ensures.1, c.from.ensures) at (c.execute.ensures.runs clean on)) (λ off. ap (state g.S.Store) (c.execute.ensures.ended off).1) c.execute.ensures.survives))
+    writes StepUsed (whole u.account ∷ whole u.step ∷ []) old new (g.met.S.Store.shut_if_dirty c.execute.new.self.conn.now.store)
+    c.execute.result c.done.result c.done.ensures (λ clean on. rw (c.params-to_sql.ensures, c.params-to_sql-2.ensures, to_z-of_z fit_step, c.in_ok-step.ensures.1, c.from.ensures) at (c.execute.ensures.runs clean on))
+    (λ off. ap (state g.S.Store) (c.execute.ensures.ended off).1) c.execute.ensures.survives
+    Change (λ layout. step_effect layout old u.account u.step)

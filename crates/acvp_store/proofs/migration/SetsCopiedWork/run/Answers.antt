@@ -1,11 +1,9 @@
 use Rattle.std.proofs.Common.{[], ap}
 use Rattle.sqlite.specs.Held.{state}
-use Rattle.acvp_store.specs.Connection.{Under}
 use Rattle.acvp_store.specs.Schema.{Migrated, schema_of}
 use Rattle.acvp_store.specs.Private.Migration.{CopiesSets}
-use Rattle.acvp_store.proofs.Texts.{copy_sets, copy_is, copy_plain}
-use Rattle.acvp_store.proofs.QueryLeaves.{clean_if_open}
-use Rattle.acvp_store.proofs.Together.{inside, inside_as}
+use Rattle.acvp_store.proofs.Texts.{copy_sets, copies_sets}
+use Rattle.acvp_store.proofs.Together.{does_inside}
 use Rattle.acvp_store.proofs.MigrationSteps.{copy_effect}
 use Rattle.acvp_store.proofs.migration.SetsCopiedWork.run.Goals as goal
 
@@ -13,7 +11,6 @@ pub returns-clause-inside : goal.returns-clause-inside
 returns-clause-inside g c =
     let old = state g.S.Store c.args.tx.now.conn.now in
     let new = state g.S.Store c.execute.new.self.conn.now in
-    inside_as c.execute.result c.done.result old new (Under (schema_of Migrated) CopiesSets) c.done.ensures
-    (inside (schema_of Migrated) copy_sets [] old new (clean_if_open new.is_clean new.is_open (g.met.S.Store.shut_if_dirty c.execute.new.self.conn.now.store))
-    _ copy_is copy_plain (λ count w. w) CopiesSets (copy_effect old) c.execute.result
-    c.execute.ensures.runs (λ off. ap (state g.S.Store) (c.execute.ensures.ended off).1) c.execute.ensures.survives)
+    does_inside (schema_of Migrated) copy_sets [] old new (g.met.S.Store.shut_if_dirty c.execute.new.self.conn.now.store) _ copies_sets (λ count w. w)
+    c.execute.result c.done.result c.done.ensures c.execute.ensures.runs
+    (λ off. ap (state g.S.Store) (c.execute.ensures.ended off).1) c.execute.ensures.survives CopiesSets (copy_effect old)

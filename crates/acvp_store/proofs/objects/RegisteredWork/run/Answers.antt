@@ -2,11 +2,8 @@ use Rattle.std.proofs.Common.{ap, rules, w64, to_z-of_z}
 use mir.Val.{SFits}
 use Rattle.sqlite.specs.Held.{state}
 use Rattle.acvp_store.specs.Private.Objects.{Registers}
-use Rattle.acvp_store.specs.Connection.{UnderStore}
-use Rattle.acvp_store.specs.Schema.{Layout, schema_of}
-use Rattle.acvp_store.proofs.QueryLeaves.{clean_if_open}
-use Rattle.acvp_store.proofs.Together.{inside, inside_as, inside_store}
-use Rattle.acvp_store.proofs.Texts.{register_object, register_is, register_plain}
+use Rattle.acvp_store.specs.Schema.{Layout}
+use Rattle.acvp_store.proofs.Writings.{ObjectRegistered, writes}
 use Rattle.acvp_store.proofs.RegisteredObject.{register_params, register_effect}
 use Rattle.acvp_store.proofs.objects.RegisteredWork.run.Goals as goal
 
@@ -18,7 +15,7 @@ returns-clause-inside g c =
     let fit_request : SFits w64 c.in_ok-request.request = search rules in
     let fit_number : SFits w64 c.in_ok-number.number = search rules in
     let Change = λ (layout : Layout). Registers layout r.request r.number in
-    inside_as c.execute.result c.done.result old new (UnderStore Change) c.done.ensures
-    (inside_store c.execute.result old new Change (λ layout. inside (schema_of layout) register_object (register_params r.request r.number) old new (clean_if_open new.is_clean new.is_open (g.met.S.Store.shut_if_dirty c.execute.new.self.conn.now.store))
-    _ (register_is layout) (register_plain layout) (λ count w. w) (Change layout) (register_effect layout old r.request r.number c.in_ok-number.ensures.0) c.execute.result
-    (λ clean on. rw (c.params-to_sql.ensures, c.params-to_sql-2.ensures, to_z-of_z fit_request, to_z-of_z fit_number, c.in_ok-request.ensures.1, c.in_ok-number.ensures.1) at (c.execute.ensures.runs clean on)) (λ off. ap (state g.S.Store) (c.execute.ensures.ended off).1) c.execute.ensures.survives))
+    writes ObjectRegistered (register_params r.request r.number) old new (g.met.S.Store.shut_if_dirty c.execute.new.self.conn.now.store)
+    c.execute.result c.done.result c.done.ensures (λ clean on. rw (c.params-to_sql.ensures, c.params-to_sql-2.ensures, to_z-of_z fit_request, to_z-of_z fit_number, c.in_ok-request.ensures.1, c.in_ok-number.ensures.1) at (c.execute.ensures.runs clean on))
+    (λ off. ap (state g.S.Store) (c.execute.ensures.ended off).1) c.execute.ensures.survives
+    Change (λ layout. register_effect layout old r.request r.number c.in_ok-number.ensures.0)

@@ -6,12 +6,9 @@ use Rattle.acvp_tables.specs.Changes.{changed, is_request, with_status}
 use Rattle.acvp_tables.specs.declared.rows.RequestStatus.{RequestStatus}
 use Rattle.acvp_tables.specs.declared.rows.RequestStatus.TheVariants as status
 use Rattle.acvp_store.specs.Alters.{Alters}
-use Rattle.acvp_store.specs.Connection.{UnderStore}
-use Rattle.acvp_store.specs.Schema.{Layout, schema_of}
+use Rattle.acvp_store.specs.Schema.{Layout}
 use Rattle.acvp_store.specs.Stands.{request_tree, HoldsRequests}
-use Rattle.acvp_store.proofs.QueryLeaves.{clean_if_open}
-use Rattle.acvp_store.proofs.Together.{inside, inside_as, inside_store}
-use Rattle.acvp_store.proofs.Texts.{decide_request, decide_is, decide_plain}
+use Rattle.acvp_store.proofs.Writings.{RequestDecided, writes, writing_text}
 use Rattle.acvp_store.proofs.RequestRows.{decide_params, decide_effect}
 use Rattle.acvp_store.proofs.requests.DecidedRequestWork.run.Goals as goal
 
@@ -21,16 +18,16 @@ returns-clause-inside g c =
     let new = state g.S.Store c.execute.new.self.conn.now in
     let s = c.args.self.now in
     let Change = λ (layout : Layout). Alters layout request_tree HoldsRequests (changed (is_request s.number) (with_status s.status)) in
-    inside_as c.execute.result c.done.result old new (UnderStore Change) c.done.ensures
-    (inside_store c.execute.result old new Change (λ layout. inside (schema_of layout) decide_request (decide_params s.number s.status) old new (clean_if_open new.is_clean new.is_open (g.met.S.Store.shut_if_dirty c.execute.new.self.conn.now.store))
-    _ (decide_is layout) (decide_plain layout) (λ count w. w) (Change layout) (decide_effect layout old s.number s.status) c.execute.result
-    (runs s.status refl) (λ off. ap (state g.S.Store) (c.execute.ensures.ended off).1) c.execute.ensures.survives))
+    writes RequestDecided (decide_params s.number s.status) old new (g.met.S.Store.shut_if_dirty c.execute.new.self.conn.now.store)
+    c.execute.result c.done.result c.done.ensures (runs s.status refl)
+    (λ off. ap (state g.S.Store) (c.execute.ensures.ended off).1) c.execute.ensures.survives
+    Change (λ layout. decide_effect layout old s.number s.status)
   where
     fit : SFits w64 c.in_ok-number.number
     fit = search rules
 
     runs : (it : RequestStatus) → c.args.self.now.status ≡ it → HasCleanDisk (state g.S.Store c.execute.new.self.conn.now) → IsTrue (state g.S.Store c.args.tx.now.conn.now).in_transaction
-        → ExecutesInside 0 decide_request (decide_params c.args.self.now.number it) (state g.S.Store c.args.tx.now.conn.now) (state g.S.Store c.execute.new.self.conn.now) c.execute.result
+        → ExecutesInside 0 (writing_text RequestDecided) (decide_params c.args.self.now.number it) (state g.S.Store c.args.tx.now.conn.now) (state g.S.Store c.execute.new.self.conn.now) c.execute.result
     runs status.Initial is clean on = rw (c.params-to_sql.ensures, c.params-to_sql-2.ensures, c.params-to_sql-3.ensures, to_z-of_z fit, c.in_ok-number.ensures.1, c.status_number.ensures, c.in_ok-approved.ensures, is) at (c.execute.ensures.runs clean on)
     runs (status.Approved n) is clean on = rw (c.params-to_sql.ensures, c.params-to_sql-2.ensures, c.params-to_sql-3.ensures, to_z-of_z fit, c.in_ok-number.ensures.1, c.status_number.ensures, c.in_ok-approved.ensures, is) at (c.execute.ensures.runs clean on)
     runs status.Rejected is clean on = rw (c.params-to_sql.ensures, c.params-to_sql-2.ensures, c.params-to_sql-3.ensures, to_z-of_z fit, c.in_ok-number.ensures.1, c.status_number.ensures, c.in_ok-approved.ensures, is) at (c.execute.ensures.runs clean on)

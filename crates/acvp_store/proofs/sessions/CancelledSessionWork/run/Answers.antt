@@ -4,12 +4,9 @@ use Rattle.sqlite.specs.Held.{state}
 use Rattle.acvp_tables.specs.Changes.{changed, is_session, cancelled_session}
 use Rattle.acvp_store.specs.Alters.{Alters}
 use Rattle.acvp_store.specs.Rows.{session_tree, HoldsSessions}
-use Rattle.acvp_store.specs.Connection.{UnderStore}
-use Rattle.acvp_store.specs.Schema.{Layout, schema_of}
+use Rattle.acvp_store.specs.Schema.{Layout}
 use Rattle.acvp_store.specs.Values.{whole}
-use Rattle.acvp_store.proofs.QueryLeaves.{clean_if_open}
-use Rattle.acvp_store.proofs.Together.{inside, inside_as, inside_store}
-use Rattle.acvp_store.proofs.Texts.{cancel_session, cancel_is, cancel_plain}
+use Rattle.acvp_store.proofs.Writings.{SessionCancelled, writes}
 use Rattle.acvp_store.proofs.SessionRows.{cancel_effect}
 use Rattle.acvp_store.proofs.sessions.CancelledSessionWork.run.Goals as goal
 
@@ -20,7 +17,7 @@ returns-clause-inside g c =
     let s = c.args.self.now in
     let fit_number : SFits w64 c.in_ok-number.number = search rules in
     let Change = λ (layout : Layout). Alters layout session_tree HoldsSessions (changed (is_session s.number) cancelled_session) in
-    inside_as c.execute.result c.done.result old new (UnderStore Change) c.done.ensures
-    (inside_store c.execute.result old new Change (λ layout. inside (schema_of layout) cancel_session (whole s.number ∷ []) old new (clean_if_open new.is_clean new.is_open (g.met.S.Store.shut_if_dirty c.execute.new.self.conn.now.store))
-    _ (cancel_is layout) (cancel_plain layout) (λ count w. w) (Change layout) (cancel_effect layout old s.number) c.execute.result
-    (λ clean on. rw (c.params-to_sql.ensures, to_z-of_z fit_number, c.in_ok-number.ensures.1) at (c.execute.ensures.runs clean on)) (λ off. ap (state g.S.Store) (c.execute.ensures.ended off).1) c.execute.ensures.survives))
+    writes SessionCancelled (whole s.number ∷ []) old new (g.met.S.Store.shut_if_dirty c.execute.new.self.conn.now.store)
+    c.execute.result c.done.result c.done.ensures (λ clean on. rw (c.params-to_sql.ensures, to_z-of_z fit_number, c.in_ok-number.ensures.1) at (c.execute.ensures.runs clean on))
+    (λ off. ap (state g.S.Store) (c.execute.ensures.ended off).1) c.execute.ensures.survives
+    Change (λ layout. cancel_effect layout old s.number)

@@ -4,12 +4,9 @@ use Rattle.sqlite.specs.Held.{state}
 use Rattle.acvp_tables.specs.Changes.{changed, is_session, with_counts}
 use Rattle.acvp_store.specs.Alters.{Alters}
 use Rattle.acvp_store.specs.Rows.{session_tree, HoldsSessions}
-use Rattle.acvp_store.specs.Connection.{UnderStore}
-use Rattle.acvp_store.specs.Schema.{Layout, schema_of}
+use Rattle.acvp_store.specs.Schema.{Layout}
 use Rattle.acvp_store.specs.Values.{whole}
-use Rattle.acvp_store.proofs.QueryLeaves.{clean_if_open}
-use Rattle.acvp_store.proofs.Together.{inside, inside_as, inside_store}
-use Rattle.acvp_store.proofs.Texts.{count_session, count_is, count_plain}
+use Rattle.acvp_store.proofs.Writings.{SessionCounted, writes}
 use Rattle.acvp_store.proofs.SessionRows.{count_effect}
 use Rattle.acvp_store.proofs.sessions.CountedSessionWork.run.Goals as goal
 
@@ -22,7 +19,7 @@ returns-clause-inside g c =
     let fit_live : SFits w64 c.in_ok-live.live = search rules in
     let fit_passed : SFits w64 c.in_ok-passed.passed = search rules in
     let Change = λ (layout : Layout). Alters layout session_tree HoldsSessions (changed (is_session s.number) (with_counts s.live s.passed)) in
-    inside_as c.execute.result c.done.result old new (UnderStore Change) c.done.ensures
-    (inside_store c.execute.result old new Change (λ layout. inside (schema_of layout) count_session (whole s.number ∷ whole s.live ∷ whole s.passed ∷ []) old new (clean_if_open new.is_clean new.is_open (g.met.S.Store.shut_if_dirty c.execute.new.self.conn.now.store))
-    _ (count_is layout) (count_plain layout) (λ count w. w) (Change layout) (count_effect layout old s.number s.live s.passed) c.execute.result
-    (λ clean on. rw (c.params-to_sql.ensures, c.params-to_sql-2.ensures, c.params-to_sql-3.ensures, to_z-of_z fit_number, to_z-of_z fit_live, to_z-of_z fit_passed, c.in_ok-number.ensures.1, c.in_ok-live.ensures.1, c.in_ok-passed.ensures.1) at (c.execute.ensures.runs clean on)) (λ off. ap (state g.S.Store) (c.execute.ensures.ended off).1) c.execute.ensures.survives))
+    writes SessionCounted (whole s.number ∷ whole s.live ∷ whole s.passed ∷ []) old new (g.met.S.Store.shut_if_dirty c.execute.new.self.conn.now.store)
+    c.execute.result c.done.result c.done.ensures (λ clean on. rw (c.params-to_sql.ensures, c.params-to_sql-2.ensures, c.params-to_sql-3.ensures, to_z-of_z fit_number, to_z-of_z fit_live, to_z-of_z fit_passed, c.in_ok-number.ensures.1, c.in_ok-live.ensures.1, c.in_ok-passed.ensures.1) at (c.execute.ensures.runs clean on))
+    (λ off. ap (state g.S.Store) (c.execute.ensures.ended off).1) c.execute.ensures.survives
+    Change (λ layout. count_effect layout old s.number s.live s.passed)

@@ -4,12 +4,9 @@ use Rattle.sqlite.specs.Held.{state}
 use Rattle.acvp_tables.specs.Changes.{changed, is_session, with_passed}
 use Rattle.acvp_store.specs.Alters.{Alters}
 use Rattle.acvp_store.specs.Rows.{session_tree, HoldsSessions}
-use Rattle.acvp_store.specs.Connection.{UnderStore}
-use Rattle.acvp_store.specs.Schema.{Layout, schema_of}
+use Rattle.acvp_store.specs.Schema.{Layout}
 use Rattle.acvp_store.specs.Values.{whole}
-use Rattle.acvp_store.proofs.QueryLeaves.{clean_if_open}
-use Rattle.acvp_store.proofs.Together.{inside, inside_as, inside_store}
-use Rattle.acvp_store.proofs.Texts.{pass_session, pass_is, pass_plain}
+use Rattle.acvp_store.proofs.Writings.{SessionPassed, writes}
 use Rattle.acvp_store.proofs.SessionRows.{pass_effect}
 use Rattle.acvp_store.proofs.sessions.PassedSessionWork.run.Goals as goal
 
@@ -21,7 +18,7 @@ returns-clause-inside g c =
     let fit_number : SFits w64 c.in_ok-number.number = search rules in
     let fit_passed : SFits w64 c.in_ok-passed.passed = search rules in
     let Change = λ (layout : Layout). Alters layout session_tree HoldsSessions (changed (is_session s.number) (with_passed s.passed)) in
-    inside_as c.execute.result c.done.result old new (UnderStore Change) c.done.ensures
-    (inside_store c.execute.result old new Change (λ layout. inside (schema_of layout) pass_session (whole s.number ∷ whole s.passed ∷ []) old new (clean_if_open new.is_clean new.is_open (g.met.S.Store.shut_if_dirty c.execute.new.self.conn.now.store))
-    _ (pass_is layout) (pass_plain layout) (λ count w. w) (Change layout) (pass_effect layout old s.number s.passed) c.execute.result
-    (λ clean on. rw (c.params-to_sql.ensures, c.params-to_sql-2.ensures, to_z-of_z fit_number, to_z-of_z fit_passed, c.in_ok-number.ensures.1, c.in_ok-passed.ensures.1) at (c.execute.ensures.runs clean on)) (λ off. ap (state g.S.Store) (c.execute.ensures.ended off).1) c.execute.ensures.survives))
+    writes SessionPassed (whole s.number ∷ whole s.passed ∷ []) old new (g.met.S.Store.shut_if_dirty c.execute.new.self.conn.now.store)
+    c.execute.result c.done.result c.done.ensures (λ clean on. rw (c.params-to_sql.ensures, c.params-to_sql-2.ensures, to_z-of_z fit_number, to_z-of_z fit_passed, c.in_ok-number.ensures.1, c.in_ok-passed.ensures.1) at (c.execute.ensures.runs clean on))
+    (λ off. ap (state g.S.Store) (c.execute.ensures.ended off).1) c.execute.ensures.survives
+    Change (λ layout. pass_effect layout old s.number s.passed)

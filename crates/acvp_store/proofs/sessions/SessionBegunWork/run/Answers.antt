@@ -4,11 +4,8 @@ use Rattle.sqlite.specs.Held.{state}
 use Rattle.acvp_tables.specs.Changes.{new_session}
 use Rattle.acvp_store.specs.Alters.{Alters}
 use Rattle.acvp_store.specs.Rows.{session_tree, HoldsSessions}
-use Rattle.acvp_store.specs.Connection.{UnderStore}
-use Rattle.acvp_store.specs.Schema.{Layout, schema_of}
-use Rattle.acvp_store.proofs.QueryLeaves.{clean_if_open}
-use Rattle.acvp_store.proofs.Together.{inside, inside_as, inside_store}
-use Rattle.acvp_store.proofs.Texts.{add_session, add_session_is, add_session_plain}
+use Rattle.acvp_store.specs.Schema.{Layout}
+use Rattle.acvp_store.proofs.Writings.{SessionAdded, writes}
 use Rattle.acvp_store.proofs.SessionRows.{flag_is, add_session_params, add_session_effect}
 use Rattle.acvp_store.proofs.sessions.SessionBegunWork.run.Goals as goal
 
@@ -20,7 +17,7 @@ returns-clause-inside g c =
     let fit_number : SFits w64 c.in_ok-number.number = search rules in
     let fit_created : SFits w64 c.in_ok-created.created = search rules in
     let Change = λ (layout : Layout). Alters layout session_tree HoldsSessions (λ rows. rows ++ new_session s ∷ []) in
-    inside_as c.execute.result c.done.result old new (UnderStore Change) c.done.ensures
-    (inside_store c.execute.result old new Change (λ layout. inside (schema_of layout) add_session (add_session_params s) old new (clean_if_open new.is_clean new.is_open (g.met.S.Store.shut_if_dirty c.execute.new.self.conn.now.store))
-    _ (add_session_is layout) (add_session_plain layout) (λ count w. w) (Change layout) (add_session_effect layout old s c.in_ok-number.ensures.0) c.execute.result
-    (λ clean on. rw (c.params-to_sql.ensures, c.params-to_sql-2.ensures, c.params-to_sql-3.ensures, c.params-to_sql-4.ensures, c.params-to_sql-5.ensures, to_z-of_z fit_number, to_z-of_z fit_created, c.in_ok-number.ensures.1, c.in_ok-created.ensures.1, c.from.ensures, c.sample.ensures, c.capabilities.ensures.value, flag_is s.registration.sample) at (c.execute.ensures.runs clean on)) (λ off. ap (state g.S.Store) (c.execute.ensures.ended off).1) c.execute.ensures.survives))
+    writes SessionAdded (add_session_params s) old new (g.met.S.Store.shut_if_dirty c.execute.new.self.conn.now.store)
+    c.execute.result c.done.result c.done.ensures (λ clean on. rw (c.params-to_sql.ensures, c.params-to_sql-2.ensures, c.params-to_sql-3.ensures, c.params-to_sql-4.ensures, c.params-to_sql-5.ensures, to_z-of_z fit_number, to_z-of_z fit_created, c.in_ok-number.ensures.1, c.in_ok-created.ensures.1, c.from.ensures, c.sample.ensures, c.capabilities.ensures.value, flag_is s.registration.sample) at (c.execute.ensures.runs clean on))
+    (λ off. ap (state g.S.Store) (c.execute.ensures.ended off).1) c.execute.ensures.survives
+    Change (λ layout. add_session_effect layout old s c.in_ok-number.ensures.0)

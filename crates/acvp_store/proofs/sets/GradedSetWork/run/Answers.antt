@@ -6,11 +6,8 @@ use Rattle.acvp_json.specs.KeptAnswers.{kept_text}
 use Rattle.acvp_tables.specs.Changes.{changed, is_set, with_graded}
 use Rattle.acvp_store.specs.Alters.{Alters}
 use Rattle.acvp_store.specs.Stands.{set_tree, HoldsSets, disposition_number}
-use Rattle.acvp_store.specs.Connection.{UnderStore}
-use Rattle.acvp_store.specs.Schema.{Layout, schema_of}
-use Rattle.acvp_store.proofs.QueryLeaves.{clean_if_open}
-use Rattle.acvp_store.proofs.Together.{inside, inside_as, inside_store}
-use Rattle.acvp_store.proofs.Texts.{grade_set, grade_is, grade_plain}
+use Rattle.acvp_store.specs.Schema.{Layout}
+use Rattle.acvp_store.proofs.Writings.{SetGraded, writes}
 use Rattle.acvp_store.proofs.SetRows.{grade_params, grade_effect}
 use Rattle.acvp_store.proofs.sets.GradedSetWork.run.Goals as goal
 
@@ -25,7 +22,7 @@ returns-clause-inside g c =
     let d = c.in-Some.disposition in
     let disposition_is = subst (λ x. disposition_number x ≡ Some d) c.disposition.ensures.value c.in-Some.ensures.some in
     let Change = λ (layout : Layout). Alters layout (set_tree layout) HoldsSets (changed (is_set s.number) (with_graded s.graded.now)) in
-    inside_as c.execute.result c.done.result old new (UnderStore Change) c.done.ensures
-    (inside_store c.execute.result old new Change (λ layout. inside (schema_of layout) grade_set (grade_params s.number answers verdicts d) old new (clean_if_open new.is_clean new.is_open (g.met.S.Store.shut_if_dirty c.execute.new.self.conn.now.store))
-    _ (grade_is layout) (grade_plain layout) (λ count w. w) (Change layout) (grade_effect layout old s.number s.graded.now answers verdicts d (c.in_ok-answers.ensures.text ∙ ap kept_text c.answers.ensures) (c.in_ok-answers.ensures.reads_back ∙ ap Some c.answers.ensures) (c.in_ok-verdicts.ensures ∙ ap verdicts_text c.verdicts.ensures) disposition_is (sym c.disposition.ensures.value ∙ c.disposition.ensures.given)) c.execute.result
-    (λ clean on. rw (c.params-to_sql.ensures, c.params-to_sql-2.ensures, c.params-to_sql-3.ensures, c.params-to_sql-4.ensures, to_z-of_z fit_number, c.in_ok-number.ensures.1) at (c.execute.ensures.runs clean on)) (λ off. ap (state g.S.Store) (c.execute.ensures.ended off).1) c.execute.ensures.survives))
+    writes SetGraded (grade_params s.number answers verdicts d) old new (g.met.S.Store.shut_if_dirty c.execute.new.self.conn.now.store)
+    c.execute.result c.done.result c.done.ensures (λ clean on. rw (c.params-to_sql.ensures, c.params-to_sql-2.ensures, c.params-to_sql-3.ensures, c.params-to_sql-4.ensures, to_z-of_z fit_number, c.in_ok-number.ensures.1) at (c.execute.ensures.runs clean on))
+    (λ off. ap (state g.S.Store) (c.execute.ensures.ended off).1) c.execute.ensures.survives
+    Change (λ layout. grade_effect layout old s.number s.graded.now answers verdicts d (c.in_ok-answers.ensures.text ∙ ap kept_text c.answers.ensures) (c.in_ok-answers.ensures.reads_back ∙ ap Some c.answers.ensures) (c.in_ok-verdicts.ensures ∙ ap verdicts_text c.verdicts.ensures) disposition_is (sym c.disposition.ensures.value ∙ c.disposition.ensures.given))

@@ -4,12 +4,9 @@ use Rattle.sqlite.specs.Held.{state}
 use Rattle.acvp_tables.specs.Changes.{changed, is_set, cancelled_set}
 use Rattle.acvp_store.specs.Alters.{Alters}
 use Rattle.acvp_store.specs.Stands.{set_tree, HoldsSets}
-use Rattle.acvp_store.specs.Connection.{UnderStore}
-use Rattle.acvp_store.specs.Schema.{Layout, schema_of}
+use Rattle.acvp_store.specs.Schema.{Layout}
 use Rattle.acvp_store.specs.Values.{whole}
-use Rattle.acvp_store.proofs.QueryLeaves.{clean_if_open}
-use Rattle.acvp_store.proofs.Together.{inside, inside_as, inside_store}
-use Rattle.acvp_store.proofs.Texts.{cancel_set, cancel_set_is, cancel_set_plain}
+use Rattle.acvp_store.proofs.Writings.{SetCancelled, writes}
 use Rattle.acvp_store.proofs.SetRows.{cancel_set_effect}
 use Rattle.acvp_store.proofs.sets.SetCancelledWork.run.Goals as goal
 
@@ -20,7 +17,7 @@ returns-clause-inside g c =
     let s = c.args.self.now in
     let fit_number : SFits w64 c.in_ok-number.number = search rules in
     let Change = λ (layout : Layout). Alters layout (set_tree layout) HoldsSets (changed (is_set s.number) cancelled_set) in
-    inside_as c.execute.result c.done.result old new (UnderStore Change) c.done.ensures
-    (inside_store c.execute.result old new Change (λ layout. inside (schema_of layout) cancel_set (whole s.number ∷ []) old new (clean_if_open new.is_clean new.is_open (g.met.S.Store.shut_if_dirty c.execute.new.self.conn.now.store))
-    _ (cancel_set_is layout) (cancel_set_plain layout) (λ count w. w) (Change layout) (cancel_set_effect layout old s.number) c.execute.result
-    (λ clean on. rw (c.params-to_sql.ensures, to_z-of_z fit_number, c.in_ok-number.ensures.1) at (c.execute.ensures.runs clean on)) (λ off. ap (state g.S.Store) (c.execute.ensures.ended off).1) c.execute.ensures.survives))
+    writes SetCancelled (whole s.number ∷ []) old new (g.met.S.Store.shut_if_dirty c.execute.new.self.conn.now.store)
+    c.execute.result c.done.result c.done.ensures (λ clean on. rw (c.params-to_sql.ensures, to_z-of_z fit_number, c.in_ok-number.ensures.1) at (c.execute.ensures.runs clean on))
+    (λ off. ap (state g.S.Store) (c.execute.ensures.ended off).1) c.execute.ensures.survives
+    Change (λ layout. cancel_set_effect layout old s.number)
