@@ -22,7 +22,7 @@ use Rattle.acvp_store.specs.Values.{whole}
 use Rattle.acvp_store.specs.Schema.{Layout, schema_of}
 use Rattle.acvp_store.specs.Rows.{session_tree, session_row, HoldsSessions, session_shown}
 use Rattle.acvp_store.proofs.Owned.{last_number, in_range, range_drops, rising_dropped, session_numbers, session_selection}
-use Rattle.acvp_store.proofs.OrderedPages.{paged, capped_page}
+use Rattle.acvp_store.proofs.OrderedRows.{paged, capped_page}
 use Rattle.acvp_store.proofs.QueryForms.{within}
 use Rattle.acvp_store.proofs.Readings.{SessionPage, answers, reading_text, session_terms}
 use Rattle.acvp_store.proofs.Parts.{both_true}

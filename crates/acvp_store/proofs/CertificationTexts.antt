@@ -73,6 +73,3 @@ module _ (c : Certification) (d : Data) (text : List ℕ) (is : body_json text �
 
   pub has_environment : ((url : List ℕ) → text_at (codes "oeUrl") d ≡ Some url → (number : ℕ) → ¬ IsUrl Environment number url) → ⊥
   has_environment none = none _ (ap (text_at (codes "oeUrl")) (value_is c d text is reads written) ∙ environment_at c) c.environment (codes "/acvp/v1/oes/", refl, fits.1, refl)
-
-  pub has_session : number_at (codes "session") d ≡ None → ⊥
-  has_session none = let found : Some c.session ≡ None = sym (session_at c) ∙ sym (ap (number_at (codes "session")) (value_is c d text is reads written)) ∙ none in cc

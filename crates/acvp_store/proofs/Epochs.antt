@@ -37,6 +37,7 @@ use Rattle.acvp_store.proofs.Keyed.{none_left}
 use Rattle.acvp_store.proofs.SelectedRows.{matched}
 use Rattle.acvp_store.proofs.Places.{sets_seen}
 use Rattle.acvp_store.proofs.Readings.{GreatestEpoch, answers, reading_query, reading_text}
+use Rattle.acvp_store.proofs.Told.{told_through}
 
 abbrev pub greatest : List ℕ → Option ℕ
 greatest [] = None
@@ -198,11 +199,9 @@ module _ {X E F G : Type 0} (table : List Row) (rows_in : X → List Row) where
       → IfOk result (λ e. IfOk found (λ b. b ≡ Some e))
       → IfOk outcome (λ x. (list : List SetColumns) → AreKept set_key set_row table list → rows_in x ≡ epoch_shown (greatest (epochs list)) ∷ [])
       → IfOk result (λ e. (sets : List SetRow) → HoldsSets table sets → e ≡ greatest_epoch_of sets)
-  find_greatest outcome found (Err g) ok_found ok_result one tells rows = tt
-  find_greatest outcome (Err f) (Ok e) ok_found ok_result one tells rows = absurd (let impossible = ok_result refl in cc)
-  find_greatest (Err d) (Ok b) (Ok e) ok_found ok_result one tells rows = absurd (let impossible = ok_found refl in cc)
-  find_greatest (Ok x) (Ok b) (Ok e) ok_found ok_result one tells rows = λ sets h.
+  find_greatest outcome found result ok_found ok_result =
+      told_through outcome found result ok_found ok_result _ _ _ _ (λ x b e one tells rows sets h.
       let max = greatest (epochs h.columns) in
       let is : b ≡ Some max = one (max ∷ []) (subst (IsPermutation (epoch_shown max ∷ [])) (sym (rows h.columns h.kept)) (IsPermutation-refl _)) in
       let it : e ≡ max = cc in
-      it ∙ epochs_told h.columns sets h.same
+      it ∙ epochs_told h.columns sets h.same)

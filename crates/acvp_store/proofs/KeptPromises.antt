@@ -218,18 +218,6 @@ module _ {S : Type 0} (g : Ghosts S) (a m b : Held S) (change : Content → Cont
     unsettled = tt;
   }
 
-  pub read_failed : {X Y : Type 0} (e f : StoreFault) → Reads may_fail (meaning_of g) {X = X} (Err e) a m → Changes may_fail (meaning_of g) {X = Y} (Err f) a m change
-  read_failed e f prior = record {
-    fault = tt;
-    was_open = prior.was_open;
-    was_clean = prior.was_clean;
-    stays_open = tt;
-    ok = tt;
-    err = prior.same;
-    settled = tt;
-    unsettled = λ clean live c sound st. prior.left clean live c (change c) st;
-  }
-
 -- ---- one table after another
 
 pub accounts_altered : (change : List AccountRow → List AccountRow) (layout : Layout) (d e : Database) → Alters layout account_tree HoldsAccounts change d e → (c : Content) → Stands layout d.trees c → Stands layout e.trees (record c { accounts = change c.accounts })

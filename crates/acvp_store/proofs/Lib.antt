@@ -18,7 +18,7 @@ pub mod Effects
 pub mod Entries
 pub mod FoundRow
 pub mod Told
-pub mod OrderedColumn
+pub mod OrderedRows
 pub mod AccountRows
 pub mod SessionRows
 pub mod ObjectRows
@@ -47,7 +47,6 @@ pub mod ObjectRanges
 pub mod RegisteredObject
 pub mod Sound
 pub mod KeptPromises
-pub mod OrderedPages
 pub mod RowLists
 pub mod Owned
 pub mod AccountPages

@@ -27,7 +27,7 @@ use Rattle.acvp_store.proofs.AccountPages.{test_range, most}
 use Rattle.acvp_store.proofs.RowLists.{all_taken, all_dropped}
 use Rattle.acvp_store.proofs.ObjectRows.{is_it, neither, none_fits}
 use Rattle.acvp_store.proofs.Owned.{last_number, in_range, range_drops, rising_dropped, object_numbers, object_selection}
-use Rattle.acvp_store.proofs.OrderedPages.{paged, capped_page}
+use Rattle.acvp_store.proofs.OrderedRows.{paged, capped_page}
 use Rattle.acvp_store.proofs.QueryForms.{equals, within}
 use Rattle.acvp_store.proofs.Readings.{ObjectAt, ObjectPage, answers, object_terms, reading_text}
 use Rattle.acvp_store.proofs.Parts.{both_true}

@@ -43,7 +43,7 @@ use Rattle.acvp_store.proofs.EntryRanges.{shown_exactly, entries_hold, each_entr
 use Rattle.acvp_store.proofs.QueryForms.{equals, first_where, not_between, within as within_terms}
 use Rattle.acvp_store.proofs.Readings.{ObjectOutside, ObjectRange, answers, object_terms, reading_text}
 use Rattle.acvp_store.proofs.QueryRows.{selected_in_order}
-use Rattle.acvp_store.proofs.RangeColumns.{left_true, not_longer}
+use Rattle.acvp_store.proofs.RangeColumns.{left_true, not_longer, obeyed, typed_at}
 use Rattle.acvp_store.proofs.RangeOutside.{is_outside, none_passing, first_told, only_true, test_outside}
 use Rattle.acvp_store.proofs.RangeRows.{test_between, right_true, all_passed, within_last}
 use Rattle.acvp_store.proofs.RangeStrays.{stray_of, stray_same}
@@ -68,18 +68,15 @@ IsObjectTyped row = (are_typed None 0 (object_table 5).columns (drop 1 row) ≡ 
 
 pub objects_typed : (layout : Layout) (db : Database) → db.schema ≡ schema_of layout → IsDatabase db → AllByRecursion IsObjectTyped (db.trees object_tree)
 objects_typed layout db schema sound =
-    let it : IsSound (schema_of layout) db.trees = subst (λ s. IsSound s db.trees) schema sound in
-    all_both (λ row. passes Datatype (schema_of layout) db.trees (object_table 5) row ≡ true) (λ row. passes NotNull (schema_of layout) db.trees (object_table 5) row ≡ true) IsObjectTyped (λ row is there. (left_true _ _ is, there)) (db.trees object_tree)
-    (it.obeys.rules Datatype).1.1.1.1.0 (it.obeys.rules NotNull).1.1.1.1.0
+    all_both (λ row. are_typed None 0 (object_table 5).columns (drop 1 row) ≡ true)
+    (λ row. passes NotNull (schema_of layout) db.trees (object_table 5) row ≡ true) IsObjectTyped
+    (λ row is there. (is, there)) (db.trees object_tree) (typed_at layout db schema sound 4 (object_table 5) refl)
+    (obeyed layout db schema sound 4 (object_table 5) refl NotNull)
 
 object_is : (row : Row) (o : ObjectRow) → IsObjectTyped row → columns_of_object row ≡ object_columns o → row ≡ column row 0 ∷ object_columns o
-object_is [] o typed is = absurd (cc)
-object_is (a ∷ []) o typed is = absurd (cc)
-object_is (a ∷ b ∷ []) o typed is = absurd (cc)
-object_is (a ∷ b ∷ c ∷ []) o typed is = absurd (cc)
-object_is (a ∷ b ∷ c ∷ d ∷ []) o typed is = absurd (cc)
 object_is (a ∷ b ∷ c ∷ d ∷ e ∷ []) o typed is = ap (λ cs. a ∷ cs) is
 object_is (a ∷ b ∷ c ∷ d ∷ e ∷ g ∷ row) o typed is = absurd (let few = not_longer None 0 (object_table 5).columns (b ∷ c ∷ d ∷ e ∷ g ∷ row) typed.0 in omega (arith, few))
+object_is _ o typed is = absurd (cc)
 
 -- ---- the rows of a range stand for what is read of them
 
@@ -164,15 +161,10 @@ abbrev pub is_elsewhere : Row → Bool
 is_elsewhere row = is_outside 1 3 (column row 1) || is_outside 1000000 9999999999 (column row 2)
 
 of_either : (a b : Option Bool) → is_true (from_truth (or3 a b)) ≡ (unwrap_or a false || unwrap_or b false)
-of_either None None = refl
 of_either None (Some true) = refl
-of_either None (Some false) = refl
-of_either (Some true) None = refl
 of_either (Some true) (Some true) = refl
-of_either (Some true) (Some false) = refl
-of_either (Some false) None = refl
 of_either (Some false) (Some true) = refl
-of_either (Some false) (Some false) = refl
+of_either _ _ = refl
 
 either_true : (a b : Value) → is_true (binary Or a b) ≡ (is_true a || is_true b)
 unfolding binary

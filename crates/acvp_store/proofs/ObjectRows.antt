@@ -33,7 +33,7 @@ is_it kind n o = is_kind o.object.kind kind && (o.number == n)
 abbrev owner_shown : ℕ → Row
 owner_shown account = whole account ∷ []
 
-abbrev owners : Kind → ℕ → List ObjectRow → List ℕ
+abbrev pub owners : Kind → ℕ → List ObjectRow → List ℕ
 owners kind n objects = map (λ o. o.account) (filter (is_it kind n) objects)
 
 pub neither : (b : Bool) → (b && false) ≡ false
@@ -74,17 +74,9 @@ owner_rows layout kind n k fits large old new rows schema shown objects h fit = 
       rw (none_fits kind n objects high fit) (rw (none_passes h.entries) at found)
 ]
 
-first_owner : (kind : Kind) (n : ℕ) (objects : List ObjectRow) → slice_get (owners kind n objects) 0 ≡ option_map (λ (o : ObjectRow). o.account) (object_at kind n objects)
+pub first_owner : (kind : Kind) (n : ℕ) (objects : List ObjectRow) → slice_get (owners kind n objects) 0 ≡ option_map (λ (o : ObjectRow). o.account) (object_at kind n objects)
 first_owner kind n [] = refl
 first_owner kind n (o ∷ objects) = elim (cases_Bool (is_it kind n o)) [
   | inl same ↦ rw same refl
   | inr apart ↦ rw apart (first_owner kind n objects)
 ]
-
-pub find_owned : {X E F : Type 0} (kind : Kind) (n : ℕ) (table : List Row) (outcome : Result X E) (rows_in : X → List Row) (result : Result (Option ℕ) F) → (IsOk result → IsOk outcome)
-    → IfOk result (λ found. IfOk outcome (λ x. (list : List ℕ) → IsPermutation (map owner_shown list) (rows_in x) → found ≡ slice_get list 0))
-    → IfOk outcome (λ x. (objects : List ObjectRow) → HoldsObjects table objects → FitColumns objects → IsPermutation (map owner_shown (owners kind n objects)) (rows_in x))
-    → IfOk result (λ found. (objects : List ObjectRow) → HoldsObjects table objects → FitColumns objects → found ≡ option_map (λ (o : ObjectRow). o.account) (object_at kind n objects))
-find_owned kind n table outcome rows_in (Err f) ok found rows = tt
-find_owned kind n table (Err e) rows_in (Ok r) ok found rows = absurd (let impossible = ok refl in cc)
-find_owned kind n table (Ok x) rows_in (Ok r) ok found rows = λ objects h fit. found (owners kind n objects) (rows objects h fit) ∙ first_owner kind n objects

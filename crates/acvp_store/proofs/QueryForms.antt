@@ -9,6 +9,7 @@ use Rattle.sqlite_sql.specs.declared.ops.UnaryOp.TheVariants.{Not}
 use Rattle.sqlite_sql.specs.declared.ops.BinaryOp.TheVariants.{And, Compare}
 use Rattle.sqlite_sql.specs.declared.ops.CompareOp.TheVariants.{Eq, Le, Ge}
 use Rattle.sqlite_value.specs.Keys.{ascending}
+use Rattle.sqlite_value.specs.declared.keys.Key.{Key}
 
 -- ---- terms
 
@@ -48,21 +49,25 @@ collated collations tree terms project = record {
 abbrev pub simple : ℕ → List Term → List Term → Query
 simple = collated []
 
--- the same in the order of a column
+-- the same in an order, with a LIMIT
+abbrev pub sorted_by : List (Term × Key) → Term → ℕ → List Term → List Term → Query
+sorted_by order limit tree terms project = record (simple tree terms project) { order = order; limit = limit }
+
+-- in the order of a column
 abbrev pub ordered_by : ℕ → ℕ → List Term → List Term → Query
-ordered_by at tree terms project =
-    record (simple tree terms project) { order = (col 1 at, ascending Binary) ∷ [] }
+ordered_by at = sorted_by ((col 1 at, ascending Binary) ∷ []) (lit (Int (negsuc 0)))
 
 -- the same, with LIMIT ?3
 abbrev pub paging : ℕ → List Term → List Term → ℕ → Query
-paging tree terms project place = record (ordered_by place tree terms project) { limit = col 0 2 }
+paging tree terms project place = sorted_by ((col 1 place, ascending Binary) ∷ []) (col 0 2) tree terms project
+
+abbrev pub descending : Key
+descending = record { collation = Binary; descending = true }
 
 -- SELECT the column FROM the table in the tree WHERE terms ORDER BY the column DESC LIMIT 1
 abbrev pub newest : ℕ → List Term → ℕ → Query
-newest tree terms place = record (simple tree terms (col 1 place ∷ [])) {
-  order = (col 1 place, record { collation = Binary; descending = true }) ∷ [];
-  limit = lit (Int (pos 1));
-}
+newest tree terms place =
+    sorted_by ((col 1 place, descending) ∷ []) (lit (Int (pos 1))) tree terms (col 1 place ∷ [])
 
 -- SELECT the column at a place FROM the table in the tree WHERE the term LIMIT 1
 abbrev pub first_where : ℕ → ℕ → Term → Query

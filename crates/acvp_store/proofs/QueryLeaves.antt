@@ -1,5 +1,5 @@
 -- What a query leaves, whatever its text.
-use Rattle.std.proofs.Common.{◌≡◌, ◌≤◌, inl, inr, ℕ, List, Bool, true, false, Option, None, Some, Ok, Err, Result, IsTrue, IfOk, IfErr, refl, sym, subst, ◌∙◌, arith}
+use Rattle.std.proofs.Common.{◌≡◌, ◌≤◌, inl, inr, ℕ, List, Bool, true, false, Option, None, Some, Ok, Err, Result, IsTrue, IfOk, IfErr, IsOk, refl, sym, subst, ◌∙◌, arith}
 use Rattle.sqlite.specs.Order.{Row}
 use Rattle.sqlite.specs.declared.error.Error.{Error}
 use Rattle.sqlite_trees.specs.View.{doubt}
@@ -51,6 +51,12 @@ pub unchanged_shown : (sql : List ℕ) (params : Row) (old new : State) (rows : 
 unfolding Shown
 unchanged_shown sql params old new rows is h = (subst (ShowsRows old new sql h.0 (timed params h.0.formats h.1.now) rows) (silent old.now.schema sql h.0 is h.1.is) h.2).3
 
+-- what is made of a query's answer was read as the query was
+pub read_as : {X Y E F : Type 0} (r : Result X E) (q : Result Y F) (old new : State) → (IsOk q → IsOk r) → IsRead r old new → IsRead q old new
+read_as (Ok x) (Ok y) old new same h = record { stays = h.stays; was_clean = h.was_clean; stays_open = h.stays_open; limit = h.limit; left = h.left }
+read_as (Err e) (Ok y) old new same h = absurd (let impossible = same refl in cc)
+read_as r (Err f) old new same h = record { stays = h.stays; was_clean = h.was_clean; stays_open = tt; limit = h.limit; left = h.left }
+
 -- what `query_all` ensures, of a text that is a SELECT
 module _ (sql : List ℕ) (params : Row) (old new : State) (law : new.is_clean ≡ false → new.is_open ≡ false) (ready : IsReady old) (is : asks (first sql) ≡ true)
     (kept : Survives old new (CommitsShowing sql params old)) where
@@ -67,7 +73,7 @@ module _ (sql : List ℕ) (params : Row) (old new : State) (law : new.is_clean �
     | inr commits ↦ absurd (commits_nothing sql params old db is commits)
   ]
 
-  pub read : {X : Type 0} (result : Result X Error) (rows_of : X → List Row) → (HasCleanDisk new → IfOk result (λ x. Shown sql params old new (rows_of x)))
+  read : {X : Type 0} (result : Result X Error) (rows_of : X → List Row) → (HasCleanDisk new → IfOk result (λ x. Shown sql params old new (rows_of x)))
       → (HasCleanDisk new → IfErr result (FailsToQuery sql params old new)) → IsRead result old new
   read (Ok x) rows_of ok err = record {
     stays = later (λ clean. same_unchanged old new ready (unchanged_shown sql params old new (rows_of x) is (ok clean)));
@@ -83,3 +89,10 @@ module _ (sql : List ℕ) (params : Row) (old new : State) (law : new.is_clean �
     limit = kept.limit;
     left = left;
   }
+
+  -- and so is what is made of its answer
+  pub reads : {X Y F : Type 0} (result : Result X Error) (rows_of : X → List Row)
+      → (HasCleanDisk new → IfOk result (λ x. Shown sql params old new (rows_of x)))
+      → (HasCleanDisk new → IfErr result (FailsToQuery sql params old new))
+      → (told : Result Y F) → (IsOk told → IsOk result) → IsRead told old new
+  reads result rows_of ok err told same = read_as result told old new same (read result rows_of ok err)

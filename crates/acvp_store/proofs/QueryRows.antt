@@ -29,6 +29,7 @@ use Rattle.acvp_store.proofs.Parts.{and_true}
 use Rattle.acvp_store.proofs.SelectedRows.{matched, truth_back, selected}
 use Rattle.acvp_store.proofs.QueryForms.{ordered_by}
 use Rattle.acvp_store.proofs.Versions.{map_same, test_whole}
+use Rattle.acvp_store.proofs.Told.{told_through}
 
 -- ---- what SQL's operators say of any value
 
@@ -90,11 +91,9 @@ module _ {T : Type 0} (meets : Row → Bool) (columns : Row → Row) (shown : T 
     pub met : {X B Z E F G : Type 0} (table : List Row) (rows_in : X → List Row) (items : B → List T) (outcome : Result X E) (found : Result B F) (result : Result Z G) → (IsOk found → IsOk outcome) → (IsOk result → IsOk found)
         → IfOk found (λ b. IfOk outcome (λ x. AreShown Known shown (rows_in x) (items b))) → IfOk result (λ z. IfOk found (λ b. AllByRecursion Good (items b)))
         → IfOk outcome (λ x. IsPermutation (map columns (filter meets table)) (rows_in x)) → IfOk result (λ z. AreMet meets columns shown Good table)
-    met table rows_in items outcome found (Err g) ok_found ok_result shows good rows = tt
-    met table rows_in items outcome (Err f) (Ok z) ok_found ok_result shows good rows = absurd (let impossible = ok_result refl in cc)
-    met table rows_in items (Err e) (Ok b) (Ok z) ok_found ok_result shows good rows = absurd (let impossible = ok_found refl in cc)
-    met table rows_in items (Ok x) (Ok b) (Ok z) ok_found ok_result shows good rows =
-        each_met (filter meets table) (all-permutation IsRead (rows_in x) (map columns (filter meets table)) (IsPermutation-sym _ _ rows) (each_read (rows_in x) (items b) shows good))
+    met table rows_in items outcome found result ok_found ok_result =
+        told_through outcome found result ok_found ok_result _ _ _ _ (λ x b z shows good rows.
+        each_met (filter meets table) (all-permutation IsRead (rows_in x) (map columns (filter meets table)) (IsPermutation-sym _ _ rows) (each_read (rows_in x) (items b) shows good)))
 
   all_known : (rows : List Row) (found : List T) → AreShown Known shown rows found → AllByRecursion Known found
   all_known [] [] shows = tt

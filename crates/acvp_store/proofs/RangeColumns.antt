@@ -1,9 +1,12 @@
 -- Rows of the tables, whatever they are, by the columns that are read of them: what the schema says of the others.
-use Rattle.std.proofs.Common.{◌≡◌, ◌+◌, ℕ, ℤ, List, [], ◌∷◌, map, ◌≤◌, length, Bool, true, false, Option, Some, refl, ap, subst, ◌∙◌, arith}
+use Rattle.sqlite.specs.Tree.{Trees}
+use Rattle.sqlite.specs.Term.{Term, eval_all}
+use Rattle.sqlite.specs.Table.{Table}
+use Rattle.std.proofs.Common.{◌≡◌, ◌+◌, ℕ, ℤ, List, [], ◌∷◌, map, ◌≤◌, length, Bool, true, false, Option, Some, refl, ap, subst, ◌∙◌, arith, slice_get}
 use Rattle.std.specs.Prelude.{◌&&◌, if◌then◌else◌, drop}
 use Rattle.std.specs.List.{AllByRecursion, filter}
 use Rattle.std.specs.List.Sorted.{IsPermutation}
-use Rattle.sqlite_trees.proofs.ListLemmas.{all_weaker, all_both}
+use Rattle.sqlite_trees.proofs.ListLemmas.{all_weaker, all_both, all-slice_get}
 use Rattle.sqlite.specs.declared.types.Value.{Value}
 use Rattle.sqlite.specs.declared.types.Value.TheVariants.{Null}
 use Rattle.sqlite.specs.Effect.{Database, IsDatabase}
@@ -16,6 +19,7 @@ use Rattle.sqlite_catalog.specs.Listing.{IsSound}
 use Rattle.sqlite_schema.specs.Names.{is_key}
 use Rattle.sqlite_schema.specs.Rules.{are_typed, passes, suits}
 use Rattle.sqlite_schema.specs.declared.schema.Column.{Column}
+use Rattle.sqlite_schema.specs.declared.schema.Constraint.{Constraint}
 use Rattle.sqlite_schema.specs.declared.schema.Constraint.TheVariants.{Datatype}
 use Rattle.sqlite_sql.specs.Ops.{is_null}
 use Rattle.acvp_tables.specs.declared.rows.AccountRow.{AccountRow}
@@ -29,8 +33,8 @@ use Rattle.acvp_store.specs.Private.Requests.{request_shown}
 use Rattle.acvp_store.specs.Stands.{request_tree, request_row}
 use Rattle.acvp_tables.specs.declared.rows.RequestRow.{RequestRow}
 use Rattle.acvp_store.specs.Private.Shown.{BeginsWith, AreLedBy}
-use Rattle.acvp_store.proofs.QueryForms.{outside, within}
-use Rattle.acvp_store.proofs.Readings.{AccountOutside, AccountRange, RequestOutside, RequestRange, SessionOutside, SessionRange, account_terms, answers, reading_text, request_terms, session_terms}
+use Rattle.acvp_store.proofs.QueryForms.{ordered_by, outside, within}
+use Rattle.acvp_store.proofs.Readings.{AccountRange, Reading, RequestRange, SessionRange, account_terms, answers_as, reading_query, reading_text, request_terms, session_terms}
 use Rattle.acvp_store.proofs.QueryRows.{selected_in_order}
 use Rattle.acvp_store.proofs.RangeOutside.{is_outside, none_outside, number_told}
 use Rattle.acvp_store.proofs.RangeRows.{test_between, in_tree_order}
@@ -63,44 +67,99 @@ abbrev pub with_null : Row → Row
 with_null [] = []
 with_null (v ∷ row) = v ∷ Null ∷ row
 
+-- ---- what the schema says of a table's rows
+
+module _ (layout : Layout) (db : Database) (schema : db.schema ≡ schema_of layout) (sound : IsDatabase db) (at : ℕ)
+    (table : Table) (is_at : slice_get (schema_of layout).tables at ≡ Some table) where
+  pub obeyed : (rule : Constraint)
+      → AllByRecursion (λ row. passes rule (schema_of layout) db.trees table row ≡ true) (db.trees table.tree)
+  obeyed rule =
+      let it : IsSound (schema_of layout) db.trees = subst (λ s. IsSound s db.trees) schema sound in
+      all-slice_get (λ t. AllByRecursion (λ row. passes rule (schema_of layout) db.trees t row ≡ true) (db.trees t.tree))
+      (schema_of layout).tables at table is_at (it.obeys.rules rule)
+
+  pub typed_at : AllByRecursion (λ row. are_typed table.key 0 table.columns (drop 1 row) ≡ true) (db.trees table.tree)
+  typed_at =
+      all_weaker (λ row. passes Datatype (schema_of layout) db.trees table row ≡ true)
+      (λ row. are_typed table.key 0 table.columns (drop 1 row) ≡ true) (λ row is. left_true _ _ is)
+      (db.trees table.tree) (obeyed Datatype)
+
+-- ---- what a query in a range of numbers meets
+
+module _ (r : Reading) (layout : Layout) (tree : ℕ) (columns : Row → Row) where
+  abbrev pub Meets : Type 1
+  Meets =
+      (f l : ℕ) (old new : State) (rows : List Row) → old.now.schema ≡ schema_of layout
+      → Shown (reading_text r) (whole f ∷ whole l ∷ []) old new rows
+      → IsPermutation (map columns (filter (is_between f l) (old.now.trees tree))) rows
+
+  -- it shows them as they lie
+  abbrev pub Orders : Type 1
+  Orders =
+      (f l : ℕ) (old new : State) (rows : List Row) → old.now.schema ≡ schema_of layout
+      → Shown (reading_text r) (whole f ∷ whole l ∷ []) old new rows
+      → IsTree (old.now.trees tree) → rows ≡ map columns (filter (is_between f l) (old.now.trees tree))
+
+  module _ (project : List Term) (is : reading_query r layout ≡ ordered_by 0 tree (within 0) project)
+      (seen : (trees : Trees) → overlay trees [] tree ≡ trees tree)
+      (shows : (params row : Row) → eval_all project (params ∷ row ∷ []) ≡ columns row) where
+    pub range_met : Meets
+    range_met f l old new rows schema h =
+        let params = whole f ∷ whole l ∷ [] in
+        selected_in_order params (λ (r : Row). r) (is_between f l) (within 0) (λ r. test_between (column r 0) f l) 0 tree
+        project columns (shows params) (overlay old.now.trees []) (old.now.trees tree) rows
+        (seen old.now.trees ∙ map_same _) (answers_as r layout params old new rows schema h _ is)
+
+    pub range_in_order : Orders
+    range_in_order f l old new rows schema h lies =
+        let params = whole f ∷ whole l ∷ [] in
+        in_tree_order params (is_between f l) (within 0) (λ r. test_between (column r 0) f l) tree project columns
+        (shows params) (overlay old.now.trees []) (old.now.trees tree) rows (seen old.now.trees ∙ map_same _) lies.0
+        (answers_as r layout params old new rows schema h _ is)
+
+-- the rows outside
+module _ (r : Reading) (layout : Layout) (tree f l : ℕ) (is : reading_query r layout ≡ outside tree f l)
+    (seen : (trees : Trees) → overlay trees [] tree ≡ trees tree) (old new : State) (rows : List Row)
+    (schema : old.now.schema ≡ schema_of layout) (h : Shown (reading_text r) [] old new rows) where
+  answer : IsAnswer (outside tree f l) (overlay old.now.trees []) [] rows
+  answer = answers_as r layout [] old new rows schema h _ is
+
+  has : overlay old.now.trees [] tree ≡ map (λ (row : Row). row) (old.now.trees tree)
+  has = seen old.now.trees ∙ map_same _
+
+  pub outside_none : rows ≡ [] → filter (λ row. is_outside f l (column row 0)) (old.now.trees tree) ≡ []
+  outside_none = none_outside tree f l (overlay old.now.trees []) (old.now.trees tree) rows has answer
+
+  pub outside_told : (number : ℤ) → AreLedBy number rows
+      → HasRowOutside (λ row. is_between f l row ≡ true) 0 number (old.now.trees tree)
+  outside_told = number_told tree f l (overlay old.now.trees []) (old.now.trees tree) rows has answer
+
 -- ---- sessions
 
 abbrev pub IsSessionTyped : Row → Type 0
 IsSessionTyped row = are_typed (Some 0) 0 (session_table 3).columns (drop 1 row) ≡ true
 
 -- the rows that an open connection has
-pub sessions_typed : (layout : Layout) (db : Database) → db.schema ≡ schema_of layout → IsDatabase db → AllByRecursion IsSessionTyped (db.trees session_tree)
-sessions_typed layout db schema sound =
-    let it : IsSound (schema_of layout) db.trees = subst (λ s. IsSound s db.trees) schema sound in
-    all_weaker (λ row. passes Datatype (schema_of layout) db.trees (session_table 3) row ≡ true) IsSessionTyped (λ row is. left_true _ _ is) (db.trees session_tree) (it.obeys.rules Datatype).1.1.0
+pub sessions_typed : (layout : Layout) (db : Database) → db.schema ≡ schema_of layout → IsDatabase db
+    → AllByRecursion IsSessionTyped (db.trees session_tree)
+sessions_typed layout db schema sound = typed_at layout db schema sound 2 (session_table 3) refl
 
-pub session_is : (row : Row) (s : SessionRow) → IsSessionTyped row → BeginsWith (session_shown s) (session_columns row) → row ≡ session_row s
-session_is [] s typed is = absurd (cc)
-session_is (a ∷ []) s typed is = absurd (cc)
-session_is (a ∷ k ∷ []) s typed is = absurd (cc)
-session_is (a ∷ k ∷ b ∷ []) s typed is = absurd (cc)
-session_is (a ∷ k ∷ b ∷ c ∷ []) s typed is = absurd (cc)
-session_is (a ∷ k ∷ b ∷ c ∷ d ∷ []) s typed is = absurd (cc)
-session_is (a ∷ k ∷ b ∷ c ∷ d ∷ e ∷ []) s typed is = absurd (cc)
-session_is (a ∷ k ∷ b ∷ c ∷ d ∷ e ∷ f ∷ []) s typed is = absurd (cc)
-session_is (a ∷ k ∷ b ∷ c ∷ d ∷ e ∷ f ∷ g ∷ []) s typed is = absurd (cc)
-session_is (a ∷ k ∷ b ∷ c ∷ d ∷ e ∷ f ∷ g ∷ h ∷ []) s typed is = ap (λ v. a ∷ v ∷ b ∷ c ∷ d ∷ e ∷ f ∷ g ∷ h ∷ []) (null_is k (left_true _ _ typed)) ∙ ap with_null is
+pub session_is : (row : Row) (s : SessionRow) → IsSessionTyped row → BeginsWith (session_shown s) (session_columns row)
+    → row ≡ session_row s
+session_is (a ∷ k ∷ b ∷ c ∷ d ∷ e ∷ f ∷ g ∷ h ∷ []) s typed is =
+    ap (λ v. a ∷ v ∷ b ∷ c ∷ d ∷ e ∷ f ∷ g ∷ h ∷ []) (null_is k (left_true _ _ typed)) ∙ ap with_null is
 session_is (a ∷ k ∷ b ∷ c ∷ d ∷ e ∷ f ∷ g ∷ h ∷ i ∷ row) s typed is =
-    absurd (let few = not_longer (Some 0) 0 (session_table 3).columns (k ∷ b ∷ c ∷ d ∷ e ∷ f ∷ g ∷ h ∷ i ∷ row) typed in omega (arith, few))
+    let few = not_longer (Some 0) 0 (session_table 3).columns (k ∷ b ∷ c ∷ d ∷ e ∷ f ∷ g ∷ h ∷ i ∷ row) typed in
+    absurd (omega (arith, few))
+session_is _ s typed is = absurd (cc)
 
-module _ (layout : Layout) (f l : ℕ) (old new : State) (rows : List Row) (schema : old.now.schema ≡ schema_of layout) (h : Shown (reading_text SessionRange) (whole f ∷ whole l ∷ []) old new rows) where
-  abbrev params : Row
-  params = whole f ∷ whole l ∷ []
+pub sessions_met : (layout : Layout) → Meets SessionRange layout session_tree session_columns
+sessions_met layout =
+    range_met SessionRange layout session_tree session_columns session_terms refl (λ trees. refl) (λ params row. refl)
 
-  pub sessions_met : IsPermutation (map session_columns (filter (is_between f l) (old.now.trees session_tree))) rows
-  sessions_met =
-      selected_in_order params (λ (r : Row). r) (is_between f l) (within 0) (λ r. test_between (column r 0) f l) 0 session_tree session_terms session_columns (λ r. refl) (overlay old.now.trees []) (old.now.trees session_tree) rows (map_same _)
-      (answers SessionRange layout params old new rows schema h)
-
-  pub sessions_in_order : IsTree (old.now.trees session_tree) → rows ≡ map session_columns (filter (is_between f l) (old.now.trees session_tree))
-  sessions_in_order tree =
-      in_tree_order params (is_between f l) (within 0) (λ r. test_between (column r 0) f l) session_tree session_terms session_columns (λ r. refl) (overlay old.now.trees []) (old.now.trees session_tree) rows (map_same _) tree.0
-      (answers SessionRange layout params old new rows schema h)
+pub sessions_in_order : (layout : Layout) → Orders SessionRange layout session_tree session_columns
+sessions_in_order layout =
+    range_in_order SessionRange layout session_tree session_columns session_terms refl (λ trees. refl) (λ params row. refl)
 
 -- ---- accounts
 
@@ -108,33 +167,26 @@ module _ (layout : Layout) (f l : ℕ) (old new : State) (rows : List Row) (sche
 abbrev pub IsAccountTyped : Row → Type 0
 IsAccountTyped row = (are_typed (Some 0) 0 (account_table 2).columns (drop 1 row) ≡ true) × (length row ≡ 5)
 
-pub accounts_typed : (layout : Layout) (db : Database) → db.schema ≡ schema_of layout → IsDatabase db → AreFull 5 (db.trees account_tree) → AllByRecursion IsAccountTyped (db.trees account_tree)
+pub accounts_typed : (layout : Layout) (db : Database) → db.schema ≡ schema_of layout → IsDatabase db
+    → AreFull 5 (db.trees account_tree) → AllByRecursion IsAccountTyped (db.trees account_tree)
 accounts_typed layout db schema sound full =
-    let it : IsSound (schema_of layout) db.trees = subst (λ s. IsSound s db.trees) schema sound in
-    all_both (λ row. passes Datatype (schema_of layout) db.trees (account_table 2) row ≡ true) (λ row. length row ≡ 5) IsAccountTyped (λ row is many. (left_true _ _ is, many)) (db.trees account_tree) (it.obeys.rules Datatype).1.0 full
+    all_both (λ row. are_typed (Some 0) 0 (account_table 2).columns (drop 1 row) ≡ true) (λ row. length row ≡ 5)
+    IsAccountTyped (λ row is many. (is, many)) (db.trees account_tree)
+    (typed_at layout db schema sound 1 (account_table 2) refl) full
 
-pub account_is : (row : Row) (a : AccountRow) → IsAccountTyped row → BeginsWith (account_shown a) (account_columns row) → row ≡ account_row a
-account_is [] a typed is = absurd (let n = typed.1 in omega (arith, n))
-account_is (r ∷ []) a typed is = absurd (let n = typed.1 in omega (arith, n))
-account_is (r ∷ k ∷ []) a typed is = absurd (let n = typed.1 in omega (arith, n))
-account_is (r ∷ k ∷ b ∷ []) a typed is = absurd (let n = typed.1 in omega (arith, n))
-account_is (r ∷ k ∷ b ∷ c ∷ []) a typed is = absurd (let n = typed.1 in omega (arith, n))
-account_is (r ∷ k ∷ b ∷ c ∷ d ∷ []) a typed is = ap (λ v. r ∷ v ∷ b ∷ c ∷ d ∷ []) (null_is k (left_true _ _ typed.0)) ∙ ap with_null is
-account_is (r ∷ k ∷ b ∷ c ∷ d ∷ e ∷ row) a typed is = absurd (let n = typed.1 in omega (arith, n))
+pub account_is : (row : Row) (a : AccountRow) → IsAccountTyped row → BeginsWith (account_shown a) (account_columns row)
+    → row ≡ account_row a
+account_is (r ∷ k ∷ b ∷ c ∷ d ∷ []) a typed is =
+    ap (λ v. r ∷ v ∷ b ∷ c ∷ d ∷ []) (null_is k (left_true _ _ typed.0)) ∙ ap with_null is
+account_is _ a typed is = absurd (let n = typed.1 in omega (arith, n))
 
-module _ (layout : Layout) (f l : ℕ) (old new : State) (rows : List Row) (schema : old.now.schema ≡ schema_of layout) (h : Shown (reading_text AccountRange) (whole f ∷ whole l ∷ []) old new rows) where
-  abbrev ends : Row
-  ends = whole f ∷ whole l ∷ []
+pub accounts_met : (layout : Layout) → Meets AccountRange layout account_tree account_columns
+accounts_met layout =
+    range_met AccountRange layout account_tree account_columns account_terms refl (λ trees. refl) (λ params row. refl)
 
-  pub accounts_met : IsPermutation (map account_columns (filter (is_between f l) (old.now.trees account_tree))) rows
-  accounts_met =
-      selected_in_order ends (λ (r : Row). r) (is_between f l) (within 0) (λ r. test_between (column r 0) f l) 0 account_tree account_terms account_columns (λ r. refl) (overlay old.now.trees []) (old.now.trees account_tree) rows (map_same _)
-      (answers AccountRange layout ends old new rows schema h)
-
-  pub accounts_in_order : IsTree (old.now.trees account_tree) → rows ≡ map account_columns (filter (is_between f l) (old.now.trees account_tree))
-  accounts_in_order tree =
-      in_tree_order ends (is_between f l) (within 0) (λ r. test_between (column r 0) f l) account_tree account_terms account_columns (λ r. refl) (overlay old.now.trees []) (old.now.trees account_tree) rows (map_same _) tree.0
-      (answers AccountRange layout ends old new rows schema h)
+pub accounts_in_order : (layout : Layout) → Orders AccountRange layout account_tree account_columns
+accounts_in_order layout =
+    range_in_order AccountRange layout account_tree account_columns account_terms refl (λ trees. refl) (λ params row. refl)
 
 -- ---- requests
 
@@ -142,64 +194,23 @@ module _ (layout : Layout) (f l : ℕ) (old new : State) (rows : List Row) (sche
 abbrev pub IsRequestTyped : Row → Type 0
 IsRequestTyped row = (are_typed (Some 0) 0 (request_table 7).columns (drop 1 row) ≡ true) × (length row ≡ 7)
 
-pub requests_typed : (layout : Layout) (db : Database) → db.schema ≡ schema_of layout → IsDatabase db → AreFull 7 (db.trees request_tree) → AllByRecursion IsRequestTyped (db.trees request_tree)
+pub requests_typed : (layout : Layout) (db : Database) → db.schema ≡ schema_of layout → IsDatabase db
+    → AreFull 7 (db.trees request_tree) → AllByRecursion IsRequestTyped (db.trees request_tree)
 requests_typed layout db schema sound full =
-    let it : IsSound (schema_of layout) db.trees = subst (λ s. IsSound s db.trees) schema sound in
-    all_both (λ row. passes Datatype (schema_of layout) db.trees (request_table 7) row ≡ true) (λ row. length row ≡ 7) IsRequestTyped (λ row is many. (left_true _ _ is, many)) (db.trees request_tree) (it.obeys.rules Datatype).1.1.1.1.1.0 full
+    all_both (λ row. are_typed (Some 0) 0 (request_table 7).columns (drop 1 row) ≡ true) (λ row. length row ≡ 7)
+    IsRequestTyped (λ row is many. (is, many)) (db.trees request_tree)
+    (typed_at layout db schema sound 5 (request_table 7) refl) full
 
-pub request_is : (row : Row) (r : RequestRow) → IsRequestTyped row → BeginsWith (request_shown r) (request_columns row) → row ≡ request_row r
-request_is [] r typed is = absurd (let n = typed.1 in omega (arith, n))
-request_is (a ∷ []) r typed is = absurd (let n = typed.1 in omega (arith, n))
-request_is (a ∷ k ∷ []) r typed is = absurd (let n = typed.1 in omega (arith, n))
-request_is (a ∷ k ∷ b ∷ []) r typed is = absurd (let n = typed.1 in omega (arith, n))
-request_is (a ∷ k ∷ b ∷ c ∷ []) r typed is = absurd (let n = typed.1 in omega (arith, n))
-request_is (a ∷ k ∷ b ∷ c ∷ d ∷ []) r typed is = absurd (let n = typed.1 in omega (arith, n))
-request_is (a ∷ k ∷ b ∷ c ∷ d ∷ e ∷ []) r typed is = absurd (let n = typed.1 in omega (arith, n))
-request_is (a ∷ k ∷ b ∷ c ∷ d ∷ e ∷ f ∷ []) r typed is = ap (λ v. a ∷ v ∷ b ∷ c ∷ d ∷ e ∷ f ∷ []) (null_is k (left_true _ _ typed.0)) ∙ ap with_null is
-request_is (a ∷ k ∷ b ∷ c ∷ d ∷ e ∷ f ∷ g ∷ row) r typed is = absurd (let n = typed.1 in omega (arith, n))
+pub request_is : (row : Row) (r : RequestRow) → IsRequestTyped row → BeginsWith (request_shown r) (request_columns row)
+    → row ≡ request_row r
+request_is (a ∷ k ∷ b ∷ c ∷ d ∷ e ∷ f ∷ []) r typed is =
+    ap (λ v. a ∷ v ∷ b ∷ c ∷ d ∷ e ∷ f ∷ []) (null_is k (left_true _ _ typed.0)) ∙ ap with_null is
+request_is _ r typed is = absurd (let n = typed.1 in omega (arith, n))
 
-module _ (layout : Layout) (f l : ℕ) (old new : State) (rows : List Row) (schema : old.now.schema ≡ schema_of layout) (h : Shown (reading_text RequestRange) (whole f ∷ whole l ∷ []) old new rows) where
-  abbrev limits : Row
-  limits = whole f ∷ whole l ∷ []
+pub requests_met : (layout : Layout) → Meets RequestRange layout request_tree request_columns
+requests_met layout =
+    range_met RequestRange layout request_tree request_columns request_terms refl (λ trees. refl) (λ params row. refl)
 
-  pub requests_met : IsPermutation (map request_columns (filter (is_between f l) (old.now.trees request_tree))) rows
-  requests_met =
-      selected_in_order limits (λ (r : Row). r) (is_between f l) (within 0) (λ r. test_between (column r 0) f l) 0 request_tree request_terms request_columns (λ r. refl) (overlay old.now.trees []) (old.now.trees request_tree) rows (map_same _)
-      (answers RequestRange layout limits old new rows schema h)
-
-  pub requests_in_order : IsTree (old.now.trees request_tree) → rows ≡ map request_columns (filter (is_between f l) (old.now.trees request_tree))
-  requests_in_order tree =
-      in_tree_order limits (is_between f l) (within 0) (λ r. test_between (column r 0) f l) request_tree request_terms request_columns (λ r. refl) (overlay old.now.trees []) (old.now.trees request_tree) rows (map_same _) tree.0
-      (answers RequestRange layout limits old new rows schema h)
-
--- ---- rows outside
-
-module _ (layout : Layout) (old new : State) (rows : List Row) (schema : old.now.schema ≡ schema_of layout) (h : Shown (reading_text SessionOutside) [] old new rows) where
-  outside_session_answer : IsAnswer (outside session_tree 1000000 9999999999) (overlay old.now.trees []) [] rows
-  outside_session_answer = answers SessionOutside layout [] old new rows schema h
-
-  pub sessions_outside : rows ≡ [] → filter (λ r. is_outside 1000000 9999999999 (column r 0)) (old.now.trees session_tree) ≡ []
-  sessions_outside = none_outside session_tree 1000000 9999999999 (overlay old.now.trees []) (old.now.trees session_tree) rows (map_same _) outside_session_answer
-
-  pub session_told : (number : ℤ) → AreLedBy number rows → HasRowOutside (λ row. is_between 1000000 9999999999 row ≡ true) 0 number (old.now.trees session_tree)
-  session_told = number_told session_tree 1000000 9999999999 (overlay old.now.trees []) (old.now.trees session_tree) rows (map_same _) outside_session_answer
-
-module _ (layout : Layout) (old new : State) (rows : List Row) (schema : old.now.schema ≡ schema_of layout) (h : Shown (reading_text AccountOutside) [] old new rows) where
-  outside_account_answer : IsAnswer (outside account_tree 1 9999) (overlay old.now.trees []) [] rows
-  outside_account_answer = answers AccountOutside layout [] old new rows schema h
-
-  pub accounts_outside : rows ≡ [] → filter (λ r. is_outside 1 9999 (column r 0)) (old.now.trees account_tree) ≡ []
-  accounts_outside = none_outside account_tree 1 9999 (overlay old.now.trees []) (old.now.trees account_tree) rows (map_same _) outside_account_answer
-
-  pub account_told : (number : ℤ) → AreLedBy number rows → HasRowOutside (λ row. is_between 1 9999 row ≡ true) 0 number (old.now.trees account_tree)
-  account_told = number_told account_tree 1 9999 (overlay old.now.trees []) (old.now.trees account_tree) rows (map_same _) outside_account_answer
-
-module _ (layout : Layout) (old new : State) (rows : List Row) (schema : old.now.schema ≡ schema_of layout) (h : Shown (reading_text RequestOutside) [] old new rows) where
-  outside_request_answer : IsAnswer (outside request_tree 1000000 9999999999) (overlay old.now.trees []) [] rows
-  outside_request_answer = answers RequestOutside layout [] old new rows schema h
-
-  pub requests_outside : rows ≡ [] → filter (λ r. is_outside 1000000 9999999999 (column r 0)) (old.now.trees request_tree) ≡ []
-  requests_outside = none_outside request_tree 1000000 9999999999 (overlay old.now.trees []) (old.now.trees request_tree) rows (map_same _) outside_request_answer
-
-  pub request_told : (number : ℤ) → AreLedBy number rows → HasRowOutside (λ row. is_between 1000000 9999999999 row ≡ true) 0 number (old.now.trees request_tree)
-  request_told = number_told request_tree 1000000 9999999999 (overlay old.now.trees []) (old.now.trees request_tree) rows (map_same _) outside_request_answer
+pub requests_in_order : (layout : Layout) → Orders RequestRange layout request_tree request_columns
+requests_in_order layout =
+    range_in_order RequestRange layout request_tree request_columns request_terms refl (λ trees. refl) (λ params row. refl)

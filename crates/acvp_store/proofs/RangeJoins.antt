@@ -77,25 +77,16 @@ module _ (f m l : ℕ) (low : f ≤ m + 1) (high : m ≤ l) where
   second_in _ good is = absurd (cc)
 
   other_in : (v : Value) → IsWhole v → between f m v ≡ false → between (m + 1) l v ≡ false → between f l v ≡ false
-  other_in Null good a b = absurd (cc)
   other_in (Int (pos n)) good a b = let c = sym (between_whole f m n) ∙ a in let d = sym (between_whole (m + 1) l n) ∙ b in between_whole f l n ∙ grind (arith, nat_tests, c, d)
   other_in (Int (negsuc n)) good a b = between_none f l n
-  other_in (Real x) good a b = absurd (cc)
-  other_in (Text t) good a b = absurd (cc)
-  other_in (Blob b) good c d = absurd (cc)
+  other_in _ good a b = absurd (cc)
 
   behind_in : (v w : Value) → IsWhole v → IsWhole w → between (m + 1) l v ≡ true → value_cmp v w ≡ Less → between f m w ≡ false
-  behind_in Null w good fine is less = absurd (cc)
   behind_in (Int (negsuc n)) w good fine is less = absurd (let e : false ≡ true = sym (between_none (m + 1) l n) ∙ is in cc)
-  behind_in (Real x) w good fine is less = absurd (cc)
-  behind_in (Text t) w good fine is less = absurd (cc)
-  behind_in (Blob b) w good fine is less = absurd (cc)
-  behind_in (Int (pos n)) Null good fine is less = absurd (cc)
   behind_in (Int (pos n)) (Int (negsuc k)) good fine is less = between_none f m k
   behind_in (Int (pos n)) (Int (pos k)) good fine is less = let at = sym (between_whole (m + 1) l n) ∙ is in let up = lower n k less in between_whole f m k ∙ grind (arith, nat_tests, at, up)
-  behind_in (Int (pos n)) (Real x) good fine is less = absurd (cc)
-  behind_in (Int (pos n)) (Text t) good fine is less = absurd (cc)
-  behind_in (Int (pos n)) (Blob b) good fine is less = absurd (cc)
+  behind_in (Int (pos n)) _ good fine is less = absurd (cc)
+  behind_in _ w good fine is less = absurd (cc)
 
   pub two_ranges : (rows : List Row) → IsTree rows → filter (is_between f l) rows ≡ filter (is_between f m) rows ++ filter (is_between (m + 1) l) rows
   two_ranges rows tree =
@@ -141,9 +132,6 @@ module _ {A : Type 0} (Holds : List Row → List A → Type 0) (key : A → ℕ)
 -- ---- a list that rises is the one that is kept
 
 module _ {A : Type 0} (key : A → ℕ) (stored : A → Row) (rowid_is : (a : A) → rowid (stored a) ≡ whole (key a)) where
-  abbrev Rises : List A → Type 0
-  Rises = IsAscending (λ a b. key a < key b)
-
   above : (a b : A) → key a < key b → value_cmp (rowid (stored a)) (rowid (stored b)) ≡ Less
   above a b low =
       subst (λ v. value_cmp v (rowid (stored b)) ≡ Less) (sym (rowid_is a)) (subst (λ v. value_cmp (whole (key a)) v ≡ Less) (sym (rowid_is b)) (value_cmp-Int (pos (key a)) (pos (key b)) ∙ grind (arith, nat_tests)))

@@ -133,32 +133,9 @@ within f l (Int n) good is = sure _ is
     sure false h = absurd (cc)
 within f l _ good is = absurd (cc)
 
-all_within : (f l : ℕ) (rows : List Row) → AllByRecursion (λ r. IsTrue (is_int (rowid r))) rows → filter (λ r. is_outside f l (rowid r)) rows ≡ [] → AllByRecursion (λ r. is_between f l r ≡ true) rows
+pub all_within : (f l : ℕ) (rows : List Row) → AllByRecursion (λ r. IsTrue (is_int (rowid r))) rows → filter (λ r. is_outside f l (rowid r)) rows ≡ [] → AllByRecursion (λ r. is_between f l r ≡ true) rows
 all_within f l [] good none = tt
 all_within f l (r ∷ rows) good none = elim (cases_Bool (is_outside f l (rowid r))) [
   | inl is ↦ absurd (let e = rw is at none in cc)
   | inr isnt ↦ (within f l (rowid r) good.0 isnt, all_within f l rows good.1 (rw isnt at none))
 ]
-
--- what a query for rows outside a range tells
-pub none_told : {X E F : Type 0} (f l : ℕ) (table : List Row) (outcome : Result X E) (rows_in : X → List Row) (result : Result (Option ℤ) F) → (IsOk result → IsOk outcome) → IfOk result (λ found. IfOk outcome (λ x. found ≡ None → rows_in x ≡ []))
-    → IfOk outcome (λ x. rows_in x ≡ [] → filter (λ r. is_outside f l (rowid r)) table ≡ []) → IfOk result (λ found. IsTree table → found ≡ None → AllByRecursion (λ row. is_between f l row ≡ true) table)
-none_told f l table outcome rows_in (Err e) ok none rows = tt
-none_told f l table (Err e) rows_in (Ok found) ok none rows = absurd (let impossible = ok refl in cc)
-none_told f l table (Ok x) rows_in (Ok found) ok none rows = λ tree is. all_within f l table tree.1 (rows (none is))
-
--- ---- any query for rows that aren't so
-
-module _ {X E F : Type 0} (p : Row → Bool) (table : List Row) (rows_in : X → List Row) (Within : Type 0) where
-  pub none_left_told : (outcome : Result X E) (result : Result (Option ℤ) F) → (IsOk result → IsOk outcome) → IfOk result (λ found. IfOk outcome (λ x. found ≡ None → rows_in x ≡ []))
-      → IfOk outcome (λ x. rows_in x ≡ [] → filter p table ≡ []) → (filter p table ≡ [] → Within) → IfOk result (λ found. found ≡ None → Within)
-  none_left_told outcome (Err e) ok none rows within = tt
-  none_left_told (Err e) (Ok found) ok none rows within = absurd (let impossible = ok refl in cc)
-  none_left_told (Ok x) (Ok found) ok none rows within = λ is. within (rows (none is))
-
--- what is told of the number that an answer begins with
-pub led_told : {X E F : Type 0} (Told : ℤ → Type 0) (rows_in : X → List Row) (outcome : Result X E) (result : Result (Option ℤ) F) → (IsOk result → IsOk outcome) → IfOk result (λ found. IfOk outcome (λ x. (number : ℤ) → found ≡ Some number → AreLedBy number (rows_in x)))
-    → IfOk outcome (λ x. (number : ℤ) → AreLedBy number (rows_in x) → Told number) → IfOk result (λ found. (number : ℤ) → found ≡ Some number → Told number)
-led_told Told rows_in outcome (Err e) ok some told = tt
-led_told Told rows_in (Err e) (Ok found) ok some told = absurd (let impossible = ok refl in cc)
-led_told Told rows_in (Ok x) (Ok found) ok some told = λ number is. told number (some number is)

@@ -1,5 +1,6 @@
 -- What is read of the rows in a range of numbers, whatever they are: the rows stand for it.
-use Rattle.std.proofs.Common.{◌≡◌, inl, inr, ◌<◌, ◌≤◌, ◌^◌, ℕ, pos, List, [], ◌∷◌, map, Bool, true, false, Ok, Err, Result, IfOk, IsOk, refl, sym, ap, ap₂, subst, ◌∙◌, arith, Less, Equal}
+use Rattle.std.proofs.lemmas.List.{map-id}
+use Rattle.std.proofs.Common.{◌≡◌, inl, inr, ◌<◌, ◌≤◌, ◌^◌, ℕ, pos, negsuc, List, [], ◌∷◌, map, Bool, true, false, Ok, Err, Result, IfOk, IsOk, refl, sym, ap, ap₂, subst, ◌∙◌, arith, Less, Equal}
 use Rattle.std.specs.Prelude.{◌&&◌, nat_lt, nat_le}
 use Rattle.std.specs.List.{AllByRecursion, filter, list_all}
 use Rattle.std.specs.List.Sorted.{IsPermutation}
@@ -9,11 +10,11 @@ use Rattle.std.proofs.lemmas.Bool.Decides.{nat_tests}
 use Rattle.std.proofs.lemmas.List.Sorted.{IsPermutation-refl}
 use Rattle.sqlite_trees.proofs.ListLemmas.{map-map, ascending-map, ascending_from_map, ascending_weaker, ascending-filter, all-filter, all_from_map, all_weaker}
 use Rattle.sqlite.specs.declared.types.Value.{Value}
-use Rattle.sqlite.specs.declared.types.Value.TheVariants.{Null}
+use Rattle.sqlite.specs.declared.types.Value.TheVariants.{Null, Int}
 use Rattle.sqlite.specs.Order.{Row, column}
 use Rattle.sqlite.specs.Ops.{is_true, binary}
 use Rattle.sqlite.specs.Collation.TheVariants.{Binary}
-use Rattle.sqlite.specs.Term.{Term, holds, eval_all}
+use Rattle.sqlite.specs.Term.{Term, col, lit, holds, eval_all}
 use Rattle.sqlite.specs.Query.{Query, IsAnswer, output, output_cmp, Output}
 use Rattle.sqlite.specs.Tree.{Trees, IsAscending, IsTable, rowid}
 use Rattle.sqlite_value.specs.Order.{value_cmp}
@@ -29,7 +30,10 @@ use Rattle.acvp_store.specs.Private.Shown.{BeginsWith, AreShown, is_at_least, is
 use Rattle.acvp_store.proofs.Parts.{both_true}
 use Rattle.acvp_store.proofs.QueryRows.{test_from, test_until}
 use Rattle.acvp_store.proofs.SelectedRows.{matched}
+use Rattle.acvp_store.proofs.OrderedRows.{sorted_rows}
 use Rattle.acvp_store.proofs.QueryForms.{ordered_by}
+use Rattle.sqlite_value.specs.Keys.{ascending}
+use Rattle.acvp_store.proofs.Told.{told}
 
 -- ---- BETWEEN
 
@@ -43,30 +47,23 @@ test_between v f l = both_true _ _ _ _ (test_from v f) (test_until v l) ∙ drop
 
 -- ---- the order of the tree
 
-module _ (params : Row) (p : Row → Bool) (terms : List Term) (tests : (r : Row) → list_all (holds (params ∷ r ∷ [])) terms ≡ p r) (tree : ℕ) (project : List Term) (columns : Row → Row) (shows : (r : Row) → eval_all project (params ∷ r ∷ []) ≡ columns r) where
-  abbrev q : Query
-  q = ordered_by 0 tree terms project
-
-  abbrev out : Row → Output
-  out r = (column r 0 ∷ [], columns r)
-
-  outputs : (rs : List Row) → map (output q) (map (λ r. params ∷ r ∷ []) rs) ≡ map out rs
-  outputs [] = refl
-  outputs (r ∷ rs) = λ i. (column r 0 ∷ [], shows r i) ∷ outputs rs i
-
-  below : (a b : Row) → value_cmp (rowid a) (rowid b) ≡ Less → output_cmp q (out a) (out b) ≡ Less
-  below a b low = ap (λ c. ordering_then c Equal) low
-
-  -- a query in the order of the numbers shows the rows as they lie
-  pub in_tree_order : (db : Trees) (all rows : List Row) → db tree ≡ map (λ (r : Row). r) all → IsTable all → IsAnswer q db params rows → rows ≡ map columns (filter p all)
-  in_tree_order db all rows has rise a =
-      let picked = filter p all in
-      let staged = a.grouped ∙ rw has (matched params (λ (r : Row). r) p terms tests all) in
-      let kept : a.kept ≡ map out picked = a.distinct ∙ ap (map (output q)) staged ∙ outputs picked in
-      let above = ascending-filter (λ (x y : Row). value_cmp (rowid x) (rowid y) ≡ Less) p all rise in
-      let strict = ascending-map (λ x y. output_cmp q x y ≡ Less) out picked (ascending_weaker (λ (x y : Row). value_cmp (rowid x) (rowid y) ≡ Less) (λ x y. output_cmp q (out x) (out y) ≡ Less) below picked above) in
-      let ordered = sorted_unique (output_cmp q) (output_cmp_total q) (map out picked) a.ordered strict (subst (λ k. IsPermutation k a.ordered) kept a.same) a.sorted in
-      a.shown ∙ rw ordered (map-map (λ (x : Output). x.1) out picked)
+-- a query in the order of the numbers shows the rows as they lie
+pub in_tree_order : (params : Row) (p : Row → Bool) (terms : List Term)
+    → ((r : Row) → list_all (holds (params ∷ r ∷ [])) terms ≡ p r) → (tree : ℕ) (project : List Term) (columns : Row → Row)
+    → ((r : Row) → eval_all project (params ∷ r ∷ []) ≡ columns r)
+    → (db : Trees) (all rows : List Row) → db tree ≡ map (λ (r : Row). r) all → IsTable all
+    → IsAnswer (ordered_by 0 tree terms project) db params rows → rows ≡ map columns (filter p all)
+in_tree_order params p terms tests tree project columns shows db all rows has rise a =
+    let out = λ (r : Row). let it : Output = (column r 0 ∷ [], columns r) in it in
+    let q = ordered_by 0 tree terms project in
+    let Before = λ (x y : Row). value_cmp (rowid x) (rowid y) ≡ Less in
+    let below = λ (x y : Row) (low : value_cmp (rowid x) (rowid y) ≡ Less).
+    let it : output_cmp q (out x) (out y) ≡ Less = ap (λ c. ordering_then c Equal) low in it in
+    let picked = filter p all in
+    sorted_rows params (λ (r : Row). r) p terms tests (λ (r : Row). r) ((col 1 0, ascending Binary) ∷ [])
+    (lit (Int (negsuc 0))) tree project out (λ r i. (column r 0 ∷ [], shows r i)) Before below db all picked rows has
+    (subst (λ xs. IsPermutation xs picked) (sym (map-id picked)) (IsPermutation-refl picked))
+    (ascending-filter Before p all rise) a ∙ map-map (λ (o : Output). o.1) out picked
 
 -- ---- numbers
 
@@ -139,14 +136,12 @@ module _ {A : Type 0} (key : A → ℕ) (stored shown : A → Row) (columns : Ro
     pub range_read : {X B E F : Type 0} (Good : A → Type 0) (table : List Row) (outcome : Result X E) (rows_in : X → List Row) (result : Result B F) (items : B → List A) → (IsOk result → IsOk outcome)
         → IfOk result (λ b. IfOk outcome (λ x. AreShown Good shown (rows_in x) (items b))) → AllByRecursion Typed table → IfOk outcome (λ x. IsTree table → rows_in x ≡ map columns (filter (is_between first last) table))
         → IfOk result (λ b. IsTree table → IsRange (AreKept key stored) key first last table (items b))
-    range_read Good table outcome rows_in (Err f) items ok shows typed rows = tt
-    range_read Good table (Err e) rows_in (Ok b) items ok shows typed rows = absurd (let impossible = ok refl in cc)
-    range_read Good table (Ok x) rows_in (Ok b) items ok shows typed rows = λ tree. range_holds Good table (items b) tree typed (subst (λ l. AreShown Good shown l (items b)) (rows tree) shows)
+    range_read Good table outcome rows_in result items ok shows typed =
+        told outcome result ok _ _ _ (λ x b shows rows tree. range_holds Good table (items b) tree typed (subst (λ l. AreShown Good shown l (items b)) (rows tree) shows)) shows
 
     -- the same where something else is given of the table
     pub range_given : {X B E F Given : Type 0} (Good : A → Type 0) (table : List Row) (outcome : Result X E) (rows_in : X → List Row) (result : Result B F) (items : B → List A) → (IsOk result → IsOk outcome)
         → IfOk result (λ b. IfOk outcome (λ x. AreShown Good shown (rows_in x) (items b))) → (Given → AllByRecursion Typed table) → IfOk outcome (λ x. IsTree table → rows_in x ≡ map columns (filter (is_between first last) table))
         → IfOk result (λ b. IsTree table → Given → IsRange (AreKept key stored) key first last table (items b))
-    range_given Good table outcome rows_in (Err f) items ok shows typed rows = tt
-    range_given Good table (Err e) rows_in (Ok b) items ok shows typed rows = absurd (let impossible = ok refl in cc)
-    range_given Good table (Ok x) rows_in (Ok b) items ok shows typed rows = λ tree given. range_holds Good table (items b) tree (typed given) (subst (λ l. AreShown Good shown l (items b)) (rows tree) shows)
+    range_given Good table outcome rows_in result items ok shows typed =
+        told outcome result ok _ _ _ (λ x b shows rows tree given. range_holds Good table (items b) tree (typed given) (subst (λ l. AreShown Good shown l (items b)) (rows tree) shows)) shows

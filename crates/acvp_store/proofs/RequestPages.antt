@@ -34,7 +34,7 @@ use Rattle.acvp_store.proofs.AccountPages.{test_range, most, page_params}
 use Rattle.acvp_store.proofs.Keyed.{keyed, keyed_same, find_is, none_fits, none_passes}
 use Rattle.acvp_store.proofs.RowLists.{all_taken, all_dropped}
 use Rattle.acvp_store.proofs.Owned.{last_number, in_range, range_drops, rising_dropped, request_numbers, request_selection}
-use Rattle.acvp_store.proofs.OrderedPages.{paged, capped_page}
+use Rattle.acvp_store.proofs.OrderedRows.{paged, capped_page}
 use Rattle.acvp_store.proofs.QueryForms.{within}
 use Rattle.acvp_store.proofs.Readings.{RequestAt, RequestPage, answers, reading_text, request_terms, summary_terms}
 use Rattle.acvp_store.proofs.Parts.{and_true}
@@ -104,14 +104,6 @@ request_found layout n k fits large old new rows schema shown c sound h =
 
 pub request_is_at : (n : ℕ) (requests : List RequestRow) → slice_get (keyed request_key n requests) 0 ≡ request_at n requests
 request_is_at n requests = sym (find_is request_key n requests)
-
--- what is told of the request that is found, without its object
-pub summary_told : {E F : Type 0} (Sound Held : Content → Type 0) (found : Result (Option RequestRow) E) (result : Result (Option RequestSummary) F) (picked : Content → Option RequestRow) → (IsOk result → IsOk found)
-    → IfOk result (λ told. IfOk found (λ row. told ≡ option_map request_summary row)) → IfOk found (λ row. (c : Content) → Sound c → Held c → row ≡ picked c)
-    → IfOk result (λ told. (c : Content) → Sound c → Held c → told ≡ option_map request_summary (picked c))
-summary_told Sound Held found (Err f) picked ok tells finds = tt
-summary_told Sound Held (Err e) (Ok told) picked ok tells finds = absurd (let impossible = ok refl in cc)
-summary_told Sound Held (Ok row) (Ok told) picked ok tells finds = λ c sound held. tells ∙ ap (option_map request_summary) (finds c sound held)
 
 -- ---- a page
 

@@ -28,12 +28,14 @@ use Rattle.acvp_store.proofs.ColumnNumbers.{is_whole, number_within, not_outside
 use Rattle.acvp_store.proofs.EntryRanges.{shown_exactly, entries_hold, each_entry, entries_joined, entries_tree, joined_all, IsNumbered}
 use Rattle.acvp_store.proofs.QueryForms.{first_where, not_between, within}
 use Rattle.acvp_store.proofs.Readings.{ReviewerOutside, ReviewerRange, answers, reading_text, reviewer_terms}
-use Rattle.acvp_store.proofs.Places.{reviewers_seen, of_reviewers}
+use Rattle.acvp_store.proofs.Places.{reviewers_at, reviewers_seen}
 use Rattle.acvp_store.proofs.QueryRows.{selected_in_order}
-use Rattle.acvp_store.proofs.RangeColumns.{left_true, not_longer}
+use Rattle.acvp_store.proofs.RangeColumns.{left_true, not_longer, obeyed, typed_at}
 use Rattle.acvp_store.proofs.RangeOutside.{is_outside, none_passing, first_told, test_column}
 use Rattle.acvp_store.proofs.RangeRows.{test_between, right_true, all_passed, within_last}
 use Rattle.acvp_store.proofs.Versions.{map_same}
+use Rattle.acvp_store.proofs.Writings.{reviewer_place}
+use Rattle.acvp_store.proofs.Told.{told}
 
 -- ---- what the schema says of a row
 
@@ -42,18 +44,17 @@ IsReviewerTyped row = (are_typed None 0 (reviewer_table 8).columns (drop 1 row) 
 
 pub reviewers_typed : (layout : Layout) (db : Database) → db.schema ≡ schema_of layout → IsDatabase db → AllByRecursion IsReviewerTyped (db.trees (reviewer_tree layout))
 reviewers_typed layout db schema sound =
-    let it : IsSound (schema_of layout) db.trees = subst (λ s. IsSound s db.trees) schema sound in
-    let table = reviewer_table (reviewer_tree layout) in
-    all_both (λ row. passes Datatype (schema_of layout) db.trees table row ≡ true) (λ row. passes NotNull (schema_of layout) db.trees table row ≡ true) IsReviewerTyped (λ row is there. (left_true _ _ is, there)) (db.trees (reviewer_tree layout))
-    (of_reviewers layout (λ t. AllByRecursion (λ row. passes Datatype (schema_of layout) db.trees t row ≡ true) (db.trees t.tree)) (it.obeys.rules Datatype))
-    (of_reviewers layout (λ t. AllByRecursion (λ row. passes NotNull (schema_of layout) db.trees t row ≡ true) (db.trees t.tree)) (it.obeys.rules NotNull))
+    let tree = reviewer_tree layout in
+    all_both (λ row. are_typed None 0 (reviewer_table tree).columns (drop 1 row) ≡ true)
+    (λ row. passes NotNull (schema_of layout) db.trees (reviewer_table tree) row ≡ true) IsReviewerTyped
+    (λ row is there. (is, there)) (db.trees tree)
+    (typed_at layout db schema sound (reviewer_place layout) (reviewer_table tree) (reviewers_at layout))
+    (obeyed layout db schema sound (reviewer_place layout) (reviewer_table tree) (reviewers_at layout) NotNull)
 
 pub reviewer_is : (row : Row) (r : ReviewerRow) → IsReviewerTyped row → columns_of_reviewer row ≡ reviewer_columns r → row ≡ column row 0 ∷ reviewer_columns r
-reviewer_is [] r typed is = absurd (cc)
-reviewer_is (a ∷ []) r typed is = absurd (cc)
-reviewer_is (a ∷ b ∷ []) r typed is = absurd (cc)
 reviewer_is (a ∷ b ∷ c ∷ []) r typed is = ap (λ cs. a ∷ cs) is
 reviewer_is (a ∷ b ∷ c ∷ d ∷ row) r typed is = absurd (let few = not_longer None 0 (reviewer_table 8).columns (b ∷ c ∷ d ∷ row) typed.0 in omega (arith, few))
+reviewer_is _ r typed is = absurd (cc)
 
 session_is_whole : (row : Row) → IsReviewerTyped row → IsTrue (is_int (column row 1))
 session_is_whole [] typed = absurd (let no = typed.1 in cc)
@@ -117,9 +118,8 @@ module _ (f l : ℕ) (low : l < 2 ^ 63) where
   pub rows_told : {X B E F : Type 0} (Good : ReviewerRow → Type 0) (table : List Row) (outcome : Result X E) (rows_in : X → List Row) (result : Result B F) (items : B → List ReviewerRow) → (IsOk result → IsOk outcome)
       → IfOk result (λ b. IfOk outcome (λ x. AreShown Good reviewer_columns (rows_in x) (items b))) → AllByRecursion IsReviewerTyped table → IfOk outcome (λ x. IsPermutation (map columns_of_reviewer (filter p table)) (rows_in x))
       → IfOk result (λ b. IsTree table → HoldsReviewers (filter p table) (items b))
-  rows_told Good table outcome rows_in (Err e) items ok shows typed rows = tt
-  rows_told Good table (Err e) rows_in (Ok b) items ok shows typed rows = absurd (let impossible = ok refl in cc)
-  rows_told Good table (Ok x) rows_in (Ok b) items ok shows typed rows = λ tree. reviewers_hold Good table (rows_in x) (items b) tree typed rows shows
+  rows_told Good table outcome rows_in result items ok shows typed =
+      told outcome result ok _ _ _ (λ x b shows rows tree. reviewers_hold Good table (rows_in x) (items b) tree typed rows shows) shows
 
 -- ---- a row that is of no reviewer
 

@@ -105,22 +105,12 @@ counted shown p (x ∷ xs) = elim (cases_Bool (p x)) [
 pub any_passes : {A : Type 0} (shown : A → Row) (p : A → Bool) (xs : List A) (rows : List Row) → IsPermutation (map shown (filter p xs)) rows → nat_lt 0 (length rows) ≡ list_any p xs
 any_passes shown p xs rows same = ap (nat_lt 0) (length_permutation _ _ same) ∙ counted shown p xs
 
-any_row : (p : ReviewerRow → Bool) (es : List (Entry ReviewerRow)) → list_any (λ (e : Entry ReviewerRow). p e.row) es ≡ list_any p (map (λ (e : Entry ReviewerRow). e.row) es)
+pub any_row : (p : ReviewerRow → Bool) (es : List (Entry ReviewerRow)) → list_any (λ (e : Entry ReviewerRow). p e.row) es ≡ list_any p (map (λ (e : Entry ReviewerRow). e.row) es)
 any_row p [] = refl
 any_row p (e ∷ es) = elim (cases_Bool (p e.row)) [
   | inl hit ↦ rw hit refl
   | inr miss ↦ rw miss (any_row p es)
 ]
-
-pub found_reviewer : {X E F : Type 0} (r : ReviewerRow) (table : List Row) (outcome : Result X E) (rows_in : X → List Row) (result : Result Bool F) → (IsOk result → IsOk outcome)
-    → IfOk result (λ found. IfOk outcome (λ x. found ≡ nat_lt 0 (length (rows_in x))))
-    → IfOk outcome (λ x. (list : List ReviewerRow) (h : HoldsReviewers table list) → IsPermutation (map (λ (e : Entry ReviewerRow). whole e.row.account ∷ []) (filter (λ e. is_pair r e.row) h.kept.entries)) (rows_in x))
-    → IfOk result (λ found. (list : List ReviewerRow) → HoldsReviewers table list → found ≡ is_reviewer r.session r.account list)
-found_reviewer r table outcome rows_in (Err f) ok found rows = tt
-found_reviewer r table (Err e) rows_in (Ok b) ok found rows = absurd (let impossible = ok refl in cc)
-found_reviewer r table (Ok x) rows_in (Ok b) ok found rows = λ list h.
-    found ∙ any_passes (λ (e : Entry ReviewerRow). whole e.row.account ∷ []) (λ e. is_pair r e.row) h.kept.entries (rows_in x) (rows list h)
-    ∙ any_row (is_pair r) h.kept.entries ∙ list_any-IsPermutation (is_pair r) _ list h.kept.same
 
 -- ---- one who is put in
 

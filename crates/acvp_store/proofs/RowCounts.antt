@@ -9,15 +9,15 @@ use Rattle.std.proofs.lemmas.List.{map-id}
 use Rattle.std.proofs.lemmas.List.Sorted.{IsPermutation-map, IsPermutation-refl, IsPermutation-sym, IsPermutation-trans, IsPermutation-cons, IsPermutation-to_front}
 use Rattle.sqlite.specs.Order.{Row}
 use Rattle.sqlite.specs.Tree.{Trees, IsAscending}
-use Rattle.sqlite.specs.Term.{Term, col, holds, eval}
+use Rattle.sqlite.specs.Term.{Term, col, holds, eval, lit}
 use Rattle.sqlite.specs.Program.{overlay}
 use Rattle.sqlite.specs.Query.{IsAnswer, output, output_cmp, Output}
 use Rattle.sqlite.specs.State.{State, Shown}
-use Rattle.sqlite.specs.declared.types.Value.TheVariants.{Null}
+use Rattle.sqlite.specs.declared.types.Value.TheVariants.{Null, Int}
 use Rattle.sqlite.proofs.Callers.{reads_as}
 use Rattle.sqlite_keyed.proofs.SortLemmas.{sorted_unique}
 use Rattle.sqlite_sql.proofs.QueryLemmas.{output_cmp_total}
-use Rattle.sqlite_trees.proofs.ListLemmas.{filter-map, ascending-map, ascending_weaker, IsPermutation-filter}
+use Rattle.sqlite_trees.proofs.ListLemmas.{filter-map, ascending-map, ascending_weaker, IsPermutation-filter, map-map}
 use Rattle.sqlite_value.proofs.OrderLemmas.{value_cmp-Int}
 use Rattle.acvp_registry.specs.declared.kind.Kind.{Kind}
 use Rattle.acvp_tables.specs.Content.{Content, is_kind, kind_number, sessions_of, objects_of, requests_of}
@@ -32,7 +32,8 @@ use Rattle.acvp_store.specs.Stands.{Entry, entry_row, object_tree, object_column
 use Rattle.acvp_store.specs.Private.Pages.{greatest}
 use Rattle.acvp_store.proofs.AccountPages.{test_range}
 use Rattle.acvp_store.proofs.Owned.{last_number, in_range, range_drops, session_numbers, session_selection, request_numbers, request_selection, object_numbers, object_selection}
-use Rattle.acvp_store.proofs.QueryForms.{equals, newest, within}
+use Rattle.acvp_store.proofs.OrderedRows.{sorted_rows}
+use Rattle.acvp_store.proofs.QueryForms.{descending, equals, newest, within}
 use Rattle.acvp_store.proofs.Readings.{NewestObject, NewestRequest, NewestSession, answers, reading_text}
 use Rattle.acvp_store.proofs.SelectedRows.{test_equals, matched}
 
@@ -65,39 +66,29 @@ down_falls before (suc n) = (down_below before (before + suc n) n (omega arith),
 -- E is what a row of the table is of, and A the member in it
 module _ {E A : Type 0} (params : Row) (encode : E → Row) (member : E → A) (p : A → Bool) (terms : List Term) (place : ℕ) (key : A → ℕ)
     (tests : (e : E) → list_all (holds (params ∷ encode e ∷ [])) terms ≡ p (member e)) (keyed : (e : E) → eval (col 1 place) (params ∷ encode e ∷ []) ≡ whole (key (member e))) (tree : ℕ) where
-  abbrev q : Rattle.sqlite.specs.Query.Query
-  q = newest tree terms place
-
   abbrev out : ℕ → Output
   out n = (whole n ∷ [], whole n ∷ [])
 
-  outputs : (es : List E) → map (output q) (map (λ e. params ∷ encode e ∷ []) es) ≡ map out (map key (map member es))
-  outputs [] = refl
-  outputs (e ∷ es) = λ i. (keyed e i ∷ [], keyed e i ∷ []) ∷ outputs es i
-
-  above : (a b : ℕ) → b < a → output_cmp q (out a) (out b) ≡ Less
+  above : (a b : ℕ) → b < a → output_cmp (newest tree terms place) (out a) (out b) ≡ Less
   above a b high = ap (λ c. ordering_then c Equal) (value_cmp-Int (pos b) (pos a)) ∙ grind (arith, nat_tests)
 
   shown_first : (before n : ℕ) → take 1 (map (λ (x : Output). x.1) (map out (down before n))) ≡ greatest before n
   shown_first before zero = refl
   shown_first before (suc n) = refl
 
-  pub greatest_shown : (db : Trees) (all : List E) (list : List A) (before : ℕ) (rows : List Row) → db tree ≡ map encode all → IsPermutation (map member all) list → IsNumbered key (before + 1) (filter p list) → IsAnswer q db params rows
-      → rows ≡ greatest before (length (filter p list))
+  pub greatest_shown : (db : Trees) (all : List E) (list : List A) (before : ℕ) (rows : List Row) → db tree ≡ map encode all
+      → IsPermutation (map member all) list → IsNumbered key (before + 1) (filter p list)
+      → IsAnswer (newest tree terms place) db params rows → rows ≡ greatest before (length (filter p list))
   greatest_shown db all list before rows has whole_list numbered a =
       let passing = λ (e : E). p (member e) in
-      let picked = filter p list in
-      let n = length picked in
-      let staged = a.grouped ∙ rw has (matched params encode passing terms tests all) in
-      let kept : a.kept ≡ map out (map key (map member (filter passing all))) = a.distinct ∙ ap (map (output q)) staged ∙ outputs (filter passing all) in
-      let same : IsPermutation (map member (filter passing all)) picked = subst (λ xs. IsPermutation xs picked) (filter-map p member all) (IsPermutation-filter p _ list whole_list) in
+      let n = length (filter p list) in
+      let same = subst (λ xs. IsPermutation xs (filter p list)) (filter-map p member all) (IsPermutation-filter p _ list whole_list) in
       let numbers : IsPermutation (map key (map member (filter passing all))) (down before n) =
       IsPermutation-trans _ _ _ (IsPermutation-map key _ _ same) (subst (λ xs. IsPermutation xs (down before n)) (sym numbered) (down_is before n)) in
-      let all_out : IsPermutation (map out (down before n)) a.ordered =
-      IsPermutation-trans _ _ _ (IsPermutation-sym _ _ (IsPermutation-map out _ _ numbers)) (subst (λ k. IsPermutation k a.ordered) kept a.same) in
-      let strict = ascending-map (λ x y. output_cmp q x y ≡ Less) out (down before n) (ascending_weaker (λ x y. y < x) (λ x y. output_cmp q (out x) (out y) ≡ Less) above (down before n) (down_falls before n)) in
-      let ordered = sorted_unique (output_cmp q) (output_cmp_total q) (map out (down before n)) a.ordered strict all_out a.sorted in
-      a.shown ∙ rw ordered (shown_first before n)
+      sorted_rows params encode passing terms tests (λ e. key (member e)) ((col 1 place, descending) ∷ []) (lit (Int (pos 1)))
+      tree (col 1 place ∷ []) out (λ e i. (keyed e i ∷ [], keyed e i ∷ [])) (λ a b. b < a) above db all (down before n) rows has
+      (subst (λ xs. IsPermutation xs (down before n)) (map-map key member (filter passing all)) numbers) (down_falls before n) a
+      ∙ shown_first before n
 
 -- ---- of an account
 
@@ -144,12 +135,3 @@ objects_counted layout kind u old new rows schema shown c sound h =
     h.same (rw picked selection.numbered)
     (answers NewestObject layout (kind_params kind u) old new rows schema shown) in
     it ∙ ap (λ xs. greatest (u * 1000000) (length xs)) picked
-
--- what a query's answer tells of how many there are, of each content that is meant
-pub count_found : {C X E F : Type 0} (Sound Held : C → Type 0) (shows : ℕ → List Row) (outcome : Result X E) (rows_of : X → List Row) (result : Result ℕ F) (total : C → ℕ) → (IsOk result → IsOk outcome)
-    → IfOk result (λ found. IfOk outcome (λ x. (n : ℕ) → rows_of x ≡ shows n → found ≡ n))
-    → IfOk outcome (λ x. (c : C) → Sound c → Held c → rows_of x ≡ shows (total c))
-    → IfOk result (λ found. (c : C) → Sound c → Held c → found ≡ total c)
-count_found Sound Held shows outcome rows_of (Err f) total ok found rows = tt
-count_found Sound Held shows (Err e) rows_of (Ok r) total ok found rows = absurd (let impossible = ok refl in cc)
-count_found Sound Held shows (Ok x) rows_of (Ok r) total ok found rows = λ c sound held. found (total c) (rows c sound held)

@@ -8,6 +8,7 @@ use Rattle.sqlite.proofs.Callers.{one_permutation}
 use Rattle.sqlite_trees.proofs.ListLemmas.{all_of}
 use Rattle.sqlite.specs.Order.{Row}
 use Rattle.acvp_store.specs.Private.Pages.{IsRowOf}
+use Rattle.acvp_store.proofs.Told.{told}
 
 pub listed_as : {T : Type 0} (reads : T → Type 0) (shown : T → Row) (rows : List Row) (found list : List T) → AllZip (IsRowOf reads shown) rows found → AllByRecursion reads list → rows ≡ map shown list → found ≡ list
 listed_as reads shown [] [] [] all each is = refl
@@ -33,9 +34,8 @@ pub all_listed : {T C X Y E F : Type 0} (Sound Held : C → Type 0) (reads : T �
     → IfOk result (λ found. IfOk outcome (λ x. (list : List T) → AllByRecursion reads list → rows_of x ≡ map shown list → items_of found ≡ list))
     → IfOk outcome (λ x. (c : C) → Sound c → Held c → AllByRecursion reads (picked c) × (rows_of x ≡ map shown (picked c)))
     → IfOk result (λ found. (c : C) → Sound c → Held c → items_of found ≡ picked c)
-all_listed Sound Held reads shown outcome rows_of (Err f) items_of picked ok found rows = tt
-all_listed Sound Held reads shown (Err e) rows_of (Ok r) items_of picked ok found rows = absurd (let impossible = ok refl in cc)
-all_listed Sound Held reads shown (Ok x) rows_of (Ok r) items_of picked ok found rows = λ c sound held. let it = rows c sound held in found (picked c) it.0 it.1
+all_listed Sound Held reads shown outcome rows_of result items_of picked ok =
+    told outcome result ok _ _ _ (λ x r found rows. λ c sound held. let it = rows c sound held in found (picked c) it.0 it.1)
 
 -- ---- one row at most
 
@@ -54,9 +54,8 @@ pub one_listed : {T C X E F : Type 0} (Sound Held : C → Type 0) (reads : T →
     → IfOk result (λ found. IfOk outcome (λ x. (list : List T) → AllByRecursion reads list → IsPermutation (map shown list) (rows_of x) → found ≡ slice_get list 0))
     → IfOk outcome (λ x. (c : C) → Sound c → Held c → AllByRecursion reads (picked c) × IsPermutation (map shown (picked c)) (rows_of x))
     → IfOk result (λ found. (c : C) → Sound c → Held c → found ≡ slice_get (picked c) 0)
-one_listed Sound Held reads shown outcome rows_of (Err f) picked ok found rows = tt
-one_listed Sound Held reads shown (Err e) rows_of (Ok r) picked ok found rows = absurd (let impossible = ok refl in cc)
-one_listed Sound Held reads shown (Ok x) rows_of (Ok r) picked ok found rows = λ c sound held. let it = rows c sound held in found (picked c) it.0 it.1
+one_listed Sound Held reads shown outcome rows_of result picked ok =
+    told outcome result ok _ _ _ (λ x r found rows. λ c sound held. let it = rows c sound held in found (picked c) it.0 it.1)
 
 -- ---- of a page
 

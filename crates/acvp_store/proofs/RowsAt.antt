@@ -22,7 +22,7 @@ use Rattle.acvp_store.specs.Private.Shown.{is_under}
 use Rattle.acvp_store.proofs.Keyed.{keyed, none_fits, none_passes, small_or_large}
 use Rattle.acvp_store.proofs.Parts.{and_true}
 use Rattle.acvp_store.proofs.QueryForms.{equals, simple}
-use Rattle.acvp_store.proofs.Readings.{Reading, answers, reading_query, reading_text}
+use Rattle.acvp_store.proofs.Readings.{Reading, answers_as, reading_query, reading_text}
 use Rattle.acvp_store.proofs.SelectedRows.{test_equals, test_none, selected}
 use Rattle.acvp_store.proofs.Versions.{map_same, test_whole}
 
@@ -51,18 +51,12 @@ module _ (r : Reading) (layout : Layout) (tree : ℕ) where
 
   module _ (project : List Term) (is : reading_query r layout ≡ simple tree (equals 0 0 ∷ []) project)
       (seen : (trees : Trees) → overlay trees [] tree ≡ trees tree) where
-    answer : (k : ℤ) (old new : State) (rows : List Row) → old.now.schema ≡ schema_of layout
-        → Shown (reading_text r) (Int k ∷ []) old new rows
-        → IsAnswer (simple tree (equals 0 0 ∷ []) project) (overlay old.now.trees []) (Int k ∷ []) rows
-    answer k old new rows schema h =
-        subst (λ q. IsAnswer q (overlay old.now.trees []) (Int k ∷ []) rows) is (answers r layout (Int k ∷ []) old new rows schema h)
-
     pub rows_under : (columns : Row → Row) → ((k : ℤ) (row : Row) → eval_all project ((Int k ∷ []) ∷ row ∷ []) ≡ columns row)
         → MeetsUnder columns
     rows_under columns shows n k low fits old new rows schema h =
         selected (Int k ∷ []) (λ (r : Row). r) (is_under n) (equals 0 0 ∷ [])
         (λ r. rw (fits low) (and_true _ ∙ test_whole (column r 0) n)) tree project columns (shows k)
-        (overlay old.now.trees []) (old.now.trees tree) rows (seen old.now.trees ∙ map_same _) (answer k old new rows schema h)
+        (overlay old.now.trees []) (old.now.trees tree) rows (seen old.now.trees ∙ map_same _) (answers_as r layout (Int k ∷ []) old new rows schema h _ is)
 
     module _ {A : Type 0} (key : A → ℕ) (stored show : A → Row) (rowid_is : (a : A) → rowid (stored a) ≡ whole (key a))
         (shows : (k : ℤ) (a : A) → eval_all project ((Int k ∷ []) ∷ stored a ∷ []) ≡ show a) where
@@ -76,7 +70,7 @@ module _ (r : Reading) (layout : Layout) (tree : ℕ) where
           selected (Int k ∷ []) stored p (equals 0 0 ∷ [])
           (λ a. and_true _ ∙ subst (λ v. is_true (binary (Compare Eq Binary) v (Int k)) ≡ p a) (sym (rowid_is a)) (tests a))
           tree project show (shows k) (overlay old.now.trees []) kept.ordered rows (seen old.now.trees ∙ kept.rows_are)
-          (answer k old new rows schema h)
+          (answers_as r layout (Int k ∷ []) old new rows schema h _ is)
 
       pub rows_at : ShowsAt key stored show
       rows_at n k fits large old new rows schema h list kept = elim (small_or_large n) [

@@ -23,8 +23,9 @@ use Rattle.acvp_tables.proofs.Reviewers.{accounts_in, reviewers_read}
 use Rattle.acvp_store.specs.Values.{whole}
 use Rattle.acvp_store.specs.Schema.{Layout, schema_of}
 use Rattle.acvp_store.specs.Stands.{Entry, entry_row, HoldsReviewers, reviewer_columns, reviewer_tree}
+use Rattle.acvp_store.proofs.Told.{told}
 use Rattle.acvp_store.proofs.Parts.{and_true}
-use Rattle.acvp_store.proofs.OrderedColumn.{ranged}
+use Rattle.acvp_store.proofs.OrderedRows.{ranged}
 use Rattle.acvp_store.proofs.SelectedRows.{test_equals, test_none}
 use Rattle.acvp_store.proofs.Keyed.{none_left, none_passes, small_or_large}
 use Rattle.acvp_store.proofs.Places.{reviewers_seen}
@@ -113,6 +114,5 @@ module _ {X L E F : Type 0} (s : ℕ) (table : List Row) (rows_in : X → List R
       → IfOk result (λ l. IfOk outcome (λ x. (list : List ℕ) → rows_in x ≡ map account_shown list → listed l ≡ list))
       → IfOk outcome (λ x. (list : List ReviewerRow) → HoldsReviewers table list → (numbers : List ℕ) → Rising numbers → IsPermutation (accounts_in s list) numbers → rows_in x ≡ map account_shown numbers)
       → IfOk result (λ l. (c : Content) → AreWellNumbered c → HoldsReviewers table c.reviewers → listed l ≡ reviewers_of s c.reviewers)
-  find_all outcome (Err f) ok lists rows = tt
-  find_all (Err e) (Ok l) ok lists rows = absurd (let impossible = ok refl in cc)
-  find_all (Ok x) (Ok l) ok lists rows = λ c sound h. lists (reviewers_of s c.reviewers) (rows c.reviewers h (reviewers_of s c.reviewers) (reviewers_rise s c.reviewers) (reviewers_same s c sound))
+  find_all outcome result ok =
+      told outcome result ok _ _ _ (λ x l lists rows. λ c sound h. lists (reviewers_of s c.reviewers) (rows c.reviewers h (reviewers_of s c.reviewers) (reviewers_rise s c.reviewers) (reviewers_same s c sound)))

@@ -32,11 +32,12 @@ use Rattle.acvp_store.specs.Kept.{AreKept}
 use Rattle.acvp_store.specs.Stands.{SetColumns, set_key, set_row, set_tree, IsSet, HoldsSets}
 use Rattle.acvp_store.specs.Private.Sets.{ShortColumns, short_shown, short_of, IsSummary}
 use Rattle.acvp_store.proofs.Parts.{and_true}
-use Rattle.acvp_store.proofs.OrderedColumn.{ranged}
+use Rattle.acvp_store.proofs.OrderedRows.{ranged}
 use Rattle.acvp_store.proofs.SelectedRows.{truth_back, test_differs, test_at_least, test_at_most}
 use Rattle.acvp_store.proofs.SetRows.{set_shown, short_shows, summary_is}
 use Rattle.acvp_store.proofs.Places.{sets_seen}
 use Rattle.acvp_store.proofs.Readings.{SetsOf, answers, reading_query, reading_text}
+use Rattle.acvp_store.proofs.Told.{told_through}
 
 -- a number of a session's sets, of one that isn't cancelled
 abbrev pub is_live_within : ℕ → ℕ → Bool → Bool
@@ -177,12 +178,10 @@ module _ {X L M E F G : Type 0} (s : ℕ) (table : List Row) (rows_in : X → Li
       → IfOk result (λ m. IfOk found (λ l. AllZip IsSummary (listed l) (told m)))
       → IfOk outcome (λ x. (columns : List SetColumns) → AreKept set_key set_row table columns → Rising (filter (is_live_set s) columns) → rows_in x ≡ map set_shown (filter (is_live_set s) columns))
       → IfOk result (λ m. (c : Content) → AreWellNumbered c → HoldsSets table c.sets → told m ≡ map set_summary (live_sets s c.sets))
-  find_live outcome found (Err g) ok_found ok_result lists tells rows = tt
-  find_live outcome (Err f) (Ok m) ok_found ok_result lists tells rows = absurd (let impossible = ok_result refl in cc)
-  find_live (Err e) (Ok l) (Ok m) ok_found ok_result lists tells rows = absurd (let impossible = ok_found refl in cc)
-  find_live (Ok x) (Ok l) (Ok m) ok_found ok_result lists tells rows = λ c sound h.
+  find_live outcome found result ok_found ok_result =
+      told_through outcome found result ok_found ok_result _ _ _ _ (λ x l m lists tells rows c sound h.
       let columns = filter (is_live_set s) h.columns in
       let zip : AllZip IsSet columns (live_sets s c.sets) = subst (AllZip IsSet columns) (live_is s c sound) (zip_live s h.columns c.sets h.same) in
       let shown = rows h.columns h.kept (rise_zipped columns (live_sets s c.sets) zip (live_rise s c sound)) in
       let is : listed l ≡ map short_of columns = lists (map short_of columns) (shown ∙ sym (map-map short_shown short_of columns)) in
-      all_told columns (live_sets s c.sets) (told m) zip (subst (λ list. AllZip IsSummary list (told m)) is tells)
+      all_told columns (live_sets s c.sets) (told m) zip (subst (λ list. AllZip IsSummary list (told m)) is tells))

@@ -39,16 +39,16 @@ use Rattle.acvp_store.specs.Private.Columns.{set_columns}
 use Rattle.acvp_store.specs.Private.SetRanges.{whole_shown, AreTexts, HasStraySet}
 use Rattle.acvp_store.specs.Private.Shown.{BeginsWith, AreLedBy, AreShown, IsText}
 use Rattle.acvp_store.specs.Private.Strays.{HasStray}
-use Rattle.acvp_store.proofs.QueryForms.{outside, within}
-use Rattle.acvp_store.proofs.Readings.{SetOutside, SetRange, answers, reading_text, set_terms}
-use Rattle.acvp_store.proofs.Places.{sets_seen, of_sets}
+use Rattle.acvp_store.proofs.Readings.{SetRange, answers, set_terms}
+use Rattle.acvp_store.proofs.Places.{sets_at, sets_seen}
 use Rattle.acvp_store.proofs.QueryRows.{selected_in_order}
-use Rattle.acvp_store.proofs.RangeColumns.{left_true, not_longer, null_is, with_null}
+use Rattle.acvp_store.proofs.RangeColumns.{Meets, Orders, left_true, not_longer, null_is, range_in_order, range_met, typed_at, with_null}
 use Rattle.acvp_store.proofs.RangeJoins.{flag_once, option_once, kept_tree, kept_nothing, kept_both, sets_whole}
 use Rattle.acvp_store.proofs.RangeOutside.{is_outside, none_outside, number_told}
 use Rattle.acvp_store.proofs.RangeRows.{test_between, in_tree_order}
 use Rattle.acvp_store.proofs.RangeStrays.{row_shown, zip_at, stray_row, stray_shown}
 use Rattle.acvp_store.proofs.Versions.{map_same}
+use Rattle.acvp_store.proofs.Writings.{set_place}
 
 -- ---- what the schema says of a row
 
@@ -57,23 +57,13 @@ IsSetTyped row = are_typed (Some 0) 0 (set_table 4).columns (drop 1 row) ≡ tru
 
 pub sets_typed : (layout : Layout) (db : Database) → db.schema ≡ schema_of layout → IsDatabase db → AllByRecursion IsSetTyped (db.trees (set_tree layout))
 sets_typed layout db schema sound =
-    let it : IsSound (schema_of layout) db.trees = subst (λ s. IsSound s db.trees) schema sound in
-    all_weaker (λ row. passes Datatype (schema_of layout) db.trees (set_table (set_tree layout)) row ≡ true) IsSetTyped (λ row is. left_true _ _ is) (db.trees (set_tree layout))
-    (of_sets layout (λ t. AllByRecursion (λ row. passes Datatype (schema_of layout) db.trees t row ≡ true) (db.trees t.tree)) (it.obeys.rules Datatype))
+    typed_at layout db schema sound (set_place layout) (set_table (set_tree layout)) (sets_at layout)
 
 pub set_is : (row : Row) (s : SetColumns) → IsSetTyped row → BeginsWith (whole_shown s) (set_columns row) → row ≡ set_row s
-set_is [] s typed is = absurd (cc)
-set_is (a ∷ []) s typed is = absurd (cc)
-set_is (a ∷ k ∷ []) s typed is = absurd (cc)
-set_is (a ∷ k ∷ b ∷ []) s typed is = absurd (cc)
-set_is (a ∷ k ∷ b ∷ c ∷ []) s typed is = absurd (cc)
-set_is (a ∷ k ∷ b ∷ c ∷ d ∷ []) s typed is = absurd (cc)
-set_is (a ∷ k ∷ b ∷ c ∷ d ∷ e ∷ []) s typed is = absurd (cc)
-set_is (a ∷ k ∷ b ∷ c ∷ d ∷ e ∷ f ∷ []) s typed is = absurd (cc)
-set_is (a ∷ k ∷ b ∷ c ∷ d ∷ e ∷ f ∷ g ∷ []) s typed is = absurd (cc)
 set_is (a ∷ k ∷ b ∷ c ∷ d ∷ e ∷ f ∷ g ∷ h ∷ []) s typed is = ap (λ v. a ∷ v ∷ b ∷ c ∷ d ∷ e ∷ f ∷ g ∷ h ∷ []) (null_is k (left_true _ _ typed)) ∙ ap with_null is
 set_is (a ∷ k ∷ b ∷ c ∷ d ∷ e ∷ f ∷ g ∷ h ∷ i ∷ row) s typed is =
     absurd (let few = not_longer (Some 0) 0 (set_table 4).columns (k ∷ b ∷ c ∷ d ∷ e ∷ f ∷ g ∷ h ∷ i ∷ row) typed in omega (arith, few))
+set_is _ s typed is = absurd (cc)
 
 -- ---- what is read of a row
 
@@ -87,45 +77,19 @@ number_column v (Some n) is = is.1
 
 pub begins : (row : Row) (s : SetColumns) → 7 < length row → column row 0 ≡ whole s.number → column row 1 ≡ whole s.session → column row 2 ≡ Text s.capability → column row 3 ≡ flag s.cancelled
     → column row 4 ≡ or_null Text s.answers → column row 5 ≡ or_null Text s.verdicts → column row 6 ≡ or_null whole s.disposition → column row 7 ≡ whole s.epoch → BeginsWith (whole_shown s) row
-begins [] s long number session capability cancelled answers verdicts disposition epoch = absurd (omega (arith, long))
-begins (a ∷ []) s long number session capability cancelled answers verdicts disposition epoch = absurd (omega (arith, long))
-begins (a ∷ b ∷ []) s long number session capability cancelled answers verdicts disposition epoch = absurd (omega (arith, long))
-begins (a ∷ b ∷ c ∷ []) s long number session capability cancelled answers verdicts disposition epoch = absurd (omega (arith, long))
-begins (a ∷ b ∷ c ∷ d ∷ []) s long number session capability cancelled answers verdicts disposition epoch = absurd (omega (arith, long))
-begins (a ∷ b ∷ c ∷ d ∷ e ∷ []) s long number session capability cancelled answers verdicts disposition epoch = absurd (omega (arith, long))
-begins (a ∷ b ∷ c ∷ d ∷ e ∷ f ∷ []) s long number session capability cancelled answers verdicts disposition epoch = absurd (omega (arith, long))
-begins (a ∷ b ∷ c ∷ d ∷ e ∷ f ∷ g ∷ []) s long number session capability cancelled answers verdicts disposition epoch = absurd (omega (arith, long))
 begins (a ∷ b ∷ c ∷ d ∷ e ∷ f ∷ g ∷ h ∷ row) s long number session capability cancelled answers verdicts disposition epoch =
     λ i. number i ∷ session i ∷ capability i ∷ cancelled i ∷ answers i ∷ verdicts i ∷ disposition i ∷ epoch i ∷ []
+begins _ s long number session capability cancelled answers verdicts disposition epoch = absurd (omega (arith, long))
 
 -- ---- what the queries meet
 
-module _ (layout : Layout) (f l : ℕ) (old new : State) (rows : List Row) (schema : old.now.schema ≡ schema_of layout) (h : Shown (reading_text SetRange) (whole f ∷ whole l ∷ []) old new rows) where
-  abbrev params : Row
-  params = whole f ∷ whole l ∷ []
+pub sets_met : (layout : Layout) → Meets SetRange layout (set_tree layout) set_columns
+sets_met layout =
+    range_met SetRange layout (set_tree layout) set_columns set_terms refl (sets_seen layout) (λ params row. refl)
 
-  abbrev table : List Row
-  table = old.now.trees (set_tree layout)
-
-  pub sets_met : IsPermutation (map set_columns (filter (is_between f l) table)) rows
-  sets_met =
-      selected_in_order params (λ (r : Row). r) (is_between f l) (within 0) (λ r. test_between (column r 0) f l) 0 (set_tree layout) set_terms set_columns (λ r. refl) (overlay old.now.trees []) table rows (sets_seen layout old.now.trees ∙ map_same _)
-      (answers SetRange layout params old new rows schema h)
-
-  pub sets_in_order : IsTree table → rows ≡ map set_columns (filter (is_between f l) table)
-  sets_in_order tree =
-      in_tree_order params (is_between f l) (within 0) (λ r. test_between (column r 0) f l) (set_tree layout) set_terms set_columns (λ r. refl) (overlay old.now.trees []) table rows (sets_seen layout old.now.trees ∙ map_same _) tree.0
-      (answers SetRange layout params old new rows schema h)
-
-module _ (layout : Layout) (old new : State) (rows : List Row) (schema : old.now.schema ≡ schema_of layout) (h : Shown (reading_text SetOutside) [] old new rows) where
-  outside_answer : IsAnswer (outside (set_tree layout) 100000000 999999999999) (overlay old.now.trees []) [] rows
-  outside_answer = answers SetOutside layout [] old new rows schema h
-
-  pub sets_outside : rows ≡ [] → filter (λ r. is_outside 100000000 999999999999 (column r 0)) (old.now.trees (set_tree layout)) ≡ []
-  sets_outside = none_outside (set_tree layout) 100000000 999999999999 (overlay old.now.trees []) (old.now.trees (set_tree layout)) rows (sets_seen layout old.now.trees ∙ map_same _) outside_answer
-
-  pub set_told : (number : ℤ) → AreLedBy number rows → HasRowOutside (λ row. is_between 100000000 999999999999 row ≡ true) 0 number (old.now.trees (set_tree layout))
-  set_told = number_told (set_tree layout) 100000000 999999999999 (overlay old.now.trees []) (old.now.trees (set_tree layout)) rows (sets_seen layout old.now.trees ∙ map_same _) outside_answer
+pub sets_in_order : (layout : Layout) → Orders SetRange layout (set_tree layout) set_columns
+sets_in_order layout =
+    range_in_order SetRange layout (set_tree layout) set_columns set_terms refl (sets_seen layout) (λ params row. refl)
 
 -- ---- the rows of a range stand for what is told of their columns
 

@@ -54,6 +54,7 @@ use Rattle.acvp_store.proofs.QueryForms.{equals, simple}
 use Rattle.acvp_store.proofs.Readings.{CapabilityAt, Reading, SetAt, VerdictsAt, answers, read_terms, reading_query, short_terms}
 use Rattle.acvp_store.proofs.Writings.{Effects, SetAdded, SetCancelled, SetGraded, set_place, update, updating, writing_terms}
 use Rattle.acvp_store.proofs.RowsAt.{ShowsAt, rows_at}
+use Rattle.acvp_store.proofs.Told.{told_through}
 
 abbrev pub set_shown : SetColumns → Row
 set_shown c = short_shown (short_of c)
@@ -153,15 +154,13 @@ module _ {B Y : Type 0} (of : SetColumns → B) (Tells : Option B → Y → Type
         → IfOk result (λ z. IfOk found (λ b. Tells b (view z)))
         → IfOk outcome (λ x. (list : List SetColumns) (kept : AreKept set_key set_row table list) → IsPermutation (map (λ c. shown (of c)) (keyed set_key n kept.ordered)) (rows_in x))
         → IfOk result (λ z. (sets : List SetRow) → HoldsSets table sets → view z ≡ pick (set_at n sets))
-    find_told outcome found (Err g) ok_found ok_result one tells rows = tt
-    find_told outcome (Err f) (Ok z) ok_found ok_result one tells rows = absurd (let impossible = ok_result refl in cc)
-    find_told (Err e) (Ok b) (Ok z) ok_found ok_result one tells rows = absurd (let impossible = ok_found refl in cc)
-    find_told (Ok x) (Ok b) (Ok z) ok_found ok_result one tells rows = λ sets h.
+    find_told outcome found result ok_found ok_result =
+        told_through outcome found result ok_found ok_result _ _ _ _ (λ x b z one tells rows sets h.
         let all = keyed set_key n h.kept.ordered in
         let is : b ≡ slice_get (map of all) 0 = one (map of all) (rw (map-map shown of all) (rows h.columns h.kept)) in
         let at : b ≡ option_map of (find (λ (c : SetColumns). c.number == n) h.columns) =
         is ∙ first_of all ∙ ap (option_map of) (ap (λ l. slice_get l 0) (keyed_same set_key n h.kept.ordered h.columns h.kept.rising h.kept.same) ∙ sym (find_is set_key n h.columns)) in
-        told_of h.columns sets (view z) h.same (subst (λ o. Tells o (view z)) at tells)
+        told_of h.columns sets (view z) h.same (subst (λ o. Tells o (view z)) at tells))
 
 -- ---- what the texts tell
 

@@ -104,9 +104,6 @@ module _ {X Y Z E F G : Type 0} (a b c : State) (First Second : Database → Dat
     survives = survives_both a b c p.survives q.survives;
   }
 
-  pub inside_failed : (x : X) (e : F) (g : G) → IsInside {E = E} (Ok x) a b First → IsInside {X = Y} (Err e) b c Second → IsInside {X = Z} (Err g) a c (Both First Second)
-  inside_failed x e g p q = record { kept = λ live. let k = q.kept live in kept_then a b c (p.kept (k.was_open live)) k; ok = tt; survives = survives_both a b c p.survives q.survives }
-
 -- ---- a whole transaction
 
 -- So far nothing is committed: this is what the parts left, from the begin on.

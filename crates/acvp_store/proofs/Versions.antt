@@ -59,7 +59,7 @@ its_name = ap is_eq (value_cmp-Text (codes "schema") (codes "schema"))
 pub named_so : (n : ℕ) (trees : Trees) → trees 0 ≡ version_row n ∷ [] → HasVersion n trees
 named_so n trees is = let same : (n == n) ≡ true = grind (arith, nat_tests) in subst (λ rows. list_any (is_version_row n) rows ≡ true) (sym is) (rw (its_name, same_whole n n, same) refl)
 
-abbrev value_of : Row → Row
+abbrev pub value_of : Row → Row
 value_of row = column row 2 ∷ []
 
 pub map_same : (rows : List Row) → rows ≡ map (λ r. r) rows
@@ -71,20 +71,9 @@ version_rows version n old new rows schema h =
     selected (whole n ∷ []) (λ (r : Row). r) (is_version_row n) find_version_query.filter (λ r. both_true _ _ _ _ (test_text (column r 1) (codes "schema")) (test_whole (column r 2) n)) 0 find_version_query.project value_of (λ r. refl) (overlay old.now.trees []) (old.now.trees 0) rows (map_same _)
     (let is = finds_version version in (reads_as find_version (whole n ∷ []) old new (schema_at version) schema _ is.0 is.1 is.2 rows h).answer Null)
 
--- ---- the whole
-
-module _ {X E F : Type 0} (n : ℕ) (table : List Row) (rows_in : X → List Row) where
-  pub found_version : (outcome : Result X E) (result : Result Bool F) → (IsOk result → IsOk outcome)
-      → IfOk result (λ found. IfOk outcome (λ x. found ≡ nat_lt 0 (length (rows_in x))))
-      → IfOk outcome (λ x. IsPermutation (map value_of (filter (is_version_row n) table)) (rows_in x))
-      → IfOk result (λ found. found ≡ list_any (is_version_row n) table)
-  found_version outcome (Err f) ok found rows = tt
-  found_version (Err e) (Ok b) ok found rows = absurd (let impossible = ok refl in cc)
-  found_version (Ok x) (Ok b) ok found rows = found ∙ any_passes value_of (is_version_row n) table (rows_in x) rows
-
 -- ---- whether the table of sets of an earlier schema has a row
 
-abbrev number_of : Row → Row
+abbrev pub number_of : Row → Row
 number_of row = column row 0 ∷ []
 
 in_old : (schema : Schema) → FindsOldSets schema → (old new : State) (rows : List Row) → old.now.schema ≡ schema → Shown find_old_sets [] old new rows → IsPermutation (map number_of (filter (λ row. true) (old.now.trees 4))) rows
@@ -96,18 +85,10 @@ pub old_rows : (old new : State) (rows : List Row) → HasOldTable old.now.schem
 old_rows old new rows (inl was) h = in_old (second_schema Migrated) old_sets_were old new rows was h
 old_rows old new rows (inr is) h = in_old (schema_of Migrated) old_sets_are old new rows is h
 
-any_row : (rows : List Row) → list_any (λ row. true) rows ≡ nat_lt 0 (length rows)
+pub any_row : (rows : List Row) → list_any (λ row. true) rows ≡ nat_lt 0 (length rows)
 any_row [] = refl
 any_row (r ∷ rows) = grind (arith, nat_tests)
 
 pub empty : (rows : List Row) → nat_lt 0 (length rows) ≡ false → rows ≡ []
 empty [] h = refl
 empty (r ∷ rows) h = absurd (let some : nat_lt 0 (length (r ∷ rows)) ≡ true = grind (arith, nat_tests) in cc)
-
-pub found_old_sets : {X E F : Type 0} (table : List Row) (rows_in : X → List Row) (outcome : Result X E) (result : Result Bool F) → (IsOk result → IsOk outcome)
-    → IfOk result (λ found. IfOk outcome (λ x. found ≡ nat_lt 0 (length (rows_in x))))
-    → IfOk outcome (λ x. IsPermutation (map number_of (filter (λ row. true) table)) (rows_in x))
-    → IfOk result (λ found. found ≡ nat_lt 0 (length table))
-found_old_sets table rows_in outcome (Err f) ok found rows = tt
-found_old_sets table rows_in (Err e) (Ok b) ok found rows = absurd (let impossible = ok refl in cc)
-found_old_sets table rows_in (Ok x) (Ok b) ok found rows = found ∙ any_passes number_of (λ row. true) table (rows_in x) rows ∙ any_row table

@@ -1,34 +1,33 @@
-use Rattle.std.proofs.lemmas.Result.{IfOk-weaker}
+use Rattle.std.proofs.Common.{refl}
 use Rattle.sqlite.specs.Held.{state}
 use Rattle.acvp_store.specs.Rows.{account_tree}
-use Rattle.acvp_store.proofs.FoundRow.{read_as}
-use Rattle.acvp_store.proofs.QueryLeaves.{clean_if_open, read}
-use Rattle.acvp_store.proofs.RangeColumns.{account_told, accounts_outside}
-use Rattle.acvp_store.proofs.RangeOutside.{none_told, led_told}
-use Rattle.acvp_store.proofs.Readings.{AccountOutside, asks_rows, reading_text}
+use Rattle.acvp_store.proofs.RangeOutside.{all_within}
+use Rattle.acvp_store.proofs.Told.{told}
+use Rattle.acvp_store.proofs.QueryLeaves.{clean_if_open}
+use Rattle.acvp_store.proofs.RangeColumns.{outside_none, outside_told}
+use Rattle.acvp_store.proofs.Readings.{AccountOutside, reads_rows}
 use Rattle.acvp_store.proofs.ranges.account_outside.Goals as goal
 
 pub returns-clause-read : goal.returns-clause-read
 returns-clause-read g c =
-    let old = state g.S.Store c.args.conn.now in
-    let new = state g.S.Store c.query_all.new.self in
-    read_as c.query_all.result c.number_in.result old new c.number_in.ensures.ok
-    (read (reading_text AccountOutside) _ old new (g.met.S.Store.shut_if_dirty c.query_all.new.self.store) (λ live. (c.requires live).ready) (asks_rows AccountOutside) c.query_all.ensures.survives c.query_all.result (λ v. v.items) c.query_all.ensures.ok c.query_all.ensures.err)
+    reads_rows AccountOutside _ _ _ c.query_all.ensures.survives
+    (g.met.S.Store.shut_if_dirty c.query_all.new.self.store) (λ live. (c.requires live).ready)
+    c.query_all.result (λ v. v.items) c.query_all.ensures.ok c.query_all.ensures.err
+    c.number_in.result c.number_in.ensures.ok
 
 pub returns-clause-none : goal.returns-clause-none
 returns-clause-none g c live =
     let old = state g.S.Store c.args.conn.now in
-    let new = state g.S.Store c.query_all.new.self in
-    let clean = clean_if_open new.is_clean new.is_open (g.met.S.Store.shut_if_dirty c.query_all.new.self.store) live in
+    let clean = clean_if_open _ _ (g.met.S.Store.shut_if_dirty c.query_all.new.self.store) live in
     let was = (returns-clause-read g c).stays.was_open live in
-    none_told 1 9999 (old.now.trees account_tree) c.query_all.result (λ v. v.items) c.number_in.result c.number_in.ensures.ok c.number_in.ensures.none
-    (IfOk-weaker c.query_all.result _ _ (λ rows shown. accounts_outside (c.requires was).schema.0 old new rows.items (c.requires was).schema.1 shown) (c.query_all.ensures.ok clean))
+    told c.query_all.result c.number_in.result c.number_in.ensures.ok _ _ _
+    (λ rows found is shown tree none. all_within 1 9999 (old.now.trees account_tree) tree.1 (outside_none AccountOutside (c.requires was).schema.0 account_tree 1 9999 refl (λ trees. refl) old _ rows.items (c.requires was).schema.1 shown (is none)))
+    c.number_in.ensures.none (c.query_all.ensures.ok clean)
 
 pub returns-clause-some : goal.returns-clause-some
 returns-clause-some g c live =
-    let old = state g.S.Store c.args.conn.now in
-    let new = state g.S.Store c.query_all.new.self in
-    let clean = clean_if_open new.is_clean new.is_open (g.met.S.Store.shut_if_dirty c.query_all.new.self.store) live in
+    let clean = clean_if_open _ _ (g.met.S.Store.shut_if_dirty c.query_all.new.self.store) live in
     let was = (returns-clause-read g c).stays.was_open live in
-    led_told _ (λ v. v.items) c.query_all.result c.number_in.result c.number_in.ensures.ok c.number_in.ensures.some
-    (IfOk-weaker c.query_all.result _ _ (λ rows shown. account_told (c.requires was).schema.0 old new rows.items (c.requires was).schema.1 shown) (c.query_all.ensures.ok clean))
+    told c.query_all.result c.number_in.result c.number_in.ensures.ok _ _ _
+    (λ rows found is shown number at. outside_told AccountOutside (c.requires was).schema.0 account_tree 1 9999 refl (λ trees. refl) _ _ rows.items (c.requires was).schema.1 shown number (is number at))
+    c.number_in.ensures.some (c.query_all.ensures.ok clean)

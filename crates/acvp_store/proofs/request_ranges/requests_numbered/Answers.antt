@@ -7,28 +7,25 @@ use Rattle.acvp_store.specs.Ranges.{is_between, first_number, last_number, FitsR
 use Rattle.acvp_store.specs.Stands.{request_tree, request_key, request_row, HoldsRequests}
 use Rattle.acvp_store.specs.Private.Columns.{request_columns}
 use Rattle.acvp_store.specs.Private.Requests.{request_shown}
-use Rattle.acvp_store.proofs.FoundRow.{read_as}
-use Rattle.acvp_store.proofs.QueryLeaves.{clean_if_open, read}
+use Rattle.acvp_store.proofs.QueryLeaves.{clean_if_open}
 use Rattle.acvp_store.proofs.RangeColumns.{IsRequestTyped, requests_typed, request_is, requests_met, requests_in_order}
 use Rattle.acvp_store.proofs.RangeRows.{range_given}
 use Rattle.acvp_store.proofs.RangeStrays.{stray_of, stray_same}
-use Rattle.acvp_store.proofs.Readings.{RequestRange, asks_rows, reading_text}
+use Rattle.acvp_store.proofs.Readings.{RequestRange, reads_rows}
 use Rattle.acvp_store.proofs.RequestRanges.{IsMember, each, shows, rows_through}
 use Rattle.acvp_store.proofs.request_ranges.requests_numbered.Goals as goal
 
 pub returns-clause-read : goal.returns-clause-read
 returns-clause-read g c =
-    let old = state g.S.Store c.args.conn.now in
-    let new = state g.S.Store c.query_all.new.self in
-    read_as c.ranged-found.result c.read_back.result old new c.read_back.ensures.ok
-    (read_as c.query_all.result c.ranged-found.result old new c.ranged-found.ensures.ok
-    (read (reading_text RequestRange) _ old new (g.met.S.Store.shut_if_dirty c.query_all.new.self.store) (λ live. (c.requires live).ready) (asks_rows RequestRange) c.query_all.ensures.survives c.query_all.result (λ v. v.items) c.query_all.ensures.ok c.query_all.ensures.err))
+    reads_rows RequestRange _ _ _ c.query_all.ensures.survives
+    (g.met.S.Store.shut_if_dirty c.query_all.new.self.store) (λ live. (c.requires live).ready)
+    c.query_all.result (λ v. v.items) c.query_all.ensures.ok c.query_all.ensures.err
+    c.read_back.result (λ ok. c.ranged-found.ensures.ok (c.read_back.ensures.ok ok))
 
 pub returns-clause-rows : goal.returns-clause-rows
 returns-clause-rows g c live =
     let old = state g.S.Store c.args.conn.now in
-    let new = state g.S.Store c.query_all.new.self in
-    let clean = clean_if_open new.is_clean new.is_open (g.met.S.Store.shut_if_dirty c.query_all.new.self.store) live in
+    let clean = clean_if_open _ _ (g.met.S.Store.shut_if_dirty c.query_all.new.self.store) live in
     let was = (returns-clause-read g c).stays.was_open live in
     let u = c.args.account in
     let first : SFits w64 c.numbers_of-numbers.result.first = search rules in
@@ -37,17 +34,16 @@ returns-clause-rows g c live =
     rows_through (first_number u) (last_number u) (old.now.trees request_tree) c.ranged-found.result c.read_back.result (λ v. v.items) c.read_back.ensures.ok c.read_back.ensures.same c.read_back.ensures.reads
     (range_given request_key request_row request_shown request_columns IsRequestTyped (λ s. refl) request_is (first_number u) (last_number u) low _ (old.now.trees request_tree) c.query_all.result (λ v. v.items) c.ranged-found.result (λ v. v.items) c.ranged-found.ensures.ok c.ranged-found.ensures.judged
     (λ full. requests_typed (c.requires was).schema.0 old.now (c.requires was).schema.1 (c.requires was).sound full)
-    (IfOk-weaker c.query_all.result _ _ (λ rows shown. requests_in_order (c.requires was).schema.0 (first_number u) (last_number u) old new rows.items (c.requires was).schema.1 (rw (c.params-to_sql.ensures, c.params-to_sql-2.ensures, to_z-of_z first, to_z-of_z last, c.numbers_of-numbers.ensures.first, c.numbers_of-numbers.ensures.last) at shown)) (c.query_all.ensures.ok clean)))
+    (IfOk-weaker c.query_all.result _ _ (λ rows shown. requests_in_order (c.requires was).schema.0 (first_number u) (last_number u) old _ rows.items (c.requires was).schema.1 (rw (c.params-to_sql.ensures, c.params-to_sql-2.ensures, to_z-of_z first, to_z-of_z last, c.numbers_of-numbers.ensures.first, c.numbers_of-numbers.ensures.last) at shown)) (c.query_all.ensures.ok clean)))
 
 pub returns-clause-stray : goal.returns-clause-stray
 returns-clause-stray g c live =
     let old = state g.S.Store c.args.conn.now in
-    let new = state g.S.Store c.query_all.new.self in
-    let clean = clean_if_open new.is_clean new.is_open (g.met.S.Store.shut_if_dirty c.query_all.new.self.store) live in
+    let clean = clean_if_open _ _ (g.met.S.Store.shut_if_dirty c.query_all.new.self.store) live in
     let was = (returns-clause-read g c).stays.was_open live in
     let u = c.args.account in
     let first : SFits w64 c.numbers_of-numbers.result.first = search rules in
     let last : SFits w64 c.numbers_of-numbers.result.last = search rules in
     stray_same (λ number. HasStrayRow HoldsRequests IsRequestRow FitsRequest (is_between (first_number u) (last_number u)) 0 number (old.now.trees request_tree)) c.ranged-found.result c.read_back.result c.read_back.ensures.stray
     (stray_of HoldsRequests IsRequestRow FitsRequest each IsMember request_shown request_columns 0 0 (λ r. refl) shows (is_between (first_number u) (last_number u)) (old.now.trees request_tree) c.query_all.result (λ v. v.items) c.ranged-found.result c.ranged-found.ensures.stray
-    (IfOk-weaker c.query_all.result _ _ (λ rows shown. requests_met (c.requires was).schema.0 (first_number u) (last_number u) old new rows.items (c.requires was).schema.1 (rw (c.params-to_sql.ensures, c.params-to_sql-2.ensures, to_z-of_z first, to_z-of_z last, c.numbers_of-numbers.ensures.first, c.numbers_of-numbers.ensures.last) at shown)) (c.query_all.ensures.ok clean)))
+    (IfOk-weaker c.query_all.result _ _ (λ rows shown. requests_met (c.requires was).schema.0 (first_number u) (last_number u) old _ rows.items (c.requires was).schema.1 (rw (c.params-to_sql.ensures, c.params-to_sql-2.ensures, to_z-of_z first, to_z-of_z last, c.numbers_of-numbers.ensures.first, c.numbers_of-numbers.ensures.last) at shown)) (c.query_all.ensures.ok clean)))

@@ -5,29 +5,27 @@ use Rattle.sqlite.specs.Held.{state}
 use Rattle.acvp_store.specs.Stands.{request_tree, HoldsRequests}
 use Rattle.acvp_store.specs.Private.Summaries.{PurposeReads, summary_shown}
 use Rattle.acvp_tables.specs.State.{AreWellNumbered}
-use Rattle.acvp_store.proofs.QueryLeaves.{clean_if_open, read}
-use Rattle.acvp_store.proofs.FoundRow.{read_as}
+use Rattle.acvp_store.proofs.QueryLeaves.{clean_if_open}
 use Rattle.acvp_store.proofs.RowLists.{all_listed}
 use Rattle.acvp_store.proofs.RequestPages.{request_page}
-use Rattle.acvp_store.proofs.Readings.{RequestPage, asks_rows, reading_text}
+use Rattle.acvp_store.proofs.Readings.{RequestPage, reads_rows}
 use Rattle.acvp_store.proofs.requests.page_requests.Goals as goal
 
 pub returns-clause-read : goal.returns-clause-read
 returns-clause-read g c =
-    let old = state g.S.Store c.args.conn.now in
-    let new = state g.S.Store c.query_all.new.self in
-    read_as c.query_all.result c.listed.result old new c.listed.ensures.ok
-    (read (reading_text RequestPage) _ old new (g.met.S.Store.shut_if_dirty c.query_all.new.self.store) (λ live. (c.requires live).ready) (asks_rows RequestPage) c.query_all.ensures.survives c.query_all.result (λ v. v.items) c.query_all.ensures.ok c.query_all.ensures.err)
+    reads_rows RequestPage _ _ _ c.query_all.ensures.survives
+    (g.met.S.Store.shut_if_dirty c.query_all.new.self.store) (λ live. (c.requires live).ready)
+    c.query_all.result (λ v. v.items) c.query_all.ensures.ok c.query_all.ensures.err
+    c.listed.result c.listed.ensures.ok
 
 pub returns-clause-found : goal.returns-clause-found
 returns-clause-found g c live =
     let old = state g.S.Store c.args.conn.now in
-    let new = state g.S.Store c.query_all.new.self in
-    let clean = clean_if_open new.is_clean new.is_open (g.met.S.Store.shut_if_dirty c.query_all.new.self.store) live in
+    let clean = clean_if_open _ _ (g.met.S.Store.shut_if_dirty c.query_all.new.self.store) live in
     let was = (returns-clause-read g c).stays.was_open live in
     let first : SFits w64 c.page_of-at.result.first = search rules in
     let last : SFits w64 c.page_of-at.result.last = search rules in
     let limit : SFits w64 c.page_of-at.result.limit = search rules in
     all_listed AreWellNumbered (λ d. HoldsRequests (old.now.trees request_tree) d.requests) (λ s. PurposeReads s.purpose) summary_shown c.query_all.result (λ v. v.items) c.listed.result (λ v. v.items) _ c.listed.ensures.ok c.listed.ensures.found
-    (IfOk-weaker c.query_all.result _ _ (λ rows shown d sound held. request_page (c.requires was).schema.0 c.args.account c.args.offset c.args.limit old new rows.items (c.requires was).schema.1
+    (IfOk-weaker c.query_all.result _ _ (λ rows shown d sound held. request_page (c.requires was).schema.0 c.args.account c.args.offset c.args.limit old _ rows.items (c.requires was).schema.1
     (rw (c.params-to_sql.ensures, c.params-to_sql-2.ensures, c.params-to_sql-3.ensures, to_z-of_z first, to_z-of_z last, to_z-of_z limit, c.page_of-at.ensures.first, c.page_of-at.ensures.last, c.page_of-at.ensures.limit) at shown) d sound held) (c.query_all.ensures.ok clean))

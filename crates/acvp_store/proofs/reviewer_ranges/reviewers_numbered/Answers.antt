@@ -6,25 +6,24 @@ use Rattle.sqlite.specs.Held.{state}
 use Rattle.acvp_store.specs.Ranges.{is_column_between, first_number, last_number, IsReviewerRow, FitsReviewer}
 use Rattle.acvp_store.specs.Stands.{reviewer_tree, reviewer_columns, HoldsReviewers}
 use Rattle.acvp_store.specs.Private.Columns.{columns_of_reviewer}
-use Rattle.acvp_store.proofs.FoundRow.{in_store, read_as}
-use Rattle.acvp_store.proofs.QueryLeaves.{clean_if_open, read}
+use Rattle.acvp_store.proofs.FoundRow.{in_store}
+use Rattle.acvp_store.proofs.QueryLeaves.{clean_if_open}
 use Rattle.acvp_store.proofs.RangeStrays.{fault_in_store, stray_of}
-use Rattle.acvp_store.proofs.Readings.{ReviewerRange, asks_rows, reading_text}
+use Rattle.acvp_store.proofs.Readings.{ReviewerRange, reads_rows}
 use Rattle.acvp_store.proofs.ReviewerRanges.{reviewers_typed, reviewers_met, rows_told, each, shows}
 use Rattle.acvp_store.proofs.reviewer_ranges.reviewers_numbered.Goals as goal
 
 pub returns-clause-read : goal.returns-clause-read
 returns-clause-read g c =
-    let old = state g.S.Store c.args.conn.now in
-    let new = state g.S.Store c.query_all.new.self in
-    read_as c.query_all.result c.ranged.result old new c.ranged.ensures.ok
-    (read (reading_text ReviewerRange) _ old new (g.met.S.Store.shut_if_dirty c.query_all.new.self.store) (λ live. (c.requires live).ready) (asks_rows ReviewerRange) c.query_all.ensures.survives c.query_all.result (λ v. v.items) c.query_all.ensures.ok c.query_all.ensures.err)
+    reads_rows ReviewerRange _ _ _ c.query_all.ensures.survives
+    (g.met.S.Store.shut_if_dirty c.query_all.new.self.store) (λ live. (c.requires live).ready)
+    c.query_all.result (λ v. v.items) c.query_all.ensures.ok c.query_all.ensures.err
+    c.ranged.result c.ranged.ensures.ok
 
 pub returns-clause-rows : goal.returns-clause-rows
 returns-clause-rows g c live =
     let old = state g.S.Store c.args.conn.now in
-    let new = state g.S.Store c.query_all.new.self in
-    let clean = clean_if_open new.is_clean new.is_open (g.met.S.Store.shut_if_dirty c.query_all.new.self.store) live in
+    let clean = clean_if_open _ _ (g.met.S.Store.shut_if_dirty c.query_all.new.self.store) live in
     let was = (returns-clause-read g c).stays.was_open live in
     let u = c.args.account in
     let first : SFits w64 c.numbers_of-numbers.result.first = search rules in
@@ -33,17 +32,16 @@ returns-clause-rows g c live =
     in_store c.ranged.result old.now _ (λ layout schema.
     rows_told (first_number u) (last_number u) low _ (old.now.trees (reviewer_tree layout)) c.query_all.result (λ v. v.items) c.ranged.result (λ v. v.items) c.ranged.ensures.ok c.ranged.ensures.judged
     (reviewers_typed layout old.now schema (c.requires was).sound)
-    (IfOk-weaker c.query_all.result _ _ (λ rows shown. reviewers_met layout (first_number u) (last_number u) old new rows.items schema (rw (c.params-to_sql.ensures, c.params-to_sql-2.ensures, to_z-of_z first, to_z-of_z last, c.numbers_of-numbers.ensures.first, c.numbers_of-numbers.ensures.last) at shown)) (c.query_all.ensures.ok clean)))
+    (IfOk-weaker c.query_all.result _ _ (λ rows shown. reviewers_met layout (first_number u) (last_number u) old _ rows.items schema (rw (c.params-to_sql.ensures, c.params-to_sql-2.ensures, to_z-of_z first, to_z-of_z last, c.numbers_of-numbers.ensures.first, c.numbers_of-numbers.ensures.last) at shown)) (c.query_all.ensures.ok clean)))
 
 pub returns-clause-stray : goal.returns-clause-stray
 returns-clause-stray g c live =
     let old = state g.S.Store c.args.conn.now in
-    let new = state g.S.Store c.query_all.new.self in
-    let clean = clean_if_open new.is_clean new.is_open (g.met.S.Store.shut_if_dirty c.query_all.new.self.store) live in
+    let clean = clean_if_open _ _ (g.met.S.Store.shut_if_dirty c.query_all.new.self.store) live in
     let was = (returns-clause-read g c).stays.was_open live in
     let u = c.args.account in
     let first : SFits w64 c.numbers_of-numbers.result.first = search rules in
     let last : SFits w64 c.numbers_of-numbers.result.last = search rules in
     fault_in_store c.ranged.result old.now _ (λ layout schema.
     stray_of HoldsReviewers IsReviewerRow FitsReviewer each (λ r. ⊤ × FitsReviewer r) reviewer_columns columns_of_reviewer 0 1 (λ r. refl) shows (is_column_between 1 (first_number u) (last_number u)) (old.now.trees (reviewer_tree layout)) c.query_all.result (λ v. v.items) c.ranged.result c.ranged.ensures.stray
-    (IfOk-weaker c.query_all.result _ _ (λ rows shown. reviewers_met layout (first_number u) (last_number u) old new rows.items schema (rw (c.params-to_sql.ensures, c.params-to_sql-2.ensures, to_z-of_z first, to_z-of_z last, c.numbers_of-numbers.ensures.first, c.numbers_of-numbers.ensures.last) at shown)) (c.query_all.ensures.ok clean)))
+    (IfOk-weaker c.query_all.result _ _ (λ rows shown. reviewers_met layout (first_number u) (last_number u) old _ rows.items schema (rw (c.params-to_sql.ensures, c.params-to_sql-2.ensures, to_z-of_z first, to_z-of_z last, c.numbers_of-numbers.ensures.first, c.numbers_of-numbers.ensures.last) at shown)) (c.query_all.ensures.ok clean)))

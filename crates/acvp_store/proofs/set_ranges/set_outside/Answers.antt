@@ -1,35 +1,37 @@
-use Rattle.std.proofs.lemmas.Result.{IfOk-weaker}
+use Rattle.std.proofs.Common.{refl}
 use Rattle.sqlite.specs.Held.{state}
 use Rattle.acvp_store.specs.Ranges.{first_set, last_set}
 use Rattle.acvp_store.specs.Stands.{set_tree}
-use Rattle.acvp_store.proofs.FoundRow.{in_store, read_as}
-use Rattle.acvp_store.proofs.QueryLeaves.{clean_if_open, read}
-use Rattle.acvp_store.proofs.RangeOutside.{none_told, led_told}
-use Rattle.acvp_store.proofs.Readings.{SetOutside, asks_rows, reading_text}
-use Rattle.acvp_store.proofs.SetRanges.{set_told, sets_outside}
+use Rattle.acvp_store.proofs.RangeOutside.{all_within}
+use Rattle.acvp_store.proofs.Told.{told}
+use Rattle.acvp_store.proofs.FoundRow.{in_store}
+use Rattle.acvp_store.proofs.QueryLeaves.{clean_if_open}
+use Rattle.acvp_store.proofs.Readings.{SetOutside, reads_rows}
+use Rattle.acvp_store.proofs.RangeColumns.{outside_none, outside_told}
+use Rattle.acvp_store.proofs.Places.{sets_seen}
 use Rattle.acvp_store.proofs.set_ranges.set_outside.Goals as goal
 
 pub returns-clause-read : goal.returns-clause-read
 returns-clause-read g c =
-    let old = state g.S.Store c.args.conn.now in
-    let new = state g.S.Store c.query_all.new.self in
-    read_as c.query_all.result c.number_in.result old new c.number_in.ensures.ok
-    (read (reading_text SetOutside) _ old new (g.met.S.Store.shut_if_dirty c.query_all.new.self.store) (λ live. (c.requires live).ready) (asks_rows SetOutside) c.query_all.ensures.survives c.query_all.result (λ v. v.items) c.query_all.ensures.ok c.query_all.ensures.err)
+    reads_rows SetOutside _ _ _ c.query_all.ensures.survives
+    (g.met.S.Store.shut_if_dirty c.query_all.new.self.store) (λ live. (c.requires live).ready)
+    c.query_all.result (λ v. v.items) c.query_all.ensures.ok c.query_all.ensures.err
+    c.number_in.result c.number_in.ensures.ok
 
 pub returns-clause-none : goal.returns-clause-none
 returns-clause-none g c live =
     let old = state g.S.Store c.args.conn.now in
-    let new = state g.S.Store c.query_all.new.self in
-    let clean = clean_if_open new.is_clean new.is_open (g.met.S.Store.shut_if_dirty c.query_all.new.self.store) live in
+    let clean = clean_if_open _ _ (g.met.S.Store.shut_if_dirty c.query_all.new.self.store) live in
     in_store c.number_in.result old.now _ (λ layout schema.
-    none_told (first_set 1) (last_set 9999) (old.now.trees (set_tree layout)) c.query_all.result (λ v. v.items) c.number_in.result c.number_in.ensures.ok c.number_in.ensures.none
-    (IfOk-weaker c.query_all.result _ _ (λ rows shown. sets_outside layout old new rows.items schema shown) (c.query_all.ensures.ok clean)))
+    told c.query_all.result c.number_in.result c.number_in.ensures.ok _ _ _
+    (λ rows found is shown tree none. all_within (first_set 1) (last_set 9999) (old.now.trees (set_tree layout)) tree.1 (outside_none SetOutside layout (set_tree layout) 100000000 999999999999 refl (sets_seen layout) old _ rows.items schema shown (is none)))
+    c.number_in.ensures.none (c.query_all.ensures.ok clean))
 
 pub returns-clause-some : goal.returns-clause-some
 returns-clause-some g c live =
     let old = state g.S.Store c.args.conn.now in
-    let new = state g.S.Store c.query_all.new.self in
-    let clean = clean_if_open new.is_clean new.is_open (g.met.S.Store.shut_if_dirty c.query_all.new.self.store) live in
+    let clean = clean_if_open _ _ (g.met.S.Store.shut_if_dirty c.query_all.new.self.store) live in
     in_store c.number_in.result old.now _ (λ layout schema.
-    led_told _ (λ v. v.items) c.query_all.result c.number_in.result c.number_in.ensures.ok c.number_in.ensures.some
-    (IfOk-weaker c.query_all.result _ _ (λ rows shown. set_told layout old new rows.items schema shown) (c.query_all.ensures.ok clean)))
+    told c.query_all.result c.number_in.result c.number_in.ensures.ok _ _ _
+    (λ rows found is shown number at. outside_told SetOutside layout (set_tree layout) 100000000 999999999999 refl (sets_seen layout) old _ rows.items schema shown number (is number at))
+    c.number_in.ensures.some (c.query_all.ensures.ok clean))

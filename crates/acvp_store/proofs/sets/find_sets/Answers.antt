@@ -3,9 +3,9 @@ use mir.Val.{SFits}
 use Rattle.std.proofs.lemmas.Result.{IfOk-weaker}
 use Rattle.sqlite.specs.Held.{state}
 use Rattle.acvp_store.specs.Stands.{set_tree}
-use Rattle.acvp_store.proofs.Readings.{SetsOf, asks_rows, reading_text}
-use Rattle.acvp_store.proofs.QueryLeaves.{clean_if_open, read}
-use Rattle.acvp_store.proofs.FoundRow.{in_store, read_as}
+use Rattle.acvp_store.proofs.Readings.{SetsOf, reads_rows}
+use Rattle.acvp_store.proofs.QueryLeaves.{clean_if_open}
+use Rattle.acvp_store.proofs.FoundRow.{in_store}
 use Rattle.acvp_store.specs.Private.Sets.{short_shown, short_columns, is_live_row, IsJudged}
 use Rattle.acvp_store.proofs.QueryRows.{met}
 use Rattle.acvp_store.proofs.RowsMet.{sets_met, judged_each}
@@ -15,16 +15,15 @@ use Rattle.acvp_store.proofs.sets.find_sets.Goals as goal
 
 pub returns-clause-read : goal.returns-clause-read
 returns-clause-read g c =
-    let old = state g.S.Store c.args.conn.now in
-    let new = state g.S.Store c.query_all.new.self in
-    read_as c.query_all.result c.summaries_in.result old new (λ ok. c.listed.ensures.ok (c.summaries_in.ensures.ok ok))
-    (read (reading_text SetsOf) _ old new (g.met.S.Store.shut_if_dirty c.query_all.new.self.store) (λ live. (c.requires live).ready) (asks_rows SetsOf) c.query_all.ensures.survives c.query_all.result (λ v. v.items) c.query_all.ensures.ok c.query_all.ensures.err)
+    reads_rows SetsOf _ _ _ c.query_all.ensures.survives
+    (g.met.S.Store.shut_if_dirty c.query_all.new.self.store) (λ live. (c.requires live).ready)
+    c.query_all.result (λ v. v.items) c.query_all.ensures.ok c.query_all.ensures.err
+    c.summaries_in.result (λ ok. c.listed.ensures.ok (c.summaries_in.ensures.ok ok))
 
 pub returns-clause-found : goal.returns-clause-found
 returns-clause-found g c live =
     let old = state g.S.Store c.args.conn.now in
-    let new = state g.S.Store c.query_all.new.self in
-    let clean = clean_if_open new.is_clean new.is_open (g.met.S.Store.shut_if_dirty c.query_all.new.self.store) live in
+    let clean = clean_if_open _ _ (g.met.S.Store.shut_if_dirty c.query_all.new.self.store) live in
     let s = c.args.session in
     let low : c.key.result ≡ pos (s * 100) = c.key.ensures.fits (omega arith) in
     let high : c.key-2.result ≡ pos (s * 100 + 99) = c.key-2.ensures.fits (omega arith) in
@@ -32,13 +31,12 @@ returns-clause-found g c live =
     let fit_high : SFits w64 c.key-2.result = search rules in
     in_store c.summaries_in.result old.now _ (λ layout schema.
     find_live s (old.now.trees (set_tree layout)) (λ v. v.items) (λ v. v.items) (λ v. v.items) c.query_all.result c.listed.result c.summaries_in.result c.listed.ensures.ok c.summaries_in.ensures.ok (listed_plainly short_shown c.query_all.result (λ v. v.items) c.listed.result (λ v. v.items) c.listed.ensures.found) c.summaries_in.ensures.told
-    (IfOk-weaker c.query_all.result _ _ (λ rows shown. live_rows layout s old new rows.items schema (rw (c.params-to_sql.ensures, c.params-to_sql-2.ensures, to_z-of_z fit_low, to_z-of_z fit_high, low, high) at shown)) (c.query_all.ensures.ok clean)))
+    (IfOk-weaker c.query_all.result _ _ (λ rows shown. live_rows layout s old _ rows.items schema (rw (c.params-to_sql.ensures, c.params-to_sql-2.ensures, to_z-of_z fit_low, to_z-of_z fit_high, low, high) at shown)) (c.query_all.ensures.ok clean)))
 
 pub returns-clause-judged : goal.returns-clause-judged
 returns-clause-judged g c live =
     let old = state g.S.Store c.args.conn.now in
-    let new = state g.S.Store c.query_all.new.self in
-    let clean = clean_if_open new.is_clean new.is_open (g.met.S.Store.shut_if_dirty c.query_all.new.self.store) live in
+    let clean = clean_if_open _ _ (g.met.S.Store.shut_if_dirty c.query_all.new.self.store) live in
     let s = c.args.session in
     let low : c.key.result ≡ pos (s * 100) = c.key.ensures.fits (omega arith) in
     let high : c.key-2.result ≡ pos (s * 100 + 99) = c.key-2.ensures.fits (omega arith) in
@@ -47,4 +45,4 @@ returns-clause-judged g c live =
     in_store c.summaries_in.result old.now _ (λ layout schema.
     met (is_live_row s) short_columns short_shown _ (λ row x is. is) IsJudged (old.now.trees (set_tree layout)) (λ v. v.items) (λ v. v.items) c.query_all.result c.listed.result c.summaries_in.result c.listed.ensures.ok c.summaries_in.ensures.ok c.listed.ensures.judged
     (IfOk-weaker c.summaries_in.result _ _ (λ told tells. IfOk-weaker c.listed.result _ _ (λ found is. judged_each found.items told.items is) tells) c.summaries_in.ensures.told)
-    (IfOk-weaker c.query_all.result _ _ (λ rows shown. sets_met layout s old new rows.items schema (rw (c.params-to_sql.ensures, c.params-to_sql-2.ensures, to_z-of_z fit_low, to_z-of_z fit_high, low, high) at shown)) (c.query_all.ensures.ok clean)))
+    (IfOk-weaker c.query_all.result _ _ (λ rows shown. sets_met layout s old _ rows.items schema (rw (c.params-to_sql.ensures, c.params-to_sql-2.ensures, to_z-of_z fit_low, to_z-of_z fit_high, low, high) at shown)) (c.query_all.ensures.ok clean)))

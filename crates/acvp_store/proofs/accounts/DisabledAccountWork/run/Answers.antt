@@ -12,10 +12,8 @@ use Rattle.acvp_store.proofs.accounts.DisabledAccountWork.run.Goals as goal
 pub returns-clause-inside : goal.returns-clause-inside
 returns-clause-inside g c =
     let old = state g.S.Store c.args.tx.now.conn.now in
-    let new = state g.S.Store c.execute.new.self.conn.now in
     let n = c.args.self.now.account in
-    let Change = λ (layout : Layout). Alters layout account_tree HoldsAccounts (changed (is_account n) disabled) in
-    writes AccountDisabled (whole n ∷ []) old new (g.met.S.Store.shut_if_dirty c.execute.new.self.conn.now.store)
+    writes AccountDisabled (whole n ∷ []) old _ (g.met.S.Store.shut_if_dirty c.execute.new.self.conn.now.store)
     c.execute.result c.done.result c.done.ensures (λ clean on. rw (c.params-to_sql.ensures, c.from.ensures) at (c.execute.ensures.runs clean on))
     (λ off. ap (state g.S.Store) (c.execute.ensures.ended off).1) c.execute.ensures.survives
-    Change (λ layout. disable_effect layout old n)
+    _ (λ layout. disable_effect layout old n)

@@ -13,11 +13,9 @@ use Rattle.acvp_store.proofs.accounts.NewAccountWork.run.Goals as goal
 pub returns-clause-inside : goal.returns-clause-inside
 returns-clause-inside g c =
     let old = state g.S.Store c.args.tx.now.conn.now in
-    let new = state g.S.Store c.execute.new.self.conn.now in
     let a = c.args.self.now in
     let low : a.account < 2 ^ 63 = omega (arith, c.from.ensures) in
-    let Change = λ (layout : Layout). Alters layout account_tree HoldsAccounts (λ accounts. accounts ++ new_account a ∷ []) in
-    writes AccountAdded (whole a.account ∷ Blob a.secret ∷ []) old new (g.met.S.Store.shut_if_dirty c.execute.new.self.conn.now.store)
+    writes AccountAdded (whole a.account ∷ Blob a.secret ∷ []) old _ (g.met.S.Store.shut_if_dirty c.execute.new.self.conn.now.store)
     c.execute.result c.done.result c.done.ensures (λ clean on. rw (c.params-to_sql.ensures, c.params-to_sql-2.ensures, c.as_slice.ensures, c.from.ensures) at (c.execute.ensures.runs clean on))
     (λ off. ap (state g.S.Store) (c.execute.ensures.ended off).1) c.execute.ensures.survives
-    Change (λ layout. add_effect layout old a low)
+    _ (λ layout. add_effect layout old a low)

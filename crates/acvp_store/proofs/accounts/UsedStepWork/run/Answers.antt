@@ -13,11 +13,9 @@ use Rattle.acvp_store.proofs.accounts.UsedStepWork.run.Goals as goal
 pub returns-clause-inside : goal.returns-clause-inside
 returns-clause-inside g c =
     let old = state g.S.Store c.args.tx.now.conn.now in
-    let new = state g.S.Store c.execute.new.self.conn.now in
     let u = c.args.self.now in
     let fit_step : SFits w64 c.in_ok-step.step = search rules in
-    let Change = λ (layout : Layout). Alters layout account_tree HoldsAccounts (changed (is_account u.account) (with_step u.step)) in
-    writes StepUsed (whole u.account ∷ whole u.step ∷ []) old new (g.met.S.Store.shut_if_dirty c.execute.new.self.conn.now.store)
+    writes StepUsed (whole u.account ∷ whole u.step ∷ []) old _ (g.met.S.Store.shut_if_dirty c.execute.new.self.conn.now.store)
     c.execute.result c.done.result c.done.ensures (λ clean on. rw (c.params-to_sql.ensures, c.params-to_sql-2.ensures, to_z-of_z fit_step, c.in_ok-step.ensures.1, c.from.ensures) at (c.execute.ensures.runs clean on))
     (λ off. ap (state g.S.Store) (c.execute.ensures.ended off).1) c.execute.ensures.survives
-    Change (λ layout. step_effect layout old u.account u.step)
+    _ (λ layout. step_effect layout old u.account u.step)

@@ -10,12 +10,10 @@ use Rattle.acvp_store.proofs.objects.RegisteredWork.run.Goals as goal
 pub returns-clause-inside : goal.returns-clause-inside
 returns-clause-inside g c =
     let old = state g.S.Store c.args.tx.now.conn.now in
-    let new = state g.S.Store c.execute.new.self.conn.now in
     let r = c.args.self.now in
     let fit_request : SFits w64 c.in_ok-request.request = search rules in
     let fit_number : SFits w64 c.in_ok-number.number = search rules in
-    let Change = λ (layout : Layout). Registers layout r.request r.number in
-    writes ObjectRegistered (register_params r.request r.number) old new (g.met.S.Store.shut_if_dirty c.execute.new.self.conn.now.store)
+    writes ObjectRegistered (register_params r.request r.number) old _ (g.met.S.Store.shut_if_dirty c.execute.new.self.conn.now.store)
     c.execute.result c.done.result c.done.ensures (λ clean on. rw (c.params-to_sql.ensures, c.params-to_sql-2.ensures, to_z-of_z fit_request, to_z-of_z fit_number, c.in_ok-request.ensures.1, c.in_ok-number.ensures.1) at (c.execute.ensures.runs clean on))
     (λ off. ap (state g.S.Store) (c.execute.ensures.ended off).1) c.execute.ensures.survives
-    Change (λ layout. register_effect layout old r.request r.number c.in_ok-number.ensures.0)
+    _ (λ layout. register_effect layout old r.request r.number c.in_ok-number.ensures.0)

@@ -15,13 +15,11 @@ use Rattle.acvp_store.proofs.requests.DecidedRequestWork.run.Goals as goal
 pub returns-clause-inside : goal.returns-clause-inside
 returns-clause-inside g c =
     let old = state g.S.Store c.args.tx.now.conn.now in
-    let new = state g.S.Store c.execute.new.self.conn.now in
     let s = c.args.self.now in
-    let Change = λ (layout : Layout). Alters layout request_tree HoldsRequests (changed (is_request s.number) (with_status s.status)) in
-    writes RequestDecided (decide_params s.number s.status) old new (g.met.S.Store.shut_if_dirty c.execute.new.self.conn.now.store)
+    writes RequestDecided (decide_params s.number s.status) old _ (g.met.S.Store.shut_if_dirty c.execute.new.self.conn.now.store)
     c.execute.result c.done.result c.done.ensures (runs s.status refl)
     (λ off. ap (state g.S.Store) (c.execute.ensures.ended off).1) c.execute.ensures.survives
-    Change (λ layout. decide_effect layout old s.number s.status)
+    _ (λ layout. decide_effect layout old s.number s.status)
   where
     fit : SFits w64 c.in_ok-number.number
     fit = search rules

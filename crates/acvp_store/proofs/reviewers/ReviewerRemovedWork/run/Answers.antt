@@ -12,11 +12,9 @@ use Rattle.acvp_store.proofs.reviewers.ReviewerRemovedWork.run.Goals as goal
 pub returns-clause-inside : goal.returns-clause-inside
 returns-clause-inside g c =
     let old = state g.S.Store c.args.tx.now.conn.now in
-    let new = state g.S.Store c.execute.new.self.conn.now in
     let r = c.args.self.now.reviewer in
     let fit_session : SFits w64 c.in_ok-session.session = search rules in
-    let Change = λ (layout : Layout). Alters layout (reviewer_tree layout) HoldsReviewers (filter (λ row. not (is_pair r row))) in
-    writes ReviewerRemoved (reviewer_columns r) old new (g.met.S.Store.shut_if_dirty c.execute.new.self.conn.now.store)
+    writes ReviewerRemoved (reviewer_columns r) old _ (g.met.S.Store.shut_if_dirty c.execute.new.self.conn.now.store)
     c.execute.result c.done.result c.done.ensures (λ clean on. rw (c.params-to_sql.ensures, c.params-to_sql-2.ensures, to_z-of_z fit_session, c.in_ok-session.ensures.1, c.from.ensures) at (c.execute.ensures.runs clean on))
     (λ off. ap (state g.S.Store) (c.execute.ensures.ended off).1) c.execute.ensures.survives
-    Change (λ layout. remove_reviewer_effect layout old r)
+    _ (λ layout. remove_reviewer_effect layout old r)

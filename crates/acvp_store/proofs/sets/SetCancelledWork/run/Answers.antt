@@ -13,11 +13,9 @@ use Rattle.acvp_store.proofs.sets.SetCancelledWork.run.Goals as goal
 pub returns-clause-inside : goal.returns-clause-inside
 returns-clause-inside g c =
     let old = state g.S.Store c.args.tx.now.conn.now in
-    let new = state g.S.Store c.execute.new.self.conn.now in
     let s = c.args.self.now in
     let fit_number : SFits w64 c.in_ok-number.number = search rules in
-    let Change = λ (layout : Layout). Alters layout (set_tree layout) HoldsSets (changed (is_set s.number) cancelled_set) in
-    writes SetCancelled (whole s.number ∷ []) old new (g.met.S.Store.shut_if_dirty c.execute.new.self.conn.now.store)
+    writes SetCancelled (whole s.number ∷ []) old _ (g.met.S.Store.shut_if_dirty c.execute.new.self.conn.now.store)
     c.execute.result c.done.result c.done.ensures (λ clean on. rw (c.params-to_sql.ensures, to_z-of_z fit_number, c.in_ok-number.ensures.1) at (c.execute.ensures.runs clean on))
     (λ off. ap (state g.S.Store) (c.execute.ensures.ended off).1) c.execute.ensures.survives
-    Change (λ layout. cancel_set_effect layout old s.number)
+    _ (λ layout. cancel_set_effect layout old s.number)

@@ -9,4 +9,4 @@ use Rattle.acvp_store.proofs.store.SqlTables.add_account.Goals as goal
 pub returns : goal.returns
 returns g c =
     let x = c.args.account.now in
-    rw (← c.self.view_is) (changes g.S.Store c.self.inside.connection c.commit.new.conn (λ layout. Alters layout account_tree HoldsAccounts (λ rows. rows ++ new_account x ∷ [])) (after_order (order.AddAccount x)) c.self.invariant (λ layout d e h. h.schema) (added x) c.commit.result c.commit.ensures)
+    rw (← c.self.view_is) (changes g.S.Store c.self.inside.connection c.commit.new.conn _ _ c.self.invariant (λ layout d e h. h.schema) (added x) c.commit.result c.commit.ensures)

@@ -23,6 +23,5 @@ returns-in-Ok-false g c =
     let new = c.commit.new.conn in
     let read = reads g.S.Store old mid c.self.invariant (λ db live may. g.met.S.Store.settled old.store db live may) _ c.in-Ok-false.ensures.read in
     let serves = serves_read _ _ _ c.self.invariant c.in-Ok-false.ensures.read in
-    let Change = λ (layout : Layout). Alters layout (reviewer_tree layout) HoldsReviewers (with_reviewer r) in
     rw (← c.self.view_is) (read_then g.S.Store old mid new (after (change.AddReviewer r)) c.in-Ok-false.field-0 c.commit.result read
-    (changes g.S.Store mid new Change (after (change.AddReviewer r)) serves (λ layout d e h. h.schema) (reviewer_added r) c.commit.result c.commit.ensures))
+    (changes g.S.Store mid new _ _ serves (λ layout d e h. h.schema) (reviewer_added r) c.commit.result c.commit.ensures))

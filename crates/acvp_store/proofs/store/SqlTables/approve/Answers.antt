@@ -11,6 +11,4 @@ use Rattle.acvp_store.proofs.store.SqlTables.approve.Goals as goal
 pub returns : goal.returns
 returns g c =
     let x = c.args.approval.now in
-    let First = λ (layout : Layout). Registers layout x.request x.approved in
-    let Second = λ (layout : Layout). Alters layout request_tree HoldsRequests (changed (is_request x.request) (with_status (status.Approved x.approved))) in
-    rw (← c.self.view_is) (changes_both g.S.Store c.self.inside.connection c.commit.new.conn First Second (after_order (order.Approve x)) c.self.invariant (λ layout d e h. h.schema) (λ layout d e h. h.schema) (approved x) c.commit.result c.commit.ensures)
+    rw (← c.self.view_is) (changes_both g.S.Store c.self.inside.connection c.commit.new.conn _ _ _ c.self.invariant (λ layout d e h. h.schema) (λ layout d e h. h.schema) (approved x) c.commit.result c.commit.ensures)

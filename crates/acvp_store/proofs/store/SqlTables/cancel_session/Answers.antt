@@ -8,4 +8,4 @@ use Rattle.acvp_store.proofs.store.SqlTables.cancel_session.Goals as goal
 pub returns : goal.returns
 returns g c =
     let n = c.args.number in
-    rw (← c.self.view_is) (changes g.S.Store c.self.inside.connection c.commit.new.conn (λ layout. Alters layout session_tree HoldsSessions (changed (is_session n) cancelled_session)) (after (change.CancelSession n)) c.self.invariant (λ layout d e h. h.schema) (cancelled n) c.commit.result c.commit.ensures)
+    rw (← c.self.view_is) (changes g.S.Store c.self.inside.connection c.commit.new.conn _ _ c.self.invariant (λ layout d e h. h.schema) (cancelled n) c.commit.result c.commit.ensures)

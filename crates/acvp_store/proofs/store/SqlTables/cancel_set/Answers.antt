@@ -10,6 +10,4 @@ use Rattle.acvp_store.proofs.store.SqlTables.cancel_set.Goals as goal
 pub returns : goal.returns
 returns g c =
     let x = c.args.set.now in
-    let First = λ (layout : Layout). Alters layout (set_tree layout) HoldsSets (changed (is_set x.set) cancelled_set) in
-    let Second = λ (layout : Layout). Alters layout session_tree HoldsSessions (changed (is_session x.session) (with_counts x.live x.passed)) in
-    rw (← c.self.view_is) (changes_both g.S.Store c.self.inside.connection c.commit.new.conn First Second (after (change.CancelSet x)) c.self.invariant (λ layout d e h. h.schema) (λ layout d e h. h.schema) (set_cancelled x) c.commit.result c.commit.ensures)
+    rw (← c.self.view_is) (changes_both g.S.Store c.self.inside.connection c.commit.new.conn _ _ _ c.self.invariant (λ layout d e h. h.schema) (λ layout d e h. h.schema) (set_cancelled x) c.commit.result c.commit.ensures)

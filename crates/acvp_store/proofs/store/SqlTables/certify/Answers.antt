@@ -11,6 +11,4 @@ use Rattle.acvp_store.proofs.store.SqlTables.certify.Goals as goal
 pub returns : goal.returns
 returns g c =
     let x = c.args.request.now in
-    let First = λ (layout : Layout). Alters layout request_tree HoldsRequests (λ rows. rows ++ new_certification x ∷ []) in
-    let Second = λ (layout : Layout). Alters layout session_tree HoldsSessions (changed (is_session x.certification.session) (with_last_request x.number)) in
-    rw (← c.self.view_is) (changes_both g.S.Store c.self.inside.connection c.commit.new.conn First Second (after (change.Certify x)) c.self.invariant (λ layout d e h. h.schema) (λ layout d e h. h.schema) (certification_asked x) c.commit.result c.commit.ensures)
+    rw (← c.self.view_is) (changes_both g.S.Store c.self.inside.connection c.commit.new.conn _ _ _ c.self.invariant (λ layout d e h. h.schema) (λ layout d e h. h.schema) (certification_asked x) c.commit.result c.commit.ensures)

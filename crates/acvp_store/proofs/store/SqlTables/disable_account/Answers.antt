@@ -8,4 +8,4 @@ use Rattle.acvp_store.proofs.store.SqlTables.disable_account.Goals as goal
 pub returns : goal.returns
 returns g c =
     let x = c.args.account in
-    rw (← c.self.view_is) (changes g.S.Store c.self.inside.connection c.commit.new.conn (λ layout. Alters layout account_tree HoldsAccounts (changed (is_account x) disabled)) (after_order (order.DisableAccount x)) c.self.invariant (λ layout d e h. h.schema) (turned_off x) c.commit.result c.commit.ensures)
+    rw (← c.self.view_is) (changes g.S.Store c.self.inside.connection c.commit.new.conn _ _ c.self.invariant (λ layout d e h. h.schema) (turned_off x) c.commit.result c.commit.ensures)

@@ -10,6 +10,4 @@ use Rattle.acvp_store.proofs.store.SqlTables.keep_answers.Goals as goal
 pub returns : goal.returns
 returns g c =
     let k = c.args.kept.now in
-    let First = λ (layout : Layout). Alters layout (set_tree layout) HoldsSets (changed (is_set k.set) (with_graded k.graded)) in
-    let Second = λ (layout : Layout). Alters layout session_tree HoldsSessions (changed (is_session k.session) (with_passed k.passed)) in
-    rw (← c.self.view_is) (changes_both g.S.Store c.self.inside.connection c.commit.new.conn First Second (after (change.KeepAnswers k)) c.self.invariant (λ layout d e h. h.schema) (λ layout d e h. h.schema) (answers_kept k) c.commit.result c.commit.ensures)
+    rw (← c.self.view_is) (changes_both g.S.Store c.self.inside.connection c.commit.new.conn _ _ _ c.self.invariant (λ layout d e h. h.schema) (λ layout d e h. h.schema) (answers_kept k) c.commit.result c.commit.ensures)

@@ -11,6 +11,4 @@ use Rattle.acvp_store.proofs.store.SqlTables.new_session.Goals as goal
 pub returns : goal.returns
 returns g c =
     let s = c.args.session.now in
-    let First = λ (layout : Layout). Alters layout session_tree HoldsSessions (λ rows. rows ++ new_session s ∷ []) in
-    let Second = λ (layout : Layout). AddsSets layout (new_sets s.number s.epoch 1 s.registration.capabilities) in
-    rw (← c.self.view_is) (changes_both g.S.Store c.self.inside.connection c.commit.new.conn First Second (after (change.NewSession s)) c.self.invariant (λ layout d e h. h.schema) (λ layout d e h. h.schema) (session_begun s) c.commit.result c.commit.ensures)
+    rw (← c.self.view_is) (changes_both g.S.Store c.self.inside.connection c.commit.new.conn _ _ _ c.self.invariant (λ layout d e h. h.schema) (λ layout d e h. h.schema) (session_begun s) c.commit.result c.commit.ensures)

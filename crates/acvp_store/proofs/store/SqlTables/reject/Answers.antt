@@ -9,4 +9,4 @@ use Rattle.acvp_store.proofs.store.SqlTables.reject.Goals as goal
 pub returns : goal.returns
 returns g c =
     let n = c.args.number in
-    rw (← c.self.view_is) (changes g.S.Store c.self.inside.connection c.commit.new.conn (λ layout. Alters layout request_tree HoldsRequests (changed (is_request n) (with_status status.Rejected))) (after_order (order.Reject n)) c.self.invariant (λ layout d e h. h.schema) (rejected n) c.commit.result c.commit.ensures)
+    rw (← c.self.view_is) (changes g.S.Store c.self.inside.connection c.commit.new.conn _ _ c.self.invariant (λ layout d e h. h.schema) (rejected n) c.commit.result c.commit.ensures)
