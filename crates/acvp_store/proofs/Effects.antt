@@ -5,21 +5,24 @@ use Rattle.std.specs.List.{list_all}
 use Rattle.sqlite.specs.declared.types.Value.TheVariants.{Null}
 use Rattle.sqlite.specs.Order.{Row}
 use Rattle.sqlite.specs.Program.{overlay}
-use Rattle.sqlite.specs.Command.TheVariants.{Insert}
+use Rattle.sqlite.specs.Command.TheVariants.{Insert, Update, Delete}
 use Rattle.sqlite.specs.Source.TheVariants.{Values}
-use Rattle.sqlite.specs.Edit.{edit_of}
-use Rattle.sqlite.specs.Rowids.TheVariants.{Chosen}
+use Rattle.sqlite.specs.Edit.{Edit, edit_of}
+use Rattle.sqlite.specs.Rowids.TheVariants.{Chosen, Given}
 use Rattle.sqlite.specs.Cast.{cast_row}
 use Rattle.sqlite.specs.Table.{Table}
 use Rattle.sqlite.specs.Term.{Term, holds, eval_all}
 use Rattle.sqlite.specs.Tree.{Trees, rowid}
-use Rattle.sqlite.specs.Effect.{Database, value_rows}
+use Rattle.sqlite.specs.Effect.{Database, value_rows, Answers, IsSource}
 use Rattle.sqlite.specs.Does.{Tally, Does, AtPlace, OnRows, Concludes}
-use Rattle.sqlite.specs.Rows.{Written, Task}
+use Rattle.sqlite.specs.Rows.{Written, Task, stamped}
 use Rattle.sqlite.specs.State.{State, mode_of}
 use Rattle.sqlite.specs.declared.run.Mode.{Mode}
 use Rattle.sqlite_rules.specs.Action.{Writes}
+use Rattle.sqlite_rules.specs.Calls.{ids_of}
 use Rattle.sqlite_schema.specs.declared.command.Command.{Command}
+use Rattle.sqlite_schema.specs.declared.command.Source.{Source}
+use Rattle.sqlite_schema.specs.declared.program.Program.{Program}
 use Rattle.sqlite_schema.specs.declared.schema.Column.{Column}
 use Rattle.sqlite_schema.specs.declared.schema.Keys.TheVariants.{Enforced}
 use Rattle.sqlite_schema.specs.declared.schema.Reference.{Reference}
@@ -57,6 +60,64 @@ pub spares_then : (layout : Layout) (tree : ℕ) (a b c : Trees) → SparesOther
 spares_then layout tree a b c p q =
     all_both (λ (t : Table). t.tree ≢ tree → b t.tree ≡ a t.tree) (λ t. t.tree ≢ tree → c t.tree ≡ b t.tree) (λ t. t.tree ≢ tree → c t.tree ≡ a t.tree) (λ t p q apart. q apart ∙ p apart) (schema_of layout).tables p q
 
+-- ---- what a statement on the rows of a table leaves
+
+module _ (layout : Layout) (limit : Option ℕ) (t : Table) (params : Row) (trees : Trees) (tally : Tally) (after : Database) where
+  abbrev before : Database
+  before = record { schema = schema_of layout; trees = trees }
+
+  -- the trees of its edit, under the same schema
+  pub record Leaves (edit : Edit) : Type 0 where
+    pub schema : after.schema ≡ schema_of layout
+    pub writes : Writes (schema_of layout) Enforced trees edit (Ok after.trees)
+
+  leaves : (table : Table) (edit : Edit) (next : Trees) → Writes (schema_of layout) Enforced trees edit (Ok next)
+      → (w : Written) → w.trees ≡ next → Concludes (task_of layout limit table params) mode None w (Ok (tally, after))
+      → Leaves edit
+  leaves table edit next wrote w is h =
+      let now = concluded (task_of layout limit table params) w tally after h in
+      let trees_are : next ≡ after.trees = sym (ap (λ (d : Database). d.trees) now ∙ is) in
+      record {
+        schema = ap (λ (d : Database). d.schema) now;
+        writes = subst (λ n. Writes (schema_of layout) Enforced trees edit (Ok n)) trees_are wrote;
+      }
+
+  pub updated_rows : (at : ℕ) (q : Program)
+      → OnRows (task_of layout limit t params) mode None (Update at q) trees (Ok (tally, after))
+      → (rows : List Row) × Answers before q params rows × Leaves (edit_for t trees rows)
+  updated_rows at q does =
+      let done = went does in
+      let found = went done.1 in
+      let written = went found.2 in
+      let is = ap (λ (it : Written). it.trees) (same_value written.2) in
+      (found.0, found.1, leaves t (edit_for t trees found.0) written.0 written.1 done.0 is done.2)
+
+  pub deleted_rows : (at : ℕ) (q : Program)
+      → OnRows (task_of layout limit t params) mode None (Delete at q) trees (Ok (tally, after))
+      → (rows : List Row) × Answers before q params rows × Leaves (edit_of trees t (ids_of rows) Given 0 [])
+  deleted_rows at q does =
+      let done = went does in
+      let found = went done.1 in
+      let written = went found.2 in
+      let is = ap (λ (it : Written). it.trees) (same_value written.2) in
+      (found.0, found.1, leaves t (edit_of trees t (ids_of found.0) Given 0 []) written.0 written.1 done.0 is done.2)
+
+  -- of a table without AUTOINCREMENT
+  abbrev pub uncounted : Table
+  uncounted = record t { is_counted = false }
+
+  pub inserted_rows : (at : ℕ) (from : Source)
+      → OnRows (task_of layout limit uncounted params) mode None (Insert at from) trees (Ok (tally, after))
+      → (rows : List Row) × IsSource before (stamped uncounted params) from rows
+      × Leaves (edit_of trees uncounted [] Chosen 0 rows)
+  inserted_rows at from does =
+      let done = went does in
+      let source = went done.1 in
+      let written = went (went source.2).2 in
+      let counted = went written.2 in
+      let is = ap (λ (it : Written). it.trees) (same_value counted.2) ∙ same_value counted.1 in
+      (source.0, source.1, leaves uncounted (edit_of trees uncounted [] Chosen 0 source.0) written.0 written.1 done.0 is done.2)
+
 -- a statement does to a store's database what it does to each of that schema
 pub under_schema : (schema : Schema) (old : State) (params : Row) (text : List ℕ) (command : Command) (Change : Database → Database → Type 0)
     → ((limit : Option ℕ) (trees : Trees) (tally : Tally) (after : Database) → Does limit mode params (record { schema = schema; trees = trees }) text None command (Ok (tally, after)) → Change (record { schema = schema; trees = trees }) after)
@@ -78,18 +139,14 @@ module _ (layout : Layout) {A : Type 0} (key : A → ℕ) (stored : A → Row) (
         → OnRows (task_of layout limit table (whole n ∷ more)) mode None (update at table.tree terms) trees (Ok (tally, after))
         → Alters layout table.tree (AreKept key stored) (map (changing key n f)) (record { schema = schema_of layout; trees = trees }) after
     updated limit trees tally after does =
-        let done = went does in
-        let now = concluded (task_of layout limit table (whole n ∷ more)) done.0 tally after done.2 in
-        let found = went done.1 in
-        let written = went found.2 in
-        let trees_are : done.0.trees ≡ written.0 = ap (λ (it : Written). it.trees) (same_value written.2) in
-        let next : written.0 ≡ after.trees = sym (ap (λ (d : Database). d.trees) now ∙ trees_are) in
+        let it = updated_rows layout limit table (whole n ∷ more) trees tally after at _ does in
         record {
-          schema = ap (λ (d : Database). d.schema) now;
-          kept = λ list kept. subst (λ (t : Trees). AreKept key stored (t table.tree) (map (changing key n f) list)) next
-              (updates layout key stored rowid_is table casts n f keeps trees written.0 list kept found.0
-              (selected (whole n ∷ more) stored (λ a. key a == n) (equals 0 0 ∷ []) has_number table.tree (updating terms) (λ a. whole (key a) ∷ stored (f a)) shows (overlay trees []) kept.ordered found.0 (seen trees ∙ kept.rows_are) (found.1.answer Null)) written.1);
-          others = subst (SparesOthers layout table.tree trees) next (applied layout trees written.0 (edit_for table trees found.0) written.1).tables;
+          schema = it.2.schema;
+          kept = λ list kept. updates layout key stored rowid_is table casts n f keeps trees after.trees list kept it.0
+              (selected (whole n ∷ more) stored (λ a. key a == n) (equals 0 0 ∷ []) has_number table.tree (updating terms)
+              (λ a. whole (key a) ∷ stored (f a)) shows (overlay trees []) kept.ordered it.0 (seen trees ∙ kept.rows_are)
+              (it.1.answer Null)) it.2.writes;
+          others = (applied layout trees after.trees (edit_for table trees it.0) it.2.writes).tables;
         }
 
     pub update_effect : (old : State) → old.now.schema ≡ schema_of layout → (tally : Tally) (after : Database) → Does old.step_limit (mode_of old) (whole n ∷ more) old.now [] None (update at table.tree terms) (Ok (tally, after))
@@ -108,18 +165,13 @@ module _ (layout : Layout) {A : Type 0} (key : A → ℕ) (stored : A → Row) (
     inserted : (limit : Option ℕ) (trees : Trees) (tally : Tally) (after : Database) → OnRows (task_of layout limit table params) mode None (Insert at (Values terms width)) trees (Ok (tally, after))
         → Alters layout tree (AreKept key stored) (λ list. list ++ new ∷ []) (record { schema = schema_of layout; trees = trees }) after
     inserted limit trees tally after does =
-        let done = went does in
-        let now = concluded (task_of layout limit table params) done.0 tally after done.2 in
-        let source = went done.1 in
-        let written = went (went source.2).2 in
-        let counted = went written.2 in
-        let trees_are : done.0.trees ≡ written.0 = ap (λ (it : Written). it.trees) (same_value counted.2) ∙ same_value counted.1 in
-        let wrote = subst (λ rs. Writes (schema_of layout) Enforced trees (edit_of trees table [] Chosen 0 rs) (Ok written.0)) (source.1.1 ∙ values) written.1 in
-        let next : written.0 ≡ after.trees = sym (ap (λ (d : Database). d.trees) now ∙ trees_are) in
+        let it = inserted_rows layout limit table params trees tally after at (Values terms width) does in
+        let wrote = subst (λ rs. Writes (schema_of layout) Enforced trees (edit_of trees table [] Chosen 0 rs) (Ok after.trees))
+        (it.1.1 ∙ values) it.2.writes in
         record {
-          schema = ap (λ (d : Database). d.schema) now;
-          kept = λ list kept. subst (λ (t : Trees). AreKept key stored (t tree) (list ++ new ∷ [])) next (inserts layout key stored rowid_is table new (stored new) (casts new) trees written.0 low wrote list kept);
-          others = subst (SparesOthers layout tree trees) next (applied layout trees written.0 (edit_of trees table [] Chosen 0 (stored new ∷ [])) wrote).tables;
+          schema = it.2.schema;
+          kept = λ list kept. inserts layout key stored rowid_is table new (stored new) (casts new) trees after.trees low wrote list kept;
+          others = (applied layout trees after.trees (edit_of trees table [] Chosen 0 (stored new ∷ [])) wrote).tables;
         }
 
     pub insert_effect : (old : State) → old.now.schema ≡ schema_of layout → (tally : Tally) (after : Database) → Does old.step_limit (mode_of old) params old.now [] None (Insert at (Values terms width)) (Ok (tally, after))

@@ -32,7 +32,7 @@ use Rattle.acvp_store.specs.declared.setup.StoreTable.TheVariants as table
 use Rattle.acvp_store.proofs.Versions.{named_so}
 use Rattle.acvp_store.proofs.Texts.{is_making}
 use Rattle.acvp_store.proofs.Writings.{Effects, VersionAdded, writing_command, writing_terms}
-use Rattle.acvp_store.proofs.Effects.{under_schema}
+use Rattle.acvp_store.proofs.Effects.{inserted_rows, under_schema}
 use Rattle.acvp_store.proofs.Parts.{went, same_value, cast_null, cast_whole}
 
 -- a table is added, without a row, and the others keep theirs
@@ -79,20 +79,14 @@ versions : (limit : Option ℕ) (text : List ℕ) (trees : Trees) (tally : Tally
     → Does limit (record { keys = Enforced; in_doubt = false; may_wait = false }) [] (record { schema = schema_of Created; trees = trees }) text None (Insert 0 (Values (writing_terms VersionAdded) 3)) (Ok (tally, after))
     → WritesVersion 3 (record { schema = schema_of Created; trees = trees }) after
 versions limit text trees tally after does =
-    let done = went does in
-    let now = ap (λ (p : Tally × Database). p.1) (same_value (went (went done.2).2).2) in
-    let source = went done.1 in
-    let written = went (went source.2).2 in
-    let counted = went written.2 in
-    let trees_are : done.0.trees ≡ written.0 = ap (λ (it : Written). it.trees) (same_value counted.2) ∙ same_value counted.1 in
-    let wrote = subst (λ rs. Writes (schema_of Created) Enforced trees (edit_of trees (meta_table 0) [] Chosen 0 rs) (Ok written.0)) source.1.1 written.1 in
-    let applied = one_step (schema_of Created) Enforced trees written.0 (edit_of trees (meta_table 0) [] Chosen 0 (given ∷ [])) refl wrote in
-    let rows : trees 0 ≡ [] → written.0 0 ≡ version_row 3 ∷ [] = λ none. applied.rows ∙ ap (put_all (trees 0)) (numbered_first (cast_row (meta_table 0) given) (trees 0) none cast_given) ∙ rw none refl in
-    let next : written.0 ≡ after.trees = sym (ap (λ (d : Database). d.trees) now ∙ trees_are) in
+    let it = inserted_rows Created limit (meta_table 0) [] trees tally after 0 (Values (writing_terms VersionAdded) 3) does in
+    let wrote = subst (λ rs. Writes (schema_of Created) Enforced trees (edit_of trees (meta_table 0) [] Chosen 0 rs) (Ok after.trees)) it.1.1 it.2.writes in
+    let applied = one_step (schema_of Created) Enforced trees after.trees (edit_of trees (meta_table 0) [] Chosen 0 (given ∷ [])) refl wrote in
+    let rows : trees 0 ≡ [] → after.trees 0 ≡ version_row 3 ∷ [] = λ none. applied.rows ∙ ap (put_all (trees 0)) (numbered_first (cast_row (meta_table 0) given) (trees 0) none cast_given) ∙ rw none refl in
     record {
-      schema = ap (λ (d : Database). d.schema) now;
-      written = λ none. subst (HasVersion 3) next (named_so 3 written.0 (rows none));
-      others = subst (SparesOthers Created 0 trees) next applied.tables;
+      schema = it.2.schema;
+      written = λ none. named_so 3 after.trees (rows none);
+      others = applied.tables;
     }
 
 pub version_effect : (old : State) → Effects VersionAdded Created [] old (WritesVersion 3)

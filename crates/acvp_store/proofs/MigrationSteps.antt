@@ -39,7 +39,7 @@ use Rattle.acvp_store.specs.Schema.{Layout, Migrated, schema_of, meta_table, old
 use Rattle.acvp_store.specs.Stands.{SetColumns, set_key, set_row, old_set_columns, old_set_row, of_first_epoch, HoldsSets, HoldsOldSets, Entry, entry_row}
 use Rattle.acvp_store.specs.Values.{whole, flag}
 use Rattle.acvp_store.specs.Private.Migration.{CopiesSets, EmptiesOldSets, RaisesVersion}
-use Rattle.acvp_store.proofs.Effects.{concluded, mode, task_of, under_schema}
+use Rattle.acvp_store.proofs.Effects.{deleted_rows, inserted_rows, mode, under_schema, updated_rows}
 use Rattle.acvp_store.proofs.Entries.{removed}
 use Rattle.acvp_store.proofs.Idle.{applied}
 use Rattle.acvp_store.proofs.InsertedRow.{not_false}
@@ -121,19 +121,13 @@ copying : (limit : Option ℕ) (text : List ℕ) (trees : Trees) (tally : Tally)
     → Does limit mode [] (record { schema = schema_of Migrated; trees = trees }) text None (Insert 6 (source.Query (record { lets = []; body = copy_query }))) (Ok (tally, after))
     → CopiesSets (record { schema = schema_of Migrated; trees = trees }) after
 copying limit text trees tally after does =
-    let done = went does in
-    let now = concluded (task_of Migrated limit (set_table 8) []) done.0 tally after done.2 in
-    let rows = went done.1 in
-    let written = went (went rows.2).2 in
-    let counted = went written.2 in
-    let trees_are : done.0.trees ≡ written.0 = ap (λ (it : Written). it.trees) (same_value counted.2) ∙ same_value counted.1 in
-    let next : written.0 ≡ after.trees = sym (ap (λ (d : Database). d.trees) now ∙ trees_are) in
+    let it = inserted_rows Migrated limit (set_table 8) [] trees tally after 6 (source.Query (record { lets = []; body = copy_query })) does in
     record {
-      schema = ap (λ (d : Database). d.schema) now;
+      schema = it.2.schema;
       copied = λ none sets h.
-          let found = selected_by [] old_set_row (λ c. true) [] (λ c. refl) copy_query.collations 4 copy_query.project copied (λ c. refl) (overlay trees []) h.kept.ordered rows.0 h.kept.rows_are (rows.1.answer Null) in
-          subst (λ (t : Trees). HoldsSets (t 8) sets) next (copies trees written.0 rows.0 written.1 none sets h found);
-      others = subst (SparesOthers Migrated 8 trees) next (applied Migrated trees written.0 (edit_of trees (set_table 8) [] Chosen 0 rows.0) written.1).tables;
+          let found = selected_by [] old_set_row (λ c. true) [] (λ c. refl) copy_query.collations 4 copy_query.project copied (λ c. refl) (overlay trees []) h.kept.ordered it.0 h.kept.rows_are (it.1.answer Null) in
+          copies trees after.trees it.0 it.2.writes none sets h found;
+      others = (applied Migrated trees after.trees (edit_of trees (set_table 8) [] Chosen 0 it.0) it.2.writes).tables;
     }
 
 pub copy_effect : (old : State) → old.now.schema ≡ schema_of Migrated → (tally : Tally) (after : Database)
@@ -163,22 +157,17 @@ deleting : (limit : Option ℕ) (text : List ℕ) (trees : Trees) (tally : Tally
     → Does limit mode [] (record { schema = schema_of Migrated; trees = trees }) text None (Delete 3 (record { lets = []; body = old_sets_query })) (Ok (tally, after))
     → EmptiesOldSets (record { schema = schema_of Migrated; trees = trees }) after
 deleting limit text trees tally after does =
-    let done = went does in
-    let now = concluded (task_of Migrated limit (old_set_table 4) []) done.0 tally after done.2 in
-    let found = went done.1 in
-    let written = went found.2 in
-    let trees_are : done.0.trees ≡ written.0 = ap (λ (it : Written). it.trees) (same_value written.2) in
-    let next : written.0 ≡ after.trees = sym (ap (λ (d : Database). d.trees) now ∙ trees_are) in
-    let it = applied Migrated trees written.0 (edit_of trees (old_set_table 4) (ids_of found.0) Given 0 []) written.1 in
+    let deleted = deleted_rows Migrated limit (old_set_table 4) [] trees tally after 3 _ does in
+    let it = applied Migrated trees after.trees (edit_of trees (old_set_table 4) (ids_of deleted.0) Given 0 []) deleted.2.writes in
     record {
-      schema = ap (λ (d : Database). d.schema) now;
+      schema = deleted.2.schema;
       emptied = λ sets h.
           let entries = map entry_of h.kept.ordered in
           let has : trees 4 ≡ map (entry_row old_set_columns) entries = h.kept.rows_are ∙ entry_rows h.kept.ordered in
-          let rows = selected [] (entry_row old_set_columns) (λ e. true) [] (λ e. refl) 4 old_sets_query.project (λ e. Int e.id ∷ []) (λ e. refl) (overlay trees []) entries found.0 has (found.1.answer Null) in
-          let left = it.rows ∙ ap (λ all. without_all all (ids_of found.0)) has ∙ removed old_set_columns (λ e. true) entries found.0 (entries_rise h.kept.ordered h.kept.rising) rows in
-          subst (λ (t : Trees). t 4 ≡ []) next (left ∙ ap (map (entry_row old_set_columns)) (none_passes entries));
-      others = subst (SparesOthers Migrated 4 trees) next it.tables;
+          let rows = selected [] (entry_row old_set_columns) (λ e. true) [] (λ e. refl) 4 old_sets_query.project (λ e. Int e.id ∷ []) (λ e. refl) (overlay trees []) entries deleted.0 has (deleted.1.answer Null) in
+          let left = it.rows ∙ ap (λ all. without_all all (ids_of deleted.0)) has ∙ removed old_set_columns (λ e. true) entries deleted.0 (entries_rise h.kept.ordered h.kept.rising) rows in
+          left ∙ ap (map (entry_row old_set_columns)) (none_passes entries);
+      others = it.tables;
     }
 
 pub delete_effect : (old : State) → old.now.schema ≡ schema_of Migrated → (tally : Tally) (after : Database)
@@ -268,18 +257,13 @@ raising : (layout : Layout) (limit : Option ℕ) (text : List ℕ) (trees : Tree
     → Does limit mode [] (record { schema = schema_of layout; trees = trees }) text None (Update 0 (record { lets = []; body = raise_query })) (Ok (tally, after))
     → RaisesVersion layout (record { schema = schema_of layout; trees = trees }) after
 raising layout limit text trees tally after does =
-    let done = went does in
-    let now = concluded (task_of layout limit (meta_table 0) []) done.0 tally after done.2 in
-    let found = went done.1 in
-    let written = went found.2 in
-    let trees_are : done.0.trees ≡ written.0 = ap (λ (it : Written). it.trees) (same_value written.2) in
-    let next : written.0 ≡ after.trees = sym (ap (λ (d : Database). d.trees) now ∙ trees_are) in
-    let it = applied layout trees written.0 (edit_for (meta_table 0) trees found.0) written.1 in
-    let rows = selected [] (λ (r : Row). r) is_schema_row raise_query.filter (λ r. rw test_text (and_true _)) 0 raise_query.project renewed (λ r. refl) (overlay trees []) (trees 0) found.0 (map_same _) (found.1.answer Null) in
+    let updated = updated_rows layout limit (meta_table 0) [] trees tally after 0 _ does in
+    let it = applied layout trees after.trees (edit_for (meta_table 0) trees updated.0) updated.2.writes in
+    let rows = selected [] (λ (r : Row). r) is_schema_row raise_query.filter (λ r. rw test_text (and_true _)) 0 raise_query.project renewed (λ r. refl) (overlay trees []) (trees 0) updated.0 (map_same _) (updated.1.answer Null) in
     record {
-      schema = ap (λ (d : Database). d.schema) now;
-      raised = λ n named. subst (HasVersion 3) next (ap (list_any (is_version_row 3)) it.rows ∙ rewritten n (trees 0) _ found.0 named rows);
-      others = subst (SparesOthers layout 0 trees) next it.tables;
+      schema = updated.2.schema;
+      raised = λ n named. ap (list_any (is_version_row 3)) it.rows ∙ rewritten n (trees 0) _ updated.0 named rows;
+      others = it.tables;
     }
 
 pub raise_effect : (layout : Layout) (old : State) → Effects VersionRaised layout [] old (RaisesVersion layout)

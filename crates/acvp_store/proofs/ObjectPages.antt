@@ -25,7 +25,7 @@ use Rattle.acvp_store.specs.Stands.{Entry, entry_row, HoldsObjects, object_colum
 use Rattle.acvp_store.proofs.Keyed.{none_passes, small_or_large}
 use Rattle.acvp_store.proofs.AccountPages.{test_range, most}
 use Rattle.acvp_store.proofs.RowLists.{all_taken, all_dropped}
-use Rattle.acvp_store.proofs.ObjectRows.{is_it, neither, none_fits}
+use Rattle.acvp_store.proofs.ObjectRows.{is_it, objects_at}
 use Rattle.acvp_store.proofs.Owned.{last_number, in_range, range_drops, rising_dropped, object_numbers, object_selection}
 use Rattle.acvp_store.proofs.OrderedRows.{paged, capped_page}
 use Rattle.acvp_store.proofs.QueryForms.{equals, within}
@@ -35,29 +35,12 @@ use Rattle.acvp_store.proofs.SelectedRows.{test_equals, test_none, selected}
 
 -- ---- by its kind and number
 
--- the rows that pass, as those of the list
-module _ (layout : Layout) (k : ℕ) (n : ℤ) (p : ObjectRow → Bool) (tests : (o : ObjectRow) → (is_true (binary (Compare Eq Binary) (whole (kind_number o.object.kind)) (whole k)) && (is_true (binary (Compare Eq Binary) (whole o.number) (Int n)) && true)) ≡ p o) where
-  rows_of : (old new : State) (rows : List Row) → old.now.schema ≡ schema_of layout → Shown (reading_text ObjectAt) (whole k ∷ Int n ∷ []) old new rows → (objects : List ObjectRow) → HoldsObjects (old.now.trees object_tree) objects → IsPermutation (map object_columns (filter p objects)) rows
-  rows_of old new rows schema shown objects h =
-      let row = λ (e : Entry ObjectRow). e.row in
-      let found = selected (whole k ∷ Int n ∷ []) (entry_row object_columns) (λ e. p e.row) (equals 1 0 ∷ equals 2 1 ∷ []) (λ e. tests e.row) object_tree object_terms (λ e. object_columns e.row) (λ e. refl) (overlay old.now.trees []) h.entries rows h.rows_are
-      (answers ObjectAt layout (whole k ∷ Int n ∷ []) old new rows schema shown) in
-      let same : IsPermutation (map row (filter (λ e. p e.row) h.entries)) (filter p objects) = subst (λ xs. IsPermutation xs (filter p objects)) (filter-map p row h.entries) (IsPermutation-filter p _ objects h.same) in
-      IsPermutation-trans _ _ _ (IsPermutation-sym _ _ (IsPermutation-map object_columns _ _ same)) (subst (λ xs. IsPermutation xs rows) (sym (map-map object_columns row (filter (λ e. p e.row) h.entries))) found)
-
-object_rows : (layout : Layout) (kind : Kind) (n : ℕ) (k : ℤ) → (n < 2 ^ 63 → k ≡ pos n) → (2 ^ 63 ≤ n → k ≡ negsuc 0) → (old new : State) (rows : List Row) → old.now.schema ≡ schema_of layout → Shown (reading_text ObjectAt) (whole (kind_number kind) ∷ Int k ∷ []) old new rows
-    → (objects : List ObjectRow) → HoldsObjects (old.now.trees object_tree) objects → FitColumns objects → IsPermutation (map object_columns (filter (is_it kind n) objects)) rows
-object_rows layout kind n k fits large old new rows schema shown objects h fit = elim (small_or_large n) [
-  | inl low ↦
-      rows_of layout (kind_number kind) k (is_it kind n) (λ o. both_true _ _ (is_kind o.object.kind kind) (o.number == n) (test_equals (kind_number o.object.kind) (kind_number kind)) (rw (fits low) (test_equals o.number n))) old new rows schema shown objects h
-  | inr high ↦
-      let found = rows_of layout (kind_number kind) k (λ o. false) (λ o. both_true _ _ (is_kind o.object.kind kind) false (test_equals (kind_number o.object.kind) (kind_number kind)) (rw (large high) (test_none o.number)) ∙ neither _) old new rows schema shown objects h in
-      rw (none_fits kind n objects high fit) (rw (none_passes objects) at found)
-]
-
 pub object_found : (layout : Layout) (kind : Kind) (n : ℕ) (k : ℤ) → (n < 2 ^ 63 → k ≡ pos n) → (2 ^ 63 ≤ n → k ≡ negsuc 0) → (old new : State) (rows : List Row) → old.now.schema ≡ schema_of layout → Shown (reading_text ObjectAt) (whole (kind_number kind) ∷ Int k ∷ []) old new rows
     → (objects : List ObjectRow) → HoldsObjects (old.now.trees object_tree) objects → FitColumns objects → AllByRecursion IsKeepable (filter (is_it kind n) objects) × IsPermutation (map object_columns (filter (is_it kind n) objects)) rows
-object_found layout kind n k fits large old new rows schema shown objects h fit = (all-filter IsKeepable (is_it kind n) objects fit, object_rows layout kind n k fits large old new rows schema shown objects h fit)
+object_found layout kind n k fits large old new rows schema shown objects h fit = (
+  all-filter IsKeepable (is_it kind n) objects fit,
+  objects_at ObjectAt layout object_terms refl object_columns (λ params e. refl) kind n k fits large old new rows schema shown objects h fit,
+)
 
 pub first_object : (kind : Kind) (n : ℕ) (objects : List ObjectRow) → slice_get (filter (is_it kind n) objects) 0 ≡ object_at kind n objects
 first_object kind n [] = refl

@@ -36,7 +36,7 @@ use Rattle.acvp_store.specs.Schema.{Layout, schema_of, object_table}
 use Rattle.acvp_store.specs.Alters.{SparesOthers}
 use Rattle.acvp_store.specs.Stands.{object_tree, HoldsObjects, object_columns, request_tree, request_key, request_row, body_number, body_text}
 use Rattle.acvp_store.specs.Private.Objects.{IsOfKind, Registers}
-use Rattle.acvp_store.proofs.Effects.{concluded, task_of, under_schema}
+use Rattle.acvp_store.proofs.Effects.{inserted_rows, under_schema}
 use Rattle.acvp_store.proofs.Entries.{puts}
 use Rattle.acvp_store.proofs.Idle.{applied}
 use Rattle.acvp_store.proofs.Keyed.{none_left, keyed, few_keyed, keyed_same, find_is}
@@ -118,21 +118,15 @@ registers : (layout : Layout) (limit : Option ℕ) (text : List ℕ) (n number :
     → Does limit (record { keys = Enforced; in_doubt = false; may_wait = false }) (register_params n number) (record { schema = schema_of layout; trees = trees }) text None (Insert 4 (source.Query (record { lets = []; body = register_query }))) (Ok (tally, after))
     → Registers layout n number (record { schema = schema_of layout; trees = trees }) after
 registers layout limit text n number low trees tally after does =
-    let done = went does in
-    let now = concluded (task_of layout limit (object_table 5) (register_params n number)) done.0 tally after done.2 in
-    let rows = went done.1 in
-    let written = went (went rows.2).2 in
-    let counted = went written.2 in
-    let trees_are : done.0.trees ≡ written.0 = ap (λ (it : Written). it.trees) (same_value counted.2) ∙ same_value counted.1 in
-    let next : written.0 ≡ after.trees = sym (ap (λ (d : Database). d.trees) now ∙ trees_are) in
+    let it = inserted_rows layout limit (object_table 5) (register_params n number) trees tally after 4 (source.Query (record { lets = []; body = register_query })) does in
     record {
-      schema = ap (λ (d : Database). d.schema) now;
+      schema = it.2.schema;
       fits = low;
       kept = λ requests objects kinds held h.
           let found = selected_by (register_params n number) request_row (λ r. (r.number == n) && is_registration r) register_query.filter
-          (λ r. both_true _ _ (r.number == n) (is_registration r) (test_equals r.number n) (test_less (body_number r.body) 4)) register_query.collations request_tree register_query.project (row_for number) (λ r. refl) (overlay trees []) held.kept.ordered rows.0 held.kept.rows_are (rows.1.answer Null) in
-          subst (λ (t : Trees). HoldsObjects (t object_tree) (objects ++ approved_objects (request_at n requests) number)) next (registered layout number trees written.0 objects h n requests held.kept kinds rows.0 found written.1);
-      others = subst (SparesOthers layout object_tree trees) next (applied layout trees written.0 (edit_of trees (object_table 5) [] Chosen 0 rows.0) written.1).tables;
+          (λ r. both_true _ _ (r.number == n) (is_registration r) (test_equals r.number n) (test_less (body_number r.body) 4)) register_query.collations request_tree register_query.project (row_for number) (λ r. refl) (overlay trees []) held.kept.ordered it.0 held.kept.rows_are (it.1.answer Null) in
+          registered layout number trees after.trees objects h n requests held.kept kinds it.0 found it.2.writes;
+      others = (applied layout trees after.trees (edit_of trees (object_table 5) [] Chosen 0 it.0) it.2.writes).tables;
     }
 
 pub register_effect : (layout : Layout) (old : State) (n number : ℕ) → number < 2 ^ 63

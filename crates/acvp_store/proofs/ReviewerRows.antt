@@ -38,7 +38,7 @@ use Rattle.acvp_store.specs.Values.{whole}
 use Rattle.acvp_store.specs.Schema.{Layout, Created, Migrated, schema_of, reviewer_table}
 use Rattle.acvp_store.specs.Alters.{Alters, SparesOthers}
 use Rattle.acvp_store.specs.Stands.{Entry, entry_row, HoldsEntries, HoldsReviewers, reviewer_columns, reviewer_tree}
-use Rattle.acvp_store.proofs.Effects.{concluded, mode, task_of, under_schema}
+use Rattle.acvp_store.proofs.Effects.{deleted_rows, inserted_rows, mode, task_of, under_schema}
 use Rattle.acvp_store.proofs.Entries.{entry_for, map_last, rows_put, puts, was_free, removed, takes}
 use Rattle.acvp_store.proofs.Idle.{applied}
 use Rattle.acvp_store.proofs.InsertedRow.{not_false}
@@ -155,19 +155,15 @@ adds : (layout : Layout) (limit : Option ℕ) (text : List ℕ) (r : ReviewerRow
     → Does limit (record { keys = Enforced; in_doubt = false; may_wait = false }) (reviewer_columns r) (record { schema = schema_of layout; trees = trees }) text None (Insert (reviewer_place layout) (Values (writing_terms ReviewerAdded) 3)) (Ok (tally, after))
     → Alters layout (reviewer_tree layout) HoldsReviewers (with_reviewer r) (record { schema = schema_of layout; trees = trees }) after
 adds layout limit text r low trees tally after does =
+    let tree = reviewer_tree layout in
     let q = Insert (reviewer_place layout) (Values (writing_terms ReviewerAdded) 3) in
-    let done = went (subst (λ (o : Option Table). AtPlace (λ t. OnRows (task_of layout limit t (reviewer_columns r)) mode None q trees) o (Ok (tally, after))) (reviewers_at layout) does) in
-    let now = concluded (task_of layout limit (reviewer_table (reviewer_tree layout)) (reviewer_columns r)) done.0 tally after done.2 in
-    let source = went done.1 in
-    let written = went (went source.2).2 in
-    let counted = went written.2 in
-    let trees_are : done.0.trees ≡ written.0 = ap (λ (it : Written). it.trees) (same_value counted.2) ∙ same_value counted.1 in
-    let wrote = subst (λ rs. Writes (schema_of layout) Enforced trees (edit_of trees (reviewer_table (reviewer_tree layout)) [] Chosen 0 rs) (Ok written.0)) source.1.1 written.1 in
-    let next : written.0 ≡ after.trees = sym (ap (λ (d : Database). d.trees) now ∙ trees_are) in
+    let on = subst (λ (o : Option Table). AtPlace (λ t. OnRows (task_of layout limit t (reviewer_columns r)) mode None q trees) o (Ok (tally, after))) (reviewers_at layout) does in
+    let it = inserted_rows layout limit (reviewer_table tree) (reviewer_columns r) trees tally after (reviewer_place layout) (Values (writing_terms ReviewerAdded) 3) on in
+    let wrote = subst (λ rs. Writes (schema_of layout) Enforced trees (edit_of trees (reviewer_table tree) [] Chosen 0 rs) (Ok after.trees)) it.1.1 it.2.writes in
     record {
-      schema = ap (λ (d : Database). d.schema) now;
-      kept = λ list h. subst (λ (t : Trees). HoldsReviewers (t (reviewer_tree layout)) (with_reviewer r list)) next (joins layout r trees written.0 wrote list h low);
-      others = subst (SparesOthers layout (reviewer_tree layout) trees) next (applied layout trees written.0 (edit_of trees (reviewer_table (reviewer_tree layout)) [] Chosen 0 ((Null ∷ reviewer_columns r) ∷ [])) wrote).tables;
+      schema = it.2.schema;
+      kept = λ list h. joins layout r trees after.trees wrote list h low;
+      others = (applied layout trees after.trees (edit_of trees (reviewer_table tree) [] Chosen 0 ((Null ∷ reviewer_columns r) ∷ [])) wrote).tables;
     }
 
 pub add_reviewer_effect : (layout : Layout) (old : State) (r : ReviewerRow) → r.session < 2 ^ 63
@@ -183,27 +179,24 @@ removes : (layout : Layout) (limit : Option ℕ) (text : List ℕ) (r : Reviewer
     → Does limit (record { keys = Enforced; in_doubt = false; may_wait = false }) (reviewer_columns r) (record { schema = schema_of layout; trees = trees }) text None (Delete (reviewer_place layout) (record { lets = []; body = (remove_query layout) })) (Ok (tally, after))
     → Alters layout (reviewer_tree layout) HoldsReviewers (filter (λ row. not (is_pair r row))) (record { schema = schema_of layout; trees = trees }) after
 removes layout limit text r trees tally after does =
+    let tree = reviewer_tree layout in
     let q = Delete (reviewer_place layout) (record { lets = []; body = remove_query layout }) in
-    let done = went (subst (λ (o : Option Table). AtPlace (λ t. OnRows (task_of layout limit t (reviewer_columns r)) mode None q trees) o (Ok (tally, after))) (reviewers_at layout) does) in
-    let now = concluded (task_of layout limit (reviewer_table (reviewer_tree layout)) (reviewer_columns r)) done.0 tally after done.2 in
-    let found = went done.1 in
-    let written = went found.2 in
-    let trees_are : done.0.trees ≡ written.0 = ap (λ (it : Written). it.trees) (same_value written.2) in
-    let next : written.0 ≡ after.trees = sym (ap (λ (d : Database). d.trees) now ∙ trees_are) in
-    let it = applied layout trees written.0 (edit_of trees (reviewer_table (reviewer_tree layout)) (ids_of found.0) Given 0 []) written.1 in
+    let on = subst (λ (o : Option Table). AtPlace (λ t. OnRows (task_of layout limit t (reviewer_columns r)) mode None q trees) o (Ok (tally, after))) (reviewers_at layout) does in
+    let deleted = deleted_rows layout limit (reviewer_table tree) (reviewer_columns r) trees tally after (reviewer_place layout) _ on in
+    let it = applied layout trees after.trees (edit_of trees (reviewer_table tree) (ids_of deleted.0) Given 0 []) deleted.2.writes in
     record {
-      schema = ap (λ (d : Database). d.schema) now;
+      schema = deleted.2.schema;
       kept = λ list held.
           let h = held.kept in
           let rows = selected (reviewer_columns r) (entry_row reviewer_columns) (λ e. is_pair r e.row) (remove_query layout).filter
           (λ e. both_true _ _ (e.row.session == r.session) (e.row.account == r.account) (test_equals e.row.session r.session) (test_equals e.row.account r.account))
-          (reviewer_tree layout) (remove_query layout).project (λ e. Int e.id ∷ []) (λ e. refl) (overlay trees []) h.entries found.0 (reviewers_seen layout trees ∙ h.rows_are) (found.1.answer Null) in
-          let left = it.rows ∙ ap (λ all. without_all all (ids_of found.0)) h.rows_are ∙ removed reviewer_columns (λ e. is_pair r e.row) h.entries found.0 h.rising rows in
+          tree (remove_query layout).project (λ e. Int e.id ∷ []) (λ e. refl) (overlay trees []) h.entries deleted.0 (reviewers_seen layout trees ∙ h.rows_are) (deleted.1.answer Null) in
+          let left = it.rows ∙ ap (λ all. without_all all (ids_of deleted.0)) h.rows_are ∙ removed reviewer_columns (λ e. is_pair r e.row) h.entries deleted.0 h.rising rows in
           record {
-            kept = subst (λ (t : Trees). HoldsEntries reviewer_columns (t (reviewer_tree layout)) (filter (λ row. not (is_pair r row)) list)) next (takes reviewer_columns (is_pair r) trees written.0 (reviewer_tree layout) list h left);
+            kept = takes reviewer_columns (is_pair r) trees after.trees tree list h left;
             fits = all-filter FitsColumn (λ row. not (is_pair r row)) list held.fits;
           };
-      others = subst (SparesOthers layout (reviewer_tree layout) trees) next it.tables;
+      others = it.tables;
     }
 
 pub remove_reviewer_effect : (layout : Layout) (old : State) (r : ReviewerRow)
