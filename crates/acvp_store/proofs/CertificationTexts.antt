@@ -1,21 +1,17 @@
 -- The text of a certification, and what it reads as.
-use Rattle.std.proofs.Common.{◌≡◌, ◌≤◌, ◌<◌, ◌^◌, ℕ, List, ◌++◌, codes, decimal, None, Some, Ok, Err, Result, IfOk, String, Global, string_bytes, false, refl, sym, ap, subst, ◌∙◌, arith}
+use Rattle.std.proofs.Common.{◌≡◌, ◌≤◌, ◌<◌, ◌^◌, ℕ, List, ◌++◌, codes, decimal, Some, Ok, Err, Result, IfOk, String}
+use Rattle.std.proofs.Common.{Global, string_bytes, false, refl, sym, ap, subst, ◌∙◌, arith}
 use Rattle.std.proofs.lemmas.Fmt.{decimal_injective}
-use Rattle.std.proofs.lemmas.List.{append_cancel_left}
-use Rattle.std.proofs.lemmas.Str.{IsUtf8-string_bytes}
 use Rattle.serde_json.specs.Data.{Data, depth}
 use Rattle.serde_json.specs.Read.{read, max_depth}
 use Rattle.serde_json.specs.Written.{has_float, compact_text}
 use Rattle.acvp_caps.specs.Json.{number_at, text_at}
-use Rattle.acvp_registry.specs.declared.kind.Kind.{Kind}
-use Rattle.acvp_registry.specs.declared.kind.Kind.TheVariants.{Module, Environment}
-use Rattle.acvp_registry.specs.Json.{body_json}
 use Rattle.acvp_registry.specs.Url.{IsUrl, url_front}
 use Rattle.acvp_registry.proofs.JsonLemmas.{body_json-read}
 use Rattle.acvp_tables.specs.declared.rows.RequestBody.TheVariants as body
 use Rattle.acvp_tables.specs.declared.rows.Certification.{Certification}
-use Rattle.acvp_store.specs.Stands.{BodyReads, certification_data}
-use Rattle.acvp_store.specs.Private.Summaries.{FitsCertification}
+use Rattle.acvp_store.proofs.Words.{append_cancel_left, body_json, BodyReads, certification_data, Environment}
+use Rattle.acvp_store.proofs.Words.{FitsCertification, IsUtf8-string_bytes, Kind, Module}
 
 shallow : (c : Certification) → depth (certification_data c) ≤ max_depth
 shallow c = omega arith

@@ -1,19 +1,12 @@
 -- Columns of whole numbers, of rows that the schema lets be.
-use Rattle.std.proofs.Common.{◌≡◌, inl, inr, ℕ, pos, negsuc, List, [], ◌∷◌, Bool, true, false, IsTrue, refl, sym, ap, ◌∙◌}
-use Rattle.std.specs.Prelude.{◌&&◌, not}
-use Rattle.std.specs.List.{AllByRecursion, filter}
-use Rattle.std.specs.Ordering.{is_le, is_ge}
-use Rattle.std.proofs.lemmas.Bool.{cases_Bool}
-use Rattle.sqlite_trees.specs.View.{is_int}
-use Rattle.sqlite.specs.declared.types.Value.{Value}
-use Rattle.sqlite.specs.declared.types.Value.TheVariants.{Int}
-use Rattle.sqlite.specs.Order.{Row, column}
+use Rattle.std.proofs.Common.{◌≡◌, inl, inr, ℕ, pos, negsuc, List, [], ◌∷◌, Bool, true, false, IsTrue, refl, sym, ap}
+use Rattle.std.proofs.Common.{◌∙◌}
+use Rattle.std.specs.Prelude.{◌&&◌}
 use Rattle.sqlite.specs.Kind.TheVariants.{Integer}
 use Rattle.sqlite_schema.specs.Rules.{is_of}
-use Rattle.sqlite_sql.specs.Ops.{is_null}
-use Rattle.sqlite_value.specs.Order.{value_cmp}
-use Rattle.acvp_store.specs.Ranges.{is_column_between, is_number_between, HasNumberBetween}
-use Rattle.acvp_store.specs.Values.{whole}
+use Rattle.acvp_store.proofs.Words.{AllByRecursion, cases_Bool, column, filter, HasNumberBetween, Int}
+use Rattle.acvp_store.proofs.Words.{is_column_between, is_ge, is_int, is_le, is_null, is_number_between, not, Row}
+use Rattle.acvp_store.proofs.Words.{Value, value_cmp, whole}
 use Rattle.acvp_store.proofs.RangeJoins.{between_whole, between_none}
 use Rattle.acvp_store.proofs.RangeOutside.{is_outside}
 

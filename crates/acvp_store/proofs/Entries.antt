@@ -1,28 +1,15 @@
 -- Rows under numbers that the database chose, and the members that they are of.
-use Rattle.std.proofs.Common.{inl, inr, ◌≡◌, ◌<ℤ◌, ℕ, ℤ, int_eq, is_eq, pos, List, [], ◌∷◌, ◌++◌, map, Bool, true, false, not, Ok, refl, sym, ap, subst, ◌∙◌, arith}
-use Rattle.std.specs.Prelude.{◌&&◌, fold, ◌+ℤ◌}
-use Rattle.std.specs.List.{filter, list_any, AllByRecursion}
-use Rattle.std.specs.List.Sorted.{IsPermutation}
-use Rattle.std.proofs.lemmas.Bool.{cases_Bool}
-use Rattle.std.proofs.lemmas.Int.{ints}
-use Rattle.std.proofs.lemmas.List.Sorted.{IsPermutation-refl, IsPermutation-append, list_any-IsPermutation}
-use Rattle.sqlite.specs.declared.types.Value.TheVariants.{Null, Int}
-use Rattle.sqlite.specs.Order.{Row}
-use Rattle.sqlite.specs.Edit.{edit_of}
-use Rattle.sqlite.specs.Rowids.TheVariants.{Chosen}
-use Rattle.sqlite.specs.Cast.{cast_row}
-use Rattle.sqlite.specs.Table.{Table}
-use Rattle.sqlite.specs.Tree.{Trees, IsAscending, put_row, rowid, without_rowid}
-use Rattle.sqlite_value.proofs.OrderLemmas.{value_cmp-Int}
-use Rattle.sqlite_rules.specs.Action.{Writes}
-use Rattle.sqlite_rules.specs.Calls.{ids_of}
-use Rattle.sqlite_rules.specs.Edit.{id_in, next_rowid, numbered as numbered_rows, put_all, without_all}
-use Rattle.sqlite_schema.specs.declared.schema.Keys.TheVariants.{Enforced}
-use Rattle.sqlite_schema.specs.Rules.{agree, differ, clashes}
-use Rattle.sqlite_trees.proofs.ListLemmas.{map-map, filter-map, all_both, ascending-filter, IsPermutation-filter, pull_back}
-use Rattle.sqlite_value.specs.Keys.{plain}
-use Rattle.acvp_store.specs.Schema.{Layout, schema_of}
-use Rattle.acvp_store.specs.Stands.{Entry, entry_row, HoldsEntries}
+use Rattle.std.proofs.Common.{inl, inr, ◌≡◌, ◌<ℤ◌, ℕ, ℤ, int_eq, is_eq, pos, List, [], ◌∷◌, ◌++◌, map, Bool, true}
+use Rattle.std.proofs.Common.{false, not, Ok, refl, sym, ap, subst, ◌∙◌, arith}
+use Rattle.std.specs.Prelude.{◌&&◌, ◌+ℤ◌}
+use Rattle.sqlite_rules.specs.Edit.{numbered as numbered_rows}
+use Rattle.acvp_store.proofs.Words.{agree, all_both, AllByRecursion, ascending-filter, cases_Bool, cast_row, Chosen}
+use Rattle.acvp_store.proofs.Words.{clashes, differ, edit_of, Enforced, Entry, entry_row, filter, filter-map, fold}
+use Rattle.acvp_store.proofs.Words.{HoldsEntries, id_in, ids_of, Int, ints, IsAscending, IsPermutation}
+use Rattle.acvp_store.proofs.Words.{IsPermutation-append, IsPermutation-filter, IsPermutation-refl, Layout, list_any}
+use Rattle.acvp_store.proofs.Words.{list_any-IsPermutation, map-map, next_rowid, Null, plain, pull_back, put_all}
+use Rattle.acvp_store.proofs.Words.{put_row, Row, rowid, schema_of, Table, Trees, value_cmp-Int, without_all}
+use Rattle.acvp_store.proofs.Words.{without_rowid, Writes}
 use Rattle.acvp_store.proofs.Idle.{applied}
 use Rattle.acvp_store.proofs.Parts.{and_true}
 use Rattle.acvp_store.proofs.SelectedRows.{above_is, below_is, itself_is, test_differs}

@@ -1,43 +1,33 @@
 -- Rows of a table under a key of two columns in ranges of numbers.
-use Rattle.std.proofs.Common.{◌≡◌, inl, inr, ◌<◌, ◌≤◌, ◌<ℤ◌, ℕ, zero, suc, ℤ, List, [], ◌∷◌, ◌++◌, map, length, take, int_lt, Bool, true, false, IsTrue, refl, sym, ap, ap₂, subst, ◌∙◌, arith, Less}
+use Rattle.std.proofs.Common.{◌≡◌, inl, inr, ◌<◌, ◌≤◌, ◌<ℤ◌, ℕ, zero, suc, ℤ, List, [], ◌∷◌, ◌++◌, map, length, take}
+use Rattle.std.proofs.Common.{int_lt, Bool, true, false, IsTrue, refl, sym, ap, ap₂, subst, ◌∙◌, arith, Less}
 use Rattle.std.specs.Prelude.{◌&&◌, ◌||◌}
-use Rattle.std.specs.List.{AllByRecursion, filter}
-use Rattle.std.specs.List.Sorted.{IsPermutation}
-use Rattle.std.specs.Ordering.{is_lt}
-use Rattle.std.proofs.lemmas.Bool.{cases_Bool}
-use Rattle.std.proofs.lemmas.Bool.Decides.{nat_tests}
-use Rattle.std.proofs.lemmas.Int.{ints}
-use Rattle.std.proofs.lemmas.List.Sorted.{IsPermutation-refl, IsPermutation-sym, IsPermutation-trans, IsPermutation-cons, IsPermutation-middle, IsPermutation-append}
-use Rattle.sqlite_trees.proofs.ListLemmas.{all-filter, all-permutation, all_weaker, all_of, all-map, all-append, all_from_map, ascending-filter, ascending-map, ascending_from_map, ascending_weaker, filter_none, pull_back}
-use Rattle.sqlite_trees.specs.View.{is_int}
-use Rattle.sqlite.specs.declared.types.Value.{Value}
-use Rattle.sqlite.specs.declared.types.Value.TheVariants.{Int}
-use Rattle.sqlite.specs.Order.{Row, column}
-use Rattle.sqlite.specs.Tree.{IsAscending, IsTable, rowid}
-use Rattle.sqlite_value.specs.Order.{value_cmp}
-use Rattle.sqlite_value.proofs.OrderLemmas.{value_cmp-Int}
-use Rattle.acvp_store.specs.Ranges.{IsTree, is_number_between, joined, first_number, last_number}
-use Rattle.acvp_store.specs.Stands.{Entry, entry_row, HoldsEntries}
-use Rattle.acvp_store.specs.Private.Shown.{BeginsWith, AreShown}
+use Rattle.acvp_store.specs.Ranges.{joined}
+use Rattle.acvp_store.proofs.Words.{all-append, all-filter, all-map, all-permutation, all_from_map, all_of, all_weaker}
+use Rattle.acvp_store.proofs.Words.{AllByRecursion, AreShown, ascending-filter, ascending-map, ascending_from_map}
+use Rattle.acvp_store.proofs.Words.{ascending_weaker, BeginsWith, cases_Bool, column, Entry, entry_row, filter}
+use Rattle.acvp_store.proofs.Words.{filter_none, first_number, HoldsEntries, Int, ints, is_int, is_lt}
+use Rattle.acvp_store.proofs.Words.{is_number_between, IsAscending, IsPermutation, IsPermutation-append}
+use Rattle.acvp_store.proofs.Words.{IsPermutation-cons, IsPermutation-middle, IsPermutation-refl, IsPermutation-sym}
+use Rattle.acvp_store.proofs.Words.{IsPermutation-trans, IsTable, IsTree, last_number, nat_tests, pull_back, Row, rowid}
+use Rattle.acvp_store.proofs.Words.{Value, value_cmp, value_cmp-Int}
 
 -- ---- what is shown
 
 -- a row that is no longer than what it begins with is that
 begins_exact : (columns row : Row) → length row ≡ length columns → BeginsWith columns row → row ≡ columns
 begins_exact [] [] same is = refl
-begins_exact [] (v ∷ row) same is = absurd (omega (arith, same))
-begins_exact (v ∷ columns) [] same is = absurd (omega (arith, same))
 begins_exact (v ∷ columns) (w ∷ row) same is =
     let head : w ≡ v = cc (is) in
     let rest : take (length columns) row ≡ columns = cc (is) in
     ap₂ (λ x l. x ∷ l) head (begins_exact columns row (omega (arith, same)) rest)
+begins_exact _ _ same is = absurd (omega (arith, same))
 
 pub shown_exactly : {A : Type 0} (columns : A → Row) (width : ℕ) (fills : (a : A) → length (columns a) ≡ width) (Good : A → Type 0) (rows : List Row) (found : List A) → AllByRecursion (λ r. length r ≡ width) rows → AreShown Good columns rows found → rows ≡ map columns found
 shown_exactly columns width fills Good [] [] full shows = refl
-shown_exactly columns width fills Good [] (a ∷ found) full shows = absurd shows
-shown_exactly columns width fills Good (r ∷ rows) [] full shows = absurd shows
 shown_exactly columns width fills Good (r ∷ rows) (a ∷ found) full shows =
     ap₂ (λ x l. x ∷ l) (begins_exact (columns a) r (full.0 ∙ sym (fills a)) shows.0.0) (shown_exactly columns width fills Good rows found full.1 shows.1)
+shown_exactly columns width fills _ _ _ full shows = absurd shows
 
 -- ---- numbers that the database chose
 
@@ -92,8 +82,6 @@ module _ {A : Type 0} (columns : A → Row) where
 
     encoded : (rows : List Row) (list : List A) → AllByRecursion Typed rows → AllByRecursion (λ r. IsTrue (is_int (rowid r))) rows → map shown rows ≡ map columns list → Encoded rows list
     encoded [] [] typed whole is = record { entries = []; rows_are = refl; members = refl }
-    encoded [] (a ∷ list) typed whole is = absurd (cc)
-    encoded (r ∷ rows) [] typed whole is = absurd (cc)
     encoded (r ∷ rows) (a ∷ list) typed whole is =
         let head : shown r ≡ columns a = cc in
         let rest : map shown rows ≡ map columns list = cc in
@@ -105,6 +93,7 @@ module _ {A : Type 0} (columns : A → Row) where
           rows_are = ap₂ (λ x l. x ∷ l) row more.rows_are;
           members = ap (λ l. a ∷ l) more.members;
         }
+    encoded _ _ typed whole is = absurd (cc)
 
     pub entries_hold : (p : Row → Bool) (table rows : List Row) (found : List A) → IsTree table → AllByRecursion Typed table → IsPermutation (map shown (filter p table)) rows → rows ≡ map columns found → HoldsEntries columns (filter p table) found
     entries_hold p table rows found tree typed same is =

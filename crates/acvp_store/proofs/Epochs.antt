@@ -1,38 +1,20 @@
 -- The greatest epoch of all vector sets.
-use Rattle.std.proofs.Common.{◌≡◌, ◌≤◌, ℕ, pos, List, [], ◌∷◌, ◌++◌, map, append_assoc, Bool, true, false, Option, None, Some, Ok, Err, Result, IfOk, IsOk, slice_get, inl, inr, refl, sym, ap, subst, ◌∙◌, arith}
-use Rattle.std.specs.Prelude.{◌==◌, nat_le, ◌||◌, if◌then◌else◌}
-use Rattle.std.specs.List.{filter, fold, list_any, AllZip, AllByRecursion}
-use Rattle.std.specs.List.Sorted.{IsPermutation}
-use Rattle.std.specs.Ordering.{is_lt}
-use Rattle.std.proofs.lemmas.Bool.{cases_Bool}
-use Rattle.std.proofs.lemmas.Bool.Decides.{nat_tests}
-use Rattle.std.proofs.lemmas.List.Sorted.{length_permutation, list_any-IsPermutation, IsPermutation-refl, IsPermutation-map}
-use Rattle.std.proofs.lemmas.List.{append-nil}
-use Rattle.sqlite.specs.declared.types.Value.{Value}
-use Rattle.sqlite.specs.declared.types.Value.TheVariants.{Null, Int}
-use Rattle.sqlite.specs.Collation.TheVariants.{Binary}
-use Rattle.sqlite.specs.Order.{Row}
-use Rattle.sqlite.specs.Program.{overlay}
-use Rattle.sqlite.specs.Query.{IsAnswer, output, page, Output}
-use Rattle.sqlite.specs.State.{State, Shown}
-use Rattle.sqlite.specs.Term.{Env, col, eval}
-use Rattle.sqlite.specs.Tree.{Trees}
-use Rattle.sqlite.specs.Values.{or_null}
-use Rattle.sqlite.proofs.Callers.{reads_as, one_permutation}
+use Rattle.std.proofs.Common.{◌≡◌, ◌≤◌, ℕ, pos, List, [], ◌∷◌, ◌++◌, map, append_assoc, Bool, true, false, Option, None}
+use Rattle.std.proofs.Common.{Some, Result, IfOk, IsOk, slice_get, inl, inr, refl, sym, ap, subst, ◌∙◌, arith}
+use Rattle.std.specs.Prelude.{◌==◌, ◌||◌, if◌then◌else◌}
+use Rattle.std.specs.List.{fold}
 use Rattle.sqlite_keyed.proofs.ListLemmas.{map_back}
 use Rattle.sqlite_sql.specs.Aggregate.{better, best, skips, arguments}
 use Rattle.sqlite_sql.specs.Group.{IsSummary, Grouping, value_over}
 use Rattle.sqlite_sql.specs.declared.aggregate.AggregateOp.TheVariants.{Max}
-use Rattle.sqlite_trees.proofs.ListLemmas.{map-map, all-permutation}
-use Rattle.sqlite_value.proofs.OrderLemmas.{value_cmp-Int}
-use Rattle.acvp_tables.specs.Content.{greater, greatest_epoch_of}
-use Rattle.acvp_tables.specs.declared.rows.SetRow.{SetRow}
 use Rattle.acvp_tables.proofs.EpochLemmas.{merged, merged_more}
-use Rattle.acvp_store.specs.Values.{whole}
-use Rattle.acvp_store.specs.Schema.{Layout, schema_of}
-use Rattle.acvp_store.specs.Kept.{AreKept}
-use Rattle.acvp_store.specs.Stands.{SetColumns, set_key, set_row, set_tree, IsSet, HoldsSets}
-use Rattle.acvp_store.specs.Private.Sets.{epoch_shown}
+use Rattle.acvp_store.proofs.Words.{all-permutation, AllByRecursion, AllZip, append-nil, AreKept, Binary, cases_Bool}
+use Rattle.acvp_store.proofs.Words.{col, Env, epoch_shown, eval, filter, greater, greatest_epoch_of, HoldsSets, Int}
+use Rattle.acvp_store.proofs.Words.{is_lt, IsAnswer, IsPermutation, IsPermutation-map, IsPermutation-refl, IsSet}
+use Rattle.acvp_store.proofs.Words.{Layout, length_permutation, list_any, list_any-IsPermutation, map-map, nat_le}
+use Rattle.acvp_store.proofs.Words.{nat_tests, one_permutation, or_null, Output, output, overlay, page, Row, schema_of}
+use Rattle.acvp_store.proofs.Words.{set_key, set_row, set_tree, SetColumns, SetRow, Shown, State, Trees, Value}
+use Rattle.acvp_store.proofs.Words.{value_cmp-Int, whole}
 use Rattle.acvp_store.proofs.Keyed.{none_left}
 use Rattle.acvp_store.proofs.SelectedRows.{matched}
 use Rattle.acvp_store.proofs.Places.{sets_seen}
@@ -163,7 +145,9 @@ all_pass : (columns : List SetColumns) → filter (λ c. true) columns ≡ colum
 all_pass [] = refl
 all_pass (c ∷ columns) = ap (λ l. c ∷ l) (all_pass columns)
 
-epoch_row : (layout : Layout) (db : Trees) (columns : List SetColumns) (rows : List Row) → db (set_tree layout) ≡ map set_row columns → IsAnswer (reading_query GreatestEpoch layout) db [] rows → rows ≡ epoch_shown (greatest (epochs columns)) ∷ []
+epoch_row : (layout : Layout) (db : Trees) (columns : List SetColumns) (rows : List Row) → db (set_tree layout)
+    ≡ map set_row columns → IsAnswer (reading_query GreatestEpoch layout) db [] rows
+    → rows ≡ epoch_shown (greatest (epochs columns)) ∷ []
 epoch_row layout db columns rows has a =
     let s = a.grouped in
     let met = rw has at s.grouping.1 in
@@ -180,18 +164,20 @@ epoch_row layout db columns rows has a =
     let ordered = one_permutation o a.ordered (subst (λ k. IsPermutation k a.ordered) kept a.same) in
     a.shown ∙ ap (λ xs. page (reading_query GreatestEpoch layout) [] (map (λ (x : Output). x.1) xs)) ordered
 
-pub epoch_rows : (layout : Layout) (old new : State) (rows : List Row) → old.now.schema ≡ schema_of layout → Shown (reading_text GreatestEpoch) [] old new rows → (list : List SetColumns) → AreKept set_key set_row (old.now.trees (set_tree layout)) list → rows ≡ epoch_shown (greatest (epochs list)) ∷ []
+pub epoch_rows : (layout : Layout) (old new : State) (rows : List Row) → old.now.schema ≡ schema_of layout
+    → Shown (reading_text GreatestEpoch) [] old new rows → (list : List SetColumns)
+    → AreKept set_key set_row (old.now.trees (set_tree layout)) list → rows ≡ epoch_shown (greatest (epochs list)) ∷ []
 epoch_rows layout old new rows schema h list kept =
-    epoch_row layout (overlay old.now.trees []) kept.ordered rows (sets_seen layout old.now.trees ∙ kept.rows_are) (answers GreatestEpoch layout [] old new rows schema h)
+    epoch_row layout (overlay old.now.trees []) kept.ordered rows (sets_seen layout old.now.trees ∙ kept.rows_are)
+    (answers GreatestEpoch layout [] old new rows schema h)
     ∙ ap (λ e. epoch_shown e ∷ []) (greatest_same _ _ (IsPermutation-map (λ (c : SetColumns). c.epoch) kept.ordered list kept.same))
 
 -- ---- the whole
 
 epochs_told : (columns : List SetColumns) (sets : List SetRow) → AllZip IsSet columns sets → greatest (epochs columns) ≡ greatest_epoch_of sets
 epochs_told [] [] h = refl
-epochs_told [] (r ∷ sets) h = absurd h
-epochs_told (c ∷ columns) [] h = absurd h
 epochs_told (c ∷ columns) (r ∷ sets) h = λ i. Some (greater (h.0.epoch i) (epochs_told columns sets h.1 i))
+epochs_told _ _ h = absurd h
 
 module _ {X E F G : Type 0} (table : List Row) (rows_in : X → List Row) where
   pub find_greatest : (outcome : Result X E) (found : Result (Option (Option ℕ)) F) (result : Result (Option ℕ) G) → (IsOk found → IsOk outcome) → (IsOk result → IsOk found)

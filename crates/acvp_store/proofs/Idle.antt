@@ -1,19 +1,10 @@
 -- No statement sets off another: each reference of the store's tables has NO ACTION.
 use Rattle.std.proofs.Common.{◌≡◌, ℕ, List, [], ◌∷◌, Bool, true, false, None, Ok, refl, ap}
-use Rattle.std.specs.List.{AllByRecursion, flat_map, filter_map}
-use Rattle.sqlite.specs.Order.{Row}
-use Rattle.sqlite.specs.Schema.{Schema}
-use Rattle.sqlite.specs.Table.{Table}
-use Rattle.sqlite.specs.Edit.{Edit}
-use Rattle.sqlite.specs.Tree.{Trees}
-use Rattle.sqlite.proofs.Callers.{one_step}
 use Rattle.sqlite_schema.specs.declared.schema.Reference.{Reference}
 use Rattle.sqlite_schema.specs.declared.schema.Action.TheVariants.{NoAction}
-use Rattle.sqlite_schema.specs.declared.schema.Keys.TheVariants.{Enforced}
-use Rattle.sqlite_schema.specs.Rules.{parent_key}
-use Rattle.sqlite_rules.specs.Action.{works, work_for, work_by, pairs, deed_for, Writes}
-use Rattle.sqlite_rules.specs.Edit.{Applies, taken_by}
-use Rattle.acvp_store.specs.Schema.{Layout, Created, Migrated, schema_of}
+use Rattle.acvp_store.proofs.Words.{AllByRecursion, Applies, Created, deed_for, Edit, Enforced, filter_map, flat_map}
+use Rattle.acvp_store.proofs.Words.{Layout, Migrated, one_step, pairs, parent_key, Row, Schema, schema_of, Table}
+use Rattle.acvp_store.proofs.Words.{taken_by, Trees, work_by, work_for, works, Writes}
 
 abbrev IsQuiet : Reference → Type 0
 IsQuiet ref = (ref.on_delete ≡ NoAction) × (ref.on_update ≡ NoAction)

@@ -1,54 +1,43 @@
 -- From what statements do to what the tables promise.
-use Rattle.std.proofs.Common.{◌≡◌, ◌<◌, ◌^◌, inl, inr, ℕ, List, [], ◌∷◌, ◌++◌, true, Result, Ok, Err, IsTrue, IfOk, IfErr, refl, sym, ap, subst, ◌∙◌}
-use Rattle.std.specs.Prelude.{◌==◌, not, filter, if◌then◌else◌}
-use Rattle.std.specs.List.{list_any, AllByRecursion}
-use Rattle.std.proofs.lemmas.Bool.{cases_Bool}
-use Rattle.std.proofs.lemmas.List.Sorted.{IsPermutation-refl}
-use Rattle.sqlite.specs.Effect.{Database, IsDatabase}
-use Rattle.sqlite.specs.Held.{Held, state}
-use Rattle.sqlite.specs.Order.{Row}
-use Rattle.sqlite.specs.State.{State}
+use Rattle.std.proofs.Common.{◌≡◌, ◌<◌, ◌^◌, inl, inr, ℕ, List, [], ◌∷◌, ◌++◌, true, Result, Ok, Err, IsTrue, IfOk}
+use Rattle.std.proofs.Common.{IfErr, refl, sym, ap, subst, ◌∙◌}
+use Rattle.std.specs.Prelude.{◌==◌, filter, if◌then◌else◌}
 use Rattle.sqlite_trees.specs.declared.store.Store.{Ghosts}
-use Rattle.sqlite_trees.proofs.ListLemmas.{all-append}
 use Rattle.sqlite_trees.specs.Tree.{Trees}
 use Rattle.acvp_tables.specs.Calls.{Finds, Reads, Changes}
-use Rattle.acvp_tables.specs.Content.{Content, is_reviewer, request_at}
-use Rattle.acvp_tables.specs.Changes.{after, after_order, changed, is_account, with_step, disabled, new_account, is_session, cancelled_session, with_counts, with_passed, with_last_request, new_session, is_set, cancelled_set, with_graded, new_sets, is_request, with_status, new_request, new_certification, with_reviewer, is_pair, approved_objects, new_objects}
-use Rattle.acvp_tables.specs.State.{AreWellNumbered}
-use Rattle.acvp_tables.specs.declared.rows.AccountRow.{AccountRow}
-use Rattle.acvp_tables.specs.declared.rows.SessionRow.{SessionRow}
-use Rattle.acvp_tables.specs.declared.rows.SetRow.{SetRow}
+use Rattle.acvp_tables.specs.Changes.{after, after_order}
 use Rattle.acvp_tables.specs.declared.change.CancelledSet.{CancelledSet}
 use Rattle.acvp_tables.specs.declared.change.KeptAnswers.{KeptAnswers}
 use Rattle.acvp_tables.specs.declared.change.NewSession.{NewSession}
 use Rattle.acvp_tables.specs.declared.change.NewRequest.{NewRequest}
 use Rattle.acvp_tables.specs.declared.change.NewCertification.{NewCertification}
-use Rattle.acvp_tables.specs.declared.rows.RequestRow.{RequestRow}
 use Rattle.acvp_tables.specs.declared.rows.RequestStatus.TheVariants as status
-use Rattle.acvp_tables.specs.declared.rows.RequestBody.{RequestBody}
 use Rattle.acvp_tables.specs.declared.rows.RequestBody.TheVariants as body
 use Rattle.acvp_tables.specs.declared.change.Approval.{Approval}
-use Rattle.acvp_tables.specs.declared.rows.ReviewerRow.{ReviewerRow}
 use Rattle.acvp_tables.specs.declared.change.NewAccount.{NewAccount}
 use Rattle.acvp_tables.specs.declared.change.UsedStep.{UsedStep}
 use Rattle.acvp_tables.specs.declared.change.Change.TheVariants as change
 use Rattle.acvp_tables.specs.declared.change.OrderChange.TheVariants as order
-use Rattle.acvp_tables.specs.declared.tables.StoreFault.{StoreFault}
-use Rattle.acvp_store.specs.Kept.{AreKept}
-use Rattle.acvp_store.specs.Rows.{account_tree, HoldsAccounts, session_tree, HoldsSessions}
-use Rattle.acvp_store.specs.Schema.{Layout, Created, no_schema, schema_of}
-use Rattle.acvp_store.specs.Version.{is_version_row}
-use Rattle.acvp_store.specs.Stands.{Stands, set_tree, HoldsSets, HoldsObjects, IsKeepable, FitColumns, BodyReads, request_tree, HoldsRequests, reviewer_tree, HoldsReviewers}
-use Rattle.acvp_store.specs.Connection.{ServesStore, InStore, IsRead, IsWritten, StaysSound, Under, UnderStore, Both}
-use Rattle.acvp_store.specs.Alters.{Alters}
-use Rattle.acvp_store.specs.Store.{may_fail, Begins, BecomesMigrated, IsStoreOf, meaning_of, stands, leaves}
 use Rattle.acvp_store.specs.Private.Found.{store_of}
-use Rattle.acvp_store.specs.Private.Objects.{Registers}
+use Rattle.acvp_store.proofs.Words.{account_tree, AccountRow, all-append, AllByRecursion, Alters, approved_objects}
+use Rattle.acvp_store.proofs.Words.{AreKept, AreWellNumbered, BecomesMigrated, before, Begins, BodyReads, Both}
+use Rattle.acvp_store.proofs.Words.{cancelled_session, cancelled_set, cases_Bool, changed, Content, Created, Database}
+use Rattle.acvp_store.proofs.Words.{disabled, FitColumns, Held, HoldsAccounts, HoldsObjects, HoldsRequests}
+use Rattle.acvp_store.proofs.Words.{HoldsReviewers, HoldsSessions, HoldsSets, InStore, is_account, is_pair, is_request}
+use Rattle.acvp_store.proofs.Words.{is_reviewer, is_session, is_set, is_version_row, IsDatabase, IsKeepable}
+use Rattle.acvp_store.proofs.Words.{IsPermutation-refl, IsRead, IsStoreOf, IsWritten, Layout, leaves, list_any, Makes}
+use Rattle.acvp_store.proofs.Words.{may_fail, meaning_of, new_account, new_certification, new_objects, new_request}
+use Rattle.acvp_store.proofs.Words.{new_session, new_sets, no_schema, not, Registers, request_at, request_tree}
+use Rattle.acvp_store.proofs.Words.{RequestBody, RequestRow, reviewer_tree, ReviewerRow, Row, schema_of, ServesStore}
+use Rattle.acvp_store.proofs.Words.{session_tree, SessionRow, set_tree, SetRow, Stands, stands, State, state}
+use Rattle.acvp_store.proofs.Words.{StaysSound, StoreFault, Under, UnderStore, with_counts, with_graded}
+use Rattle.acvp_store.proofs.Words.{with_last_request, with_passed, with_reviewer, with_status, with_step}
+use Rattle.acvp_store.proofs.Words.{WritesVersion}
 use Rattle.acvp_store.proofs.Sound.{kinds_of}
-use Rattle.acvp_store.specs.Private.Creating.{Makes, WritesVersion, before}
 use Rattle.acvp_store.specs.declared.setup.StoreTable.TheVariants as table
 use Rattle.acvp_store.proofs.Parts.{apart}
-use Rattle.acvp_store.proofs.Places.{set_apart, reviewer_apart, set_is_no_reviewer, sets_spared, reviewers_spared, old_apart, old_is_no_set, old_is_no_reviewer, old_spared}
+use Rattle.acvp_store.proofs.Places.{set_apart, reviewer_apart, set_is_no_reviewer, sets_spared, reviewers_spared}
+use Rattle.acvp_store.proofs.Places.{old_apart, old_is_no_set, old_is_no_reviewer, old_spared}
 use Rattle.acvp_store.proofs.Texts.{whole_schema, migrated_schema}
 
 -- ---- reads

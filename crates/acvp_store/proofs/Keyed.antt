@@ -1,20 +1,13 @@
 -- Rows of a tree by the numbers that are their keys.
-use Rattle.std.proofs.Common.{◌≡◌, ◌⊎◌, inl, inr, ℕ, ◌<◌, ◌≤◌, ◌^◌, pos, List, [], ◌∷◌, ◌++◌, map, Bool, true, false, not, slice_get, refl, sym, ap, subst, ◌∙◌, arith}
-use Rattle.std.specs.Prelude.{◌==◌, nat_lt, if◌then◌else◌, find}
-use Rattle.std.specs.List.{filter, list_any, AllByRecursion}
-use Rattle.std.specs.List.Sorted.{IsPermutation}
-use Rattle.std.specs.Ordering.{is_eq, match_ordering}
-use Rattle.std.proofs.lemmas.Bool.{cases_Bool}
-use Rattle.std.proofs.lemmas.Bool.Decides.{nat_tests}
-use Rattle.std.proofs.lemmas.List.Sorted.{length_permutation, IsPermutation-refl, IsPermutation-cons, IsPermutation-to_front, IsPermutation-map, IsPermutation-sym, IsPermutation-trans, IsPermutation-append_left, IsPermutation-append_comm}
-use Rattle.sqlite.proofs.Callers.{one_permutation}
-use Rattle.sqlite.specs.Order.{Row}
-use Rattle.sqlite.specs.Tree.{put_row, has_rowid, without_rowid, rowid, IsAscending}
-use Rattle.sqlite_trees.proofs.ListLemmas.{IsPermutation-filter}
-use Rattle.sqlite_value.specs.Order.{value_cmp}
-use Rattle.sqlite_value.proofs.OrderLemmas.{value_cmp-Int}
-use Rattle.acvp_store.specs.Values.{whole}
-use Rattle.acvp_store.specs.Kept.{AreKept}
+use Rattle.std.proofs.Common.{◌≡◌, ◌⊎◌, inl, inr, ℕ, ◌<◌, ◌≤◌, ◌^◌, pos, List, [], ◌∷◌, ◌++◌, map, Bool, true, false}
+use Rattle.std.proofs.Common.{not, slice_get, refl, sym, ap, subst, ◌∙◌, arith}
+use Rattle.std.specs.Prelude.{◌==◌, if◌then◌else◌}
+use Rattle.acvp_store.proofs.Words.{AllByRecursion, AreKept, cases_Bool, filter, find, has_rowid, is_eq, IsAscending}
+use Rattle.acvp_store.proofs.Words.{IsPermutation, IsPermutation-append_comm, IsPermutation-append_left}
+use Rattle.acvp_store.proofs.Words.{IsPermutation-cons, IsPermutation-filter, IsPermutation-map, IsPermutation-refl}
+use Rattle.acvp_store.proofs.Words.{IsPermutation-sym, IsPermutation-to_front, IsPermutation-trans, length_permutation}
+use Rattle.acvp_store.proofs.Words.{list_any, match_ordering, nat_lt, nat_tests, one_permutation, put_row, Row, rowid}
+use Rattle.acvp_store.proofs.Words.{value_cmp, value_cmp-Int, whole, without_rowid}
 
 pub same_whole : (m n : ℕ) → is_eq (value_cmp (whole m) (whole n)) ≡ (m == n)
 same_whole m n = ap is_eq (value_cmp-Int (pos m) (pos n)) ∙ grind (arith, nat_tests)

@@ -1,45 +1,23 @@
 -- Objects of a kind in ranges of numbers.
-use Rattle.std.proofs.Common.{◌≡◌, ◌<◌, ◌≤◌, ◌^◌, ℕ, ℤ, pos, List, [], ◌∷◌, ◌++◌, map, length, Bool, true, false, Option, Some, None, Ok, Err, Result, IfOk, IfErr, IsOk, IsTrue, refl, sym, ap, ap₂, subst, ◌∙◌, arith}
-use Rattle.std.specs.Prelude.{◌&&◌, ◌||◌, ◌==◌, not, drop, unwrap_or, IsUtf8, IsErrAnd, IsOkAnd}
-use Rattle.std.specs.List.{AllByRecursion, filter, list_all}
-use Rattle.std.specs.List.Sorted.{IsPermutation}
-use Rattle.std.specs.Ordering.{is_eq, is_le, is_ge}
-use Rattle.std.proofs.lemmas.Bool.Decides.{nat_tests}
-use Rattle.sqlite_trees.proofs.ListLemmas.{all-append, all-map, all-permutation, all_both, all_weaker, all_from_map, filter_all}
-use Rattle.sqlite_trees.specs.View.{is_int}
-use Rattle.sqlite.specs.declared.types.Value.{Value}
-use Rattle.sqlite.specs.declared.types.Value.TheVariants.{Null}
-use Rattle.sqlite.specs.Effect.{Database, IsDatabase}
-use Rattle.sqlite.specs.Ops.{is_true, binary, from_truth}
-use Rattle.sqlite.specs.Order.{Row, column}
-use Rattle.sqlite.specs.Program.{overlay}
-use Rattle.sqlite.specs.Query.{IsAnswer}
-use Rattle.sqlite.specs.State.{State, Shown}
-use Rattle.sqlite.specs.Term.{Term, op2, holds}
-use Rattle.sqlite.proofs.Callers.{reads_as}
-use Rattle.sqlite_catalog.specs.Listing.{IsSound}
-use Rattle.sqlite_schema.specs.Rules.{are_typed, are_present, passes}
-use Rattle.sqlite_schema.specs.declared.schema.Constraint.TheVariants.{Datatype, NotNull}
-use Rattle.sqlite_sql.specs.Ops.{truth, or3, is_null}
-use Rattle.sqlite_sql.specs.declared.ops.BinaryOp.TheVariants.{Or}
-use Rattle.sqlite_value.specs.Order.{value_cmp}
-use Rattle.sqlite_value.proofs.OrderLemmas.{value_cmp-Int}
-use Rattle.acvp_registry.specs.Json.{body_json}
-use Rattle.acvp_registry.specs.Object.{object_text}
-use Rattle.acvp_tables.specs.declared.rows.ObjectRow.{ObjectRow}
-use Rattle.acvp_store.specs.Ranges.{IsTree, is_object_between, KeepsObjects, HasStrayRow, HasRowOutside, FitsObject, IsObjectRow, IsRegisteredWithin, AreObjectRanges, joined, first_number, last_number}
-use Rattle.acvp_store.specs.Schema.{Layout, schema_of, object_table}
-use Rattle.acvp_store.specs.Stands.{object_tree, object_columns, IsKeepable, Entry, entry_row, HoldsEntries, HoldsObjects}
-use Rattle.acvp_store.specs.Values.{whole}
-use Rattle.acvp_store.specs.Version.{is_equal}
-use Rattle.acvp_store.specs.declared.ranges.RangeFault.{RangeFault}
-use Rattle.acvp_store.specs.declared.ranges.RangeFault.TheVariants.{Stray}
-use Rattle.acvp_store.specs.Private.Columns.{columns_of_object}
-use Rattle.acvp_store.specs.Private.Objects.{IsObject}
-use Rattle.acvp_store.specs.Private.Shown.{AreLedBy, AreShown}
-use Rattle.acvp_store.specs.Private.Strays.{HasStray}
+use Rattle.std.proofs.Common.{◌≡◌, ◌<◌, ◌≤◌, ◌^◌, ℕ, ℤ, pos, List, [], ◌∷◌, ◌++◌, map, length, Bool, true, false}
+use Rattle.std.proofs.Common.{Option, Some, None, Ok, Err, Result, IfOk, IfErr, IsOk, IsTrue, refl, sym, ap, ap₂, subst}
+use Rattle.std.proofs.Common.{◌∙◌, arith}
+use Rattle.std.specs.Prelude.{◌&&◌, ◌||◌, ◌==◌}
+use Rattle.sqlite.specs.Ops.{binary}
+use Rattle.acvp_store.proofs.Words.{all-append, all-map, all-permutation, all_both, all_from_map, all_weaker}
+use Rattle.acvp_store.proofs.Words.{AllByRecursion, are_present, are_typed, AreLedBy, AreObjectRanges, AreShown}
+use Rattle.acvp_store.proofs.Words.{body_json, column, columns_of_object, Database, drop, Entry, entry_row, filter}
+use Rattle.acvp_store.proofs.Words.{filter_all, first_number, FitsObject, from_truth, HasRowOutside, HasStray}
+use Rattle.acvp_store.proofs.Words.{HasStrayRow, holds, HoldsEntries, HoldsObjects, is_eq, is_equal, is_ge, is_int}
+use Rattle.acvp_store.proofs.Words.{is_le, is_null, is_object_between, is_true, IsAnswer, IsDatabase, IsErrAnd}
+use Rattle.acvp_store.proofs.Words.{IsKeepable, IsObject, IsObjectRow, IsOkAnd, IsPermutation, IsRegisteredWithin}
+use Rattle.acvp_store.proofs.Words.{IsTree, IsUtf8, joined, KeepsObjects, last_number, Layout, list_all, nat_tests, not}
+use Rattle.acvp_store.proofs.Words.{NotNull, object_columns, object_table, object_text, object_tree, ObjectRow, op2, Or}
+use Rattle.acvp_store.proofs.Words.{or3, overlay, passes, RangeFault, Row, schema_of, Shown, State, Stray, Term, truth}
+use Rattle.acvp_store.proofs.Words.{unwrap_or, Value, value_cmp, value_cmp-Int, whole}
 use Rattle.acvp_store.proofs.ColumnNumbers.{is_whole, number_within, not_outside, all_fail, column_test}
-use Rattle.acvp_store.proofs.EntryRanges.{shown_exactly, entries_hold, each_entry, both_hold, entries_joined, entries_tree, joined_all, IsNumbered, IsParted}
+use Rattle.acvp_store.proofs.EntryRanges.{shown_exactly, entries_hold, each_entry, both_hold, entries_joined}
+use Rattle.acvp_store.proofs.EntryRanges.{entries_tree, joined_all, IsNumbered, IsParted}
 use Rattle.acvp_store.proofs.QueryForms.{equals, first_where, not_between, within as within_terms}
 use Rattle.acvp_store.proofs.Readings.{ObjectOutside, ObjectRange, answers, object_terms, reading_text}
 use Rattle.acvp_store.proofs.QueryRows.{selected_in_order}
@@ -52,13 +30,18 @@ use Rattle.acvp_store.proofs.Versions.{map_same, test_whole}
 
 -- ---- what the query meets
 
-module _ (layout : Layout) (kind f l : ℕ) (old new : State) (rows : List Row) (schema : old.now.schema ≡ schema_of layout) (h : Shown (reading_text ObjectRange) (whole f ∷ whole l ∷ whole kind ∷ []) old new rows) where
+module _ (layout : Layout) (kind f l : ℕ) (old new : State) (rows : List Row)
+    (schema : old.now.schema ≡ schema_of layout)
+    (h : Shown (reading_text ObjectRange) (whole f ∷ whole l ∷ whole kind ∷ []) old new rows) where
   abbrev params : Row
   params = whole f ∷ whole l ∷ whole kind ∷ []
 
   pub objects_met : IsPermutation (map columns_of_object (filter (is_object_between kind f l) (old.now.trees object_tree))) rows
   objects_met =
-      selected_in_order params (λ (r : Row). r) (is_object_between kind f l) (equals 1 2 ∷ within_terms 2) (λ r. ap₂ (λ a b. a && b) (test_whole (column r 1) kind) (test_between (column r 2) f l)) 2 object_tree object_terms columns_of_object (λ r. refl) (overlay old.now.trees []) (old.now.trees object_tree) rows (map_same _)
+      selected_in_order params (λ (r : Row). r) (is_object_between kind f l) (equals 1 2 ∷ within_terms 2)
+      (λ r. ap₂ (λ a b. a && b) (test_whole (column r 1) kind) (test_between (column r 2) f l)) 2 object_tree
+      object_terms columns_of_object (λ r. refl) (overlay old.now.trees []) (old.now.trees object_tree) rows
+      (map_same _)
       (answers ObjectRange layout params old new rows schema h)
 
 -- ---- what the schema says of a row
@@ -149,13 +132,12 @@ stray_told kind f l table outcome rows_in found result strays same rows =
 
 -- the columns of a kind and of a number are whole numbers
 are_whole : (row : Row) → IsObjectTyped row → IsTrue (is_int (column row 1)) × IsTrue (is_int (column row 2))
-are_whole [] typed = absurd (let no = typed.1 in cc)
-are_whole (a ∷ []) typed = absurd (let no = typed.1 in cc)
 are_whole (a ∷ b ∷ []) typed = absurd (let no : false ≡ true = right_true (not (is_null b)) false typed.1 in cc)
 are_whole (a ∷ b ∷ c ∷ row) typed = (
   is_whole b (left_true _ _ typed.0) (left_true _ _ typed.1),
   is_whole c (left_true _ _ (right_true _ _ typed.0)) (left_true _ _ (right_true _ _ typed.1)),
 )
+are_whole _ typed = absurd (let no = typed.1 in cc)
 
 abbrev pub is_elsewhere : Row → Bool
 is_elsewhere row = is_outside 1 3 (column row 1) || is_outside 1000000 9999999999 (column row 2)
@@ -182,7 +164,8 @@ Within = IsRegisteredWithin 9999
 not_elsewhere : (row : Row) → Within row → is_elsewhere row ≡ false
 not_elsewhere row is = ap₂ (λ a b. a || b) (not_outside 1 1 3 row is.0) (not_outside 2 (first_number 1) (last_number 9999) row is.1)
 
-module _ (layout : Layout) (old new : State) (rows : List Row) (schema : old.now.schema ≡ schema_of layout) (h : Shown (reading_text ObjectOutside) [] old new rows) where
+module _ (layout : Layout) (old new : State) (rows : List Row) (schema : old.now.schema ≡ schema_of layout)
+    (h : Shown (reading_text ObjectOutside) [] old new rows) where
   outside_answer : IsAnswer (first_where object_tree 2 elsewhere) (overlay old.now.trees []) [] rows
   outside_answer = answers ObjectOutside layout [] old new rows schema h
 

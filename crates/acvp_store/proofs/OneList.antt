@@ -1,28 +1,16 @@
 -- Two lists that the same rows stand for have the same members.
-use Rattle.std.proofs.Common.{◌≡◌, ◌<◌, ◌^◌, ℕ, List, [], ◌∷◌, map, Option, Some, None, refl, sym, ap, ap₂, subst, ◌∙◌, arith}
-use Rattle.std.specs.Prelude.{⊤}
-use Rattle.std.specs.List.{AllByRecursion, AllZip}
-use Rattle.std.specs.List.Sorted.{IsPermutation}
-use Rattle.std.proofs.lemmas.List.Sorted.{IsPermutation-sym, IsPermutation-trans, IsPermutation-map}
-use Rattle.sqlite_trees.proofs.ListLemmas.{all_of, all-permutation, all_from_map, pull_back}
-use Rattle.sqlite.specs.Order.{Row}
+use Rattle.std.proofs.Common.{◌≡◌, ◌<◌, ◌^◌, ℕ, List, [], ◌∷◌, map, Option, Some, None, refl, sym, ap, ap₂, subst, ◌∙◌}
+use Rattle.std.proofs.Common.{arith}
 use Rattle.acvp_answers.specs.Answer.{Answer}
-use Rattle.acvp_answers.specs.VerdictText.{verdicts_text}
 use Rattle.acvp_answers.specs.Verdicts.{disposition_of}
 use Rattle.acvp_answers.proofs.VerdictTextLemmas.{same_verdicts}
-use Rattle.acvp_json.specs.KeptAnswers.{kept_text, kept_answers}
-use Rattle.acvp_registry.specs.declared.kind.Kind.{Kind}
-use Rattle.acvp_registry.specs.declared.kind.Kind.TheVariants.{Vendor, Module, Environment, Certification}
-use Rattle.acvp_registry.specs.Json.{body_json}
-use Rattle.acvp_registry.specs.Object.{object_text}
-use Rattle.acvp_tables.specs.Content.{kind_number}
-use Rattle.acvp_tables.specs.Graded.{GradedValue}
-use Rattle.acvp_tables.specs.declared.rows.ObjectRow.{ObjectRow}
-use Rattle.acvp_tables.specs.declared.rows.ReviewerRow.{ReviewerRow}
-use Rattle.acvp_tables.specs.declared.rows.SetRow.{SetRow}
-use Rattle.acvp_store.specs.Kept.{AreKept}
-use Rattle.acvp_store.specs.Ranges.{KeepsObjects}
-use Rattle.acvp_store.specs.Stands.{SetColumns, set_key, set_row, IsGradedAs, IsSet, HoldsSets, Entry, entry_row, HoldsEntries, object_columns, IsKeepable, reviewer_columns, HoldsReviewers}
+use Rattle.acvp_store.proofs.Words.{all-permutation, all_from_map, all_of, AllByRecursion, AllZip, AreKept, body_json}
+use Rattle.acvp_store.proofs.Words.{Certification, Entry, entry_row, Environment, GradedValue, HoldsEntries}
+use Rattle.acvp_store.proofs.Words.{HoldsReviewers, HoldsSets, IsGradedAs, IsKeepable, IsPermutation, IsPermutation-map}
+use Rattle.acvp_store.proofs.Words.{IsPermutation-sym, IsPermutation-trans, IsSet, KeepsObjects, kept_answers}
+use Rattle.acvp_store.proofs.Words.{kept_text, Kind, kind_number, Module, object_columns, object_text, ObjectRow}
+use Rattle.acvp_store.proofs.Words.{pull_back, reviewer_columns, ReviewerRow, Row, set_key, set_row, SetColumns, SetRow}
+use Rattle.acvp_store.proofs.Words.{Vendor, verdicts_text, ⊤}
 use Rattle.acvp_store.proofs.SetRanges.{once}
 
 -- ---- tables under one number
@@ -30,12 +18,11 @@ use Rattle.acvp_store.proofs.SetRanges.{once}
 -- members that are kept in the same way are one
 same_members : {A : Type 0} (Good : A → Type 0) (stored : A → Row) (one : (a b : A) → Good a → Good b → stored a ≡ stored b → a ≡ b) (xs ys : List A) → AllByRecursion Good xs → AllByRecursion Good ys → map stored xs ≡ map stored ys → xs ≡ ys
 same_members Good stored one [] [] good well is = refl
-same_members Good stored one [] (y ∷ ys) good well is = absurd (cc)
-same_members Good stored one (x ∷ xs) [] good well is = absurd (cc)
 same_members Good stored one (x ∷ xs) (y ∷ ys) good well is =
     let head : stored x ≡ stored y = cc in
     let rest : map stored xs ≡ map stored ys = cc in
     ap₂ (λ a l. a ∷ l) (one x y good.0 well.0 head) (same_members Good stored one xs ys good.1 well.1 rest)
+same_members _ stored one _ _ good well is = absurd (cc)
 
 pub same_kept : {A : Type 0} (key : A → ℕ) (Good : A → Type 0) (stored : A → Row) (one : (a b : A) → Good a → Good b → stored a ≡ stored b → a ≡ b) (rows : List Row) (xs ys : List A) → AllByRecursion Good xs → AllByRecursion Good ys → AreKept key stored rows xs → AreKept key stored rows ys → IsPermutation xs ys
 same_kept key Good stored one rows xs ys good well a b =
@@ -137,17 +124,15 @@ record Paired (columns : List SetColumns) (sets : List SetRow) : Type 0 where
 
 paired : (columns : List SetColumns) (sets : List SetRow) → AllZip IsSet columns sets → Paired columns sets
 paired [] [] zip = record { pairs = []; firsts = refl; seconds = refl }
-paired [] (s ∷ sets) zip = absurd zip
-paired (c ∷ columns) [] zip = absurd zip
 paired (c ∷ columns) (s ∷ sets) zip =
     let more = paired columns sets zip.1 in
     record { pairs = record { columns = c; set = s; is = zip.0 } ∷ more.pairs; firsts = ap (λ l. c ∷ l) more.firsts; seconds = ap (λ l. s ∷ l) more.seconds }
+paired _ _ zip = absurd zip
 
 sets_of : (pairs : List Pair) (sets : List SetRow) → AllZip IsSet (map (λ (p : Pair). p.columns) pairs) sets → map (λ (p : Pair). p.set) pairs ≡ sets
 sets_of [] [] zip = refl
-sets_of [] (s ∷ sets) zip = absurd zip
-sets_of (p ∷ pairs) [] zip = absurd zip
 sets_of (p ∷ pairs) (s ∷ sets) zip = ap₂ (λ x l. x ∷ l) (one_set p.columns p.set s p.is zip.0) (sets_of pairs sets zip.1)
+sets_of _ _ zip = absurd zip
 
 pub same_sets : (rows : List Row) (xs ys : List SetRow) → HoldsSets rows xs → HoldsSets rows ys → IsPermutation xs ys
 same_sets rows xs ys a b =

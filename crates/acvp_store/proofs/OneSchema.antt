@@ -1,14 +1,9 @@
 -- Trees list one schema, so what a store's database shows to an open is that store.
-use Rattle.std.proofs.Common.{◌≡◌, ◌⊎◌, inl, inr, ◌≤◌, ◌+◌, ◌↔◌, ℕ, zero, suc, pos, List, [], ◌∷◌, length, slice_get, Bool, true, false, Some, Result, Ok, Err, IsTrue, IfErr, IfOk, refl, sym, ap, subst, ◌∙◌, arith}
-use Rattle.std.specs.List.{AllZip, AllByRecursion, filter}
-use Rattle.sqlite.specs.Effect.{Database, IsDatabase}
-use Rattle.sqlite.specs.Held.{Held, state}
-use Rattle.sqlite.specs.Order.{Row, column}
-use Rattle.sqlite.specs.Schema.{Schema}
-use Rattle.sqlite.specs.State.{State}
-use Rattle.sqlite.specs.Table.{Table}
+use Rattle.std.proofs.Common.{◌≡◌, ◌⊎◌, inl, inr, ◌≤◌, ◌+◌, ◌↔◌, ℕ, zero, pos, List, [], ◌∷◌, length, slice_get, Bool}
+use Rattle.std.proofs.Common.{true, false, Some, Result, Ok, Err, IsTrue, IfErr, IfOk, refl, sym, ap, subst, ◌∙◌, arith}
 use Rattle.sqlite_catalog.proofs.StepLemmas.{named_once, same_itself}
-use Rattle.sqlite_catalog.specs.Listing.{IsTableRow, IsIndexRow, IsViewRow, IsDefined, IsSound, automatic, is_table_row, is_index_row, is_view_row}
+use Rattle.sqlite_catalog.specs.Listing.{IsTableRow, IsIndexRow, IsViewRow, IsDefined, IsSound, automatic, is_table_row}
+use Rattle.sqlite_catalog.specs.Listing.{is_index_row, is_view_row}
 use Rattle.sqlite_resolve.specs.Compile.{table_defined_by}
 use Rattle.sqlite_rules.proofs.ListLemmas.{all_has}
 use Rattle.sqlite_schema.specs.Names.{same_name}
@@ -17,30 +12,28 @@ use Rattle.sqlite_trees.specs.Objects.{catalog_tree}
 use Rattle.sqlite_trees.specs.declared.store.Store.{Ghosts}
 use Rattle.sqlite_trees.specs.Tree.{Trees, IsAscending, rowid}
 use Rattle.sqlite_value.specs.declared.value.Value.{Value}
-use Rattle.sqlite_value.specs.declared.value.Value.TheVariants.{Null, Int, Real, Text, Blob}
-use Rattle.acvp_tables.specs.Content.{Content}
+use Rattle.sqlite_value.specs.declared.value.Value.TheVariants.{Null, Int, Text}
 use Rattle.acvp_store.specs.Adopted.{IsOurs}
-use Rattle.acvp_store.specs.Connection.{LeavesNoMore, LeavesSo, ServesStore}
-use Rattle.acvp_store.specs.Migrated.{IsOf, IsMigrated, Migrates, Moves, layout_after, IsAfterMigration}
-use Rattle.acvp_store.specs.Schema.{Layout, Created, Migrated, schema_of, SchemaVersion, First, Second, Third, schema_at}
-use Rattle.acvp_store.specs.Stands.{StandsAt, Stands}
-use Rattle.acvp_store.specs.Store.{IsStoreAt, IsStoreOf, IsOldOrMigrated, stands}
 use Rattle.acvp_store.specs.Private.Found.{store_of}
-use Rattle.acvp_store.proofs.Known.{same_version}
+use Rattle.acvp_store.proofs.Words.{AllByRecursion, AllZip, column, Content, Created, Database, filter, First, Held}
+use Rattle.acvp_store.proofs.Words.{IsAfterMigration, IsDatabase, IsMigrated, IsOf, IsOldOrMigrated, IsStoreAt}
+use Rattle.acvp_store.proofs.Words.{IsStoreOf, Layout, layout_after, LeavesNoMore, LeavesSo, Migrated, Migrates, Moves}
+use Rattle.acvp_store.proofs.Words.{Row, Schema, schema_at, schema_of, SchemaVersion, Second, ServesStore, Stands}
+use Rattle.acvp_store.proofs.Words.{stands, StandsAt, State, state, Table, Third}
+use Rattle.acvp_store.proofs.Versions.{same_version}
 
 -- ---- each row lists one thing
 
 module _ {A B : Type 0} (P : A → B → Type 0) where
   zip_once : ((a : A) (x y : B) → P a x → P a y → x ≡ y) → (rows : List A) (xs ys : List B) → AllZip P rows xs → AllZip P rows ys → xs ≡ ys
   zip_once once [] [] [] h k = refl
-  zip_once once [] [] (y ∷ ys) h k = absurd k
   zip_once once [] (x ∷ xs) ys h k = absurd h
   zip_once once (a ∷ rows) [] ys h k = absurd h
-  zip_once once (a ∷ rows) (x ∷ xs) [] h k = absurd k
   zip_once once (a ∷ rows) (x ∷ xs) (y ∷ ys) h k =
       let first = once a x y h.0 k.0 in
       let more = zip_once once rows xs ys h.1 k.1 in
       ap (λ z. z ∷ xs) first ∙ ap (λ l. y ∷ l) more
+  zip_once once _ _ _ h k = absurd k
 
   zip_none : (rows : List A) (xs : List B) → AllZip P rows [] → AllZip P rows xs → xs ≡ []
   zip_none [] [] h k = refl
@@ -63,11 +56,9 @@ table_once row a b h k =
 
 -- of at most one member
 get_once : {X : Type 0} (xs : List X) (i j : ℕ) (x y : X) → length xs ≤ 1 → slice_get xs i ≡ Some x → slice_get xs j ≡ Some y → i ≡ j
-get_once [] i j x y few h k = absurd (cc)
 get_once (z ∷ []) zero zero x y few h k = refl
-get_once (z ∷ []) zero (suc j) x y few h k = absurd (cc)
-get_once (z ∷ []) (suc i) j x y few h k = absurd (cc)
 get_once (z ∷ w ∷ xs) i j x y few h k = absurd (omega (arith, few))
+get_once _ _ _ x y few h k = absurd (cc)
 
 defined_once : (t : Table) → length t.uniques ≤ 1 → (a b : Index) → a.tree ≡ b.tree → (v : Value) → IsDefined t a v → IsDefined t b v → a ≡ b
 defined_once t few a b tree Null h k =
@@ -75,13 +66,11 @@ defined_once t few a b tree Null h k =
     let both : Some h.1 ≡ Some k.1 = sym h.2 ∙ ap (slice_get t.uniques) at ∙ k.2 in
     let key : h.1 ≡ k.1 = cc in
     h.3 ∙ ap (λ n. automatic t n h.1 a.tree) at ∙ ap (λ l. automatic t k.0 l a.tree) key ∙ ap (automatic t k.0 k.1) tree ∙ sym k.3
-defined_once t few a b tree (Int n) h k = absurd h
-defined_once t few a b tree (Real x) h k = absurd h
 defined_once t few a b tree (Text sql) h k =
     let both : Ok h.0 ≡ Ok k.0 = sym h.1 ∙ k.1 in
     let made : h.0 ≡ k.0 = cc in
     h.2 ∙ ap (λ (m : Index). record m { tree = a.tree; table = t.tree }) made ∙ ap (λ n. record k.0 { tree = n; table = t.tree }) tree ∙ sym k.2
-defined_once t few a b tree (Blob s) h k = absurd h
+defined_once t few a b tree _ h k = absurd h
 
 -- the tables have different names, and each at most one UNIQUE
 module _ (tables : List Table) (named : IsAscending (λ s t. same_name s.name t.name ≡ false) tables) (few : AllByRecursion (λ t. length t.uniques ≤ 1) tables) where

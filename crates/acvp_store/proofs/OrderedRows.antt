@@ -1,27 +1,18 @@
 -- What a query shows in an order in which no two of the rows that it finds are equal.
-use Rattle.std.proofs.Common.{◌≡◌, ◌⊎◌, inl, inr, ◌<◌, ◌≤◌, ℕ, pos, negsuc, List, [], ◌∷◌, map, take, drop, length, Bool, refl, sym, ap, ap₂, subst, ◌∙◌, arith, Less, Equal}
-use Rattle.std.specs.Prelude.{min, filter}
-use Rattle.std.specs.List.{list_all}
-use Rattle.std.specs.List.Sorted.{IsPermutation}
-use Rattle.std.specs.Ordering.{ordering_then}
+use Rattle.std.proofs.Common.{◌≡◌, ◌⊎◌, inl, inr, ◌<◌, ◌≤◌, ℕ, pos, negsuc, List, [], ◌∷◌, map, take, drop, length}
+use Rattle.std.proofs.Common.{Bool, refl, sym, ap, ap₂, subst, ◌∙◌, arith, Less, Equal}
+use Rattle.std.specs.Prelude.{filter}
 use Rattle.std.proofs.Math.Seq.{take-length}
-use Rattle.std.proofs.lemmas.List.{take-map, take_min, drop_all, length-drop}
-use Rattle.std.proofs.lemmas.List.Sorted.{IsPermutation-map, IsPermutation-trans, IsPermutation-sym}
-use Rattle.std.proofs.lemmas.Bool.Decides.{nat_tests}
-use Rattle.sqlite_trees.proofs.ListLemmas.{map-map, filter-map, ascending-map, ascending_weaker, IsPermutation-filter}
-use Rattle.sqlite.specs.Collation.TheVariants.{Binary}
-use Rattle.sqlite.specs.declared.types.Value.TheVariants.{Int}
-use Rattle.sqlite.specs.Order.{Row}
-use Rattle.sqlite.specs.Term.{Term, col, lit, holds, eval, eval_all}
-use Rattle.sqlite.specs.Query.{Query, IsAnswer, output, output_cmp, Output, page as paged_rows}
-use Rattle.sqlite.specs.Tree.{Trees, IsAscending}
-use Rattle.sqlite_value.proofs.OrderLemmas.{value_cmp-Int}
-use Rattle.sqlite_value.specs.Keys.{ascending}
+use Rattle.sqlite.specs.Query.{page as paged_rows}
 use Rattle.sqlite_value.specs.declared.keys.Key.{Key}
 use Rattle.sqlite_sql.proofs.QueryLemmas.{output_cmp_total}
 use Rattle.sqlite_keyed.proofs.SortLemmas.{sorted_unique}
 use Rattle.acvp_tables.specs.Content.{page}
-use Rattle.acvp_store.specs.Values.{whole}
+use Rattle.acvp_store.proofs.Words.{ascending, ascending-map, ascending_weaker, Binary, col, drop_all, eval, eval_all}
+use Rattle.acvp_store.proofs.Words.{filter-map, holds, Int, IsAnswer, IsAscending, IsPermutation, IsPermutation-filter}
+use Rattle.acvp_store.proofs.Words.{IsPermutation-map, IsPermutation-sym, IsPermutation-trans, length-drop, list_all}
+use Rattle.acvp_store.proofs.Words.{lit, map-map, min, nat_tests, ordering_then, Output, output, output_cmp, Query, Row}
+use Rattle.acvp_store.proofs.Words.{take-map, take_min, Term, Trees, value_cmp-Int, whole}
 use Rattle.acvp_store.proofs.QueryForms.{ordered_by, paging, sorted_by}
 use Rattle.acvp_store.proofs.SelectedRows.{matched}
 
@@ -51,7 +42,8 @@ module _ {E A : Type 0} (params : Row) (encode : E → Row) (p : E → Bool) (te
         (ascending_weaker Before (λ x y. output_cmp q (out x) (out y) ≡ Less) before list rise) in
         let shuffled = IsPermutation-trans _ _ _ (IsPermutation-sym _ _ (IsPermutation-map out _ _ same))
         (subst (λ k. IsPermutation k a.ordered) kept a.same) in
-        let ordered = sorted_unique (output_cmp q) (output_cmp_total q) (map out list) a.ordered strict shuffled a.sorted in
+        let ordered = sorted_unique (output_cmp q) (output_cmp_total q) (map out list) a.ordered strict shuffled
+        a.sorted in
         a.shown ∙ ap (λ os. paged_rows q params (map (λ (o : Output). o.1) os)) ordered
 
   -- by a column of whole numbers that rise
@@ -67,7 +59,8 @@ module _ {E A : Type 0} (params : Row) (encode : E → Row) (p : E → Bool) (te
     by_column : (limit : Term) (db : Trees) (all : List E) (list : List A) (rows : List Row) → db tree ≡ map encode all
         → IsPermutation (map told (filter p all)) list → IsAscending Rises list
         → IsAnswer (sorted_by ((col 1 at, ascending Binary) ∷ []) limit tree terms project) db params rows
-        → rows ≡ paged_rows (sorted_by ((col 1 at, ascending Binary) ∷ []) limit tree terms project) params (map show list)
+        → rows ≡ paged_rows (sorted_by ((col 1 at, ascending Binary) ∷ []) limit tree terms project) params
+        (map show list)
     by_column limit db all list rows has same rise a =
         let q = sorted_by ((col 1 at, ascending Binary) ∷ []) limit tree terms project in
         let below = λ (a b : A) (low : key a < key b). let it : output_cmp q (by_key a) (by_key b) ≡ Less =
@@ -93,7 +86,8 @@ module _ {E A : Type 0} (params : Row) (encode : E → Row) (member : E → A) (
       → IsAnswer (paging tree terms project place) db params rows → rows ≡ map show (take l (filter p list))
   paged db all list rows has whole_list rise a =
       let picked = filter p list in
-      let same = subst (λ xs. IsPermutation xs picked) (filter-map p member all) (IsPermutation-filter p _ list whole_list) in
+      let same = subst (λ xs. IsPermutation xs picked) (filter-map p member all)
+      (IsPermutation-filter p _ list whole_list) in
       by_column params encode (λ e. p (member e)) terms tests member key show place tree project keyed shows (col 0 2)
       db all picked rows has same rise a ∙ rw limit (take-map show l picked)
 

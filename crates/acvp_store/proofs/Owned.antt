@@ -1,18 +1,13 @@
 -- The rows of an account, by the range of their numbers.
-use Rattle.std.proofs.Common.{◌≡◌, ◌<◌, ◌≤◌, ℕ, zero, suc, ◌+◌, ◌*◌, List, [], ◌∷◌, map, drop, length, Bool, true, false, refl, sym, ap, subst, ◌∙◌, arith}
-use Rattle.std.specs.Prelude.{◌==◌, ◌&&◌, nat_le, filter}
-use Rattle.std.specs.List.{list_all, range_with_len, AllByRecursion}
-use Rattle.std.proofs.lemmas.List.{length-map}
-use Rattle.std.proofs.lemmas.Bool.Decides.{nat_tests}
-use Rattle.sqlite_trees.proofs.ListLemmas.{map-map, filter-map}
-use Rattle.sqlite.specs.Tree.{IsAscending}
-use Rattle.acvp_registry.specs.declared.kind.Kind.{Kind}
-use Rattle.acvp_tables.specs.Content.{Content, sessions_of, requests_of, objects_of}
-use Rattle.acvp_tables.specs.State.{AreWellNumbered, IsWellNumbered, IsNumbered, state_of, own, owner_of, session_record, objects_in, first_of_account}
-use Rattle.acvp_tables.specs.declared.rows.SessionRow.{SessionRow}
-use Rattle.acvp_tables.specs.declared.rows.RequestRow.{RequestRow}
-use Rattle.acvp_tables.specs.declared.rows.ObjectRow.{ObjectRow}
+use Rattle.std.proofs.Common.{◌≡◌, ◌<◌, ◌≤◌, ℕ, zero, suc, ◌+◌, ◌*◌, List, [], ◌∷◌, map, drop, length, Bool, true}
+use Rattle.std.proofs.Common.{false, refl, sym, ap, subst, ◌∙◌, arith}
+use Rattle.std.specs.Prelude.{◌==◌, ◌&&◌, filter}
+use Rattle.acvp_tables.specs.State.{IsWellNumbered, state_of, own}
 use Rattle.acvp_tables.proofs.Numbers.{keyed, few_objects}
+use Rattle.acvp_store.proofs.Words.{AllByRecursion, AreWellNumbered, Content, filter-map, first_of_account, IsAscending}
+use Rattle.acvp_store.proofs.Words.{IsNumbered, Kind, length-map, list_all, map-map, nat_le, nat_tests, ObjectRow}
+use Rattle.acvp_store.proofs.Words.{objects_in, objects_of, owner_of, range_with_len, RequestRow, requests_of}
+use Rattle.acvp_store.proofs.Words.{session_record, SessionRow, sessions_of}
 
 abbrev pub last_number : ℕ → ℕ
 last_number account = account * 1000000 + 999999

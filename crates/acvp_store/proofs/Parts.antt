@@ -1,15 +1,11 @@
 -- The parts of what a statement does, and what a column makes of a value.
-use Rattle.std.proofs.Common.{◌≡◌, ◌≢◌, ◌⊎◌, inl, inr, ℕ, List, Bool, true, false, cond, Option, Some, None, Ok, Err, Result, refl, ◌∙◌, arith}
+use Rattle.std.proofs.Common.{◌≡◌, ◌≢◌, ◌⊎◌, inl, inr, ℕ, List, Bool, true, false, cond, Option, Some, None, Ok, Err}
+use Rattle.std.proofs.Common.{Result, refl, ◌∙◌, arith}
 use Rattle.std.specs.Prelude.{◌==◌, ◌&&◌}
-use Rattle.std.proofs.lemmas.Bool.Decides.{nat_tests}
-use Rattle.sqlite.specs.declared.types.Value.{Value}
-use Rattle.sqlite.specs.declared.types.Value.TheVariants.{Null, Text}
 use Rattle.sqlite.specs.Ops.{unary}
 use Rattle.sqlite.specs.Kind.TheVariants as kind
 use Rattle.sqlite.specs.Kind.TheVariants.{Integer}
-use Rattle.sqlite.specs.Cast.{cast}
-use Rattle.sqlite.specs.Values.{or_null}
-use Rattle.acvp_store.specs.Values.{whole, flag}
+use Rattle.acvp_store.proofs.Words.{cast, flag, nat_tests, Null, or_null, Text, Value, whole}
 
 -- a part that gave a value didn't stop on the way
 pub went : {B E R : Type 0} {b : B} {Stops : E → Type 0} → ((stop : E) × Stops stop × (Ok b ≡ Err stop)) ⊎ R → R

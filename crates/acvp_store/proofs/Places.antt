@@ -1,13 +1,9 @@
 -- Where the tables lie that don't lie alike in every store.
 use Rattle.std.proofs.Common.{◌≡◌, ◌≢◌, ℕ, [], Some, false, refl, slice_get, ◌∙◌}
-use Rattle.std.specs.Prelude.{◌==◌, ⊤}
-use Rattle.std.specs.List.{AllByRecursion}
-use Rattle.sqlite.specs.Program.{overlay}
-use Rattle.sqlite.specs.Table.{Table}
+use Rattle.std.specs.Prelude.{◌==◌}
 use Rattle.sqlite_trees.specs.Tree.{Trees}
-use Rattle.acvp_store.specs.Schema.{Layout, Created, Migrated, schema_of, set_table, reviewer_table}
-use Rattle.acvp_store.specs.Stands.{set_tree, reviewer_tree, HasNoOldSets}
-use Rattle.acvp_store.specs.Alters.{SparesOthers}
+use Rattle.acvp_store.proofs.Words.{AllByRecursion, Created, HasNoOldSets, Layout, Migrated, overlay, reviewer_table}
+use Rattle.acvp_store.proofs.Words.{reviewer_tree, schema_of, set_table, set_tree, SparesOthers, Table, ⊤}
 use Rattle.acvp_store.proofs.Parts.{apart}
 use Rattle.acvp_store.proofs.Writings.{reviewer_place, set_place}
 

@@ -1,15 +1,10 @@
 -- The forms that the statements' queries and their terms have.
 use Rattle.std.proofs.Common.{None, [], ◌∷◌, List, ℕ, pos, negsuc, true, false}
 use Rattle.sqlite.specs.Collation.{Collation}
-use Rattle.sqlite.specs.Collation.TheVariants.{Binary}
-use Rattle.sqlite.specs.declared.types.Value.TheVariants.{Int}
-use Rattle.sqlite.specs.Query.{Query, inner, end}
-use Rattle.sqlite.specs.Term.{Term, lit, col, op1, op2}
 use Rattle.sqlite_sql.specs.declared.ops.UnaryOp.TheVariants.{Not}
-use Rattle.sqlite_sql.specs.declared.ops.BinaryOp.TheVariants.{And, Compare}
-use Rattle.sqlite_sql.specs.declared.ops.CompareOp.TheVariants.{Eq, Le, Ge}
-use Rattle.sqlite_value.specs.Keys.{ascending}
 use Rattle.sqlite_value.specs.declared.keys.Key.{Key}
+use Rattle.acvp_store.proofs.Words.{And, ascending, Binary, col, Compare, end, Eq, Ge, inner, Int, Le, lit, op1, op2}
+use Rattle.acvp_store.proofs.Words.{Query, Term}
 
 -- ---- terms
 

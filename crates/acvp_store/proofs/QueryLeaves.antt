@@ -1,14 +1,12 @@
 -- What a query leaves, whatever its text.
-use Rattle.std.proofs.Common.{◌≡◌, ◌≤◌, inl, inr, ℕ, List, Bool, true, false, Option, None, Some, Ok, Err, Result, IsTrue, IfOk, IfErr, IsOk, refl, sym, subst, ◌∙◌, arith}
-use Rattle.sqlite.specs.Order.{Row}
-use Rattle.sqlite.specs.declared.error.Error.{Error}
-use Rattle.sqlite_trees.specs.View.{doubt}
+use Rattle.std.proofs.Common.{◌≡◌, ◌≤◌, inl, inr, ℕ, List, Bool, true, false, Option, None, Some, Ok, Err, Result}
+use Rattle.std.proofs.Common.{IsTrue, IfOk, IfErr, IsOk, refl, sym, subst, ◌∙◌, arith}
 use Rattle.sqlite_trees.proofs.Doubt.{no_doubt}
 use Rattle.sqlite_schema.specs.declared.command.Returning.{Returning}
-use Rattle.sqlite_resolve.specs.Compile.{first}
-use Rattle.sqlite.specs.State.{State, HasCleanDisk, Survives, IsUnchanged, IsRolledBack, Shown, ShowsRows, FailsToQuery, FailsToShow, IsNotRun, CommitsShowing}
+use Rattle.sqlite.specs.State.{Shown, FailsToQuery, IsNotRun}
 use Rattle.sqlite.specs.Clock.{timed}
-use Rattle.acvp_store.specs.Connection.{IsReady, Stays, LeavesNoMore, IsRead}
+use Rattle.acvp_store.proofs.Words.{CommitsShowing, doubt, Error, FailsToShow, first, HasCleanDisk, IsRead, IsReady}
+use Rattle.acvp_store.proofs.Words.{IsRolledBack, IsUnchanged, LeavesNoMore, Row, ShowsRows, State, Stays, Survives}
 use Rattle.acvp_store.proofs.Silent.{asks, silent, commits_nothing}
 
 -- an open store is clean, by the law of each store
@@ -73,7 +71,8 @@ module _ (sql : List ℕ) (params : Row) (old new : State) (law : new.is_clean �
     | inr commits ↦ absurd (commits_nothing sql params old db is commits)
   ]
 
-  read : {X : Type 0} (result : Result X Error) (rows_of : X → List Row) → (HasCleanDisk new → IfOk result (λ x. Shown sql params old new (rows_of x)))
+  read : {X : Type 0} (result : Result X Error) (rows_of : X → List Row)
+      → (HasCleanDisk new → IfOk result (λ x. Shown sql params old new (rows_of x)))
       → (HasCleanDisk new → IfErr result (FailsToQuery sql params old new)) → IsRead result old new
   read (Ok x) rows_of ok err = record {
     stays = later (λ clean. same_unchanged old new ready (unchanged_shown sql params old new (rows_of x) is (ok clean)));

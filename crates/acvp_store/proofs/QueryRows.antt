@@ -1,35 +1,23 @@
--- The rows that a query meets, whatever they are, and what is read of each of them.
-use Rattle.std.proofs.Common.{◌≡◌, ◌<◌, ◌^◌, ℕ, ℤ, pos, List, [], ◌∷◌, map, Ordering, Less, Equal, Greater, Bool, false, Ok, Err, Result, IfOk, IsOk, refl, sym, ap, subst, ◌∙◌, arith}
-use Rattle.std.specs.Prelude.{not}
-use Rattle.std.specs.List.{AllByRecursion, filter, list_all}
-use Rattle.std.specs.List.Sorted.{IsPermutation}
-use Rattle.std.specs.Ordering.{is_eq, is_ne, is_ge}
-use Rattle.std.proofs.lemmas.List.Sorted.{IsPermutation-map, IsPermutation-sym}
-use Rattle.sqlite_trees.proofs.ListLemmas.{all-permutation}
-use Rattle.sqlite.specs.Collation.TheVariants.{Binary}
-use Rattle.sqlite.specs.Command.TheVariants.{Select}
-use Rattle.sqlite.specs.declared.types.Value.{Value}
-use Rattle.sqlite.specs.declared.types.Value.TheVariants.{Null, Int}
-use Rattle.sqlite.specs.Listing.{understood, reads_listing}
-use Rattle.sqlite.specs.Ops.{is_true, binary}
-use Rattle.sqlite.specs.Order.{Row, column}
-use Rattle.sqlite.specs.Program.{overlay}
-use Rattle.sqlite.specs.Query.{IsAnswer, output, Output}
-use Rattle.sqlite.specs.State.{State, Shown}
-use Rattle.sqlite.specs.Term.{Term, eval_all, holds}
-use Rattle.sqlite.specs.Tree.{Trees}
-use Rattle.sqlite.proofs.Callers.{IsPlain, command_of, reads_as}
-use Rattle.sqlite_sql.specs.declared.ops.BinaryOp.TheVariants.{Compare}
-use Rattle.sqlite_sql.specs.declared.ops.CompareOp.TheVariants.{Ne, Le, Ge}
-use Rattle.sqlite_value.proofs.OrderLemmas.{value_cmp-apart}
-use Rattle.acvp_store.specs.Schema.{Layout, schema_of}
-use Rattle.acvp_store.specs.Values.{whole}
-use Rattle.acvp_store.specs.Private.Shown.{BeginsWith, AreShown, AreMet, is_at_least, is_at_most, is_other, is_under}
-use Rattle.acvp_store.proofs.Parts.{and_true}
-use Rattle.acvp_store.proofs.SelectedRows.{matched, truth_back, selected}
-use Rattle.acvp_store.proofs.QueryForms.{ordered_by}
-use Rattle.acvp_store.proofs.Versions.{map_same, test_whole}
+-- The rows that a query meets, whatever they are, what is read of each of them, and the row of a number.
+use Rattle.std.proofs.Common.{◌≡◌, ℕ, List, [], ◌∷◌, map, Ordering, Less, Equal, Greater, Bool, Ok, Err, Result, IfOk}
+use Rattle.std.proofs.Common.{IsOk, refl, sym, ap, subst, ◌∙◌, arith, inl, inr, ◌<◌, ◌≤◌, ◌^◌, ℤ, pos, negsuc, false}
+use Rattle.std.specs.Prelude.{◌==◌}
+use Rattle.sqlite.specs.Ops.{binary}
+use Rattle.acvp_store.proofs.Words.{all-permutation, AllByRecursion, AreKept, AreMet, AreShown, BeginsWith, Binary}
+use Rattle.acvp_store.proofs.Words.{column, Compare, Eq, eval_all, filter, Ge, holds, Int, is_at_least, is_at_most}
+use Rattle.acvp_store.proofs.Words.{is_eq, is_ge, is_ne, is_other, is_true, is_under, IsAnswer, IsPermutation}
+use Rattle.acvp_store.proofs.Words.{IsPermutation-map, IsPermutation-sym, Layout, Le, list_all, Ne, not, Null, Output}
+use Rattle.acvp_store.proofs.Words.{output, overlay, Row, rowid, schema_of, Shown, State, Term, Trees, Value}
+use Rattle.acvp_store.proofs.Words.{value_cmp-apart, whole}
+use Rattle.acvp_store.proofs.SelectedRows.{matched, truth_back, test_equals, test_none, selected}
+use Rattle.acvp_store.proofs.QueryForms.{ordered_by, equals, simple}
 use Rattle.acvp_store.proofs.Told.{told_through}
+use Rattle.acvp_store.proofs.Keyed.{keyed, none_fits, none_passes, small_or_large}
+use Rattle.acvp_store.proofs.Parts.{and_true}
+use Rattle.acvp_store.proofs.Readings.{Reading, answers_as, reading_query, reading_text}
+use Rattle.acvp_store.proofs.Versions.{map_same, test_whole}
+
+-- ---- the rows that a query meets, whatever they are, and what is read of each of them
 
 -- ---- what SQL's operators say of any value
 
@@ -79,9 +67,8 @@ module _ {T : Type 0} (meets : Row → Bool) (columns : Row → Row) (shown : T 
 
     each_read : (rows : List Row) (found : List T) → AreShown Known shown rows found → AllByRecursion Good found → AllByRecursion IsRead rows
     each_read [] [] shows good = tt
-    each_read [] (x ∷ found) shows good = absurd shows
-    each_read (r ∷ rows) [] shows good = absurd shows
     each_read (r ∷ rows) (x ∷ found) shows good = ((x, shows.0.0, good.0), each_read rows found shows.1 good.1)
+    each_read _ _ shows good = absurd shows
 
     each_met : (rows : List Row) → AllByRecursion IsRead (map columns rows) → AllByRecursion (λ row. (x : T) × (columns row ≡ shown x) × Good x) rows
     each_met [] all = tt
@@ -93,7 +80,9 @@ module _ {T : Type 0} (meets : Row → Bool) (columns : Row → Row) (shown : T 
         → IfOk outcome (λ x. IsPermutation (map columns (filter meets table)) (rows_in x)) → IfOk result (λ z. AreMet meets columns shown Good table)
     met table rows_in items outcome found result ok_found ok_result =
         told_through outcome found result ok_found ok_result _ _ _ _ (λ x b z shows good rows.
-        each_met (filter meets table) (all-permutation IsRead (rows_in x) (map columns (filter meets table)) (IsPermutation-sym _ _ rows) (each_read (rows_in x) (items b) shows good)))
+        each_met (filter meets table)
+        (all-permutation IsRead (rows_in x) (map columns (filter meets table)) (IsPermutation-sym _ _ rows)
+        (each_read (rows_in x) (items b) shows good)))
 
   all_known : (rows : List Row) (found : List T) → AreShown Known shown rows found → AllByRecursion Known found
   all_known [] [] shows = tt
@@ -109,3 +98,64 @@ module _ {T : Type 0} (meets : Row → Bool) (columns : Row → Row) (shown : T 
   met_as_found table rows_in items (Err e) (Ok b) (Ok z) ok_found ok_result shows rows = absurd (let impossible = ok_found refl in cc)
   met_as_found table rows_in items (Ok x) (Ok b) (Ok z) ok_found ok_result shows rows =
       each_met Known (filter meets table) (all-permutation (IsRead Known) (rows_in x) (map columns (filter meets table)) (IsPermutation-sym _ _ rows) (each_read Known (rows_in x) (items b) shows (all_known (rows_in x) (items b) shows)))
+
+-- ---- the row of a number, of whichever table has numbers as keys
+
+-- how a number is asked for: as itself, or as one that no column has
+abbrev pub IsFitting : ℕ → ℤ → Type 0
+IsFitting n k = n < 2 ^ 63 → k ≡ pos n
+
+abbrev pub IsTooLarge : ℕ → ℤ → Type 0
+IsTooLarge n k = 2 ^ 63 ≤ n → k ≡ negsuc 0
+
+module _ (r : Reading) (layout : Layout) (tree : ℕ) where
+  -- a query shows so the row of a number, of members whose rows the table holds
+  abbrev pub ShowsAt : {A : Type 0} → (A → ℕ) → (A → Row) → (A → Row) → Type 1
+  ShowsAt {A} key stored show =
+      (n : ℕ) (k : ℤ) → IsFitting n k → IsTooLarge n k → (old new : State) (rows : List Row)
+      → old.now.schema ≡ schema_of layout → Shown (reading_text r) (Int k ∷ []) old new rows
+      → (list : List A) (kept : AreKept key stored (old.now.trees tree) list)
+      → IsPermutation (map show (keyed key n kept.ordered)) rows
+
+  -- it shows so the row under a number, whatever that is
+  abbrev pub MeetsUnder : (Row → Row) → Type 1
+  MeetsUnder columns =
+      (n : ℕ) (k : ℤ) → n < 2 ^ 63 → IsFitting n k → (old new : State) (rows : List Row)
+      → old.now.schema ≡ schema_of layout → Shown (reading_text r) (Int k ∷ []) old new rows
+      → IsPermutation (map columns (filter (is_under n) (old.now.trees tree))) rows
+
+  module _ (project : List Term) (is : reading_query r layout ≡ simple tree (equals 0 0 ∷ []) project)
+      (seen : (trees : Trees) → overlay trees [] tree ≡ trees tree) where
+    pub rows_under : (columns : Row → Row)
+        → ((k : ℤ) (row : Row) → eval_all project ((Int k ∷ []) ∷ row ∷ []) ≡ columns row)
+        → MeetsUnder columns
+    rows_under columns shows n k low fits old new rows schema h =
+        selected (Int k ∷ []) (λ (r : Row). r) (is_under n) (equals 0 0 ∷ [])
+        (λ r. rw (fits low) (and_true _ ∙ test_whole (column r 0) n)) tree project columns (shows k)
+        (overlay old.now.trees []) (old.now.trees tree) rows (seen old.now.trees ∙ map_same _)
+        (answers_as r layout (Int k ∷ []) old new rows schema h _ is)
+
+    module _ {A : Type 0} (key : A → ℕ) (stored show : A → Row) (rowid_is : (a : A) → rowid (stored a) ≡ whole (key a))
+        (shows : (k : ℤ) (a : A) → eval_all project ((Int k ∷ []) ∷ stored a ∷ []) ≡ show a) where
+      pub rows_by : (k : ℤ) (p : A → Bool)
+          → ((a : A) → is_true (binary (Compare Eq Binary) (whole (key a)) (Int k)) ≡ p a)
+          → (old new : State) (rows : List Row) → old.now.schema ≡ schema_of layout
+          → Shown (reading_text r) (Int k ∷ []) old new rows
+          → (list : List A) (kept : AreKept key stored (old.now.trees tree) list)
+          → IsPermutation (map show (filter p kept.ordered)) rows
+      rows_by k p tests old new rows schema h list kept =
+          selected (Int k ∷ []) stored p (equals 0 0 ∷ [])
+          (λ a. and_true _ ∙ subst (λ v. is_true (binary (Compare Eq Binary) v (Int k)) ≡ p a) (sym (rowid_is a))
+          (tests a))
+          tree project show (shows k) (overlay old.now.trees []) kept.ordered rows (seen old.now.trees ∙ kept.rows_are)
+          (answers_as r layout (Int k ∷ []) old new rows schema h _ is)
+
+      pub rows_at : ShowsAt key stored show
+      rows_at n k fits large old new rows schema h list kept = elim (small_or_large n) [
+        | inl low ↦
+            rows_by k (λ a. key a == n) (λ a. rw (fits low) (test_equals (key a) n)) old new rows schema h list kept
+        | inr high ↦
+            let none = rows_by k (λ a. false) (λ a. rw (large high) (test_none (key a))) old new rows schema h list
+            kept in
+            rw (none_fits key n kept.ordered high kept.fits) (rw (none_passes kept.ordered) at none)
+      ]

@@ -1,40 +1,22 @@
 -- Rows of the tables, whatever they are, by the columns that are read of them: what the schema says of the others.
-use Rattle.sqlite.specs.Tree.{Trees}
-use Rattle.sqlite.specs.Term.{Term, eval_all}
-use Rattle.sqlite.specs.Table.{Table}
-use Rattle.std.proofs.Common.{◌≡◌, ◌+◌, ℕ, ℤ, List, [], ◌∷◌, map, ◌≤◌, length, Bool, true, false, Option, Some, refl, ap, subst, ◌∙◌, arith, slice_get}
-use Rattle.std.specs.Prelude.{◌&&◌, if◌then◌else◌, drop}
-use Rattle.std.specs.List.{AllByRecursion, filter}
-use Rattle.std.specs.List.Sorted.{IsPermutation}
-use Rattle.sqlite_trees.proofs.ListLemmas.{all_weaker, all_both, all-slice_get}
-use Rattle.sqlite.specs.declared.types.Value.{Value}
-use Rattle.sqlite.specs.declared.types.Value.TheVariants.{Null}
-use Rattle.sqlite.specs.Effect.{Database, IsDatabase}
-use Rattle.sqlite.specs.Order.{Row, column}
-use Rattle.sqlite.specs.Program.{overlay}
-use Rattle.sqlite.specs.Query.{IsAnswer}
-use Rattle.sqlite.specs.State.{State, Shown}
-use Rattle.sqlite.proofs.Callers.{reads_as}
+use Rattle.std.proofs.Common.{◌≡◌, ◌+◌, ℕ, ℤ, List, [], ◌∷◌, map, ◌≤◌, length, Bool, true, false, Option, Some, refl}
+use Rattle.std.proofs.Common.{ap, subst, ◌∙◌, arith, slice_get}
+use Rattle.std.specs.Prelude.{◌&&◌, if◌then◌else◌}
 use Rattle.sqlite_catalog.specs.Listing.{IsSound}
 use Rattle.sqlite_schema.specs.Names.{is_key}
-use Rattle.sqlite_schema.specs.Rules.{are_typed, passes, suits}
 use Rattle.sqlite_schema.specs.declared.schema.Column.{Column}
 use Rattle.sqlite_schema.specs.declared.schema.Constraint.{Constraint}
-use Rattle.sqlite_schema.specs.declared.schema.Constraint.TheVariants.{Datatype}
-use Rattle.sqlite_sql.specs.Ops.{is_null}
-use Rattle.acvp_tables.specs.declared.rows.AccountRow.{AccountRow}
-use Rattle.acvp_tables.specs.declared.rows.SessionRow.{SessionRow}
-use Rattle.acvp_store.specs.Ranges.{is_between, IsTree, AreFull, HasRowOutside}
-use Rattle.acvp_store.specs.Rows.{account_tree, account_row, account_shown, session_tree, session_row, session_shown}
-use Rattle.acvp_store.specs.Schema.{Layout, schema_of, account_table, session_table, request_table}
-use Rattle.acvp_store.specs.Values.{whole}
-use Rattle.acvp_store.specs.Private.Columns.{account_columns, session_columns, request_columns}
-use Rattle.acvp_store.specs.Private.Requests.{request_shown}
-use Rattle.acvp_store.specs.Stands.{request_tree, request_row}
-use Rattle.acvp_tables.specs.declared.rows.RequestRow.{RequestRow}
-use Rattle.acvp_store.specs.Private.Shown.{BeginsWith, AreLedBy}
+use Rattle.acvp_store.proofs.Words.{account_columns, account_row, account_shown, account_table, account_tree}
+use Rattle.acvp_store.proofs.Words.{AccountRow, all-slice_get, all_both, all_weaker, AllByRecursion, are_typed, AreFull}
+use Rattle.acvp_store.proofs.Words.{AreLedBy, BeginsWith, column, Database, Datatype, drop, eval_all, filter}
+use Rattle.acvp_store.proofs.Words.{HasRowOutside, is_between, is_null, IsAnswer, IsDatabase, IsPermutation, IsTree}
+use Rattle.acvp_store.proofs.Words.{Layout, Null, overlay, passes, request_columns, request_row, request_shown}
+use Rattle.acvp_store.proofs.Words.{request_table, request_tree, RequestRow, Row, schema_of, session_columns}
+use Rattle.acvp_store.proofs.Words.{session_row, session_shown, session_table, session_tree, SessionRow, Shown, State}
+use Rattle.acvp_store.proofs.Words.{suits, Table, Term, Trees, Value, whole}
 use Rattle.acvp_store.proofs.QueryForms.{ordered_by, outside, within}
-use Rattle.acvp_store.proofs.Readings.{AccountRange, Reading, RequestRange, SessionRange, account_terms, answers_as, reading_query, reading_text, request_terms, session_terms}
+use Rattle.acvp_store.proofs.Readings.{AccountRange, Reading, RequestRange, SessionRange, account_terms, answers_as}
+use Rattle.acvp_store.proofs.Readings.{reading_query, reading_text, request_terms, session_terms}
 use Rattle.acvp_store.proofs.QueryRows.{selected_in_order}
 use Rattle.acvp_store.proofs.RangeOutside.{is_outside, none_outside, number_told}
 use Rattle.acvp_store.proofs.RangeRows.{test_between, in_tree_order}
@@ -75,7 +57,8 @@ module _ (layout : Layout) (db : Database) (schema : db.schema ≡ schema_of lay
       → AllByRecursion (λ row. passes rule (schema_of layout) db.trees table row ≡ true) (db.trees table.tree)
   obeyed rule =
       let it : IsSound (schema_of layout) db.trees = subst (λ s. IsSound s db.trees) schema sound in
-      all-slice_get (λ t. AllByRecursion (λ row. passes rule (schema_of layout) db.trees t row ≡ true) (db.trees t.tree))
+      all-slice_get
+      (λ t. AllByRecursion (λ row. passes rule (schema_of layout) db.trees t row ≡ true) (db.trees t.tree))
       (schema_of layout).tables at table is_at (it.obeys.rules rule)
 
   pub typed_at : AllByRecursion (λ row. are_typed table.key 0 table.columns (drop 1 row) ≡ true) (db.trees table.tree)
@@ -106,7 +89,8 @@ module _ (r : Reading) (layout : Layout) (tree : ℕ) (columns : Row → Row) wh
     pub range_met : Meets
     range_met f l old new rows schema h =
         let params = whole f ∷ whole l ∷ [] in
-        selected_in_order params (λ (r : Row). r) (is_between f l) (within 0) (λ r. test_between (column r 0) f l) 0 tree
+        selected_in_order params (λ (r : Row). r) (is_between f l) (within 0) (λ r. test_between (column r 0) f l) 0
+        tree
         project columns (shows params) (overlay old.now.trees []) (old.now.trees tree) rows
         (seen old.now.trees ∙ map_same _) (answers_as r layout params old new rows schema h _ is)
 
@@ -159,7 +143,8 @@ sessions_met layout =
 
 pub sessions_in_order : (layout : Layout) → Orders SessionRange layout session_tree session_columns
 sessions_in_order layout =
-    range_in_order SessionRange layout session_tree session_columns session_terms refl (λ trees. refl) (λ params row. refl)
+    range_in_order SessionRange layout session_tree session_columns session_terms refl (λ trees. refl)
+    (λ params row. refl)
 
 -- ---- accounts
 
@@ -186,7 +171,8 @@ accounts_met layout =
 
 pub accounts_in_order : (layout : Layout) → Orders AccountRange layout account_tree account_columns
 accounts_in_order layout =
-    range_in_order AccountRange layout account_tree account_columns account_terms refl (λ trees. refl) (λ params row. refl)
+    range_in_order AccountRange layout account_tree account_columns account_terms refl (λ trees. refl)
+    (λ params row. refl)
 
 -- ---- requests
 
@@ -213,4 +199,5 @@ requests_met layout =
 
 pub requests_in_order : (layout : Layout) → Orders RequestRange layout request_tree request_columns
 requests_in_order layout =
-    range_in_order RequestRange layout request_tree request_columns request_terms refl (λ trees. refl) (λ params row. refl)
+    range_in_order RequestRange layout request_tree request_columns request_terms refl (λ trees. refl)
+    (λ params row. refl)

@@ -1,28 +1,18 @@
 -- The lists of ranges, joined, stand for all rows of these; and each is the part of any list that stands for the rows.
-use Rattle.std.proofs.Common.{◌≡◌, inl, inr, ◌<◌, ◌≤◌, ◌^◌, ◌+◌, ℕ, zero, suc, pos, negsuc, List, [], ◌∷◌, ◌++◌, map, length, Bool, true, false, Option, Some, None, IsTrue, refl, sym, ap, ap₂, subst, ◌∙◌, arith, Less}
+use Rattle.std.proofs.Common.{◌≡◌, inl, inr, ◌<◌, ◌≤◌, ◌^◌, ◌+◌, ℕ, zero, suc, pos, negsuc, List, [], ◌∷◌, ◌++◌, map}
+use Rattle.std.proofs.Common.{length, Bool, true, false, Option, Some, None, IsTrue, refl, sym, ap, ap₂, subst, ◌∙◌}
+use Rattle.std.proofs.Common.{arith, Less}
 use Rattle.std.specs.Prelude.{◌&&◌}
-use Rattle.std.specs.List.{AllByRecursion, filter}
-use Rattle.std.specs.List.Sorted.{IsPermutation}
-use Rattle.std.specs.Ordering.{is_le, is_ge}
-use Rattle.std.proofs.lemmas.Bool.{cases_Bool}
-use Rattle.std.proofs.lemmas.Bool.Decides.{nat_tests}
-use Rattle.std.proofs.lemmas.List.{map-append}
-use Rattle.std.proofs.lemmas.List.Sorted.{IsPermutation-refl, IsPermutation-sym, IsPermutation-trans, IsPermutation-append}
-use Rattle.sqlite_trees.proofs.ListLemmas.{ascending-filter, ascending-map, ascending_weaker, all-map, all_of, all_weaker, all-append, filter-map, filter_all, filter_none, filter_same, IsPermutation-filter}
-use Rattle.sqlite.specs.Values.{or_null}
-use Rattle.sqlite.specs.declared.types.Value.{Value}
-use Rattle.sqlite.specs.declared.types.Value.TheVariants.{Null, Int, Real, Text, Blob}
-use Rattle.sqlite.specs.Order.{Row}
-use Rattle.sqlite.specs.Tree.{IsAscending, IsTable, rowid}
-use Rattle.sqlite_trees.specs.View.{is_int}
-use Rattle.sqlite_value.specs.Order.{value_cmp}
-use Rattle.sqlite_value.proofs.OrderLemmas.{value_cmp-Int}
-use Rattle.acvp_tables.specs.declared.rows.AccountRow.{AccountRow}
-use Rattle.acvp_tables.specs.declared.rows.SessionRow.{SessionRow}
-use Rattle.acvp_store.specs.Kept.{AreKept}
-use Rattle.acvp_store.specs.Ranges.{is_between, IsTree, AreFull, IsRange, AreRanges, AreRangesBetween, joined, first_number, last_number, first_set, last_set, is_number_between}
-use Rattle.acvp_store.specs.Rows.{account_key, account_row, HoldsAccounts, session_key, session_row, HoldsSessions}
-use Rattle.acvp_store.specs.Values.{whole, flag}
+use Rattle.acvp_store.specs.Ranges.{joined}
+use Rattle.acvp_store.proofs.Words.{account_key, account_row, AccountRow, all-append, all-map, all_of, all_weaker}
+use Rattle.acvp_store.proofs.Words.{AllByRecursion, AreFull, AreKept, AreRanges, AreRangesBetween, ascending-filter}
+use Rattle.acvp_store.proofs.Words.{ascending-map, ascending_weaker, cases_Bool, filter, filter-map, filter_all}
+use Rattle.acvp_store.proofs.Words.{filter_none, filter_same, first_number, first_set, flag, HoldsAccounts}
+use Rattle.acvp_store.proofs.Words.{HoldsSessions, Int, is_between, is_ge, is_int, is_le, is_number_between}
+use Rattle.acvp_store.proofs.Words.{IsPermutation, IsPermutation-append, IsPermutation-filter, IsPermutation-refl}
+use Rattle.acvp_store.proofs.Words.{IsPermutation-sym, IsPermutation-trans, IsRange, IsTable, IsTree, last_number}
+use Rattle.acvp_store.proofs.Words.{last_set, map-append, nat_tests, or_null, Row, rowid, session_key, session_row}
+use Rattle.acvp_store.proofs.Words.{SessionRow, Value, value_cmp, value_cmp-Int, whole}
 use Rattle.acvp_store.proofs.RangeRows.{lower, keys_rise}
 
 -- ---- two ranges beside one another
@@ -176,12 +166,11 @@ module _ {A : Type 0} (key : A → ℕ) (stored : A → Row) (rowid_is : (a : A)
   module _ (once : (a b : A) → stored a ≡ stored b → a ≡ b) where
     one_list : (xs ys : List A) → map stored xs ≡ map stored ys → xs ≡ ys
     one_list [] [] is = refl
-    one_list [] (y ∷ ys) is = absurd (cc)
-    one_list (x ∷ xs) [] is = absurd (cc)
     one_list (x ∷ xs) (y ∷ ys) is =
         let head : stored x ≡ stored y = cc in
         let rest : map stored xs ≡ map stored ys = cc in
         ap₂ (λ a l. a ∷ l) (once x y head) (one_list xs ys rest)
+    one_list _ _ is = absurd (cc)
 
     -- what is read of a range is the part of any list that stands for the rows
     pub range_known : (f l : ℕ) (rows : List Row) (found list : List A) → AreKept key stored rows list → IsRange (AreKept key stored) key f l rows found → IsPermutation found (filter (λ a. is_number_between f l (key a)) list)
@@ -201,8 +190,7 @@ flag_once false true is = absurd (cc)
 pub option_once : (a b : Option ℕ) → or_null whole a ≡ or_null whole b → a ≡ b
 option_once None None is = refl
 option_once (Some m) (Some n) is = cc
-option_once None (Some n) is = absurd (cc)
-option_once (Some m) None is = absurd (cc)
+option_once _ _ is = absurd (cc)
 
 session_once : (a b : SessionRow) → session_row a ≡ session_row b → a ≡ b
 session_once a b is =

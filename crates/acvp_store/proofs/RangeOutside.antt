@@ -1,29 +1,14 @@
 -- The rows outside a range.
-use Rattle.std.proofs.Common.{◌≡◌, inl, inr, ℕ, ℤ, List, [], ◌∷◌, map, length, Bool, true, false, Option, Some, None, Ok, Err, Result, IfOk, IsOk, IsTrue, refl, sym, ap, subst, ◌∙◌, arith}
-use Rattle.std.specs.Prelude.{◌&&◌, not}
-use Rattle.std.specs.List.{AllByRecursion, filter, list_all}
-use Rattle.std.specs.List.Sorted.{IsPermutation}
-use Rattle.std.specs.Ordering.{is_le, is_ge}
-use Rattle.std.proofs.lemmas.Bool.{cases_Bool}
-use Rattle.std.proofs.lemmas.List.Sorted.{length_permutation, IsPermutation-map}
-use Rattle.sqlite_trees.proofs.ListLemmas.{map-map, all-permutation, all-slice_get}
-use Rattle.sqlite_trees.specs.View.{is_int}
-use Rattle.sqlite.specs.declared.types.Value.{Value}
-use Rattle.sqlite.specs.declared.types.Value.TheVariants.{Null, Int}
-use Rattle.sqlite.specs.Order.{Row, column}
-use Rattle.sqlite.specs.Term.{Term, holds}
-use Rattle.sqlite.specs.Ops.{is_true, unary, binary, from_truth}
-use Rattle.sqlite.specs.Collation.TheVariants.{Binary}
-use Rattle.sqlite.specs.Query.{Query, IsAnswer, output, Output, page}
-use Rattle.sqlite.specs.Tree.{Trees, rowid}
-use Rattle.sqlite_value.specs.Order.{value_cmp}
+use Rattle.std.proofs.Common.{◌≡◌, inl, inr, ℕ, ℤ, List, [], ◌∷◌, map, length, Bool, true, false, Some, IsTrue, refl}
+use Rattle.std.proofs.Common.{sym, ap, subst, ◌∙◌, arith}
+use Rattle.std.specs.Prelude.{◌&&◌}
+use Rattle.sqlite.specs.Ops.{unary, binary}
 use Rattle.sqlite_sql.specs.declared.ops.UnaryOp.TheVariants.{Not}
-use Rattle.sqlite_sql.specs.declared.ops.BinaryOp.TheVariants.{And, Compare}
-use Rattle.sqlite_sql.specs.declared.ops.CompareOp.TheVariants.{Le, Ge}
-use Rattle.sqlite_sql.specs.Ops.{is_null}
-use Rattle.acvp_store.specs.Ranges.{is_between, IsTree, HasRowOutside}
-use Rattle.acvp_store.specs.Values.{whole}
-use Rattle.acvp_store.specs.Private.Shown.{AreLedBy}
+use Rattle.acvp_store.proofs.Words.{all-permutation, all-slice_get, AllByRecursion, And, AreLedBy, Binary, cases_Bool}
+use Rattle.acvp_store.proofs.Words.{column, Compare, filter, from_truth, Ge, HasRowOutside, holds, Int, is_between}
+use Rattle.acvp_store.proofs.Words.{is_ge, is_int, is_le, is_null, is_true, IsAnswer, IsPermutation, IsPermutation-map}
+use Rattle.acvp_store.proofs.Words.{Le, length_permutation, list_all, map-map, not, Null, Output, output, page, Query}
+use Rattle.acvp_store.proofs.Words.{Row, rowid, Term, Trees, Value, value_cmp, whole}
 use Rattle.acvp_store.proofs.RangeStrays.{IsShown, all_shown}
 use Rattle.acvp_store.proofs.QueryForms.{first_where, not_between, outside}
 use Rattle.acvp_store.proofs.SelectedRows.{matched}
@@ -133,7 +118,8 @@ within f l (Int n) good is = sure _ is
     sure false h = absurd (cc)
 within f l _ good is = absurd (cc)
 
-pub all_within : (f l : ℕ) (rows : List Row) → AllByRecursion (λ r. IsTrue (is_int (rowid r))) rows → filter (λ r. is_outside f l (rowid r)) rows ≡ [] → AllByRecursion (λ r. is_between f l r ≡ true) rows
+pub all_within : (f l : ℕ) (rows : List Row) → AllByRecursion (λ r. IsTrue (is_int (rowid r))) rows
+    → filter (λ r. is_outside f l (rowid r)) rows ≡ [] → AllByRecursion (λ r. is_between f l r ≡ true) rows
 all_within f l [] good none = tt
 all_within f l (r ∷ rows) good none = elim (cases_Bool (is_outside f l (rowid r))) [
   | inl is ↦ absurd (let e = rw is at none in cc)

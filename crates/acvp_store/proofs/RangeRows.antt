@@ -1,38 +1,18 @@
 -- What is read of the rows in a range of numbers, whatever they are: the rows stand for it.
-use Rattle.std.proofs.lemmas.List.{map-id}
-use Rattle.std.proofs.Common.{◌≡◌, inl, inr, ◌<◌, ◌≤◌, ◌^◌, ℕ, pos, negsuc, List, [], ◌∷◌, map, Bool, true, false, Ok, Err, Result, IfOk, IsOk, refl, sym, ap, ap₂, subst, ◌∙◌, arith, Less, Equal}
-use Rattle.std.specs.Prelude.{◌&&◌, nat_lt, nat_le}
-use Rattle.std.specs.List.{AllByRecursion, filter, list_all}
-use Rattle.std.specs.List.Sorted.{IsPermutation}
-use Rattle.std.specs.Ordering.{ordering_then, is_lt, is_le, is_ge}
-use Rattle.std.proofs.lemmas.Bool.{cases_Bool}
-use Rattle.std.proofs.lemmas.Bool.Decides.{nat_tests}
-use Rattle.std.proofs.lemmas.List.Sorted.{IsPermutation-refl}
-use Rattle.sqlite_trees.proofs.ListLemmas.{map-map, ascending-map, ascending_from_map, ascending_weaker, ascending-filter, all-filter, all_from_map, all_weaker}
-use Rattle.sqlite.specs.declared.types.Value.{Value}
-use Rattle.sqlite.specs.declared.types.Value.TheVariants.{Null, Int}
-use Rattle.sqlite.specs.Order.{Row, column}
-use Rattle.sqlite.specs.Ops.{is_true, binary}
-use Rattle.sqlite.specs.Collation.TheVariants.{Binary}
-use Rattle.sqlite.specs.Term.{Term, col, lit, holds, eval_all}
-use Rattle.sqlite.specs.Query.{Query, IsAnswer, output, output_cmp, Output}
-use Rattle.sqlite.specs.Tree.{Trees, IsAscending, IsTable, rowid}
-use Rattle.sqlite_value.specs.Order.{value_cmp}
-use Rattle.sqlite_value.proofs.OrderLemmas.{value_cmp-Int, value_cmp-apart}
-use Rattle.sqlite_sql.specs.declared.ops.BinaryOp.TheVariants.{Compare}
-use Rattle.sqlite_sql.specs.declared.ops.CompareOp.TheVariants.{Le, Ge}
-use Rattle.sqlite_sql.proofs.QueryLemmas.{output_cmp_total}
-use Rattle.sqlite_keyed.proofs.SortLemmas.{sorted_unique}
-use Rattle.acvp_store.specs.Kept.{AreKept}
-use Rattle.acvp_store.specs.Ranges.{is_between, IsTree, IsRange}
-use Rattle.acvp_store.specs.Values.{whole}
-use Rattle.acvp_store.specs.Private.Shown.{BeginsWith, AreShown, is_at_least, is_at_most}
+use Rattle.std.proofs.Common.{◌≡◌, inl, inr, ◌<◌, ◌≤◌, ◌^◌, ℕ, pos, negsuc, List, [], ◌∷◌, map, Bool, true, false}
+use Rattle.std.proofs.Common.{Result, IfOk, IsOk, refl, sym, ap, ap₂, subst, ◌∙◌, arith, Less, Equal}
+use Rattle.std.specs.Prelude.{◌&&◌}
+use Rattle.acvp_store.proofs.Words.{all-filter, all_from_map, all_weaker, AllByRecursion, AreKept, AreShown, ascending}
+use Rattle.acvp_store.proofs.Words.{ascending-filter, ascending_from_map, ascending_weaker, BeginsWith, Binary, binary}
+use Rattle.acvp_store.proofs.Words.{cases_Bool, col, column, Compare, eval_all, filter, Ge, holds, Int, is_at_least}
+use Rattle.acvp_store.proofs.Words.{is_at_most, is_between, is_ge, is_le, is_lt, is_true, IsAnswer, IsAscending}
+use Rattle.acvp_store.proofs.Words.{IsPermutation, IsPermutation-refl, IsRange, IsTable, IsTree, Le, list_all, lit}
+use Rattle.acvp_store.proofs.Words.{map-id, map-map, nat_le, nat_lt, nat_tests, Null, ordering_then, Output, output_cmp}
+use Rattle.acvp_store.proofs.Words.{Row, rowid, Term, Trees, Value, value_cmp, value_cmp-apart, value_cmp-Int, whole}
 use Rattle.acvp_store.proofs.Parts.{both_true}
 use Rattle.acvp_store.proofs.QueryRows.{test_from, test_until}
-use Rattle.acvp_store.proofs.SelectedRows.{matched}
 use Rattle.acvp_store.proofs.OrderedRows.{sorted_rows}
 use Rattle.acvp_store.proofs.QueryForms.{ordered_by}
-use Rattle.sqlite_value.specs.Keys.{ascending}
 use Rattle.acvp_store.proofs.Told.{told}
 
 -- ---- BETWEEN
@@ -49,7 +29,8 @@ test_between v f l = both_true _ _ _ _ (test_from v f) (test_until v l) ∙ drop
 
 -- a query in the order of the numbers shows the rows as they lie
 pub in_tree_order : (params : Row) (p : Row → Bool) (terms : List Term)
-    → ((r : Row) → list_all (holds (params ∷ r ∷ [])) terms ≡ p r) → (tree : ℕ) (project : List Term) (columns : Row → Row)
+    → ((r : Row) → list_all (holds (params ∷ r ∷ [])) terms ≡ p r)
+    → (tree : ℕ) (project : List Term) (columns : Row → Row)
     → ((r : Row) → eval_all project (params ∷ r ∷ []) ≡ columns r)
     → (db : Trees) (all rows : List Row) → db tree ≡ map (λ (r : Row). r) all → IsTable all
     → IsAnswer (ordered_by 0 tree terms project) db params rows → rows ≡ map columns (filter p all)
@@ -104,9 +85,8 @@ module _ {A : Type 0} (key : A → ℕ) (stored shown : A → Row) (columns : Ro
     (row_is : (row : Row) (a : A) → Typed row → BeginsWith (shown a) (columns row) → row ≡ stored a) where
   stored_all : (Good : A → Type 0) (rows : List Row) (found : List A) → AllByRecursion Typed rows → AreShown Good shown (map columns rows) found → rows ≡ map stored found
   stored_all Good [] [] typed shows = refl
-  stored_all Good [] (a ∷ found) typed shows = absurd shows
-  stored_all Good (r ∷ rows) [] typed shows = absurd shows
   stored_all Good (r ∷ rows) (a ∷ found) typed shows = ap₂ (λ x l. x ∷ l) (row_is r a typed.0 shows.0.0) (stored_all Good rows found typed.1 shows.1)
+  stored_all _ _ _ typed shows = absurd shows
 
   module _ (first last : ℕ) (low : last < 2 ^ 63) where
     key_fits : (a : A) → is_between first last (stored a) ≡ true → key a < 2 ^ 63
@@ -137,11 +117,15 @@ module _ {A : Type 0} (key : A → ℕ) (stored shown : A → Row) (columns : Ro
         → IfOk result (λ b. IfOk outcome (λ x. AreShown Good shown (rows_in x) (items b))) → AllByRecursion Typed table → IfOk outcome (λ x. IsTree table → rows_in x ≡ map columns (filter (is_between first last) table))
         → IfOk result (λ b. IsTree table → IsRange (AreKept key stored) key first last table (items b))
     range_read Good table outcome rows_in result items ok shows typed =
-        told outcome result ok _ _ _ (λ x b shows rows tree. range_holds Good table (items b) tree typed (subst (λ l. AreShown Good shown l (items b)) (rows tree) shows)) shows
+        told outcome result ok _ _ _
+        (λ x b shows rows tree. range_holds Good table (items b) tree typed
+        (subst (λ l. AreShown Good shown l (items b)) (rows tree) shows)) shows
 
     -- the same where something else is given of the table
     pub range_given : {X B E F Given : Type 0} (Good : A → Type 0) (table : List Row) (outcome : Result X E) (rows_in : X → List Row) (result : Result B F) (items : B → List A) → (IsOk result → IsOk outcome)
         → IfOk result (λ b. IfOk outcome (λ x. AreShown Good shown (rows_in x) (items b))) → (Given → AllByRecursion Typed table) → IfOk outcome (λ x. IsTree table → rows_in x ≡ map columns (filter (is_between first last) table))
         → IfOk result (λ b. IsTree table → Given → IsRange (AreKept key stored) key first last table (items b))
     range_given Good table outcome rows_in result items ok shows typed =
-        told outcome result ok _ _ _ (λ x b shows rows tree given. range_holds Good table (items b) tree (typed given) (subst (λ l. AreShown Good shown l (items b)) (rows tree) shows)) shows
+        told outcome result ok _ _ _
+        (λ x b shows rows tree given. range_holds Good table (items b) tree (typed given)
+        (subst (λ l. AreShown Good shown l (items b)) (rows tree) shows)) shows

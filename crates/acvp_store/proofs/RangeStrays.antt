@@ -1,20 +1,10 @@
 -- A row of a query's answer that stands for nothing is one of the table's, which then stands for no list.
-use Rattle.std.proofs.Common.{◌≡◌, ℕ, ℤ, zero, suc, List, [], ◌∷◌, map, Bool, true, Some, Err, Ok, Result, IfErr, IfOk, slice_get, refl, sym, ap, subst, ◌∙◌}
-use Rattle.std.specs.Prelude.{IsOkAnd, IsErrAnd}
-use Rattle.std.specs.List.{AllByRecursion, AllZip, filter}
-use Rattle.std.specs.List.Sorted.{IsPermutation}
-use Rattle.std.proofs.lemmas.List.Sorted.{IsPermutation-sym}
-use Rattle.sqlite_trees.proofs.ListLemmas.{all_weaker, all_both, all-filter, all-map, all-permutation, all-slice_get}
-use Rattle.sqlite.specs.declared.types.Value.TheVariants.{Int}
-use Rattle.sqlite.specs.Effect.{Database}
-use Rattle.sqlite.specs.Order.{Row, column}
-use Rattle.acvp_store.specs.Connection.{InStore}
-use Rattle.acvp_store.specs.Kept.{AreKept}
-use Rattle.acvp_store.specs.Ranges.{HasStrayRow}
-use Rattle.acvp_store.specs.Schema.{Layout, schema_of}
-use Rattle.acvp_store.specs.Private.Strays.{HasStray}
-use Rattle.acvp_store.specs.declared.ranges.RangeFault.{RangeFault}
-use Rattle.acvp_store.specs.declared.ranges.RangeFault.TheVariants.{Stray}
+use Rattle.std.proofs.Common.{◌≡◌, ℕ, ℤ, zero, suc, List, [], ◌∷◌, map, Bool, true, Some, Err, Ok, Result, IfErr, IfOk}
+use Rattle.std.proofs.Common.{slice_get, refl, sym, ap, subst, ◌∙◌}
+use Rattle.acvp_store.proofs.Words.{all-filter, all-map, all-permutation, all-slice_get, all_both, all_weaker}
+use Rattle.acvp_store.proofs.Words.{AllByRecursion, AllZip, AreKept, column, Database, filter, HasStray, HasStrayRow}
+use Rattle.acvp_store.proofs.Words.{InStore, Int, IsErrAnd, IsOkAnd, IsPermutation, IsPermutation-sym, Layout}
+use Rattle.acvp_store.proofs.Words.{RangeFault, Row, schema_of, Stray}
 use Rattle.acvp_store.proofs.RangeRows.{all_passed}
 
 -- what is told, whichever way the store's tables lie
@@ -47,10 +37,9 @@ row_shown columns p table rows same at shown there = all-slice_get (IsShown colu
 -- what is at a place of two lists
 pub zip_at : {A B : Type 0} (R : A → B → Type 0) (xs : List A) (ys : List B) → AllZip R xs ys → (at : ℕ) (y : B) → slice_get ys at ≡ Some y → (x : A) × (slice_get xs at ≡ Some x) × R x y
 zip_at R [] [] h at y there = absurd (cc)
-zip_at R [] (z ∷ ys) h at y there = absurd h
-zip_at R (x ∷ xs) [] h at y there = absurd h
 zip_at R (x ∷ xs) (z ∷ ys) h zero y there = let same : z ≡ y = cc in (x, refl, subst (R x) same h.0)
 zip_at R (x ∷ xs) (z ∷ ys) h (suc at) y there = zip_at R xs ys h.1 at y there
+zip_at _ _ _ h at y there = absurd h
 
 -- ---- a stray row
 

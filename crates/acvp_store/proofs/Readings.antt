@@ -1,25 +1,16 @@
 -- The queries of a store: their texts, and what these mean whichever way its tables lie.
-use Rattle.std.proofs.Common.{Result, IfOk, IfErr, IsOk, ◌≡◌, refl, Some, [], ◌∷◌, ◌++◌, List, ℕ, codes, pos, false, true, subst}
-use Rattle.sqlite.specs.Collation.TheVariants.{Binary}
-use Rattle.sqlite.specs.Command.TheVariants.{Select}
-use Rattle.sqlite.specs.declared.types.Value.TheVariants.{Null, Int}
-use Rattle.sqlite.specs.Listing.{understood, reads_listing}
-use Rattle.sqlite.specs.Order.{Row}
-use Rattle.sqlite.specs.Program.{overlay}
-use Rattle.sqlite.specs.Query.{Query, IsAnswer}
-use Rattle.sqlite.specs.State.{State, Shown, HasCleanDisk, Survives, FailsToQuery, CommitsShowing}
-use Rattle.sqlite.specs.Term.{Term, lit, col, op2, case}
+use Rattle.std.proofs.Common.{Result, IfOk, IfErr, IsOk, ◌≡◌, refl, Some, [], ◌∷◌, ◌++◌, List, ℕ, codes, pos, false}
+use Rattle.std.proofs.Common.{true, subst}
+use Rattle.sqlite.specs.Listing.{understood}
 use Rattle.sqlite_resolve.specs.Compile.{first}
 use Rattle.sqlite_sql.specs.declared.aggregate.AggregateOp.TheVariants.{Max}
-use Rattle.sqlite_sql.specs.declared.ops.BinaryOp.TheVariants.{Compare, Is, Or}
-use Rattle.sqlite_sql.specs.declared.ops.CompareOp.TheVariants.{Eq, Ne, Le, Ge}
 use Rattle.sqlite_tied.specs.Compute.{everything}
-use Rattle.sqlite.proofs.Callers.{IsPlain, command_of, reads_as}
-use Rattle.sqlite.specs.declared.error.Error.{Error}
-use Rattle.acvp_store.specs.Connection.{IsReady, IsRead}
-use Rattle.acvp_store.specs.Schema.{Layout, Created, Migrated, schema_of}
-use Rattle.acvp_store.specs.Stands.{set_tree, reviewer_tree}
-use Rattle.acvp_store.proofs.QueryForms.{equals, first_where, newest, not_between, ordered_by, outside, paging, simple, within}
+use Rattle.acvp_store.proofs.Words.{Binary, case, col, command_of, CommitsShowing, Compare, Created, Eq, Error}
+use Rattle.acvp_store.proofs.Words.{FailsToQuery, Ge, HasCleanDisk, Int, Is, IsAnswer, IsPlain, IsRead, IsReady, Layout}
+use Rattle.acvp_store.proofs.Words.{Le, lit, Migrated, Ne, Null, op2, Or, overlay, Query, reads_as, reads_listing}
+use Rattle.acvp_store.proofs.Words.{reviewer_tree, Row, schema_of, Select, set_tree, Shown, State, Survives, Term}
+use Rattle.acvp_store.proofs.QueryForms.{equals, first_where, newest, not_between, ordered_by, outside, paging, simple}
+use Rattle.acvp_store.proofs.QueryForms.{within}
 use Rattle.acvp_store.proofs.QueryLeaves.{reads}
 use Rattle.acvp_store.proofs.Silent.{asks}
 
@@ -297,7 +288,8 @@ answers_as r layout params old new rows schema h q is =
     subst (λ q. IsAnswer q (overlay old.now.trees []) params rows) is (answers r layout params old new rows schema h)
 
 -- a query leaves the store as it is, and so does what is made of its answer
-pub reads_rows : (r : Reading) (params : Row) (old new : State) → Survives old new (CommitsShowing (reading_text r) params old)
+pub reads_rows : (r : Reading) (params : Row) (old new : State)
+    → Survives old new (CommitsShowing (reading_text r) params old)
     → (new.is_clean ≡ false → new.is_open ≡ false) → IsReady old
     → {X Y F : Type 0} (result : Result X Error) (rows_of : X → List Row)
     → (HasCleanDisk new → IfOk result (λ x. Shown (reading_text r) params old new (rows_of x)))

@@ -1,46 +1,21 @@
 -- The registration of what a request asks for.
-use Rattle.std.proofs.Common.{inl, inr, ◌≡◌, ◌<◌, ◌^◌, ℕ, List, [], ◌∷◌, ◌++◌, append-nil, map, Bool, true, false, Option, Some, None, Ok, slice_get, refl, sym, ap, subst, ◌∙◌, arith}
-use Rattle.std.specs.Prelude.{◌==◌, ◌&&◌, nat_lt, if◌then◌else◌}
-use Rattle.std.specs.List.{filter, AllByRecursion}
-use Rattle.std.specs.List.Sorted.{IsPermutation}
-use Rattle.std.proofs.lemmas.Bool.{cases_Bool}
-use Rattle.std.proofs.lemmas.Bool.Decides.{nat_tests}
-use Rattle.std.proofs.lemmas.List.Sorted.{IsPermutation-sym}
-use Rattle.sqlite.specs.declared.types.Value.TheVariants.{Null, Text}
-use Rattle.sqlite.specs.Order.{Row}
-use Rattle.sqlite.specs.Program.{overlay}
-use Rattle.sqlite.specs.Command.TheVariants.{Insert}
+use Rattle.std.proofs.Common.{inl, inr, ◌≡◌, ◌<◌, ◌^◌, ℕ, List, [], ◌∷◌, ◌++◌, append-nil, map, Bool, true, false}
+use Rattle.std.proofs.Common.{Option, Some, None, Ok, slice_get, refl, sym, ap, subst, ◌∙◌, arith}
+use Rattle.std.specs.Prelude.{◌==◌, ◌&&◌, if◌then◌else◌}
 use Rattle.sqlite.specs.Source.TheVariants as source
-use Rattle.sqlite.specs.Edit.{edit_of}
-use Rattle.sqlite.specs.Rowids.TheVariants.{Chosen}
-use Rattle.sqlite.specs.Cast.{cast_row}
-use Rattle.sqlite.specs.Tree.{Trees}
-use Rattle.sqlite.specs.Effect.{Database}
-use Rattle.sqlite.specs.Does.{Tally, Does}
-use Rattle.sqlite.specs.Rows.{Written}
-use Rattle.sqlite.specs.State.{State, mode_of}
-use Rattle.sqlite.specs.Listing.{understood}
-use Rattle.sqlite.proofs.Callers.{statement_of, one_permutation}
-use Rattle.sqlite_rules.specs.Action.{Writes}
-use Rattle.sqlite_schema.specs.declared.schema.Keys.TheVariants.{Enforced}
-use Rattle.sqlite_trees.proofs.ListLemmas.{all-filter, all-permutation}
-use Rattle.acvp_tables.specs.Content.{kind_number, request_at}
-use Rattle.acvp_tables.specs.Changes.{approved_objects, new_objects}
-use Rattle.acvp_tables.specs.declared.rows.ObjectRow.{ObjectRow}
-use Rattle.acvp_tables.specs.declared.rows.RequestRow.{RequestRow}
-use Rattle.acvp_tables.specs.declared.rows.RequestBody.{RequestBody}
 use Rattle.acvp_tables.specs.declared.rows.RequestBody.TheVariants as body
-use Rattle.acvp_store.specs.Kept.{AreKept}
-use Rattle.acvp_store.specs.Values.{whole}
-use Rattle.acvp_store.specs.Schema.{Layout, schema_of, object_table}
-use Rattle.acvp_store.specs.Alters.{SparesOthers}
-use Rattle.acvp_store.specs.Stands.{object_tree, HoldsObjects, object_columns, request_tree, request_key, request_row, body_number, body_text}
-use Rattle.acvp_store.specs.Private.Objects.{IsOfKind, Registers}
+use Rattle.acvp_store.proofs.Words.{all-filter, all-permutation, AllByRecursion, approved_objects, AreKept, body_number}
+use Rattle.acvp_store.proofs.Words.{body_text, cases_Bool, cast_row, Chosen, Database, Does, edit_of, Enforced, filter}
+use Rattle.acvp_store.proofs.Words.{HoldsObjects, Insert, IsOfKind, IsPermutation, IsPermutation-sym, kind_number}
+use Rattle.acvp_store.proofs.Words.{Layout, nat_lt, nat_tests, new_objects, Null, object_columns, object_table}
+use Rattle.acvp_store.proofs.Words.{object_tree, ObjectRow, one_permutation, overlay, Registers, request_at}
+use Rattle.acvp_store.proofs.Words.{request_key, request_row, request_tree, RequestBody, RequestRow, Row, schema_of}
+use Rattle.acvp_store.proofs.Words.{State, Tally, Text, Trees, whole, Writes}
 use Rattle.acvp_store.proofs.Effects.{inserted_rows, under_schema}
 use Rattle.acvp_store.proofs.Entries.{puts}
 use Rattle.acvp_store.proofs.Idle.{applied}
 use Rattle.acvp_store.proofs.Keyed.{none_left, keyed, few_keyed, keyed_same, find_is}
-use Rattle.acvp_store.proofs.Parts.{went, same_value, cast_null, cast_whole, both_true}
+use Rattle.acvp_store.proofs.Parts.{cast_null, cast_whole, both_true}
 use Rattle.acvp_store.proofs.SelectedRows.{test_equals, test_less, selected_by}
 use Rattle.acvp_store.proofs.Writings.{Effects, ObjectRegistered, register_query, writing_command}
 
@@ -118,13 +93,17 @@ registers : (layout : Layout) (limit : Option ℕ) (text : List ℕ) (n number :
     → Does limit (record { keys = Enforced; in_doubt = false; may_wait = false }) (register_params n number) (record { schema = schema_of layout; trees = trees }) text None (Insert 4 (source.Query (record { lets = []; body = register_query }))) (Ok (tally, after))
     → Registers layout n number (record { schema = schema_of layout; trees = trees }) after
 registers layout limit text n number low trees tally after does =
-    let it = inserted_rows layout limit (object_table 5) (register_params n number) trees tally after 4 (source.Query (record { lets = []; body = register_query })) does in
+    let it = inserted_rows layout limit (object_table 5) (register_params n number) trees tally after 4
+    (source.Query (record { lets = []; body = register_query })) does in
     record {
       schema = it.2.schema;
       fits = low;
       kept = λ requests objects kinds held h.
           let found = selected_by (register_params n number) request_row (λ r. (r.number == n) && is_registration r) register_query.filter
-          (λ r. both_true _ _ (r.number == n) (is_registration r) (test_equals r.number n) (test_less (body_number r.body) 4)) register_query.collations request_tree register_query.project (row_for number) (λ r. refl) (overlay trees []) held.kept.ordered it.0 held.kept.rows_are (it.1.answer Null) in
+          (λ r. both_true _ _ (r.number == n) (is_registration r) (test_equals r.number n)
+          (test_less (body_number r.body) 4)) register_query.collations request_tree register_query.project
+          (row_for number) (λ r. refl) (overlay trees []) held.kept.ordered it.0 held.kept.rows_are
+          (it.1.answer Null) in
           registered layout number trees after.trees objects h n requests held.kept kinds it.0 found it.2.writes;
       others = (applied layout trees after.trees (edit_of trees (object_table 5) [] Chosen 0 it.0) it.2.writes).tables;
     }
@@ -132,5 +111,6 @@ registers layout limit text n number low trees tally after does =
 pub register_effect : (layout : Layout) (old : State) (n number : ℕ) → number < 2 ^ 63
     → Effects ObjectRegistered layout (register_params n number) old (Registers layout n number)
 register_effect layout old n number low =
-    under_schema (schema_of layout) old (register_params n number) [] (writing_command ObjectRegistered layout) (Registers layout n number)
+    under_schema (schema_of layout) old (register_params n number) [] (writing_command ObjectRegistered layout)
+    (Registers layout n number)
     (λ limit trees tally after does. registers layout limit [] n number low trees tally after does)

@@ -1,22 +1,15 @@
 -- Requests in ranges of numbers.
-use Rattle.std.proofs.Common.{◌≡◌, inl, inr, ◌<◌, ◌^◌, ℕ, zero, suc, List, length, true, Some, Ok, Err, Result, IfOk, IsOk, refl, sym, ap, subst, arith}
-use Rattle.std.specs.Prelude.{IsUtf8}
+use Rattle.std.proofs.Common.{◌≡◌, inl, inr, ◌<◌, ◌^◌, ℕ, zero, suc, List, length, true, Some, Ok, Err, Result, IfOk}
+use Rattle.std.proofs.Common.{IsOk, refl, sym, ap, subst, arith}
 use Rattle.std.specs.Str.{is_utf8}
-use Rattle.std.specs.List.{AllByRecursion}
-use Rattle.std.proofs.lemmas.Bool.{cases_Bool}
-use Rattle.std.proofs.lemmas.Str.{IsUtf8-from_is_utf8}
 use Rattle.serde_json.specs.Data.{Data}
-use Rattle.sqlite_trees.proofs.ListLemmas.{all_both, all_weaker, all_of, all-map, all-append}
-use Rattle.sqlite.specs.Order.{Row}
-use Rattle.acvp_registry.specs.Json.{body_json}
-use Rattle.acvp_tables.specs.declared.rows.RequestRow.{RequestRow}
-use Rattle.acvp_tables.specs.declared.rows.RequestBody.{RequestBody}
 use Rattle.acvp_tables.specs.declared.rows.RequestBody.TheVariants as body
-use Rattle.acvp_store.specs.Kept.{AreKept}
-use Rattle.acvp_store.specs.Ranges.{is_between, IsTree, AreFull, IsRange, FitsRequest, FitsRequestBody, IsRequestRow, AreRanges, joined, first_number, last_number}
-use Rattle.acvp_store.specs.Stands.{request_row, request_key, HoldsRequests, BodyReads, body_text}
-use Rattle.acvp_store.specs.Private.Columns.{request_columns}
-use Rattle.acvp_store.specs.Private.Requests.{request_shown, IsReadable, FitsBody}
+use Rattle.acvp_store.specs.Ranges.{joined}
+use Rattle.acvp_store.proofs.Words.{all-append, all-map, all_both, all_of, all_weaker, AllByRecursion, AreFull, AreKept}
+use Rattle.acvp_store.proofs.Words.{AreRanges, body_json, body_text, BodyReads, cases_Bool, first_number, FitsBody}
+use Rattle.acvp_store.proofs.Words.{FitsRequest, FitsRequestBody, HoldsRequests, is_between, IsRange, IsReadable}
+use Rattle.acvp_store.proofs.Words.{IsRequestRow, IsTree, IsUtf8, IsUtf8-from_is_utf8, last_number, request_columns}
+use Rattle.acvp_store.proofs.Words.{request_key, request_row, request_shown, RequestBody, RequestRow, Row}
 use Rattle.acvp_store.proofs.RangeJoins.{kept_tree, ranges_whole}
 use Rattle.acvp_store.proofs.RangeStrays.{each_kept}
 

@@ -1,31 +1,17 @@
 -- Reviewers by ranges of their sessions' numbers.
-use Rattle.std.proofs.Common.{◌≡◌, ◌<◌, ◌≤◌, ◌^◌, ℕ, ℤ, List, [], ◌∷◌, map, length, Bool, true, false, None, Ok, Err, Result, IfOk, IsOk, IsTrue, refl, ap, subst, ◌∙◌, arith}
-use Rattle.std.specs.Prelude.{⊤, drop}
-use Rattle.std.specs.List.{AllByRecursion, filter}
-use Rattle.std.specs.List.Sorted.{IsPermutation}
-use Rattle.std.specs.Ordering.{is_le, is_ge}
-use Rattle.sqlite_trees.proofs.ListLemmas.{all_weaker, all_both, all-map, all-permutation, all_from_map, filter_all}
-use Rattle.sqlite_trees.specs.View.{is_int}
-use Rattle.sqlite.specs.declared.types.Value.TheVariants.{Null}
-use Rattle.sqlite.specs.Effect.{Database, IsDatabase}
-use Rattle.sqlite.specs.Order.{Row, column}
-use Rattle.sqlite.specs.Program.{overlay}
-use Rattle.sqlite.specs.Query.{IsAnswer}
-use Rattle.sqlite.specs.State.{State, Shown}
-use Rattle.sqlite.proofs.Callers.{reads_as}
-use Rattle.sqlite_catalog.specs.Listing.{IsSound}
-use Rattle.sqlite_schema.specs.Rules.{are_typed, are_present, passes}
-use Rattle.sqlite_schema.specs.declared.schema.Constraint.TheVariants.{Datatype, NotNull}
-use Rattle.sqlite_value.specs.Order.{value_cmp}
-use Rattle.acvp_tables.specs.declared.rows.ReviewerRow.{ReviewerRow}
-use Rattle.acvp_store.specs.Ranges.{IsTree, HasRowOutside, is_column_between, HasNumberBetween, IsReviewerRow, FitsReviewer, AreReviewerRanges, joined, first_number, last_number}
-use Rattle.acvp_store.specs.Schema.{Layout, schema_of, reviewer_table}
-use Rattle.acvp_store.specs.Stands.{Entry, entry_row, reviewer_tree, reviewer_columns, HoldsReviewers, HoldsEntries}
-use Rattle.acvp_store.specs.Values.{whole}
-use Rattle.acvp_store.specs.Private.Columns.{columns_of_reviewer}
-use Rattle.acvp_store.specs.Private.Shown.{AreLedBy, AreShown}
+use Rattle.std.proofs.Common.{◌≡◌, ◌<◌, ◌≤◌, ◌^◌, ℕ, ℤ, List, [], ◌∷◌, map, length, Bool, true, false, None, Result}
+use Rattle.std.proofs.Common.{IfOk, IsOk, IsTrue, refl, ap, subst, ◌∙◌, arith}
+use Rattle.acvp_store.proofs.Words.{all-map, all-permutation, all_both, all_from_map, all_weaker, AllByRecursion}
+use Rattle.acvp_store.proofs.Words.{are_present, are_typed, AreLedBy, AreReviewerRanges, AreShown, column}
+use Rattle.acvp_store.proofs.Words.{columns_of_reviewer, Database, drop, Entry, entry_row, filter, filter_all}
+use Rattle.acvp_store.proofs.Words.{first_number, FitsReviewer, HasNumberBetween, HasRowOutside, HoldsEntries}
+use Rattle.acvp_store.proofs.Words.{HoldsReviewers, is_column_between, is_ge, is_int, is_le, IsAnswer, IsDatabase}
+use Rattle.acvp_store.proofs.Words.{IsPermutation, IsReviewerRow, IsTree, joined, last_number, Layout, NotNull, overlay}
+use Rattle.acvp_store.proofs.Words.{passes, reviewer_columns, reviewer_table, reviewer_tree, ReviewerRow, Row}
+use Rattle.acvp_store.proofs.Words.{schema_of, Shown, State, value_cmp, whole, ⊤}
 use Rattle.acvp_store.proofs.ColumnNumbers.{is_whole, number_within, not_outside, all_fail, column_test}
-use Rattle.acvp_store.proofs.EntryRanges.{shown_exactly, entries_hold, each_entry, entries_joined, entries_tree, joined_all, IsNumbered}
+use Rattle.acvp_store.proofs.EntryRanges.{shown_exactly, entries_hold, each_entry, entries_joined, entries_tree}
+use Rattle.acvp_store.proofs.EntryRanges.{joined_all, IsNumbered}
 use Rattle.acvp_store.proofs.QueryForms.{first_where, not_between, within}
 use Rattle.acvp_store.proofs.Readings.{ReviewerOutside, ReviewerRange, answers, reading_text, reviewer_terms}
 use Rattle.acvp_store.proofs.Places.{reviewers_at, reviewers_seen}
@@ -57,13 +43,13 @@ reviewer_is (a ∷ b ∷ c ∷ d ∷ row) r typed is = absurd (let few = not_lon
 reviewer_is _ r typed is = absurd (cc)
 
 session_is_whole : (row : Row) → IsReviewerTyped row → IsTrue (is_int (column row 1))
-session_is_whole [] typed = absurd (let no = typed.1 in cc)
-session_is_whole (a ∷ []) typed = absurd (let no = typed.1 in cc)
 session_is_whole (a ∷ b ∷ row) typed = is_whole b (left_true _ _ typed.0) (left_true _ _ typed.1)
+session_is_whole _ typed = absurd (let no = typed.1 in cc)
 
 -- ---- what the queries meet
 
-module _ (layout : Layout) (f l : ℕ) (old new : State) (rows : List Row) (schema : old.now.schema ≡ schema_of layout) (h : Shown (reading_text ReviewerRange) (whole f ∷ whole l ∷ []) old new rows) where
+module _ (layout : Layout) (f l : ℕ) (old new : State) (rows : List Row) (schema : old.now.schema ≡ schema_of layout)
+    (h : Shown (reading_text ReviewerRange) (whole f ∷ whole l ∷ []) old new rows) where
   abbrev params : Row
   params = whole f ∷ whole l ∷ []
 
@@ -78,7 +64,8 @@ is_elsewhere row = is_outside 1000000 9999999999 (column row 1)
 abbrev pub Within : Row → Type 0
 Within = HasNumberBetween 1 (first_number 1) (last_number 9999)
 
-module _ (layout : Layout) (old new : State) (rows : List Row) (schema : old.now.schema ≡ schema_of layout) (h : Shown (reading_text ReviewerOutside) [] old new rows) where
+module _ (layout : Layout) (old new : State) (rows : List Row) (schema : old.now.schema ≡ schema_of layout)
+    (h : Shown (reading_text ReviewerOutside) [] old new rows) where
   outside_answer : IsAnswer (first_where (reviewer_tree layout) 1 (not_between 1 1000000 9999999999)) (overlay old.now.trees []) [] rows
   outside_answer = answers ReviewerOutside layout [] old new rows schema h
 
@@ -119,7 +106,8 @@ module _ (f l : ℕ) (low : l < 2 ^ 63) where
       → IfOk result (λ b. IfOk outcome (λ x. AreShown Good reviewer_columns (rows_in x) (items b))) → AllByRecursion IsReviewerTyped table → IfOk outcome (λ x. IsPermutation (map columns_of_reviewer (filter p table)) (rows_in x))
       → IfOk result (λ b. IsTree table → HoldsReviewers (filter p table) (items b))
   rows_told Good table outcome rows_in result items ok shows typed =
-      told outcome result ok _ _ _ (λ x b shows rows tree. reviewers_hold Good table (rows_in x) (items b) tree typed rows shows) shows
+      told outcome result ok _ _ _
+      (λ x b shows rows tree. reviewers_hold Good table (rows_in x) (items b) tree typed rows shows) shows
 
 -- ---- a row that is of no reviewer
 

@@ -1,53 +1,39 @@
 -- The statements on reviewers.
-use Rattle.std.proofs.Common.{inl, inr, ◌⊎◌, ◌<◌, ◌≤◌, ◌^◌, ℤ, pos, negsuc, ◌≡◌, ℕ, List, [], ◌∷◌, ◌++◌, map, length, Bool, true, false, not, Option, None, Ok, Err, Result, IfOk, IsOk, refl, sym, ap, subst, ◌∙◌, arith}
-use Rattle.std.specs.Prelude.{◌==◌, ◌&&◌, nat_lt, if◌then◌else◌}
-use Rattle.std.specs.List.{filter, list_any, list_all, AllByRecursion}
-use Rattle.std.specs.List.Sorted.{IsPermutation}
-use Rattle.std.proofs.lemmas.Bool.{cases_Bool}
-use Rattle.std.proofs.lemmas.Bool.Decides.{nat_tests}
-use Rattle.std.proofs.lemmas.List.Sorted.{length_permutation, list_any-IsPermutation, IsPermutation-sym}
-use Rattle.sqlite.specs.declared.types.Value.TheVariants.{Null, Int}
-use Rattle.sqlite.specs.Term.{holds}
-use Rattle.sqlite_trees.proofs.ListLemmas.{all-append, all-filter, all-permutation}
-use Rattle.sqlite.specs.Order.{Row}
-use Rattle.sqlite.specs.Program.{overlay}
-use Rattle.sqlite.specs.Command.TheVariants.{Insert, Delete}
-use Rattle.sqlite.specs.Source.TheVariants.{Values}
-use Rattle.sqlite.specs.Edit.{edit_of}
-use Rattle.sqlite.specs.Rowids.TheVariants.{Chosen, Given}
-use Rattle.sqlite.specs.Table.{Table}
-use Rattle.sqlite.specs.Cast.{cast_row}
-use Rattle.sqlite.specs.Tree.{Trees}
-use Rattle.sqlite.specs.Effect.{Database}
-use Rattle.sqlite.specs.Does.{Tally, Does, AtPlace, OnRows}
-use Rattle.sqlite.specs.Rows.{Written}
-use Rattle.sqlite.specs.State.{State, Shown, mode_of}
-use Rattle.sqlite.specs.Listing.{understood}
-use Rattle.sqlite.proofs.Callers.{reads_as, statement_of}
-use Rattle.sqlite_rules.specs.Action.{Writes}
-use Rattle.sqlite_rules.specs.Calls.{ids_of}
-use Rattle.sqlite_rules.specs.Edit.{without_all}
-use Rattle.sqlite_schema.specs.declared.schema.Constraint.TheVariants.{Unique}
-use Rattle.sqlite_schema.specs.declared.schema.Keys.TheVariants.{Enforced}
-use Rattle.sqlite_schema.specs.Rules.{agree, clashes, passes}
-use Rattle.sqlite_value.specs.Keys.{plain, first_key}
-use Rattle.acvp_tables.specs.Content.{is_reviewer}
-use Rattle.acvp_tables.specs.Changes.{is_pair, with_reviewer}
-use Rattle.acvp_tables.specs.declared.rows.ReviewerRow.{ReviewerRow}
-use Rattle.acvp_store.specs.Values.{whole}
-use Rattle.acvp_store.specs.Schema.{Layout, Created, Migrated, schema_of, reviewer_table}
-use Rattle.acvp_store.specs.Alters.{Alters, SparesOthers}
-use Rattle.acvp_store.specs.Stands.{Entry, entry_row, HoldsEntries, HoldsReviewers, reviewer_columns, reviewer_tree}
-use Rattle.acvp_store.proofs.Effects.{deleted_rows, inserted_rows, mode, task_of, under_schema}
+use Rattle.std.proofs.Common.{inl, inr, ◌<◌, ◌≤◌, ◌^◌, ℤ, pos, negsuc, ◌≡◌, ℕ, List, [], ◌∷◌, ◌++◌, map, length, Bool}
+use Rattle.std.proofs.Common.{true, false, not, Option, None, Ok, Result, IfOk, IsOk, refl, sym, ap, subst, ◌∙◌, arith}
+use Rattle.std.proofs.Common.{◌+◌, zero, suc}
+use Rattle.std.specs.Prelude.{◌==◌, ◌&&◌, if◌then◌else◌}
+use Rattle.sqlite_value.specs.Keys.{first_key}
+use Rattle.acvp_tables.specs.Content.{account_numbers, reviewers_of}
+use Rattle.acvp_store.proofs.Words.{agree, all-append, all-filter, all-permutation, AllByRecursion, Alters, append-nil}
+use Rattle.acvp_store.proofs.Words.{AreWellNumbered, ascending-filter, AtPlace, cases_Bool, cast_row, Chosen, clashes}
+use Rattle.acvp_store.proofs.Words.{Content, Created, Database, Delete, Does, edit_of, Enforced, Entry, entry_row}
+use Rattle.acvp_store.proofs.Words.{filter, Given, holds, HoldsEntries, HoldsReviewers, ids_of, Insert, Int, is_pair}
+use Rattle.acvp_store.proofs.Words.{is_reviewer, IsAscending, IsPermutation, IsPermutation-append_comm}
+use Rattle.acvp_store.proofs.Words.{IsPermutation-append_left, IsPermutation-append_right, IsPermutation-cons}
+use Rattle.acvp_store.proofs.Words.{IsPermutation-filter, IsPermutation-map, IsPermutation-middle, IsPermutation-refl}
+use Rattle.acvp_store.proofs.Words.{IsPermutation-sym, IsPermutation-trans, Layout, length_permutation, list_all}
+use Rattle.acvp_store.proofs.Words.{list_any, map-map, Migrated, nat_le, nat_lt, nat_tests, Null, OnRows, overlay}
+use Rattle.acvp_store.proofs.Words.{passes, plain, range_with_len, reviewer_columns, reviewer_table, reviewer_tree}
+use Rattle.acvp_store.proofs.Words.{ReviewerRow, Row, schema_of, Shown, State, Table, Tally, Trees, Unique, Values}
+use Rattle.acvp_store.proofs.Words.{whole, with_reviewer, without_all, Writes}
+use Rattle.acvp_store.proofs.Effects.{deleted_rows, inserted_rows, mode, task_of, under_schema, not_false}
 use Rattle.acvp_store.proofs.Entries.{entry_for, map_last, rows_put, puts, was_free, removed, takes}
 use Rattle.acvp_store.proofs.Idle.{applied}
-use Rattle.acvp_store.proofs.InsertedRow.{not_false}
-use Rattle.acvp_store.proofs.Parts.{went, same_value, cast_null, cast_whole, both_true}
+use Rattle.acvp_store.proofs.Parts.{cast_null, cast_whole, both_true, and_true}
 use Rattle.acvp_store.proofs.SelectedRows.{test_equals, test_none, selected}
-use Rattle.acvp_store.proofs.Keyed.{none_passes, small_or_large}
+use Rattle.acvp_store.proofs.Keyed.{none_passes, small_or_large, none_left}
 use Rattle.acvp_store.proofs.Places.{reviewers_at, of_reviewers, reviewers_seen}
-use Rattle.acvp_store.proofs.Readings.{ReviewerAt, answers, reading_query, reading_text}
-use Rattle.acvp_store.proofs.Writings.{Effects, ReviewerAdded, ReviewerRemoved, remove_query, reviewer_place, writing_command, writing_terms}
+use Rattle.acvp_store.proofs.Readings.{ReviewerAt, answers, reading_query, reading_text, ReviewersOf}
+use Rattle.acvp_store.proofs.Writings.{Effects, ReviewerAdded, ReviewerRemoved, remove_query, reviewer_place}
+use Rattle.acvp_store.proofs.Writings.{writing_command, writing_terms}
+use Rattle.sqlite_keyed.proofs.ListLemmas.{filter-map}
+use Rattle.acvp_tables.specs.Private.Ascending.{with_number, ascending}
+use Rattle.acvp_tables.proofs.Reviewers.{accounts_in, reviewers_read}
+use Rattle.acvp_store.proofs.Told.{told}
+use Rattle.acvp_store.proofs.OrderedRows.{ranged}
+
+-- ---- the statements on reviewers
 
 -- ---- whether one is there
 
@@ -74,21 +60,27 @@ none_paired r (e ∷ es) high low =
     rw apart (none_paired r es high low.1)
 
 module _ (layout : Layout) (r : ReviewerRow) (old new : State) (rows : List Row) (schema : old.now.schema ≡ schema_of layout) (list : List ReviewerRow) (h : HoldsReviewers (old.now.trees (reviewer_tree layout)) list) where
-  rows_by : (k : ℤ) (p : Entry ReviewerRow → Bool) → ((e : Entry ReviewerRow) → list_all (holds (pair_params k r.account ∷ entry_row reviewer_columns e ∷ [])) (reading_query ReviewerAt layout).filter ≡ p e)
-      → Shown (reading_text ReviewerAt) (pair_params k r.account) old new rows → IsPermutation (map (λ (e : Entry ReviewerRow). whole e.row.account ∷ []) (filter p h.kept.entries)) rows
+  rows_by : (k : ℤ) (p : Entry ReviewerRow → Bool)
+      → ((e : Entry ReviewerRow) → list_all (holds (pair_params k r.account ∷ entry_row reviewer_columns e ∷ []))
+      (reading_query ReviewerAt layout).filter ≡ p e)
+      → Shown (reading_text ReviewerAt) (pair_params k r.account) old new rows
+      → IsPermutation (map (λ (e : Entry ReviewerRow). whole e.row.account ∷ []) (filter p h.kept.entries)) rows
   rows_by k p tests shown =
       selected (pair_params k r.account) (entry_row reviewer_columns) p (reading_query ReviewerAt layout).filter tests
-      (reviewer_tree layout) (reading_query ReviewerAt layout).project (λ e. whole e.row.account ∷ []) (λ e. refl) (overlay old.now.trees []) h.kept.entries rows (reviewers_seen layout old.now.trees ∙ h.kept.rows_are)
+      (reviewer_tree layout) (reading_query ReviewerAt layout).project (λ e. whole e.row.account ∷ []) (λ e. refl)
+      (overlay old.now.trees []) h.kept.entries rows (reviewers_seen layout old.now.trees ∙ h.kept.rows_are)
       (answers ReviewerAt layout (pair_params k r.account) old new rows schema shown)
 
-  pub reviewer_rows : (k : ℤ) → (r.session < 2 ^ 63 → k ≡ pos r.session) → (2 ^ 63 ≤ r.session → k ≡ negsuc 0) → Shown (reading_text ReviewerAt) (pair_params k r.account) old new rows
+  pub reviewer_rows : (k : ℤ) → (r.session < 2 ^ 63 → k ≡ pos r.session) → (2 ^ 63 ≤ r.session → k ≡ negsuc 0)
+      → Shown (reading_text ReviewerAt) (pair_params k r.account) old new rows
       → IsPermutation (map (λ (e : Entry ReviewerRow). whole e.row.account ∷ []) (filter (λ e. is_pair r e.row) h.kept.entries)) rows
   reviewer_rows k fits large shown = elim (small_or_large r.session) [
     | inl low ↦
         let at = subst (λ k. Shown (reading_text ReviewerAt) (pair_params k r.account) old new rows) (fits low) shown in
         rows_by (pos r.session) (λ e. is_pair r e.row) (λ e. both_true _ _ (e.row.session == r.session) (e.row.account == r.account) (test_equals e.row.session r.session) (test_equals e.row.account r.account)) at
     | inr high ↦
-        let at = subst (λ k. Shown (reading_text ReviewerAt) (pair_params k r.account) old new rows) (large high) shown in
+        let at = subst (λ k. Shown (reading_text ReviewerAt) (pair_params k r.account) old new rows) (large high)
+        shown in
         let none = rows_by (negsuc 0) (λ e. false) (λ e. both_true _ _ false (e.row.account == r.account) (test_none e.row.session) (test_equals e.row.account r.account)) at in
         let empty : filter (λ (e : Entry ReviewerRow). false) h.kept.entries ≡ filter (λ (e : Entry ReviewerRow). is_pair r e.row) h.kept.entries = none_passes h.kept.entries ∙ sym (none_paired r h.kept.entries high (entries_fit (old.now.trees (reviewer_tree layout)) list h)) in
         subst (λ es. IsPermutation (map (λ (e : Entry ReviewerRow). whole e.row.account ∷ []) es) rows) empty none
@@ -105,7 +97,8 @@ counted shown p (x ∷ xs) = elim (cases_Bool (p x)) [
 pub any_passes : {A : Type 0} (shown : A → Row) (p : A → Bool) (xs : List A) (rows : List Row) → IsPermutation (map shown (filter p xs)) rows → nat_lt 0 (length rows) ≡ list_any p xs
 any_passes shown p xs rows same = ap (nat_lt 0) (length_permutation _ _ same) ∙ counted shown p xs
 
-pub any_row : (p : ReviewerRow → Bool) (es : List (Entry ReviewerRow)) → list_any (λ (e : Entry ReviewerRow). p e.row) es ≡ list_any p (map (λ (e : Entry ReviewerRow). e.row) es)
+pub any_row : (p : ReviewerRow → Bool) (es : List (Entry ReviewerRow))
+    → list_any (λ (e : Entry ReviewerRow). p e.row) es ≡ list_any p (map (λ (e : Entry ReviewerRow). e.row) es)
 any_row p [] = refl
 any_row p (e ∷ es) = elim (cases_Bool (p e.row)) [
   | inl hit ↦ rw hit refl
@@ -152,22 +145,30 @@ module _ (layout : Layout) (r : ReviewerRow) (trees next : Trees) (wrote : Write
       }
 
 adds : (layout : Layout) (limit : Option ℕ) (text : List ℕ) (r : ReviewerRow) → r.session < 2 ^ 63 → (trees : Trees) (tally : Tally) (after : Database)
-    → Does limit (record { keys = Enforced; in_doubt = false; may_wait = false }) (reviewer_columns r) (record { schema = schema_of layout; trees = trees }) text None (Insert (reviewer_place layout) (Values (writing_terms ReviewerAdded) 3)) (Ok (tally, after))
+    → Does limit (record { keys = Enforced; in_doubt = false; may_wait = false }) (reviewer_columns r)
+    (record { schema = schema_of layout; trees = trees }) text None
+    (Insert (reviewer_place layout) (Values (writing_terms ReviewerAdded) 3)) (Ok (tally, after))
     → Alters layout (reviewer_tree layout) HoldsReviewers (with_reviewer r) (record { schema = schema_of layout; trees = trees }) after
 adds layout limit text r low trees tally after does =
     let tree = reviewer_tree layout in
     let q = Insert (reviewer_place layout) (Values (writing_terms ReviewerAdded) 3) in
-    let on = subst (λ (o : Option Table). AtPlace (λ t. OnRows (task_of layout limit t (reviewer_columns r)) mode None q trees) o (Ok (tally, after))) (reviewers_at layout) does in
-    let it = inserted_rows layout limit (reviewer_table tree) (reviewer_columns r) trees tally after (reviewer_place layout) (Values (writing_terms ReviewerAdded) 3) on in
-    let wrote = subst (λ rs. Writes (schema_of layout) Enforced trees (edit_of trees (reviewer_table tree) [] Chosen 0 rs) (Ok after.trees)) it.1.1 it.2.writes in
+    let on = subst (λ (o : Option Table).
+    AtPlace (λ t. OnRows (task_of layout limit t (reviewer_columns r)) mode None q trees) o (Ok (tally, after)))
+    (reviewers_at layout) does in
+    let it = inserted_rows layout limit (reviewer_table tree) (reviewer_columns r) trees tally after
+    (reviewer_place layout) (Values (writing_terms ReviewerAdded) 3) on in
+    let wrote = subst (λ rs. Writes (schema_of layout) Enforced trees
+    (edit_of trees (reviewer_table tree) [] Chosen 0 rs) (Ok after.trees)) it.1.1 it.2.writes in
     record {
       schema = it.2.schema;
       kept = λ list h. joins layout r trees after.trees wrote list h low;
-      others = (applied layout trees after.trees (edit_of trees (reviewer_table tree) [] Chosen 0 ((Null ∷ reviewer_columns r) ∷ [])) wrote).tables;
+      others = (applied layout trees after.trees
+          (edit_of trees (reviewer_table tree) [] Chosen 0 ((Null ∷ reviewer_columns r) ∷ [])) wrote).tables;
     }
 
 pub add_reviewer_effect : (layout : Layout) (old : State) (r : ReviewerRow) → r.session < 2 ^ 63
-    → Effects ReviewerAdded layout (reviewer_columns r) old (Alters layout (reviewer_tree layout) HoldsReviewers (with_reviewer r))
+    → Effects ReviewerAdded layout (reviewer_columns r) old (Alters layout (reviewer_tree layout) HoldsReviewers
+    (with_reviewer r))
 add_reviewer_effect layout old r low =
     under_schema (schema_of layout) old (reviewer_columns r) [] (writing_command ReviewerAdded layout)
     (Alters layout (reviewer_tree layout) HoldsReviewers (with_reviewer r))
@@ -181,17 +182,23 @@ removes : (layout : Layout) (limit : Option ℕ) (text : List ℕ) (r : Reviewer
 removes layout limit text r trees tally after does =
     let tree = reviewer_tree layout in
     let q = Delete (reviewer_place layout) (record { lets = []; body = remove_query layout }) in
-    let on = subst (λ (o : Option Table). AtPlace (λ t. OnRows (task_of layout limit t (reviewer_columns r)) mode None q trees) o (Ok (tally, after))) (reviewers_at layout) does in
-    let deleted = deleted_rows layout limit (reviewer_table tree) (reviewer_columns r) trees tally after (reviewer_place layout) _ on in
-    let it = applied layout trees after.trees (edit_of trees (reviewer_table tree) (ids_of deleted.0) Given 0 []) deleted.2.writes in
+    let on = subst (λ (o : Option Table).
+    AtPlace (λ t. OnRows (task_of layout limit t (reviewer_columns r)) mode None q trees) o (Ok (tally, after)))
+    (reviewers_at layout) does in
+    let deleted = deleted_rows layout limit (reviewer_table tree) (reviewer_columns r) trees tally after
+    (reviewer_place layout) _ on in
+    let it = applied layout trees after.trees (edit_of trees (reviewer_table tree) (ids_of deleted.0) Given 0 [])
+    deleted.2.writes in
     record {
       schema = deleted.2.schema;
       kept = λ list held.
           let h = held.kept in
           let rows = selected (reviewer_columns r) (entry_row reviewer_columns) (λ e. is_pair r e.row) (remove_query layout).filter
           (λ e. both_true _ _ (e.row.session == r.session) (e.row.account == r.account) (test_equals e.row.session r.session) (test_equals e.row.account r.account))
-          tree (remove_query layout).project (λ e. Int e.id ∷ []) (λ e. refl) (overlay trees []) h.entries deleted.0 (reviewers_seen layout trees ∙ h.rows_are) (deleted.1.answer Null) in
-          let left = it.rows ∙ ap (λ all. without_all all (ids_of deleted.0)) h.rows_are ∙ removed reviewer_columns (λ e. is_pair r e.row) h.entries deleted.0 h.rising rows in
+          tree (remove_query layout).project (λ e. Int e.id ∷ []) (λ e. refl) (overlay trees []) h.entries deleted.0
+          (reviewers_seen layout trees ∙ h.rows_are) (deleted.1.answer Null) in
+          let left = it.rows ∙ ap (λ all. without_all all (ids_of deleted.0)) h.rows_are
+          ∙ removed reviewer_columns (λ e. is_pair r e.row) h.entries deleted.0 h.rising rows in
           record {
             kept = takes reviewer_columns (is_pair r) trees after.trees tree list h left;
             fits = all-filter FitsColumn (λ row. not (is_pair r row)) list held.fits;
@@ -206,3 +213,104 @@ remove_reviewer_effect layout old r =
     under_schema (schema_of layout) old (reviewer_columns r) [] (writing_command ReviewerRemoved layout)
     (Alters layout (reviewer_tree layout) HoldsReviewers (filter (λ row. not (is_pair r row))))
     (λ limit trees tally after does. removes layout limit [] r trees tally after does)
+
+-- ---- the reviewers of a session, in the order of their numbers
+
+abbrev pub account_shown : ℕ → Row
+account_shown n = whole n ∷ []
+
+abbrev pub Rising : List ℕ → Type 0
+Rising = IsAscending (λ m n. m < n)
+
+-- ---- the rows that the query gives
+
+-- a session with a number that no column keeps has none
+none_reviews : (s : ℕ) (list : List ReviewerRow) → 2 ^ 63 ≤ s → AllByRecursion (λ (r : ReviewerRow). r.session < 2 ^ 63) list → accounts_in s list ≡ []
+none_reviews s [] high low = refl
+none_reviews s (r ∷ list) high low =
+    let under = low.0 in
+    let apart : (r.session == s) ≡ false = grind (arith, nat_tests, under, high) in
+    rw apart (none_reviews s list high low.1)
+
+module _ (layout : Layout) (s : ℕ) (old new : State) (rows : List Row) (schema : old.now.schema ≡ schema_of layout) (list : List ReviewerRow) (h : HoldsReviewers (old.now.trees (reviewer_tree layout)) list) (numbers : List ℕ) (rise : Rising numbers) where
+  listed_by : (k : ℤ) (p : Entry ReviewerRow → Bool)
+      → ((e : Entry ReviewerRow) → list_all (holds ((Int k ∷ []) ∷ entry_row reviewer_columns e ∷ []))
+      (reading_query ReviewersOf layout).filter ≡ p e)
+      → Shown (reading_text ReviewersOf) (Int k ∷ []) old new rows
+      → IsPermutation (map (λ (e : Entry ReviewerRow). e.row.account) (filter p h.kept.entries)) numbers
+      → rows ≡ map account_shown numbers
+  listed_by k p tests shown same =
+      ranged (Int k ∷ []) (entry_row reviewer_columns) p (reading_query ReviewersOf layout).filter tests
+      (λ e. e.row.account) (λ n. n) account_shown
+      2 (reviewer_tree layout) (reading_query ReviewersOf layout).project (λ e. refl) (λ e. refl)
+      (overlay old.now.trees []) h.kept.entries numbers rows (reviewers_seen layout old.now.trees ∙ h.kept.rows_are)
+      same rise
+      (answers ReviewersOf layout (Int k ∷ []) old new rows schema shown)
+
+  pub session_rows : (k : ℤ) → (s < 2 ^ 63 → k ≡ pos s) → (2 ^ 63 ≤ s → k ≡ negsuc 0)
+      → Shown (reading_text ReviewersOf) (Int k ∷ []) old new rows → IsPermutation (accounts_in s list) numbers
+      → rows ≡ map account_shown numbers
+  session_rows k fits large shown same = elim (small_or_large s) [
+    | inl low ↦
+        let at = subst (λ k. Shown (reading_text ReviewersOf) (Int k ∷ []) old new rows) (fits low) shown in
+        listed_by (pos s) (λ e. e.row.session == s)
+        (λ e. rw test_equals (and_true _)) at (IsPermutation-trans _ (accounts_in s list) _
+        (told h.kept.entries h.kept.same) same)
+    | inr high ↦
+        let at = subst (λ k. Shown (reading_text ReviewersOf) (Int k ∷ []) old new rows) (large high) shown in
+        let none = none_left numbers (rw (none_reviews s list high h.fits) at same) in
+        let empty : filter (λ (e : Entry ReviewerRow). false) h.kept.entries ≡ [] = none_passes h.kept.entries in
+        listed_by (negsuc 0) (λ e. false) (λ e. rw test_none refl) at (rw (empty, none) (IsPermutation-refl []))
+  ]
+    where
+      told : (es : List (Entry ReviewerRow)) → IsPermutation (map (λ e. e.row) es) list → IsPermutation (map (λ e. e.row.account) (filter (λ e. e.row.session == s) es)) (accounts_in s list)
+      told es same =
+          let kept = IsPermutation-map (λ (r : ReviewerRow). r.account) _ _ (IsPermutation-filter (λ (r : ReviewerRow). r.session == s) _ _ same) in
+          let is = ap (map (λ (r : ReviewerRow). r.account)) (filter-map (λ (r : ReviewerRow). r.session == s) (λ (e : Entry ReviewerRow). e.row) es) ∙ map-map (λ (r : ReviewerRow). r.account) (λ (e : Entry ReviewerRow). e.row) (filter (λ e. e.row.session == s) es) in
+          subst (λ accounts. IsPermutation accounts (accounts_in s list)) is kept
+
+-- ---- numbers put in order
+
+placed_same : (n : ℕ) (placed : List ℕ) → IsPermutation (n ∷ placed) (with_number n placed)
+placed_same n [] = IsPermutation-refl _
+placed_same n (m ∷ placed) = go (placed_same n placed) (nat_le n m)
+  where
+    go : IsPermutation (n ∷ placed) (with_number n placed) → (b : Bool) → IsPermutation (n ∷ m ∷ placed) (if b then n ∷ m ∷ placed else m ∷ with_number n placed)
+    go more true = IsPermutation-refl _
+    go more false = IsPermutation-trans _ (m ∷ n ∷ placed) _ (IsPermutation-append_left placed (n ∷ m ∷ []) (m ∷ n ∷ []) (IsPermutation-append_comm (n ∷ []) (m ∷ []))) (IsPermutation-cons m _ _ more)
+
+ordered_same : (placed numbers : List ℕ) → IsPermutation (numbers ++ placed) (ascending placed numbers)
+ordered_same placed [] = IsPermutation-refl _
+ordered_same placed (n ∷ numbers) =
+    let front = IsPermutation-sym _ _ (IsPermutation-middle numbers n placed) in
+    IsPermutation-trans _ (numbers ++ n ∷ placed) _ front
+    (IsPermutation-trans _ (numbers ++ with_number n placed) _ (IsPermutation-append_right numbers (n ∷ placed) (with_number n placed) (placed_same n placed)) (ordered_same (with_number n placed) numbers))
+
+-- ---- of well numbered rows they are the session's
+
+reviewers_same : (s : ℕ) (c : Content) → AreWellNumbered c → IsPermutation (accounts_in s c.reviewers) (reviewers_of s c.reviewers)
+reviewers_same s c sound = subst (IsPermutation (accounts_in s c.reviewers)) (reviewers_read s c c.reviewers _ sound refl refl) (rw append-nil at (ordered_same [] (accounts_in s c.reviewers)))
+
+above_range : (m a k : ℕ) → m < a → AllByRecursion (λ n. m < n) (range_with_len a k)
+above_range m a zero low = tt
+above_range m a (suc k) low = (low, above_range m (a + 1) k (omega arith))
+
+rise_range : (a k : ℕ) → Rising (range_with_len a k)
+rise_range a zero = tt
+rise_range a (suc k) = (above_range a (a + 1) k (omega arith), rise_range (a + 1) k)
+
+reviewers_rise : (s : ℕ) (rows : List ReviewerRow) → Rising (reviewers_of s rows)
+unfolding reviewers_of account_numbers
+reviewers_rise s rows = ascending-filter (λ m n. m < n) (λ account. is_reviewer s account rows) (range_with_len 1 9999) (rise_range 1 9999)
+
+-- ---- the whole
+
+module _ {X L E F : Type 0} (s : ℕ) (table : List Row) (rows_in : X → List Row) (listed : L → List ℕ) where
+  pub find_all : (outcome : Result X E) (result : Result L F) → (IsOk result → IsOk outcome)
+      → IfOk result (λ l. IfOk outcome (λ x. (list : List ℕ) → rows_in x ≡ map account_shown list → listed l ≡ list))
+      → IfOk outcome (λ x. (list : List ReviewerRow) → HoldsReviewers table list → (numbers : List ℕ) → Rising numbers → IsPermutation (accounts_in s list) numbers → rows_in x ≡ map account_shown numbers)
+      → IfOk result (λ l. (c : Content) → AreWellNumbered c → HoldsReviewers table c.reviewers → listed l ≡ reviewers_of s c.reviewers)
+  find_all outcome result ok =
+      told outcome result ok _ _ _
+      (λ x l lists rows. λ c sound h. lists (reviewers_of s c.reviewers)
+      (rows c.reviewers h (reviewers_of s c.reviewers) (reviewers_rise s c.reviewers) (reviewers_same s c sound)))

@@ -1,41 +1,23 @@
 -- How many rows an account has, by the greatest of their numbers.
-use Rattle.std.proofs.Common.{◌≡◌, ◌<◌, ℕ, zero, suc, ◌+◌, ◌*◌, pos, List, [], ◌∷◌, ◌++◌, length, map, take, Bool, true, Ok, Err, Result, IfOk, IsOk, refl, sym, ap, ap₂, subst, ◌∙◌, arith, Less, Equal}
+use Rattle.std.proofs.Common.{◌≡◌, ◌<◌, ℕ, zero, suc, ◌+◌, ◌*◌, pos, List, [], ◌∷◌, ◌++◌, length, map, take, Bool, true}
+use Rattle.std.proofs.Common.{refl, sym, ap, ap₂, subst, ◌∙◌, arith, Less, Equal}
 use Rattle.std.specs.Prelude.{◌&&◌, filter}
-use Rattle.std.specs.List.{list_all, range_with_len, AllByRecursion}
-use Rattle.std.specs.List.Sorted.{IsPermutation}
-use Rattle.std.specs.Ordering.{ordering_then}
-use Rattle.std.proofs.lemmas.Bool.Decides.{nat_tests}
-use Rattle.std.proofs.lemmas.List.{map-id}
-use Rattle.std.proofs.lemmas.List.Sorted.{IsPermutation-map, IsPermutation-refl, IsPermutation-sym, IsPermutation-trans, IsPermutation-cons, IsPermutation-to_front}
-use Rattle.sqlite.specs.Order.{Row}
-use Rattle.sqlite.specs.Tree.{Trees, IsAscending}
-use Rattle.sqlite.specs.Term.{Term, col, holds, eval, lit}
-use Rattle.sqlite.specs.Program.{overlay}
-use Rattle.sqlite.specs.Query.{IsAnswer, output, output_cmp, Output}
-use Rattle.sqlite.specs.State.{State, Shown}
-use Rattle.sqlite.specs.declared.types.Value.TheVariants.{Null, Int}
-use Rattle.sqlite.proofs.Callers.{reads_as}
-use Rattle.sqlite_keyed.proofs.SortLemmas.{sorted_unique}
-use Rattle.sqlite_sql.proofs.QueryLemmas.{output_cmp_total}
-use Rattle.sqlite_trees.proofs.ListLemmas.{filter-map, ascending-map, ascending_weaker, IsPermutation-filter, map-map}
-use Rattle.sqlite_value.proofs.OrderLemmas.{value_cmp-Int}
-use Rattle.acvp_registry.specs.declared.kind.Kind.{Kind}
-use Rattle.acvp_tables.specs.Content.{Content, is_kind, kind_number, sessions_of, objects_of, requests_of}
-use Rattle.acvp_tables.specs.State.{AreWellNumbered, IsNumbered, first_of_account}
-use Rattle.acvp_tables.specs.declared.rows.SessionRow.{SessionRow}
-use Rattle.acvp_tables.specs.declared.rows.ObjectRow.{ObjectRow}
-use Rattle.acvp_tables.specs.declared.rows.RequestRow.{RequestRow}
-use Rattle.acvp_store.specs.Values.{whole}
-use Rattle.acvp_store.specs.Schema.{Layout, schema_of}
-use Rattle.acvp_store.specs.Rows.{session_tree, session_row, HoldsSessions}
-use Rattle.acvp_store.specs.Stands.{Entry, entry_row, object_tree, object_columns, HoldsObjects, request_tree, request_row, HoldsRequests}
-use Rattle.acvp_store.specs.Private.Pages.{greatest}
-use Rattle.acvp_store.proofs.AccountPages.{test_range}
-use Rattle.acvp_store.proofs.Owned.{last_number, in_range, range_drops, session_numbers, session_selection, request_numbers, request_selection, object_numbers, object_selection}
+use Rattle.acvp_store.proofs.Words.{AllByRecursion, AreWellNumbered, col, Content, Entry, entry_row, eval, filter-map}
+use Rattle.acvp_store.proofs.Words.{first_of_account, greatest, holds, HoldsObjects, HoldsRequests, HoldsSessions, Int}
+use Rattle.acvp_store.proofs.Words.{is_kind, IsAnswer, IsAscending, IsNumbered, IsPermutation, IsPermutation-cons}
+use Rattle.acvp_store.proofs.Words.{IsPermutation-filter, IsPermutation-map, IsPermutation-refl, IsPermutation-sym}
+use Rattle.acvp_store.proofs.Words.{IsPermutation-to_front, IsPermutation-trans, Kind, kind_number, Layout, list_all}
+use Rattle.acvp_store.proofs.Words.{lit, map-id, map-map, nat_tests, object_columns, object_tree, ObjectRow, objects_of}
+use Rattle.acvp_store.proofs.Words.{ordering_then, Output, output_cmp, overlay, range_with_len, request_row}
+use Rattle.acvp_store.proofs.Words.{request_tree, RequestRow, requests_of, Row, schema_of, session_row, session_tree}
+use Rattle.acvp_store.proofs.Words.{SessionRow, sessions_of, Shown, State, Term, Trees, value_cmp-Int, whole}
+use Rattle.acvp_store.proofs.PageRows.{test_range}
+use Rattle.acvp_store.proofs.Owned.{last_number, in_range, range_drops, session_numbers, session_selection}
+use Rattle.acvp_store.proofs.Owned.{request_numbers, request_selection, object_numbers, object_selection}
 use Rattle.acvp_store.proofs.OrderedRows.{sorted_rows}
 use Rattle.acvp_store.proofs.QueryForms.{descending, equals, newest, within}
 use Rattle.acvp_store.proofs.Readings.{NewestObject, NewestRequest, NewestSession, answers, reading_text}
-use Rattle.acvp_store.proofs.SelectedRows.{test_equals, matched}
+use Rattle.acvp_store.proofs.SelectedRows.{test_equals}
 
 -- ---- numbers without gaps, the greatest first
 
@@ -76,18 +58,23 @@ module _ {E A : Type 0} (params : Row) (encode : E → Row) (member : E → A) (
   shown_first before zero = refl
   shown_first before (suc n) = refl
 
-  pub greatest_shown : (db : Trees) (all : List E) (list : List A) (before : ℕ) (rows : List Row) → db tree ≡ map encode all
+  pub greatest_shown : (db : Trees) (all : List E) (list : List A) (before : ℕ) (rows : List Row)
+      → db tree ≡ map encode all
       → IsPermutation (map member all) list → IsNumbered key (before + 1) (filter p list)
       → IsAnswer (newest tree terms place) db params rows → rows ≡ greatest before (length (filter p list))
   greatest_shown db all list before rows has whole_list numbered a =
       let passing = λ (e : E). p (member e) in
       let n = length (filter p list) in
-      let same = subst (λ xs. IsPermutation xs (filter p list)) (filter-map p member all) (IsPermutation-filter p _ list whole_list) in
+      let same = subst (λ xs. IsPermutation xs (filter p list)) (filter-map p member all)
+      (IsPermutation-filter p _ list whole_list) in
       let numbers : IsPermutation (map key (map member (filter passing all))) (down before n) =
       IsPermutation-trans _ _ _ (IsPermutation-map key _ _ same) (subst (λ xs. IsPermutation xs (down before n)) (sym numbered) (down_is before n)) in
-      sorted_rows params encode passing terms tests (λ e. key (member e)) ((col 1 place, descending) ∷ []) (lit (Int (pos 1)))
-      tree (col 1 place ∷ []) out (λ e i. (keyed e i ∷ [], keyed e i ∷ [])) (λ a b. b < a) above db all (down before n) rows has
-      (subst (λ xs. IsPermutation xs (down before n)) (map-map key member (filter passing all)) numbers) (down_falls before n) a
+      sorted_rows params encode passing terms tests (λ e. key (member e)) ((col 1 place, descending) ∷ [])
+      (lit (Int (pos 1)))
+      tree (col 1 place ∷ []) out (λ e i. (keyed e i ∷ [], keyed e i ∷ [])) (λ a b. b < a) above db all (down before n)
+      rows has
+      (subst (λ xs. IsPermutation xs (down before n)) (map-map key member (filter passing all)) numbers)
+      (down_falls before n) a
       ∙ shown_first before n
 
 -- ---- of an account
@@ -95,7 +82,8 @@ module _ {E A : Type 0} (params : Row) (encode : E → Row) (member : E → A) (
 abbrev pub range_params : ℕ → Row
 range_params u = whole (first_of_account u + 0) ∷ whole (last_number u) ∷ []
 
-pub sessions_counted : (layout : Layout) (u : ℕ) (old new : State) (rows : List Row) → old.now.schema ≡ schema_of layout → Shown (reading_text NewestSession) (range_params u) old new rows
+pub sessions_counted : (layout : Layout) (u : ℕ) (old new : State) (rows : List Row) → old.now.schema ≡ schema_of layout
+    → Shown (reading_text NewestSession) (range_params u) old new rows
     → (c : Content) → AreWellNumbered c → HoldsSessions (old.now.trees session_tree) c.sessions → rows ≡ greatest (u * 1000000) (length (sessions_of u c.sessions))
 sessions_counted layout u old new rows schema shown c sound h =
     let key = λ (s : SessionRow). s.number in
@@ -107,7 +95,8 @@ sessions_counted layout u old new rows schema shown c sound h =
     (answers NewestSession layout (range_params u) old new rows schema shown) in
     it ∙ ap (λ xs. greatest (u * 1000000) (length xs)) picked
 
-pub requests_counted : (layout : Layout) (u : ℕ) (old new : State) (rows : List Row) → old.now.schema ≡ schema_of layout → Shown (reading_text NewestRequest) (range_params u) old new rows
+pub requests_counted : (layout : Layout) (u : ℕ) (old new : State) (rows : List Row) → old.now.schema ≡ schema_of layout
+    → Shown (reading_text NewestRequest) (range_params u) old new rows
     → (c : Content) → AreWellNumbered c → HoldsRequests (old.now.trees request_tree) c.requests → rows ≡ greatest (u * 1000000) (length (requests_of u c.requests))
 requests_counted layout u old new rows schema shown c sound h =
     let key = λ (r : RequestRow). r.number in
@@ -122,7 +111,8 @@ requests_counted layout u old new rows schema shown c sound h =
 abbrev pub kind_params : Kind → ℕ → Row
 kind_params kind u = whole (first_of_account u + 0) ∷ whole (last_number u) ∷ whole (kind_number kind) ∷ []
 
-pub objects_counted : (layout : Layout) (kind : Kind) (u : ℕ) (old new : State) (rows : List Row) → old.now.schema ≡ schema_of layout → Shown (reading_text NewestObject) (kind_params kind u) old new rows
+pub objects_counted : (layout : Layout) (kind : Kind) (u : ℕ) (old new : State) (rows : List Row)
+    → old.now.schema ≡ schema_of layout → Shown (reading_text NewestObject) (kind_params kind u) old new rows
     → (c : Content) → AreWellNumbered c → HoldsObjects (old.now.trees object_tree) c.objects → rows ≡ greatest (u * 1000000) (length (objects_of kind u c.objects))
 objects_counted layout kind u old new rows schema shown c sound h =
     let key = λ (x : ObjectRow). x.number in

@@ -1,27 +1,14 @@
 -- What a query over one table gives, where the table's rows are those of members.
-use Rattle.std.proofs.Common.{◌≡◌, ◌<ℤ◌, ℕ, ℤ, pos, negsuc, Less, Greater, int_cmp, int_eq, int_lt, List, [], ◌∷◌, map, Bool, true, false, cond, Some, refl, ap, ◌∙◌, arith}
-use Rattle.std.specs.Prelude.{◌==◌, nat_lt, nat_le}
-use Rattle.std.specs.List.Sorted.{IsPermutation}
-use Rattle.std.specs.List.{filter, flat_map, list_all}
-use Rattle.std.specs.Ordering.{is_eq, is_ne, is_lt, is_le, is_ge}
-use Rattle.std.proofs.lemmas.Bool.Decides.{nat_tests}
-use Rattle.std.proofs.lemmas.Int.{ints}
-use Rattle.std.proofs.lemmas.List.Sorted.{IsPermutation-map}
-use Rattle.sqlite_trees.proofs.ListLemmas.{map-map}
-use Rattle.sqlite.specs.Order.{Row}
-use Rattle.sqlite.specs.Ops.{is_true, from_truth, binary}
+use Rattle.std.proofs.Common.{◌≡◌, ◌<ℤ◌, ℕ, ℤ, pos, negsuc, Less, Greater, int_cmp, int_eq, int_lt, List, [], ◌∷◌, map}
+use Rattle.std.proofs.Common.{Bool, true, false, cond, Some, refl, ap, ◌∙◌, arith}
+use Rattle.std.specs.Prelude.{◌==◌}
+use Rattle.sqlite.specs.Ops.{binary}
 use Rattle.sqlite.specs.Collation.{Collation}
-use Rattle.sqlite.specs.Collation.TheVariants.{Binary}
-use Rattle.sqlite.specs.Term.{Term, Env, holds, eval_all}
-use Rattle.sqlite.specs.Query.{IsAnswer, output, Output}
-use Rattle.sqlite.specs.Tree.{Trees}
-use Rattle.sqlite.specs.declared.types.Value.{Value}
-use Rattle.sqlite.specs.declared.types.Value.TheVariants.{Null, Int, Real, Text, Blob}
-use Rattle.sqlite_value.proofs.OrderLemmas.{value_cmp-Int, value_cmp-Null, value_cmp-apart}
-use Rattle.sqlite_sql.specs.declared.ops.BinaryOp.TheVariants.{Compare, Is}
-use Rattle.sqlite_sql.specs.declared.ops.CompareOp.TheVariants.{Eq, Ne, Lt, Le, Ge}
-use Rattle.sqlite_sql.specs.Ops.{is_null}
-use Rattle.acvp_store.specs.Values.{whole, flag}
+use Rattle.acvp_store.proofs.Words.{Binary, Blob, Compare, Env, Eq, eval_all, filter, flag, flat_map, from_truth, Ge}
+use Rattle.acvp_store.proofs.Words.{holds, Int, ints, Is, is_eq, is_ge, is_le, is_lt, is_ne, is_null, is_true, IsAnswer}
+use Rattle.acvp_store.proofs.Words.{IsPermutation, IsPermutation-map, Le, list_all, Lt, map-map, nat_le, nat_lt}
+use Rattle.acvp_store.proofs.Words.{nat_tests, Ne, Null, Output, output, Real, Row, Term, Text, Trees, Value}
+use Rattle.acvp_store.proofs.Words.{value_cmp-apart, value_cmp-Int, value_cmp-Null, whole}
 use Rattle.acvp_store.proofs.QueryForms.{collated, simple}
 use Rattle.acvp_store.proofs.Keyed.{same_whole}
 

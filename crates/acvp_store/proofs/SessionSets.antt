@@ -1,36 +1,18 @@
 -- The vector sets of a session, by the range of its sets' numbers.
-use Rattle.std.proofs.Common.{◌≡◌, ◌<◌, ◌≤◌, ◌+◌, ◌*◌, ◌/◌, ℕ, pos, List, [], ◌∷◌, map, length, Bool, true, false, not, Ok, Err, Result, IfOk, IsOk, inl, inr, refl, sym, ap, subst, ◌∙◌, arith}
-use Rattle.std.specs.Prelude.{◌==◌, ◌&&◌, nat_le}
-use Rattle.std.specs.List.{filter, list_all, range_with_len, AllZip, AllByRecursion}
-use Rattle.std.specs.List.Sorted.{IsPermutation}
-use Rattle.std.specs.Ordering.{is_ne}
-use Rattle.std.proofs.lemmas.Bool.{cases_Bool}
-use Rattle.std.proofs.lemmas.Bool.Decides.{nat_tests}
-use Rattle.std.proofs.lemmas.Int.{ints}
-use Rattle.std.proofs.lemmas.List.{length-map}
-use Rattle.sqlite.specs.Order.{Row}
-use Rattle.sqlite.specs.declared.types.Value.TheVariants.{Null}
-use Rattle.sqlite.specs.Ops.{is_true, binary}
-use Rattle.sqlite.specs.Collation.TheVariants.{Binary}
-use Rattle.sqlite.specs.Program.{overlay}
-use Rattle.sqlite.specs.State.{State, Shown}
-use Rattle.sqlite.specs.Tree.{IsAscending}
-use Rattle.sqlite.proofs.Callers.{reads_as}
-use Rattle.sqlite_sql.specs.declared.ops.BinaryOp.TheVariants.{Compare}
-use Rattle.sqlite_sql.specs.declared.ops.CompareOp.TheVariants.{Ne}
-use Rattle.sqlite_value.proofs.OrderLemmas.{value_cmp-Int}
-use Rattle.sqlite_trees.proofs.ListLemmas.{map-map, ascending-filter, IsPermutation-filter}
-use Rattle.acvp_tables.specs.Content.{Content, live_sets, set_summary}
-use Rattle.acvp_tables.specs.State.{AreWellNumbered, SetRecord, set_record, state_of, sets_in, first_of_session}
-use Rattle.acvp_tables.specs.declared.rows.SetRow.{SetRow}
-use Rattle.acvp_tables.specs.declared.summary.SetSummary.{SetSummary}
+use Rattle.std.proofs.Common.{◌≡◌, ◌<◌, ◌≤◌, ◌+◌, ◌*◌, ◌/◌, ℕ, pos, List, [], ◌∷◌, map, length, Bool, true, false, not}
+use Rattle.std.proofs.Common.{Result, IfOk, IsOk, inl, inr, refl, sym, ap, subst, ◌∙◌, arith}
+use Rattle.std.specs.Prelude.{◌==◌, ◌&&◌}
+use Rattle.sqlite.specs.Ops.{binary}
+use Rattle.acvp_tables.specs.State.{state_of}
 use Rattle.acvp_tables.proofs.Numbers.{keyed, sets_numbered}
 use Rattle.acvp_tables.proofs.Selections.{sets_follow}
-use Rattle.acvp_store.specs.Values.{whole, flag}
-use Rattle.acvp_store.specs.Schema.{Layout, schema_of}
-use Rattle.acvp_store.specs.Kept.{AreKept}
-use Rattle.acvp_store.specs.Stands.{SetColumns, set_key, set_row, set_tree, IsSet, HoldsSets}
-use Rattle.acvp_store.specs.Private.Sets.{ShortColumns, short_shown, short_of, IsSummary}
+use Rattle.acvp_store.proofs.Words.{AllByRecursion, AllZip, AreKept, AreWellNumbered, ascending-filter, Binary}
+use Rattle.acvp_store.proofs.Words.{cases_Bool, Compare, Content, filter, first_of_session, flag, HoldsSets, ints}
+use Rattle.acvp_store.proofs.Words.{is_ne, is_true, IsAscending, IsPermutation, IsPermutation-filter, IsSet, IsSummary}
+use Rattle.acvp_store.proofs.Words.{Layout, length-map, list_all, live_sets, map-map, nat_le, nat_tests, Ne, overlay}
+use Rattle.acvp_store.proofs.Words.{range_with_len, Row, schema_of, set_key, set_record, set_row, set_summary, set_tree}
+use Rattle.acvp_store.proofs.Words.{SetColumns, SetRecord, SetRow, sets_in, SetSummary, short_of, short_shown}
+use Rattle.acvp_store.proofs.Words.{ShortColumns, Shown, State, value_cmp-Int, whole}
 use Rattle.acvp_store.proofs.Parts.{and_true}
 use Rattle.acvp_store.proofs.OrderedRows.{ranged}
 use Rattle.acvp_store.proofs.SelectedRows.{truth_back, test_differs, test_at_least, test_at_most}
@@ -59,12 +41,17 @@ test_off false = test_differs (pos 0) (pos 1) (omega (arith, ints))
 pub three_true : (a b c d e f : Bool) → a ≡ d → b ≡ e → c ≡ f → (a && (b && (c && true))) ≡ (d && (e && f))
 three_true a b c d e f p q r = rw (p, q, r, and_true f) refl
 
-pub live_rows : (layout : Layout) (s : ℕ) (old new : State) (rows : List Row) → old.now.schema ≡ schema_of layout → Shown (reading_text SetsOf) (whole (s * 100) ∷ whole (s * 100 + 99) ∷ []) old new rows
+pub live_rows : (layout : Layout) (s : ℕ) (old new : State) (rows : List Row) → old.now.schema ≡ schema_of layout
+    → Shown (reading_text SetsOf) (whole (s * 100) ∷ whole (s * 100 + 99) ∷ []) old new rows
     → (columns : List SetColumns) → AreKept set_key set_row (old.now.trees (set_tree layout)) columns → Rising (filter (is_live_set s) columns) → rows ≡ map set_shown (filter (is_live_set s) columns)
 live_rows layout s old new rows schema h columns kept rise =
     let params = whole (s * 100) ∷ whole (s * 100 + 99) ∷ [] in
-    ranged params set_row (is_live_set s) (reading_query SetsOf layout).filter (λ c. three_true _ _ _ _ _ _ (test_at_least c.number (s * 100)) (test_at_most c.number (s * 100 + 99)) (test_off c.cancelled)) (λ c. c) set_key set_shown
-    0 (set_tree layout) (reading_query SetsOf layout).project (λ c. refl) (short_shows params) (overlay old.now.trees []) kept.ordered (filter (is_live_set s) columns) rows (sets_seen layout old.now.trees ∙ kept.rows_are)
+    ranged params set_row (is_live_set s) (reading_query SetsOf layout).filter
+    (λ c. three_true _ _ _ _ _ _ (test_at_least c.number (s * 100)) (test_at_most c.number (s * 100 + 99))
+    (test_off c.cancelled)) (λ c. c) set_key set_shown
+    0 (set_tree layout) (reading_query SetsOf layout).project (λ c. refl) (short_shows params)
+    (overlay old.now.trees []) kept.ordered (filter (is_live_set s) columns) rows
+    (sets_seen layout old.now.trees ∙ kept.rows_are)
     (same_told (filter (is_live_set s) kept.ordered) (IsPermutation-filter (is_live_set s) kept.ordered columns kept.same)) rise
     (answers SetsOf layout params old new rows schema h)
   where
@@ -140,8 +127,6 @@ live_rise s c sound =
 
 zip_live : (s : ℕ) (columns : List SetColumns) (sets : List SetRow) → AllZip IsSet columns sets → AllZip IsSet (filter (is_live_set s) columns) (filter (λ (row : SetRow). is_live_within s row.number row.cancelled) sets)
 zip_live s [] [] h = tt
-zip_live s [] (r ∷ sets) h = absurd h
-zip_live s (c ∷ columns) [] h = absurd h
 zip_live s (c ∷ columns) (r ∷ sets) h =
     let more = zip_live s columns sets h.1 in
     let same : is_live_set s c ≡ is_live_within s r.number r.cancelled = rw (h.0.number, h.0.cancelled) refl in
@@ -149,26 +134,24 @@ zip_live s (c ∷ columns) (r ∷ sets) h =
       | inl on ↦ rw (same, on) (h.0, more)
       | inr off ↦ rw (same, off) more
     ]
+zip_live s _ _ h = absurd h
 
 above_zipped : (m : ℕ) (columns : List SetColumns) (sets : List SetRow) → AllZip IsSet columns sets → AllByRecursion (λ (r : SetRow). m < r.number) sets → AllByRecursion (λ (c : SetColumns). m < c.number) columns
 above_zipped m [] [] h low = tt
-above_zipped m [] (r ∷ sets) h low = absurd h
-above_zipped m (c ∷ columns) [] h low = absurd h
 above_zipped m (c ∷ columns) (r ∷ sets) h low = (subst (λ n. m < n) (sym h.0.number) low.0, above_zipped m columns sets h.1 low.1)
+above_zipped m _ _ h low = absurd h
 
 rise_zipped : (columns : List SetColumns) (sets : List SetRow) → AllZip IsSet columns sets → IsAscending (λ (a b : SetRow). a.number < b.number) sets → Rising columns
 rise_zipped [] [] h rise = tt
-rise_zipped [] (r ∷ sets) h rise = absurd h
-rise_zipped (c ∷ columns) [] h rise = absurd h
 rise_zipped (c ∷ columns) (r ∷ sets) h rise = (above_zipped c.number columns sets h.1 (subst (λ n. AllByRecursion (λ (r : SetRow). n < r.number) sets) (sym h.0.number) rise.0), rise_zipped columns sets h.1 rise.1)
+rise_zipped _ _ h rise = absurd h
 
 all_told : (columns : List SetColumns) (sets : List SetRow) (told : List SetSummary) → AllZip IsSet columns sets → AllZip IsSummary (map short_of columns) told → told ≡ map set_summary sets
 all_told [] [] [] h is = refl
-all_told [] [] (t ∷ told) h is = absurd is
 all_told [] (r ∷ sets) told h is = absurd h
 all_told (c ∷ columns) [] told h is = absurd h
-all_told (c ∷ columns) (r ∷ sets) [] h is = absurd is
 all_told (c ∷ columns) (r ∷ sets) (t ∷ told) h is = λ i. summary_is c r t h.0 is.0 i ∷ all_told columns sets told h.1 is.1 i
+all_told _ _ _ h is = absurd is
 
 -- ---- the whole
 

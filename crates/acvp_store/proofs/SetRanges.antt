@@ -1,53 +1,27 @@
 -- Vector sets in ranges of numbers.
-use Rattle.std.proofs.Common.{◌≡◌, ◌≢◌, inl, inr, ◌<◌, ℕ, zero, suc, ℤ, List, [], ◌∷◌, ◌++◌, map, length, true, Option, Some, None, Ok, Err, Result, IfOk, IfErr, IsOk, refl, sym, ap, subst, ◌∙◌, arith}
-use Rattle.std.specs.Prelude.{⊤, drop, option_map, IsUtf8, IsOkAnd, MatchResult, MatchOption}
+use Rattle.std.proofs.Common.{◌≡◌, ◌≢◌, inl, inr, ◌<◌, ℕ, zero, suc, ℤ, List, [], ◌∷◌, ◌++◌, map, length, true, Option}
+use Rattle.std.proofs.Common.{Some, None, Ok, Err, Result, IfOk, IfErr, IsOk, refl, sym, ap, subst, ◌∙◌, arith}
 use Rattle.std.specs.Str.{is_utf8, IsAscii}
-use Rattle.std.specs.List.{AllByRecursion, AllZip, filter}
-use Rattle.std.specs.List.Sorted.{IsPermutation}
-use Rattle.std.proofs.lemmas.Bool.{cases_Bool}
-use Rattle.std.proofs.lemmas.List.Sorted.{IsPermutation-sym}
-use Rattle.std.proofs.lemmas.Str.{IsUtf8-from_is_utf8, IsUtf8-from_ascii}
-use Rattle.sqlite_trees.proofs.ListLemmas.{all_weaker, all-append, all-map, all-permutation, all-slice_get}
-use Rattle.sqlite.specs.Values.{or_null}
-use Rattle.sqlite.specs.declared.types.Value.{Value}
-use Rattle.sqlite.specs.declared.types.Value.TheVariants.{Null, Int, Text}
-use Rattle.sqlite.specs.Effect.{Database, IsDatabase}
-use Rattle.sqlite.specs.Order.{Row, column}
-use Rattle.sqlite.specs.Program.{overlay}
-use Rattle.sqlite.specs.Query.{IsAnswer}
-use Rattle.sqlite.specs.State.{State, Shown}
-use Rattle.sqlite.specs.Tree.{IsAscending, IsTable}
-use Rattle.sqlite.proofs.Callers.{reads_as}
-use Rattle.sqlite_catalog.specs.Listing.{IsSound}
-use Rattle.sqlite_schema.specs.Rules.{are_typed, passes}
-use Rattle.sqlite_schema.specs.declared.schema.Constraint.TheVariants.{Datatype}
 use Rattle.acvp_answers.specs.Answer.{Answer}
-use Rattle.acvp_answers.specs.VerdictText.{verdicts_text}
 use Rattle.acvp_answers.specs.declared.verdict.Verdict.{Verdict}
 use Rattle.acvp_answers.specs.declared.verdict.Verdict.TheVariants.{Passed, Missing, Fail}
 use Rattle.acvp_json.specs.KeptAnswers.{kept_answers}
-use Rattle.acvp_tables.specs.Graded.{GradedValue}
-use Rattle.acvp_tables.specs.declared.rows.SetRow.{SetRow}
-use Rattle.acvp_store.specs.Kept.{AreKept}
-use Rattle.acvp_store.specs.Ranges.{is_between, IsTree, IsRange, AreRangesBetween, joined, HasStrayRow, HasRowOutside, first_set, last_set, set_number, KeepsSets, IsSetRow, FitsSet}
-use Rattle.acvp_store.specs.Schema.{Layout, schema_of, set_table}
-use Rattle.acvp_store.specs.Stands.{SetColumns, set_key, set_row, set_tree, IsGradedAs, IsSet, HoldsSets}
-use Rattle.acvp_store.specs.Values.{whole, flag}
-use Rattle.acvp_store.specs.declared.ranges.RangeFault.{RangeFault}
-use Rattle.acvp_store.specs.declared.ranges.RangeFault.TheVariants.{Stray}
-use Rattle.acvp_store.specs.Private.Columns.{set_columns}
-use Rattle.acvp_store.specs.Private.SetRanges.{whole_shown, AreTexts, HasStraySet}
-use Rattle.acvp_store.specs.Private.Shown.{BeginsWith, AreLedBy, AreShown, IsText}
-use Rattle.acvp_store.specs.Private.Strays.{HasStray}
+use Rattle.acvp_store.proofs.Words.{all-append, all-map, all-permutation, all-slice_get, AllByRecursion, AllZip}
+use Rattle.acvp_store.proofs.Words.{are_typed, AreKept, AreRangesBetween, AreShown, AreTexts, BeginsWith, cases_Bool}
+use Rattle.acvp_store.proofs.Words.{column, Database, drop, filter, first_set, FitsSet, flag, GradedValue, HasStray}
+use Rattle.acvp_store.proofs.Words.{HasStrayRow, HasStraySet, HoldsSets, Int, is_between, IsAscending, IsDatabase}
+use Rattle.acvp_store.proofs.Words.{IsGradedAs, IsOkAnd, IsPermutation, IsPermutation-sym, IsRange, IsSet, IsSetRow}
+use Rattle.acvp_store.proofs.Words.{IsTable, IsText, IsTree, IsUtf8, IsUtf8-from_ascii, IsUtf8-from_is_utf8, joined}
+use Rattle.acvp_store.proofs.Words.{KeepsSets, last_set, Layout, MatchOption, MatchResult, Null, option_map, or_null}
+use Rattle.acvp_store.proofs.Words.{RangeFault, Row, schema_of, set_columns, set_key, set_number, set_row, set_table}
+use Rattle.acvp_store.proofs.Words.{set_tree, SetColumns, SetRow, Stray, Text, Value, verdicts_text, whole, whole_shown}
+use Rattle.acvp_store.proofs.Words.{⊤}
 use Rattle.acvp_store.proofs.Readings.{SetRange, answers, set_terms}
 use Rattle.acvp_store.proofs.Places.{sets_at, sets_seen}
-use Rattle.acvp_store.proofs.QueryRows.{selected_in_order}
-use Rattle.acvp_store.proofs.RangeColumns.{Meets, Orders, left_true, not_longer, null_is, range_in_order, range_met, typed_at, with_null}
+use Rattle.acvp_store.proofs.RangeColumns.{Meets, Orders, left_true, not_longer, null_is, range_in_order, range_met}
+use Rattle.acvp_store.proofs.RangeColumns.{typed_at, with_null}
 use Rattle.acvp_store.proofs.RangeJoins.{flag_once, option_once, kept_tree, kept_nothing, kept_both, sets_whole}
-use Rattle.acvp_store.proofs.RangeOutside.{is_outside, none_outside, number_told}
-use Rattle.acvp_store.proofs.RangeRows.{test_between, in_tree_order}
 use Rattle.acvp_store.proofs.RangeStrays.{row_shown, zip_at, stray_row, stray_shown}
-use Rattle.acvp_store.proofs.Versions.{map_same}
 use Rattle.acvp_store.proofs.Writings.{set_place}
 
 -- ---- what the schema says of a row
@@ -130,8 +104,7 @@ rows_through f l table (Ok x) rows_in (Ok b) items (Ok s) told ok_found ok_resul
 text_once : (a b : Option (List ℕ)) → or_null Text a ≡ or_null Text b → a ≡ b
 text_once None None is = refl
 text_once (Some m) (Some n) is = cc
-text_once None (Some n) is = absurd (cc)
-text_once (Some m) None is = absurd (cc)
+text_once _ _ is = absurd (cc)
 
 pub once : (a b : SetColumns) → set_row a ≡ set_row b → a ≡ b
 once a b is =
@@ -180,9 +153,8 @@ IsOne c = (s : SetRow) × FitsSet s × IsSetRow (set_row c) s
 
 of_one : (columns : List SetColumns) (sets : List SetRow) → AllZip IsSet columns sets → AllByRecursion (λ c. IsUtf8 c.capability) columns → AllByRecursion IsOne columns
 of_one [] [] zip utf8 = tt
-of_one [] (s ∷ sets) zip utf8 = absurd zip
-of_one (c ∷ columns) [] zip utf8 = absurd zip
 of_one (c ∷ columns) (s ∷ sets) zip utf8 = ((s, tt, (c, refl, zip.0, utf8.0)), of_one columns sets zip.1 utf8.1)
+of_one _ _ zip utf8 = absurd zip
 
 each : (rows : List Row) (sets : List SetRow) → AllByRecursion FitsSet sets → KeepsSets rows sets → AllByRecursion (λ row. (s : SetRow) × FitsSet s × IsSetRow row s) rows
 each rows sets fits keeps =
@@ -222,9 +194,8 @@ stray_through f l table (Ok x) rows_in (Err before) items (Err fault) ok shown s
 
 zip_append : (columns more : List SetColumns) (sets others : List SetRow) → AllZip IsSet columns sets → AllZip IsSet more others → AllZip IsSet (columns ++ more) (sets ++ others)
 zip_append [] more [] others a b = b
-zip_append [] more (s ∷ sets) others a b = absurd a
-zip_append (c ∷ columns) more [] others a b = absurd a
 zip_append (c ∷ columns) more (s ∷ sets) others a b = (a.0, zip_append columns more sets others a.1 b)
+zip_append _ more _ others a b = absurd a
 
 keeps_none : KeepsSets [] []
 keeps_none = record { kept = record { columns = []; kept = kept_nothing set_key set_row (λ c. refl); same = tt }; texts = tt }

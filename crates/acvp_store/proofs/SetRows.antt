@@ -1,59 +1,34 @@
 -- The statements on vector sets.
-use Rattle.std.proofs.Common.{◌≡◌, ◌⊎◌, inl, inr, ◌<◌, ◌≤◌, ◌^◌, ℕ, ℤ, pos, negsuc, List, [], ◌∷◌, ◌++◌, ◌+◌, ◌*◌, map, length, append_assoc, Bool, true, false, Option, Some, None, Ok, Err, Result, IfOk, IsOk, slice_get, refl, sym, ap, subst, ◌∙◌, arith}
-use Rattle.std.specs.Prelude.{◌==◌, drop, find, is_none, option_map, if◌then◌else◌}
-use Rattle.std.specs.List.{filter, list_all, AllZip}
-use Rattle.std.specs.List.Sorted.{IsPermutation}
-use Rattle.std.proofs.lemmas.Bool.{cases_Bool}
-use Rattle.sqlite.specs.declared.types.Value.TheVariants.{Null, Int, Text}
-use Rattle.sqlite.specs.Order.{Row}
-use Rattle.sqlite.specs.Ops.{is_true, binary}
-use Rattle.sqlite.specs.Collation.TheVariants.{Binary}
-use Rattle.sqlite.specs.Program.{overlay}
-use Rattle.sqlite.specs.State.{State, Shown, mode_of}
-use Rattle.sqlite.specs.Values.{or_null}
-use Rattle.sqlite.specs.Command.TheVariants.{Insert, Select, Update}
-use Rattle.sqlite.specs.Source.TheVariants.{Values}
-use Rattle.sqlite.specs.Cast.{cast_row}
-use Rattle.sqlite.specs.Term.{Term, col, holds, eval_all}
-use Rattle.sqlite.specs.Effect.{Database}
-use Rattle.sqlite.specs.Does.{Tally, Does}
-use Rattle.sqlite.specs.Listing.{understood, reads_listing}
-use Rattle.sqlite_rules.specs.Calls.{ids_of}
-use Rattle.sqlite.proofs.Callers.{IsPlain, command_of, reads_as, statement_of}
-use Rattle.sqlite_sql.specs.declared.ops.BinaryOp.TheVariants.{Compare, Is}
-use Rattle.sqlite_sql.specs.declared.ops.CompareOp.TheVariants.{Eq}
-use Rattle.sqlite_catalog.proofs.ListFacts.{zip_push}
-use Rattle.sqlite_trees.proofs.ListLemmas.{map-map}
+use Rattle.std.proofs.Common.{◌≡◌, inl, inr, ◌<◌, ◌^◌, ℕ, ℤ, List, [], ◌∷◌, ◌++◌, ◌+◌, ◌*◌, map, length, append_assoc}
+use Rattle.std.proofs.Common.{true, false, Option, Some, None, Ok, Result, IfOk, IsOk, slice_get, refl, sym, ap, subst}
+use Rattle.std.proofs.Common.{◌∙◌, arith}
+use Rattle.std.specs.Prelude.{◌==◌, if◌then◌else◌}
 use Rattle.acvp_caps.specs.Capability.{CapabilityValue}
 use Rattle.acvp_caps.specs.Registered.{registered_text}
-use Rattle.acvp_answers.specs.VerdictText.{verdicts_text}
 use Rattle.acvp_answers.specs.Verdicts.{disposition_of}
 use Rattle.acvp_answers.specs.declared.verdict.Verdict.{Verdict}
 use Rattle.acvp_answers.specs.declared.verdict.Disposition.{Disposition}
-use Rattle.acvp_answers.specs.declared.verdict.Disposition.TheVariants.{Passed, Fail, Missing, Expired, Unreceived}
-use Rattle.acvp_json.specs.KeptAnswers.{kept_text, kept_answers}
-use Rattle.acvp_tables.specs.Content.{set_at, set_summary, set_verdicts}
-use Rattle.acvp_tables.specs.Changes.{changed, is_set, cancelled_set, with_graded, new_sets}
-use Rattle.acvp_tables.specs.Graded.{GradedValue}
-use Rattle.acvp_tables.specs.declared.rows.SetRow.{SetRow}
-use Rattle.acvp_tables.specs.declared.summary.SetSummary.{SetSummary}
-use Rattle.acvp_store.specs.Values.{whole, flag}
-use Rattle.acvp_store.specs.Schema.{Layout, schema_of, set_table}
-use Rattle.acvp_store.specs.Alters.{Alters}
-use Rattle.acvp_store.specs.Connection.{UnderStore, Both}
-use Rattle.acvp_store.specs.Kept.{AreKept}
-use Rattle.acvp_store.specs.Stands.{SetColumns, set_key, set_row, set_tree, disposition_number, IsGradedAs, IsSet, HoldsSets}
-use Rattle.acvp_store.specs.Private.Sets.{ShortColumns, short_shown, short_of, read_shown, read_of, IsDispositionOf, IsGiven, IsSummary, IsSummaryOf, new_set, AddsSets}
-use Rattle.acvp_store.specs.Private.SetTexts.{text_shown, TellsCapability, AreVerdictsOf}
-use Rattle.acvp_store.proofs.Keyed.{none_passes, keyed, changing, keyed_same, find_is, none_fits}
-use Rattle.acvp_store.proofs.Parts.{and_true, cast_null, cast_whole, cast_flag, cast_option, cast_text_option}
-use Rattle.acvp_store.proofs.SelectedRows.{null_flag, test_equals, test_none, selected}
+use Rattle.acvp_answers.specs.declared.verdict.Disposition.TheVariants.{Passed, Fail, Missing}
+use Rattle.acvp_store.proofs.Words.{AddsSets, AllZip, Alters, AreKept, AreVerdictsOf, Binary, binary, Both}
+use Rattle.acvp_store.proofs.Words.{cancelled_set, cases_Bool, cast_row, changed, col, Database, disposition_number}
+use Rattle.acvp_store.proofs.Words.{Does, eval_all, find, flag, GradedValue, HoldsSets, Int, Is, is_none, is_set}
+use Rattle.acvp_store.proofs.Words.{IsDispositionOf, IsGiven, IsGradedAs, IsPermutation, IsSet, IsSummary, IsSummaryOf}
+use Rattle.acvp_store.proofs.Words.{kept_answers, kept_text, Layout, map-map, mode_of, new_set, new_sets, Null}
+use Rattle.acvp_store.proofs.Words.{option_map, or_null, read_of, read_shown, Row, schema_of, set_at, set_key, set_row}
+use Rattle.acvp_store.proofs.Words.{set_summary, set_table, set_tree, set_verdicts, SetColumns, SetRow, SetSummary}
+use Rattle.acvp_store.proofs.Words.{short_of, short_shown, ShortColumns, State, Tally, TellsCapability, Term, Text}
+use Rattle.acvp_store.proofs.Words.{text_shown, UnderStore, verdicts_text, whole, with_graded, zip_push}
+use Rattle.acvp_store.proofs.Keyed.{keyed, changing, keyed_same, find_is}
+use Rattle.acvp_store.proofs.Parts.{cast_null, cast_whole, cast_flag, cast_option, cast_text_option}
+use Rattle.acvp_store.proofs.SelectedRows.{null_flag}
 use Rattle.acvp_store.proofs.Effects.{insert_effect, spares_then, update_effect}
 use Rattle.acvp_store.proofs.Places.{sets_at, sets_seen}
 use Rattle.acvp_store.proofs.QueryForms.{equals, simple}
-use Rattle.acvp_store.proofs.Readings.{CapabilityAt, Reading, SetAt, VerdictsAt, answers, read_terms, reading_query, short_terms}
-use Rattle.acvp_store.proofs.Writings.{Effects, SetAdded, SetCancelled, SetGraded, set_place, update, updating, writing_terms}
-use Rattle.acvp_store.proofs.RowsAt.{ShowsAt, rows_at}
+use Rattle.acvp_store.proofs.Readings.{CapabilityAt, Reading, SetAt, VerdictsAt, answers, read_terms, reading_query}
+use Rattle.acvp_store.proofs.Readings.{short_terms}
+use Rattle.acvp_store.proofs.Writings.{Effects, SetAdded, SetCancelled, SetGraded, set_place, update, updating}
+use Rattle.acvp_store.proofs.Writings.{writing_terms}
+use Rattle.acvp_store.proofs.QueryRows.{ShowsAt, rows_at}
 use Rattle.acvp_store.proofs.Told.{told_through}
 
 abbrev pub set_shown : SetColumns → Row
@@ -78,7 +53,8 @@ not_given c text number v n none (Some d) is =
 
 -- ---- the rows of a number
 
-set_rows_at : (r : Reading) (layout : Layout) (project : List Term) → reading_query r layout ≡ simple (set_tree layout) (equals 0 0 ∷ []) project
+set_rows_at : (r : Reading) (layout : Layout) (project : List Term) → reading_query r layout
+    ≡ simple (set_tree layout) (equals 0 0 ∷ []) project
     → (show : SetColumns → Row) → ((k : ℤ) (c : SetColumns) → eval_all project ((Int k ∷ []) ∷ set_row c ∷ []) ≡ show c)
     → ShowsAt r layout (set_tree layout) set_key set_row show
 set_rows_at r layout project is show shows =
@@ -105,8 +81,7 @@ back_is : (d : Disposition) (n : ℕ) → disposition_number d ≡ Some n → ba
 back_is Fail n h = let e : 0 ≡ n = cc in subst (λ k. back k ≡ Fail) e refl
 back_is Missing n h = let e : 1 ≡ n = cc in subst (λ k. back k ≡ Missing) e refl
 back_is Passed n h = let e : 2 ≡ n = cc in subst (λ k. back k ≡ Passed) e refl
-back_is Expired n h = absurd (cc)
-back_is Unreceived n h = absurd (cc)
+back_is _ n h = absurd (cc)
 
 told : (c : SetColumns) (g : Option GradedValue) (d : Option Disposition) → IsGradedAs c g → IsDispositionOf (short_of c) d → d ≡ option_map (λ (g : GradedValue). g.disposition) g
 told c None None h is = refl
@@ -137,12 +112,11 @@ module _ {B Y : Type 0} (of : SetColumns → B) (Tells : Option B → Y → Type
     (some : (c : SetColumns) (row : SetRow) (y : Y) → IsSet c row → Tells (Some (of c)) y → y ≡ pick (Some row)) (n : ℕ) where
   told_of : (columns : List SetColumns) (sets : List SetRow) (y : Y) → AllZip IsSet columns sets → Tells (option_map of (find (λ c. c.number == n) columns)) y → y ≡ pick (set_at n sets)
   told_of [] [] y h is = none y is
-  told_of [] (r ∷ sets) y h is = absurd h
-  told_of (c ∷ columns) [] y h is = absurd h
   told_of (c ∷ columns) (r ∷ sets) y h is = elim (cases_Bool (r.number == n)) [
     | inl same ↦ let at : (c.number == n) ≡ true = ap (λ k. k == n) h.0.number ∙ same in rw same (some c r y h.0 (rw at at is))
     | inr apart ↦ let at : (c.number == n) ≡ false = ap (λ k. k == n) h.0.number ∙ apart in rw apart (told_of columns sets y h.1 (rw at at is))
   ]
+  told_of _ _ y h is = absurd h
 
   first_of : (xs : List SetColumns) → slice_get (map of xs) 0 ≡ option_map of (slice_get xs 0)
   first_of [] = refl
@@ -189,8 +163,6 @@ verdicts_told c row told h is = go row.graded h.graded
 zip_changed : (n : ℕ) (f : SetColumns → SetColumns) (g : SetRow → SetRow) → ((c : SetColumns) (row : SetRow) → IsSet c row → IsSet (f c) (g row))
     → (columns : List SetColumns) (sets : List SetRow) → AllZip IsSet columns sets → AllZip IsSet (map (changing set_key n f) columns) (changed (is_set n) g sets)
 zip_changed n f g turns [] [] h = tt
-zip_changed n f g turns [] (r ∷ sets) h = absurd h
-zip_changed n f g turns (c ∷ columns) [] h = absurd h
 zip_changed n f g turns (c ∷ columns) (r ∷ sets) h = (
   elim (cases_Bool (r.number == n)) [
     | inl same ↦ let at : (c.number == n) ≡ true = ap (λ k. k == n) h.0.number ∙ same in rw (at, same) (turns c r h.0)
@@ -198,21 +170,27 @@ zip_changed n f g turns (c ∷ columns) (r ∷ sets) h = (
   ],
   zip_changed n f g turns columns sets h.1,
 )
+zip_changed n f g turns _ _ h = absurd h
 
 casts : (tree : ℕ) (c : SetColumns) → cast_row (set_table tree) (set_row c) ≡ set_row c
-casts tree c = rw (cast_whole c.number, cast_null, cast_whole c.session, cast_flag c.cancelled, cast_text_option c.answers, cast_text_option c.verdicts, cast_option c.disposition, cast_whole c.epoch) refl
+casts tree c = rw (cast_whole c.number, cast_null, cast_whole c.session, cast_flag c.cancelled)
+    (rw (cast_text_option c.answers, cast_text_option c.verdicts)
+    (rw (cast_option c.disposition, cast_whole c.epoch) refl))
 
 -- An UPDATE of the set of a number
 module _ (layout : Layout) (old : State) (n : ℕ) (terms : List Term) (more : Row) (f : SetColumns → SetColumns)
     (keeps : (c : SetColumns) → (f c).number ≡ c.number)
-    (shows : (c : SetColumns) → eval_all (updating terms) ((whole n ∷ more) ∷ set_row c ∷ []) ≡ whole c.number ∷ set_row (f c))
+    (shows : (c : SetColumns) → eval_all (updating terms) ((whole n ∷ more) ∷ set_row c ∷ [])
+    ≡ whole c.number ∷ set_row (f c))
     (g : SetRow → SetRow) (turns : (c : SetColumns) (row : SetRow) → IsSet c row → IsSet (f c) (g row)) where
   set_effect : old.now.schema ≡ schema_of layout → (tally : Tally) (after : Database)
-      → Does old.step_limit (mode_of old) (whole n ∷ more) old.now [] None (update (set_place layout) (set_tree layout) terms) (Ok (tally, after))
+      → Does old.step_limit (mode_of old) (whole n ∷ more) old.now [] None
+      (update (set_place layout) (set_tree layout) terms) (Ok (tally, after))
       → Alters layout (set_tree layout) HoldsSets (changed (is_set n) g) old.now after
   set_effect schema tally after does =
       let tree = set_tree layout in
-      let made = update_effect layout set_key set_row (λ x. refl) (set_place layout) (set_table tree) (sets_at layout) (sets_seen layout) (casts tree) terms n more f keeps shows old schema tally after does in
+      let made = update_effect layout set_key set_row (λ x. refl) (set_place layout) (set_table tree) (sets_at layout)
+      (sets_seen layout) (casts tree) terms n more f keeps shows old schema tally after does in
       record {
         schema = made.schema;
         kept = λ sets h. record { columns = map (changing set_key n f) h.columns; kept = made.kept h.columns h.kept; same = zip_changed n f g turns h.columns sets h.same };
@@ -229,7 +207,8 @@ graded_off c None h = h
 graded_off c (Some g) h = h
 
 pub cancel_set_effect : (layout : Layout) (old : State) (n : ℕ)
-    → Effects SetCancelled layout (whole n ∷ []) old (Alters layout (set_tree layout) HoldsSets (changed (is_set n) cancelled_set))
+    → Effects SetCancelled layout (whole n ∷ []) old
+    (Alters layout (set_tree layout) HoldsSets (changed (is_set n) cancelled_set))
 cancel_set_effect layout old n =
     set_effect layout old n (writing_terms SetCancelled) [] off (λ c. refl) (λ c. refl) cancelled_set
     (λ c row is. record { number = is.number; session = is.session; capability = is.capability; cancelled = refl; graded = graded_off c row.graded is.graded; epoch = is.epoch })
@@ -243,7 +222,8 @@ abbrev pub grade_params : ℕ → List ℕ → List ℕ → ℕ → Row
 grade_params n answers verdicts disposition = whole n ∷ Text answers ∷ Text verdicts ∷ whole disposition ∷ []
 
 -- the columns are those of graded answers
-pub grade_effect : (layout : Layout) (old : State) (n : ℕ) (g : GradedValue) (answers verdicts : List ℕ) (disposition : ℕ)
+pub grade_effect : (layout : Layout) (old : State) (n : ℕ) (g : GradedValue) (answers verdicts : List ℕ)
+    (disposition : ℕ)
     → answers ≡ kept_text g.answers → kept_answers answers ≡ Some g.answers → verdicts ≡ verdicts_text g.verdicts
     → disposition_number g.disposition ≡ Some disposition → g.disposition ≡ disposition_of g.verdicts
     → Effects SetGraded layout (grade_params n answers verdicts disposition) old
@@ -261,18 +241,32 @@ new_columns number session text epoch = record { number = number; session = sess
 abbrev pub add_set_params : ℕ → ℕ → List ℕ → ℕ → Row
 add_set_params number session text epoch = whole number ∷ whole session ∷ Text text ∷ whole epoch ∷ []
 
-pub add_set_effect : (layout : Layout) (old : State) (number session : ℕ) (capability : CapabilityValue) (text : List ℕ) (epoch : ℕ)
+pub add_set_effect : (layout : Layout) (old : State) (number session : ℕ) (capability : CapabilityValue) (text : List ℕ)
+    (epoch : ℕ)
     → registered_text text ≡ Ok (Some capability) → number < 2 ^ 63
     → Effects SetAdded layout (add_set_params number session text epoch) old
     (AddsSets layout (new_set number session capability epoch ∷ []))
 add_set_effect layout old number session capability text epoch reads low schema tally after does =
     let columns = new_columns number session text epoch in
-    let made = insert_effect layout set_key set_row (λ x. refl) (set_place layout) _ _ _ _ (sets_at layout) (casts (set_tree layout))
-    (writing_terms SetAdded) 9 (add_set_params number session text epoch) columns refl low old schema tally after does in
-    let is : IsSet columns (new_set number session capability epoch) = record { number = refl; session = refl; capability = reads; cancelled = refl; graded = (refl, refl, refl); epoch = refl } in
+    let made = insert_effect layout set_key set_row (λ x. refl) (set_place layout) _ _ _ _ (sets_at layout)
+    (casts (set_tree layout))
+    (writing_terms SetAdded) 9 (add_set_params number session text epoch) columns refl low old schema tally after
+    does in
+    let is : IsSet columns (new_set number session capability epoch) = record {
+      number = refl;
+      session = refl;
+      capability = reads;
+      cancelled = refl;
+      graded = (refl, refl, refl);
+      epoch = refl;
+    } in
     record {
       schema = made.schema;
-      kept = λ sets h. record { columns = h.columns ++ columns ∷ []; kept = made.kept h.columns h.kept; same = zip_push IsSet h.columns sets _ _ h.same is };
+      kept = λ sets h. record {
+        columns = h.columns ++ columns ∷ [];
+        kept = made.kept h.columns h.kept;
+        same = zip_push IsSet h.columns sets _ _ h.same is;
+      };
       others = made.others;
     }
 

@@ -1,17 +1,18 @@
 -- A text that is a SELECT has no RETURNING, whatever the schema.
-use Rattle.std.proofs.Common.{◌≡◌, ℕ, ◌+◌, inl, inr, List, Bool, true, false, Option, None, Ok, Err, refl, sym, ap, subst, ◌∙◌}
-use Rattle.std.proofs.lemmas.Bool.{cases_Bool}
+use Rattle.std.proofs.Common.{◌≡◌, ℕ, ◌+◌, inl, inr, List, Bool, true, false, Option, None, Ok, Err, refl, sym, ap}
+use Rattle.std.proofs.Common.{subst, ◌∙◌}
 use Rattle.sqlite_ast.specs.declared.Statement.{Statement}
 use Rattle.sqlite_ast.specs.declared.Statement.TheVariants as written
 use Rattle.sqlite_syntax.specs.declared.statement.Parsed.{Parsed}
 use Rattle.sqlite_schema.specs.declared.schema.Schema.{Schema}
 use Rattle.sqlite_resolve.specs.Lowering.{Checked, and_then}
-use Rattle.sqlite_resolve.specs.Compile.{first, compiled, planned, meaning, returning, command, timed, small}
+use Rattle.sqlite_resolve.specs.Compile.{compiled, planned, meaning, returning, timed}
 use Rattle.sqlite_resolve.specs.declared.compiled.Compiled.{Compiled}
-use Rattle.sqlite.specs.Listing.{understood, reads_listing, listing_schema, if_select, is_select}
-use Rattle.sqlite.specs.State.{State, CommitsShowing}
-use Rattle.sqlite.specs.Order.{Row}
+use Rattle.sqlite.specs.Listing.{understood}
+use Rattle.sqlite.specs.State.{CommitsShowing}
 use Rattle.sqlite_trees.specs.Tree.{Trees}
+use Rattle.acvp_store.proofs.Words.{cases_Bool, command, first, if_select, is_select, listing_schema, reads_listing}
+use Rattle.acvp_store.proofs.Words.{Row, small, State}
 
 abbrev pub asks_by : Statement → Bool
 asks_by (written.Select s) = true

@@ -1,18 +1,12 @@
 -- What the requests of well numbered rows ask to register.
 use Rattle.std.proofs.Common.{inl, inr, ◌≡◌, ◌<◌, ℕ, List, [], ◌∷◌, Bool, true, false, not, refl, arith}
-use Rattle.std.specs.Prelude.{◌==◌, ◌&&◌, is_some}
-use Rattle.std.specs.List.{filter, list_all, AllByRecursion}
-use Rattle.std.proofs.lemmas.Bool.{cases_Bool}
-use Rattle.std.proofs.lemmas.Bool.Decides.{nat_tests}
-use Rattle.acvp_registry.specs.Object.{KeptObject, is_fit, object_fault}
-use Rattle.acvp_registry.specs.declared.kind.Kind.{Kind}
-use Rattle.acvp_registry.specs.declared.kind.Kind.TheVariants.{Vendor, Module, Environment, Certification}
-use Rattle.acvp_tables.specs.Content.{Content, kind_number}
-use Rattle.acvp_tables.specs.State.{State, state_of, own, IsWellNumbered, AreWellNumbered, is_sound_body}
-use Rattle.acvp_tables.specs.declared.rows.RequestBody.{RequestBody}
+use Rattle.std.specs.Prelude.{◌==◌, ◌&&◌}
+use Rattle.acvp_registry.specs.Object.{is_fit, object_fault}
+use Rattle.acvp_tables.specs.State.{State, state_of, own, IsWellNumbered}
 use Rattle.acvp_tables.specs.declared.rows.RequestBody.TheVariants as body
-use Rattle.acvp_tables.specs.declared.rows.RequestRow.{RequestRow}
-use Rattle.acvp_store.specs.Private.Objects.{IsOfKind}
+use Rattle.acvp_store.proofs.Words.{AllByRecursion, AreWellNumbered, cases_Bool, Certification, Content, Environment}
+use Rattle.acvp_store.proofs.Words.{filter, is_some, is_sound_body, IsOfKind, KeptObject, Kind, kind_number, list_all}
+use Rattle.acvp_store.proofs.Words.{Module, nat_tests, RequestBody, RequestRow, Vendor}
 
 pub first_of : (a b : Bool) → (a && b) ≡ true → a ≡ true
 first_of true b h = refl

@@ -1,26 +1,18 @@
 -- What the texts of the statements mean that make the tables, tell their version or migrate them.
 use Rattle.std.proofs.Common.{◌≡◌, refl, Ok, [], ◌∷◌, ◌++◌, List, ℕ, codes, pos, true, false}
 use Rattle.std.specs.Fmt.{digits}
-use Rattle.sqlite.specs.Collation.TheVariants.{Binary}
 use Rattle.sqlite.specs.Change.{created}
 use Rattle.sqlite.specs.Compile.{table_defined_by}
-use Rattle.sqlite.specs.Command.TheVariants.{Insert, Select, CreateTable, Delete}
-use Rattle.sqlite.specs.declared.types.Value.TheVariants.{Null, Int, Text}
-use Rattle.sqlite.specs.Listing.{understood, reads_listing}
-use Rattle.sqlite.specs.Query.{Query}
-use Rattle.sqlite.specs.Schema.{Schema}
+use Rattle.sqlite.specs.Listing.{understood}
 use Rattle.sqlite.specs.Source.TheVariants as source
-use Rattle.sqlite.specs.Term.{lit, col, op2}
 use Rattle.sqlite_resolve.specs.Compile.{first}
-use Rattle.sqlite_schema.specs.declared.command.Command.{Command}
-use Rattle.sqlite_sql.specs.declared.ops.BinaryOp.TheVariants.{Compare}
-use Rattle.sqlite_sql.specs.declared.ops.CompareOp.TheVariants.{Eq}
 use Rattle.sqlite_tied.specs.Compute.{everything}
-use Rattle.sqlite.proofs.Callers.{IsPlain, command_of, statement_of}
-use Rattle.acvp_store.specs.Schema.{Created, Migrated, schema_of, SchemaVersion, Second, Third, schema_at, first_schema, second_schema}
-use Rattle.acvp_store.specs.Private.Creating.{text_of, table_of, before}
 use Rattle.acvp_store.specs.declared.setup.StoreTable.{StoreTable}
 use Rattle.acvp_store.specs.declared.setup.StoreTable.TheVariants as table
+use Rattle.acvp_store.proofs.Words.{before, Binary, col, Command, command_of, Compare, Created, CreateTable, Delete, Eq}
+use Rattle.acvp_store.proofs.Words.{first_schema, Insert, Int, IsPlain, lit, Migrated, Null, op2, Query, reads_listing}
+use Rattle.acvp_store.proofs.Words.{Schema, schema_at, schema_of, SchemaVersion, Second, second_schema, Select}
+use Rattle.acvp_store.proofs.Words.{statement_of, table_of, Text, text_of, Third}
 use Rattle.acvp_store.proofs.QueryForms.{equals, simple, collated}
 use Rattle.acvp_store.proofs.Silent.{asks}
 

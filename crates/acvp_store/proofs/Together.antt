@@ -1,21 +1,16 @@
 -- The parts of a transaction, and the whole of one.
-use Rattle.std.proofs.Common.{◌≡◌, inl, inr, ℕ, List, true, false, None, Ok, Err, Result, IsTrue, IsOk, OnOk, refl, sym, ap, subst, ◌∙◌}
-use Rattle.std.proofs.lemmas.Bool.{cases_Bool}
-use Rattle.sqlite.specs.Order.{Row}
-use Rattle.sqlite.specs.declared.error.Error.{Error}
+use Rattle.std.proofs.Common.{◌≡◌, inl, inr, ℕ, List, true, false, None, Ok, Err, Result, IsTrue, IsOk, OnOk, refl, sym}
+use Rattle.std.proofs.Common.{ap, subst, ◌∙◌}
 use Rattle.sqlite_trees.specs.Tree.{Trees}
-use Rattle.sqlite.specs.Effect.{Database}
-use Rattle.sqlite.specs.State.{State, HasCleanDisk, Survives, IsRolledBack, ExecutesInside, Shows, Runs, Writes, mode_of}
+use Rattle.sqlite.specs.State.{Writes}
 use Rattle.sqlite.specs.Steps.{FailsToCommit}
-use Rattle.sqlite.specs.Does.{Tally, Does}
-use Rattle.sqlite.specs.Listing.{understood}
 use Rattle.sqlite.specs.Given.{IsPlain}
 use Rattle.sqlite.proofs.StateLemmas.{survives_then}
-use Rattle.sqlite.proofs.Callers.{command_of, statement_of, runs_as}
-use Rattle.sqlite_schema.specs.declared.command.Command.{Command}
 use Rattle.sqlite_schema.specs.declared.schema.Schema.{Schema}
-use Rattle.acvp_store.specs.Schema.{Layout, Created, schema_of}
-use Rattle.acvp_store.specs.Connection.{IsReady, Stays, IsWritten, Kept, IsInside, Under, UnderStore, Both}
+use Rattle.acvp_store.proofs.Words.{Both, cases_Bool, Command, command_of, Created, Database, Does, Error}
+use Rattle.acvp_store.proofs.Words.{ExecutesInside, HasCleanDisk, IsInside, IsReady, IsRolledBack, IsWritten, Kept}
+use Rattle.acvp_store.proofs.Words.{Layout, mode_of, Row, Runs, runs_as, schema_of, Shows, State, statement_of, Stays}
+use Rattle.acvp_store.proofs.Words.{Survives, Tally, Under, understood, UnderStore}
 use Rattle.acvp_store.proofs.QueryLeaves.{clean_before, clean_if_open}
 
 inside_kept : (sql : List ℕ) (params : Row) (old new : State) (r : Result ℕ Error) → ExecutesInside 0 sql params old new r → Kept old new
@@ -73,16 +68,22 @@ inside_as (Err e) (Ok y) old new Change same h = absurd (let impossible = same r
 inside_as r (Err f) old new Change same h = record { kept = h.kept; ok = tt; survives = h.survives }
 
 -- of a connection that is clean while it is open, as another answer tells of it
-module _ (schema : Schema) (sql : List ℕ) (params : Row) (old new : State) (law : new.is_clean ≡ false → new.is_open ≡ false)
+module _ (schema : Schema) (sql : List ℕ) (params : Row) (old new : State)
+    (law : new.is_clean ≡ false → new.is_open ≡ false)
     (command : Command) (is : (command_of (understood schema sql) ≡ command) × IsPlain (understood schema sql))
     (writes : (count : ℕ) → Runs old new None command (statement_of sql (understood schema sql)) params count → Writes old new None command (statement_of sql (understood schema sql)) params count)
-    {X E : Type 0} (r : Result ℕ Error) (q : Result X E) (same : IsOk q → IsOk r) (runs : HasCleanDisk new → IsTrue old.in_transaction → ExecutesInside 0 sql params old new r)
-    (ended : old.in_transaction ≡ false → new ≡ old) (survives : Survives old new (λ _. ⊥)) (Effect : Database → Database → Type 0) where
-  pub does_inside : (old.now.schema ≡ schema → (tally : Tally) (after : Database) → Does old.step_limit (mode_of old) params old.now (statement_of sql (understood schema sql)) None command (Ok (tally, after)) → Effect old.now after)
+    {X E : Type 0} (r : Result ℕ Error) (q : Result X E) (same : IsOk q → IsOk r)
+    (runs : HasCleanDisk new → IsTrue old.in_transaction → ExecutesInside 0 sql params old new r)
+    (ended : old.in_transaction ≡ false → new ≡ old) (survives : Survives old new (λ _. ⊥))
+    (Effect : Database → Database → Type 0) where
+  pub does_inside : (old.now.schema ≡ schema → (tally : Tally) (after : Database)
+      → Does old.step_limit (mode_of old) params old.now (statement_of sql (understood schema sql)) None command
+      (Ok (tally, after)) → Effect old.now after)
       → IsInside q old new (Under schema Effect)
   does_inside effect =
       inside_as r q old new (Under schema Effect) same
-      (inside schema sql params old new (clean_if_open new.is_clean new.is_open law) command is.0 is.1 writes Effect effect r runs ended survives)
+      (inside schema sql params old new (clean_if_open new.is_clean new.is_open law) command is.0 is.1 writes Effect
+      effect r runs ended survives)
 
 pub inside_turned : {X E : Type 0} (r : Result X E) (old new : State) (P Q : Database → Database → Type 0) → ((d e : Database) → P d e → Q d e) → IsInside r old new P → IsInside r old new Q
 inside_turned (Ok x) old new P Q turns h = record { kept = h.kept; ok = λ live on clean. let it = h.ok live on clean in (it.0, it.1, turns _ _ it.2); survives = h.survives }

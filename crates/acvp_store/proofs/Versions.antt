@@ -1,34 +1,27 @@
--- Whether the table `meta` names the version.
-use Rattle.std.proofs.Common.{inl, inr, ◌≡◌, ℕ, List, [], ◌∷◌, map, length, Bool, true, false, Ok, Err, Result, IfOk, IsOk, codes, refl, sym, ap, subst, ◌∙◌, arith}
-use Rattle.std.specs.Prelude.{◌==◌, nat_lt}
-use Rattle.std.specs.List.{filter, list_any}
-use Rattle.std.specs.List.Sorted.{IsPermutation}
-use Rattle.std.specs.Ordering.{is_eq}
-use Rattle.std.proofs.lemmas.Bool.Decides.{nat_tests}
+-- The version of the tables, and whether they are those of one.
+use Rattle.std.proofs.Common.{inl, inr, ◌≡◌, ℕ, List, [], ◌∷◌, map, length, true, false, Ok, Err, Result, codes, refl}
+use Rattle.std.proofs.Common.{sym, ap, subst, ◌∙◌, arith, ◌≢◌, ◌⊎◌, ◌+◌, ◌*◌, slice_get, IfErr, IsTrue}
+use Rattle.std.specs.Prelude.{◌==◌, if◌then◌else◌}
 use Rattle.std.proofs.lemmas.Map.Text.{is_eq-slice_cmp}
 use Rattle.std.proofs.lemmas.Slice.Eq.{bytes_eq-Decides}
-use Rattle.sqlite.specs.Collation.TheVariants.{Binary}
-use Rattle.sqlite.specs.declared.types.Value.{Value}
-use Rattle.sqlite.specs.declared.types.Value.TheVariants.{Null, Int, Real, Text, Blob}
-use Rattle.sqlite.specs.Ops.{is_true, binary}
-use Rattle.sqlite.specs.Order.{Row, column}
-use Rattle.sqlite.specs.Program.{overlay}
+use Rattle.sqlite.specs.Ops.{binary}
 use Rattle.sqlite_trees.specs.Tree.{Trees}
-use Rattle.sqlite.specs.State.{State, Shown}
-use Rattle.sqlite.proofs.Callers.{reads_as}
-use Rattle.sqlite_sql.specs.declared.ops.BinaryOp.TheVariants.{Compare}
-use Rattle.sqlite_sql.specs.declared.ops.CompareOp.TheVariants.{Eq}
-use Rattle.sqlite_value.proofs.OrderLemmas.{value_cmp-apart, value_cmp-Text}
-use Rattle.acvp_store.specs.Version.{is_equal, is_version_row, HasVersion, version_row}
-use Rattle.acvp_store.specs.Private.Migration.{HasOldTable}
-use Rattle.acvp_store.specs.Values.{whole}
-use Rattle.sqlite.specs.Schema.{Schema}
-use Rattle.acvp_store.specs.Schema.{Migrated, schema_of, SchemaVersion, schema_at, second_schema}
+use Rattle.acvp_store.proofs.Words.{Binary, Blob, column, Compare, Created, Database, Eq, filter, First, HasOldTable}
+use Rattle.acvp_store.proofs.Words.{HasVersion, Int, is_eq, is_equal, is_true, is_version_row, IsKnown, IsOf}
+use Rattle.acvp_store.proofs.Words.{IsPermutation, LeavesNoMore, LeavesSo, list_any, MatchResult, Migrated, nat_lt}
+use Rattle.acvp_store.proofs.Words.{nat_tests, Null, option_map, overlay, reads_as, Real, Row, Schema, schema_at}
+use Rattle.acvp_store.proofs.Words.{schema_of, SchemaVersion, Second, second_schema, Shown, State, Table, Text, Third}
+use Rattle.acvp_store.proofs.Words.{unwrap_or, Value, value_cmp-apart, value_cmp-Text, version_of, version_row, whole}
 use Rattle.acvp_store.proofs.Keyed.{same_whole}
 use Rattle.acvp_store.proofs.Parts.{both_true}
-use Rattle.acvp_store.proofs.ReviewerRows.{any_passes}
 use Rattle.acvp_store.proofs.SelectedRows.{truth_back, selected}
-use Rattle.acvp_store.proofs.Texts.{find_version, find_version_query, finds_version, find_old_sets, old_sets_query, FindsOldSets, old_sets_are, old_sets_were}
+use Rattle.acvp_store.proofs.Texts.{find_version, find_version_query, finds_version, find_old_sets, old_sets_query}
+use Rattle.acvp_store.proofs.Texts.{FindsOldSets, old_sets_are, old_sets_were}
+use Rattle.acvp_store.specs.Adopted.{IsOurs}
+use Rattle.acvp_store.specs.declared.migration.Earlier.{Earlier}
+use Rattle.acvp_store.specs.declared.migration.Earlier.TheVariants as earlier
+
+-- ---- whether the table `meta` names the version
 
 -- a column of any type is tested against a text, and against a whole number
 pub test_text : (v : Value) (s : List ℕ) → is_true (binary (Compare Eq Binary) v (Text s)) ≡ is_equal v (Text s)
@@ -69,7 +62,8 @@ map_same (r ∷ rows) = ap (λ l. r ∷ l) (map_same rows)
 pub version_rows : (version : SchemaVersion) (n : ℕ) (old new : State) (rows : List Row) → old.now.schema ≡ schema_at version → Shown find_version (whole n ∷ []) old new rows → IsPermutation (map value_of (filter (is_version_row n) (old.now.trees 0))) rows
 version_rows version n old new rows schema h =
     selected (whole n ∷ []) (λ (r : Row). r) (is_version_row n) find_version_query.filter (λ r. both_true _ _ _ _ (test_text (column r 1) (codes "schema")) (test_whole (column r 2) n)) 0 find_version_query.project value_of (λ r. refl) (overlay old.now.trees []) (old.now.trees 0) rows (map_same _)
-    (let is = finds_version version in (reads_as find_version (whole n ∷ []) old new (schema_at version) schema _ is.0 is.1 is.2 rows h).answer Null)
+    (let is = finds_version version in
+    (reads_as find_version (whole n ∷ []) old new (schema_at version) schema _ is.0 is.1 is.2 rows h).answer Null)
 
 -- ---- whether the table of sets of an earlier schema has a row
 
@@ -92,3 +86,49 @@ any_row (r ∷ rows) = grind (arith, nat_tests)
 pub empty : (rows : List Row) → nat_lt 0 (length rows) ≡ false → rows ≡ []
 empty [] h = refl
 empty (r ∷ rows) h = absurd (let some : nat_lt 0 (length (r ∷ rows)) ≡ true = grind (arith, nat_tests) in cc)
+
+-- ---- which version's tables a database has, and what an open finds after a migration
+
+-- ---- no two versions have the same tables
+
+-- the number of the tables, and the length of the fourth one's name
+mark : Schema → ℕ
+mark s = length s.tables * 10 + unwrap_or (option_map (λ (t : Table). length t.name) (slice_get s.tables 3)) 0
+
+back : ℕ → SchemaVersion
+back n = if n == 64 then First else (if n == 65 then Second Created else (if n == 74 then Second Migrated else (if n == 75 then Third Created else Third Migrated)))
+
+back_is : (version : SchemaVersion) → back (mark (schema_at version)) ≡ version
+unfolding mark back
+back_is First = refl
+back_is (Second Created) = refl
+back_is (Second Migrated) = refl
+back_is (Third Created) = refl
+back_is (Third Migrated) = refl
+
+pub same_version : (v w : SchemaVersion) → schema_at v ≡ schema_at w → v ≡ w
+same_version v w same = sym (back_is v) ∙ ap (λ s. back (mark s)) same ∙ back_is w
+
+-- ---- whose tables are of no version, or aren't those that `meta` names
+
+pub unknown : (db : Database) → ((from : Earlier) → db.schema ≢ schema_at (version_of from)) → ¬ IsOurs db → ¬ IsKnown db
+unknown db none ours known = go known.0 known.1
+  where
+    go : (v : SchemaVersion) → IsOf v db → ⊥
+    go First is = none earlier.First is.schema
+    go (Second Created) is = none earlier.Second is.schema
+    go (Second Migrated) is = none earlier.SecondBeside is.schema
+    go (Third layout) is = ours (record { layout = layout; schema = is.schema; version = is.named; no_old_sets = is.no_old_sets })
+
+pub not_known : (v : SchemaVersion) (db : Database) → db.schema ≡ schema_at v → ¬ IsOf v db → ¬ IsKnown db
+not_known v db schema not known = not (subst (λ w. IsOf w db) (same_version known.0 v (sym known.1.schema ∙ schema)) known.1)
+
+-- ---- what an open finds
+
+-- what was committed
+pub left_as_committed : (old new : State) (P : Trees → Type 0) → ((db : Trees) → IsTrue old.is_open → old.may_leave db → db ≡ old.committed.trees) → LeavesNoMore old new → LeavesSo old new (λ db. (db ≡ old.committed.trees) ⊎ P db)
+left_as_committed old new P settled none clean live db may = inl (settled db live (none clean db may))
+
+pub of_fault : {X E : Type 0} (r : Result X E) (P : X → Type 0) (Q R : E → Type 0) → ((e : E) → Q e → R e) → MatchResult r P Q → IfErr r R
+of_fault (Ok x) P Q R turns h = tt
+of_fault (Err e) P Q R turns h = turns e h

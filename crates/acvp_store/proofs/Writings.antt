@@ -1,26 +1,14 @@
 -- The statements that write a store: their texts, and what these mean whichever way its tables lie.
 use Rattle.std.proofs.Common.{◌≡◌, refl, None, Ok, Result, IsOk, [], ◌∷◌, ◌++◌, List, ℕ, codes, pos, false, IsTrue}
-use Rattle.sqlite.specs.Collation.TheVariants.{Binary}
-use Rattle.sqlite.specs.Command.TheVariants.{Insert, Update, Delete}
-use Rattle.sqlite.specs.declared.error.Error.{Error}
-use Rattle.sqlite.specs.declared.types.Value.TheVariants.{Null, Int, Text}
-use Rattle.sqlite.specs.Does.{Tally, Does}
-use Rattle.sqlite.specs.Effect.{Database}
 use Rattle.sqlite.specs.Listing.{understood}
-use Rattle.sqlite.specs.Order.{Row}
-use Rattle.sqlite.specs.Query.{Query}
-use Rattle.sqlite.specs.Source.TheVariants.{Values}
 use Rattle.sqlite.specs.Source.TheVariants as source
-use Rattle.sqlite.specs.State.{State, HasCleanDisk, Survives, ExecutesInside, Runs, Writes, mode_of}
-use Rattle.sqlite.specs.Term.{Term, lit, col, op2}
-use Rattle.sqlite_schema.specs.declared.command.Command.{Command}
-use Rattle.sqlite_sql.specs.declared.ops.BinaryOp.TheVariants.{Compare}
-use Rattle.sqlite_sql.specs.declared.ops.CompareOp.TheVariants.{Eq, Lt}
+use Rattle.sqlite.specs.State.{Writes}
 use Rattle.sqlite_tied.specs.Compute.{everything}
-use Rattle.sqlite.proofs.Callers.{IsPlain, command_of, statement_of}
-use Rattle.acvp_store.specs.Connection.{IsInside, Under, UnderStore}
-use Rattle.acvp_store.specs.Schema.{Layout, Created, Migrated, schema_of}
-use Rattle.acvp_store.specs.Stands.{set_tree, reviewer_tree}
+use Rattle.acvp_store.proofs.Words.{Binary, col, Command, command_of, Compare, Created, Database, Delete, Does, Eq}
+use Rattle.acvp_store.proofs.Words.{Error, ExecutesInside, HasCleanDisk, Insert, Int, IsInside, IsPlain, Layout, lit}
+use Rattle.acvp_store.proofs.Words.{Lt, Migrated, mode_of, Null, op2, Query, reviewer_tree, Row, Runs, schema_of}
+use Rattle.acvp_store.proofs.Words.{set_tree, State, statement_of, Survives, Tally, Term, Text, Under, UnderStore}
+use Rattle.acvp_store.proofs.Words.{Update, Values}
 use Rattle.acvp_store.proofs.QueryForms.{equals, collated, simple}
 use Rattle.acvp_store.proofs.Together.{does_inside, inside_store}
 

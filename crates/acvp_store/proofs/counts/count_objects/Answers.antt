@@ -1,10 +1,4 @@
-use Rattle.std.proofs.Common.{rules, w64, to_z-of_z, ◌*◌, length}
-use mir.Val.{SFits}
-use Rattle.sqlite.specs.Held.{state}
-use Rattle.acvp_tables.specs.Content.{objects_of}
-use Rattle.acvp_tables.specs.State.{AreWellNumbered}
-use Rattle.acvp_store.specs.Stands.{object_tree, HoldsObjects}
-use Rattle.acvp_store.specs.Private.Pages.{greatest}
+use Rattle.acvp_store.proofs.Words.{length, objects_of, rules, SFits, to_z-of_z, w64}
 use Rattle.acvp_store.proofs.Told.{told}
 use Rattle.acvp_store.proofs.QueryLeaves.{clean_if_open}
 use Rattle.acvp_store.proofs.RowCounts.{objects_counted}
@@ -20,12 +14,15 @@ returns-clause-read g c =
 
 pub returns-clause-found : goal.returns-clause-found
 returns-clause-found g c live =
-    let old = state g.S.Store c.args.conn.now in
     let clean = clean_if_open _ _ (g.met.S.Store.shut_if_dirty c.query_all.new.self.store) live in
-    let was = (returns-clause-read g c).stays.was_open live in
+    let store = c.requires ((returns-clause-read g c).stays.was_open live) in
     let first : SFits w64 c.page_of-at.result.first = search rules in
     let last : SFits w64 c.page_of-at.result.last = search rules in
     told c.query_all.result c.counted.result c.counted.ensures.ok _ _ _ (λ rows found is shown d sound held.
-    is (length (objects_of c.args.kind c.args.account d.objects)) (objects_counted (c.requires was).schema.0 c.args.kind c.args.account old _ rows.items (c.requires was).schema.1
-    (rw (c.params-to_sql.ensures, c.params-to_sql-2.ensures, to_z-of_z first, to_z-of_z last, c.page_of-at.ensures.first, c.page_of-at.ensures.last, c.params-to_sql-3.ensures, c.kind_number.ensures) at shown) d sound held))
+    is (length (objects_of c.args.kind c.args.account d.objects))
+    (objects_counted store.schema.0 c.args.kind c.args.account _ _ rows.items store.schema.1
+    (rw (c.params-to_sql-3.ensures, c.kind_number.ensures) at (rw
+    (c.page_of-at.ensures.first, c.page_of-at.ensures.last) at (rw
+    (to_z-of_z first, to_z-of_z last) at (rw (c.params-to_sql.ensures, c.params-to_sql-2.ensures) at shown)))) d sound
+    held))
     c.counted.ensures.found (c.query_all.ensures.ok clean)

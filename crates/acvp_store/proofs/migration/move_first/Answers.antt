@@ -1,8 +1,5 @@
-use Rattle.sqlite.specs.Held.{state}
-use Rattle.acvp_store.specs.Connection.{Under}
-use Rattle.acvp_store.specs.Migrated.{Moves}
-use Rattle.acvp_store.specs.Schema.{First, schema_at}
-use Rattle.acvp_store.proofs.WholeMigration.{MovesFirst, first_moves}
+use Rattle.acvp_store.proofs.Words.{First, Moves, schema_at, state, Under}
+use Rattle.acvp_store.proofs.MadeTables.{MovesFirst, first_moves}
 use Rattle.acvp_store.proofs.KeptPromises.{written_as}
 use Rattle.acvp_store.proofs.migration.move_first.Goals as goal
 

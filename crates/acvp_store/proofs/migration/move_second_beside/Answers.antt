@@ -1,8 +1,5 @@
-use Rattle.sqlite.specs.Held.{state}
-use Rattle.acvp_store.specs.Connection.{Under}
-use Rattle.acvp_store.specs.Migrated.{Moves}
-use Rattle.acvp_store.specs.Schema.{Migrated, Second, schema_at}
-use Rattle.acvp_store.proofs.WholeMigration.{MovesSecondBeside, second_beside_moves}
+use Rattle.acvp_store.proofs.Words.{Migrated, Moves, schema_at, Second, state, Under}
+use Rattle.acvp_store.proofs.MadeTables.{MovesSecondBeside, second_beside_moves}
 use Rattle.acvp_store.proofs.KeptPromises.{written_as}
 use Rattle.acvp_store.proofs.migration.move_second_beside.Goals as goal
 

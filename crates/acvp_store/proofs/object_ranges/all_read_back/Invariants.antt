@@ -1,7 +1,5 @@
 use Rattle.std.proofs.Common.{◌≡◌, take, Some}
-use Rattle.std.specs.List.{AllByRecursion}
-use Rattle.acvp_registry.specs.Json.{body_json}
-use Rattle.acvp_registry.specs.Object.{object_text}
+use Rattle.acvp_store.proofs.Words.{AllByRecursion, body_json, object_text}
 use Rattle.acvp_store.proofs.object_ranges.all_read_back.Given as goal
 
 abbrev pub invariant-loop-row : goal.invariant-loop-row

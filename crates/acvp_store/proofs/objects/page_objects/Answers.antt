@@ -1,12 +1,8 @@
-use Rattle.std.proofs.Common.{rules, w64, to_z-of_z}
-use mir.Val.{SFits}
-use Rattle.std.proofs.lemmas.Result.{IfOk-weaker}
-use Rattle.sqlite.specs.Held.{state}
-use Rattle.acvp_store.specs.Stands.{object_tree, object_columns, HoldsObjects, IsKeepable, FitColumns}
-use Rattle.acvp_tables.specs.State.{AreWellNumbered}
+use Rattle.acvp_store.proofs.Words.{AreWellNumbered, FitColumns, HoldsObjects, IfOk-weaker, IsKeepable, object_columns}
+use Rattle.acvp_store.proofs.Words.{rules, SFits, to_z-of_z, w64}
 use Rattle.acvp_store.proofs.QueryLeaves.{clean_if_open}
-use Rattle.acvp_store.proofs.RowLists.{all_listed}
-use Rattle.acvp_store.proofs.ObjectPages.{object_page}
+use Rattle.acvp_store.proofs.Told.{all_listed}
+use Rattle.acvp_store.proofs.PageRows.{object_page}
 use Rattle.acvp_store.proofs.Readings.{ObjectPage, reads_rows}
 use Rattle.acvp_store.proofs.objects.page_objects.Goals as goal
 
@@ -19,13 +15,15 @@ returns-clause-read g c =
 
 pub returns-clause-found : goal.returns-clause-found
 returns-clause-found g c live =
-    let old = state g.S.Store c.args.conn.now in
     let clean = clean_if_open _ _ (g.met.S.Store.shut_if_dirty c.query_all.new.self.store) live in
-    let was = (returns-clause-read g c).stays.was_open live in
+    let store = c.requires ((returns-clause-read g c).stays.was_open live) in
     let first : SFits w64 c.page_of-at.result.first = search rules in
     let last : SFits w64 c.page_of-at.result.last = search rules in
     let limit : SFits w64 c.page_of-at.result.limit = search rules in
     IfOk-weaker c.listed.result _ _ (λ found is d sound held fit. is d sound (held, fit))
-    (all_listed AreWellNumbered (λ d. HoldsObjects (old.now.trees object_tree) d.objects × FitColumns d.objects) IsKeepable object_columns c.query_all.result (λ v. v.items) c.listed.result (λ v. v.items) _ c.listed.ensures.ok c.listed.ensures.found
-    (IfOk-weaker c.query_all.result _ _ (λ rows shown d sound held. object_page (c.requires was).schema.0 c.args.kind c.args.account c.args.offset c.args.limit old _ rows.items (c.requires was).schema.1
+    (all_listed AreWellNumbered (λ d. HoldsObjects _ d.objects × FitColumns d.objects) IsKeepable object_columns
+    c.query_all.result (λ v. v.items) c.listed.result (λ v. v.items) _ c.listed.ensures.ok c.listed.ensures.found
+    (IfOk-weaker c.query_all.result _ _
+    (λ rows shown d sound held. object_page store.schema.0 c.args.kind c.args.account c.args.offset c.args.limit _ _
+    rows.items store.schema.1
     (rw (c.params-to_sql.ensures, c.params-to_sql-2.ensures, c.params-to_sql-3.ensures, to_z-of_z first, to_z-of_z last, to_z-of_z limit, c.page_of-at.ensures.first, c.page_of-at.ensures.last, c.page_of-at.ensures.limit, c.params-to_sql-4.ensures, c.kind_number.ensures) at shown) d sound held.0 held.1) (c.query_all.ensures.ok clean)))

@@ -1,10 +1,6 @@
 use Rattle.std.proofs.Common.{rules, ◌≡◌, [], ◌∷◌, ◌++◌, Some, slice_get, sym, ap, subst, ◌∙◌}
-use Rattle.std.proofs.lemmas.Option.{slice_get-get_or}
-use Rattle.acvp_tables.specs.declared.tables.StoreFault.{StoreFault}
-use Rattle.std.proofs.lemmas.List.{take_more}
-use Rattle.acvp_store.specs.Private.Pages.{IsRowOf}
-use Rattle.acvp_store.specs.Private.Shown.{BeginsWith, HasOneOfNone}
-use Rattle.sqlite_catalog.proofs.ListFacts.{zip_push}
+use Rattle.acvp_store.proofs.Words.{BeginsWith, HasOneOfNone, IsRowOf, slice_get-get_or, StoreFault, take_more}
+use Rattle.acvp_store.proofs.Words.{zip_push}
 use Rattle.acvp_store.proofs.pages.each.Goals as goal
 
 pub loop-row-preserved : goal.loop-row-preserved

@@ -1,7 +1,4 @@
-use Rattle.std.proofs.Common.{take}
-use Rattle.std.specs.List.{AllZip}
-use Rattle.acvp_store.specs.Private.Pages.{IsRowOf}
-use Rattle.acvp_store.specs.Private.Shown.{AreShown}
+use Rattle.acvp_store.proofs.Words.{AllZip, AreShown, IsRowOf, take}
 use Rattle.acvp_store.proofs.pages.each.Given as goal
 
 abbrev pub invariant-loop-row : goal.invariant-loop-row

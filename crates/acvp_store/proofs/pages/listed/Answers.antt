@@ -1,5 +1,5 @@
-use Rattle.std.proofs.lemmas.Result.{IfOk-weaker}
-use Rattle.acvp_store.proofs.RowLists.{listed_as}
+use Rattle.acvp_store.proofs.Words.{IfOk-weaker}
+use Rattle.acvp_store.proofs.Told.{listed_as}
 use Rattle.acvp_store.proofs.pages.listed.Goals as goal
 
 pub returns-in-Ok-clause-found : goal.returns-in-Ok-clause-found

@@ -1,10 +1,6 @@
-use Rattle.std.proofs.Common.{arith, refl, ap}
-use Rattle.std.specs.Prelude.{◌<◌, ◌^◌, ⊤}
-use Rattle.std.proofs.lemmas.Result.{IfOk-weaker}
-use Rattle.sqlite.specs.Held.{state}
-use Rattle.acvp_store.specs.Ranges.{is_between, FitsAccount, IsAccountRow}
-use Rattle.acvp_store.specs.Rows.{account_tree, account_key, account_row, account_shown, HoldsAccounts}
-use Rattle.acvp_store.specs.Private.Columns.{account_columns}
+use Rattle.std.specs.Prelude.{◌<◌, ◌^◌}
+use Rattle.acvp_store.proofs.Words.{account_columns, account_key, account_row, account_shown, ap, arith, FitsAccount}
+use Rattle.acvp_store.proofs.Words.{HoldsAccounts, IfOk-weaker, is_between, IsAccountRow, refl, ⊤}
 use Rattle.acvp_store.proofs.QueryLeaves.{clean_if_open}
 use Rattle.acvp_store.proofs.RangeColumns.{IsAccountTyped, accounts_typed, account_is, accounts_met, accounts_in_order}
 use Rattle.acvp_store.proofs.RangeRows.{range_given}
@@ -21,18 +17,27 @@ returns-clause-read g c =
 
 pub returns-clause-rows : goal.returns-clause-rows
 returns-clause-rows g c live =
-    let old = state g.S.Store c.args.conn.now in
     let clean = clean_if_open _ _ (g.met.S.Store.shut_if_dirty c.query_all.new.self.store) live in
-    let was = (returns-clause-read g c).stays.was_open live in
+    let store = c.requires ((returns-clause-read g c).stays.was_open live) in
     let low : c.args.last < 2 ^ 63 = omega (arith, c.ranges.last.fits) in
-    range_given account_key account_row account_shown account_columns IsAccountTyped (λ s. refl) account_is c.args.first c.args.last low _ (old.now.trees account_tree) c.query_all.result (λ v. v.items) c.ranged.result (λ v. v.items) c.ranged.ensures.ok c.ranged.ensures.judged
-    (λ full. accounts_typed (c.requires was).schema.0 old.now (c.requires was).schema.1 (c.requires was).sound full)
-    (IfOk-weaker c.query_all.result _ _ (λ rows shown. accounts_in_order (c.requires was).schema.0 c.args.first c.args.last old _ rows.items (c.requires was).schema.1 (rw (c.params-to_sql.ensures, c.params-to_sql-2.ensures, c.from.ensures, c.from-2.ensures) at shown)) (c.query_all.ensures.ok clean))
+    range_given account_key account_row account_shown account_columns IsAccountTyped (λ s. refl) account_is c.args.first
+    c.args.last low _ _ c.query_all.result (λ v. v.items) c.ranged.result (λ v. v.items) c.ranged.ensures.ok
+    c.ranged.ensures.judged
+    (λ full. accounts_typed store.schema.0 _ store.schema.1 store.sound full)
+    (IfOk-weaker c.query_all.result _ _
+    (λ rows shown. accounts_in_order store.schema.0 c.args.first c.args.last _ _ rows.items store.schema.1
+    (rw (c.from.ensures, c.from-2.ensures) at (rw (c.params-to_sql.ensures, c.params-to_sql-2.ensures) at shown)))
+    (c.query_all.ensures.ok clean))
 
 pub returns-clause-stray : goal.returns-clause-stray
 returns-clause-stray g c live =
-    let old = state g.S.Store c.args.conn.now in
     let clean = clean_if_open _ _ (g.met.S.Store.shut_if_dirty c.query_all.new.self.store) live in
-    let was = (returns-clause-read g c).stays.was_open live in
-    stray_of HoldsAccounts IsAccountRow FitsAccount (each_kept account_key account_row FitsAccount) (λ a. ⊤ × FitsAccount a) account_shown account_columns 0 0 (λ r. refl) (λ row a fits is. (a, (tt, fits), ap account_columns is)) (is_between c.args.first c.args.last) (old.now.trees account_tree) c.query_all.result (λ v. v.items) c.ranged.result c.ranged.ensures.stray
-    (IfOk-weaker c.query_all.result _ _ (λ rows shown. accounts_met (c.requires was).schema.0 c.args.first c.args.last old _ rows.items (c.requires was).schema.1 (rw (c.params-to_sql.ensures, c.params-to_sql-2.ensures, c.from.ensures, c.from-2.ensures) at shown)) (c.query_all.ensures.ok clean))
+    let store = c.requires ((returns-clause-read g c).stays.was_open live) in
+    stray_of HoldsAccounts IsAccountRow FitsAccount (each_kept account_key account_row FitsAccount)
+    (λ a. ⊤ × FitsAccount a) account_shown account_columns 0 0 (λ r. refl)
+    (λ row a fits is. (a, (tt, fits), ap account_columns is)) (is_between c.args.first c.args.last) _ c.query_all.result
+    (λ v. v.items) c.ranged.result c.ranged.ensures.stray
+    (IfOk-weaker c.query_all.result _ _
+    (λ rows shown. accounts_met store.schema.0 c.args.first c.args.last _ _ rows.items store.schema.1
+    (rw (c.from.ensures, c.from-2.ensures) at (rw (c.params-to_sql.ensures, c.params-to_sql-2.ensures) at shown)))
+    (c.query_all.ensures.ok clean))

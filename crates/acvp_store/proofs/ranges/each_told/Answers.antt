@@ -1,10 +1,5 @@
 use Rattle.std.proofs.Common.{rules, ◌≡◌, ℤ, [], ◌∷◌, ◌++◌, Some, slice_get, sym, ap, subst, ◌∙◌}
-use Rattle.std.proofs.lemmas.Option.{slice_get-get_or}
-use Rattle.std.proofs.lemmas.List.{take_more}
-use Rattle.sqlite_catalog.proofs.ListFacts.{zip_push}
-use Rattle.acvp_store.specs.Private.Shown.{BeginsWith}
-use Rattle.acvp_store.specs.Private.Strays.{HasStray}
-use Rattle.acvp_store.specs.declared.ranges.RangeFault.TheVariants.{Stray}
+use Rattle.acvp_store.proofs.Words.{BeginsWith, HasStray, slice_get-get_or, Stray, take_more, zip_push}
 use Rattle.acvp_store.proofs.ranges.each_told.Goals as goal
 
 pub loop-row-preserved : goal.loop-row-preserved

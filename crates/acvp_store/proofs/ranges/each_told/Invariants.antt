@@ -1,5 +1,4 @@
-use Rattle.std.proofs.Common.{take}
-use Rattle.acvp_store.specs.Private.Shown.{AreShown}
+use Rattle.acvp_store.proofs.Words.{AreShown, take}
 use Rattle.acvp_store.proofs.ranges.each_told.Given as goal
 
 abbrev pub invariant-loop-row : goal.invariant-loop-row

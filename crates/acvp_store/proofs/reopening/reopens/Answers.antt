@@ -1,5 +1,4 @@
-use Rattle.std.proofs.Common.{inl, inr}
-use Rattle.acvp_store.specs.Schema.{Third}
+use Rattle.acvp_store.proofs.Words.{inl, inr, Third}
 use Rattle.acvp_store.proofs.reopening.reopens.Goals as goal
 
 pub returns : goal.returns

@@ -1,7 +1,4 @@
-use Rattle.std.proofs.Common.{refl}
-use Rattle.sqlite.specs.Held.{state}
-use Rattle.acvp_store.specs.Ranges.{first_number, last_number}
-use Rattle.acvp_store.specs.Stands.{request_tree}
+use Rattle.acvp_store.proofs.Words.{first_number, last_number, refl, request_tree}
 use Rattle.acvp_store.proofs.RangeOutside.{all_within}
 use Rattle.acvp_store.proofs.Told.{told}
 use Rattle.acvp_store.proofs.QueryLeaves.{clean_if_open}
@@ -18,17 +15,19 @@ returns-clause-read g c =
 
 pub returns-clause-none : goal.returns-clause-none
 returns-clause-none g c live =
-    let old = state g.S.Store c.args.conn.now in
     let clean = clean_if_open _ _ (g.met.S.Store.shut_if_dirty c.query_all.new.self.store) live in
-    let was = (returns-clause-read g c).stays.was_open live in
+    let store = c.requires ((returns-clause-read g c).stays.was_open live) in
     told c.query_all.result c.number_in.result c.number_in.ensures.ok _ _ _
-    (λ rows found is shown tree none. all_within (first_number 1) (last_number 9999) (old.now.trees request_tree) tree.1 (outside_none RequestOutside (c.requires was).schema.0 request_tree 1000000 9999999999 refl (λ trees. refl) old _ rows.items (c.requires was).schema.1 shown (is none)))
+    (λ rows found is shown tree none. all_within (first_number 1) (last_number 9999) _ tree.1
+    (outside_none RequestOutside store.schema.0 request_tree 1000000 9999999999 refl (λ trees. refl) _ _ rows.items
+    store.schema.1 shown (is none)))
     c.number_in.ensures.none (c.query_all.ensures.ok clean)
 
 pub returns-clause-some : goal.returns-clause-some
 returns-clause-some g c live =
     let clean = clean_if_open _ _ (g.met.S.Store.shut_if_dirty c.query_all.new.self.store) live in
-    let was = (returns-clause-read g c).stays.was_open live in
+    let store = c.requires ((returns-clause-read g c).stays.was_open live) in
     told c.query_all.result c.number_in.result c.number_in.ensures.ok _ _ _
-    (λ rows found is shown number at. outside_told RequestOutside (c.requires was).schema.0 request_tree 1000000 9999999999 refl (λ trees. refl) _ _ rows.items (c.requires was).schema.1 shown number (is number at))
+    (λ rows found is shown number at. outside_told RequestOutside store.schema.0 request_tree 1000000 9999999999 refl
+    (λ trees. refl) _ _ rows.items store.schema.1 shown number (is number at))
     c.number_in.ensures.some (c.query_all.ensures.ok clean)

@@ -1,12 +1,7 @@
-use Rattle.std.proofs.Common.{rules, w64, to_z-of_z, arith, refl}
 use Rattle.std.specs.Prelude.{◌<◌, ◌^◌}
-use mir.Val.{SFits}
-use Rattle.std.proofs.lemmas.Result.{IfOk-weaker}
-use Rattle.sqlite.specs.Held.{state}
-use Rattle.acvp_store.specs.Ranges.{is_between, first_number, last_number, FitsRequest, IsRequestRow, HasStrayRow}
-use Rattle.acvp_store.specs.Stands.{request_tree, request_key, request_row, HoldsRequests}
-use Rattle.acvp_store.specs.Private.Columns.{request_columns}
-use Rattle.acvp_store.specs.Private.Requests.{request_shown}
+use Rattle.acvp_store.proofs.Words.{arith, first_number, FitsRequest, HasStrayRow, HoldsRequests, IfOk-weaker}
+use Rattle.acvp_store.proofs.Words.{is_between, IsRequestRow, last_number, refl, request_columns, request_key}
+use Rattle.acvp_store.proofs.Words.{request_row, request_shown, rules, SFits, to_z-of_z, w64}
 use Rattle.acvp_store.proofs.QueryLeaves.{clean_if_open}
 use Rattle.acvp_store.proofs.RangeColumns.{IsRequestTyped, requests_typed, request_is, requests_met, requests_in_order}
 use Rattle.acvp_store.proofs.RangeRows.{range_given}
@@ -24,26 +19,39 @@ returns-clause-read g c =
 
 pub returns-clause-rows : goal.returns-clause-rows
 returns-clause-rows g c live =
-    let old = state g.S.Store c.args.conn.now in
     let clean = clean_if_open _ _ (g.met.S.Store.shut_if_dirty c.query_all.new.self.store) live in
-    let was = (returns-clause-read g c).stays.was_open live in
+    let store = c.requires ((returns-clause-read g c).stays.was_open live) in
     let u = c.args.account in
     let first : SFits w64 c.numbers_of-numbers.result.first = search rules in
     let last : SFits w64 c.numbers_of-numbers.result.last = search rules in
     let low : last_number u < 2 ^ 63 = omega (arith, c.ranges.account.fits) in
-    rows_through (first_number u) (last_number u) (old.now.trees request_tree) c.ranged-found.result c.read_back.result (λ v. v.items) c.read_back.ensures.ok c.read_back.ensures.same c.read_back.ensures.reads
-    (range_given request_key request_row request_shown request_columns IsRequestTyped (λ s. refl) request_is (first_number u) (last_number u) low _ (old.now.trees request_tree) c.query_all.result (λ v. v.items) c.ranged-found.result (λ v. v.items) c.ranged-found.ensures.ok c.ranged-found.ensures.judged
-    (λ full. requests_typed (c.requires was).schema.0 old.now (c.requires was).schema.1 (c.requires was).sound full)
-    (IfOk-weaker c.query_all.result _ _ (λ rows shown. requests_in_order (c.requires was).schema.0 (first_number u) (last_number u) old _ rows.items (c.requires was).schema.1 (rw (c.params-to_sql.ensures, c.params-to_sql-2.ensures, to_z-of_z first, to_z-of_z last, c.numbers_of-numbers.ensures.first, c.numbers_of-numbers.ensures.last) at shown)) (c.query_all.ensures.ok clean)))
+    rows_through (first_number u) (last_number u) _ c.ranged-found.result c.read_back.result (λ v. v.items)
+    c.read_back.ensures.ok c.read_back.ensures.same c.read_back.ensures.reads
+    (range_given request_key request_row request_shown request_columns IsRequestTyped (λ s. refl) request_is
+    (first_number u) (last_number u) low _ _ c.query_all.result (λ v. v.items) c.ranged-found.result (λ v. v.items)
+    c.ranged-found.ensures.ok c.ranged-found.ensures.judged
+    (λ full. requests_typed store.schema.0 _ store.schema.1 store.sound full)
+    (IfOk-weaker c.query_all.result _ _
+    (λ rows shown. requests_in_order store.schema.0 (first_number u) (last_number u) _ _ rows.items store.schema.1
+    (rw (c.numbers_of-numbers.ensures.first, c.numbers_of-numbers.ensures.last) at (rw
+    (to_z-of_z first, to_z-of_z last) at (rw (c.params-to_sql.ensures, c.params-to_sql-2.ensures) at shown))))
+    (c.query_all.ensures.ok clean)))
 
 pub returns-clause-stray : goal.returns-clause-stray
 returns-clause-stray g c live =
-    let old = state g.S.Store c.args.conn.now in
     let clean = clean_if_open _ _ (g.met.S.Store.shut_if_dirty c.query_all.new.self.store) live in
-    let was = (returns-clause-read g c).stays.was_open live in
+    let store = c.requires ((returns-clause-read g c).stays.was_open live) in
     let u = c.args.account in
     let first : SFits w64 c.numbers_of-numbers.result.first = search rules in
     let last : SFits w64 c.numbers_of-numbers.result.last = search rules in
-    stray_same (λ number. HasStrayRow HoldsRequests IsRequestRow FitsRequest (is_between (first_number u) (last_number u)) 0 number (old.now.trees request_tree)) c.ranged-found.result c.read_back.result c.read_back.ensures.stray
-    (stray_of HoldsRequests IsRequestRow FitsRequest each IsMember request_shown request_columns 0 0 (λ r. refl) shows (is_between (first_number u) (last_number u)) (old.now.trees request_tree) c.query_all.result (λ v. v.items) c.ranged-found.result c.ranged-found.ensures.stray
-    (IfOk-weaker c.query_all.result _ _ (λ rows shown. requests_met (c.requires was).schema.0 (first_number u) (last_number u) old _ rows.items (c.requires was).schema.1 (rw (c.params-to_sql.ensures, c.params-to_sql-2.ensures, to_z-of_z first, to_z-of_z last, c.numbers_of-numbers.ensures.first, c.numbers_of-numbers.ensures.last) at shown)) (c.query_all.ensures.ok clean)))
+    stray_same (λ number. HasStrayRow HoldsRequests IsRequestRow FitsRequest
+    (is_between (first_number u) (last_number u)) 0 number _) c.ranged-found.result c.read_back.result
+    c.read_back.ensures.stray
+    (stray_of HoldsRequests IsRequestRow FitsRequest each IsMember request_shown request_columns 0 0 (λ r. refl) shows
+    (is_between (first_number u) (last_number u)) _ c.query_all.result (λ v. v.items) c.ranged-found.result
+    c.ranged-found.ensures.stray
+    (IfOk-weaker c.query_all.result _ _
+    (λ rows shown. requests_met store.schema.0 (first_number u) (last_number u) _ _ rows.items store.schema.1
+    (rw (c.numbers_of-numbers.ensures.first, c.numbers_of-numbers.ensures.last) at (rw
+    (to_z-of_z first, to_z-of_z last) at (rw (c.params-to_sql.ensures, c.params-to_sql-2.ensures) at shown))))
+    (c.query_all.ensures.ok clean)))

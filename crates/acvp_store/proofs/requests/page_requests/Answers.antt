@@ -1,13 +1,8 @@
-use Rattle.std.proofs.Common.{rules, w64, to_z-of_z}
-use mir.Val.{SFits}
-use Rattle.std.proofs.lemmas.Result.{IfOk-weaker}
-use Rattle.sqlite.specs.Held.{state}
-use Rattle.acvp_store.specs.Stands.{request_tree, HoldsRequests}
-use Rattle.acvp_store.specs.Private.Summaries.{PurposeReads, summary_shown}
-use Rattle.acvp_tables.specs.State.{AreWellNumbered}
+use Rattle.acvp_store.proofs.Words.{AreWellNumbered, HoldsRequests, IfOk-weaker, PurposeReads, rules, SFits}
+use Rattle.acvp_store.proofs.Words.{summary_shown, to_z-of_z, w64}
 use Rattle.acvp_store.proofs.QueryLeaves.{clean_if_open}
-use Rattle.acvp_store.proofs.RowLists.{all_listed}
-use Rattle.acvp_store.proofs.RequestPages.{request_page}
+use Rattle.acvp_store.proofs.Told.{all_listed}
+use Rattle.acvp_store.proofs.PageRows.{request_page}
 use Rattle.acvp_store.proofs.Readings.{RequestPage, reads_rows}
 use Rattle.acvp_store.proofs.requests.page_requests.Goals as goal
 
@@ -20,12 +15,14 @@ returns-clause-read g c =
 
 pub returns-clause-found : goal.returns-clause-found
 returns-clause-found g c live =
-    let old = state g.S.Store c.args.conn.now in
     let clean = clean_if_open _ _ (g.met.S.Store.shut_if_dirty c.query_all.new.self.store) live in
-    let was = (returns-clause-read g c).stays.was_open live in
+    let store = c.requires ((returns-clause-read g c).stays.was_open live) in
     let first : SFits w64 c.page_of-at.result.first = search rules in
     let last : SFits w64 c.page_of-at.result.last = search rules in
     let limit : SFits w64 c.page_of-at.result.limit = search rules in
-    all_listed AreWellNumbered (λ d. HoldsRequests (old.now.trees request_tree) d.requests) (λ s. PurposeReads s.purpose) summary_shown c.query_all.result (λ v. v.items) c.listed.result (λ v. v.items) _ c.listed.ensures.ok c.listed.ensures.found
-    (IfOk-weaker c.query_all.result _ _ (λ rows shown d sound held. request_page (c.requires was).schema.0 c.args.account c.args.offset c.args.limit old _ rows.items (c.requires was).schema.1
+    all_listed AreWellNumbered (λ d. HoldsRequests _ d.requests) (λ s. PurposeReads s.purpose) summary_shown
+    c.query_all.result (λ v. v.items) c.listed.result (λ v. v.items) _ c.listed.ensures.ok c.listed.ensures.found
+    (IfOk-weaker c.query_all.result _ _
+    (λ rows shown d sound held. request_page store.schema.0 c.args.account c.args.offset c.args.limit _ _ rows.items
+    store.schema.1
     (rw (c.params-to_sql.ensures, c.params-to_sql-2.ensures, c.params-to_sql-3.ensures, to_z-of_z first, to_z-of_z last, to_z-of_z limit, c.page_of-at.ensures.first, c.page_of-at.ensures.last, c.page_of-at.ensures.limit) at shown) d sound held) (c.query_all.ensures.ok clean))

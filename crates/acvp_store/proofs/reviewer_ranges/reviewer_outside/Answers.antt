@@ -1,11 +1,8 @@
-use Rattle.std.specs.List.{AllByRecursion}
-use Rattle.sqlite.specs.Held.{state}
-use Rattle.acvp_store.specs.Stands.{reviewer_tree}
-use Rattle.acvp_store.proofs.Told.{told}
-use Rattle.acvp_store.proofs.FoundRow.{in_store}
+use Rattle.acvp_store.proofs.Words.{reviewer_tree, state}
+use Rattle.acvp_store.proofs.Told.{told, in_store}
 use Rattle.acvp_store.proofs.QueryLeaves.{clean_if_open}
 use Rattle.acvp_store.proofs.Readings.{ReviewerOutside, reads_rows}
-use Rattle.acvp_store.proofs.ReviewerRanges.{reviewers_typed, is_elsewhere, reviewers_outside, reviewer_told, Within, all_within}
+use Rattle.acvp_store.proofs.ReviewerRanges.{reviewers_typed, reviewers_outside, reviewer_told, all_within}
 use Rattle.acvp_store.proofs.reviewer_ranges.reviewer_outside.Goals as goal
 
 pub returns-clause-read : goal.returns-clause-read
@@ -19,11 +16,12 @@ pub returns-clause-none : goal.returns-clause-none
 returns-clause-none g c live =
     let old = state g.S.Store c.args.conn.now in
     let clean = clean_if_open _ _ (g.met.S.Store.shut_if_dirty c.query_all.new.self.store) live in
-    let was = (returns-clause-read g c).stays.was_open live in
+    let store = c.requires ((returns-clause-read g c).stays.was_open live) in
     in_store c.number_in.result old.now _ (λ layout schema.
     let table = old.now.trees (reviewer_tree layout) in
     told c.query_all.result c.number_in.result c.number_in.ensures.ok _ _ _
-    (λ rows found is shown none. all_within table (reviewers_typed layout old.now schema (c.requires was).sound) (reviewers_outside layout old _ rows.items schema shown (is none)))
+    (λ rows found is shown none. all_within table (reviewers_typed layout old.now schema store.sound)
+    (reviewers_outside layout old _ rows.items schema shown (is none)))
     c.number_in.ensures.none (c.query_all.ensures.ok clean))
 
 pub returns-clause-some : goal.returns-clause-some

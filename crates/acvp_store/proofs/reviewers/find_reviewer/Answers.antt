@@ -1,15 +1,8 @@
 use Rattle.std.proofs.Common.{◌∙◌, [], ◌∷◌, rules, w64, to_z-of_z}
-use mir.Val.{SFits}
-use Rattle.std.proofs.lemmas.List.Sorted.{list_any-IsPermutation}
-use Rattle.acvp_tables.specs.Changes.{is_pair}
-use Rattle.acvp_tables.specs.declared.rows.ReviewerRow.{ReviewerRow}
-use Rattle.acvp_store.specs.Values.{whole}
-use Rattle.sqlite.specs.Held.{state}
-use Rattle.acvp_store.specs.Stands.{Entry, reviewer_tree}
-use Rattle.acvp_store.proofs.Told.{told}
+use Rattle.acvp_store.proofs.Words.{Entry, is_pair, list_any-IsPermutation, ReviewerRow, SFits, state, whole}
+use Rattle.acvp_store.proofs.Told.{told, in_store}
 use Rattle.acvp_store.proofs.Readings.{ReviewerAt, reads_rows}
 use Rattle.acvp_store.proofs.QueryLeaves.{clean_if_open}
-use Rattle.acvp_store.proofs.FoundRow.{in_store}
 use Rattle.acvp_store.proofs.ReviewerRows.{reviewer_rows, any_passes, any_row}
 use Rattle.acvp_store.proofs.reviewers.find_reviewer.Goals as goal
 
@@ -28,7 +21,8 @@ returns-clause-found g c live =
     in_store c.any.result old.now _ (λ layout schema.
     told c.query_all.result c.any.result c.any.ensures.ok _ _ _ (λ rows any is shown list h.
     let r = let it : ReviewerRow = record { session = c.args.session; account = c.args.account } in it in
-    is ∙ any_passes (λ (e : Entry ReviewerRow). whole e.row.account ∷ []) (λ e. is_pair r e.row) h.kept.entries rows.items
+    is ∙ any_passes (λ (e : Entry ReviewerRow). whole e.row.account ∷ []) (λ e. is_pair r e.row) h.kept.entries
+    rows.items
     (reviewer_rows layout r old _ rows.items schema list h c.key.result c.key.ensures.fits c.key.ensures.too_large
     (rw (c.params-to_sql.ensures, c.params-to_sql-2.ensures, to_z-of_z fit, c.from.ensures) at shown))
     ∙ any_row (is_pair r) h.kept.entries ∙ list_any-IsPermutation (is_pair r) _ list h.kept.same)

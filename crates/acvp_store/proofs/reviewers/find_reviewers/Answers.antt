@@ -1,13 +1,8 @@
-use Rattle.std.proofs.Common.{rules, w64, to_z-of_z}
-use mir.Val.{SFits}
-use Rattle.std.proofs.lemmas.Result.{IfOk-weaker}
-use Rattle.sqlite.specs.Held.{state}
-use Rattle.acvp_store.specs.Stands.{reviewer_tree}
+use Rattle.acvp_store.proofs.Words.{IfOk-weaker, reviewer_tree, rules, SFits, state, to_z-of_z, w64}
 use Rattle.acvp_store.proofs.Readings.{ReviewersOf, reads_rows}
 use Rattle.acvp_store.proofs.QueryLeaves.{clean_if_open}
-use Rattle.acvp_store.proofs.FoundRow.{in_store}
-use Rattle.acvp_store.proofs.RowLists.{listed_plainly}
-use Rattle.acvp_store.proofs.SessionReviewers.{account_shown, session_rows, find_all}
+use Rattle.acvp_store.proofs.Told.{in_store, listed_plainly}
+use Rattle.acvp_store.proofs.ReviewerRows.{account_shown, session_rows, find_all}
 use Rattle.acvp_store.proofs.reviewers.find_reviewers.Goals as goal
 
 pub returns-clause-read : goal.returns-clause-read
@@ -24,4 +19,7 @@ returns-clause-found g c live =
     let fit : SFits w64 c.key.result = search rules in
     in_store c.listed.result old.now _ (λ layout schema.
     find_all c.args.session (old.now.trees (reviewer_tree layout)) (λ v. v.items) (λ v. v.items) c.query_all.result c.listed.result c.listed.ensures.ok (listed_plainly account_shown c.query_all.result (λ v. v.items) c.listed.result (λ v. v.items) c.listed.ensures.found)
-    (IfOk-weaker c.query_all.result _ _ (λ rows shown list h numbers rise same. session_rows layout c.args.session old _ rows.items schema list h numbers rise c.key.result c.key.ensures.fits c.key.ensures.too_large (rw (c.params-to_sql.ensures, to_z-of_z fit) at shown) same) (c.query_all.ensures.ok clean)))
+    (IfOk-weaker c.query_all.result _ _
+    (λ rows shown list h numbers rise same. session_rows layout c.args.session old _ rows.items schema list h numbers
+    rise c.key.result c.key.ensures.fits c.key.ensures.too_large (rw (c.params-to_sql.ensures, to_z-of_z fit) at shown)
+    same) (c.query_all.ensures.ok clean)))

@@ -1,7 +1,7 @@
 use Rattle.std.proofs.Common.{◌≡◌, length}
 use Rattle.std.specs.Prelude.{◌↔◌}
-use Rattle.std.specs.List.{AllByRecursion}
 use Rattle.acvp_store.specs.Private.Bare.{IsBare}
+use Rattle.acvp_store.proofs.Words.{AllByRecursion}
 use Rattle.acvp_store.proofs.same.same_tables.Given as goal
 
 abbrev pub invariant-loop-first : goal.invariant-loop-first

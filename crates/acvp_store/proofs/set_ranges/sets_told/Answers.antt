@@ -1,8 +1,5 @@
 use Rattle.std.proofs.Common.{rules, ◌≡◌, ℤ, [], ◌∷◌, ◌++◌, Some, slice_get, sym, ap, subst, ◌∙◌}
-use Rattle.std.proofs.lemmas.Option.{slice_get-get_or}
-use Rattle.acvp_store.specs.Stands.{IsSet}
-use Rattle.acvp_store.specs.Private.SetRanges.{HasStraySet}
-use Rattle.acvp_store.specs.declared.ranges.RangeFault.TheVariants.{Stray}
+use Rattle.acvp_store.proofs.Words.{HasStraySet, IsSet, slice_get-get_or, Stray}
 use Rattle.acvp_store.proofs.Told.{told_more}
 use Rattle.acvp_store.proofs.set_ranges.sets_told.Goals as goal
 

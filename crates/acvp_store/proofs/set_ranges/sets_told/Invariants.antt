@@ -1,6 +1,4 @@
-use Rattle.std.proofs.Common.{take}
-use Rattle.std.specs.List.{AllZip}
-use Rattle.acvp_store.specs.Stands.{IsSet}
+use Rattle.acvp_store.proofs.Words.{AllZip, IsSet, take}
 use Rattle.acvp_store.proofs.set_ranges.sets_told.Given as goal
 
 abbrev pub invariant-loop-set : goal.invariant-loop-set

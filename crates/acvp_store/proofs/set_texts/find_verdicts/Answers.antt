@@ -1,16 +1,9 @@
-use Rattle.std.proofs.Common.{rules, w64, to_z-of_z}
-use mir.Val.{SFits}
-use Rattle.std.specs.Prelude.{option_map, option_and_then}
-use Rattle.acvp_tables.specs.Content.{set_verdicts}
-use Rattle.acvp_store.specs.Stands.{SetColumns}
-use Rattle.acvp_store.specs.Private.SetTexts.{text_shown, TellsVerdicts}
+use Rattle.acvp_store.proofs.Words.{IfOk-weaker, option_and_then, option_map, rules, set_tree, set_verdicts, SetColumns}
+use Rattle.acvp_store.proofs.Words.{SFits, state, TellsVerdicts, text_shown, to_z-of_z, w64}
 use Rattle.acvp_store.proofs.SetRows.{verdict_rows, verdicts_told, find_told}
-use Rattle.std.proofs.lemmas.Result.{IfOk-weaker}
-use Rattle.sqlite.specs.Held.{state}
-use Rattle.acvp_store.specs.Stands.{set_tree}
 use Rattle.acvp_store.proofs.Readings.{VerdictsAt, reads_rows}
 use Rattle.acvp_store.proofs.QueryLeaves.{clean_if_open}
-use Rattle.acvp_store.proofs.FoundRow.{in_store}
+use Rattle.acvp_store.proofs.Told.{in_store}
 use Rattle.acvp_store.proofs.set_texts.find_verdicts.Goals as goal
 
 pub returns-clause-read : goal.returns-clause-read
@@ -27,4 +20,6 @@ returns-clause-found g c live =
     let fit : SFits w64 c.key.result = search rules in
     in_store c.verdicts_in.result old.now _ (λ layout schema.
     find_told (λ (c : SetColumns). c.verdicts) TellsVerdicts (option_and_then set_verdicts) (λ y e. e) verdicts_told c.args.number text_shown (option_map (λ v. v.items)) (old.now.trees (set_tree layout)) (λ v. v.items) c.query_all.result c.answered.result c.verdicts_in.result c.answered.ensures.ok c.verdicts_in.ensures.ok c.answered.ensures.found c.verdicts_in.ensures.told
-    (IfOk-weaker c.query_all.result _ _ (λ rows shown. verdict_rows layout c.args.number c.key.result c.key.ensures.fits c.key.ensures.too_large old _ rows.items schema (rw (c.params-to_sql.ensures, to_z-of_z fit) at shown)) (c.query_all.ensures.ok clean)))
+    (IfOk-weaker c.query_all.result _ _
+    (λ rows shown. verdict_rows layout c.args.number c.key.result c.key.ensures.fits c.key.ensures.too_large old _
+    rows.items schema (rw (c.params-to_sql.ensures, to_z-of_z fit) at shown)) (c.query_all.ensures.ok clean)))

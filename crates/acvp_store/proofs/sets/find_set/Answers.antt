@@ -1,15 +1,9 @@
-use Rattle.std.proofs.Common.{rules, w64, to_z-of_z}
-use mir.Val.{SFits}
-use Rattle.std.specs.Prelude.{option_map, option_to_list}
-use Rattle.std.proofs.lemmas.Result.{IfOk-weaker}
-use Rattle.sqlite.specs.Held.{state}
-use Rattle.acvp_tables.specs.Content.{set_summary}
-use Rattle.acvp_store.specs.Stands.{set_tree}
-use Rattle.acvp_store.specs.Private.Sets.{read_shown, read_columns, read_of, IsJudgedWhole, IsSummaryOf}
-use Rattle.acvp_store.specs.Private.Shown.{is_under}
+use Rattle.acvp_store.proofs.Words.{IfOk-weaker, is_under, IsJudgedWhole, IsSummaryOf, option_map, option_to_list}
+use Rattle.acvp_store.proofs.Words.{read_columns, read_of, read_shown, rules, set_summary, set_tree, SFits, state}
+use Rattle.acvp_store.proofs.Words.{to_z-of_z, w64}
 use Rattle.acvp_store.proofs.Readings.{SetAt, reads_rows}
 use Rattle.acvp_store.proofs.QueryLeaves.{clean_if_open}
-use Rattle.acvp_store.proofs.FoundRow.{in_store}
+use Rattle.acvp_store.proofs.Told.{in_store}
 use Rattle.acvp_store.proofs.QueryRows.{met}
 use Rattle.acvp_store.proofs.RowsMet.{set_met, judged_one}
 use Rattle.acvp_store.proofs.SetRows.{set_rows, none_told, one_told, find_told}
@@ -29,7 +23,9 @@ returns-clause-found g c live =
     let fit : SFits w64 c.key.result = search rules in
     in_store c.summarized.result old.now _ (λ layout schema.
     find_told read_of IsSummaryOf (option_map set_summary) none_told one_told c.args.number read_shown (λ s. s) (old.now.trees (set_tree layout)) (λ v. v.items) c.query_all.result c.answered.result c.summarized.result c.answered.ensures.ok c.summarized.ensures.ok c.answered.ensures.found c.summarized.ensures.told
-    (IfOk-weaker c.query_all.result _ _ (λ rows shown. set_rows layout c.args.number c.key.result c.key.ensures.fits c.key.ensures.too_large old _ rows.items schema (rw (c.params-to_sql.ensures, to_z-of_z fit) at shown)) (c.query_all.ensures.ok clean)))
+    (IfOk-weaker c.query_all.result _ _
+    (λ rows shown. set_rows layout c.args.number c.key.result c.key.ensures.fits c.key.ensures.too_large old _
+    rows.items schema (rw (c.params-to_sql.ensures, to_z-of_z fit) at shown)) (c.query_all.ensures.ok clean)))
 
 pub returns-clause-judged : goal.returns-clause-judged
 returns-clause-judged g c live low =
@@ -39,4 +35,6 @@ returns-clause-judged g c live low =
     in_store c.summarized.result old.now _ (λ layout schema.
     met (is_under c.args.number) read_columns read_shown _ (λ row x is. is) IsJudgedWhole (old.now.trees (set_tree layout)) (λ v. v.items) option_to_list c.query_all.result c.answered.result c.summarized.result c.answered.ensures.ok c.summarized.ensures.ok c.answered.ensures.judged
     (IfOk-weaker c.summarized.result _ _ (λ told tells. IfOk-weaker c.answered.result _ _ (λ found is. judged_one found told is) tells) c.summarized.ensures.told)
-    (IfOk-weaker c.query_all.result _ _ (λ rows shown. set_met layout c.args.number c.key.result low c.key.ensures.fits old _ rows.items schema (rw (c.params-to_sql.ensures, to_z-of_z fit) at shown)) (c.query_all.ensures.ok clean)))
+    (IfOk-weaker c.query_all.result _ _
+    (λ rows shown. set_met layout c.args.number c.key.result low c.key.ensures.fits old _ rows.items schema
+    (rw (c.params-to_sql.ensures, to_z-of_z fit) at shown)) (c.query_all.ensures.ok clean)))

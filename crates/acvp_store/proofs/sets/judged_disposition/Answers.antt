@@ -1,7 +1,6 @@
 use Rattle.std.proofs.Common.{rules, ◌≡◌, Some, Option}
 use Rattle.acvp_answers.specs.declared.verdict.Disposition.{Disposition}
-use Rattle.acvp_tables.specs.declared.tables.StoreFault.{StoreFault}
-use Rattle.acvp_store.specs.Private.Sets.{IsDispositionOf}
+use Rattle.acvp_store.proofs.Words.{IsDispositionOf, StoreFault}
 use Rattle.acvp_store.proofs.SetRows.{not_given}
 use Rattle.acvp_store.proofs.sets.judged_disposition.Goals as goal
 

@@ -1,7 +1,5 @@
 use Rattle.std.proofs.Common.{rules, ◌≡◌, [], ◌∷◌, ◌++◌, Some, slice_get, sym, ap, subst, ◌∙◌}
-use Rattle.std.proofs.lemmas.Option.{slice_get-get_or}
-use Rattle.acvp_tables.specs.declared.tables.StoreFault.{StoreFault}
-use Rattle.acvp_store.specs.Private.Sets.{HasUnjudged, IsSummary}
+use Rattle.acvp_store.proofs.Words.{HasUnjudged, IsSummary, slice_get-get_or, StoreFault}
 use Rattle.acvp_store.proofs.Told.{told_more}
 use Rattle.acvp_store.proofs.sets.summaries.Goals as goal
 

@@ -1,6 +1,4 @@
-use Rattle.std.proofs.Common.{take}
-use Rattle.std.specs.List.{AllZip}
-use Rattle.acvp_store.specs.Private.Sets.{IsSummary}
+use Rattle.acvp_store.proofs.Words.{AllZip, IsSummary, take}
 use Rattle.acvp_store.proofs.sets.summaries.Given as goal
 
 abbrev pub invariant-loop-set : goal.invariant-loop-set

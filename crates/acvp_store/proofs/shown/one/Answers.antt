@@ -1,5 +1,5 @@
-use Rattle.std.proofs.Common.{rules, arith}
-use Rattle.acvp_store.proofs.FoundRow.{none_found, one_found}
+use Rattle.acvp_store.proofs.Words.{arith, rules}
+use Rattle.acvp_store.proofs.Told.{none_found, one_found}
 use Rattle.acvp_store.proofs.shown.one.Goals as goal
 
 pub returns-in-None-clause-found : goal.returns-in-None-clause-found

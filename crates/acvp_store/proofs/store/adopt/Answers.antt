@@ -1,6 +1,5 @@
-use Rattle.std.proofs.lemmas.Result.{IfErr-weaker}
-use Rattle.sqlite.specs.Held.{state}
 use Rattle.acvp_store.specs.Private.Clean.{open_is_clean}
+use Rattle.acvp_store.proofs.Words.{IfErr-weaker, state}
 use Rattle.acvp_store.proofs.OneSchema.{is_ours, stands_again, neither_ours, of_both, of_success}
 use Rattle.acvp_store.proofs.store.adopt.Goals as goal
 

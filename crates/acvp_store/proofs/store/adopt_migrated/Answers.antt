@@ -1,8 +1,5 @@
 use Rattle.std.proofs.Common.{sym, ap, subst, ◌∙◌}
-use Rattle.std.proofs.lemmas.Result.{IfOk-weaker, IfErr-weaker}
-use Rattle.sqlite.specs.Effect.{Database, IsDatabase}
-use Rattle.acvp_store.specs.Version.{HasVersion}
-use Rattle.acvp_store.specs.Schema.{Migrated}
+use Rattle.acvp_store.proofs.Words.{Database, HasVersion, IfErr-weaker, IfOk-weaker, IsDatabase, Migrated}
 use Rattle.acvp_store.proofs.Versions.{empty}
 use Rattle.acvp_store.proofs.store.adopt_migrated.Goals as goal
 

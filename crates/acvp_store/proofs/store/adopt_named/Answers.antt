@@ -1,4 +1,4 @@
-use Rattle.acvp_store.specs.Schema.{Third}
+use Rattle.acvp_store.proofs.Words.{Third}
 use Rattle.acvp_store.proofs.store.adopt_named.Goals as goal
 
 pub has_version-requires : goal.has_version-requires

@@ -1,7 +1,4 @@
-use Rattle.sqlite.specs.Held.{state}
-use Rattle.acvp_store.specs.Connection.{Under}
-use Rattle.acvp_store.specs.Schema.{no_schema}
-use Rattle.acvp_store.specs.Store.{BecomesMigrated}
+use Rattle.acvp_store.proofs.Words.{BecomesMigrated, no_schema, state, Under}
 use Rattle.acvp_store.proofs.KeptPromises.{MakesMigrated, becomes_migrated, written_as}
 use Rattle.acvp_store.proofs.store.make_migrated_tables.Goals as goal
 

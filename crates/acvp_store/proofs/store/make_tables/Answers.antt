@@ -1,7 +1,4 @@
-use Rattle.sqlite.specs.Held.{state}
-use Rattle.acvp_store.specs.Connection.{Under}
-use Rattle.acvp_store.specs.Schema.{no_schema}
-use Rattle.acvp_store.specs.Store.{Begins}
+use Rattle.acvp_store.proofs.Words.{Begins, no_schema, state, Under}
 use Rattle.acvp_store.proofs.KeptPromises.{MakesAll, begins, written_as}
 use Rattle.acvp_store.proofs.store.make_tables.Goals as goal
 

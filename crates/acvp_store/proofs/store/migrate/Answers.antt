@@ -1,12 +1,8 @@
 use Rattle.std.proofs.Common.{sym, ap, subst, ◌∙◌}
-use Rattle.std.proofs.lemmas.Result.{IfOk-weaker, IfErr-weaker}
-use Rattle.sqlite.specs.Effect.{Database}
-use Rattle.sqlite.specs.Held.{state}
-use Rattle.acvp_store.specs.Migrated.{IsAfterMigration}
-use Rattle.acvp_store.specs.Schema.{Third}
 use Rattle.acvp_store.specs.Private.Clean.{open_is_clean}
-use Rattle.acvp_store.specs.Private.Migration.{version_of, IsEarlierOf}
-use Rattle.acvp_store.proofs.Known.{unknown, not_known, left_as_committed, of_fault}
+use Rattle.acvp_store.proofs.Words.{Database, IfErr-weaker, IfOk-weaker, IsAfterMigration, IsEarlierOf, state, Third}
+use Rattle.acvp_store.proofs.Words.{version_of}
+use Rattle.acvp_store.proofs.Versions.{unknown, not_known, left_as_committed, of_fault}
 use Rattle.acvp_store.proofs.OneSchema.{is_of, stands_migrated, of_both, of_success, as_committed, as_left}
 use Rattle.acvp_store.proofs.store.migrate.Goals as goal
 

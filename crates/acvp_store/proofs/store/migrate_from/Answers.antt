@@ -1,6 +1,5 @@
-use Rattle.sqlite.specs.Held.{state}
-use Rattle.acvp_store.specs.Migrated.{IsAfterMigration}
-use Rattle.acvp_store.proofs.Known.{left_as_committed}
+use Rattle.acvp_store.proofs.Words.{IsAfterMigration, state}
+use Rattle.acvp_store.proofs.Versions.{left_as_committed}
 use Rattle.acvp_store.proofs.store.migrate_from.Goals as goal
 
 pub returns-in-Ok-false-clause-left : goal.returns-in-Ok-false-clause-left

@@ -1,8 +1,7 @@
 use Rattle.std.proofs.Common.{rules, ◌≡◌, Some, string_bytes, sym, ap, subst, ◌∙◌}
 use Rattle.serde_json.specs.View.{view}
 use Rattle.serde_json.specs.Written.{compact_text}
-use Rattle.acvp_registry.specs.Json.{body_json}
-use Rattle.acvp_store.specs.Stands.{certification_data}
+use Rattle.acvp_store.proofs.Words.{body_json, certification_data}
 use Rattle.acvp_store.proofs.CertificationTexts.{has_environment, has_module, same_certification}
 use Rattle.acvp_store.proofs.summaries.certification.Goals as goal
 

@@ -1,6 +1,6 @@
 use Rattle.std.proofs.Common.{◌≡◌, Some, MatchOption, sym, ap, subst, ◌∙◌}
-use Rattle.std.specs.Prelude.{option_map}
 use Rattle.acvp_registry.specs.Url.{IsUrl}
+use Rattle.acvp_store.proofs.Words.{option_map}
 use Rattle.acvp_store.proofs.summaries.linked.Goals as goal
 
 pub returns : goal.returns

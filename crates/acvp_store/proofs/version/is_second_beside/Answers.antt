@@ -1,4 +1,4 @@
-use Rattle.acvp_store.specs.Schema.{Migrated, Second}
+use Rattle.acvp_store.proofs.Words.{Migrated, Second}
 use Rattle.acvp_store.proofs.version.is_second_beside.Goals as goal
 
 pub has_version-requires : goal.has_version-requires

@@ -1,7 +1,5 @@
 use Rattle.std.proofs.Common.{◌≡◌, IsTrue, Ok, Err, ap, subst, rules}
-use Rattle.sqlite.specs.Tree.{Trees}
-use Rattle.sqlite.specs.Held.{Held, state}
-use Rattle.acvp_store.specs.Connection.{IsWritten}
+use Rattle.acvp_store.proofs.Words.{Held, IsWritten, state, Trees}
 use Rattle.acvp_store.proofs.QueryLeaves.{clean_if_open}
 use Rattle.acvp_store.proofs.Together.{dropped, uncommitted, committed}
 use Rattle.acvp_store.proofs.work.commit.Goals as goal

@@ -1,8 +1,6 @@
-use Rattle.std.proofs.Common.{[], ap}
-use Rattle.sqlite.specs.Held.{state}
-use Rattle.acvp_store.specs.Private.Migration.{RaisesVersion}
+use Rattle.acvp_store.proofs.Words.{[], ap, RaisesVersion, state}
 use Rattle.acvp_store.proofs.Writings.{VersionRaised, writes}
-use Rattle.acvp_store.proofs.MigrationSteps.{raise_effect}
+use Rattle.acvp_store.proofs.MadeTables.{raise_effect}
 use Rattle.acvp_store.proofs.migration.VersionRaisedWork.run.Goals as goal
 
 pub returns-clause-inside : goal.returns-clause-inside

@@ -1,5 +1,5 @@
 use Rattle.std.proofs.Common.{refl, sym, ◌∙◌}
-use Rattle.acvp_tables.specs.Changes.{new_certification}
+use Rattle.acvp_store.proofs.Words.{new_certification}
 use Rattle.acvp_store.proofs.requests.CertificationAskedWork.run.Goals as goal
 
 pub returns-clause-inside : goal.returns-clause-inside

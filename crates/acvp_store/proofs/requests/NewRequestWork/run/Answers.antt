@@ -1,7 +1,5 @@
 use Rattle.std.proofs.Common.{◌≡◌, Some, refl, sym, ap, subst, ◌∙◌}
-use Rattle.acvp_registry.specs.Json.{body_json}
-use Rattle.acvp_tables.specs.Content.{kind_number}
-use Rattle.acvp_tables.specs.Changes.{new_request}
+use Rattle.acvp_store.proofs.Words.{body_json, kind_number, new_request}
 use Rattle.acvp_store.proofs.requests.NewRequestWork.run.Goals as goal
 
 pub returns-clause-inside : goal.returns-clause-inside

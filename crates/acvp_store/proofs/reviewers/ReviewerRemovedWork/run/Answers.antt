@@ -1,10 +1,4 @@
-use Rattle.std.proofs.Common.{ap, rules, w64, to_z-of_z, filter, not}
-use mir.Val.{SFits}
-use Rattle.sqlite.specs.Held.{state}
-use Rattle.acvp_tables.specs.Changes.{is_pair}
-use Rattle.acvp_store.specs.Alters.{Alters}
-use Rattle.acvp_store.specs.Stands.{reviewer_tree, HoldsReviewers, reviewer_columns}
-use Rattle.acvp_store.specs.Schema.{Layout}
+use Rattle.acvp_store.proofs.Words.{ap, reviewer_columns, rules, SFits, state, to_z-of_z, w64}
 use Rattle.acvp_store.proofs.Writings.{ReviewerRemoved, writes}
 use Rattle.acvp_store.proofs.ReviewerRows.{remove_reviewer_effect}
 use Rattle.acvp_store.proofs.reviewers.ReviewerRemovedWork.run.Goals as goal
@@ -15,6 +9,8 @@ returns-clause-inside g c =
     let r = c.args.self.now.reviewer in
     let fit_session : SFits w64 c.in_ok-session.session = search rules in
     writes ReviewerRemoved (reviewer_columns r) old _ (g.met.S.Store.shut_if_dirty c.execute.new.self.conn.now.store)
-    c.execute.result c.done.result c.done.ensures (λ clean on. rw (c.params-to_sql.ensures, c.params-to_sql-2.ensures, to_z-of_z fit_session, c.in_ok-session.ensures.1, c.from.ensures) at (c.execute.ensures.runs clean on))
+    c.execute.result c.done.result c.done.ensures
+    (λ clean on. rw (c.in_ok-session.ensures.1, c.from.ensures) at (rw
+    (c.params-to_sql.ensures, c.params-to_sql-2.ensures, to_z-of_z fit_session) at (c.execute.ensures.runs clean on)))
     (λ off. ap (state g.S.Store) (c.execute.ensures.ended off).1) c.execute.ensures.survives
     _ (λ layout. remove_reviewer_effect layout old r)

@@ -1,13 +1,7 @@
 use Rattle.std.proofs.Common.{ap, [], ◌∷◌, rules, w64, to_z-of_z}
-use mir.Val.{SFits}
-use Rattle.sqlite.specs.Held.{state}
-use Rattle.acvp_tables.specs.Changes.{changed, is_session, cancelled_session}
-use Rattle.acvp_store.specs.Alters.{Alters}
-use Rattle.acvp_store.specs.Rows.{session_tree, HoldsSessions}
-use Rattle.acvp_store.specs.Schema.{Layout}
-use Rattle.acvp_store.specs.Values.{whole}
+use Rattle.acvp_store.proofs.Words.{SFits, state, whole}
 use Rattle.acvp_store.proofs.Writings.{SessionCancelled, writes}
-use Rattle.acvp_store.proofs.SessionRows.{cancel_effect}
+use Rattle.acvp_store.proofs.MemberRows.{cancel_effect}
 use Rattle.acvp_store.proofs.sessions.CancelledSessionWork.run.Goals as goal
 
 pub returns-clause-inside : goal.returns-clause-inside
@@ -16,6 +10,8 @@ returns-clause-inside g c =
     let s = c.args.self.now in
     let fit_number : SFits w64 c.in_ok-number.number = search rules in
     writes SessionCancelled (whole s.number ∷ []) old _ (g.met.S.Store.shut_if_dirty c.execute.new.self.conn.now.store)
-    c.execute.result c.done.result c.done.ensures (λ clean on. rw (c.params-to_sql.ensures, to_z-of_z fit_number, c.in_ok-number.ensures.1) at (c.execute.ensures.runs clean on))
+    c.execute.result c.done.result c.done.ensures
+    (λ clean on. rw (c.params-to_sql.ensures, to_z-of_z fit_number, c.in_ok-number.ensures.1) at (c.execute.ensures.runs
+    clean on))
     (λ off. ap (state g.S.Store) (c.execute.ensures.ended off).1) c.execute.ensures.survives
     _ (λ layout. cancel_effect layout old s.number)

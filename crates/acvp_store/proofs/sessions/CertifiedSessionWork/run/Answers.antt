@@ -1,13 +1,7 @@
 use Rattle.std.proofs.Common.{ap, [], ◌∷◌, rules, w64, to_z-of_z}
-use mir.Val.{SFits}
-use Rattle.sqlite.specs.Held.{state}
-use Rattle.acvp_tables.specs.Changes.{changed, is_session, with_last_request}
-use Rattle.acvp_store.specs.Alters.{Alters}
-use Rattle.acvp_store.specs.Rows.{session_tree, HoldsSessions}
-use Rattle.acvp_store.specs.Schema.{Layout}
-use Rattle.acvp_store.specs.Values.{whole}
+use Rattle.acvp_store.proofs.Words.{SFits, state, whole}
 use Rattle.acvp_store.proofs.Writings.{SessionCertified, writes}
-use Rattle.acvp_store.proofs.SessionRows.{certify_effect}
+use Rattle.acvp_store.proofs.MemberRows.{certify_effect}
 use Rattle.acvp_store.proofs.sessions.CertifiedSessionWork.run.Goals as goal
 
 pub returns-clause-inside : goal.returns-clause-inside
@@ -16,7 +10,10 @@ returns-clause-inside g c =
     let s = c.args.self.now in
     let fit_number : SFits w64 c.in_ok-number.number = search rules in
     let fit_request : SFits w64 c.in_ok-request.request = search rules in
-    writes SessionCertified (whole s.number ∷ whole s.request ∷ []) old _ (g.met.S.Store.shut_if_dirty c.execute.new.self.conn.now.store)
-    c.execute.result c.done.result c.done.ensures (λ clean on. rw (c.params-to_sql.ensures, c.params-to_sql-2.ensures, to_z-of_z fit_number, to_z-of_z fit_request, c.in_ok-number.ensures.1, c.in_ok-request.ensures.1) at (c.execute.ensures.runs clean on))
+    writes SessionCertified (whole s.number ∷ whole s.request ∷ []) old _
+    (g.met.S.Store.shut_if_dirty c.execute.new.self.conn.now.store)
+    c.execute.result c.done.result c.done.ensures
+    (λ clean on. rw (to_z-of_z fit_request, c.in_ok-number.ensures.1, c.in_ok-request.ensures.1) at (rw
+    (c.params-to_sql.ensures, c.params-to_sql-2.ensures, to_z-of_z fit_number) at (c.execute.ensures.runs clean on)))
     (λ off. ap (state g.S.Store) (c.execute.ensures.ended off).1) c.execute.ensures.survives
     _ (λ layout. certify_effect layout old s.number s.request)

@@ -1,13 +1,7 @@
 use Rattle.std.proofs.Common.{ap, [], ◌∷◌, rules, w64, to_z-of_z}
-use mir.Val.{SFits}
-use Rattle.sqlite.specs.Held.{state}
-use Rattle.acvp_tables.specs.Changes.{changed, is_session, with_passed}
-use Rattle.acvp_store.specs.Alters.{Alters}
-use Rattle.acvp_store.specs.Rows.{session_tree, HoldsSessions}
-use Rattle.acvp_store.specs.Schema.{Layout}
-use Rattle.acvp_store.specs.Values.{whole}
+use Rattle.acvp_store.proofs.Words.{SFits, state, whole}
 use Rattle.acvp_store.proofs.Writings.{SessionPassed, writes}
-use Rattle.acvp_store.proofs.SessionRows.{pass_effect}
+use Rattle.acvp_store.proofs.MemberRows.{pass_effect}
 use Rattle.acvp_store.proofs.sessions.PassedSessionWork.run.Goals as goal
 
 pub returns-clause-inside : goal.returns-clause-inside
@@ -16,7 +10,10 @@ returns-clause-inside g c =
     let s = c.args.self.now in
     let fit_number : SFits w64 c.in_ok-number.number = search rules in
     let fit_passed : SFits w64 c.in_ok-passed.passed = search rules in
-    writes SessionPassed (whole s.number ∷ whole s.passed ∷ []) old _ (g.met.S.Store.shut_if_dirty c.execute.new.self.conn.now.store)
-    c.execute.result c.done.result c.done.ensures (λ clean on. rw (c.params-to_sql.ensures, c.params-to_sql-2.ensures, to_z-of_z fit_number, to_z-of_z fit_passed, c.in_ok-number.ensures.1, c.in_ok-passed.ensures.1) at (c.execute.ensures.runs clean on))
+    writes SessionPassed (whole s.number ∷ whole s.passed ∷ []) old _
+    (g.met.S.Store.shut_if_dirty c.execute.new.self.conn.now.store)
+    c.execute.result c.done.result c.done.ensures
+    (λ clean on. rw (to_z-of_z fit_passed, c.in_ok-number.ensures.1, c.in_ok-passed.ensures.1) at (rw
+    (c.params-to_sql.ensures, c.params-to_sql-2.ensures, to_z-of_z fit_number) at (c.execute.ensures.runs clean on)))
     (λ off. ap (state g.S.Store) (c.execute.ensures.ended off).1) c.execute.ensures.survives
     _ (λ layout. pass_effect layout old s.number s.passed)

@@ -1,7 +1,5 @@
-use Rattle.std.specs.Prelude.{string_bytes, option_map}
-use Rattle.std.proofs.lemmas.Str.{IsUtf8-string_bytes}
 use Rattle.sqlite_value.specs.Order.{column}
-use Rattle.acvp_store.specs.Stands.{SetColumns}
+use Rattle.acvp_store.proofs.Words.{IsUtf8-string_bytes, option_map, SetColumns, string_bytes}
 use Rattle.acvp_store.proofs.SetRanges.{begins, text_column, number_column}
 use Rattle.acvp_store.proofs.set_ranges.WholeSetMember.from_row.Goals as goal
 

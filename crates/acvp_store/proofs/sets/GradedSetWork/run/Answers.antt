@@ -1,12 +1,5 @@
 use Rattle.std.proofs.Common.{ap, sym, rules, w64, to_z-of_z, ◌≡◌, Some, subst, ◌∙◌, string_bytes}
-use mir.Val.{SFits}
-use Rattle.sqlite.specs.Held.{state}
-use Rattle.acvp_answers.specs.VerdictText.{verdicts_text}
-use Rattle.acvp_json.specs.KeptAnswers.{kept_text}
-use Rattle.acvp_tables.specs.Changes.{changed, is_set, with_graded}
-use Rattle.acvp_store.specs.Alters.{Alters}
-use Rattle.acvp_store.specs.Stands.{set_tree, HoldsSets, disposition_number}
-use Rattle.acvp_store.specs.Schema.{Layout}
+use Rattle.acvp_store.proofs.Words.{disposition_number, kept_text, SFits, state, verdicts_text}
 use Rattle.acvp_store.proofs.Writings.{SetGraded, writes}
 use Rattle.acvp_store.proofs.SetRows.{grade_params, grade_effect}
 use Rattle.acvp_store.proofs.sets.GradedSetWork.run.Goals as goal
@@ -20,7 +13,15 @@ returns-clause-inside g c =
     let verdicts = string_bytes c.in_ok-verdicts.verdicts in
     let d = c.in-Some.disposition in
     let disposition_is = subst (λ x. disposition_number x ≡ Some d) c.disposition.ensures.value c.in-Some.ensures.some in
-    writes SetGraded (grade_params s.number answers verdicts d) old _ (g.met.S.Store.shut_if_dirty c.execute.new.self.conn.now.store)
-    c.execute.result c.done.result c.done.ensures (λ clean on. rw (c.params-to_sql.ensures, c.params-to_sql-2.ensures, c.params-to_sql-3.ensures, c.params-to_sql-4.ensures, to_z-of_z fit_number, c.in_ok-number.ensures.1) at (c.execute.ensures.runs clean on))
+    writes SetGraded (grade_params s.number answers verdicts d) old _
+    (g.met.S.Store.shut_if_dirty c.execute.new.self.conn.now.store)
+    c.execute.result c.done.result c.done.ensures
+    (λ clean on. rw (c.params-to_sql-4.ensures, to_z-of_z fit_number, c.in_ok-number.ensures.1) at (rw
+    (c.params-to_sql.ensures, c.params-to_sql-2.ensures, c.params-to_sql-3.ensures) at (c.execute.ensures.runs clean
+    on)))
     (λ off. ap (state g.S.Store) (c.execute.ensures.ended off).1) c.execute.ensures.survives
-    _ (λ layout. grade_effect layout old s.number s.graded.now answers verdicts d (c.in_ok-answers.ensures.text ∙ ap kept_text c.answers.ensures) (c.in_ok-answers.ensures.reads_back ∙ ap Some c.answers.ensures) (c.in_ok-verdicts.ensures ∙ ap verdicts_text c.verdicts.ensures) disposition_is (sym c.disposition.ensures.value ∙ c.disposition.ensures.given))
+    _ (λ layout. grade_effect layout old s.number s.graded.now answers verdicts d
+    (c.in_ok-answers.ensures.text ∙ ap kept_text c.answers.ensures)
+    (c.in_ok-answers.ensures.reads_back ∙ ap Some c.answers.ensures)
+    (c.in_ok-verdicts.ensures ∙ ap verdicts_text c.verdicts.ensures) disposition_is
+    (sym c.disposition.ensures.value ∙ c.disposition.ensures.given))

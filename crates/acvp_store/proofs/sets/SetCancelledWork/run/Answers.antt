@@ -1,11 +1,5 @@
 use Rattle.std.proofs.Common.{ap, [], ◌∷◌, rules, w64, to_z-of_z}
-use mir.Val.{SFits}
-use Rattle.sqlite.specs.Held.{state}
-use Rattle.acvp_tables.specs.Changes.{changed, is_set, cancelled_set}
-use Rattle.acvp_store.specs.Alters.{Alters}
-use Rattle.acvp_store.specs.Stands.{set_tree, HoldsSets}
-use Rattle.acvp_store.specs.Schema.{Layout}
-use Rattle.acvp_store.specs.Values.{whole}
+use Rattle.acvp_store.proofs.Words.{SFits, state, whole}
 use Rattle.acvp_store.proofs.Writings.{SetCancelled, writes}
 use Rattle.acvp_store.proofs.SetRows.{cancel_set_effect}
 use Rattle.acvp_store.proofs.sets.SetCancelledWork.run.Goals as goal
@@ -16,6 +10,8 @@ returns-clause-inside g c =
     let s = c.args.self.now in
     let fit_number : SFits w64 c.in_ok-number.number = search rules in
     writes SetCancelled (whole s.number ∷ []) old _ (g.met.S.Store.shut_if_dirty c.execute.new.self.conn.now.store)
-    c.execute.result c.done.result c.done.ensures (λ clean on. rw (c.params-to_sql.ensures, to_z-of_z fit_number, c.in_ok-number.ensures.1) at (c.execute.ensures.runs clean on))
+    c.execute.result c.done.result c.done.ensures
+    (λ clean on. rw (c.params-to_sql.ensures, to_z-of_z fit_number, c.in_ok-number.ensures.1) at (c.execute.ensures.runs
+    clean on))
     (λ off. ap (state g.S.Store) (c.execute.ensures.ended off).1) c.execute.ensures.survives
     _ (λ layout. cancel_set_effect layout old s.number)

@@ -1,10 +1,7 @@
-use Rattle.std.proofs.Common.{◌≡◌, ◌<◌, ◌+◌, ◌*◌, take, length, length-take-le, get_or, [], ◌∷◌, ◌++◌, Ok, sym, ap, subst, ◌∙◌, arith}
-use Rattle.std.proofs.lemmas.List.{take_more}
-use Rattle.sqlite.specs.Held.{state}
-use Rattle.acvp_tables.specs.Changes.{new_sets}
-use Rattle.acvp_tables.specs.declared.tables.StoreFault.{StoreFault}
-use Rattle.acvp_store.specs.Connection.{IsInside, UnderStore, Both}
-use Rattle.acvp_store.specs.Private.Sets.{new_set, AddsSets}
+use Rattle.std.proofs.Common.{◌≡◌, ◌<◌, ◌+◌, ◌*◌, take, length, length-take-le, get_or, [], ◌∷◌, ◌++◌, Ok, sym, ap}
+use Rattle.std.proofs.Common.{subst, ◌∙◌, arith}
+use Rattle.acvp_store.proofs.Words.{AddsSets, Both, IsInside, new_set, new_sets, state, StoreFault, take_more}
+use Rattle.acvp_store.proofs.Words.{UnderStore}
 use Rattle.acvp_store.proofs.Together.{inside_then, inside_turned}
 use Rattle.acvp_store.proofs.SetRows.{one_more, sets_more}
 use Rattle.acvp_store.proofs.sets.SetsBegunWork.run.Goals as goal

@@ -1,9 +1,5 @@
 use Rattle.std.proofs.Common.{◌≡◌, ◌+◌, ◌*◌, take, Ok}
-use Rattle.sqlite.specs.Held.{state}
-use Rattle.acvp_tables.specs.Changes.{new_sets}
-use Rattle.acvp_tables.specs.declared.tables.StoreFault.{StoreFault}
-use Rattle.acvp_store.specs.Connection.{IsInside, UnderStore}
-use Rattle.acvp_store.specs.Private.Sets.{AddsSets}
+use Rattle.acvp_store.proofs.Words.{AddsSets, IsInside, new_sets, state, StoreFault, UnderStore}
 use Rattle.acvp_store.proofs.sets.SetsBegunWork.run.Given as goal
 
 abbrev pub invariant-loop-capability : goal.invariant-loop-capability

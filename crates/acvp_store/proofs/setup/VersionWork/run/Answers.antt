@@ -1,7 +1,4 @@
-use Rattle.std.proofs.Common.{[], ap}
-use Rattle.sqlite.specs.Held.{state}
-use Rattle.acvp_store.specs.Schema.{Created, schema_of}
-use Rattle.acvp_store.specs.Private.Creating.{WritesVersion}
+use Rattle.acvp_store.proofs.Words.{[], ap, Created, state, WritesVersion}
 use Rattle.acvp_store.proofs.Writings.{VersionAdded, writes_under}
 use Rattle.acvp_store.proofs.MadeTables.{version_effect}
 use Rattle.acvp_store.proofs.setup.VersionWork.run.Goals as goal
@@ -11,4 +8,5 @@ returns-clause-inside g c =
     let old = state g.S.Store c.args.tx.now.conn.now in
     writes_under VersionAdded [] old _ (g.met.S.Store.shut_if_dirty c.execute.new.self.conn.now.store)
     c.execute.result c.done.result c.done.ensures c.execute.ensures.runs
-    (λ off. ap (state g.S.Store) (c.execute.ensures.ended off).1) c.execute.ensures.survives Created (WritesVersion 3) (version_effect old)
+    (λ off. ap (state g.S.Store) (c.execute.ensures.ended off).1) c.execute.ensures.survives Created (WritesVersion 3)
+    (version_effect old)

@@ -1,12 +1,9 @@
-use Rattle.std.proofs.Common.{◌++◌, ◌∷◌, []}
-use Rattle.acvp_tables.specs.Changes.{after_order, new_account}
-use Rattle.acvp_tables.specs.declared.change.OrderChange.TheVariants as order
-use Rattle.acvp_store.specs.Alters.{Alters}
-use Rattle.acvp_store.specs.Rows.{account_tree, HoldsAccounts}
 use Rattle.acvp_store.proofs.KeptPromises.{changes, added}
 use Rattle.acvp_store.proofs.store.SqlTables.add_account.Goals as goal
 
 pub returns : goal.returns
 returns g c =
     let x = c.args.account.now in
-    rw (← c.self.view_is) (changes g.S.Store c.self.inside.connection c.commit.new.conn _ _ c.self.invariant (λ layout d e h. h.schema) (added x) c.commit.result c.commit.ensures)
+    rw (← c.self.view_is)
+    (changes g.S.Store c.self.inside.connection c.commit.new.conn _ _ c.self.invariant (λ layout d e h. h.schema)
+    (added x) c.commit.result c.commit.ensures)

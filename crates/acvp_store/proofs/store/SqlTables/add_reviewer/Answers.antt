@@ -1,10 +1,8 @@
 use Rattle.std.proofs.Common.{sym, ◌∙◌}
-use Rattle.acvp_tables.specs.Changes.{after, with_reviewer}
 use Rattle.acvp_tables.specs.declared.change.Change.TheVariants as change
-use Rattle.acvp_store.specs.Schema.{Layout}
-use Rattle.acvp_store.specs.Alters.{Alters}
-use Rattle.acvp_store.specs.Stands.{reviewer_tree, HoldsReviewers}
-use Rattle.acvp_store.proofs.KeptPromises.{reads, read_then, read_alone, serves_read, changes, reviewer_added, reviewer_there}
+use Rattle.acvp_store.proofs.Words.{after}
+use Rattle.acvp_store.proofs.KeptPromises.{reads, read_then, read_alone, serves_read, changes, reviewer_added}
+use Rattle.acvp_store.proofs.KeptPromises.{reviewer_there}
 use Rattle.acvp_store.proofs.store.SqlTables.add_reviewer.Goals as goal
 
 pub returns-in-Ok-true : goal.returns-in-Ok-true
@@ -24,4 +22,5 @@ returns-in-Ok-false g c =
     let read = reads g.S.Store old mid c.self.invariant (λ db live may. g.met.S.Store.settled old.store db live may) _ c.in-Ok-false.ensures.read in
     let serves = serves_read _ _ _ c.self.invariant c.in-Ok-false.ensures.read in
     rw (← c.self.view_is) (read_then g.S.Store old mid new (after (change.AddReviewer r)) c.in-Ok-false.field-0 c.commit.result read
-    (changes g.S.Store mid new _ _ serves (λ layout d e h. h.schema) (reviewer_added r) c.commit.result c.commit.ensures))
+    (changes g.S.Store mid new _ _ serves (λ layout d e h. h.schema) (reviewer_added r) c.commit.result
+    c.commit.ensures))

@@ -1,14 +1,8 @@
-use Rattle.acvp_tables.specs.Changes.{after_order, changed, is_request, with_status}
-use Rattle.acvp_tables.specs.declared.change.OrderChange.TheVariants as order
-use Rattle.acvp_tables.specs.declared.rows.RequestStatus.TheVariants as status
-use Rattle.acvp_store.specs.Schema.{Layout}
-use Rattle.acvp_store.specs.Alters.{Alters}
-use Rattle.acvp_store.specs.Stands.{request_tree, HoldsRequests}
-use Rattle.acvp_store.specs.Private.Objects.{Registers}
 use Rattle.acvp_store.proofs.KeptPromises.{changes_both, approved}
 use Rattle.acvp_store.proofs.store.SqlTables.approve.Goals as goal
 
 pub returns : goal.returns
 returns g c =
     let x = c.args.approval.now in
-    rw (← c.self.view_is) (changes_both g.S.Store c.self.inside.connection c.commit.new.conn _ _ _ c.self.invariant (λ layout d e h. h.schema) (λ layout d e h. h.schema) (approved x) c.commit.result c.commit.ensures)
+    rw (← c.self.view_is) (changes_both g.S.Store c.self.inside.connection c.commit.new.conn _ _ _ c.self.invariant
+    (λ layout d e h. h.schema) (λ layout d e h. h.schema) (approved x) c.commit.result c.commit.ensures)

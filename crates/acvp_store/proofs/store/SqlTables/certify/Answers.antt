@@ -1,14 +1,8 @@
-use Rattle.std.proofs.Common.{◌++◌, ◌∷◌, []}
-use Rattle.acvp_tables.specs.Changes.{after, changed, new_certification, is_session, with_last_request}
-use Rattle.acvp_tables.specs.declared.change.Change.TheVariants as change
-use Rattle.acvp_store.specs.Schema.{Layout}
-use Rattle.acvp_store.specs.Alters.{Alters}
-use Rattle.acvp_store.specs.Rows.{session_tree, HoldsSessions}
-use Rattle.acvp_store.specs.Stands.{request_tree, HoldsRequests}
 use Rattle.acvp_store.proofs.KeptPromises.{changes_both, certification_asked}
 use Rattle.acvp_store.proofs.store.SqlTables.certify.Goals as goal
 
 pub returns : goal.returns
 returns g c =
     let x = c.args.request.now in
-    rw (← c.self.view_is) (changes_both g.S.Store c.self.inside.connection c.commit.new.conn _ _ _ c.self.invariant (λ layout d e h. h.schema) (λ layout d e h. h.schema) (certification_asked x) c.commit.result c.commit.ensures)
+    rw (← c.self.view_is) (changes_both g.S.Store c.self.inside.connection c.commit.new.conn _ _ _ c.self.invariant
+    (λ layout d e h. h.schema) (λ layout d e h. h.schema) (certification_asked x) c.commit.result c.commit.ensures)

@@ -1,13 +1,8 @@
-use Rattle.acvp_tables.specs.Changes.{after, changed, is_set, with_graded, is_session, with_passed}
-use Rattle.acvp_tables.specs.declared.change.Change.TheVariants as change
-use Rattle.acvp_store.specs.Schema.{Layout}
-use Rattle.acvp_store.specs.Alters.{Alters}
-use Rattle.acvp_store.specs.Rows.{session_tree, HoldsSessions}
-use Rattle.acvp_store.specs.Stands.{set_tree, HoldsSets}
 use Rattle.acvp_store.proofs.KeptPromises.{changes_both, answers_kept}
 use Rattle.acvp_store.proofs.store.SqlTables.keep_answers.Goals as goal
 
 pub returns : goal.returns
 returns g c =
     let k = c.args.kept.now in
-    rw (← c.self.view_is) (changes_both g.S.Store c.self.inside.connection c.commit.new.conn _ _ _ c.self.invariant (λ layout d e h. h.schema) (λ layout d e h. h.schema) (answers_kept k) c.commit.result c.commit.ensures)
+    rw (← c.self.view_is) (changes_both g.S.Store c.self.inside.connection c.commit.new.conn _ _ _ c.self.invariant
+    (λ layout d e h. h.schema) (λ layout d e h. h.schema) (answers_kept k) c.commit.result c.commit.ensures)

@@ -1,12 +1,9 @@
-use Rattle.std.proofs.Common.{◌++◌, ◌∷◌, []}
-use Rattle.acvp_tables.specs.Changes.{after, new_request}
-use Rattle.acvp_tables.specs.declared.change.Change.TheVariants as change
-use Rattle.acvp_store.specs.Alters.{Alters}
-use Rattle.acvp_store.specs.Stands.{request_tree, HoldsRequests}
 use Rattle.acvp_store.proofs.KeptPromises.{changes, request_made}
 use Rattle.acvp_store.proofs.store.SqlTables.new_request.Goals as goal
 
 pub returns : goal.returns
 returns g c =
     let r = c.args.request.now in
-    rw (← c.self.view_is) (changes g.S.Store c.self.inside.connection c.commit.new.conn _ _ c.self.invariant (λ layout d e h. h.schema) (request_made r) c.commit.result c.commit.ensures)
+    rw (← c.self.view_is)
+    (changes g.S.Store c.self.inside.connection c.commit.new.conn _ _ c.self.invariant (λ layout d e h. h.schema)
+    (request_made r) c.commit.result c.commit.ensures)

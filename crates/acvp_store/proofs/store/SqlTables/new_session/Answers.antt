@@ -1,14 +1,8 @@
-use Rattle.std.proofs.Common.{◌++◌, ◌∷◌, []}
-use Rattle.acvp_tables.specs.Changes.{after, new_session, new_sets}
-use Rattle.acvp_tables.specs.declared.change.Change.TheVariants as change
-use Rattle.acvp_store.specs.Schema.{Layout}
-use Rattle.acvp_store.specs.Alters.{Alters}
-use Rattle.acvp_store.specs.Rows.{session_tree, HoldsSessions}
-use Rattle.acvp_store.specs.Private.Sets.{AddsSets}
 use Rattle.acvp_store.proofs.KeptPromises.{changes_both, session_begun}
 use Rattle.acvp_store.proofs.store.SqlTables.new_session.Goals as goal
 
 pub returns : goal.returns
 returns g c =
     let s = c.args.session.now in
-    rw (← c.self.view_is) (changes_both g.S.Store c.self.inside.connection c.commit.new.conn _ _ _ c.self.invariant (λ layout d e h. h.schema) (λ layout d e h. h.schema) (session_begun s) c.commit.result c.commit.ensures)
+    rw (← c.self.view_is) (changes_both g.S.Store c.self.inside.connection c.commit.new.conn _ _ _ c.self.invariant
+    (λ layout d e h. h.schema) (λ layout d e h. h.schema) (session_begun s) c.commit.result c.commit.ensures)

@@ -1,12 +1,9 @@
-use Rattle.acvp_tables.specs.Changes.{after_order, changed, is_request, with_status}
-use Rattle.acvp_tables.specs.declared.change.OrderChange.TheVariants as order
-use Rattle.acvp_tables.specs.declared.rows.RequestStatus.TheVariants as status
-use Rattle.acvp_store.specs.Alters.{Alters}
-use Rattle.acvp_store.specs.Stands.{request_tree, HoldsRequests}
 use Rattle.acvp_store.proofs.KeptPromises.{changes, rejected}
 use Rattle.acvp_store.proofs.store.SqlTables.reject.Goals as goal
 
 pub returns : goal.returns
 returns g c =
     let n = c.args.number in
-    rw (← c.self.view_is) (changes g.S.Store c.self.inside.connection c.commit.new.conn _ _ c.self.invariant (λ layout d e h. h.schema) (rejected n) c.commit.result c.commit.ensures)
+    rw (← c.self.view_is)
+    (changes g.S.Store c.self.inside.connection c.commit.new.conn _ _ c.self.invariant (λ layout d e h. h.schema)
+    (rejected n) c.commit.result c.commit.ensures)

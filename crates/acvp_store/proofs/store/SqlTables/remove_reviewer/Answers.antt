@@ -1,8 +1,6 @@
 use Rattle.std.proofs.Common.{filter, not}
-use Rattle.acvp_tables.specs.Changes.{after, is_pair}
 use Rattle.acvp_tables.specs.declared.change.Change.TheVariants as change
-use Rattle.acvp_store.specs.Alters.{Alters}
-use Rattle.acvp_store.specs.Stands.{reviewer_tree, HoldsReviewers}
+use Rattle.acvp_store.proofs.Words.{after, Alters, HoldsReviewers, is_pair, reviewer_tree}
 use Rattle.acvp_store.proofs.KeptPromises.{changes, reviewer_removed}
 use Rattle.acvp_store.proofs.store.SqlTables.remove_reviewer.Goals as goal
 

@@ -1,5 +1,4 @@
-use Rattle.std.proofs.lemmas.Result.{IfOk-weaker}
-use Rattle.acvp_tables.specs.Content.{Content, greatest_epoch_of}
+use Rattle.acvp_store.proofs.Words.{Content, greatest_epoch_of, IfOk-weaker}
 use Rattle.acvp_store.proofs.KeptPromises.{finds, reads}
 use Rattle.acvp_store.proofs.store.SqlTablesTables.greatest_epoch.Goals as goal
 

@@ -1,5 +1,4 @@
-use Rattle.std.proofs.lemmas.Result.{IfOk-weaker}
-use Rattle.acvp_tables.specs.Content.{Content, is_reviewer}
+use Rattle.acvp_store.proofs.Words.{Content, IfOk-weaker, is_reviewer}
 use Rattle.acvp_store.proofs.KeptPromises.{finds, reads}
 use Rattle.acvp_store.proofs.store.SqlTablesTables.is_reviewer.Goals as goal
 

@@ -1,5 +1,4 @@
-use Rattle.std.proofs.lemmas.Result.{IfOk-weaker}
-use Rattle.acvp_tables.specs.Content.{Content, reviewers_of}
+use Rattle.acvp_store.proofs.Words.{Content, IfOk-weaker, reviewers_of}
 use Rattle.acvp_store.proofs.KeptPromises.{finds, reads}
 use Rattle.acvp_store.proofs.store.SqlTablesTables.reviewers_of.Goals as goal
 

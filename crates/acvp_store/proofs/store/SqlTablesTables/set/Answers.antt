@@ -1,6 +1,4 @@
-use Rattle.std.proofs.lemmas.Result.{IfOk-weaker}
-use Rattle.std.specs.Prelude.{option_map}
-use Rattle.acvp_tables.specs.Content.{Content, set_at, set_summary}
+use Rattle.acvp_store.proofs.Words.{Content, IfOk-weaker, option_map, set_at, set_summary}
 use Rattle.acvp_store.proofs.KeptPromises.{finds, reads}
 use Rattle.acvp_store.proofs.store.SqlTablesTables.set.Goals as goal
 

@@ -1,6 +1,4 @@
-use Rattle.std.proofs.lemmas.Result.{IfOk-weaker}
-use Rattle.std.specs.Prelude.{map}
-use Rattle.acvp_tables.specs.Content.{Content, live_sets, set_summary}
+use Rattle.acvp_store.proofs.Words.{Content, IfOk-weaker, live_sets, map, set_summary}
 use Rattle.acvp_store.proofs.KeptPromises.{finds, reads}
 use Rattle.acvp_store.proofs.store.SqlTablesTables.sets_of.Goals as goal
 

@@ -1,6 +1,4 @@
-use Rattle.std.proofs.lemmas.Result.{IfOk-weaker}
-use Rattle.std.specs.Prelude.{option_map, option_and_then}
-use Rattle.acvp_tables.specs.Content.{Content, set_at, set_verdicts}
+use Rattle.acvp_store.proofs.Words.{Content, IfOk-weaker, option_and_then, option_map, set_at, set_verdicts}
 use Rattle.acvp_store.proofs.KeptPromises.{finds, reads}
 use Rattle.acvp_store.proofs.store.SqlTablesTables.verdicts.Goals as goal
 
