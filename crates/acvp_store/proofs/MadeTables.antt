@@ -109,9 +109,7 @@ version_effect old =
     under_schema (schema_of Created) old [] [] (writing_command VersionAdded Created) (WritesVersion 3)
     (λ limit trees tally after does. versions limit [] trees tally after does)
 
--- ---- what the statements of a migration do
-
--- ---- many rows under numbers that they bring
+-- ---- what the statements of a migration do: many rows under numbers that they bring
 
 module _ {A : Type 0} (key : A → ℕ) (stored : A → Row) (rowid_is : (a : A) → rowid (stored a) ≡ whole (key a)) where
   -- each in its turn is new

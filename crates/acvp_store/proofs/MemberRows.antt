@@ -23,9 +23,7 @@ use Rattle.acvp_store.proofs.Writings.{updating, RequestAdded, RequestDecided}
 use Rattle.acvp_store.proofs.QueryRows.{rows_by, ShowsAt, rows_at}
 use Rattle.acvp_tables.specs.declared.change.NewSession.{NewSession}
 
--- ---- the statements on accounts
-
--- ---- the row of a number
+-- ---- accounts
 
 pub account_rows : (layout : Layout) (n : ℕ) (old new : State) (rows : List Row) → old.now.schema ≡ schema_of layout
     → Shown (reading_text AccountAt) (whole n ∷ []) old new rows
@@ -60,7 +58,7 @@ module _ (layout : Layout) (old : State) (n : ℕ) where
       update_effect layout account_key account_row (λ x. refl) 1 (account_table 2) refl (λ trees. refl) account_casts
       (writing_terms AccountDisabled) n [] disabled (λ a. refl) (λ a. refl) old
 
--- ---- the statements on test sessions
+-- ---- test sessions
 
 pub session_rows : (layout : Layout) → ShowsAt SessionAt layout session_tree session_key session_row session_shown
 session_rows layout =
@@ -122,9 +120,7 @@ module _ (layout : Layout) (old : State) (n : ℕ) where
       session_effect (writing_terms SessionCertified) (whole request ∷ []) (with_last_request request)
       (λ s. refl) (λ s. refl)
 
--- ---- the statements on requests
-
--- ---- what is kept, with texts that read
+-- ---- requests: what is kept, with texts that read
 
 keeps_texts : (layout : Layout) (change : List RequestRow → List RequestRow) → ((list : List RequestRow) → AllByRecursion (λ (r : RequestRow). BodyReads r.body) list → AllByRecursion (λ (r : RequestRow). BodyReads r.body) (change list)) → (old new : Database)
     → Alters layout request_tree (AreKept request_key request_row) change old new → Alters layout request_tree HoldsRequests change old new

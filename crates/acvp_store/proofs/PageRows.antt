@@ -73,11 +73,7 @@ session_page layout u o l old new rows schema shown c sound h =
     (answers SessionPage layout (page_params u o l) old new rows schema shown) in
     it ∙ ap (map session_shown) (ap (take (min l most)) picked ∙ capped_page o l (sessions_of u c.sessions) selection.few)
 
--- ---- what the queries of requests show
-
--- ---- requests without the objects that they ask to register: one by its number, and the pages of an account's
-
--- ---- what a query shows of a request
+-- ---- requests, without the objects that they ask to register: what a query shows of one
 
 abbrev body_shown : RequestBody → Rattle.sqlite.specs.declared.types.Value.Value
 body_shown b = if body_number b == 4 then Text (body_text b) else Null
@@ -276,8 +272,6 @@ first_owner kind n (o ∷ objects) = elim (cases_Bool (is_it kind n o)) [
 ]
 
 -- ---- registered objects: one by its kind and number, and the pages of an account's
-
--- ---- by its kind and number
 
 pub object_found : (layout : Layout) (kind : Kind) (n : ℕ) (k : ℤ) → (n < 2 ^ 63 → k ≡ pos n)
     → (2 ^ 63 ≤ n → k ≡ negsuc 0) → (old new : State) (rows : List Row) → old.now.schema ≡ schema_of layout

@@ -17,8 +17,6 @@ use Rattle.acvp_store.proofs.Parts.{and_true}
 use Rattle.acvp_store.proofs.Readings.{Reading, answers_as, reading_query, reading_text}
 use Rattle.acvp_store.proofs.Versions.{map_same, test_whole}
 
--- ---- the rows that a query meets, whatever they are, and what is read of each of them
-
 -- ---- what SQL's operators say of any value
 
 pub test_from : (v : Value) (n : ℕ) → is_true (binary (Compare Ge Binary) v (whole n)) ≡ is_at_least n v

@@ -33,8 +33,6 @@ use Rattle.acvp_tables.proofs.Reviewers.{accounts_in, reviewers_read}
 use Rattle.acvp_store.proofs.Told.{told}
 use Rattle.acvp_store.proofs.OrderedRows.{ranged}
 
--- ---- the statements on reviewers
-
 -- ---- whether one is there
 
 abbrev pub pair_params : ℤ → ℕ → Row

@@ -8,8 +8,6 @@ use Rattle.acvp_store.proofs.Words.{IsRowOf, Layout, length_permutation, one_per
 use Rattle.acvp_store.proofs.Words.{take_more, zip_push, ⊤}
 use Rattle.acvp_store.proofs.Keyed.{keyed, keyed_same, find_is}
 
--- ---- what is told of a query's answer, and of a list's members one after the other
-
 -- one more is told of a list's members
 pub told_more : {A B : Type 0} (R : A → B → Type 0) (list : List A) (told next : List B) (i : ℕ) (d : A) (y : B) → next ≡ told ++ y ∷ [] → i < length list → AllZip R (take i list) told → R (get_or list i d) y → AllZip R (take (i + 1) list) next
 told_more R list told next i d y is low zip new = rw (is, take_more list i d low) (zip_push R (take i list) told (get_or list i d) y zip new)

@@ -87,9 +87,7 @@ pub empty : (rows : List Row) → nat_lt 0 (length rows) ≡ false → rows ≡ 
 empty [] h = refl
 empty (r ∷ rows) h = absurd (let some : nat_lt 0 (length (r ∷ rows)) ≡ true = grind (arith, nat_tests) in cc)
 
--- ---- which version's tables a database has, and what an open finds after a migration
-
--- ---- no two versions have the same tables
+-- ---- which version's tables a database has: no two versions have the same tables
 
 -- the number of the tables, and the length of the fourth one's name
 mark : Schema → ℕ
