@@ -176,8 +176,16 @@ def moved_while_serving(lab):
     moved = lab.path("moved.db")
     os.rename(lab.db, moved)
     for command in looks_over(lab, moved):
-        refused(lab, "--db: another process has it, but not the log beside it (-wal): it was moved, or is served by another name",
+        refused(lab, "--db: another process has it or the log beside it (-wal), not both: it was moved, or is served by another name",
                 *command)
+    # nothing is put beside the log that a server has, and no other file is read with it
+    lab.fails("unavailable", "restore", "--from", lab.path("kept.db"), "--db", lab.db)
+    lab.fails("taken", "backup", "--db", lab.path("kept.db"), "--to", lab.db)
+    expect("a name whose log is held", os.path.exists(lab.db), False)
+    shutil.copy(lab.path("kept.db"), lab.db)
+    for command in looks_over(lab, lab.db):
+        lab.fails("unavailable", *command)
+    os.remove(lab.db)
     os.rename(moved, lab.db)
     expect("the accounts with the log again", account_lines(lab, lab.db), ["1", "2"])
     lab.kill()
@@ -191,6 +199,7 @@ def without_proc(lab):
         print("skipped: a system without /proc (it lets nobody mount here)")
         return
     no_proc = "mount -t tmpfs none /proc"
+    hidden = "mount --bind /dev/null /proc/locks"
     expect("an order without /proc", elsewhere(no_proc, lab, "account-disable", "--db", lab.db, "--account", "1"),
            (0, "account 1 disabled\n", ""))
     lab.serve(count=None)
@@ -199,9 +208,10 @@ def without_proc(lab):
     expect("its accounts", account_lines(lab, lab.path("b.db")), ["1", "2"])
     moved = lab.path("moved.db")
     os.rename(lab.db, moved)
-    for command in looks_over(lab, moved):
-        expect(f"the command {command[0]} over a moved file, without /proc", elsewhere(no_proc, lab, *command),
-               (1, "", "fault: unavailable\n"))
+    for script in (no_proc, hidden):
+        for command in looks_over(lab, moved):
+            expect(f"the command {command[0]} over a moved file, behind {script}", elsewhere(script, lab, *command),
+                   (1, "", "fault: unavailable\n"))
     os.rename(moved, lab.db)
     lab.kill()
     for path in (lab.db + "-wal", lab.keys):
@@ -499,6 +509,11 @@ def foreign_texts(lab):
     command = ["account-add", "--db", lab.db, "--account", "2", "--secret", secret]
     lab.fails("secret", *command)
     expect("why a secret is refused", lab.run(*command, "--verbose")[2].splitlines()[-1], f"because: --secret: {why}")
+    # a pipe of another user isn't waited for
+    pipe = lab.path("pipe")
+    os.mkfifo(pipe)
+    os.chown(pipe, NOBODY, NOBODY)
+    lab.fails("keys", "script", "--keys", pipe)
     # that user's own are taken by itself, and root's by all
     own = {"user": NOBODY, "group": NOBODY}
     expect("a script with keys of one's own", lab.run("script", "--keys", keys, **own), (0, "", ""))
@@ -527,7 +542,9 @@ def planted(lab):
     lab.backs_up("kept.db")
     new = lab.write(lab.path("new.db"), "")
     os.chown(new, NOBODY, NOBODY)
-    why = f"--db: it belongs to user {NOBODY}, not to root, its folder's owner or the user of the command"
+    why = (f"--db: it belongs to user {NOBODY}, not to root, its folder's owner or the user of the command, "
+           "and others can make files there")
+    os.chmod(lab.folder, 0o777)
     refused(lab, why, "init", "--db", new)
     expect("an empty file of another user", (bytes_of(new), os.path.exists(new + "-wal")), (b"", False))
     for path in (lab.db, lab.db + "-wal"):
@@ -539,7 +556,10 @@ def planted(lab):
     # it may be read
     expect("the accounts of another user's database", account_lines(lab, lab.db), ["1"])
     lab.backs_up("of-another.db")
-    # in that user's own folder it is served
+    # where nobody else makes files, and in that user's own folder, it is opened
+    os.chmod(lab.folder, 0o755)
+    lab.does("account 1 disabled", "account-disable", "--db", lab.db, "--account", "1")
+    os.chmod(lab.folder, 0o777)
     os.chown(lab.folder, NOBODY, NOBODY)
     lab.does("account 1 disabled", "account-disable", "--db", lab.db, "--account", "1")
     for path in (lab.folder, lab.db, lab.db + "-wal"):
@@ -547,10 +567,26 @@ def planted(lab):
     link = lab.path("link.db")
     os.symlink(lab.db, link)
     os.chown(link, NOBODY, NOBODY, follow_symlinks=False)
-    why = f"it is a link of user {NOBODY}, not of root, the owner of what it leads to or the user of the command"
-    for command in commands_over(lab, link) + looks_over(lab, link) + [["init", "--db", link], serving(lab, link)]:
+    why = f"it is a link of user {NOBODY}, or leads to one, not of root, its folder's owner or the user of the command"
+    far = lab.path("far.db")
+    os.symlink("link.db", far)
+    for name in (link, far):
+        for command in commands_over(lab, name) + looks_over(lab, name) + [["init", "--db", name], serving(lab, name)]:
+            refused(lab, f"--db: {why}", *command)
+        refused(lab, f"--from: {why}", "restore", "--from", name, "--db", lab.db)
+    # it is refused too if it leads to that user's own file
+    own = lab.path("own")
+    os.mkdir(own)
+    os.chown(own, NOBODY, NOBODY)
+    evil = os.path.join(own, "laboratory.db")
+    shutil.copy(lab.path("kept.db"), evil)
+    os.chown(evil, NOBODY, NOBODY)
+    os.remove(link)
+    os.symlink(evil, link)
+    os.chown(link, NOBODY, NOBODY, follow_symlinks=False)
+    for command in (["restore", "--from", lab.path("kept.db"), "--db", link], ["init", "--db", link], ["accounts", "--db", link]):
         refused(lab, f"--db: {why}", *command)
-    refused(lab, f"--from: {why}", "restore", "--from", link, "--db", lab.db)
+    expect("what another user's link leads to", (bytes_of(evil), os.stat(evil).st_uid), (bytes_of(lab.path("kept.db")), NOBODY))
     expect("the accounts behind the link", account_lines(lab, lab.db), ["1"])
     keys = lab.path("link-to-keys")
     os.symlink(lab.keys, keys)

@@ -30,7 +30,7 @@ pub enum Cause {
     /// The file is mounted by itself, so its log isn't beside it.
     Mounted,
 
-    /// Somebody has the file, but not the log beside it.
+    /// Somebody has the file or the log beside it, but not both.
     Moved,
 
     /// Another user, of this number, has made the file.
@@ -118,7 +118,7 @@ impl fmt::Display for Cause {
                 "it is mounted by itself: name it where its log (-wal) is beside it",
             ),
             Cause::Moved => f.write_str(
-                "another process has it, but not the log beside it (-wal): it was moved, or is served by another name",
+                "another process has it or the log beside it (-wal), not both: it was moved, or is served by another name",
             ),
             Cause::Owner(user) => write!(
                 f,
@@ -126,11 +126,11 @@ impl fmt::Display for Cause {
             ),
             Cause::Planted(user) => write!(
                 f,
-                "it belongs to user {user}, not to root, its folder's owner or the user of the command"
+                "it belongs to user {user}, not to root, its folder's owner or the user of the command, and others can make files there"
             ),
             Cause::Link(user) => write!(
                 f,
-                "it is a link of user {user}, not of root, the owner of what it leads to or the user of the command"
+                "it is a link of user {user}, or leads to one, not of root, its folder's owner or the user of the command"
             ),
             Cause::Companion => f.write_str(
                 "its name is that of a file beside a database (-wal, -shm, -journal, -orders)",

@@ -1,4 +1,4 @@
-//! Whether a file is locked: as the system's table of locks tells, and where that doesn't tell, by a lock that is tried.
+//! Whether a file is locked: as the system's table of locks tells, and if that doesn't tell, by a lock that is tried.
 ghost use Rattle.std.specs.Prelude.{◌≡◌};
 ghost use Rattle.acvp_causes.specs.Devices.{major_of, minor_of};
 
@@ -62,7 +62,8 @@ fn is_locked_by_any(rt: &HostRuntime, path: &str) -> bool {
 }
 
 /// Whether some process has a database's file, or a log, locked as SQLite locks it. The table is asked first, since a
-/// lock that is tried keeps others out for a moment. The error is that memory ran out.
+/// lock that is tried keeps others out for a moment; one that is empty, as one that is hidden is, tells nothing. The
+/// error is that memory ran out.
 pub(crate) fn is_locked(
     rt: &HostRuntime,
     path: &str,
@@ -70,8 +71,8 @@ pub(crate) fn is_locked(
 ) -> Result<bool, AllocError> {
     let lock = lock_on(rt.alloc(), there)?;
     match unless_refused(fs::read_to_string(rt, LOCKS))? {
-        Some(table) if !table.contains(lock.as_str()) => Ok(false),
-        Some(_) if is_told(there) => Ok(true),
+        Some(table) if !table.is_empty() && !table.contains(lock.as_str()) => Ok(false),
+        Some(table) if !table.is_empty() && is_told(there) => Ok(true),
         _ => Ok(is_locked_by_any(rt, path)),
     }
 }

@@ -62,8 +62,7 @@ fn octal(character: char) -> Option<&'static str> {
     }
 }
 
-/// How the line of a mount at a path goes on from the path: a space, the path, and the options `rw` or `ro`. No other
-/// field of a line is a path before such options.
+/// How the line of a mount at a path goes on from the path: a space, the path, and the options `rw` or `ro`.
 fn mount_at(alloc: Global, path: &str) -> Result<String, AllocError> {
     let mut text = String::from_str(alloc, " ")?;
     for character in path.chars() {
@@ -76,6 +75,14 @@ fn mount_at(alloc: Global, path: &str) -> Result<String, AllocError> {
     Ok(text)
 }
 
+/// Whether a line is of this mount. What stands behind the hyphen is the mount's source, which its maker chooses.
+fn is_line_of(line: &str, mount: &str) -> bool {
+    match line.split_once(" - ") {
+        Some((front, _)) => front.contains(mount),
+        None => line.contains(mount),
+    }
+}
+
 /// Whether the file of a path is mounted there by itself: what lies beside the path doesn't lie beside the file. False
 /// where the system doesn't tell. The error is that memory ran out.
 pub(crate) fn is_mounted(rt: &HostRuntime, path: &str) -> Result<bool, AllocError> {
@@ -84,7 +91,11 @@ pub(crate) fn is_mounted(rt: &HostRuntime, path: &str) -> Result<bool, AllocErro
     };
     let mount = mount_at(rt.alloc(), real.as_str())?;
     match unless_refused(fs::read_to_string(rt, MOUNTS))? {
-        Some(table) => Ok(table.contains(mount.as_str())),
+        Some(table) => Ok(
+            table
+                .split('\n')
+                .any(|line| is_line_of(line, mount.as_str())),
+        ),
         None => Ok(false),
     }
 }

@@ -61,29 +61,67 @@ fn owner_of(rt: &HostRuntime, database: Option<&str>) -> Option<u32> {
     }
 }
 
-/// Why a path isn't followed: it is a link of another user.
-fn cause_of_link_to(rt: &HostRuntime, path: &str, other: Option<u32>) -> Option<Cause> {
-    match fs::symlink_metadata(rt, path) {
-        Ok(there) if there.is_symlink() && !is_taken(&there, other) => {
-            Some(Cause::Link(there.uid()))
-        }
-        _ => None,
+/// The most links that lead from one to the next, as the system has it.
+const MOST_LINKS: u32 = 40;
+
+/// The path that a link leads to, which isn't looked at.
+fn target_of(rt: &HostRuntime, path: &str) -> io::Result<String> {
+    let target = fs::read_link(rt, path)?;
+    if target.as_str().starts_with('/') {
+        return Ok(String::from_str(rt.alloc(), target.as_str())?);
+    }
+    Ok(format!(in rt.alloc(); "{}/{}", folder_of(path), target.as_str())?)
+}
+
+/// Why one link isn't followed: it is of somebody else than root, the user of the command or the owner of its folder.
+fn cause_of_one_link(rt: &HostRuntime, path: &str, link: &Metadata) -> Option<Cause> {
+    if is_taken(link, owner_at(rt, folder_of(path))) {
+        None
+    } else {
+        Some(Cause::Link(link.uid()))
     }
 }
 
-/// Why a path isn't followed: it is a link of somebody else than root, the user of the command or the owner of what it
-/// leads to.
+/// Why a path isn't followed: it is a link that isn't, or leads to one. Links among its folders aren't looked at.
 pub(crate) fn cause_of_link(rt: &HostRuntime, path: &str) -> Option<Cause> {
-    cause_of_link_to(rt, path, owner_at(rt, path))
+    let Ok(mut path) = String::from_str(rt.alloc(), path) else {
+        return Some(Cause::Memory);
+    };
+    for _ in 0..MOST_LINKS {
+        let link = match fs::symlink_metadata(rt, path.as_str()) {
+            Ok(there) if there.is_symlink() => there,
+            _ => return None,
+        };
+        if let Some(cause) = cause_of_one_link(rt, path.as_str(), &link) {
+            return Some(cause);
+        }
+        path = match target_of(rt, path.as_str()) {
+            Ok(target) => target,
+            Err(error) => return Some(cause_of_error(error)),
+        };
+    }
+    None
 }
 
-/// Why the file of a database isn't opened: it belongs to somebody else than root, the user of the command or the owner
-/// of its folder.
+/// The bits of a folder's mode by which others than its owner make files in it.
+const WRITE_OF_OTHERS: u32 = 0o022;
+
+/// Whether a file of this owner may be in the folder of a path: others can't make files there, or it is of root, the
+/// user of the command or the folder's owner.
+fn may_be_there(rt: &HostRuntime, path: &str, there: &Metadata) -> bool {
+    match fs::metadata(rt, folder_of(path)) {
+        Ok(folder) => {
+            folder.mode() & WRITE_OF_OTHERS == 0 || is_taken(there, Some(folder.uid()))
+        }
+        Err(_) => is_taken(there, None),
+    }
+}
+
+/// Why the file of a database isn't opened: others can make files in its folder, and it belongs to somebody else than
+/// root, the user of the command or the owner of the folder.
 pub(crate) fn cause_of_planted(rt: &HostRuntime, path: &str) -> Option<Cause> {
     match fs::symlink_metadata(rt, path) {
-        Ok(there) if !is_taken(&there, owner_at(rt, folder_of(path))) => {
-            Some(Cause::Planted(there.uid()))
-        }
+        Ok(there) if !may_be_there(rt, path, &there) => Some(Cause::Planted(there.uid())),
         _ => None,
     }
 }
@@ -91,10 +129,10 @@ pub(crate) fn cause_of_planted(rt: &HostRuntime, path: &str) -> Option<Cause> {
 /// Why a file of keys or of a secret isn't taken, for a database or for none: it, or the link to it, belongs to another
 /// user. What can't be looked at, its reader tells.
 pub fn cause_of_maker(rt: &HostRuntime, path: &str, database: Option<&str>) -> Option<Cause> {
-    let other = owner_of(rt, database);
-    if let Some(cause) = cause_of_link_to(rt, path, other) {
+    if let Some(cause) = cause_of_link(rt, path) {
         return Some(cause);
     }
+    let other = owner_of(rt, database);
     match fs::metadata(rt, path) {
         Ok(there) if !is_taken(&there, other) => Some(Cause::Owner(there.uid())),
         _ => None,
@@ -104,12 +142,12 @@ pub fn cause_of_maker(rt: &HostRuntime, path: &str, database: Option<&str>) -> O
 /// What a file of keys or of a secret holds, for a database or for none. If it, or the link to it, belongs to another
 /// user, that is PermissionDenied. Whose it is, is asked of the open file: one that is put there meanwhile isn't read.
 pub fn own_text(rt: &HostRuntime, path: &str, database: Option<&str>) -> io::Result<Vec<u8>> {
-    let other = owner_of(rt, database);
-    if cause_of_link_to(rt, path, other).is_some() {
+    // An open of what another user has put there may wait for that user.
+    if cause_of_maker(rt, path, database).is_some() {
         return Err(ErrorKind::PermissionDenied.into());
     }
     let mut file = File::open(rt, path)?;
-    if !is_taken(&file.metadata()?, other) {
+    if !is_taken(&file.metadata()?, owner_of(rt, database)) {
         return Err(ErrorKind::PermissionDenied.into());
     }
     let mut text = Vec::new(rt.alloc());

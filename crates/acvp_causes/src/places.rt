@@ -324,17 +324,17 @@ pub fn cause_of_folder(rt: &HostRuntime, path: &str) -> Option<Cause> {
 }
 
 /// Whether somebody has the file of a name locked. One that isn't there is locked by nobody.
-fn is_held_by_any(rt: &HostRuntime, path: &str) -> Result<bool, AllocError> {
+pub fn is_held_by_any(rt: &HostRuntime, path: &str) -> Result<bool, AllocError> {
     match fs::symlink_metadata(rt, path) {
         Ok(there) => is_locked(rt, path, &there),
         Err(_) => Ok(false),
     }
 }
 
-/// Whether whoever has a database has another log than that beside it, as far as the system tells. The error is that
+/// Whether somebody has a database or the log beside it, but not both, as far as the system tells. The error is that
 /// memory ran out.
 pub fn is_moved(rt: &HostRuntime, path: &str, log: &str) -> Result<bool, AllocError> {
-    Ok(is_held_by_any(rt, path)? && !is_held_by_any(rt, log)?)
+    Ok(is_held_by_any(rt, path)? != is_held_by_any(rt, log)?)
 }
 
 /// What is wrong with the file that a database is to be copied from, whoever has it.

@@ -6,8 +6,8 @@ use crate::parts::{Pair, Part, Use, give_up, is_copy, make_new, new_copy, pair_a
 use crate::rows::count_rows;
 use crate::sums::copy_with_sums;
 use acvp_causes::{
-    folder_of, has_journal, has_log, has_sums, holds_any, is_companion, is_database, last_of,
-    name_of,
+    folder_of, has_journal, has_log, has_sums, holds_any, is_companion, is_database,
+    is_held_by_any, last_of, name_of,
 };
 use sqlite::{Alter, Connection, FileStore};
 use sqlite_disk::Disk;
@@ -24,9 +24,20 @@ fn is_there(rt: &HostRuntime, path: &str) -> io::Result<bool> {
     }
 }
 
+/// Whether somebody has the log of a name, as a server does whose file was moved away from it.
+fn is_log_held(rt: &HostRuntime, path: &str) -> Result<bool, FileFault> {
+    let log = format!(in rt.alloc(); "{path}-wal")?;
+    Ok(is_held_by_any(rt, log.as_str())?)
+}
+
 /// Whether a new database can't have a name: there is a file, or a log or a journal that would be taken for its own.
 fn is_taken(rt: &HostRuntime, path: &str) -> Result<bool, FileFault> {
-    Ok(done(is_there(rt, path))? || has_log(rt, path) || has_journal(rt, path)?)
+    Ok(
+        done(is_there(rt, path))?
+            || has_log(rt, path)
+            || is_log_held(rt, path)?
+            || has_journal(rt, path)?,
+    )
 }
 
 /// Refuses a path that a new database can't have: it is taken, or that of a file that lies beside a database.
@@ -160,7 +171,7 @@ fn back_up(rt: &HostRuntime, database: &str, part: &Part, to: &str) -> Result<u6
 
 /// Makes a copy of the database of a name, whole, and says how many rows it has.
 fn backup_of(rt: &HostRuntime, database: &str, to: &str) -> Result<u64, CopyFault> {
-    let part = at(Step::Target, new_part(rt, database, to))?;
+    let part = at(Step::Begin, new_part(rt, database, to))?;
     let outcome = back_up(rt, database, &part, to);
     give_up(rt, &part);
     outcome
@@ -207,7 +218,7 @@ fn replace(rt: &HostRuntime, part: &Part, database: &Pair) -> Result<(), FileFau
     if done(is_there(rt, database.file.as_str()))? {
         return replace_there(rt, part, database);
     }
-    if done(holds_any(rt, database.log.as_str()))? {
+    if done(holds_any(rt, database.log.as_str()))? || is_held_by_any(rt, database.log.as_str())? {
         return Err(FileFault::Unavailable);
     }
     done(remove(rt, database.log.as_str()))?;
@@ -261,7 +272,7 @@ fn bring_back(
 
 /// Puts the copy of a backup in the place of a database, by their names.
 fn restore_named(rt: &HostRuntime, backup: &str, database: &str) -> Result<(), CopyFault> {
-    let part = at(Step::Target, new_copy(rt, database, Use::Part))?;
+    let part = at(Step::Begin, new_copy(rt, database, Use::Part))?;
     let outcome = bring_back(rt, backup, &part, database);
     give_up(rt, &part);
     outcome
@@ -277,7 +288,7 @@ pub fn restore(rt: &HostRuntime, backup: &str, database: &str) -> Result<(), Cop
         return at(Step::Source, Err(FileFault::Unavailable));
     }
     if is_companion(to.as_str()) || is_copy(to.as_str()) {
-        return at(Step::Target, Err(FileFault::Unavailable));
+        return at(Step::Begin, Err(FileFault::Unavailable));
     }
     restore_named(rt, from.as_str(), to.as_str())
 }

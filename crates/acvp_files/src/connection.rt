@@ -12,9 +12,10 @@ use crate::fault::{FileFault, fault_of_cause, refused};
 use crate::number::{FileNumber, file_at};
 use crate::parts::{is_copy, settle_names};
 use crate::privacy::{has_no_log, make_private};
-use acvp_causes::{cause_of_files, has_log, is_companion, is_foreign};
+use acvp_causes::{cause_of_files, has_log, is_companion, is_foreign, is_moved};
 use sqlite::{Connection, Error, ErrorCode, FileFrom, FileStore, Files, Start};
 use sqlite_disk::Disk;
+use std::alloc::AllocGlobal;
 use std::fs;
 
 /// A connection to the database in a file.
@@ -79,6 +80,22 @@ fn is_still(rt: &HostRuntime, path: &str, file: FileNumber) -> Result<(), FileFa
     }
 }
 
+/// Whether the log that has the name beside a database is the one that its connection has, which locks both.
+fn has_its_log(rt: &HostRuntime, path: &str) -> Result<(), FileFault> {
+    let log = format!(in rt.alloc(); "{path}-wal")?;
+    if is_moved(rt, path, log.as_str())? {
+        Err(FileFault::Unavailable)
+    } else {
+        Ok(())
+    }
+}
+
+/// Whether the names of a database and of its log are still those of what a connection has, and may be taken.
+fn are_still(rt: &HostRuntime, path: &str, file: FileNumber) -> Result<(), FileFault> {
+    is_still(rt, path, file)?;
+    has_its_log(rt, path)
+}
+
 /// A connection to the database in a file that is there. The system opens a name and locks the file only then: a file
 /// that was replaced between the two is nobody's any more, so it is looked at the name once more behind the lock.
 fn connect_held<S: Start>(
@@ -94,7 +111,7 @@ fn connect_held<S: Start>(
         Err(error) => return Err(Unopened::Failed(refused(&error))),
     };
     let connection = connect(rt, path, start)?;
-    match is_still(rt, path, file) {
+    match are_still(rt, path, file) {
         Ok(()) => Ok(connection),
         Err(fault) => Err(Unopened::Failed(fault)),
     }
@@ -174,6 +191,9 @@ pub fn connect_existing<S: Start>(
     ensures memory { path.now ≡ codes ":memory:" → IsErr result }
     ensures connected { IfOk result (IsConnected (image_at S.Start)) }
 {
+    if let Err(fault) = may_be_taken(rt, path) {
+        return Err(Unopened::Failed(fault));
+    }
     if is_blank(rt, path) {
         return Err(Unopened::Failed(FileFault::Schema));
     }

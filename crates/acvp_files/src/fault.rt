@@ -37,7 +37,10 @@ pub enum Step {
     /// The copy can't be opened, or a page of it is damaged.
     Content,
 
-    /// The copy can't be begun where it is to be, or put there.
+    /// The copy can't be begun beside where it is to be.
+    Begin,
+
+    /// The copy can't be put where it is to be.
     Target,
 }
 

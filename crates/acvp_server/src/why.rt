@@ -132,14 +132,14 @@ fn why_uncopied(rt: &HostRuntime, option: &'static str, path: &str) -> Option<Be
     }
 }
 
-/// Why a copy can't have a path where there is no file.
-fn why_unplaced(rt: &HostRuntime, option: &'static str, path: &str) -> Because {
+/// Why a copy can't have a path, or can't be begun beside it: this, if nothing else can be seen.
+fn why_unplaced(rt: &HostRuntime, option: &'static str, path: &str, cause: Cause) -> Because {
     let cause = if is_companion(path) {
         Cause::Companion
     } else if is_copy(path) {
         Cause::Left
     } else {
-        cause_of_folder(rt, path).unwrap_or(Cause::Unplaced)
+        cause_of_folder(rt, path).unwrap_or(cause)
     };
     Because::of(option, cause)
 }
@@ -154,7 +154,7 @@ fn why_not_replaced(rt: &HostRuntime, db: &str) -> Because {
             Because::of("--db", Cause::LogAlone)
         }
         Some(because) if !is_missing(because) => because,
-        _ => why_unplaced(rt, "--db", db),
+        _ => why_unplaced(rt, "--db", db, Cause::Unplaced),
     }
 }
 
@@ -174,7 +174,8 @@ fn why_at_source(rt: &HostRuntime, option: &'static str, path: &str, step: Step)
 /// Why there is no backup, by the step that failed.
 fn why_no_backup(rt: &HostRuntime, db: &str, to: &str, step: Step) -> Because {
     match step {
-        Step::Target => why_unplaced(rt, "--to", to),
+        Step::Begin => why_unplaced(rt, "--to", to, Cause::Unmade),
+        Step::Target => why_unplaced(rt, "--to", to, Cause::Unplaced),
         _ => why_at_source(rt, "--db", db, step),
     }
 }
@@ -182,6 +183,7 @@ fn why_no_backup(rt: &HostRuntime, db: &str, to: &str, step: Step) -> Because {
 /// Why a backup wasn't restored, by the step that failed.
 fn why_not_restored(rt: &HostRuntime, from: &str, db: &str, step: Step) -> Because {
     match step {
+        Step::Begin => why_unplaced(rt, "--db", db, Cause::Unmade),
         Step::Target => why_not_replaced(rt, db),
         _ => why_at_source(rt, "--from", from, step),
     }
