@@ -277,16 +277,16 @@ def names_of_neighbours(lab):
 
 
 def second_names(lab):
-    """The second name that a killed command has left of a file whose copy it made is taken away; while somebody makes
-    the copy, it stays."""
+    """The second name that a killed command has left of a file whose copy it made is taken away by what copies the file;
+    while somebody makes the copy, it stays."""
     lab.add(1)
     lab.backs_up("kept.db")
     kept, part = lab.path("kept.db"), lab.path("laboratory.db-part-1795862400123456789")
     os.link(kept, part)
     lab.does("restored", "restore", "--from", kept, "--db", lab.db)
     expect("the names of a backup that was restored", (os.path.lexists(part), os.stat(kept).st_nlink), (False, 1))
-    for number, command in enumerate([["account-disable", "--db", lab.db, "--account", "1"], ["accounts", "--db", lab.db],
-                                      ["backup", "--db", lab.db, "--to", lab.path("b.db")]]):
+    for command in (["accounts", "--db", lab.db], ["backup", "--db", lab.db, "--to", lab.path("b.db")],
+                    ["check", "--db", lab.db, "--keys", lab.keys]):
         os.link(lab.db, part)
         os.link(kept, part[:-1] + "8")
         expect(f"the command {command[0]} over a file of two names", lab.run(*command)[::2], (0, ""))
@@ -297,7 +297,9 @@ def second_names(lab):
     with open(part, "rb") as making:
         fcntl.flock(making, fcntl.LOCK_EX)
         refused(lab, "--db: it has 2 names (hard links), and may have one", "account-disable", "--db", lab.db, "--account", "1")
+        lab.fails("unavailable", "accounts", "--db", lab.db)
         expect("a copy that is being made", os.path.lexists(part), True)
+    expect("the accounts behind it", account_lines(lab, lab.db), ["1"])
     lab.does("account 1 disabled", "account-disable", "--db", lab.db, "--account", "1")
 
 
