@@ -1,7 +1,7 @@
 // Writes down what the program does with its files, a line for each call, in the order of the calls: into the file
 // TRACE, "write PATH", "sync PATH", "lock PATH", "unlock PATH", "link FROM TO", "rename FROM TO" or "remove PATH". With
-// COPY_GATE it is held up once before it opens a log to write a copy into it: it makes that file, and waits until that
-// is taken away. It is preloaded into the built program, for the check what-reaches-the-disk.
+// COPY_GATE it is held up once before it empties the log of a copy to write another log into it: it makes that file, and
+// waits until that is taken away. It is preloaded into the built program, for the check what-reaches-the-disk.
 #define _GNU_SOURCE
 #include <dlfcn.h>
 #include <errno.h>
@@ -46,11 +46,11 @@ static const char *path_of(int file) {
     return path;
 }
 
-static void hold_up(const char *path, int flags) {
+static void hold_up(const char *path) {
     static int was_held_up;
     const char *gate = getenv("COPY_GATE");
-    size_t length = strlen(path);
-    if (gate == NULL || was_held_up || !(flags & O_TRUNC) || length < 4 || strcmp(path + length - 4, "-wal") != 0) return;
+    size_t length = path == NULL ? 0 : strlen(path);
+    if (gate == NULL || was_held_up || length < 4 || strcmp(path + length - 4, "-wal") != 0) return;
     was_held_up = 1;
     NEXT(open);
     close(next(gate, O_CREAT | O_WRONLY, 0600));
@@ -64,7 +64,6 @@ int open(const char *path, int flags, ...) {
     va_start(rest, flags);
     mode_t mode = flags & (O_CREAT | O_TMPFILE) ? va_arg(rest, mode_t) : 0;
     va_end(rest);
-    hold_up(path, flags);
     return next(path, flags, mode);
 }
 
@@ -74,7 +73,6 @@ int openat(int folder, const char *path, int flags, ...) {
     va_start(rest, flags);
     mode_t mode = flags & (O_CREAT | O_TMPFILE) ? va_arg(rest, mode_t) : 0;
     va_end(rest);
-    hold_up(path, flags);
     return next(folder, path, flags, mode);
 }
 
@@ -116,6 +114,7 @@ ssize_t pwrite64(int file, const void *bytes, size_t count, off64_t place) {
 
 int ftruncate(int file, off_t length) {
     NEXT(ftruncate);
+    if (length == 0) hold_up(path_of(file));
     tell("write", path_of(file), NULL);
     return next(file, length);
 }

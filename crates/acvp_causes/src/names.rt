@@ -4,7 +4,7 @@ ghost use Rattle.std.specs.IoError.{error_kind};
 ghost use Rattle.acvp_causes.specs.Folders.{is_companion};
 
 use crate::cause::Cause;
-use crate::owners::cause_of_link;
+use crate::owners::{cause_of_link, refusal};
 use crate::places::cause_of_error;
 use std::alloc::{AllocError, AllocGlobal, Global};
 use std::fs;
@@ -24,8 +24,8 @@ pub fn name_of(rt: &HostRuntime, path: &str) -> io::Result<String> {
     };
     if is_link {
         let real = fs::canonicalize(rt, path)?;
-        if cause_of_link(rt, path).is_some() {
-            return Err(ErrorKind::PermissionDenied.into());
+        if let Some(cause) = cause_of_link(rt, path) {
+            return Err(refusal(cause));
         }
         return Ok(String::from_str(rt.alloc(), real.as_str())?);
     }

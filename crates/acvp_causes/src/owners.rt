@@ -117,6 +117,16 @@ fn may_be_there(rt: &HostRuntime, path: &str, there: &Metadata) -> bool {
     }
 }
 
+/// The error of a path that isn't followed for this cause. Memory that ran out stays what it is.
+pub(crate) fn refusal(cause: Cause) -> io::Error {
+    match cause {
+        Cause::Memory => ErrorKind::OutOfMemory.into(),
+        Cause::Missing => ErrorKind::NotFound.into(),
+        Cause::Refused(error) => error,
+        _ => ErrorKind::PermissionDenied.into(),
+    }
+}
+
 /// Why the file of a database isn't opened: others can make files in its folder, and it belongs to somebody else than
 /// root, the user of the command or the owner of the folder.
 pub(crate) fn cause_of_planted(rt: &HostRuntime, path: &str) -> Option<Cause> {
@@ -143,8 +153,8 @@ pub fn cause_of_maker(rt: &HostRuntime, path: &str, database: Option<&str>) -> O
 /// user, that is PermissionDenied. Whose it is, is asked of the open file: one that is put there meanwhile isn't read.
 pub fn own_text(rt: &HostRuntime, path: &str, database: Option<&str>) -> io::Result<Vec<u8>> {
     // An open of what another user has put there may wait for that user.
-    if cause_of_maker(rt, path, database).is_some() {
-        return Err(ErrorKind::PermissionDenied.into());
+    if let Some(cause) = cause_of_maker(rt, path, database) {
+        return Err(refusal(cause));
     }
     let mut file = File::open(rt, path)?;
     if !is_taken(&file.metadata()?, owner_of(rt, database)) {
