@@ -39,7 +39,7 @@ pub enum Cause {
     /// Another user, of this number, has made the database.
     Planted(u32),
 
-    /// Another user, of this number, has made the link to the file.
+    /// Another user, of this number, has made a link on the path to the file.
     Link(u32),
 
     /// The file has the name of one that lies beside a database.
@@ -69,7 +69,7 @@ pub enum Cause {
     /// The file has tables, where none may be.
     Tables,
 
-    /// The file isn't there, and its log holds something.
+    /// The file isn't there, and its log holds something, or somebody has it.
     LogAlone,
 
     /// The store refused something, where rows of these tables were read.
@@ -98,6 +98,12 @@ pub enum Cause {
 
     /// The seed that a vector set names isn't in the file, or is another than that of its prompts.
     OtherSeed,
+
+    /// The keys file has as many lines of one kind as there may be.
+    Full,
+
+    /// The keys file has one key that isn't retired.
+    LastKey,
 
     /// Little memory is left.
     Memory,
@@ -130,7 +136,7 @@ impl fmt::Display for Cause {
             ),
             Cause::Link(user) => write!(
                 f,
-                "it is a link of user {user}, or leads to one, not of root, its folder's owner or the user of the command"
+                "its path goes by a link of user {user}, not of root, the owner of the link's folder or the user of the command"
             ),
             Cause::Companion => f.write_str(
                 "its name is that of a file beside a database (-wal, -shm, -journal, -orders)",
@@ -150,7 +156,7 @@ impl fmt::Display for Cause {
             Cause::Cut(length, told) => write!(f, "it is cut: it has {length} bytes of {told}"),
             Cause::Tables => f.write_str("it has tables already"),
             Cause::LogAlone => f.write_str(
-                "there is no such file, but its log (-wal) holds records",
+                "there is no such file, but its log (-wal) holds records, or a process has it",
             ),
             Cause::Store(tables) => {
                 f.write_str(REFUSED)?;
@@ -170,6 +176,8 @@ impl fmt::Display for Cause {
             Cause::OtherSeed => f.write_str(
                 "it lacks a seed that a vector set names, or has another in its place",
             ),
+            Cause::Full => f.write_str("it has 16 lines of that kind, the most there may be"),
+            Cause::LastKey => f.write_str("its last key can't be retired: add one first"),
             Cause::Memory => f.write_str("little memory is left"),
             Cause::Clock => f.write_str("the clock is past the year 2099, or can't be read"),
         }

@@ -17,6 +17,6 @@ pub use owners::{OF_OTHERS, cause_of_maker, own_text};
 pub use places::{
     EMPTY_LOG, are_there, cause_of_database, cause_of_error, cause_of_files, cause_of_folder,
     cause_of_source, folder_of, has_journal, has_log, has_sums, holds_any, is_held_by_any,
-    is_moved, last_of, why_refused,
+    is_left_alone, is_moved, last_of, why_refused,
 };
 pub use texts::{TextFault, keys_fault, secret_fault};

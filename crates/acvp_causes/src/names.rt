@@ -13,10 +13,19 @@ use std::io::{self, ErrorKind};
 /// The system's table of mounts (proc_pid_mountinfo(5)).
 const MOUNTS: &str = "/proc/self/mountinfo";
 
+/// The number in the first second name that is tried, which has as many digits as that of a copy.
+const FIRST_NAME: u64 = 1000000000000000000;
+
+/// How many second names are tried.
+const MOST_NAMES: u64 = 10;
+
 /// The name under which the database at a path is opened: where the path leads, if its last part is a link, and else
-/// the path as it is. The error of a link that leads nowhere is NotFound, and of a link that another user has made
-/// PermissionDenied.
+/// the path as it is. The error of a link that leads nowhere is NotFound; if another user has made a link on the
+/// way there, it is PermissionDenied.
 pub fn name_of(rt: &HostRuntime, path: &str) -> io::Result<String> {
+    if let Some(cause) = cause_of_link(rt, path) {
+        return Err(refusal(cause));
+    }
     let is_link = match fs::symlink_metadata(rt, path) {
         Ok(there) => there.is_symlink(),
         Err(error) if error.kind() == ErrorKind::NotFound => false,
@@ -24,9 +33,6 @@ pub fn name_of(rt: &HostRuntime, path: &str) -> io::Result<String> {
     };
     if is_link {
         let real = fs::canonicalize(rt, path)?;
-        if let Some(cause) = cause_of_link(rt, path) {
-            return Err(refusal(cause));
-        }
         return Ok(String::from_str(rt.alloc(), real.as_str())?);
     }
     Ok(String::from_str(rt.alloc(), path)?)
@@ -83,8 +89,25 @@ fn is_line_of(line: &str, mount: &str) -> bool {
     }
 }
 
-/// Whether the file of a path is mounted there by itself: what lies beside the path doesn't lie beside the file. False
-/// where the system doesn't tell. The error is that memory ran out.
+/// Whether a file is of another mount than its folder, as the try tells to give it a second name there; also if each
+/// name that is tried is had already. A name that a kill has left is a copy's, and is taken away as these are.
+fn is_of_another_mount(rt: &HostRuntime, path: &str) -> Result<bool, AllocError> {
+    for number in FIRST_NAME..FIRST_NAME + MOST_NAMES {
+        let second = format!(in rt.alloc(); "{path}-part-{number}")?;
+        match fs::hard_link(rt, path, second.as_str()) {
+            Ok(()) => {
+                let _ = fs::remove_file(rt, second.as_str());
+                return Ok(false);
+            }
+            Err(error) if error.kind() == ErrorKind::AlreadyExists => {}
+            Err(error) => return Ok(error.kind() == ErrorKind::CrossesDevices),
+        }
+    }
+    Ok(true)
+}
+
+/// Whether the file of a path is mounted there by itself: what lies beside the path doesn't lie beside the file. If the
+/// table of mounts can't be read, a second name is tried. The error is that memory ran out.
 pub(crate) fn is_mounted(rt: &HostRuntime, path: &str) -> Result<bool, AllocError> {
     let Some(real) = unless_refused(fs::canonicalize(rt, path))? else {
         return Ok(false);
@@ -96,7 +119,7 @@ pub(crate) fn is_mounted(rt: &HostRuntime, path: &str) -> Result<bool, AllocErro
                 .split('\n')
                 .any(|line| is_line_of(line, mount.as_str())),
         ),
-        None => Ok(false),
+        None => is_of_another_mount(rt, real.as_str()),
     }
 }
 

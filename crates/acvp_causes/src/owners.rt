@@ -4,7 +4,7 @@ ghost use Rattle.acvp_causes.specs.Owners.{gives_more, is_of, may_own};
 
 use crate::cause::Cause;
 use crate::places::{cause_of_error, folder_of};
-use std::alloc::AllocGlobal;
+use std::alloc::{AllocError, AllocGlobal};
 use std::fs::{self, File, Metadata};
 use std::io::{self, ErrorKind, Read};
 use std::os::unix::fs::MetadataExt;
@@ -82,22 +82,56 @@ fn cause_of_one_link(rt: &HostRuntime, path: &str, link: &Metadata) -> Option<Ca
     }
 }
 
-/// Why a path isn't followed: it is a link that isn't, or leads to one. Links among its folders aren't looked at.
+/// Where a path leads, if it is a link itself. The cause of one that isn't followed is the error.
+fn target_at(rt: &HostRuntime, path: &str) -> Result<Option<String>, Cause> {
+    let link = match fs::symlink_metadata(rt, path) {
+        Ok(there) if there.is_symlink() => there,
+        _ => return Ok(None),
+    };
+    if let Some(cause) = cause_of_one_link(rt, path, &link) {
+        return Err(cause);
+    }
+    match target_of(rt, path) {
+        Ok(target) => Ok(Some(target)),
+        Err(error) => Err(cause_of_error(error)),
+    }
+}
+
+/// Adds a part to a path, of which so many parts are there already.
+fn lengthen(way: &mut String, count: usize, part: &str) -> Result<(), AllocError> {
+    if count > 0 {
+        way.push('/')?;
+    }
+    way.push_str(part)
+}
+
+/// A path with where it leads in the place of its first link, folders first. None if there is no link on the way.
+fn followed(rt: &HostRuntime, path: &str) -> Result<Option<String>, Cause> {
+    let mut way = String::new(rt.alloc());
+    let mut is_followed = false;
+    for (count, part) in path.split('/').enumerate() {
+        if lengthen(&mut way, count, part).is_err() {
+            return Err(Cause::Memory);
+        }
+        if !is_followed && let Some(target) = target_at(rt, way.as_str())? {
+            way = target;
+            is_followed = true;
+        }
+    }
+    Ok(is_followed.then_some(way))
+}
+
+/// Why a path isn't followed: a link on the way, of its folders or its own, isn't. Links are followed one behind the
+/// other, as the system does.
 pub(crate) fn cause_of_link(rt: &HostRuntime, path: &str) -> Option<Cause> {
     let Ok(mut path) = String::from_str(rt.alloc(), path) else {
         return Some(Cause::Memory);
     };
-    for _ in 0..MOST_LINKS {
-        let link = match fs::symlink_metadata(rt, path.as_str()) {
-            Ok(there) if there.is_symlink() => there,
-            _ => return None,
-        };
-        if let Some(cause) = cause_of_one_link(rt, path.as_str(), &link) {
-            return Some(cause);
-        }
-        path = match target_of(rt, path.as_str()) {
-            Ok(target) => target,
-            Err(error) => return Some(cause_of_error(error)),
+    for _ in 0..=MOST_LINKS {
+        path = match followed(rt, path.as_str()) {
+            Ok(Some(next)) => next,
+            Ok(None) => return None,
+            Err(cause) => return Some(cause),
         };
     }
     None

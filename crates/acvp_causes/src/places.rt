@@ -10,7 +10,7 @@ use crate::begins::{begin_of, is_foreign};
 use crate::cause::{Because, Cause, Place};
 use crate::holders::{is_held, is_locked};
 use crate::names::{is_companion, is_mounted, name_of, why_unnamed};
-use crate::owners::{cause_of_log_access, cause_of_neighbour, cause_of_planted};
+use crate::owners::{cause_of_link, cause_of_log_access, cause_of_neighbour, cause_of_planted};
 use crate::pages::{self, HEADER, bytes_told, has_tables};
 use std::alloc::{AllocError, AllocGlobal, Global};
 use std::fs::{self, File, Files, Metadata, OpenOptions};
@@ -315,12 +315,27 @@ pub fn cause_of_database(rt: &HostRuntime, db: &str) -> Option<Because> {
     }
 }
 
-/// Why there can't be a file in the folder of a path.
+/// Why there can't be a file in the folder of a path: it can't be looked at, or the way to it goes by a link that isn't
+/// followed.
 pub fn cause_of_folder(rt: &HostRuntime, path: &str) -> Option<Cause> {
-    match fs::metadata(rt, folder_of(path)) {
+    let folder = folder_of(path);
+    if let Some(cause) = cause_of_link(rt, folder) {
+        return Some(cause);
+    }
+    match fs::metadata(rt, folder) {
         Ok(_) => None,
         Err(error) => Some(Cause::Refused(error)),
     }
+}
+
+/// Whether a new file at a path would have a log for its own that another has left: there is no file, but a log that
+/// holds something, or that somebody has. The error is that memory ran out.
+pub fn is_left_alone(rt: &HostRuntime, path: &str) -> Result<bool, AllocError> {
+    if !matches!(fs::exists(rt, path), Ok(false)) {
+        return Ok(false);
+    }
+    let log = format!(in rt.alloc(); "{path}-wal")?;
+    Ok(has_log(rt, path) || is_held_by_any(rt, log.as_str())?)
 }
 
 /// Whether somebody has the file of a name locked. One that isn't there is locked by nobody.
