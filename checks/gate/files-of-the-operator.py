@@ -8,6 +8,7 @@ import contextlib
 import fcntl
 import hashlib
 import os
+import pty
 import random
 import re
 import resource
@@ -138,6 +139,11 @@ def parts(lab):
     return sorted(name for name in os.listdir(lab.folder) if re.search("-part-[0-9]", name))
 
 
+def replaced(lab):
+    """What restores have kept of what they replaced."""
+    return sorted(name for name in os.listdir(lab.folder) if "-replaced-" in name)
+
+
 def copies_apart(lab):
     """A copy touches no file of another name, and of several backups to one target at once one is made, whole."""
     lab.add(1)
@@ -153,7 +159,7 @@ def copies_apart(lab):
         expect("the rows of the one", content(lab.path("backup.db")), content(lab.db))
         if number < 9:
             os.remove(lab.path("backup.db"))
-    lab.does("restored", *restore(lab))
+    lab.puts_back()
     expect("the copies that are left", parts(lab), [])
     expect("the other files", [bytes_of(lab.path(name)).decode() for name in others], [f"what somebody keeps in {name}" for name in others])
 
@@ -170,16 +176,28 @@ def restores(lab):
     lab.add(2)
     lab.kill()
     expect("a log that holds something", os.path.getsize(lab.db + "-wal") > EMPTY_LOG, True)
-    lab.does("restored", *restore(lab))
+    lab.puts_back()
     expect("what is restored", content(lab.db), backed_up)
     expect("its mode", mode(lab.db), 0o600)
     lab.add(2)
     lab.backs_up("later.db")
-    lab.does("restored", *restore(lab))
-    lab.does("restored", *restore(lab, "later.db"))
+    lab.puts_back()
+    lab.puts_back("later.db")
     expect("the accounts of the later backup", accounts(lab.db), [1, 2])
+    # the options swapped: the newer records are replaced by the older ones, and what was there is the way back
+    lab.serve(count=None)
+    lab.add(3)
+    lab.kill()
+    newest = content(lab.db)
+    kept = lab.restores()
+    expect("the older records", content(lab.db), backed_up)
+    expect("what was there, with what its log held", (content(kept), mode(kept), os.path.exists(kept + "-wal")), (newest, 0o600, False))
+    lab.puts_back(os.path.basename(kept))
+    expect("the records after the way back", content(lab.db), newest)
+    os.remove(kept)
+    lab.puts_back("later.db")
     # a file that isn't there is made; one whose log is still there isn't
-    lab.does("restored", *restore(lab, db=lab.path("new.db")))
+    lab.puts_back(db=lab.path("new.db"))
     expect("a new file", content(lab.path("new.db")), backed_up)
     lab.serve(count=None)
     lab.add(3)
@@ -252,14 +270,14 @@ def sums_by_a_restore(lab):
     plain = page_sums.copy_without(lab.path("summed.db"), lab.path("plain.db"))
     for name in ("summed.db", "plain.db"):
         expect(f"whether {name} has sums", has_sums(lab.path(name)), name == "summed.db")
-        lab.does("restored", *restore(lab, name))
+        lab.puts_back(name)
         expect(f"whether the file has sums after a restore of {name}", has_sums(lab.db), True)
         expect(f"the rows after a restore of {name}", numbered_rows(lab.db), wanted)
         expect(f"what a restore of {name} leaves beside it", parts(lab), [])
     expect("whether a file without sums has some after an order", (lab.run(*disable(plain))[0], has_sums(plain)), (0, False))
     lab.backs_up("plain-backup.db", plain)
     expect("whether its backup has", has_sums(lab.path("plain-backup.db")), False)
-    lab.does("restored", *restore(lab, "plain-backup.db"))
+    lab.puts_back("plain-backup.db")
     expect("the rows after a restore of that", numbered_rows(lab.db), numbered_rows(plain))
 
 
@@ -276,7 +294,7 @@ def wrong_sums(lab):
     expect("the files after what is refused", files(lab), before)
     done = subprocess.run([sys.executable, page_sums.__file__, lab.path("backup.db")], capture_output=True, text=True)
     expect("what makes the sums anew", (done.returncode, "0 sums" in done.stdout, done.stderr), (0, False, ""))
-    lab.does("restored", *restore(lab))
+    lab.puts_back()
     expect("what was written", content(lab.db)["account"][0][2], 0)
     plain = page_sums.copy_without(lab.db, lab.path("plain.db"))
     warning = f"warning: pages of {plain} have no sums: a restore of a backup gives them some\n"
@@ -293,9 +311,9 @@ def killed_restores(lab, kills):
     lab.backs_up("summed.db")
     backed_up = content(lab.path("summed.db"))
     page_sums.copy_without(lab.path("summed.db"), lab.path("backup.db"))
-    kept, replaced = 0, 0
+    kept, put = 0, 0
     began = time.time()
-    lab.does("restored", *restore(lab))
+    lab.puts_back()
     took = time.time() - began
     for number in range(kills):
         account = 100 + number
@@ -309,15 +327,18 @@ def killed_restores(lab, kills):
         except subprocess.TimeoutExpired:
             restoring.kill()
         output, faults = restoring.communicate()
-        expect("what a killed restore prints", (output in (b"", b"restored\n"), faults), (True, b""))
+        expect("what a killed restore prints", (output == b"" or output.startswith(b"restored\n"), faults), (True, b""))
         now = content(lab.db)
         expect("a killed restore leaves one of the two", now in (there, backed_up), True)
         expect("a restore that was told is there", output == b"" or now == backed_up, True)
-        kept, replaced = kept + (now == there), replaced + (now == backed_up)
-        lab.does("restored", *restore(lab, "summed.db"))
+        kept, put = kept + (now == there), put + (now == backed_up)
+        lab.puts_back("summed.db")
         expect("the restore behind it", content(lab.db), backed_up)
+        for name in replaced(lab):
+            expect("what a killed restore keeps", content(lab.path(name)), there)
+            os.remove(lab.path(name))
         expect("what killed restores leave beside it, behind one that isn't", parts(lab), [])
-    print(f"of {kills} restores that were killed {kept} left the file as it was, and {replaced} had put the backup there")
+    print(f"of {kills} restores that were killed {kept} left the file as it was, and {put} had put the backup there")
 
 
 # ---- who may read
@@ -356,7 +377,11 @@ def what_others_may_read(lab):
         os.chmod(lab.folder, 0o700)
         warned(lab, [f"read {lab.db}", f"read {lab.db}-wal"], f"backed up: {rows_of(lab.db)} rows\n", *backup(lab, "more.db"))
         os.chmod(lab.path("more.db"), 0o604)
-        warned(lab, [f"read {lab.path('more.db')}", f"read {lab.db}", f"read {lab.db}-wal"], "restored\n", *restore(lab, "more.db"))
+        status, printed, faults = lab.run(*restore(lab, "more.db"), "--verbose")
+        told = "".join(f"warning: others than its owner may read {path}\n" for path in (lab.path("more.db"), lab.db, lab.db + "-wal"))
+        expect("a restore with --verbose", (status, printed.splitlines()[0], faults), (0, "restored", told))
+        for name in replaced(lab):
+            os.remove(lab.path(name))
         expect("what is restored has the mode of what was there", mode(lab.db), 0o640)
         os.chmod(lab.keys, 0o604)
         warned(lab, [f"read {lab.keys}"], "", "script", "--keys", lab.keys)
@@ -517,7 +542,7 @@ def why_a_database_is_unavailable(lab):
     lab.kill()
     lab.backs_up()
     os.remove(lab.db)
-    because(lab, "unavailable", "--db: there is no such file, but its log (-wal) holds records", *restore(lab))
+    because(lab, "unavailable", "--db: there is no such file, but its log (-wal) holds records, or a process has it", *restore(lab))
 
 
 def why_a_text_is_refused(lab):
@@ -576,7 +601,7 @@ def what_verbose_leaves(lab):
                           ("account 1 disabled", disable(lab.db))]:
         lab.does(told, *command, "--verbose")
     lab.backs_up(more=["--verbose"])
-    lab.does("restored", *restore(lab), "--verbose")
+    lab.puts_back(more=["--verbose"])
     lab.serve(count=1, more=["--verbose"])
     lab.ask(b"GET / HTTP/1.1\r\n\r\n")
     lab.served(1)
@@ -656,6 +681,33 @@ def each_fault_both_ways(lab):
 # ---- a machine that gives little
 
 
+def on_a_terminal(lab, *args):
+    """What a command says on standard error where that is a terminal."""
+    ours, its = pty.openpty()
+    done = subprocess.run([lab.program, *args], stdin=subprocess.DEVNULL, stdout=subprocess.DEVNULL, stderr=its, timeout=60)
+    os.close(its)
+    said = b""
+    with contextlib.suppress(OSError):
+        for part in iter(lambda: os.read(ours, 65536), b""):
+            said += part
+    os.close(ours)
+    return done.returncode, said.decode().replace("\r\n", "\n")
+
+
+def told_on_a_terminal(lab):
+    """On a terminal a command says what it says with --verbose: its warnings, its fault and the cause."""
+    lab.add(1)
+    other = changed(lab, "other.db", "CREATE TABLE other (a)")
+    bad = lab.write(lab.path("text"), "no key\n")
+    os.chmod(lab.db, 0o644)
+    for args in (disable(lab.path("none.db")), disable(lab.db, 2), disable(other), ["accounts", "--db", bad], ["accounts", "--db", lab.db],
+                 ["account-add", "--db", lab.db, "--account", "2", "--secret", bad], restore(lab), ["script", "--keys", bad],
+                 ["init", "--db", lab.db]):
+        status, _, faults = lab.run(*args, "--verbose")
+        expect(f"what {args} says on a terminal", on_a_terminal(lab, *args), (status, faults))
+    expect("whether there was a warning and a cause", "warning: " in lab.run(*restore(lab), "--verbose")[2], True)
+
+
 def little_stack(lab):
     """Where the stack is too small the program ends at its start, and never while it serves: what gets as far answers a
     body that nests as deep as one may."""
@@ -688,7 +740,8 @@ def main():
 
     killed.__name__ = "killed_restores"
     for part in (backups_while_nobody_serves, backups_while_serving, copies_apart, restores, sums_by_a_restore, wrong_sums, killed,
-                 what_others_may_read, foreign_files, why_a_database_is_unavailable, why_a_text_is_refused, what_verbose_leaves, each_fault_both_ways, little_stack):
+                 what_others_may_read, foreign_files, why_a_database_is_unavailable, why_a_text_is_refused, what_verbose_leaves, each_fault_both_ways, told_on_a_terminal,
+                 little_stack):
         with tempfile.TemporaryDirectory() as folder:
             lab = Laboratory(program, folder)
             lab.does("ready", "init", "--db", lab.db)

@@ -293,7 +293,7 @@ def is_restored(life, rows):
     expect("the log that is left holds something", os.path.getsize(lab.db + "-wal") > EMPTY_LOG, True)
     expect("the rows before are others", life.rows != rows, True)
     names = sorted(set(os.listdir(lab.folder)) - {"laboratory.db-wal"})
-    lab.does("restored", "restore", "--from", lab.path("backup.db"), "--db", lab.db)
+    lab.puts_back()
     # the socket of the killed server is no file of records, and the next start takes it away
     expect("the files behind the restore", sorted(os.listdir(lab.folder)), names)
     expect("what is beside the file", [name for name in names if name.startswith("laboratory.db")],

@@ -104,12 +104,12 @@ def links(lab):
         lab.fails("unavailable", "restore", "--from", lab.path("kept.db"), "--db", name)
     lab.kill()
     expect("the accounts behind the kill, by a link", account_lines(lab, link), everyone)
-    lab.does("restored", "restore", "--from", lab.path("kept.db"), "--db", far)
+    lab.puts_back("kept.db", far)
     expect("the links", [os.readlink(link), os.readlink(far)], ["laboratory.db", link])
     expect("what was restored by a link", (account_lines(lab, lab.db), account_lines(lab, far)), (["1"], ["1"]))
     # a backup that is named by a link, and a server that is
     os.symlink("kept.db", lab.path("kept-link.db"))
-    lab.does("restored", "restore", "--from", lab.path("kept-link.db"), "--db", lab.db)
+    lab.puts_back("kept-link.db")
     lab.db = link
     lab.serve(count=None)
     lab.add(2)
@@ -218,6 +218,19 @@ def without_proc(lab):
         os.chown(path, NOBODY, NOBODY)
     expect("a log of another user, without /proc", elsewhere(no_proc, lab, "accounts", "--db", lab.db), (1, "", "fault: unavailable\n"))
     expect("keys of another user, without /proc", elsewhere(no_proc, lab, "script", "--keys", lab.keys), (1, "", "fault: keys\n"))
+    for path in (lab.db + "-wal", lab.keys):
+        os.chown(path, 0, 0)
+    mounted = lab.write(lab.path("mounted.db"), "")
+    for command in commands_over(lab, mounted) + looks_over(lab, mounted):
+        expect(f"the command {command[0]} over a file that is mounted by itself, without /proc",
+               elsewhere(f"mount --bind '{lab.db}' '{mounted}' && {no_proc}", lab, *command), (1, "", "fault: unavailable\n"))
+    # also if the names are had that it tries for a second one
+    for number in range(10):
+        lab.write(lab.path(f"mounted.db-part-{10 ** 18 + number}"), "")
+        expect(f"a file that is mounted by itself, without /proc, beside {number + 1} others",
+               elsewhere(f"mount --bind '{lab.db}' '{mounted}' && {no_proc}", lab, "account-disable", "--db", mounted, "--account", "1"),
+               (1, "", "fault: unavailable\n"))
+    expect("the accounts where the log is", account_lines(lab, lab.db), ["1", "2"])
 
 
 def same_numbers(lab):
@@ -277,22 +290,29 @@ def names_of_neighbours(lab):
 
 
 def second_names(lab):
-    """The second name that a killed command has left of a file whose copy it made is taken away by what copies the file;
+    """The second name that a killed command has left of a file whose copy it made is taken away by the next command;
     while somebody makes the copy, it stays."""
     lab.add(1)
     lab.backs_up("kept.db")
     kept, part = lab.path("kept.db"), lab.path("laboratory.db-part-1795862400123456789")
     os.link(kept, part)
-    lab.does("restored", "restore", "--from", kept, "--db", lab.db)
+    lab.puts_back("kept.db")
     expect("the names of a backup that was restored", (os.path.lexists(part), os.stat(kept).st_nlink), (False, 1))
     for command in (["accounts", "--db", lab.db], ["backup", "--db", lab.db, "--to", lab.path("b.db")],
-                    ["check", "--db", lab.db, "--keys", lab.keys]):
+                    ["check", "--db", lab.db, "--keys", lab.keys], ["migrate", "--db", lab.db],
+                    ["account-disable", "--db", lab.db, "--account", "1"]):
         os.link(lab.db, part)
         os.link(kept, part[:-1] + "8")
         expect(f"the command {command[0]} over a file of two names", lab.run(*command)[::2], (0, ""))
         expect(f"its names behind {command[0]}", os.stat(lab.db).st_nlink, 1)
+        if command[0] in ("migrate", "account-disable"):
+            expect("a second name of another file", os.path.lexists(part[:-1] + "8"), True)
         if os.path.exists(part[:-1] + "8"):
             os.remove(part[:-1] + "8")
+    os.link(lab.db, part)
+    lab.serve(count=None)
+    expect("the names of a file that is served", os.stat(lab.db).st_nlink, 1)
+    lab.kill()
     os.link(lab.db, part)
     with open(part, "rb") as making:
         fcntl.flock(making, fcntl.LOCK_EX)
@@ -301,6 +321,19 @@ def second_names(lab):
         expect("a copy that is being made", os.path.lexists(part), True)
     expect("the accounts behind it", account_lines(lab, lab.db), ["1"])
     lab.does("account 1 disabled", "account-disable", "--db", lab.db, "--account", "1")
+    # so is a third name, and one of the log
+    lab.does("ready", "init", "--db", lab.path("new.db"))
+    for end in ("", "-wal"):
+        for last in "89":
+            os.link(lab.path("new.db") + end, lab.path("new.db") + end + part[-25:-1] + last)
+    lab.does("schema 3", "migrate", "--db", lab.path("new.db"))
+    expect("the names of a file and its log", [name for name in os.listdir(lab.folder) if name.startswith("new.db")], ["new.db", "new.db-wal"])
+    # the name that a restore has given to what it keeps is another's: who links it to the file is refused
+    keeps = lab.db + "-replaced-1795862400123456789"
+    os.link(lab.db, keeps)
+    refused(lab, "--db: it has 2 names (hard links), and may have one", "migrate", "--db", lab.db)
+    expect("the other name", os.path.lexists(keeps), True)
+    os.remove(keeps)
 
 
 def blamed(lab):
@@ -349,8 +382,8 @@ def journals(lab):
 
 
 def left_beside(lab):
-    """Beside a log that holds something, or a journal, no other file gets the name. What a killed command has left of a
-    copy isn't restored, and stays."""
+    """Beside a log that holds something or that a process has, or a journal, no other file gets the name. What a killed
+    command has left of a copy isn't restored, and stays."""
     lab.add(1)
     lab.backs_up("kept.db")
     lab.serve(count=None)
@@ -367,6 +400,12 @@ def left_beside(lab):
     os.rename(away, lab.db)
     expect("the accounts with their log", account_lines(lab, lab.db), ["1", "2"])
     new = lab.path("new.db")
+    with open(new + "-wal", "w") as held:
+        fcntl.lockf(held, fcntl.LOCK_EX, 512, 1 << 30)
+        refused(lab, "--db: there is no such file, but its log (-wal) holds records, or a process has it", "init", "--db", new)
+        lab.fails("unavailable", "restore", "--from", lab.path("kept.db"), "--db", new)
+    expect("a name whose log a process had", (os.path.exists(new), bytes_of(new + "-wal")), (False, b""))
+    os.remove(new + "-wal")
     journal = lab.write(new + "-journal", b"\xd9\xd5\x05\xf9 the rest of a journal")
     lab.fails("unavailable", "restore", "--from", lab.path("kept.db"), "--db", new)
     lab.fails("taken", "backup", "--db", lab.db, "--to", new)
@@ -423,7 +462,7 @@ def restore_beside_a_start(lab, slow_lock):
         while not os.path.exists(gate):
             expect("a command that waits for its lock runs", slow.poll(), None)
             time.sleep(0.01)
-        lab.does("restored", "restore", "--from", lab.path("kept.db"), "--db", lab.db)
+        lab.puts_back("kept.db")
         os.remove(gate)
         expect(f"the command {command[0]} that has lost the race", (*slow.communicate(timeout=60), slow.returncode),
                ("", "fault: unavailable\n", 1))
@@ -569,13 +608,35 @@ def planted(lab):
     link = lab.path("link.db")
     os.symlink(lab.db, link)
     os.chown(link, NOBODY, NOBODY, follow_symlinks=False)
-    why = f"it is a link of user {NOBODY}, or leads to one, not of root, its folder's owner or the user of the command"
+    why = f"its path goes by a link of user {NOBODY}, not of root, the owner of the link's folder or the user of the command"
     far = lab.path("far.db")
     os.symlink("link.db", far)
     for name in (link, far):
         for command in commands_over(lab, name) + looks_over(lab, name) + [["init", "--db", name], serving(lab, name)]:
             refused(lab, f"--db: {why}", *command)
         refused(lab, f"--from: {why}", "restore", "--from", name, "--db", lab.db)
+    # so is one among the folders of a path, also behind a link of root
+    folder, behind = lab.path("folder"), lab.path("behind.db")
+    os.symlink(lab.folder, folder)
+    os.symlink("folder/laboratory.db", behind)
+    for name in (os.path.join(folder, "laboratory.db"), behind):
+        expect("the accounts by a folder's link of root", account_lines(lab, name), ["1"])
+    # a link of another user behind one of root on the same path is refused, and one in that user's own folder isn't
+    refused(lab, f"--db: {why}", "migrate", "--db", os.path.join(folder, "link.db"))
+    theirs = lab.path("theirs")
+    os.mkdir(theirs)
+    os.symlink(lab.db, os.path.join(theirs, "link.db"))
+    os.chown(theirs, NOBODY, NOBODY)
+    os.chown(os.path.join(theirs, "link.db"), NOBODY, NOBODY, follow_symlinks=False)
+    expect("the accounts by a link of the owner of its folder", account_lines(lab, os.path.join(theirs, "link.db")), ["1"])
+    os.chown(folder, NOBODY, NOBODY, follow_symlinks=False)
+    for name in (os.path.join(folder, "laboratory.db"), behind):
+        for command in commands_over(lab, name) + looks_over(lab, name) + [["init", "--db", name], serving(lab, name)]:
+            refused(lab, f"--db: {why}", *command)
+    refused(lab, f"--db: {why}", "init", "--db", os.path.join(folder, "fresh.db"))
+    refused(lab, f"--to: {why}", "backup", "--db", lab.db, "--to", os.path.join(folder, "none.db"))
+    lab.fails("keys", *serving(lab, lab.db, os.path.join(folder, os.path.basename(lab.keys))))
+    expect("what is made by a folder's link", [os.path.lexists(lab.path(name)) for name in ("fresh.db", "none.db")], [False, False])
     # it is refused too if it leads to that user's own file
     own = lab.path("own")
     os.mkdir(own)
@@ -613,7 +674,7 @@ def kept_owner(lab):
             if os.path.exists(path):
                 os.chown(path, owner, group)
                 os.chmod(path, rights)
-        lab.does("restored", "restore", "--from", lab.path("kept.db"), "--db", lab.db)
+        lab.puts_back("kept.db")
         there = os.stat(lab.db)
         expect("whose a restored file is", (there.st_uid, there.st_gid, stat.S_IMODE(there.st_mode)), (owner, group, rights))
         lab.does("schema 3", "migrate", "--db", lab.db)
@@ -632,11 +693,18 @@ def without_links(lab, no_links):
         try:
             lab.backs_up(f"without-{number}.db")
             lab.fails("taken", "backup", "--db", lab.db, "--to", lab.path(f"without-{number}.db"))
-            lab.does("restored", "restore", "--from", lab.path(f"without-{number}.db"), "--db", lab.path(f"new-{number}.db"))
+            lab.puts_back(f"without-{number}.db", lab.path(f"new-{number}.db"))
         finally:
             del os.environ["LD_PRELOAD"], os.environ["NO_LINKS"]
         expect("its accounts", account_lines(lab, lab.path(f"without-{number}.db")), ["1"])
         expect("its mode", mode(lab.path(f"without-{number}.db")), 0o600)
+        os.environ.update({"LD_PRELOAD": no_links, "NO_LINKS": str(number)})
+        try:
+            kept = lab.restores(f"without-{number}.db")
+        finally:
+            del os.environ["LD_PRELOAD"], os.environ["NO_LINKS"]
+        expect("the accounts of what was replaced", account_lines(lab, kept), ["1"])
+        os.remove(kept)
     expect("what is left of copies", copies(lab), [])
 
 

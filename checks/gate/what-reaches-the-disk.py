@@ -105,12 +105,14 @@ def copies(it):
     for target in (lab.db, lab.db, lab.path("new.db")):
         is_there = os.path.exists(target)
         with it.tracing():
-            lab.does("restored", "restore", "--from", lab.path("backup-1.db"), "--db", target)
+            kept = lab.restores("backup-1.db", target)
         trace = it.trace()
         at = named("a restore", lab, trace, target)
         if is_there:
             log = target + "-wal"
             removed = place("a restore", trace, "remove", log)
+            named_at = named("what a restore keeps", lab, trace, kept)
+            expect("what was there is kept before its log goes", place("a restore", trace, "sync", lab.folder, after=named_at) < removed, True)
             is_synced("a restore, the file before its log goes", trace, target, removed)
             for path in (target, log):
                 locked = place("a restore", trace, "lock", path)

@@ -6,10 +6,14 @@ import hashlib
 import hmac
 import json
 import os
+import re
+import shutil
 import socket
 import sqlite3
+import stat
 import subprocess
 import sys
+import tempfile
 import time
 
 sys.path.insert(0, os.path.join(os.path.dirname(os.path.abspath(__file__)), "..", "..", "examples"))
@@ -53,6 +57,25 @@ def rows_of(path):
     with contextlib.closing(sqlite3.connect(f"file:{path}?mode=ro&immutable=1", uri=True)) as connection:
         tables = [name for name, in connection.execute("SELECT name FROM sqlite_master WHERE type = 'table'")]
         return sum(connection.execute(f'SELECT count(*) FROM "{table}"').fetchone()[0] for table in tables)
+
+
+def rows_with_log(path):
+    """The same of a database and the log beside it, of which copies are counted."""
+    path = os.path.realpath(path)
+    with tempfile.TemporaryDirectory() as folder:
+        copy = os.path.join(folder, "copy.db")
+        for end in ("", "-wal"):
+            if os.path.exists(path + end):
+                shutil.copy(path + end, copy + end)
+        with contextlib.closing(sqlite3.connect(copy)) as connection:
+            connection.execute("PRAGMA wal_checkpoint(TRUNCATE)")
+        return rows_of(copy)
+
+
+def access(path):
+    """The owner, the group and the mode of a file."""
+    there = os.stat(path)
+    return there.st_uid, there.st_gid, stat.S_IMODE(there.st_mode)
 
 
 def encoded(part):
@@ -144,6 +167,28 @@ class Laboratory:
 
     def does(self, wanted, *args):
         expect(f"the command {args}", self.run(*args), (0, wanted + "\n", ""))
+
+    def restores(self, backup="backup.db", db=None, more=()):
+        """A backup is restored, with as many rows as SQLite counts. A copy of what was there is kept, with its rows, its owner
+        and its mode, at the path that is told, which is the answer."""
+        db = db or self.db
+        before = (rows_with_log(db), access(db)) if os.path.exists(db) else None
+        status, output, faults = self.run("restore", "--from", self.path(backup), "--db", db, *more)
+        lines = output.splitlines()
+        last = "next: add a seed to the keys file, and serve with it"
+        expect(f"the restore of {backup}", (status, lines[:2], lines[-1:], faults), (0, ["restored", f"rows: {rows_of(db)}"], [last], ""))
+        told = [line.removeprefix("what was there is kept: ") for line in lines[2:-1]]
+        expect("what is kept", [(rows_of(path), access(path)) for path in told], [before] if before else [])
+        for path in told:
+            expect("the name that it has", bool(re.fullmatch(re.escape(os.path.realpath(db)) + "-replaced-[0-9]{19}", os.path.realpath(path))), True)
+            return path
+        return None
+
+    def puts_back(self, backup="backup.db", db=None, more=()):
+        """The same, and what was there is taken away."""
+        kept = self.restores(backup, db, more)
+        if kept is not None:
+            os.remove(kept)
 
     def fails(self, word, *args, what="", **more):
         expect(f"the command {args} {what}", self.run(*args, **more), (1, "", f"fault: {word}\n"))

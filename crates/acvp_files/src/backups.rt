@@ -1,18 +1,21 @@
 //! Backups of a database, and the way back from one.
 use crate::connection::copied;
-use crate::copies::{connection_to, connection_to_part, copy_into, merge, with_tables};
-use crate::fault::{CopyFault, FileFault, Step, at, done, refused};
-use crate::parts::{Pair, Part, Use, give_up, is_copy, make_new, new_copy, pair_at, remove};
+use crate::copies::{connection_to, connection_to_part, copy_file, copy_into, merge, with_tables};
+use crate::fault::{CopyFault, FileFault, Step, at, done, fault_of_cause, refused};
+use crate::number::{FileNumber, file_at, number_of};
+use crate::parts::{
+    Pair, Part, Use, give_up, has_name, is_copy, make_new, new_copy, pair_at, remove, replaced_at,
+};
 use crate::rows::count_rows;
 use crate::sums::copy_with_sums;
 use acvp_causes::{
-    folder_of, has_journal, has_log, has_sums, holds_any, is_companion, is_database,
-    is_held_by_any, last_of, name_of,
+    cause_of_folder, folder_of, has_journal, has_log, has_sums, holds_any, is_companion,
+    is_database, is_held_by_any, last_of, name_of,
 };
 use sqlite::{Alter, Connection, FileStore};
 use sqlite_disk::Disk;
 use std::alloc::{AllocError, AllocGlobal, Global};
-use std::fs::{self, File};
+use std::fs::{self, File, Metadata};
 use std::io::{self, ErrorKind};
 
 /// Whether there is a file of a path, whatever it is.
@@ -40,10 +43,14 @@ fn is_taken(rt: &HostRuntime, path: &str) -> Result<bool, FileFault> {
     )
 }
 
-/// Refuses a path that a new database can't have: it is taken, or that of a file that lies beside a database.
+/// Refuses a path that a new database can't have: it is taken, or that of a file that lies beside a database, or the
+/// way to it goes by a link that isn't followed.
 fn may_be_made(rt: &HostRuntime, path: &str) -> Result<(), FileFault> {
     if is_companion(path) || is_copy(path) {
         return Err(FileFault::Unavailable);
+    }
+    if let Some(cause) = cause_of_folder(rt, path) {
+        return Err(fault_of_cause(cause));
     }
     if is_taken(rt, path)? {
         return Err(FileFault::Taken);
@@ -120,11 +127,13 @@ fn link_new(rt: &HostRuntime, file: &str, to: &str) -> io::Result<()> {
 
 /// Gives a copy its name, if no file has it, without a second one: an empty file keeps the name until the copy has it.
 fn rename_new(rt: &HostRuntime, file: &str, to: &str) -> io::Result<()> {
-    drop(make_new(rt, to)?);
+    let made = make_new(rt, to)?;
     match fs::rename(rt, file, to) {
         Ok(()) => Ok(()),
         Err(error) => {
-            let _ = remove(rt, to);
+            if matches!(has_name(rt, &made, to), Ok(true)) {
+                let _ = remove(rt, to);
+            }
             Err(error)
         }
     }
@@ -184,20 +193,73 @@ pub fn backup(rt: &HostRuntime, database: &str, to: &str) -> Result<u64, CopyFau
     backup_of(rt, name.as_str(), to)
 }
 
-/// Puts a copy in the place of a database whose log holds nothing.
-fn put_in_place(rt: &HostRuntime, part: &Part, database: &Pair) -> io::Result<()> {
-    let path = database.file.as_str();
-    part.keep_access(&fs::symlink_metadata(rt, path)?)?;
-    part.is_still_named(rt)?;
-    // The log goes first: it isn't one of the copy's.
+/// Copies a database that is to be replaced, and gives the copy a name. Its log holds nothing. The copy has its owner,
+/// its group and its mode.
+fn copy_replaced(
+    rt: &HostRuntime,
+    path: &str,
+    there: &Metadata,
+    part: &Part,
+    kept: &str,
+) -> Result<(), FileFault> {
+    done(copy_file(rt, path, &part.file))?;
+    done(part.keep_access(there))?;
+    match name_new(rt, part, kept) {
+        Err(FileFault::Taken) => Err(FileFault::Unavailable),
+        named => named,
+    }
+}
+
+/// Keeps a copy of a database that is to be replaced, beside it, and says under which name.
+fn keep_replaced(rt: &HostRuntime, path: &str, there: &Metadata) -> Result<String, FileFault> {
+    let kept = replaced_at(rt, path)?;
+    let part = new_copy(rt, path, Use::Part)?;
+    let outcome = copy_replaced(rt, path, there, &part, kept.as_str());
+    give_up(rt, &part);
+    outcome?;
+    Ok(kept)
+}
+
+/// Whether a file still has its path.
+fn is_still_there(rt: &HostRuntime, path: &str, number: FileNumber) -> bool {
+    matches!(file_at(rt, path), Ok(there) if there == number)
+}
+
+/// Gives a copy the name of a database, which is still this file. Its log goes first: it isn't one of the copy's.
+fn take_place(
+    rt: &HostRuntime,
+    part: &Part,
+    database: &Pair,
+    number: FileNumber,
+) -> io::Result<()> {
+    if !is_still_there(rt, database.file.as_str(), number) {
+        return Err(ErrorKind::NotFound.into());
+    }
     remove(rt, database.log.as_str())?;
-    fs::rename(rt, part.pair.file.as_str(), path)?;
-    keep_names(rt, path)
+    fs::rename(rt, part.pair.file.as_str(), database.file.as_str())
+}
+
+/// Puts a copy in the place of a database whose log holds nothing, and says under which name another copy keeps what was
+/// there. A database that is still there needs none.
+fn put_in_place(rt: &HostRuntime, part: &Part, database: &Pair) -> Result<String, FileFault> {
+    let path = database.file.as_str();
+    let there = done(fs::symlink_metadata(rt, path))?;
+    done(part.keep_access(&there))?;
+    done(part.is_still_named(rt))?;
+    let kept = keep_replaced(rt, path, &there)?;
+    if let Err(error) = take_place(rt, part, database, number_of(&there)) {
+        if is_still_there(rt, path, number_of(&there)) {
+            let _ = remove(rt, kept.as_str());
+        }
+        return Err(refused(&error));
+    }
+    done(keep_names(rt, path))?;
+    Ok(kept)
 }
 
 /// Puts a copy in the place of a database that is there, and that nobody else may have meanwhile. What its log holds
-/// goes into its file before, so that it is whole until the other is in its place.
-fn replace_there(rt: &HostRuntime, part: &Part, database: &Pair) -> Result<(), FileFault> {
+/// goes into its file before, so that it is whole until the other is in its place, and so is the copy that is kept.
+fn replace_there(rt: &HostRuntime, part: &Part, database: &Pair) -> Result<String, FileFault> {
     if !done(is_database(rt, database.file.as_str()))? {
         return Err(FileFault::Unavailable);
     }
@@ -207,17 +269,11 @@ fn replace_there(rt: &HostRuntime, part: &Part, database: &Pair) -> Result<(), F
     }
     let outcome = put_in_place(rt, part, database);
     drop(held);
-    done(outcome)
+    outcome
 }
 
-/// Puts a copy in the place of a database, or where there is none.
-fn replace(rt: &HostRuntime, part: &Part, database: &Pair) -> Result<(), FileFault> {
-    if has_journal(rt, database.file.as_str())? {
-        return Err(FileFault::Unavailable);
-    }
-    if done(is_there(rt, database.file.as_str()))? {
-        return replace_there(rt, part, database);
-    }
+/// Puts a copy where there is no database, nor a log that holds something or that somebody has.
+fn place_alone(rt: &HostRuntime, part: &Part, database: &Pair) -> Result<(), FileFault> {
     if done(holds_any(rt, database.log.as_str()))? || is_held_by_any(rt, database.log.as_str())? {
         return Err(FileFault::Unavailable);
     }
@@ -228,8 +284,24 @@ fn replace(rt: &HostRuntime, part: &Part, database: &Pair) -> Result<(), FileFau
     }
 }
 
+/// Puts a copy in the place of a database, or where there is none. It gives the name under which what was there is kept.
+fn replace(rt: &HostRuntime, part: &Part, database: &Pair) -> Result<Option<String>, FileFault> {
+    if has_journal(rt, database.file.as_str())? {
+        return Err(FileFault::Unavailable);
+    }
+    if done(is_there(rt, database.file.as_str()))? {
+        return Ok(Some(replace_there(rt, part, database)?));
+    }
+    place_alone(rt, part, database)?;
+    Ok(None)
+}
+
 /// Puts a copy in the place of the database of a name.
-fn replace_named(rt: &HostRuntime, part: &Part, database: &str) -> Result<(), FileFault> {
+fn replace_named(
+    rt: &HostRuntime,
+    part: &Part,
+    database: &str,
+) -> Result<Option<String>, FileFault> {
     let place = pair_at(rt.alloc(), database)?;
     replace(rt, part, &place)
 }
@@ -240,7 +312,7 @@ fn replace_with_sums(
     part: &Part,
     database: &str,
     rows: u64,
-) -> Result<(), FileFault> {
+) -> Result<Option<String>, FileFault> {
     let other = new_copy(rt, database, Use::Part)?;
     let outcome = match copy_with_sums(rt, part, &other, rows) {
         Ok(()) => replace_named(rt, &other, database),
@@ -251,12 +323,27 @@ fn replace_with_sums(
 }
 
 /// Puts a whole copy of so many rows in the place of a database; one without sums gets them before.
-fn put_back(rt: &HostRuntime, part: &Part, database: &str, rows: u64) -> Result<(), FileFault> {
+fn put_back(
+    rt: &HostRuntime,
+    part: &Part,
+    database: &str,
+    rows: u64,
+) -> Result<Option<String>, FileFault> {
     match has_sums(rt, part.pair.file.as_str()) {
         Ok(true) => replace_named(rt, part, database),
         Ok(false) => replace_with_sums(rt, part, database, rows),
         Err(error) => Err(refused(&error)),
     }
+}
+
+/// What a restore has done.
+#[derive(Drop)]
+pub struct Restored {
+    /// The number of rows of what was restored.
+    pub rows: u64,
+
+    /// The path under which what was replaced is kept, if there was something.
+    pub replaced: Option<String>,
 }
 
 /// Makes a whole copy of the backup of a name, and puts it in the place of a database.
@@ -265,13 +352,14 @@ fn bring_back(
     backup: &str,
     part: &Part,
     database: &str,
-) -> Result<(), CopyFault> {
+) -> Result<Restored, CopyFault> {
     let rows = make_part(rt, backup, part, true)?;
-    at(Step::Target, put_back(rt, part, database, rows))
+    let replaced = at(Step::Target, put_back(rt, part, database, rows))?;
+    Ok(Restored { rows, replaced })
 }
 
 /// Puts the copy of a backup in the place of a database, by their names.
-fn restore_named(rt: &HostRuntime, backup: &str, database: &str) -> Result<(), CopyFault> {
+fn restore_named(rt: &HostRuntime, backup: &str, database: &str) -> Result<Restored, CopyFault> {
     let part = at(Step::Begin, new_copy(rt, database, Use::Part))?;
     let outcome = bring_back(rt, backup, &part, database);
     give_up(rt, &part);
@@ -279,8 +367,8 @@ fn restore_named(rt: &HostRuntime, backup: &str, database: &str) -> Result<(), C
 }
 
 /// Puts the copy of the backup at a path in the place of the database at another, whole or not at all. Its pages have
-/// sums then, also where those of the backup have none.
-pub fn restore(rt: &HostRuntime, backup: &str, database: &str) -> Result<(), CopyFault> {
+/// sums then, also where those of the backup have none. What was there is kept beside it.
+pub fn restore(rt: &HostRuntime, backup: &str, database: &str) -> Result<Restored, CopyFault> {
     let from = at(Step::Source, done(name_of(rt, backup)))?;
     let to = at(Step::Target, done(name_of(rt, database)))?;
     // A copy that was left may be half of one, and the next copy takes it away.

@@ -12,7 +12,7 @@ use crate::fault::{FileFault, fault_of_cause, refused};
 use crate::number::{FileNumber, file_at};
 use crate::parts::{is_copy, settle_names};
 use crate::privacy::{has_no_log, make_private};
-use acvp_causes::{cause_of_files, has_log, is_companion, is_foreign, is_moved};
+use acvp_causes::{cause_of_files, has_log, is_companion, is_foreign, is_left_alone, is_moved};
 use sqlite::{Connection, Error, ErrorCode, FileFrom, FileStore, Files, Start};
 use sqlite_disk::Disk;
 use std::alloc::AllocGlobal;
@@ -137,9 +137,14 @@ fn connect_known<S: Start>(
     connect_held(rt, path, start)
 }
 
-/// Whether a log holds something, and its file isn't there: a new one would have the log for its own.
-fn is_left_alone(rt: &HostRuntime, path: &str) -> bool {
-    has_log(rt, path) && matches!(fs::exists(rt, path), Ok(false))
+/// Refuses a path that a database can't be made at: it is that of a file that lies beside a database, or beside it there
+/// is a log that another has left.
+fn may_be_made(rt: &HostRuntime, path: &str) -> Result<(), FileFault> {
+    if is_companion(path) || is_copy(path) || is_left_alone(rt, path)? {
+        Err(FileFault::Unavailable)
+    } else {
+        Ok(())
+    }
 }
 
 /// A connection to the database in a file, which is made for its owner alone where there is none. It isn't made beside
@@ -152,8 +157,8 @@ pub fn connect_new<S: Start>(
     ensures memory { path.now ≡ codes ":memory:" → IsErr result }
     ensures connected { IfOk result (IsConnected (image_at S.Start)) }
 {
-    if is_left_alone(rt, path) || is_companion(path) || is_copy(path) {
-        return Err(Unopened::Failed(FileFault::Unavailable));
+    if let Err(fault) = may_be_made(rt, path) {
+        return Err(Unopened::Failed(fault));
     }
     if path != ":memory:" {
         make_private(rt, path);
@@ -191,6 +196,7 @@ pub fn connect_existing<S: Start>(
     ensures memory { path.now ≡ codes ":memory:" → IsErr result }
     ensures connected { IfOk result (IsConnected (image_at S.Start)) }
 {
+    settle_names(rt, path);
     if let Err(fault) = may_be_taken(rt, path) {
         return Err(Unopened::Failed(fault));
     }

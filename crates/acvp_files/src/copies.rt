@@ -74,7 +74,7 @@ fn is_whole(before: &Mark, after: &Mark, copy: &Mark) -> bool
 }
 
 /// Copies a file into an open one, in the place of all that this holds. One that isn't there has an empty copy.
-fn copy_file(rt: &HostRuntime, from: &str, mut to: &File) -> io::Result<()> {
+pub(crate) fn copy_file(rt: &HostRuntime, from: &str, mut to: &File) -> io::Result<()> {
     to.set_len(0)?;
     to.rewind()?;
     let mut source = match File::open(rt, from) {

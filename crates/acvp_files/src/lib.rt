@@ -11,7 +11,7 @@ mod privacy;
 mod rows;
 mod sums;
 
-pub use backups::{backup, restore};
+pub use backups::{Restored, backup, restore};
 pub use connection::{FileConnection, Unopened, close, connect_existing, connect_new};
 pub use copies::{FileTables, tables_of_copy};
 pub use fault::{CopyFault, FileFault, Step};

@@ -1,4 +1,4 @@
-//! The copies that a command makes beside a file, and those that a killed command has left there.
+//! The copies that a command makes beside a file, the name of what a restore keeps, and what a killed command has left.
 //!
 //! Whoever makes a copy has it locked until it is taken away or has its name. So a copy that nobody has locked was left.
 ghost use Rattle.std.specs.Prelude.{◌≡◌};
@@ -9,7 +9,7 @@ ghost use Rattle.acvp_files.specs.Parts.{is_moment};
 use crate::fault::{FileFault, refused};
 use crate::number::{FileNumber, file_at, number_of};
 use acvp_causes::{folder_of, last_of};
-use std::alloc::{AllocGlobal, Global};
+use std::alloc::{AllocError, AllocGlobal, Global};
 use std::fs::{self, File, Metadata, OpenOptions, Permissions};
 use std::io::{self, ErrorKind};
 use std::os::unix::fs::{MetadataExt, OpenOptionsExt, PermissionsExt, fchown};
@@ -132,7 +132,7 @@ fn remove_pair(rt: &HostRuntime, pair: &Pair) {
 }
 
 /// Whether a file has a name.
-fn has_name(rt: &HostRuntime, file: &File, path: &str) -> io::Result<bool> {
+pub(crate) fn has_name(rt: &HostRuntime, file: &File, path: &str) -> io::Result<bool> {
     let number = number_of(&file.metadata()?);
     match file_at(rt, path) {
         Ok(there) => Ok(there == number),
@@ -280,6 +280,12 @@ fn remove_left(rt: &HostRuntime, base: &str) {
     }
 }
 
+/// The path under which a restore keeps what it replaces, named after this moment.
+pub(crate) fn replaced_at(rt: &HostRuntime, database: &str) -> Result<String, AllocError> {
+    let moment = precise_moment(rt);
+    format!(in rt.alloc(); "{database}-replaced-{moment}")
+}
+
 /// Takes a name away if it is a copy's that nobody makes any more, and of this file.
 fn remove_name(rt: &HostRuntime, path: &str, number: FileNumber) {
     if is_copy(path)
@@ -290,10 +296,10 @@ fn remove_name(rt: &HostRuntime, path: &str, number: FileNumber) {
     }
 }
 
-/// Takes the second name of a file away that a killed command has left: the file was its copy, and has its own name.
-pub(crate) fn settle_names(rt: &HostRuntime, path: &str) {
+/// Takes the other names of a file away that killed commands have left: the file was their copy, and has its own name.
+fn settle_file(rt: &HostRuntime, path: &str) {
     let there = match fs::symlink_metadata(rt, path) {
-        Ok(there) if there.is_file() && there.nlink() == 2 && !is_copy(path) => there,
+        Ok(there) if there.is_file() && there.nlink() > 1 && !is_copy(path) => there,
         _ => return,
     };
     let Ok(names) = fs::read_dir(rt, folder_of(path)) else {
@@ -305,5 +311,13 @@ pub(crate) fn settle_names(rt: &HostRuntime, path: &str) {
         {
             remove_name(rt, other.as_str(), number_of(&there));
         }
+    }
+}
+
+/// Does so with a database and its log.
+pub(crate) fn settle_names(rt: &HostRuntime, path: &str) {
+    settle_file(rt, path);
+    if let Ok(log) = format!(in rt.alloc(); "{path}-wal") {
+        settle_file(rt, log.as_str());
     }
 }

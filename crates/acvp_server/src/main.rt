@@ -21,7 +21,7 @@ use crate::failure::Failed;
 use crate::flags::Flags;
 use crate::looks::shown;
 use crate::makers::{OwnFiles, own_files};
-use crate::printing::print_line;
+use crate::printing::{print_line, print_restored};
 use crate::script::script;
 use crate::why::{tell_because, why_failed};
 use acvp_causes::{Because, Cause};
@@ -149,8 +149,8 @@ fn run(rt: &HostRuntime, asked: Invocation<'_>, flags: Flags) -> Result<bool, Fa
             printed(println!(rt; "backed up: {rows} rows"))
         }
         Invocation::Restore { from, db } => {
-            restore(rt, from, db)?;
-            printed(println!(rt; "restored"))
+            let done = restore(rt, from, db)?;
+            printed(print_restored(rt, &done))
         }
         Invocation::Script(keys) => {
             let database = None;

@@ -2,7 +2,7 @@
 use crate::failure::Failed;
 use acvp_causes::{
     Because, Cause, Place, are_there, cause_of_database, cause_of_error, cause_of_folder,
-    cause_of_maker, cause_of_source, has_log, is_companion, is_moved, keys_fault, name_of,
+    cause_of_maker, cause_of_source, is_companion, is_left_alone, is_moved, keys_fault, name_of,
     secret_fault, why_unnamed,
 };
 use acvp_commands::{Deed, Fault, Invocation, Look, bytes_of, read_keys};
@@ -59,12 +59,21 @@ fn tables_of(deed: Deed<'_>) -> &'static str {
     }
 }
 
+/// Why a database can't be made where there is no file.
+fn why_unmade(rt: &HostRuntime, db: &str) -> Cause {
+    match is_left_alone(rt, db) {
+        Ok(true) => Cause::LogAlone,
+        Ok(false) => cause_of_folder(rt, db).unwrap_or(Cause::Unmade),
+        Err(_) => Cause::Memory,
+    }
+}
+
 /// Why a database was unavailable.
 fn why_unavailable(rt: &HostRuntime, db: &str, deed: Deed<'_>) -> Because {
     let is_new = matches!(deed, Deed::Init);
     match cause_of_held(rt, db) {
         Some(because) if is_new && is_missing(because) => {
-            Because::of("--db", cause_of_folder(rt, db).unwrap_or(Cause::Unmade))
+            Because::of("--db", why_unmade(rt, db))
         }
         Some(because) => because,
         None if is_new && are_there(rt, db) => Because::of("--db", Cause::Tables),
@@ -150,7 +159,7 @@ fn why_not_replaced(rt: &HostRuntime, db: &str) -> Because {
         return Because::of("--db", why_unnamed(rt, db, error));
     }
     match cause_of_held(rt, db) {
-        Some(because) if is_missing(because) && has_log(rt, db) => {
+        Some(because) if is_missing(because) && matches!(is_left_alone(rt, db), Ok(true)) => {
             Because::of("--db", Cause::LogAlone)
         }
         Some(because) if !is_missing(because) => because,
