@@ -647,11 +647,12 @@ def six_commands(lab, folder):
     path = {"PATH": "/usr/local/bin:/usr/bin:/bin"}
     lab.process = subprocess.Popen(["bash", "-eu", "-o", "pipefail", "-c", "\n".join(lines)], cwd=folder, env=path,
                                    stdin=subprocess.DEVNULL, stdout=subprocess.PIPE, stderr=subprocess.PIPE)
-    for line in ("ready", "account 7 added", f"listening 127.0.0.1:{lab.port}"):
+    for line in ("made keys.txt", "made secret.txt", "ready", "account 7 added", f"listening 127.0.0.1:{lab.port}"):
         expect("what the README's commands print", lab.process.stdout.readline(), line.encode() + b"\n")
     lab.token(7)
     lab.kill()
-    expect("who may read the keys", os.stat(os.path.join(folder, "keys.txt")).st_mode & 0o777, 0o600)
+    for name in ("keys.txt", "secret.txt"):
+        expect(f"who may read {name}", os.stat(os.path.join(folder, name)).st_mode & 0o777, 0o600)
 
 
 def documents(lab):
@@ -667,7 +668,7 @@ def documents(lab):
     if not shutil.which("sqlite3"):
         lines = [line for line in lines if not line.startswith("sqlite3")]
     place = next(number for number, line in enumerate(lines) if "account-add" in line) + 1
-    expect("what setting up prints", shell(other, lines[:place], folder), "ready\naccount 7 added\n")
+    expect("what setting up prints", shell(other, lines[:place], folder), "ready\nmade keys.txt\nmade secret-7.txt\naccount 7 added\n")
     other.secret = lambda account: bytes.fromhex(open(os.path.join(folder, "secret-7.txt")).read().strip())
     other.serve()
     token = other.token(7)
@@ -682,15 +683,15 @@ def documents(lab):
         wanted += ["ok\n"]
     for part in wanted:
         expect(f"{part!r} in what the operator's commands print: {output}", part in output, True)
-    for keys in ("ring.txt", "ring-2.txt"):
+    for keys in ("keys.txt", "keys-2.txt"):
         other.serve(keys=os.path.join(folder, keys))
         expect(f"a token under {keys}", other.must("GET", "/account", token)["requests"], 2)
         other.kill()
-    other.serve(keys=os.path.join(folder, "ring-4.txt"))
+    other.serve(keys=os.path.join(folder, "keys-4.txt"))
     expect("a token of the key that is retired", other.call("GET", "/account", token)[0], 401)
     other.kill()
     other.db = os.path.join(folder, "backup.db")
-    other.serve(keys=os.path.join(folder, "ring.txt"))
+    other.serve(keys=os.path.join(folder, "keys.txt"))
     expect("a token over the backup", other.must("GET", "/account", token)["requests"], 2)
     other.kill()
     other.db = os.path.join(folder, "laboratory.db")

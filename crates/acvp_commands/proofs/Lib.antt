@@ -1,4 +1,3 @@
-pub mod KeysLemmas
 pub mod NumbersLemmas
 pub mod VisitLemmas
 pub mod AskedLemmas

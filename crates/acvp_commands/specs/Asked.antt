@@ -11,9 +11,11 @@ use Rattle.acvp_commands.specs.declared.asked.BadValue.TheVariants as bad
 use Rattle.acvp_commands.specs.declared.asked.Deed.{Deed}
 use Rattle.acvp_commands.specs.declared.asked.Deed.TheVariants as deed
 use Rattle.acvp_commands.specs.declared.asked.Invocation.{Invocation}
-use Rattle.acvp_commands.specs.declared.asked.Invocation.TheVariants.{At, Backup, On, Restore, Script}
+use Rattle.acvp_commands.specs.declared.asked.Invocation.TheVariants.{At, Backup, Make, On, Restore, Script}
 use Rattle.acvp_commands.specs.declared.asked.Look.{Look}
 use Rattle.acvp_commands.specs.declared.asked.Look.TheVariants as look
+use Rattle.acvp_commands.specs.declared.asked.Making.{Making}
+use Rattle.acvp_commands.specs.declared.asked.Making.TheVariants as making
 
 -- ---- the options
 
@@ -37,6 +39,8 @@ bad_value_text bad.Port = codes "--port wants a whole number from 1 to 65535, as
 bad_value_text bad.Count = codes "--count wants a whole number from 1 to 1000000, as 1000"
 bad_value_text bad.Patience = codes "--patience wants a whole number of seconds from 1 to 3600, as 30"
 bad_value_text bad.Grades = codes "--grades is yes or no"
+bad_value_text bad.Keys =
+    codes "keys wants --new FILE alone, or one of --add-token, --retire and --add-seed FILE with --to FILE"
 
 -- ---- the subcommands
 
@@ -110,6 +114,41 @@ AsksLook name options (look.Check keys grades) =
     (name ≡ codes "check") × (keys.now ≡ value_of options (codes "keys"))
     × AsksGrades (first_of (codes "grades") options) grades
 
+-- the option wasn't given
+abbrev pub IsLeftOut : List Row → List ℕ → Type 0
+IsLeftOut options option = first_of option options ≡ None
+
+-- it was given, with this value
+abbrev pub IsGiven : List Row → List ℕ → List ℕ → Type 0
+IsGiven options option text = first_of option options ≡ Some text
+
+-- one of two keys files is the other's with a change: the option of the change names the first, and --to the second
+abbrev pub AsksChange : List Row → List ℕ → List ℕ → List ℕ → List ℕ → List ℕ → Type 0
+AsksChange options change other another from to =
+    IsGiven options change from × IsGiven options (codes "to") to × IsLeftOut options (codes "new")
+    × IsLeftOut options other × IsLeftOut options another
+
+abbrev pub AsksKeys : List Row → Making → Type 0
+AsksKeys options (making.Keys to) =
+    IsGiven options (codes "new") to.now × IsLeftOut options (codes "add-token")
+    × IsLeftOut options (codes "retire") × IsLeftOut options (codes "add-seed") × IsLeftOut options (codes "to")
+AsksKeys options (making.TokenMore from to) =
+    AsksChange options (codes "add-token") (codes "retire") (codes "add-seed") from.now to.now
+AsksKeys options (making.TokenLess from to) =
+    AsksChange options (codes "retire") (codes "add-token") (codes "add-seed") from.now to.now
+AsksKeys options (making.SeedMore from to) =
+    AsksChange options (codes "add-seed") (codes "add-token") (codes "retire") from.now to.now
+AsksKeys options (making.Secret to) = ⊥
+
+-- none is asked for by the options
+abbrev pub RefusesKeys : List Row → Type 0
+RefusesKeys options = (it : Making) → AsksKeys options it → ⊥
+
+-- the subcommand of a name asks for the file by its options
+abbrev pub AsksMaking : List ℕ → List Row → Making → Type 0
+AsksMaking name options (making.Secret to) = (name ≡ codes "secret") × (to.now ≡ value_of options (codes "new"))
+AsksMaking name options it = (name ≡ codes "keys") × AsksKeys options it
+
 abbrev pub AsksFor : List ℕ → List Row → Invocation → Type 0
 AsksFor name options (On db it) = (db.now ≡ value_of options (codes "db")) × AsksDeed name options it
 AsksFor name options (At db it) = (db.now ≡ value_of options (codes "db")) × AsksLook name options it
@@ -119,6 +158,7 @@ AsksFor name options (Restore from db) =
     (name ≡ codes "restore") × (from.now ≡ value_of options (codes "from"))
     × (db.now ≡ value_of options (codes "db"))
 AsksFor name options (Script keys) = (name ≡ codes "script") × (keys.now ≡ value_of options (codes "keys"))
+AsksFor name options (Make it) = AsksMaking name options it
 
 -- none of the subcommands that do something with a database has the name
 abbrev pub IsNoDeed : List ℕ → Type 0
@@ -133,10 +173,14 @@ IsNoLook name =
     (name ≢ codes "accounts") × (name ≢ codes "requests") × (name ≢ codes "request-show")
     × (name ≢ codes "certificate") × (name ≢ codes "check")
 
+-- none of those that make a file of keys or of a secret
+abbrev pub IsNoMaking : List ℕ → Type 0
+IsNoMaking name = (name ≢ codes "keys") × (name ≢ codes "secret")
+
 -- none of all
 abbrev pub IsNoName : List ℕ → Type 0
 IsNoName name =
-    IsNoDeed name × IsNoLook name
+    IsNoDeed name × IsNoLook name × IsNoMaking name
     × (name ≢ codes "backup") × (name ≢ codes "restore") × (name ≢ codes "script")
 
 -- the subcommand of a name wants a number, and its option's text is none
@@ -148,6 +192,7 @@ RefusesDeed name options bad.Request =
     ((name ≡ codes "request-approve") ⊎ (name ≡ codes "request-reject"))
     × IsNoNumber most_request (value_of options (codes "request"))
 RefusesDeed name options bad.Grades = ⊥
+RefusesDeed name options bad.Keys = ⊥
 RefusesDeed name options bad.Port = (name ≡ codes "serve") × RefusesToServe options bad.Port
 RefusesDeed name options bad.Count = (name ≡ codes "serve") × RefusesToServe options bad.Count
 RefusesDeed name options bad.Patience = (name ≡ codes "serve") × RefusesToServe options bad.Patience
@@ -159,8 +204,13 @@ RefusesLook name options bad.Request =
 RefusesLook name options bad.Grades = (name ≡ codes "check") × RefusesGrades (first_of (codes "grades") options)
 RefusesLook name options _ = ⊥
 
+abbrev pub RefusesMaking : List ℕ → List Row → BadValue → Type 0
+RefusesMaking name options bad.Keys = (name ≡ codes "keys") × RefusesKeys options
+RefusesMaking name options _ = ⊥
+
 abbrev pub RefusesName : List ℕ → List Row → BadValue → Type 0
-RefusesName name options it = RefusesDeed name options it ⊎ RefusesLook name options it
+RefusesName name options it =
+    RefusesDeed name options it ⊎ RefusesLook name options it ⊎ RefusesMaking name options it
 
 -- the subcommand that was read asks for it, by the options that were read of it
 abbrev pub IsAsked : Option (List ℕ × List Row) → Invocation → Type 0

@@ -3,7 +3,7 @@ use Rattle.std.specs.Prelude.{◌≡◌, ◌⊎◌, ℕ, List}
 use Rattle.std.specs.declared.io.ErrorKind.{ErrorKind}
 use Rattle.acvp_token.specs.Keys.{Ring}
 use Rattle.acvp_commands.specs.Faults.{fault_of_kind}
-use Rattle.acvp_commands.specs.KeysFile.{IsKeysText, IsLine}
+use Rattle.acvp_keys.specs.KeysFile.{IsKeysText, IsLine}
 use Rattle.acvp_commands.specs.declared.fault.Fault.{Fault}
 use Rattle.acvp_commands.specs.declared.fault.Fault.TheVariants as fault
 use Rattle.acvp_desk.specs.declared.keys.Keys.{Keys}

@@ -3,11 +3,10 @@ pub mod Faults
 pub mod FileLife
 pub mod Files
 pub mod Hosting
-pub mod KeysFile
 pub mod Lines
 pub mod Listening
+pub mod Makings
 pub mod Numbers
 pub mod Ordered
-pub mod Private
 pub mod Reopened
 pub mod Work

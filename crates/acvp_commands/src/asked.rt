@@ -8,6 +8,7 @@ ghost use Rattle.acvp_commands.specs.Numbers.{most_count, most_patience};
 ghost use Rattle.acvp_commands.specs.Asked.{AsksFor, AsksToServe, IsAsked, IsNoNumber, NamesAccount, RefusesToServe};
 ghost use Rattle.acvp_commands.specs.Asked.{AsksDeed, AsksLook, IsNoDeed, IsNoLook, IsNoName, IsNothingAsked};
 ghost use Rattle.acvp_commands.specs.Asked.{IsRefused, NamesAccountToDo, RefusesDeed, RefusesLook, RefusesName};
+ghost use Rattle.acvp_commands.specs.Asked.{AsksKeys, AsksMaking, IsNoMaking, RefusesKeys, RefusesMaking};
 ghost use Rattle.acvp_commands.specs.Asked.{bad_value_text, options_of, value_of};
 
 use crate::host::Service;
@@ -50,6 +51,25 @@ pub enum Look<'a> {
     Check { keys: &'a str, grades: bool },
 }
 
+/// A file of keys or of a secret that is made, by the path at which none may be. It never takes the place of another.
+#[derive(Clone, Copy)]
+pub enum Making<'a> {
+    /// Keys: a token key and a seed.
+    Keys { to: &'a str },
+
+    /// The keys of a file and a token key more.
+    TokenMore { from: &'a str, to: &'a str },
+
+    /// The keys of a file, of which the oldest token key is retired.
+    TokenLess { from: &'a str, to: &'a str },
+
+    /// The keys of a file and a seed more.
+    SeedMore { from: &'a str, to: &'a str },
+
+    /// The secret of an account.
+    Secret { to: &'a str },
+}
+
 /// What the command line asks for.
 #[derive(Clone, Copy)]
 pub enum Invocation<'a> {
@@ -67,6 +87,9 @@ pub enum Invocation<'a> {
 
     /// The script on standard input is run, under the keys in the file of a path.
     Script(&'a str),
+
+    /// A file of keys or of a secret is made.
+    Make(Making<'a>),
 }
 
 /// A value that its option doesn't have.
@@ -78,6 +101,7 @@ pub enum BadValue {
     Count,
     Patience,
     Grades,
+    Keys,
 }
 
 impl BadValue {
@@ -93,6 +117,8 @@ impl BadValue {
             BadValue::Patience =>
                 "--patience wants a whole number of seconds from 1 to 3600, as 30",
             BadValue::Grades => "--grades is yes or no",
+            BadValue::Keys =>
+                "keys wants --new FILE alone, or one of --add-token, --retire and --add-seed FILE with --to FILE",
         }
     }
 }
@@ -254,6 +280,41 @@ fn look_by_name<'a>(name: &str, matches: &ArgMatches<'a>) -> Result<Option<Look<
     }))
 }
 
+/// Which keys file is made by these options.
+fn keys_making<'a>(matches: &ArgMatches<'a>) -> Option<Making<'a>>
+    ensures { MatchOption result (RefusesKeys (options_of matches.now)) (AsksKeys (options_of matches.now)) }
+{
+    let new = optional(matches, "new");
+    let token = optional(matches, "add-token");
+    let retired = optional(matches, "retire");
+    let seed = optional(matches, "add-seed");
+    match (new, token, retired, seed, optional(matches, "to")) {
+        (Some(to), None, None, None, None) => Some(Making::Keys { to }),
+        (None, Some(from), None, None, Some(to)) => Some(Making::TokenMore { from, to }),
+        (None, None, Some(from), None, Some(to)) => Some(Making::TokenLess { from, to }),
+        (None, None, None, Some(from), Some(to)) => Some(Making::SeedMore { from, to }),
+        _ => None,
+    }
+}
+
+/// Which file a subcommand with these options makes; nothing where there is no such subcommand.
+fn making_by_name<'a>(name: &str, matches: &ArgMatches<'a>) -> Result<Option<Making<'a>>, BadValue>
+    ensures asked { IfOk result
+        (λ asked. MatchOption asked (IsNoMaking name.now) (AsksMaking name.now (options_of matches.now))) }
+    ensures refused { IfErr result (RefusesMaking name.now (options_of matches.now)) }
+{
+    match name {
+        "keys" => match keys_making(matches) {
+            Some(making) => Ok(Some(making)),
+            None => Err(BadValue::Keys),
+        },
+        "secret" => Ok(Some(Making::Secret {
+            to: value(matches, "new"),
+        })),
+        _ => Ok(None),
+    }
+}
+
 /// What a subcommand with these options asks for; nothing where there is no such subcommand.
 fn asked_by_name<'a>(
     name: &str,
@@ -270,6 +331,9 @@ fn asked_by_name<'a>(
     }
     if let Some(look) = look_by_name(name, matches)? {
         return Ok(Some(Invocation::At(db, look)));
+    }
+    if let Some(making) = making_by_name(name, matches)? {
+        return Ok(Some(Invocation::Make(making)));
     }
     Ok(match name {
         "backup" => Some(Invocation::Backup {

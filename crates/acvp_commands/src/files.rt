@@ -3,8 +3,8 @@ ghost use Rattle.std.specs.Prelude.{MatchResult};
 ghost use Rattle.acvp_commands.specs.Files.{HasNoKeys, HasNoSecret, HoldsKeys, HoldsSecret};
 
 use crate::fault::Fault;
-use crate::keys::{bytes_of, read_keys};
 use acvp_desk::Keys;
+use acvp_keys::{bytes_of, read_keys};
 use std::io;
 
 /// Where files are read from.
@@ -31,7 +31,10 @@ pub fn keys_in<F: TextFiles>(files: &F, path: &str) -> Result<Keys, Fault>
         (HasNoKeys (F.holds files.now) (F.fails files.now) path.now) }
 {
     match files.text_of(path) {
-        Ok(text) => read_keys(&text).ok_or(Fault::Keys),
+        Ok(text) => match read_keys(&text) {
+            Some((token, seed)) => Ok(Keys { token, seed }),
+            None => Err(Fault::Keys),
+        },
         Err(error) => Err(Fault::Keys.of_system(&error)),
     }
 }

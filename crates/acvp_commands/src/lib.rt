@@ -7,26 +7,26 @@ mod done;
 mod fault;
 mod files;
 mod host;
-mod keys;
 mod life;
 mod lines;
+mod making;
 mod numbers;
 mod orders;
 mod serving;
 mod status;
 mod work;
 
-pub use asked::{BadValue, Deed, Invocation, Look, asked_by};
+pub use asked::{BadValue, Deed, Invocation, Look, Making, asked_by};
 pub use done::{done_over, make_tables};
 pub use fault::Fault;
 pub use files::{TextFiles, keys_in, secret_in};
 pub use host::{Host, Service, desk_over};
-pub use keys::{bytes_of, read_keys};
 pub use life::{
     closed_files_are_found, commands_are_runs, commands_run_over_files, files_live_on,
     left_files_are_found,
 };
 pub use lines::Message;
+pub use making::{Drawn, text_to_make};
 pub use numbers::{account_number, connection_count, patience_number, port_number, request_number};
 pub use orders::{carry_out, order_line};
 pub use serving::{Arrival, Listener, Taken, moment_of, serve_connections};

@@ -128,6 +128,48 @@ const FROM_OPTION: Wanted = Wanted {
     form: Form::Needed,
 };
 
+const NEW_KEYS_OPTION: Wanted = Wanted {
+    name: "new",
+    value: "FILE",
+    help: "Makes this keys file, as keys.txt, with a token key and a seed; none may be there",
+    form: Form::Optional,
+};
+
+const ADD_TOKEN_OPTION: Wanted = Wanted {
+    name: "add-token",
+    value: "FILE",
+    help: "Takes the lines of this keys file, and adds a token key, which signs from then on",
+    form: Form::Optional,
+};
+
+const RETIRE_OPTION: Wanted = Wanted {
+    name: "retire",
+    value: "FILE",
+    help: "Takes the lines of this keys file, and retires its oldest token key: its tokens are refused",
+    form: Form::Optional,
+};
+
+const ADD_SEED_OPTION: Wanted = Wanted {
+    name: "add-seed",
+    value: "FILE",
+    help: "Takes the lines of this keys file, and adds a seed, of which new vector sets are made",
+    form: Form::Optional,
+};
+
+const NEW_LINES_OPTION: Wanted = Wanted {
+    name: "to",
+    value: "FILE",
+    help: "The keys file that is made of the other's lines; none may be there",
+    form: Form::Optional,
+};
+
+const NEW_SECRET_OPTION: Wanted = Wanted {
+    name: "new",
+    value: "FILE",
+    help: "The file that is made, as secret-7.txt; none may be there",
+    form: Form::Needed,
+};
+
 const ALL_FLAG: Wanted = Wanted {
     name: "all",
     value: "",
@@ -138,7 +180,7 @@ const ALL_FLAG: Wanted = Wanted {
 const VERBOSE_FLAG: Wanted = Wanted {
     name: VERBOSE,
     value: "",
-    help: "Where the command fails, says why on a second line, as because: --db: there is no such file",
+    help: "If the command fails, says why on a second line, as on a terminal: because: --db: there is no such file",
     form: Form::Flag,
 };
 
@@ -150,10 +192,10 @@ const LOG_FLAG: Wanted = Wanted {
 };
 
 /// The program's subcommands.
-static SUBCOMMANDS: [Subcommand; 15] = [
+static SUBCOMMANDS: [Subcommand; 17] = [
     Subcommand {
         name: "init",
-        about: "Makes the tables in a file, which is made where it isn't there",
+        about: "Makes the tables in a file, which is made if there is none",
         example: "Example: acvp_server init --db laboratory.db",
         options: &[DB_OPTION, VERBOSE_FLAG],
     },
@@ -162,6 +204,25 @@ static SUBCOMMANDS: [Subcommand; 15] = [
         about: "Moves the tables in a file of an earlier version to today's schema, with all records",
         example: "Example: acvp_server migrate --db laboratory.db",
         options: &[DB_OPTION, VERBOSE_FLAG],
+    },
+    Subcommand {
+        name: "keys",
+        about: "Makes a keys file, or one with another's lines and a change, and leaves the other as it is",
+        example: "Example: acvp_server keys --add-seed keys.txt --to keys-2.txt",
+        options: &[
+            NEW_KEYS_OPTION,
+            ADD_TOKEN_OPTION,
+            RETIRE_OPTION,
+            ADD_SEED_OPTION,
+            NEW_LINES_OPTION,
+            VERBOSE_FLAG,
+        ],
+    },
+    Subcommand {
+        name: "secret",
+        about: "Makes the file of an account's secret",
+        example: "Example: acvp_server secret --new secret-7.txt",
+        options: &[NEW_SECRET_OPTION, VERBOSE_FLAG],
     },
     Subcommand {
         name: "account-add",

@@ -3,8 +3,8 @@
 /// The flags of a command.
 #[derive(Clone, Copy)]
 pub(crate) struct Flags {
-    /// Whether it says why it failed.
-    pub(crate) is_verbose: bool,
+    /// Whether it says why it failed: to a terminal, and if it is verbose.
+    pub(crate) says_why: bool,
 
     /// Whether a line is written for each event that is served.
     pub(crate) is_logged: bool,

@@ -9,6 +9,7 @@ mod failure;
 mod flags;
 mod host;
 mod looks;
+mod made;
 mod makers;
 mod port;
 mod printing;
@@ -20,6 +21,7 @@ use crate::database::{Said, done_in, named};
 use crate::failure::Failed;
 use crate::flags::Flags;
 use crate::looks::shown;
+use crate::made::{file_to_make, keys_to_change, make};
 use crate::makers::{OwnFiles, own_files};
 use crate::printing::{print_line, print_restored};
 use crate::script::script;
@@ -47,9 +49,9 @@ fn relay(rt: &HostRuntime, line: &str) -> Result<bool, Fault> {
     }
 }
 
-/// Says why the server of a database has refused an order, where that is asked for and the word doesn't say all.
+/// Says why the server of a database has refused an order, if that is to be said and the word doesn't say all.
 fn tell_relayed(rt: &HostRuntime, line: &str, flags: Flags) {
-    if flags.is_verbose && line == "fault: unavailable" {
+    if flags.says_why && line == "fault: unavailable" {
         tell_because(rt, Because::of("--db", Cause::Relayed));
     }
 }
@@ -105,6 +107,11 @@ fn tell_open_files(rt: &HostRuntime, asked: Invocation<'_>) {
             tell_open_database(rt, db);
         }
         Invocation::Script(keys) => tell_open(rt, keys),
+        Invocation::Make(making) => {
+            if let Some(from) = keys_to_change(making) {
+                tell_open(rt, from);
+            }
+        }
     }
 }
 
@@ -157,6 +164,11 @@ fn run(rt: &HostRuntime, asked: Invocation<'_>, flags: Flags) -> Result<bool, Fa
             script(rt, &OwnFiles { rt, database }, keys)?;
             Ok(true)
         }
+        Invocation::Make(making) => {
+            make(rt, making)?;
+            let path = file_to_make(making);
+            printed(println!(rt; "made {path}"))
+        }
     }
 }
 
@@ -200,17 +212,18 @@ fn flags_of(rt: &HostRuntime, matches: &ArgMatches<'_>) -> Flags {
         Some((_, options)) => (options.get_flag(VERBOSE), options.get_flag(LOG)),
         None => (false, false),
     };
+    let says_why = is_verbose || rt.stderr().is_terminal();
     Flags {
-        is_verbose,
+        says_why,
         is_logged,
-        warns: is_verbose || is_logged || rt.stderr().is_terminal(),
+        warns: says_why || is_logged,
     }
 }
 
-/// Tells a fault of a command, and why it failed, if that is asked for.
+/// Tells a fault of a command, and why it failed, if that is to be said.
 fn tell_failed(rt: &HostRuntime, asked: Invocation<'_>, told: Failed, flags: Flags) {
     let _ = failed(rt, told.fault);
-    if flags.is_verbose
+    if flags.says_why
         && let Some(because) = why_failed(rt, asked, told)
     {
         tell_because(rt, because);

@@ -1,12 +1,14 @@
 //! Why a command failed, as far as it can be seen at its files afterwards.
 use crate::failure::Failed;
+use crate::made::{file_to_make, keys_to_change};
 use acvp_causes::{
     Because, Cause, Place, are_there, cause_of_database, cause_of_error, cause_of_folder,
     cause_of_maker, cause_of_source, is_companion, is_left_alone, is_moved, keys_fault, name_of,
     secret_fault, why_unnamed,
 };
-use acvp_commands::{Deed, Fault, Invocation, Look, bytes_of, read_keys};
+use acvp_commands::{Deed, Fault, Invocation, Look, Making};
 use acvp_files::{Step, is_copy};
+use acvp_keys::{bytes_of, read_keys};
 use acvp_port::has_server;
 use std::alloc::AllocGlobal;
 use std::{fs, io};
@@ -84,15 +86,18 @@ fn why_unavailable(rt: &HostRuntime, db: &str, deed: Deed<'_>) -> Because {
 /// Why the keys in a file were refused, for a database or for none, and what that comes to where its text is of their
 /// form.
 fn why_keys(rt: &HostRuntime, path: &str, db: Option<&str>, good: Cause) -> Because {
-    let cause = match (cause_of_maker(rt, path, db), fs::read(rt, path)) {
+    Because::of("--keys", cause_of_keys(rt, path, db, good))
+}
+
+fn cause_of_keys(rt: &HostRuntime, path: &str, db: Option<&str>, good: Cause) -> Cause {
+    match (cause_of_maker(rt, path, db), fs::read(rt, path)) {
         (Some(cause), _) => cause,
         (None, Ok(text)) => match read_keys(&text) {
             Some(_) => good,
             None => Cause::Text(keys_fault(&text)),
         },
         (None, Err(error)) => cause_of_error(error),
-    };
-    Because::of("--keys", cause)
+    }
 }
 
 /// Why the secret in a file was refused, for an account of a database.
@@ -215,6 +220,40 @@ fn why_not_shown(rt: &HostRuntime, db: &str, look: Look<'_>, fault: Fault) -> Op
     }
 }
 
+/// The option that names the file which is made.
+fn option_of_made(making: Making<'_>) -> &'static str {
+    match making {
+        Making::Keys { .. } | Making::Secret { .. } => "--new",
+        Making::TokenMore { .. } | Making::TokenLess { .. } | Making::SeedMore { .. } => "--to",
+    }
+}
+
+/// The option that names the keys file whose lines are taken, and what forbids the change of a good one.
+fn option_of_change(making: Making<'_>) -> (&'static str, Cause) {
+    match making {
+        Making::TokenMore { .. } => ("--add-token", Cause::Full),
+        Making::TokenLess { .. } => ("--retire", Cause::LastKey),
+        Making::SeedMore { .. } | Making::Keys { .. } | Making::Secret { .. } => {
+            ("--add-seed", Cause::Full)
+        }
+    }
+}
+
+/// Why a file of keys or of a secret wasn't made.
+fn why_not_made(rt: &HostRuntime, making: Making<'_>, fault: Fault) -> Option<Because> {
+    match (keys_to_change(making), fault) {
+        (Some(from), Fault::Keys) => {
+            let (option, good) = option_of_change(making);
+            Some(Because::of(option, cause_of_keys(rt, from, None, good)))
+        }
+        (_, Fault::Unavailable) => {
+            let cause = cause_of_folder(rt, file_to_make(making)).unwrap_or(Cause::Unmade);
+            Some(Because::of(option_of_made(making), cause))
+        }
+        _ => None,
+    }
+}
+
 /// Why a command failed so, where its fault's word doesn't say all.
 pub(crate) fn why_failed(
     rt: &HostRuntime,
@@ -234,6 +273,7 @@ pub(crate) fn why_failed(
         (Invocation::Restore { from, db }, Fault::Unavailable, Some(step)) => {
             Some(why_not_restored(rt, from, db, step))
         }
+        (Invocation::Make(making), _, _) => why_not_made(rt, making, fault),
         (Invocation::Script(keys), Fault::Keys, _) => Some(why_keys(rt, keys, None, Cause::Good)),
         _ => None,
     }

@@ -1,6 +1,6 @@
 use Rattle.std.proofs.Common.{ℕ, List}
 use Rattle.acvp_commands.specs.Files.{IsUnread}
-use Rattle.acvp_commands.specs.KeysFile.{IsLine}
+use Rattle.acvp_keys.specs.KeysFile.{IsLine}
 use Rattle.acvp_commands.specs.declared.fault.Fault.TheVariants as fault
 use Rattle.acvp_commands.proofs.FilesLemmas.{given_or}
 use Rattle.acvp_commands.proofs.files.secret_in.Goals as goal

@@ -1,0 +1,210 @@
+"""The files of keys and of secrets that the program makes.
+
+    keys-and-secrets.py PROGRAM"""
+import contextlib
+import os
+import re
+import stat
+import subprocess
+import sys
+import tempfile
+import time
+
+from laboratory import Laboratory, expect, within_a_step
+import laboratory
+
+NOBODY = 65534
+IS_ROOT = os.geteuid() == 0
+DIGITS = "[0-9a-f]{64}"
+
+
+def text_of(path):
+    with open(path) as file:
+        return file.read()
+
+
+def lines_of(path):
+    return text_of(path).splitlines()
+
+
+def made(lab, name, *args):
+    """A command makes a new file, for its owner alone, and says so. It gives the lines."""
+    path = lab.path(name)
+    lab.does(f"made {path}", *args, path)
+    expect(f"who may do what with {name}", stat.S_IMODE(os.stat(path).st_mode), 0o600)
+    return lines_of(path)
+
+
+def changes(lab, change, old, new):
+    """A keys file is made of another's lines, which stay as they are. It gives the lines."""
+    before = text_of(lab.path(old))
+    lines = made(lab, new, "keys", change, lab.path(old), "--to")
+    expect(f"{old} behind {change}", text_of(lab.path(old)), before)
+    return lines
+
+
+def refused(lab, word, cause, *args):
+    """A command is refused, makes nothing and changes nothing, and says why with --verbose."""
+    before = {name: text_of(lab.path(name)) for name in os.listdir(lab.folder) if os.path.isfile(lab.path(name)) and name.endswith(".txt")}
+    names = sorted(os.listdir(lab.folder))
+    lab.fails(word, *args)
+    told = f"fault: {word}\n" + (f"because: {cause}\n" if cause else "")
+    expect(f"why {args} is refused", lab.run(*args, "--verbose"), (1, "", told))
+    expect(f"the files behind {args}", sorted(os.listdir(lab.folder)), names)
+    for name, text in before.items():
+        expect(f"{name} behind {args}", text_of(lab.path(name)), text)
+
+
+def new_files(lab):
+    """New keys and secrets are drawn anew each time, and no file is written over."""
+    seen = set()
+    for number in range(8):
+        keys = made(lab, f"keys-{number}.txt", "keys", "--new")
+        expect("the lines of new keys", [bool(re.fullmatch(form + DIGITS, line)) for form, line in zip(("token ", "seed "), keys)], [True, True])
+        secret = made(lab, f"secret-{number}.txt", "secret", "--new")
+        expect("the line of a secret", [bool(re.fullmatch(DIGITS, line)) for line in secret], [True])
+        seen |= {keys[0][6:], keys[1][5:], secret[0]}
+    expect("how many of the drawn bytes are others", len(seen), 24)
+    for args in (["keys", "--new"], ["secret", "--new"], ["keys", "--add-token", lab.path("keys-0.txt"), "--to"]):
+        refused(lab, "taken", None, *args, lab.path("keys-0.txt"))
+    os.symlink(lab.path("nowhere.txt"), lab.path("link"))
+    for name in ("link", "."):
+        refused(lab, "taken", None, "keys", "--new", lab.path(name))
+    refused(lab, "unavailable", "--new: it can't be opened: No such file or directory (os error 2)", "secret", "--new", lab.path("no/secret.txt"))
+
+
+def changed_files(lab):
+    """Each change of a keys file of either form: the lines of the old one, and the change."""
+    old = lines_of(lab.keys)
+    token, seed = "token " + old[0], "seed " + old[1]
+    lines = changes(lab, "--add-token", "keys.txt", "a.txt")
+    expect("a key more", (len(lines), lines[0], lines[2], lines[1] != token), (3, token, seed, True))
+    more = changes(lab, "--add-seed", "a.txt", "b.txt")
+    expect("a seed more", (more[:3], len(more), more[3] != seed), (lines, 4, True))
+    less = changes(lab, "--retire", "b.txt", "c.txt")
+    expect("a key less", less, ["token -"] + more[1:])
+    refused(lab, "keys", "--retire: its last key can't be retired: add one first", "keys", "--retire", lab.path("c.txt"), "--to", lab.path("d.txt"))
+    expect("the older form, with a change", changes(lab, "--add-seed", "keys.txt", "e.txt")[:2], [token, seed])
+    # the second of three keys is the oldest that isn't retired
+    lab.write(lab.path("f.txt"), f"token -\n{token}\n{token}\n{seed}\n")
+    expect("the second key retired", changes(lab, "--retire", "f.txt", "g.txt"), ["token -", "token -", token, seed])
+
+
+def most_lines(lab):
+    """Up to 16 keys and 16 seeds are added, one at a time; the next is refused."""
+    for change, kind in (("--add-token", "token "), ("--add-seed", "seed ")):
+        old = "keys.txt"
+        for number in range(2, 17):
+            new = f"{kind.strip()}-{number}.txt"
+            lines = changes(lab, change, old, new)
+            expect("how many there are", sum(line.startswith(kind) for line in lines), number)
+            old = new
+        refused(lab, "keys", f"{change}: it has 16 lines of that kind, the most there may be", "keys", change, lab.path(old), "--to", lab.path("more.txt"))
+
+
+def refused_keys(lab):
+    """What is no keys file, isn't there or is another user's is refused, by the option that names it."""
+    line = "0" * 64 + "\n"
+    texts = [("it has 3 lines, and is to have 2", line * 3), ("line 2 is a key behind a seed", "seed " + line + "token " + line),
+             ("its last line ends without a line feed", line + line[:-1])]
+    for change in ("--add-token", "--retire", "--add-seed"):
+        for cause, text in texts:
+            bad = lab.write(lab.path("bad.txt"), text)
+            refused(lab, "keys", f"{change}: {cause}", "keys", change, bad, "--to", lab.path("new.txt"))
+        refused(lab, "keys", f"{change}: there is no such file", "keys", change, lab.path("none.txt"), "--to", lab.path("new.txt"))
+        if IS_ROOT:
+            other = lab.write(lab.path("other.txt"), line * 2)
+            os.chown(other, NOBODY, NOBODY)
+            refused(lab, "keys", f"{change}: it belongs to user {NOBODY}, not to root, the database's owner or the user of the command", "keys", change, other, "--to",
+                    lab.path("new.txt"))
+
+
+def command_lines(lab):
+    """A command line that asks for no one thing is refused with status 2, and makes nothing."""
+    old, new = lab.keys, lab.path("new.txt")
+    lines = [["keys"], ["keys", "--to", new], ["keys", "--new", new, "--to", new], ["keys", "--add-token", old], ["keys", "--retire", old],
+             ["keys", "--add-seed", old], ["keys", "--new", new, "--add-token", old], ["secret"], ["secret", "--new", new, "--to", new],
+             ["keys", "--add-token", old, "--add-seed", old, "--to", new], ["keys", "--retire", old, "--add-token", old, "--to", new],
+             ["keys", "--new", new, "--retire", old, "--to", new], ["keys", "--add-token", old, "--add-token", old, "--to", new]]
+    before = sorted(os.listdir(lab.folder))
+    for args in lines:
+        status, output, _ = lab.run(*args)
+        expect(f"the command {args}", (status, output), (2, ""))
+        expect(f"the files behind {args}", sorted(os.listdir(lab.folder)), before)
+
+
+def served(lab):
+    """A laboratory from nothing by these commands alone: tokens live on under a key more, and end once theirs is retired."""
+    os.remove(lab.keys)
+    made(lab, "keys.txt", "keys", "--new")
+    secret = made(lab, "secret-7.txt", "secret", "--new")[0]
+    lab.secret = lambda account: bytes.fromhex(secret)
+    lab.does("account 7 added", "account-add", "--db", lab.db, "--account", "7", "--secret", lab.path("secret-7.txt"))
+    lab.serve(count=None)
+    within_a_step(5)
+    token = lab.token(7)
+    lab.must("POST", "/testSessions", token, {"algorithms": [{"algorithm": "SHA2-256", "revision": "1.0", "messageLength": [8]}]})
+    lab.kill()
+    changes(lab, "--add-token", "keys.txt", "keys-2.txt")
+    changes(lab, "--add-seed", "keys-2.txt", "keys-3.txt")
+    changes(lab, "--retire", "keys-3.txt", "keys-4.txt")
+    for name, status in (("keys-2.txt", 200), ("keys-3.txt", 200), ("keys-4.txt", 401)):
+        lab.serve(count=None, keys=lab.path(name))
+        expect(f"a token of the first key under {name}", lab.call("GET", "/account", token)[0], status)
+        lab.kill()
+        expect(f"check under {name}", lab.run("check", "--db", lab.db, "--keys", lab.path(name)),
+               (0, "whole: accounts 1 sessions 1 sets 1 requests 0\n", ""))
+
+
+def full_disk(lab):
+    """Where there is no room, nothing is left of the file."""
+    folder = lab.path("full")
+    os.mkdir(folder)
+    if not IS_ROOT or subprocess.run(["mount", "-t", "tmpfs", "-o", "size=16k", "tmpfs", folder], capture_output=True).returncode:
+        print("skipped: keys on a full disk, for which this user can't mount a file system")
+        return
+    try:
+        with contextlib.suppress(OSError):
+            with open(os.path.join(folder, "rest"), "wb", buffering=0) as rest:
+                while True:
+                    rest.write(bytes(4096))
+        path = os.path.join(folder, "keys.txt")
+        lab.fails("unavailable", "keys", "--new", path)
+        expect("what is left on a full disk", os.listdir(folder), ["rest"])
+    finally:
+        subprocess.run(["umount", folder], check=True)
+
+
+def foreign_folders(lab):
+    """A folder that is reached by a link of another user isn't taken."""
+    if not IS_ROOT:
+        print("skipped: links of other users, which root alone can make")
+        return
+    shared, target = lab.path("shared"), lab.path("target")
+    os.mkdir(shared)
+    os.chmod(shared, 0o1777)
+    os.mkdir(target)
+    os.symlink(target, os.path.join(shared, "way"))
+    os.lchown(os.path.join(shared, "way"), NOBODY, NOBODY)
+    cause = f"--new: its path goes by a link of user {NOBODY}, not of root, the owner of the link's folder or the user of the command"
+    refused(lab, "unavailable", cause, "keys", "--new", os.path.join(shared, "way", "keys.txt"))
+    expect("what is made behind the link", os.listdir(target), [])
+
+
+def main():
+    program = os.path.abspath(sys.argv[1])
+    os.umask(0o077)
+    began = time.time()
+    for part in (new_files, changed_files, most_lines, refused_keys, command_lines, served, full_disk, foreign_folders):
+        with tempfile.TemporaryDirectory() as folder:
+            lab = Laboratory(program, folder)
+            lab.does("ready", "init", "--db", lab.db)
+            try:
+                part(lab)
+            finally:
+                lab.kill()
+        print(f"{part.__name__.replace('_', ' ')}: done after {time.time() - began:.0f} s", flush=True)
+    print(f"{laboratory.checked} comparisons")
+
+
+main()

@@ -1,0 +1,3 @@
+pub mod ChangingLemmas
+pub mod KeysLemmas
+pub mod WritingLemmas
