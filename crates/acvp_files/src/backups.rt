@@ -45,7 +45,7 @@ fn is_taken(rt: &HostRuntime, path: &str) -> Result<bool, FileFault> {
 
 /// Refuses a path that a new database can't have: it is taken, or that of a file that lies beside a database, or the
 /// way to it goes by a link that isn't followed.
-fn may_be_made(rt: &HostRuntime, path: &str) -> Result<(), FileFault> {
+pub(crate) fn may_be_made(rt: &HostRuntime, path: &str) -> Result<(), FileFault> {
     if is_companion(path) || is_copy(path) {
         return Err(FileFault::Unavailable);
     }
@@ -119,10 +119,16 @@ fn keep_names(rt: &HostRuntime, path: &str) -> io::Result<()> {
     File::open(rt, folder_of(path))?.sync_all()
 }
 
-/// Gives a copy its name by a second one, if no file has it.
+/// Gives a copy its name by a second one, if no file has it. If the first can't be taken away, it has that alone.
 fn link_new(rt: &HostRuntime, file: &str, to: &str) -> io::Result<()> {
     fs::hard_link(rt, file, to)?;
-    remove(rt, file)
+    match remove(rt, file) {
+        Ok(()) => Ok(()),
+        Err(_) => {
+            let _ = remove(rt, to);
+            Err(ErrorKind::ResourceBusy.into())
+        }
+    }
 }
 
 /// Gives a copy its name, if no file has it, without a second one: an empty file keeps the name until the copy has it.
@@ -140,7 +146,7 @@ fn rename_new(rt: &HostRuntime, file: &str, to: &str) -> io::Result<()> {
 }
 
 /// Gives a copy its name, if no file has it. Some file systems know no second names.
-fn name_new(rt: &HostRuntime, part: &Part, to: &str) -> Result<(), FileFault> {
+pub(crate) fn name_new(rt: &HostRuntime, part: &Part, to: &str) -> Result<(), FileFault> {
     done(part.is_still_named(rt))?;
     let file = part.pair.file.as_str();
     let named = match link_new(rt, file, to) {
@@ -210,64 +216,93 @@ fn copy_replaced(
     }
 }
 
-/// Keeps a copy of a database that is to be replaced, beside it, and says under which name.
-fn keep_replaced(rt: &HostRuntime, path: &str, there: &Metadata) -> Result<String, FileFault> {
-    let kept = replaced_at(rt, path)?;
-    let part = new_copy(rt, path, Use::Part)?;
-    let outcome = copy_replaced(rt, path, there, &part, kept.as_str());
-    give_up(rt, &part);
-    outcome?;
-    Ok(kept)
-}
-
 /// Whether a file still has its path.
 fn is_still_there(rt: &HostRuntime, path: &str, number: FileNumber) -> bool {
     matches!(file_at(rt, path), Ok(there) if there == number)
 }
 
-/// Gives a copy the name of a database, which is still this file. Its log goes first: it isn't one of the copy's.
+/// Gives a copy the name of a database, which is still this file, with a log that holds nothing. The log goes first: it
+/// isn't one of the copy's.
 fn take_place(
     rt: &HostRuntime,
     part: &Part,
     database: &Pair,
     number: FileNumber,
 ) -> io::Result<()> {
-    if !is_still_there(rt, database.file.as_str(), number) {
-        return Err(ErrorKind::NotFound.into());
+    if !is_still_there(rt, database.file.as_str(), number)
+        || holds_any(rt, database.log.as_str())?
+    {
+        return Err(ErrorKind::ResourceBusy.into());
     }
     remove(rt, database.log.as_str())?;
     fs::rename(rt, part.pair.file.as_str(), database.file.as_str())
 }
 
-/// Puts a copy in the place of a database whose log holds nothing, and says under which name another copy keeps what was
-/// there. A database that is still there needs none.
-fn put_in_place(rt: &HostRuntime, part: &Part, database: &Pair) -> Result<String, FileFault> {
-    let path = database.file.as_str();
-    let there = done(fs::symlink_metadata(rt, path))?;
-    done(part.keep_access(&there))?;
-    done(part.is_still_named(rt))?;
-    let kept = keep_replaced(rt, path, &there)?;
-    if let Err(error) = take_place(rt, part, database, number_of(&there)) {
-        if is_still_there(rt, path, number_of(&there)) {
-            let _ = remove(rt, kept.as_str());
-        }
-        return Err(refused(&error));
+/// Takes the name of what was to be kept away, if it is this copy's, and the database is still there.
+fn drop_kept(rt: &HostRuntime, path: &str, there: &Metadata, copy: &Part, kept: &str) {
+    if is_still_there(rt, path, number_of(there))
+        && matches!(has_name(rt, &copy.file, kept), Ok(true))
+    {
+        let _ = remove(rt, kept);
     }
+}
+
+/// Keeps a copy of a database, puts another in its place, and says under which name the first is kept. A database that
+/// is still there needs none.
+fn keep_and_take(
+    rt: &HostRuntime,
+    part: &Part,
+    database: &Pair,
+    there: &Metadata,
+    copy: &Part,
+) -> Result<String, FileFault> {
+    let path = database.file.as_str();
+    let kept = replaced_at(rt, path)?;
+    let outcome = match copy_replaced(rt, path, there, copy, kept.as_str()) {
+        Ok(()) => done(take_place(rt, part, database, number_of(there))),
+        Err(fault) => Err(fault),
+    };
+    if outcome.is_err() {
+        drop_kept(rt, path, there, copy, kept.as_str());
+    }
+    outcome?;
     done(keep_names(rt, path))?;
     Ok(kept)
+}
+
+/// Puts a copy in the place of a database of this number, whose log holds nothing, and says under which name another
+/// copy keeps what was there.
+fn put_in_place(
+    rt: &HostRuntime,
+    part: &Part,
+    database: &Pair,
+    number: FileNumber,
+) -> Result<String, FileFault> {
+    let there = done(fs::symlink_metadata(rt, database.file.as_str()))?;
+    if number_of(&there) != number {
+        return Err(FileFault::Unavailable);
+    }
+    done(part.keep_access(&there))?;
+    done(part.is_still_named(rt))?;
+    let copy = new_copy(rt, database.file.as_str(), Use::Part)?;
+    let outcome = keep_and_take(rt, part, database, &there, &copy);
+    give_up(rt, &copy);
+    outcome
 }
 
 /// Puts a copy in the place of a database that is there, and that nobody else may have meanwhile. What its log holds
 /// goes into its file before, so that it is whole until the other is in its place, and so is the copy that is kept.
 fn replace_there(rt: &HostRuntime, part: &Part, database: &Pair) -> Result<String, FileFault> {
-    if !done(is_database(rt, database.file.as_str()))? {
+    let path = database.file.as_str();
+    if !done(is_database(rt, path))? {
         return Err(FileFault::Unavailable);
     }
-    let held = copied(connection_to(rt, database.file.as_str())?);
+    let number = done(file_at(rt, path))?;
+    let held = copied(connection_to(rt, path)?);
     if held.is_none() {
         return Err(FileFault::Unavailable);
     }
-    let outcome = put_in_place(rt, part, database);
+    let outcome = put_in_place(rt, part, database, number);
     drop(held);
     outcome
 }
