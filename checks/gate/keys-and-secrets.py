@@ -4,6 +4,8 @@
 import contextlib
 import os
 import re
+import resource
+import signal
 import stat
 import subprocess
 import sys
@@ -30,7 +32,11 @@ def lines_of(path):
 def made(lab, name, *args):
     """A command makes a new file, for its owner alone, and says so. It gives the lines."""
     path = lab.path(name)
-    lab.does(f"made {path}", *args, path)
+    before = os.umask(0)
+    try:
+        lab.does(f"made {path}", *args, path)
+    finally:
+        os.umask(before)
     expect(f"who may do what with {name}", stat.S_IMODE(os.stat(path).st_mode), 0o600)
     return lines_of(path)
 
@@ -63,14 +69,24 @@ def new_files(lab):
         expect("the lines of new keys", [bool(re.fullmatch(form + DIGITS, line)) for form, line in zip(("token ", "seed "), keys)], [True, True])
         secret = made(lab, f"secret-{number}.txt", "secret", "--new")
         expect("the line of a secret", [bool(re.fullmatch(DIGITS, line)) for line in secret], [True])
-        seen |= {keys[0][6:], keys[1][5:], secret[0]}
-    expect("how many of the drawn bytes are others", len(seen), 24)
+        for digits in (keys[0][6:], keys[1][5:], secret[0]):
+            seen |= {digits[:32], digits[32:]}
+    expect("how many of the halves of what was drawn are others", len(seen), 48)
     for args in (["keys", "--new"], ["secret", "--new"], ["keys", "--add-token", lab.path("keys-0.txt"), "--to"]):
         refused(lab, "taken", None, *args, lab.path("keys-0.txt"))
     os.symlink(lab.path("nowhere.txt"), lab.path("link"))
     for name in ("link", "."):
         refused(lab, "taken", None, "keys", "--new", lab.path(name))
-    refused(lab, "unavailable", "--new: it can't be opened: No such file or directory (os error 2)", "secret", "--new", lab.path("no/secret.txt"))
+    missing = "it can't be opened: No such file or directory (os error 2)"
+    refused(lab, "unavailable", f"--new: {missing}", "secret", "--new", lab.path("no/secret.txt"))
+    refused(lab, "unavailable", f"--to: {missing}", "keys", "--add-seed", lab.path("keys-0.txt"), "--to", lab.path("no/keys.txt"))
+    # no name of a file that lies beside a database, or of a copy that the next command takes away
+    for end in ("-wal", "-shm", "-journal", "-orders"):
+        refused(lab, "unavailable", "--new: its name is that of a file beside a database (-wal, -shm, -journal, -orders)", "keys", "--new",
+                lab.path("other.db" + end))
+    for word in ("-part-", "-look-"):
+        left = "--new: it is a copy that a killed command may have left: copy it to another name, if it is whole"
+        refused(lab, "unavailable", left, "secret", "--new", lab.db + word + "1795862400123456789")
 
 
 def changed_files(lab):
@@ -117,6 +133,33 @@ def refused_keys(lab):
             os.chown(other, NOBODY, NOBODY)
             refused(lab, "keys", f"{change}: it belongs to user {NOBODY}, not to root, the database's owner or the user of the command", "keys", change, other, "--to",
                     lab.path("new.txt"))
+
+
+def texts_of_pipes(lab):
+    """What a pipe gives is read once: a command that refuses it ends, and tells no cause."""
+    pipe = lab.path("pipe")
+    os.mkfifo(pipe)
+    for word, args in (("keys", ["keys", "--add-seed", pipe, "--to", lab.path("new.txt")]), ("keys", ["script", "--keys", pipe]),
+                       ("secret", ["account-add", "--db", lab.db, "--account", "1", "--secret", pipe])):
+        running = subprocess.Popen([lab.program, *args, "--verbose"], stdin=subprocess.DEVNULL, stdout=subprocess.PIPE, stderr=subprocess.PIPE)
+        with open(pipe, "w") as writing:
+            writing.write("no key\n")
+        output, faults = running.communicate(timeout=60)
+        told = [line for line in faults.decode().splitlines() if not line.startswith("warning: ")]
+        expect(f"the command {args} over a pipe", (running.returncode, output, told), (1, b"", [f"fault: {word}"]))
+
+
+def killed_writes(lab):
+    """What a limit on the size of files stops leaves nothing under the name, and the command is repeated."""
+    lines = "".join(f"token {'0' * 64}\n" for _ in range(2)) + "".join(f"seed {'0' * 64}\n" for _ in range(15))
+    old = lab.write(lab.path("old.txt"), "token -\n" * 14 + lines)
+    for limit in (0, 1024):
+        done = subprocess.run([lab.program, "keys", "--add-seed", old, "--to", lab.path("new.txt")], capture_output=True,
+                              preexec_fn=lambda limit=limit: resource.setrlimit(resource.RLIMIT_FSIZE, (limit, limit)))
+        expect(f"a limit of {limit} bytes", (done.returncode, done.stdout), (-signal.SIGXFSZ, b""))
+        expect("the file that wasn't made", os.path.lexists(lab.path("new.txt")), False)
+    expect("the same without a limit", len(changes(lab, "--add-seed", "old.txt", "new.txt")), 32)
+    expect("what is left", sorted(name for name in os.listdir(lab.folder) if "-part-" in name), [])
 
 
 def command_lines(lab):
@@ -195,7 +238,8 @@ def main():
     program = os.path.abspath(sys.argv[1])
     os.umask(0o077)
     began = time.time()
-    for part in (new_files, changed_files, most_lines, refused_keys, command_lines, served, full_disk, foreign_folders):
+    for part in (new_files, changed_files, most_lines, refused_keys, texts_of_pipes, killed_writes, command_lines,
+                 served, full_disk, foreign_folders):
         with tempfile.TemporaryDirectory() as folder:
             lab = Laboratory(program, folder)
             lab.does("ready", "init", "--db", lab.db)

@@ -120,6 +120,16 @@ def copies(it):
                 expect(f"{path} is locked until then", [n for n in places(trace, "unlock") if trace[n][1] == path and n < at], [])
 
 
+def texts(it):
+    """Files of keys and of secrets that are made."""
+    lab = it.lab
+    new, more, secret = lab.path("new.txt"), lab.path("more.txt"), lab.path("secret.txt")
+    for to, args in ((new, ["keys", "--new", new]), (more, ["keys", "--add-seed", new, "--to", more]), (secret, ["secret", "--new", secret])):
+        with it.tracing():
+            lab.does(f"made {to}", *args)
+        named(f"the command {args}", lab, it.trace(), to)
+
+
 def replies(it):
     """Each reply to a change comes once the change is on the disk."""
     lab = it.lab
@@ -184,7 +194,7 @@ def emptied_meanwhile(it):
 
 def main():
     program, library = map(os.path.abspath, sys.argv[1:])
-    for part in (copies, replies, emptied_meanwhile):
+    for part in (copies, texts, replies, emptied_meanwhile):
         with tempfile.TemporaryDirectory() as folder:
             it = Traced(program, folder, library)
             try:

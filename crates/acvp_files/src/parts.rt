@@ -231,9 +231,10 @@ fn is_copy_name(name: &str, base: &str) -> bool {
 
 /// Whether a path has the name of a copy that is being made, or that was left.
 pub fn is_copy(path: &str) -> bool {
-    match last_of(path).rsplit_once("-part-") {
-        Some((_, moment)) => is_moment(moment.as_bytes()),
-        None => false,
+    let name = last_of(path);
+    match (name.rsplit_once("-part-"), name.rsplit_once("-look-")) {
+        (Some((_, moment)), _) | (None, Some((_, moment))) => is_moment(moment.as_bytes()),
+        (None, None) => false,
     }
 }
 

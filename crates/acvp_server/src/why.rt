@@ -83,44 +83,65 @@ fn why_unavailable(rt: &HostRuntime, db: &str, deed: Deed<'_>) -> Because {
     }
 }
 
-/// Why the keys in a file were refused, for a database or for none, and what that comes to where its text is of their
-/// form.
-fn why_keys(rt: &HostRuntime, path: &str, db: Option<&str>, good: Cause) -> Because {
-    Because::of("--keys", cause_of_keys(rt, path, db, good))
+/// What a file of text holds, if it can be read again: what is no file gives its bytes once.
+fn text_again(rt: &HostRuntime, path: &str) -> Option<io::Result<Vec<u8>>> {
+    match fs::metadata(rt, path) {
+        Ok(there) if !there.is_file() && !there.is_dir() => None,
+        _ => Some(fs::read(rt, path)),
+    }
 }
 
-fn cause_of_keys(rt: &HostRuntime, path: &str, db: Option<&str>, good: Cause) -> Cause {
-    match (cause_of_maker(rt, path, db), fs::read(rt, path)) {
-        (Some(cause), _) => cause,
-        (None, Ok(text)) => match read_keys(&text) {
-            Some(_) => good,
-            None => Cause::Text(keys_fault(&text)),
+/// Why the keys in a file were refused, for a database or for none, and what that comes to where its text is of their
+/// form.
+fn cause_of_keys(rt: &HostRuntime, path: &str, db: Option<&str>, good: Cause) -> Option<Cause> {
+    if let Some(cause) = cause_of_maker(rt, path, db) {
+        return Some(cause);
+    }
+    match text_again(rt, path)? {
+        Ok(text) => match read_keys(&text) {
+            Some(_) => Some(good),
+            None => Some(Cause::Text(keys_fault(&text))),
         },
-        (None, Err(error)) => cause_of_error(error),
+        Err(error) => Some(cause_of_error(error)),
+    }
+}
+
+/// The same, of the option --keys.
+fn why_keys(rt: &HostRuntime, path: &str, db: Option<&str>, good: Cause) -> Option<Because> {
+    match cause_of_keys(rt, path, db, good) {
+        Some(cause) => Some(Because::of("--keys", cause)),
+        None => None,
     }
 }
 
 /// Why the secret in a file was refused, for an account of a database.
-fn why_secret(rt: &HostRuntime, path: &str, db: &str) -> Because {
-    let cause = match (cause_of_maker(rt, path, Some(db)), fs::read(rt, path)) {
-        (Some(cause), _) => cause,
-        (None, Ok(text)) => match bytes_of(&text) {
-            Some(_) => Cause::Good,
-            None => Cause::Text(secret_fault(&text)),
+fn cause_of_secret(rt: &HostRuntime, path: &str, db: &str) -> Option<Cause> {
+    if let Some(cause) = cause_of_maker(rt, path, Some(db)) {
+        return Some(cause);
+    }
+    match text_again(rt, path)? {
+        Ok(text) => match bytes_of(&text) {
+            Some(_) => Some(Cause::Good),
+            None => Some(Cause::Text(secret_fault(&text))),
         },
-        (None, Err(error)) => cause_of_error(error),
-    };
-    Because::of("--secret", cause)
+        Err(error) => Some(cause_of_error(error)),
+    }
+}
+
+/// The same, of the option --secret.
+fn why_secret(rt: &HostRuntime, path: &str, db: &str) -> Option<Because> {
+    match cause_of_secret(rt, path, db) {
+        Some(cause) => Some(Because::of("--secret", cause)),
+        None => None,
+    }
 }
 
 /// Why a command on the database of a name failed so, where its fault's word doesn't say all.
 fn why_failed_on(rt: &HostRuntime, name: &str, deed: Deed<'_>, fault: Fault) -> Option<Because> {
     match (deed, fault) {
         (_, Fault::Unavailable) => Some(why_unavailable(rt, name, deed)),
-        (Deed::Serve { keys, .. }, Fault::Keys) => {
-            Some(why_keys(rt, keys, Some(name), Cause::NoSeed))
-        }
-        (Deed::AddAccount { secret, .. }, Fault::Secret) => Some(why_secret(rt, secret, name)),
+        (Deed::Serve { keys, .. }, Fault::Keys) => { why_keys(rt, keys, Some(name), Cause::NoSeed) }
+        (Deed::AddAccount { secret, .. }, Fault::Secret) => why_secret(rt, secret, name),
         _ => None,
     }
 }
@@ -207,10 +228,10 @@ fn why_not_restored(rt: &HostRuntime, from: &str, db: &str, step: Step) -> Becau
 fn why_not_shown(rt: &HostRuntime, db: &str, look: Look<'_>, fault: Fault) -> Option<Because> {
     match (look, fault) {
         (Look::Request { keys, .. } | Look::Check { keys, .. }, Fault::Keys) => {
-            Some(why_keys(rt, keys, Some(db), Cause::NoSeed))
+            why_keys(rt, keys, Some(db), Cause::NoSeed)
         }
         (Look::Certificate { keys, .. }, Fault::Keys) => {
-            Some(why_keys(rt, keys, Some(db), Cause::OtherSeed))
+            why_keys(rt, keys, Some(db), Cause::OtherSeed)
         }
         (_, Fault::Unavailable) => match why_uncopied(rt, "--db", db) {
             Some(because) => Some(because),
@@ -244,11 +265,14 @@ fn why_not_made(rt: &HostRuntime, making: Making<'_>, fault: Fault) -> Option<Be
     match (keys_to_change(making), fault) {
         (Some(from), Fault::Keys) => {
             let (option, good) = option_of_change(making);
-            Some(Because::of(option, cause_of_keys(rt, from, None, good)))
+            match cause_of_keys(rt, from, None, good) {
+                Some(cause) => Some(Because::of(option, cause)),
+                None => None,
+            }
         }
         (_, Fault::Unavailable) => {
-            let cause = cause_of_folder(rt, file_to_make(making)).unwrap_or(Cause::Unmade);
-            Some(Because::of(option_of_made(making), cause))
+            let option = option_of_made(making);
+            Some(why_unplaced(rt, option, file_to_make(making), Cause::Unmade))
         }
         _ => None,
     }
@@ -274,7 +298,7 @@ pub(crate) fn why_failed(
             Some(why_not_restored(rt, from, db, step))
         }
         (Invocation::Make(making), _, _) => why_not_made(rt, making, fault),
-        (Invocation::Script(keys), Fault::Keys, _) => Some(why_keys(rt, keys, None, Cause::Good)),
+        (Invocation::Script(keys), Fault::Keys, _) => why_keys(rt, keys, None, Cause::Good),
         _ => None,
     }
 }
