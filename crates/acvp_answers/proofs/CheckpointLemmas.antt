@@ -1,12 +1,15 @@
 -- The list that a checkpoint is the last member of is the standard's, and the only one.
-use Rattle.std.proofs.Common.{◌≡◌, ℕ, zero, suc, ◌+◌, ◌-◌, ◌<◌, ◌≤◌, List, [], ◌∷◌, ◌++◌, length, take, drop, refl, append_assoc, ap, sym, ◌∙◌, arith, length-append, inl, inr, ◌⊎◌}
+use Rattle.std.proofs.Common.{◌≡◌, ℕ, zero, suc, ◌+◌, ◌-◌, ◌<◌, ◌≤◌, List, [], ◌∷◌, ◌++◌, length, take, drop, refl}
+use Rattle.std.proofs.Common.{append_assoc, ap, sym, ◌∙◌, arith, length-append, inl, inr, ◌⊎◌}
 use Rattle.std.specs.Fn.{iterate}
 use Rattle.std.specs.List.{concat}
 use Rattle.std.proofs.Math.Seq.{drop-cons, take-suc, get_or-append_seam}
 use Rattle.std.proofs.Math.ListN.{drop_of_length-le}
 use Rattle.std.proofs.Math.Nat.{eq-or-lt_of_le}
-use Rattle.std.proofs.lemmas.List.{take_all, append-nil, get_or_append_left, get_or-take, take-take, length-take-le, take-append-le}
-use Rattle.acvp_answers.specs.MonteCarlo.{next_of, extended, members_of, last_of, member_at, AreMembers, next_checkpoint}
+use Rattle.std.proofs.lemmas.List.{take_all, append-nil, get_or_append_left, get_or-take, take-take, length-take-le}
+use Rattle.std.proofs.lemmas.List.{take-append-le}
+use Rattle.acvp_answers.specs.MonteCarlo.{next_of, extended, members_of, last_of, member_at, AreMembers}
+use Rattle.acvp_answers.specs.MonteCarlo.{next_checkpoint}
 use Rattle.acvp_answers.proofs.MonteCarloLemmas.{iterate-suc}
 
 -- the same of a list with so many members after the seeds

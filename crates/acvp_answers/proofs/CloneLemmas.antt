@@ -14,7 +14,8 @@ all_shown f (x ∷ xs) (y ∷ ys) all = ap (λ z. z ∷ map f ys) all.0 ∙ ap (
 
 -- each number is kept, and each text
 pub shown-clone : (L : Texts → Texts → Type 0) (es fs : List (ℕ × Texts))
-    → AllZip (λ e f. (f.0 ≡ e.0) × (AllZip (λ (s t : String Global). string_bytes t ≡ string_bytes s) e.1.items f.1.items × L e.1 f.1)) es fs
+    → AllZip (λ e f. (f.0 ≡ e.0)
+    × (AllZip (λ (s t : String Global). string_bytes t ≡ string_bytes s) e.1.items f.1.items × L e.1 f.1)) es fs
     → shown fs ≡ shown es
 shown-clone L [] [] all = refl
 shown-clone L [] (f ∷ fs) all = absurd all

@@ -1,5 +1,6 @@
 -- Lemmas on the members of a checkpoint, of which the last three are kept, and on checkpoints.
-use Rattle.std.proofs.Common.{◌≡◌, ℕ, zero, suc, ◌+◌, ◌-◌, ◌<◌, ◌≤◌, List, [], ◌∷◌, ◌++◌, length, map, string_bytes, String, refl, append_assoc, ap, sym, ◌∙◌, arith, length-append}
+use Rattle.std.proofs.Common.{◌≡◌, ℕ, zero, suc, ◌+◌, ◌-◌, ◌<◌, ◌≤◌, List, [], ◌∷◌, ◌++◌, length, map, string_bytes}
+use Rattle.std.proofs.Common.{String, refl, append_assoc, ap, sym, ◌∙◌, arith, length-append}
 use Rattle.std.specs.Fn.{iterate}
 use Rattle.std.specs.Global.{Global}
 use Rattle.std.specs.List.{concat}
@@ -46,7 +47,8 @@ last_of_ends members a b c ends =
 -- the checkpoints written, and one more
 pub written_more : (hash : List ℕ → List ℕ) (seed : List ℕ) (count i : ℕ) (texts : List (String Global))
     (text : String Global) (checkpoint : List ℕ) (all : List (List ℕ)) → i < count →
-    map string_bytes texts ++ map encode_lower (checkpoints hash seed (count - i)) ≡ all → checkpoint ≡ next_checkpoint hash seed
+    map string_bytes texts ++ map encode_lower (checkpoints hash seed (count - i)) ≡ all
+    → checkpoint ≡ next_checkpoint hash seed
     → string_bytes text ≡ encode_lower checkpoint →
     map string_bytes (texts ++ text ∷ []) ++ map encode_lower (checkpoints hash checkpoint (count - (i + 1))) ≡ all
 unfolding checkpoints
@@ -54,7 +56,8 @@ written_more hash seed count i texts text checkpoint all more so is written =
     let left : count - i ≡ suc (count - (i + 1)) = omega arith in
     let so' : map string_bytes texts ++ map encode_lower (checkpoints hash seed (suc (count - (i + 1)))) ≡ all =
     rw left at so in
-    let text_is : string_bytes text ≡ encode_lower (next_checkpoint hash seed) = written ∙ ap (λ bytes. encode_lower bytes) is in
+    let text_is : string_bytes text ≡ encode_lower (next_checkpoint hash seed) =
+    written ∙ ap (λ bytes. encode_lower bytes) is in
     rw (map-append string_bytes texts (text ∷ []), is, text_is)
     (append_assoc (map string_bytes texts) (encode_lower (next_checkpoint hash seed)
     ∷ []) (map encode_lower (checkpoints hash (next_checkpoint hash seed) (count - (i + 1)))) ∙ so')

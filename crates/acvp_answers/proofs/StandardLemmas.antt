@@ -1,5 +1,6 @@
 -- Lemmas on the standard's answers: tests are numbered in their order, so each answer goes to the end.
-use Rattle.std.proofs.Common.{◌≡◌, ℕ, zero, suc, ◌+◌, List, [], ◌∷◌, ◌++◌, length, map, drop, get_or, refl, sym, ◌∙◌, ap, append_assoc, length-append, arith}
+use Rattle.std.proofs.Common.{◌≡◌, ℕ, zero, suc, ◌+◌, List, [], ◌∷◌, ◌++◌, length, map, drop, get_or, refl, sym, ◌∙◌}
+use Rattle.std.proofs.Common.{ap, append_assoc, length-append, arith}
 use Rattle.std.specs.Prelude.{Contains, Bool, true, false, MatchBool}
 use Rattle.std.specs.BTreeMap.{insert_entry}
 use Rattle.std.specs.List.{flat_map, range_with_len}

@@ -27,7 +27,8 @@ module _ (layout : Layout) (trees : Trees) where
   below_set a s _ less = absurd (omega (arith, less))
 
   -- behind the first three
-  pub first_behind : (t : Table) → IsBehind table.Account table.Session table.Set t layout trees → AreWithinBefore t layout trees
+  pub first_behind : (t : Table) → IsBehind table.Account table.Session table.Set t layout trees
+      → AreWithinBefore t layout trees
   first_behind t (inl is) = λ b less. absurd (let low = rw is at less in omega (arith, low))
   first_behind t (inr (inl (is, a))) = λ b less. below_session a b (rw is at less)
   first_behind t (inr (inr (is, a, s))) = λ b less. below_set a s b (rw is at less)
@@ -56,7 +57,8 @@ module _ (layout : Layout) (trees : Trees) where
     below_reviewer o r table.Object less = o
 
     -- behind all
-    pub later_behind : (t : Table) → IsBehind table.Object table.Request table.Reviewer t layout trees → AreWithinBefore t layout trees
+    pub later_behind : (t : Table) → IsBehind table.Object table.Request table.Reviewer t layout trees
+        → AreWithinBefore t layout trees
     later_behind t (inl is) = λ b less. below_object b (rw is at less)
     later_behind t (inr (inl (is, o))) = λ b less. below_request o b (rw is at less)
     later_behind t (inr (inr (is, o, r))) = λ b less. below_reviewer o r b (rw is at less)
@@ -65,19 +67,22 @@ module _ (layout : Layout) (trees : Trees) where
 
   module _ (grades : Bool) (seeds : List (List ℕ)) where
     -- behind those that are fine
-    pub fine_behind : (before : ℕ) (totals : Totals) (u : ℕ) → AreFineTo grades seeds layout trees before totals → u ≡ before + 1 → AreFineBefore grades seeds layout trees u
+    pub fine_behind : (before : ℕ) (totals : Totals) (u : ℕ) → AreFineTo grades seeds layout trees before totals
+        → u ≡ before + 1 → AreFineBefore grades seeds layout trees u
     fine_behind before totals u fine is = λ v some less. (fine.lists v, fine.fine v some (omega (arith, is, less)))
 
     -- ---- all
 
     pub first_outside : (found : Damage) → IsOutside layout trees found
-        → ((t : Table) (number : ℤ) → found ≡ damage.Outside t number → AreWithinBefore t layout trees) → IsFirst grades seeds layout trees found
+        → ((t : Table) (number : ℤ) → found ≡ damage.Outside t number → AreWithinBefore t layout trees)
+        → IsFirst grades seeds layout trees found
     first_outside (damage.Outside t number) is before = before t number refl
     first_outside (damage.Stray u t number) is before = absurd is
     first_outside (damage.Broken u found) is before = absurd is
 
     pub first_judged : (found : Damage) → AreWithin layout trees
-        → ((u : ℕ) → account_in found ≡ Some u → AreFineBefore grades seeds layout trees u) → IsFirst grades seeds layout trees found
+        → ((u : ℕ) → account_in found ≡ Some u → AreFineBefore grades seeds layout trees u)
+        → IsFirst grades seeds layout trees found
     first_judged (damage.Outside t number) within before = λ b less. within b
     first_judged (damage.Stray u t number) within before = (within, before u refl)
     first_judged (damage.Broken u broken) within before = (within, before u refl)

@@ -1,5 +1,6 @@
 -- Lists of rows, the accounts that their numbers begin with, and lists joined.
-use Rattle.std.proofs.Common.{◌≡◌, ℕ, zero, suc, ◌+◌, ◌*◌, ◌/◌, ◌<◌, ◌≤◌, Bool, true, false, List, [], ◌∷◌, ◌++◌, length, map, Option, Some, refl, sym, ap, ap₂, subst, ◌∙◌, inl, inr, arith}
+use Rattle.std.proofs.Common.{◌≡◌, ℕ, zero, suc, ◌+◌, ◌*◌, ◌/◌, ◌<◌, ◌≤◌, Bool, true, false, List, [], ◌∷◌, ◌++◌}
+use Rattle.std.proofs.Common.{length, map, Option, Some, refl, sym, ap, ap₂, subst, ◌∙◌, inl, inr, arith}
 use Rattle.std.specs.Prelude.{filter, ◌==◌, nat_lt}
 use Rattle.std.specs.List.{list_all, AllByRecursion}
 use Rattle.std.proofs.lemmas.Bool.{cases_Bool}
@@ -81,7 +82,8 @@ all_pass p (x ∷ xs) e = elim (cases_Bool (p x)) [
   | inl is ↦
       let long : suc (length (filter p xs)) ≡ suc (length xs) = rw is at e in
       joint (p x) (list_all p xs) is (all_pass p xs (omega (arith, long)))
-  | inr isnt ↦ absurd (let long : length (filter p xs) ≡ suc (length xs) = rw isnt at e in omega (arith, long, shorter p xs))
+  | inr isnt ↦ absurd (let long : length (filter p xs) ≡ suc (length xs) = rw isnt at e in
+      omega (arith, long, shorter p xs))
 ]
 
 pub all_kept : {A : Type 0} (p : A → Bool) (xs : List A) → list_all p xs ≡ true → filter p xs ≡ xs
@@ -97,21 +99,26 @@ filter_joined p (x ∷ xs) ys = elim (cases_Bool (p x)) [
 
 -- ---- numbers that rise
 
-pub rising : {A : Type 0} (number : A → ℕ) (xs : List A) → IsAscending (λ a b. number a < number b) xs → rises number xs ≡ true
+pub rising : {A : Type 0} (number : A → ℕ) (xs : List A) → IsAscending (λ a b. number a < number b) xs
+    → rises number xs ≡ true
 rising number [] up = refl
 rising number (x ∷ xs) up = joint _ (rises number xs) (later xs up.0) (rising number xs up.1)
   where
-    later : (ys : List _) → AllByRecursion (λ b. number x < number b) ys → list_all (λ y. nat_lt (number x) (number y)) ys ≡ true
+    later : (ys : List _) → AllByRecursion (λ b. number x < number b) ys
+        → list_all (λ y. nat_lt (number x) (number y)) ys ≡ true
     later [] h = refl
     later (y ∷ ys) h = let low : number x < number y = h.0 in joint _ _ (grind (arith, nat_tests, low)) (later ys h.1)
 
-pub climbing : {A : Type 0} (number : A → ℕ) (xs : List A) (before : Option ℕ) → climbs before (map number xs) ≡ true → rises number xs ≡ true
+pub climbing : {A : Type 0} (number : A → ℕ) (xs : List A) (before : Option ℕ) → climbs before (map number xs) ≡ true
+    → rises number xs ≡ true
 climbing number [] before up = refl
 climbing number (x ∷ xs) before up =
     let two = both (is_above before (number x)) (climbs (Some (number x)) (map number xs)) up in
-    joint _ (rises number xs) (later (number x) xs (number x) (omega arith) two.1) (climbing number xs (Some (number x)) two.1)
+    joint _ (rises number xs) (later (number x) xs (number x) (omega arith) two.1)
+    (climbing number xs (Some (number x)) two.1)
   where
-    later : (low : ℕ) (ys : List _) (before : ℕ) → low ≤ before → climbs (Some before) (map number ys) ≡ true → list_all (λ y. nat_lt low (number y)) ys ≡ true
+    later : (low : ℕ) (ys : List _) (before : ℕ) → low ≤ before → climbs (Some before) (map number ys) ≡ true
+        → list_all (λ y. nat_lt low (number y)) ys ≡ true
     later low [] before few e = refl
     later low (y ∷ ys) before few e =
         let parts = both (nat_lt before (number y)) (climbs (Some (number y)) (map number ys)) e in
@@ -124,7 +131,8 @@ module _ {A : Type 0} (class : A → ℕ) (lists : ℕ → List A) where
   abbrev pub AreClasses : ℕ → Type 0
   AreClasses n = (v : ℕ) → 0 < v → v ≤ n → list_all (λ a. class a == v) (lists v) ≡ true
 
-  none_of : (u v : ℕ) (xs : List A) → (v == u) ≡ false → list_all (λ a. class a == v) xs ≡ true → filter (λ a. class a == u) xs ≡ []
+  none_of : (u v : ℕ) (xs : List A) → (v == u) ≡ false → list_all (λ a. class a == v) xs ≡ true
+      → filter (λ a. class a == u) xs ≡ []
   none_of u v [] other all = refl
   none_of u v (x ∷ xs) other all =
       let two = both (class x == v) (list_all (λ a. class a == v) xs) all in
@@ -138,7 +146,8 @@ module _ {A : Type 0} (class : A → ℕ) (lists : ℕ → List A) where
   none_joined (suc n) u low are =
       let other : (suc n == u) ≡ false = grind (arith, nat_tests, low) in
       filter_joined (λ a. class a == u) (joined lists n) (lists (suc n))
-      ∙ ap₂ (λ x y. x ++ y) (none_joined n u (omega (arith, low)) (λ v some few. are v some (omega (arith, few)))) (none_of u (suc n) (lists (suc n)) other (are (suc n) (omega arith) (omega arith)))
+      ∙ ap₂ (λ x y. x ++ y) (none_joined n u (omega (arith, low)) (λ v some few. are v some (omega (arith, few))))
+      (none_of u (suc n) (lists (suc n)) other (are (suc n) (omega arith) (omega arith)))
 
   empty_after : (xs : List A) → xs ++ [] ≡ xs
   empty_after [] = refl
@@ -152,24 +161,31 @@ module _ {A : Type 0} (class : A → ℕ) (lists : ℕ → List A) where
     | inl is ↦
         let at : suc n ≡ u = grind (arith, nat_tests, is) in
         let first = none_joined n u (omega (arith, at)) (λ v there low. are v there (omega (arith, low))) in
-        let last : filter (λ a. class a == u) (lists (suc n)) ≡ lists (suc n) = subst (λ k. filter (λ a. class a == k) (lists (suc n)) ≡ lists (suc n)) at (all_kept (λ a. class a == suc n) (lists (suc n)) (are (suc n) (omega arith) (omega arith))) in
-        filter_joined (λ a. class a == u) (joined lists n) (lists (suc n)) ∙ ap₂ (λ x y. x ++ y) first last ∙ ap lists at
+        let last : filter (λ a. class a == u) (lists (suc n)) ≡ lists (suc n) =
+        subst (λ k. filter (λ a. class a == k) (lists (suc n)) ≡ lists (suc n)) at (all_kept (λ a. class a == suc n)
+        (lists (suc n)) (are (suc n) (omega arith) (omega arith))) in
+        filter_joined (λ a. class a == u) (joined lists n) (lists (suc n)) ∙ ap₂ (λ x y. x ++ y) first last
+        ∙ ap lists at
     | inr isnt ↦
         let low : u ≤ n = grind (arith, nat_tests, isnt, few) in
         filter_joined (λ a. class a == u) (joined lists n) (lists (suc n))
-        ∙ ap₂ (λ x y. x ++ y) (of_joined n u some low (λ v there least. are v there (omega (arith, least)))) (none_of u (suc n) (lists (suc n)) isnt (are (suc n) (omega arith) (omega arith)))
+        ∙ ap₂ (λ x y. x ++ y) (of_joined n u some low (λ v there least. are v there (omega (arith, least))))
+        (none_of u (suc n) (lists (suc n)) isnt (are (suc n) (omega arith) (omega arith)))
         ∙ empty_after (lists u)
   ]
 
   -- each is one of an account's
-  pub numbered_joined : (n : ℕ) → n ≤ 9999 → AreClasses n → list_all (λ a. is_account_number (class a)) (joined lists n) ≡ true
+  pub numbered_joined : (n : ℕ) → n ≤ 9999 → AreClasses n → list_all (λ a. is_account_number (class a)) (joined lists n)
+      ≡ true
   unfolding joined
   numbered_joined zero few are = refl
   numbered_joined (suc n) few are =
       list_all-append (λ a. is_account_number (class a)) (joined lists n) (lists (suc n))
-      ∙ joint _ _ (numbered_joined n (omega (arith, few)) (λ v some low. are v some (omega (arith, low)))) (of_last (lists (suc n)) (are (suc n) (omega arith) (omega arith)))
+      ∙ joint _ _ (numbered_joined n (omega (arith, few)) (λ v some low. are v some (omega (arith, low))))
+      (of_last (lists (suc n)) (are (suc n) (omega arith) (omega arith)))
     where
-      of_last : (xs : List A) → list_all (λ a. class a == suc n) xs ≡ true → list_all (λ a. is_account_number (class a)) xs ≡ true
+      of_last : (xs : List A) → list_all (λ a. class a == suc n) xs ≡ true
+          → list_all (λ a. is_account_number (class a)) xs ≡ true
       of_last [] e = refl
       of_last (x ∷ xs) e =
           let two = both (class x == suc n) (list_all (λ a. class a == suc n) xs) e in

@@ -1,5 +1,6 @@
 -- Where no condition is broken on the rows of any account, the rows stand for records that are kept.
-use Rattle.std.proofs.Common.{◌≡◌, ℕ, zero, suc, ◌+◌, ◌/◌, ◌<◌, ◌≤◌, Bool, true, false, List, length, None, refl, sym, ap, ap₂, subst, ◌∙◌, inl, inr, arith}
+use Rattle.std.proofs.Common.{◌≡◌, ℕ, zero, suc, ◌+◌, ◌/◌, ◌<◌, ◌≤◌, Bool, true, false, List, length, None, refl, sym}
+use Rattle.std.proofs.Common.{ap, ap₂, subst, ◌∙◌, inl, inr, arith}
 use Rattle.std.specs.Prelude.{◌==◌, if◌then◌else◌}
 use Rattle.std.specs.Prelude.{is_some, slice_get}
 use Rattle.std.specs.List.{list_all}
@@ -47,7 +48,8 @@ use Rattle.acvp_audit.specs.Private.Looks.{AreFineTo}
 use Rattle.acvp_audit.specs.declared.damage.Totals.{Totals}
 use Rattle.acvp_audit.specs.declared.table.Table.TheVariants as table
 use Rattle.acvp_audit.proofs.Lists.{of_joined, numbered_joined}
-use Rattle.acvp_audit.proofs.Mine.{objects_all, accounts_of, sessions_of, sets_of, objects_of, requests_of, reviewers_of}
+use Rattle.acvp_audit.proofs.Mine.{objects_all, accounts_of, sessions_of, sets_of, objects_of, requests_of}
+use Rattle.acvp_audit.proofs.Mine.{reviewers_of}
 
 -- ---- one account after another
 
@@ -58,7 +60,8 @@ module _ (grades : Bool) (seeds : List (List ℕ)) (layout : Layout) (trees : Tr
   same_totals : (f g : ℕ → Content) (n : ℕ) → ((v : ℕ) → v ≤ n → f v ≡ g v) → totals_to f n ≡ totals_to g n
   unfolding totals_to
   same_totals f g zero same = refl
-  same_totals f g (suc n) same = ap₂ plus (same_totals f g n (λ v low. same v (omega (arith, low)))) (ap totals_of (same (suc n) (omega arith)))
+  same_totals f g (suc n) same =
+      ap₂ plus (same_totals f g n (λ v low. same v (omega (arith, low)))) (ap totals_of (same (suc n) (omega arith)))
 
   none_before : (n : Totals) → plus (record { accounts = 0; sessions = 0; sets = 0; requests = 0 }) n ≡ n
   none_before n =
@@ -79,7 +82,8 @@ module _ (grades : Bool) (seeds : List (List ℕ)) (layout : Layout) (trees : Tr
       only : (u : ℕ) → 0 < u → u ≤ 1 → 1 ≡ u
       only u some few = omega (arith, some, few)
 
-  pub fine_next : (n : ℕ) (totals more : Totals) → AreFineTo grades seeds layout trees n totals → HasFine (suc n) more → AreFineTo grades seeds layout trees (suc n) (plus totals more)
+  pub fine_next : (n : ℕ) (totals more : Totals) → AreFineTo grades seeds layout trees n totals → HasFine (suc n) more
+      → AreFineTo grades seeds layout trees (suc n) (plus totals more)
   unfolding totals_to
   fine_next n totals more before it = record {
     lists = lists;
@@ -100,39 +104,52 @@ module _ (grades : Bool) (seeds : List (List ℕ)) (layout : Layout) (trees : Tr
       fine u some few = elim (cases_Bool (u == suc n)) [
         | inl is ↦
             let at : suc n ≡ u = grind (arith, nat_tests, is) in
-            subst (λ k. IsFine grades seeds layout trees k (lists k)) at (subst (IsFine grades seeds layout trees (suc n)) (sym last) it.1)
+            subst (λ k. IsFine grades seeds layout trees k (lists k)) at (subst
+            (IsFine grades seeds layout trees (suc n)) (sym last) it.1)
         | inr isnt ↦
             let low : u ≤ n = grind (arith, nat_tests, isnt, few) in
             subst (IsFine grades seeds layout trees u) (earlier u low) (before.fine u some low)
       ]
 
   -- the number of the next account as the program reckons it
-  pub fine_after : (n : ℕ) (totals more sum : Totals) → sum ≡ plus totals more → AreFineTo grades seeds layout trees n totals → HasFine (n + 1) more → AreFineTo grades seeds layout trees (n + 1) sum
+  pub fine_after : (n : ℕ) (totals more sum : Totals) → sum ≡ plus totals more
+      → AreFineTo grades seeds layout trees n totals → HasFine (n + 1) more
+      → AreFineTo grades seeds layout trees (n + 1) sum
   fine_after n totals more sum is before it =
       let next : suc n ≡ n + 1 = omega arith in
       subst (λ k. AreFineTo grades seeds layout trees k sum) next
-      (subst (AreFineTo grades seeds layout trees (suc n)) (sym is) (fine_next n totals more before (subst (λ k. HasFine k more) (sym next) it)))
+      (subst (AreFineTo grades seeds layout trees (suc n)) (sym is)
+      (fine_next n totals more before (subst (λ k. HasFine k more) (sym next) it)))
 
 -- ---- what else is asked of vector sets
 
 module _ (seeds : List (List ℕ)) where
-  seeded_sets : (u : ℕ) (mine : Content) → first_broken (account_conditions seeds u mine) ≡ None → list_all (is_seeded seeds) mine.sets ≡ true
+  seeded_sets : (u : ℕ) (mine : Content) → first_broken (account_conditions seeds u mine) ≡ None
+      → list_all (is_seeded seeds) mine.sets ≡ true
   seeded_sets u mine none =
       let rows = sets_hold seeds mine (parts seeds u mine (none_broken (account_conditions seeds u mine) none)).sets in
-      let seeded = list_all_weaker (λ r. holds (set_row_conditions seeds mine r)) (λ (r : SetRow). is_some (slice_get seeds r.epoch)) (λ r h. (set_holds seeds mine r h).seed) mine.sets rows in
-      let disposed = list_all_weaker (λ r. holds (set_row_conditions seeds mine r)) (λ (r : SetRow). of_all is_disposed r.graded) (λ r h. (set_holds seeds mine r h).disposed) mine.sets rows in
-      all_both (λ (r : SetRow). is_some (slice_get seeds r.epoch)) (λ r. of_all is_disposed r.graded) mine.sets seeded disposed
+      let seeded = list_all_weaker (λ r. holds (set_row_conditions seeds mine r))
+      (λ (r : SetRow). is_some (slice_get seeds r.epoch)) (λ r h. (set_holds seeds mine r h).seed) mine.sets rows in
+      let disposed = list_all_weaker (λ r. holds (set_row_conditions seeds mine r))
+      (λ (r : SetRow). of_all is_disposed r.graded) (λ r h. (set_holds seeds mine r h).disposed) mine.sets rows in
+      all_both (λ (r : SetRow). is_some (slice_get seeds r.epoch))
+      (λ r. of_all is_disposed r.graded) mine.sets seeded disposed
 
-  seeded_to : (lists : ℕ → Content) (n : ℕ) → ((u : ℕ) → 0 < u → u ≤ n → first_broken (account_conditions seeds u (lists u)) ≡ None) → list_all (is_seeded seeds) (joined (λ u. (lists u).sets) n) ≡ true
+  seeded_to : (lists : ℕ → Content) (n : ℕ)
+      → ((u : ℕ) → 0 < u → u ≤ n → first_broken (account_conditions seeds u (lists u)) ≡ None)
+      → list_all (is_seeded seeds) (joined (λ u. (lists u).sets) n) ≡ true
   unfolding joined
   seeded_to lists zero none = refl
   seeded_to lists (suc n) none =
       list_all-append (is_seeded seeds) (joined (λ u. (lists u).sets) n) (lists (suc n)).sets
-      ∙ joint _ _ (seeded_to lists n (λ u some few. none u some (omega (arith, few)))) (seeded_sets (suc n) (lists (suc n)) (none (suc n) (omega arith) (omega arith)))
+      ∙ joint _ _ (seeded_to lists n (λ u some few. none u some (omega (arith, few))))
+      (seeded_sets (suc n) (lists (suc n)) (none (suc n) (omega arith) (omega arith)))
 
 -- ---- all accounts
 
-module _ (grades : Bool) (seeds : List (List ℕ)) (db : Database) (ours : IsOurs db) (inside : AreInTrees ours.layout db.trees) (within : AreWithin ours.layout db.trees) (totals : Totals) (all : AreFineTo grades seeds ours.layout db.trees 9999 totals) where
+module _ (grades : Bool) (seeds : List (List ℕ)) (db : Database) (ours : IsOurs db)
+    (inside : AreInTrees ours.layout db.trees) (within : AreWithin ours.layout db.trees) (totals : Totals)
+    (all : AreFineTo grades seeds ours.layout db.trees 9999 totals) where
   abbrev list : ℕ → Content
   list = all.lists
 
@@ -154,23 +171,35 @@ module _ (grades : Bool) (seeds : List (List ℕ)) (db : Database) (ours : IsOur
   own_rows : (u : ℕ) → 0 < u → u ≤ 9999 → rows_numbered u records ≡ list u
   unfolding rows_numbered records
   own_rows u some few = rw (
-    of_joined (λ (row : AccountRow). row.number) (λ v. (list v).accounts) 9999 u some few (λ v there low. accounts_of ours.layout db.trees inside within v (list v) (read v there low)),
-    of_joined (λ (row : SessionRow). owner_of row.number) (λ v. (list v).sessions) 9999 u some few (λ v there low. sessions_of ours.layout db.trees inside within v (list v) (read v there low)),
-    of_joined (λ (row : SetRow). owner_of (row.number / 100)) (λ v. (list v).sets) 9999 u some few (λ v there low. sets_of ours.layout db.trees inside within v (list v) (read v there low)),
-    of_joined (λ (row : ObjectRow). owner_of row.number) (λ v. (list v).objects) 9999 u some few (λ v there low. objects_of ours.layout db.trees inside within v (list v) (read v there low)),
-    of_joined (λ (row : RequestRow). owner_of row.number) (λ v. (list v).requests) 9999 u some few (λ v there low. requests_of ours.layout db.trees inside within v (list v) (read v there low)),
-    of_joined (λ (row : ReviewerRow). owner_of row.session) (λ v. (list v).reviewers) 9999 u some few (λ v there low. reviewers_of ours.layout db.trees inside within v (list v) (read v there low)),
+    of_joined (λ (row : AccountRow). row.number) (λ v. (list v).accounts) 9999 u some few
+        (λ v there low. accounts_of ours.layout db.trees inside within v (list v) (read v there low)),
+    of_joined (λ (row : SessionRow). owner_of row.number) (λ v. (list v).sessions) 9999 u some few
+        (λ v there low. sessions_of ours.layout db.trees inside within v (list v) (read v there low)),
+    of_joined (λ (row : SetRow). owner_of (row.number / 100)) (λ v. (list v).sets) 9999 u some few
+        (λ v there low. sets_of ours.layout db.trees inside within v (list v) (read v there low)),
+    of_joined (λ (row : ObjectRow). owner_of row.number) (λ v. (list v).objects) 9999 u some few
+        (λ v there low. objects_of ours.layout db.trees inside within v (list v) (read v there low)),
+    of_joined (λ (row : RequestRow). owner_of row.number) (λ v. (list v).requests) 9999 u some few
+        (λ v there low. requests_of ours.layout db.trees inside within v (list v) (read v there low)),
+    of_joined (λ (row : ReviewerRow). owner_of row.session) (λ v. (list v).reviewers) 9999 u some few
+        (λ v there low. reviewers_of ours.layout db.trees inside within v (list v) (read v there low)),
   ) refl
 
   numbered : AreNumbered records
   unfolding records
   numbered = record {
-    accounts = numbered_joined (λ (row : AccountRow). row.number) (λ v. (list v).accounts) 9999 (omega arith) (λ v there low. accounts_of ours.layout db.trees inside within v (list v) (read v there low));
-    sessions = numbered_joined (λ (row : SessionRow). owner_of row.number) (λ v. (list v).sessions) 9999 (omega arith) (λ v there low. sessions_of ours.layout db.trees inside within v (list v) (read v there low));
-    sets = numbered_joined (λ (row : SetRow). owner_of (row.number / 100)) (λ v. (list v).sets) 9999 (omega arith) (λ v there low. sets_of ours.layout db.trees inside within v (list v) (read v there low));
-    objects = numbered_joined (λ (row : ObjectRow). owner_of row.number) (λ v. (list v).objects) 9999 (omega arith) (λ v there low. objects_of ours.layout db.trees inside within v (list v) (read v there low));
-    requests = numbered_joined (λ (row : RequestRow). owner_of row.number) (λ v. (list v).requests) 9999 (omega arith) (λ v there low. requests_of ours.layout db.trees inside within v (list v) (read v there low));
-    reviewers = numbered_joined (λ (row : ReviewerRow). owner_of row.session) (λ v. (list v).reviewers) 9999 (omega arith) (λ v there low. reviewers_of ours.layout db.trees inside within v (list v) (read v there low));
+    accounts = numbered_joined (λ (row : AccountRow). row.number) (λ v. (list v).accounts) 9999 (omega arith)
+        (λ v there low. accounts_of ours.layout db.trees inside within v (list v) (read v there low));
+    sessions = numbered_joined (λ (row : SessionRow). owner_of row.number) (λ v. (list v).sessions) 9999 (omega arith)
+        (λ v there low. sessions_of ours.layout db.trees inside within v (list v) (read v there low));
+    sets = numbered_joined (λ (row : SetRow). owner_of (row.number / 100)) (λ v. (list v).sets) 9999 (omega arith)
+        (λ v there low. sets_of ours.layout db.trees inside within v (list v) (read v there low));
+    objects = numbered_joined (λ (row : ObjectRow). owner_of row.number) (λ v. (list v).objects) 9999 (omega arith)
+        (λ v there low. objects_of ours.layout db.trees inside within v (list v) (read v there low));
+    requests = numbered_joined (λ (row : RequestRow). owner_of row.number) (λ v. (list v).requests) 9999 (omega arith)
+        (λ v there low. requests_of ours.layout db.trees inside within v (list v) (read v there low));
+    reviewers = numbered_joined (λ (row : ReviewerRow). owner_of row.session) (λ v. (list v).reviewers) 9999
+        (omega arith) (λ v there low. reviewers_of ours.layout db.trees inside within v (list v) (read v there low));
   }
 
   few : (u : ℕ) → is_account_number u ≡ true → u ≤ 9999
@@ -180,8 +209,11 @@ module _ (grades : Bool) (seeds : List (List ℕ)) (db : Database) (ours : IsOur
   some u on = grind (arith, nat_tests, on)
 
   whole : IsWhole grades seeds records
-  whole = numbered_whole records numbered (λ u on. subst (λ mine. first_broken (owner_conditions mine) ≡ None) (sym (own_rows u (some u on) (few u on))) (all.fine u (some u on) (few u on)).owners) grades seeds
-      (λ u on. subst (λ mine. first_broken (all_conditions grades seeds u mine) ≡ None) (sym (own_rows u (some u on) (few u on))) (all.fine u (some u on) (few u on)).others)
+  whole = numbered_whole records numbered
+      (λ u on. subst (λ mine. first_broken (owner_conditions mine) ≡ None) (sym (own_rows u (some u on) (few u on)))
+      (all.fine u (some u on) (few u on)).owners) grades seeds
+      (λ u on. subst (λ mine. first_broken (all_conditions grades seeds u mine) ≡ None)
+      (sym (own_rows u (some u on) (few u on))) (all.fine u (some u on) (few u on)).others)
 
   -- ---- the rows stand for them
 
@@ -189,24 +221,36 @@ module _ (grades : Bool) (seeds : List (List ℕ)) (db : Database) (ours : IsOur
   stand_objects =
       let test = is_column_between 2 in
       let rows = db.trees object_tree in
-      let passes = all_weaker (IsRegisteredWithin 9999) (λ row. test (first_number 1) (last_number 9999) row ≡ true) (λ row is. column_test 2 row is.1.0 is.1.1 (first_number 1) (last_number 9999) ∙ is.1.2) rows (within table.Object) in
-      let held = entries_joined object_columns test rows (λ u. (list u).objects) 9999 inside.objects (all_weaker (IsRegisteredWithin 9999) (IsNumbered object_columns test) (λ row is. (true, is.1.0, column_test 2 row is.1.0 is.1.1)) rows (within table.Object))
+      let passes = all_weaker (IsRegisteredWithin 9999) (λ row. test (first_number 1) (last_number 9999) row ≡ true)
+      (λ row is. column_test 2 row is.1.0 is.1.1 (first_number 1) (last_number 9999) ∙ is.1.2) rows
+      (within table.Object) in
+      let held = entries_joined object_columns test rows (λ u. (list u).objects) 9999 inside.objects
+      (all_weaker (IsRegisteredWithin 9999) (IsNumbered object_columns test)
+      (λ row is. (true, is.1.0, column_test 2 row is.1.0 is.1.1)) rows (within table.Object))
       (λ u there low. (objects_all ours.layout db.trees inside within u (list u) (read u there low)).kept) in
-      subst (λ rs. HoldsEntries object_columns rs (joined (λ u. (list u).objects) 9999)) (filter_all (test (first_number 1) (last_number 9999)) rows passes) held
+      subst (λ rs. HoldsEntries object_columns rs (joined (λ u. (list u).objects) 9999))
+      (filter_all (test (first_number 1) (last_number 9999)) rows passes) held
 
   stand : Stands ours.layout db.trees records
   unfolding records
   stand = record {
     version = ours.version;
-    accounts = joined_whole HoldsAccounts account_key (kept_nothing account_key account_row (λ a. refl)) (kept_both account_key account_row (λ a. refl)) (λ n. n) (λ n. n) (omega arith) (λ n. omega arith) (λ n. omega arith) (λ n. omega arith) _ (λ u. (list u).accounts) 9999
+    accounts = joined_whole HoldsAccounts account_key (kept_nothing account_key account_row (λ a. refl))
+        (kept_both account_key account_row (λ a. refl)) (λ n. n) (λ n. n) (omega arith) (λ n. omega arith)
+        (λ n. omega arith) (λ n. omega arith) _ (λ u. (list u).accounts) 9999
         inside.accounts (λ u there low. (read u there low).tests.account_range) (within table.Account);
-    sessions = sessions_whole _ (λ u. (list u).sessions) 9999 inside.sessions (λ u there low. (read u there low).tests.session_range) (within table.Session);
-    sets = (sets_joined _ (λ u. (list u).sets) 9999 inside.sets (λ u there low. (read u there low).tests.set_range) (within table.Set)).kept;
+    sessions = sessions_whole _ (λ u. (list u).sessions) 9999 inside.sessions
+        (λ u there low. (read u there low).tests.session_range) (within table.Session);
+    sets = (sets_joined _ (λ u. (list u).sets) 9999 inside.sets (λ u there low. (read u there low).tests.set_range)
+        (within table.Set)).kept;
     no_old_sets = ours.no_old_sets;
     objects = stand_objects;
-    object_numbers = joined_all IsKeepable (λ u. (list u).objects) 9999 (λ u there low. (objects_all ours.layout db.trees inside within u (list u) (read u there low)).numbers);
-    requests = requests_whole _ (λ u. (list u).requests) 9999 inside.requests (λ u there low. (read u there low).entries.request_range) (within table.Request);
-    reviewers = reviewers_joined _ (λ u. (list u).reviewers) 9999 inside.reviewers (λ u there low. (read u there low).entries.reviewer_rows) (within table.Reviewer);
+    object_numbers = joined_all IsKeepable (λ u. (list u).objects) 9999
+        (λ u there low. (objects_all ours.layout db.trees inside within u (list u) (read u there low)).numbers);
+    requests = requests_whole _ (λ u. (list u).requests) 9999 inside.requests
+        (λ u there low. (read u there low).entries.request_range) (within table.Request);
+    reviewers = reviewers_joined _ (λ u. (list u).reviewers) 9999 inside.reviewers
+        (λ u there low. (read u there low).entries.reviewer_rows) (within table.Reviewer);
   }
 
   joined_totals : (n : ℕ) → totals_to list n ≡ record {
@@ -219,7 +263,12 @@ module _ (grades : Bool) (seeds : List (List ℕ)) (db : Database) (ours : IsOur
   joined_totals zero = refl
   joined_totals (suc n) =
       ap (λ t. plus t (totals_of (list (suc n)))) (joined_totals n)
-      ∙ rw (length-append (joined (λ u. (list u).accounts) n) (list (suc n)).accounts, length-append (joined (λ u. (list u).sessions) n) (list (suc n)).sessions, length-append (joined (λ u. (list u).sets) n) (list (suc n)).sets, length-append (joined (λ u. (list u).requests) n) (list (suc n)).requests)
+      ∙ rw (
+        length-append (joined (λ u. (list u).accounts) n) (list (suc n)).accounts,
+        length-append (joined (λ u. (list u).sessions) n) (list (suc n)).sessions,
+        length-append (joined (λ u. (list u).sets) n) (list (suc n)).sets,
+        length-append (joined (λ u. (list u).requests) n) (list (suc n)).requests,
+      )
       refl
 
   counted : totals ≡ totals_of records
@@ -228,16 +277,22 @@ module _ (grades : Bool) (seeds : List (List ℕ)) (db : Database) (ours : IsOur
 
   seeded : grades ≡ false → list_all (is_seeded seeds) records.sets ≡ true
   unfolding records
-  seeded off = seeded_to seeds list 9999 (λ u there low. subst (λ g. first_broken (all_conditions g seeds u (list u)) ≡ None) off (all.fine u there low).others)
+  seeded off = seeded_to seeds list 9999
+      (λ u there low. subst (λ g. first_broken (all_conditions g seeds u (list u)) ≡ None) off
+      (all.fine u there low).others)
 
-kept_as : (grades : Bool) (seeds : List (List ℕ)) (c : Content) → IsWhole grades seeds c → (grades ≡ false → list_all (is_seeded seeds) c.sets ≡ true) → AreKeptAs grades seeds c
+kept_as : (grades : Bool) (seeds : List (List ℕ)) (c : Content) → IsWhole grades seeds c
+    → (grades ≡ false → list_all (is_seeded seeds) c.sets ≡ true) → AreKeptAs grades seeds c
 kept_as true seeds c is more = kept seeds c is
 kept_as false seeds c is more = (whole_sound false seeds c is, whole_counted false seeds c is, more refl)
 
-pub is_whole : (grades : Bool) (seeds : List (List ℕ)) (db : Database) (ours : IsOurs db) → AreInTrees ours.layout db.trees → AreWithin ours.layout db.trees → (totals : Totals) → AreFineTo grades seeds ours.layout db.trees 9999 totals → IsWholeAs grades seeds ours.layout db.trees totals
+pub is_whole : (grades : Bool) (seeds : List (List ℕ)) (db : Database) (ours : IsOurs db)
+    → AreInTrees ours.layout db.trees → AreWithin ours.layout db.trees → (totals : Totals)
+    → AreFineTo grades seeds ours.layout db.trees 9999 totals → IsWholeAs grades seeds ours.layout db.trees totals
 is_whole grades seeds db ours inside within totals all = record {
   records = records grades seeds db ours inside within totals all;
   stand = stand grades seeds db ours inside within totals all;
-  kept = kept_as grades seeds _ (whole grades seeds db ours inside within totals all) (seeded grades seeds db ours inside within totals all);
+  kept = kept_as grades seeds _ (whole grades seeds db ours inside within totals all)
+      (seeded grades seeds db ours inside within totals all);
   counted = counted grades seeds db ours inside within totals all;
 }

@@ -1,5 +1,6 @@
 -- What is written for a capability is read as it.
-use Rattle.std.proofs.Common.{◌≡◌, ℕ, ◌≤◌, lit≤, List, [], ◌∷◌, length, get_or, max, Bool, true, false, ◌&&◌, Option, Some, refl, sym, ◌∙◌, ap, subst, arith}
+use Rattle.std.proofs.Common.{◌≡◌, ℕ, ◌≤◌, lit≤, List, [], ◌∷◌, length, get_or, max, Bool, true, false, ◌&&◌, Option}
+use Rattle.std.proofs.Common.{Some, refl, sym, ◌∙◌, ap, subst, arith}
 use Rattle.std.specs.Prelude.{map, nat_le, Ok, MatchBool}
 use Rattle.std.specs.List.{list_all, filter_map}
 use Rattle.std.proofs.lemmas.List.{length-map}
@@ -10,7 +11,10 @@ use Rattle.serde_json.specs.View.{items_of}
 use Rattle.acvp_caps.specs.declared.item.Item.{Item}
 use Rattle.acvp_caps.specs.declared.item.Item.TheVariants.{Single, Range}
 use Rattle.acvp_caps.specs.declared.algorithm.Algorithm.{Algorithm}
-use Rattle.acvp_caps.specs.declared.algorithm.Algorithm.TheVariants.{Sha2_224, Sha2_256, Sha2_384, Sha2_512, Sha2_512_224, Sha2_512_256, HmacSha2_224, HmacSha2_256, HmacSha2_384, HmacSha2_512, HmacSha2_512_224, HmacSha2_512_256}
+use Rattle.acvp_caps.specs.declared.algorithm.Algorithm.TheVariants.{Sha2_224, Sha2_256, Sha2_384, Sha2_512}
+use Rattle.acvp_caps.specs.declared.algorithm.Algorithm.TheVariants.{Sha2_512_224, Sha2_512_256, HmacSha2_224}
+use Rattle.acvp_caps.specs.declared.algorithm.Algorithm.TheVariants.{HmacSha2_256, HmacSha2_384, HmacSha2_512}
+use Rattle.acvp_caps.specs.declared.algorithm.Algorithm.TheVariants.{HmacSha2_512_224, HmacSha2_512_256}
 use Rattle.acvp_caps.specs.declared.capability.Domains.{Domains}
 use Rattle.acvp_caps.specs.declared.capability.Domains.TheVariants.{Message, KeyAndMac}
 use Rattle.acvp_caps.specs.declared.given.Given.{Given}

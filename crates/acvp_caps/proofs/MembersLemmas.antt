@@ -1,5 +1,7 @@
 -- The members of a domain.
-use Rattle.std.proofs.Common.{◌≡◌, ℕ, zero, suc, ◌+◌, ◌-◌, ◌*◌, ◌/◌, ◌%◌, ◌<◌, ◌≤◌, List, [], ◌∷◌, ◌++◌, length, get_or, take, max, inl, inr, Bool, true, false, nat_eq, ◌&&◌, ◌||◌, Option, None, Some, refl, sym, ◌∙◌, ap, subst, cond, arith}
+use Rattle.std.proofs.Common.{◌≡◌, ℕ, zero, suc, ◌+◌, ◌-◌, ◌*◌, ◌/◌, ◌%◌, ◌<◌, ◌≤◌, List, [], ◌∷◌, ◌++◌, length, get_or}
+use Rattle.std.proofs.Common.{take, max, inl, inr, Bool, true, false, nat_eq, ◌&&◌, ◌||◌, Option, None, Some, refl, sym}
+use Rattle.std.proofs.Common.{◌∙◌, ap, subst, cond, arith}
 use Rattle.std.specs.Prelude.{◌⊎◌, nat_le, nat_lt, filter, option_map, unwrap_or}
 use Rattle.std.specs.List.{list_any, slice_get, range_with_len}
 use Rattle.std.specs.List.Sorted.{IsStrictlyIncreasing}
@@ -240,7 +242,8 @@ pub members-end : (items : List Item) (k : ℕ) (o : Option ℕ) → o ≡ slice
     → length (members items) ≤ k
 members-end items k o at none = slice_get-none (members items) k (sym none ∙ at)
 
-pub step-first : (items : List Item) (o : Option ℕ) → IsNextMember (is_member items) 0 o → o ≡ slice_get (members items) 0
+pub step-first : (items : List Item) (o : Option ℕ) → IsNextMember (is_member items) 0 o
+    → o ≡ slice_get (members items) 0
 step-first items o next = next-first (is_member items) (members items) (members-list items) o next
 
 pub step-more : (items : List Item) (k n : ℕ) (at o : Option ℕ) → at ≡ slice_get (members items) k → at ≡ Some n

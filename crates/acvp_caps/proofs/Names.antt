@@ -1,12 +1,16 @@
 -- The names of the algorithms.
-use Rattle.std.proofs.Common.{◌≡◌, ◌≢◌, ℕ, lit<, List, [], ◌∷◌, Bool, true, false, not, Option, None, Some, MatchOption, refl, arith}
+use Rattle.std.proofs.Common.{◌≡◌, ◌≢◌, ℕ, lit<, List, [], ◌∷◌, Bool, true, false, not, Option, None, Some, MatchOption}
+use Rattle.std.proofs.Common.{refl, arith}
 use Rattle.std.specs.Prelude.{find}
 use Rattle.std.specs.List.{list_all, AllPass}
 use Rattle.std.specs.Str.{bytes_eq}
 use Rattle.std.proofs.lemmas.List.Sums.{AllPass-from_list_all}
 use Rattle.std.proofs.lemmas.Slice.Eq.{bytes_eq-Decides}
 use Rattle.acvp_caps.specs.declared.algorithm.Algorithm.{Algorithm}
-use Rattle.acvp_caps.specs.declared.algorithm.Algorithm.TheVariants.{Sha2_224, Sha2_256, Sha2_384, Sha2_512, Sha2_512_224, Sha2_512_256, HmacSha2_224, HmacSha2_256, HmacSha2_384, HmacSha2_512, HmacSha2_512_224, HmacSha2_512_256}
+use Rattle.acvp_caps.specs.declared.algorithm.Algorithm.TheVariants.{Sha2_224, Sha2_256, Sha2_384, Sha2_512}
+use Rattle.acvp_caps.specs.declared.algorithm.Algorithm.TheVariants.{Sha2_512_224, Sha2_512_256, HmacSha2_224}
+use Rattle.acvp_caps.specs.declared.algorithm.Algorithm.TheVariants.{HmacSha2_256, HmacSha2_384, HmacSha2_512}
+use Rattle.acvp_caps.specs.declared.algorithm.Algorithm.TheVariants.{HmacSha2_512_224, HmacSha2_512_256}
 use Rattle.acvp_caps.specs.Algorithms.{algorithms, name_of, named}
 
 -- what is found passes, and where nothing is found nothing passes

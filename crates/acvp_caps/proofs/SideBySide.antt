@@ -1,5 +1,6 @@
 -- A walk upwards through the members of two lists of items, side by side.
-use Rattle.std.proofs.Common.{◌≡◌, ℕ, suc, ◌+◌, ◌<◌, ◌≤◌, List, [], ◌∷◌, Bool, true, false, not, nat_eq, nat_lt, Option, None, Some, refl, sym, ◌∙◌, ap, arith}
+use Rattle.std.proofs.Common.{◌≡◌, ℕ, suc, ◌+◌, ◌<◌, ◌≤◌, List, [], ◌∷◌, Bool, true, false, not, nat_eq, nat_lt, Option}
+use Rattle.std.proofs.Common.{None, Some, refl, sym, ◌∙◌, ap, arith}
 use Rattle.std.specs.List.{slice_get}
 use Rattle.std.specs.Prelude.{◌↔◌, IsTrue, is_some}
 use Rattle.std.specs.Option.{option_eq}
@@ -27,7 +28,8 @@ side-first a b o p next other = record {
 
 pub side-more : (a b : List Item) (o p s t : Option ℕ) (n : ℕ) → IsSideBySide (members a) (members b) o p
     → o ≡ Some n → p ≡ Some n
-    → IsNextMember (is_member a) (n + 1) s → IsNextMember (is_member b) (n + 1) t → IsSideBySide (members a) (members b) s t
+    → IsNextMember (is_member a) (n + 1) s → IsNextMember (is_member b) (n + 1) t
+    → IsSideBySide (members a) (members b) s t
 side-more a b o p s t n side here there next other = record {
   place = side.place + 1;
   first = step-more a side.place n o s side.first here next;

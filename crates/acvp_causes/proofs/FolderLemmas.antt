@@ -37,7 +37,8 @@ pub folder_of-at : (path : List ℕ) (i : ℕ) → i < length path → get_or pa
     → ((k : ℕ) → i < k → k < length path → get_or path k 0 ≡ 47 → ⊥) → folder_of path ≡ or_root (take i path)
 folder_of-at path i inside here later =
     let slash : is_slash (get_or path i 0) ≡ true = eq-eqb _ _ here in
-    let suffix : suffix_len (λ x. not (is_slash x)) path ≡ length path - (i + 1) = bytes_behind path i inside here later in
+    let suffix : suffix_len (λ x. not (is_slash x)) path ≡ length path - (i + 1) =
+    bytes_behind path i inside here later in
     let count : length path - (length path - (i + 1)) - 1 ≡ i = omega arith in
     let some : list_any is_slash path ≡ true = list_any_at is_slash path i 0 inside slash in
     ap (λ b. if b then or_root (before_last is_slash path) else codes ".") some
@@ -65,7 +66,9 @@ last_of-none path none =
     let other : All (λ b. not (is_slash b) ≡ true) path = All-from_get_or (λ b. not (is_slash b) ≡ true) path 0
     (λ k within. ap not (ne_eqb _ _ (NoCharPasses-char 47 path k none (lit< tt) within))) in
     let whole : suffix_len (λ x. not (is_slash x)) path ≡ length path - 0 =
-    suffix_len_is (λ x. not (is_slash x)) path 0 0 (omega arith) (λ k _ within. ap not (ne_eqb _ _ (NoCharPasses-char 47 path k none (lit< tt) within))) (λ bad. absurd (omega (arith, bad))) in
+    suffix_len_is (λ x. not (is_slash x)) path 0 0 (omega arith)
+    (λ k _ within. ap not (ne_eqb _ _ (NoCharPasses-char 47 path k none (lit< tt) within)))
+    (λ bad. absurd (omega (arith, bad))) in
     let count : length path - (length path - 0) ≡ 0 = omega arith in
     ap (λ n. drop (length path - n) path) whole ∙ ap (λ n. drop n path) count
 

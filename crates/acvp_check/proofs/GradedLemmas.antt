@@ -1,5 +1,6 @@
 -- Verdicts and dispositions, compared by their numbers.
-use Rattle.std.proofs.Common.{◌≡◌, ℕ, zero, suc, true, List, [], ◌∷◌, Option, None, Some, refl, sym, ap, subst, ◌∙◌, arith}
+use Rattle.std.proofs.Common.{◌≡◌, ℕ, zero, suc, true, List, [], ◌∷◌, Option, None, Some, refl, sym, ap, subst, ◌∙◌}
+use Rattle.std.proofs.Common.{arith}
 use Rattle.std.specs.Prelude.{◌==◌, is_some, slice_get, IfSome}
 use Rattle.std.specs.Cmp.Lexicographic.{pointwise}
 use Rattle.std.proofs.lemmas.Bool.Decides.{nat_tests}
@@ -12,7 +13,8 @@ use Rattle.acvp_desk.specs.Kept.{IsRightly, IsGradedSet}
 use Rattle.acvp_tables.specs.Graded.{GradedValue}
 use Rattle.acvp_tables.specs.State.{of_all}
 use Rattle.acvp_tables.specs.declared.rows.SetRow.{SetRow}
-use Rattle.acvp_check.specs.Conditions.{disposition_number, is_disposed, verdict_number, is_verdict, is_right_under, is_right}
+use Rattle.acvp_check.specs.Conditions.{disposition_number, is_disposed, verdict_number, is_verdict, is_right_under}
+use Rattle.acvp_check.specs.Conditions.{is_right}
 use Rattle.acvp_check.proofs.Holds.{both, joint}
 
 abbrev disposition_at : ℕ → Disposition
@@ -59,7 +61,8 @@ same_verdicts (x ∷ xs) (y ∷ ys) e =
 
 verdicts_same : (xs : List Verdict) → pointwise is_verdict xs xs ≡ true
 verdicts_same [] = refl
-verdicts_same (x ∷ xs) = joint (is_verdict x x) (pointwise is_verdict xs xs) (same_number (verdict_number x)) (verdicts_same xs)
+verdicts_same (x ∷ xs) = joint (is_verdict x x) (pointwise is_verdict xs xs) (same_number (verdict_number x))
+    (verdicts_same xs)
 
 -- ---- a set
 
@@ -71,12 +74,14 @@ rightly row seed (Some g) d v = record {
   disposition = same_disposition g.disposition (disposition_of g.verdicts) d;
 }
 
-pub graded_set : (seeds : List (List ℕ)) (row : SetRow) → is_some (slice_get seeds row.epoch) ≡ true → of_all is_disposed row.graded ≡ true
+pub graded_set : (seeds : List (List ℕ)) (row : SetRow) → is_some (slice_get seeds row.epoch) ≡ true
+    → of_all is_disposed row.graded ≡ true
     → is_right seeds row ≡ true → IsGradedSet seeds row
 unfolding IsGradedSet
 graded_set seeds row there disposed right = go (slice_get seeds row.epoch) refl there
   where
-    under : (graded : Option GradedValue) (seed : List ℕ) → of_all (λ g. of_all (is_right_under row g) (Some seed)) graded ≡ true
+    under : (graded : Option GradedValue) (seed : List ℕ)
+        → of_all (λ g. of_all (is_right_under row g) (Some seed)) graded ≡ true
         → of_all (λ g. is_right_under row g seed) graded ≡ true
     under None seed e = refl
     under (Some g) seed e = e
@@ -88,7 +93,8 @@ graded_set seeds row there disposed right = go (slice_get seeds row.epoch) refl 
       seed,
       e,
       rightly row seed row.graded disposed
-          (under row.graded seed (subst (λ o. of_all (λ g. of_all (is_right_under row g) o) row.graded ≡ true) e right)),
+          (under row.graded seed (subst
+          (λ o. of_all (λ g. of_all (is_right_under row g) o) row.graded ≡ true) e right)),
     )
 
 pub record SetGraded (seeds : List (List ℕ)) (row : SetRow) : Type 0 where
@@ -96,19 +102,22 @@ pub record SetGraded (seeds : List (List ℕ)) (row : SetRow) : Type 0 where
   pub disposed : of_all is_disposed row.graded ≡ true
   pub right : is_right seeds row ≡ true
 
-disposed_in : (row : SetRow) (seed : List ℕ) (graded : Option GradedValue) → IfSome graded (IsRightly seed row) → of_all is_disposed graded ≡ true
+disposed_in : (row : SetRow) (seed : List ℕ) (graded : Option GradedValue) → IfSome graded (IsRightly seed row)
+    → of_all is_disposed graded ≡ true
 disposed_in row seed None is = refl
 disposed_in row seed (Some g) is = rw is.disposition (same_number (disposition_number (disposition_of g.verdicts)))
 
 right_in : (row : SetRow) (seed : List ℕ) (graded : Option GradedValue) → IfSome graded (IsRightly seed row)
     → of_all (λ g. of_all (is_right_under row g) (Some seed)) graded ≡ true
 right_in row seed None is = refl
-right_in row seed (Some g) is = subst (λ vs. pointwise is_verdict g.verdicts vs ≡ true) is.verdicts (verdicts_same g.verdicts)
+right_in row seed (Some g) is =
+    subst (λ vs. pointwise is_verdict g.verdicts vs ≡ true) is.verdicts (verdicts_same g.verdicts)
 
 pub set_graded : (seeds : List (List ℕ)) (row : SetRow) → IsGradedSet seeds row → SetGraded seeds row
 unfolding IsGradedSet
 set_graded seeds row is = record {
   there = subst (λ o. is_some o ≡ true) (sym is.1) refl;
   disposed = disposed_in row is.0 row.graded is.2;
-  right = subst (λ o. of_all (λ g. of_all (is_right_under row g) o) row.graded ≡ true) (sym is.1) (right_in row is.0 row.graded is.2);
+  right = subst (λ o. of_all (λ g. of_all (is_right_under row g) o) row.graded ≡ true) (sym is.1)
+      (right_in row is.0 row.graded is.2);
 }

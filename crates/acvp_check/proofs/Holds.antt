@@ -47,7 +47,8 @@ all_both p q [] ep eq = refl
 all_both p q (r ∷ rows) ep eq =
     let here = both (p r) (list_all p rows) ep in
     let there = both (q r) (list_all q rows) eq in
-    joint (p r && q r) (list_all (λ r. p r && q r) rows) (joint (p r) (q r) here.0 there.0) (all_both p q rows here.1 there.1)
+    joint (p r && q r) (list_all (λ r. p r && q r) rows) (joint (p r) (q r) here.0 there.0)
+    (all_both p q rows here.1 there.1)
 
 -- ---- numbers
 

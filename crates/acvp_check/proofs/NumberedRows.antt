@@ -20,17 +20,22 @@ use Rattle.acvp_check.specs.Owners.{is_of, is_in, owner_conditions}
 use Rattle.acvp_check.specs.Rows.{AreNumbered, rows_numbered}
 use Rattle.acvp_check.specs.Whole.{IsWhole}
 use Rattle.acvp_check.proofs.Holds.{all_held, none_broken, none_without}
-use Rattle.acvp_check.proofs.WholeLemmas.{Owned, kept_owned, not_at, numbers_select, owned, owners_hold, owners_unbroken, unbroken}
+use Rattle.acvp_check.proofs.WholeLemmas.{Owned, kept_owned, not_at, numbers_select, owned, owners_hold}
+use Rattle.acvp_check.proofs.WholeLemmas.{owners_unbroken, unbroken}
 
 -- what holds of the rows of each account holds of all, where each is of one
-of_accounts : {R : Type 0} (class : R → ℕ) (p : R → Bool) (rows : List R) → list_all (λ r. is_account_number (class r)) rows ≡ true
-    → ((u : ℕ) → is_account_number u ≡ true → list_all p (filter (λ r. class r == u) rows) ≡ true) → list_all p rows ≡ true
-of_accounts class p rows numbered parts = by_class (λ a b. a == b) class (λ u r. p r) eqb_same rows (λ u. elim (cases_Bool (is_account_number u)) [
-  | inl on ↦ parts u on
-  | inr off ↦
-      let none = none_without (λ r. is_account_number (class r)) (λ r. class r == u) (λ r e. not_at (class r) u e off) rows numbered in
-      subst (λ found. list_all p found ≡ true) (sym none) refl
-])
+of_accounts : {R : Type 0} (class : R → ℕ) (p : R → Bool) (rows : List R)
+    → list_all (λ r. is_account_number (class r)) rows ≡ true
+    → ((u : ℕ) → is_account_number u ≡ true → list_all p (filter (λ r. class r == u) rows) ≡ true)
+    → list_all p rows ≡ true
+of_accounts class p rows numbered parts =
+    by_class (λ a b. a == b) class (λ u r. p r) eqb_same rows (λ u. elim (cases_Bool (is_account_number u)) [
+      | inl on ↦ parts u on
+      | inr off ↦
+          let none = none_without (λ r. is_account_number (class r)) (λ r. class r == u)
+          (λ r e. not_at (class r) u e off) rows numbered in
+          subst (λ found. list_all p found ≡ true) (sym none) refl
+    ])
 
 module _ (c : Content) (numbered : AreNumbered c)
     (none : (u : ℕ) → is_account_number u ≡ true → first_broken (owner_conditions (rows_numbered u c)) ≡ None) where
@@ -41,19 +46,25 @@ module _ (c : Content) (numbered : AreNumbered c)
   unfolding rows_numbered
   all_owned = record {
     accounts = numbered.accounts;
-    sessions = of_accounts (λ (row : SessionRow). owner_of row.number) (λ row. is_of row.account row.number) c.sessions numbered.sessions (λ u on. (own u on).sessions);
-    sets = of_accounts (λ (row : SetRow). owner_of (row.number / 100)) (λ row. is_in row.session row.number) c.sets numbered.sets (λ u on. (own u on).sets);
-    objects = of_accounts (λ (row : ObjectRow). owner_of row.number) (λ row. is_of row.account row.number) c.objects numbered.objects (λ u on. (own u on).objects);
-    requests = of_accounts (λ (row : RequestRow). owner_of row.number) (λ row. is_of row.account row.number) c.requests numbered.requests (λ u on. (own u on).requests);
+    sessions = of_accounts (λ (row : SessionRow). owner_of row.number)
+        (λ row. is_of row.account row.number) c.sessions numbered.sessions (λ u on. (own u on).sessions);
+    sets = of_accounts (λ (row : SetRow). owner_of (row.number / 100))
+        (λ row. is_in row.session row.number) c.sets numbered.sets (λ u on. (own u on).sets);
+    objects = of_accounts (λ (row : ObjectRow). owner_of row.number)
+        (λ row. is_of row.account row.number) c.objects numbered.objects (λ u on. (own u on).objects);
+    requests = of_accounts (λ (row : RequestRow). owner_of row.number)
+        (λ row. is_of row.account row.number) c.requests numbered.requests (λ u on. (own u on).requests);
     reviewers = numbered.reviewers;
   }
 
   pub numbered_whole : (grades : Bool) (seeds : List (List ℕ))
-      → ((u : ℕ) → is_account_number u ≡ true → first_broken (all_conditions grades seeds u (rows_numbered u c)) ≡ None) → IsWhole grades seeds c
+      → ((u : ℕ) → is_account_number u ≡ true → first_broken (all_conditions grades seeds u (rows_numbered u c)) ≡ None)
+      → IsWhole grades seeds c
   numbered_whole grades seeds judged =
       let owners = all_held (owner_conditions c) (owners_hold c all_owned) in record {
         owners = owners;
-        accounts = λ u on. subst (λ mine. first_broken (all_conditions grades seeds u mine) ≡ None) (numbers_select u c owners) (judged u on);
+        accounts = λ u on. subst (λ mine. first_broken (all_conditions grades seeds u mine) ≡ None)
+            (numbers_select u c owners) (judged u on);
       }
 
 module _ (seeds : List (List ℕ)) (c : Content) (is : IsKept seeds c) where
@@ -61,17 +72,25 @@ module _ (seeds : List (List ℕ)) (c : Content) (is : IsKept seeds c) where
   unfolding rows_numbered
   kept_part u =
       let all = kept_owned seeds c is in record {
-        accounts = list_all-filter (λ (row : AccountRow). is_account_number row.number) (λ row. row.number == u) c.accounts all.accounts;
-        sessions = list_all-filter (λ (row : SessionRow). is_of row.account row.number) (λ row. owner_of row.number == u) c.sessions all.sessions;
-        sets = list_all-filter (λ (row : SetRow). is_in row.session row.number) (λ row. owner_of (row.number / 100) == u) c.sets all.sets;
-        objects = list_all-filter (λ (row : ObjectRow). is_of row.account row.number) (λ row. owner_of row.number == u) c.objects all.objects;
-        requests = list_all-filter (λ (row : RequestRow). is_of row.account row.number) (λ row. owner_of row.number == u) c.requests all.requests;
-        reviewers = list_all-filter (λ (row : ReviewerRow). is_account_number (owner_of row.session)) (λ row. owner_of row.session == u) c.reviewers all.reviewers;
+        accounts = list_all-filter (λ (row : AccountRow). is_account_number row.number)
+            (λ row. row.number == u) c.accounts all.accounts;
+        sessions = list_all-filter (λ (row : SessionRow). is_of row.account row.number)
+            (λ row. owner_of row.number == u) c.sessions all.sessions;
+        sets = list_all-filter (λ (row : SetRow). is_in row.session row.number)
+            (λ row. owner_of (row.number / 100) == u) c.sets all.sets;
+        objects = list_all-filter (λ (row : ObjectRow). is_of row.account row.number)
+            (λ row. owner_of row.number == u) c.objects all.objects;
+        requests = list_all-filter (λ (row : RequestRow). is_of row.account row.number)
+            (λ row. owner_of row.number == u) c.requests all.requests;
+        reviewers = list_all-filter (λ (row : ReviewerRow). is_account_number (owner_of row.session))
+            (λ row. owner_of row.session == u) c.reviewers all.reviewers;
       }
 
   pub part_unbroken : (u : ℕ) → first_broken (owner_conditions (rows_numbered u c)) ≡ None
   part_unbroken u = all_held (owner_conditions (rows_numbered u c)) (owners_hold (rows_numbered u c) (kept_part u))
 
-  pub account_unbroken : (grades : Bool) (u : ℕ) → first_broken (all_conditions grades seeds u (rows_numbered u c)) ≡ None
+  pub account_unbroken : (grades : Bool) (u : ℕ) → first_broken (all_conditions grades seeds u (rows_numbered u c))
+      ≡ None
   account_unbroken grades u =
-      subst (λ mine. first_broken (all_conditions grades seeds u mine) ≡ None) (sym (numbers_select u c (owners_unbroken seeds c is))) (unbroken seeds c is grades u)
+      subst (λ mine. first_broken (all_conditions grades seeds u mine) ≡ None)
+      (sym (numbers_select u c (owners_unbroken seeds c is))) (unbroken seeds c is grades u)

@@ -11,14 +11,16 @@ use Rattle.sqlite.specs.Files.{file_state}
 use Rattle.sqlite.specs.Held.{Held}
 use Rattle.acvp_commands.specs.Reopened.{FindsClosed}
 
-module _ {D E : Type 0} {g : Ghosts D} {h : Ghosts E} (before : Held (FileStore D g)) (connection : Held (FileStore E h)) (finds : FindsClosed before connection) where
+module _ {D E : Type 0} {g : Ghosts D} {h : Ghosts E} (before : Held (FileStore D g))
+    (connection : Held (FileStore E h)) (finds : FindsClosed before connection) where
   pub was_open : IsTrue (file_state before).is_open
   was_open = finds.copied.was_open
 
   -- the image that was opened holds what was committed
   holds : HoldsAlone finds.image (file_state before).committed.trees
   holds = elim finds.left [
-    | inl same ↦ subst (λ (image : Image). HoldsAlone image (file_state before).committed.trees) (sym same) finds.copied.seen
+    | inl same ↦ subst (λ (image : Image). HoldsAlone image (file_state before).committed.trees)
+        (sym same) finds.copied.seen
     | inr crashed ↦ finds.copied.left finds.image crashed
   ]
 

@@ -29,15 +29,20 @@ use Rattle.acvp_commands.proofs.VisitLemmas.{through_open}
 
 module _ {D : Type 0} {g : Ghosts D} where
   -- tables that were taken over, and looked at or not, are open while the disk is clean
-  opens : (connection tables opened : Held (FileStore D g)) → IsTaken over_files connection tables → AreLooked tables opened
+  opens : (connection tables opened : Held (FileStore D g)) → IsTaken over_files connection tables
+      → AreLooked tables opened
       → HasCleanDisk (file_state opened) → IsTrue (file_state opened).is_open
   opens connection tables opened taken (inl same) clean =
       let clean_before = subst (λ (t : Held (FileStore D g)). HasCleanDisk (file_state t)) same clean in
-      subst (λ (t : Held (FileStore D g)). IsTrue (file_state t).is_open) (sym same) (taken.stays_open clean_before).1.is_open
-  opens connection tables opened taken (inr looked) clean = looked.stays_open clean (taken.stays_open (looked.was_clean clean)).1.is_open
+      subst (λ (t : Held (FileStore D g)). IsTrue (file_state t).is_open) (sym same)
+      (taken.stays_open clean_before).1.is_open
+  opens connection tables opened taken (inr looked) clean =
+      looked.stays_open clean (taken.stays_open (looked.was_clean clean)).1.is_open
 
-  over : (run : Run) (connection tables opened back : Held (FileStore D g)) → IsTaken over_files connection tables → AreLooked tables opened
-      → GoesThrough (meaning_of over_files) run.keys run.turns run.answers opened back → All (λ (turn : Turn). CanHappen turn.event) run.turns
+  over : (run : Run) (connection tables opened back : Held (FileStore D g)) → IsTaken over_files connection tables
+      → AreLooked tables opened
+      → GoesThrough (meaning_of over_files) run.keys run.turns run.answers opened back
+      → All (λ (turn : Turn). CanHappen turn.event) run.turns
       → HasCleanDisk (file_state back) → RunsOver run connection back
   over run connection tables opened back taken looks goes happen clean = record {
     tables = tables;
@@ -49,38 +54,60 @@ module _ {D : Type 0} {g : Ghosts D} where
     goes = record { goes = goes; clean = clean; happen = happen };
   }
 
-module _ {D H P I O A : Type 0} {g : Ghosts D} (hosting : Hosting H P) (listening : Listening P I O A) (held : I → InputStream)
+module _ {D H P I O A : Type 0} {g : Ghosts D} (hosting : Hosting H P) (listening : Listening P I O A)
+    (held : I → InputStream)
     (sent : O → OutputStream) where
   -- what was served of a port is turns
   abbrev Went : Keys → Held (FileStore D g) → Held (FileStore D g) → Type 0
-  Went keys old new = (turns : List Turn) × (answers : List EventAnswer) × GoesThrough (meaning_of over_files) keys turns answers old new
+  Went keys old new = (turns : List Turn) × (answers : List EventAnswer)
+      × GoesThrough (meaning_of over_files) keys turns answers old new
       × All (λ (turn : Turn). CanHappen turn.event) turns
 
   went_nowhere : (keys : Keys) (old new : Held (FileStore D g)) → new ≡ old → Went keys old new
   went_nowhere keys old new same = ([], [], same, All-nil (λ (turn : Turn). CanHappen turn.event))
 
-  served : (keys : Keys) (service : Service) (first last : H) (old new : Held (FileStore D g)) (outcome : Result Message Fault)
-      → IsServed (meaning_of over_files) hosting listening held sent keys service first last old new outcome → Went keys old new
+  served : (keys : Keys) (service : Service) (first last : H) (old new : Held (FileStore D g))
+      (outcome : Result Message Fault)
+      → IsServed (meaning_of over_files) hosting listening held sent keys service first last old new outcome
+      → Went keys old new
   served keys service first last old new outcome (inr (same, why)) = went_nowhere keys old new same
-  served keys service first last old new (Ok message) (inl (opened, told, before, after, ended, opens, (prints, (count, (visits, serving, on, counted, is), line)), finishes)) =
+  served keys service first last old new (Ok message)
+      (inl (
+        opened,
+        told,
+        before,
+        after,
+        ended,
+        opens,
+        (prints, (count, (visits, serving, on, counted, is), line)),
+        finishes,
+      )) =
       (turns_of visits, answers_of visits, serving.goes, serving.happen)
-  served keys service first last old new (Err fault) (inl (opened, told, before, after, ended, opens, inl (fails, stays, same), finishes)) =
+  served keys service first last old new (Err fault)
+      (inl (opened, told, before, after, ended, opens, inl (fails, stays, same), finishes)) =
       went_nowhere keys old new same
-  served keys service first last old new (Err fault) (inl (opened, told, before, after, ended, opens, inr (prints, (visits, mid, serving, ends)), finishes)) =
+  served keys service first last old new (Err fault)
+      (inl (opened, told, before, after, ended, opens, inr (prints, (visits, mid, serving, ends)), finishes)) =
       (turns_of visits, answers_of visits, serving.goes, serving.happen)
 
-  module _ (as_turns : (keys : Keys) (moment : ℕ) (it : Order) (reply : OrderReply) (old new : Held (FileStore D g)) → CanHappen (order moment it)
+  module _ (as_turns : (keys : Keys) (moment : ℕ) (it : Order) (reply : OrderReply) (old new : Held (FileStore D g))
+      → CanHappen (order moment it)
       → Orders (meaning_of over_files) reply old new it
-      → (unavailable : Bool) × HandlesTurn (meaning_of over_files) keys (record { event = order moment it; unavailable = unavailable }) (ordered reply) old new) where
+      → (unavailable : Bool) × HandlesTurn (meaning_of over_files) keys
+      (record { event = order moment it; unavailable = unavailable }) (ordered reply) old new) where
     abbrev Began : Keys → Bool → Task → Held (FileStore D g) → Held (FileStore D g) → Type 0
     Began keys closed it connection back =
         (run : Run) × (run.keys ≡ keys_of_task keys it) × (run.closed ≡ closed) × RunsOver run connection back
 
-    pub task_runs : (keys : Keys) (moment : ℕ) (closed : Bool) (it : Task) (first last : H) (connection back : Held (FileStore D g)) (outcome : Result Message Fault)
-        → CanBeDone moment it → IsTakenOver over_files hosting listening held sent it first last connection back outcome → HasCleanDisk (file_state back)
+    pub task_runs : (keys : Keys) (moment : ℕ) (closed : Bool) (it : Task) (first last : H)
+        (connection back : Held (FileStore D g)) (outcome : Result Message Fault)
+        → CanBeDone moment it → IsTakenOver over_files hosting listening held sent it first last connection back outcome
+        → HasCleanDisk (file_state back)
         → IsNotBegun it connection back outcome ⊎ Began keys closed it connection back
-    task_runs keys moment closed it first last connection back outcome can (inr (fault, refused, is, same)) clean = inl (fault, is, inl refused)
-    task_runs keys moment closed (task.Order it) first last connection back outcome can (inl (tables, taken, ((reply, done, told), same))) clean =
+    task_runs keys moment closed it first last connection back outcome can (inr (fault, refused, is, same)) clean =
+        inl (fault, is, inl refused)
+    task_runs keys moment closed (task.Order it) first last connection back outcome can
+        (inl (tables, taken, ((reply, done, told), same))) clean =
         let (unavailable, handled) = as_turns keys moment it reply tables back can done in
         let turn : Turn = record { event = order moment it; unavailable = unavailable } in
         let run : Run = record { keys = keys; turns = turn ∷ []; answers = ordered reply ∷ []; closed = closed } in
@@ -89,11 +116,14 @@ module _ {D H P I O A : Type 0} {g : Ghosts D} (hosting : Hosting H P) (listenin
           refl,
           refl,
           over run connection tables tables back taken (inl refl) (back, handled, refl)
-              (All-cons (λ (turn : Turn). CanHappen turn.event) turn [] can (All-nil (λ (turn : Turn). CanHappen turn.event))) clean,
+              (All-cons (λ (turn : Turn). CanHappen turn.event) turn [] can
+              (All-nil (λ (turn : Turn). CanHappen turn.event))) clean,
         )
-    task_runs keys moment closed (task.Serve own service) first last connection back outcome can (inl (tables, taken, inr (fault, none, is, same))) clean =
+    task_runs keys moment closed (task.Serve own service) first last connection back outcome can
+        (inl (tables, taken, inr (fault, none, is, same))) clean =
         inl (fault, is, inr (tables, taken, none))
-    task_runs keys moment closed (task.Serve own service) first last connection back outcome can (inl (tables, taken, inl (mid, looks, serves))) clean =
+    task_runs keys moment closed (task.Serve own service) first last connection back outcome can
+        (inl (tables, taken, inl (mid, looks, serves))) clean =
         let (turns, answers, goes, happen) = served own service first last mid back outcome serves in
         let run : Run = record { keys = own; turns = turns; answers = answers; closed = closed } in
         inr (run, refl, refl, over run connection tables mid back taken (inr looks) goes happen clean)

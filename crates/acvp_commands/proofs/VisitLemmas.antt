@@ -1,5 +1,6 @@
 -- Lemmas on what arrives and is served, one after another.
-use Rattle.std.proofs.Common.{◌≡◌, ◌⊎◌, ◌+◌, ◌-◌, ◌^◌, ◌≤◌, Option, Some, ℕ, Bool, true, false, List, [], ◌∷◌, ◌++◌, length, Result, Ok, Err, None, inl, inr, refl, ap, arith, ◌∙◌, sym, subst, length-append}
+use Rattle.std.proofs.Common.{◌≡◌, ◌⊎◌, ◌+◌, ◌-◌, ◌^◌, ◌≤◌, Option, Some, ℕ, Bool, true, false, List, [], ◌∷◌, ◌++◌}
+use Rattle.std.proofs.Common.{length, Result, Ok, Err, None, inl, inr, refl, ap, arith, ◌∙◌, sym, subst, length-append}
 use Rattle.std.specs.Prelude.{if◌then◌else◌}
 use Rattle.std.specs.List.{All}
 use Rattle.std.proofs.lemmas.List.{append-nil}
@@ -15,7 +16,9 @@ use Rattle.acvp_http.specs.Serve.{GoesThrough, LeavesShut}
 use Rattle.acvp_http.specs.Source.{Gets, GetsFront, InputStream, OutputStream}
 use Rattle.acvp_http.specs.declared.connection.ServeFault.{ServeFault}
 use Rattle.acvp_http.specs.declared.connection.ServeFault.TheVariants.{Read, Write, Turns}
-use Rattle.acvp_commands.specs.Listening.{Came, GoesOn, IsRequestOf, IsServing, IsShutBehind, Listening, Look, LooksBehind, ServesAll, ServesUntil, ServesVisit, Visit, answers_of, connections, look_answers, look_turn, look_turns, turns_of}
+use Rattle.acvp_commands.specs.Listening.{Came, GoesOn, IsRequestOf, IsServing, IsShutBehind, Listening, Look}
+use Rattle.acvp_commands.specs.Listening.{LooksBehind, ServesAll, ServesUntil, ServesVisit, Visit, answers_of}
+use Rattle.acvp_commands.specs.Listening.{connections, look_answers, look_turn, look_turns, turns_of}
 use Rattle.acvp_commands.specs.declared.fault.Fault.{Fault}
 use Rattle.acvp_commands.specs.declared.fault.Fault.TheVariants.{Accept, Limit, Unavailable}
 
@@ -108,7 +111,8 @@ module _ {T : Type 0} (meaning : Meaning T) (keys : Keys) (moment : ℕ) (input 
 
     pub came_to : (result : Result Bool ServeFault)
         → ServesOne meaning keys moment input left written out old new result → CameTo
-    came_to (Ok unavailable) (reply, answers, gets, told) = came_to_one reply answers (reply, [], sym (append-nil reply), gets)
+    came_to (Ok unavailable) (reply, answers, gets, told) =
+        came_to_one reply answers (reply, [], sym (append-nil reply), gets)
     came_to (Err Write) (reply, answers, gets) = came_to_one reply answers gets
     came_to (Err Read) unhandled = came_to_nothing unhandled.1 (inl unhandled.2)
     came_to (Err Turns) unhandled = came_to_nothing unhandled.0.1 (inl unhandled.0.2)
@@ -147,7 +151,8 @@ module _ {T L I O A : Type 0} (meaning : Meaning T) (listening : Listening L I O
     on = All-nil GoesOn;
   }
 
-  all_more : (keys : Keys) (visits : List Visit) (visit : Visit) (before : L) (old : T) (mid : L) (tables : T) (after : L)
+  all_more : (keys : Keys) (visits : List Visit) (visit : Visit) (before : L) (old : T) (mid : L) (tables : T)
+      (after : L)
       (new : T) → ServesAll meaning listening held sent keys visits before old mid tables
       → ServesVisit meaning listening held sent keys visit mid tables after new
       → ServesAll meaning listening held sent keys (visits ++ visit ∷ []) before old after new
@@ -171,22 +176,26 @@ module _ {T L I O A : Type 0} (meaning : Meaning T) (listening : Listening L I O
   }
 
   -- the turns of an arrival and of the look behind it
-  looks_go : (keys : Keys) (look : Option Look) (old new : T) → LooksBehind meaning listening held sent keys look old new
+  looks_go : (keys : Keys) (look : Option Look) (old new : T)
+      → LooksBehind meaning listening held sent keys look old new
       → GoesThrough meaning keys (look_turns look) (look_answers look) old new
   looks_go keys None old new same = same
   looks_go keys (Some look) old new handled = (new, handled, refl)
 
   visit_goes : (keys : Keys) (visit : Visit) (before : L) (old : T) (after : L) (new : T)
       → ServesVisit meaning listening held sent keys visit before old after new
-      → GoesThrough meaning keys (visit.came.turns ++ look_turns visit.look) (visit.came.answers ++ look_answers visit.look) old new
+      → GoesThrough meaning keys (visit.came.turns ++ look_turns visit.look)
+      (visit.came.answers ++ look_answers visit.look) old new
   visit_goes keys visit before old after new (mid, h, looks) =
-      through_both meaning keys visit.came.turns (look_turns visit.look) visit.came.answers (look_answers visit.look) old mid new h.goes
+      through_both meaning keys visit.came.turns (look_turns visit.look) visit.came.answers
+      (look_answers visit.look) old mid new h.goes
       (looks_go keys visit.look mid new looks)
 
   look_happens : (look : Option Look) → All (λ (turn : Turn). CanHappen turn.event) (look_turns look)
   look_happens None = All-nil (λ (turn : Turn). CanHappen turn.event)
   look_happens (Some look) =
-      All-cons (λ (turn : Turn). CanHappen turn.event) (look_turn look) [] (tt, tt) (All-nil (λ (turn : Turn). CanHappen turn.event))
+      All-cons (λ (turn : Turn). CanHappen turn.event) (look_turn look) [] (tt, tt)
+      (All-nil (λ (turn : Turn). CanHappen turn.event))
 
   -- the turns of all of them
   pub all_go : (keys : Keys) (visits : List Visit) (before : L) (old : T) (after : L) (new : T)
@@ -224,9 +233,11 @@ module _ {T L I O A : Type 0} (meaning : Meaning T) (listening : Listening L I O
   pub served_open : (keys : Keys) (arrived served : ℕ) (before : L) (old : T) (after : L) (new : T)
       → Served keys arrived served before old after new → (is_open new → is_open old) × (is_clean new → is_clean old)
   served_open keys arrived served before old after new s =
-      through_open meaning keys (turns_of s.visits) (answers_of s.visits) old new (all_go keys s.visits before old after new s.all)
+      through_open meaning keys (turns_of s.visits) (answers_of s.visits) old new
+      (all_go keys s.visits before old after new s.all)
 
-  module _ (promising : (keys : Keys) (turns : List Turn) (answers : List EventAnswer) (old new : T) → 1 ≤ length keys.seed
+  module _ (promising : (keys : Keys) (turns : List Turn) (answers : List EventAnswer) (old new : T)
+      → 1 ≤ length keys.seed
       → All (λ (turn : Turn). CanHappen turn.event) turns → GoesThrough meaning keys turns answers old new
       → GoesAsPromised meaning keys turns answers old new)
       (leaving : (keys : Keys) (turns : List Turn) (answers : List EventAnswer) (old new : T)
@@ -253,14 +264,16 @@ module _ {T L I O A : Type 0} (meaning : Meaning T) (listening : Listening L I O
         (s.visits, is_serving s.visits before old after new s.all, s.on, s.count, so)
 
     -- nothing can be taken
-    pub until_stopped : (count : Option ℕ) (arrived served : ℕ) (before : L) (old : T) (mid after : L) (new last : T) (fault : Fault)
+    pub until_stopped : (count : Option ℕ) (arrived served : ℕ) (before : L) (old : T) (mid after : L) (new last : T)
+        (fault : Fault)
         → Served keys arrived served before old mid new → last ≡ new → fault ≡ Accept → listening.stops mid after
         → ServesUntil meaning listening held sent keys count before old after last (Err fault)
     until_stopped count arrived served before old mid after new last fault s same accept stops =
         rw same (s.visits, mid, is_serving s.visits before old mid new s.all, inl (accept, s.on, stops))
 
     -- the store doesn't answer behind one more
-    pub until_shut : (now : Keys) (count : Option ℕ) (arrived served : ℕ) (visit : Visit) (before : L) (old : T) (mid after : L)
+    pub until_shut : (now : Keys) (count : Option ℕ) (arrived served : ℕ) (visit : Visit) (before : L) (old : T)
+        (mid after : L)
         (tables new : T) (fault : Fault) → Served keys arrived served before old mid tables → now ≡ keys
         → ServesVisit meaning listening held sent now visit mid tables after new → IsShutBehind visit
         → fault ≡ Unavailable → ServesUntil meaning listening held sent keys count before old after new (Err fault)
@@ -279,8 +292,10 @@ module _ {T L I O A : Type 0} (meaning : Meaning T) (listening : Listening L I O
     until_ended now count arrived served before old mid after desk last fault s same (inl (accept, stops, still)) =
         until_stopped count arrived served before old mid after desk.tables last.tables fault s
         (ap (λ (d : DeskValue T). d.tables) still) accept stops
-    until_ended now count arrived served before old mid after desk last fault s same (inr (unavailable, (visit, shut, serves))) =
-        until_shut now count arrived served visit before old mid after desk.tables last.tables fault s same serves shut unavailable
+    until_ended now count arrived served before old mid after desk last fault s same
+        (inr (unavailable, (visit, shut, serves))) =
+        until_shut now count arrived served visit before old mid after desk.tables last.tables fault s same serves shut
+        unavailable
 
     -- as much arrived as one run takes
     pub until_limit : (count : Option ℕ) (arrived served : ℕ) (before : L) (old : T) (after : L) (new : T)
@@ -290,7 +305,8 @@ module _ {T L I O A : Type 0} (meaning : Meaning T) (listening : Listening L I O
         (s.visits, after, is_serving s.visits before old after new s.all, inr (inl (refl, s.on, refl, s.size ∙ so)))
 
   -- tables that are open, or clean, behind one more, were so before
-  pub shut_open : (keys now : Keys) (arrived served : ℕ) (visit : Visit) (before : L) (old : T) (mid after : L) (tables new : T)
+  pub shut_open : (keys now : Keys) (arrived served : ℕ) (visit : Visit) (before : L) (old : T) (mid after : L)
+      (tables new : T)
       → Served keys arrived served before old mid tables
       → ServesVisit meaning listening held sent now visit mid tables after new
       → (is_open new → is_open old) × (is_clean new → is_clean old)
@@ -300,7 +316,8 @@ module _ {T L I O A : Type 0} (meaning : Meaning T) (listening : Listening L I O
       (visit.came.answers ++ look_answers visit.look) tables new (visit_goes now visit mid tables after new last) in
       ((λ live. opens (opened live)), (λ clean. cleans (cleaned clean)))
 
-  pub ended_open : (keys now : Keys) (arrived served : ℕ) (before : L) (old : T) (mid after : L) (desk last : DeskValue T)
+  pub ended_open : (keys now : Keys) (arrived served : ℕ) (before : L) (old : T) (mid after : L)
+      (desk last : DeskValue T)
       (fault : Fault) → Served keys arrived served before old mid desk.tables → EndsNext now mid after desk last fault
       → (is_open last.tables → is_open old) × (is_clean last.tables → is_clean old)
   ended_open keys now arrived served before old mid after desk last fault s (inl (accept, stops, still)) =

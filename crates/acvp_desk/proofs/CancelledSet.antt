@@ -1,6 +1,7 @@
 -- A vector set that is cancelled: its number is of its session, and what is told of the session's counters is so after
 -- it.
-use Rattle.std.proofs.Common.{◌≡◌, ℕ, suc, ◌/◌, List, [], ◌∷◌, map, length, filter, Bool, true, false, ◌&&◌, ◌==◌, Option, None, Some, refl, sym, ap, arith}
+use Rattle.std.proofs.Common.{◌≡◌, ℕ, suc, ◌/◌, List, [], ◌∷◌, map, length, filter, Bool, true, false, ◌&&◌, ◌==◌}
+use Rattle.std.proofs.Common.{Option, None, Some, refl, sym, ap, arith}
 use Rattle.std.specs.Prelude.{IfSome, is_some, option_map, option_and_then, if◌then◌else◌}
 use Rattle.std.specs.List.{All}
 use Rattle.std.proofs.lemmas.Bool.Decides.{nat_tests}
@@ -23,8 +24,10 @@ use Rattle.acvp_desk.proofs.PassedSession.{graded_passes}
 -- ---- the number
 
 -- a set that is found in a session has a number of it
-pub number_fits : (named : (n : ℕ) (state : State) (row : SetRecord) → IsWellNumbered state → set_record_at n state.sets ≡ Some row → row.session ≡ n / 100)
-    → (facts : Option SessionFacts) (session n : ℕ) (state : State) → IsWellNumbered state → is_some (set_facts facts session n state.sets) ≡ true → (n / 100) ≡ session
+pub number_fits : (named : (n : ℕ) (state : State) (row : SetRecord) → IsWellNumbered state
+    → set_record_at n state.sets ≡ Some row → row.session ≡ n / 100)
+    → (facts : Option SessionFacts) (session n : ℕ) (state : State) → IsWellNumbered state
+    → is_some (set_facts facts session n state.sets) ≡ true → (n / 100) ≡ session
 unfolding set_facts
 number_fits named None session n state well there = absurd (cc)
 number_fits named (Some facts) session n state well there = go (set_record_at n state.sets) refl there
@@ -34,7 +37,8 @@ number_fits named (Some facts) session n state well there = go (set_record_at n 
     at row of true same there = grind (arith, nat_tests, of, same)
     at row of false same there = absurd (cc)
 
-    go : (found : Option SetRecord) → set_record_at n state.sets ≡ found → is_some (option_map (facts_of_set facts) (option_and_then (if_in_session session) found)) ≡ true
+    go : (found : Option SetRecord) → set_record_at n state.sets ≡ found
+        → is_some (option_map (facts_of_set facts) (option_and_then (if_in_session session) found)) ≡ true
         → (n / 100) ≡ session
     go None is there = absurd (cc)
     go (Some row) is there = at row (named n state row well is) (row.session == session) refl there
@@ -46,13 +50,18 @@ abbrev outcomes : List (List ℕ) → ℕ → List SetRow → List SetOutcome
 outcomes seeds session sets = map (set_outcome seeds) (map set_record (live_sets session sets))
 
 live_left : (seeds : List (List ℕ)) (session n : ℕ) (sets : List SetRow)
-    → length (filter (is_other n) (outcomes seeds session sets)) ≡ live_count session (changed (is_set n) with_cancelled sets)
+    → length (filter (is_other n) (outcomes seeds session sets))
+    ≡ live_count session (changed (is_set n) with_cancelled sets)
 live_left seeds session n [] = refl
-live_left seeds session n (row ∷ sets) = go (row.session == session) (row.cancelled) (row.number == n) refl refl refl (live_left seeds session n sets)
+live_left seeds session n (row ∷ sets) = go (row.session == session) (row.cancelled) (row.number == n) refl refl refl
+    (live_left seeds session n sets)
   where
-    go : (of cancelled same : Bool) → (row.session == session) ≡ of → row.cancelled ≡ cancelled → (row.number == n) ≡ same
-        → length (filter (is_other n) (outcomes seeds session sets)) ≡ live_count session (changed (is_set n) with_cancelled sets)
-        → length (filter (is_other n) (outcomes seeds session (row ∷ sets))) ≡ live_count session (changed (is_set n) with_cancelled (row ∷ sets))
+    go : (of cancelled same : Bool) → (row.session == session) ≡ of → row.cancelled ≡ cancelled
+        → (row.number == n) ≡ same
+        → length (filter (is_other n) (outcomes seeds session sets))
+        ≡ live_count session (changed (is_set n) with_cancelled sets)
+        → length (filter (is_other n) (outcomes seeds session (row ∷ sets)))
+        ≡ live_count session (changed (is_set n) with_cancelled (row ∷ sets))
     go true false true a b c later = rw (a, b, c, a) later
     go true false false a b c later = rw (a, b, c, a) (ap (λ k. suc k) later)
     go true true true a b c later = rw (a, b, c, a) later
@@ -61,17 +70,21 @@ live_left seeds session n (row ∷ sets) = go (row.session == session) (row.canc
     go false cancelled false a b c later = rw (a, c, a) later
 
 passed_left : (seeds : List (List ℕ)) (session n : ℕ) (sets : List SetRow) → All (IsGradedSet seeds) sets
-    → length (filter (λ set. is_other n set && outcome_passed set) (outcomes seeds session sets)) ≡ passed_count session (changed (is_set n) with_cancelled sets)
+    → length (filter (λ set. is_other n set && outcome_passed set) (outcomes seeds session sets))
+    ≡ passed_count session (changed (is_set n) with_cancelled sets)
 passed_left seeds session n [] graded = refl
 passed_left seeds session n (row ∷ sets) graded =
     go (is_live_in session row) (row.number == n) (row.session == session) (grades_pass row.graded) refl refl refl refl
     (sym (graded_passes seeds row (All-head (IsGradedSet seeds) row sets graded)))
     (passed_left seeds session n sets (All-tail (IsGradedSet seeds) row sets graded))
   where
-    go : (live same of passes : Bool) → is_live_in session row ≡ live → (row.number == n) ≡ same → (row.session == session) ≡ of → grades_pass row.graded ≡ passes
+    go : (live same of passes : Bool) → is_live_in session row ≡ live → (row.number == n) ≡ same
+        → (row.session == session) ≡ of → grades_pass row.graded ≡ passes
         → set_passes seeds (set_record row) ≡ grades_pass row.graded
-        → length (filter (λ set. is_other n set && outcome_passed set) (outcomes seeds session sets)) ≡ passed_count session (changed (is_set n) with_cancelled sets)
-        → length (filter (λ set. is_other n set && outcome_passed set) (outcomes seeds session (row ∷ sets))) ≡ passed_count session (changed (is_set n) with_cancelled (row ∷ sets))
+        → length (filter (λ set. is_other n set && outcome_passed set) (outcomes seeds session sets))
+        ≡ passed_count session (changed (is_set n) with_cancelled sets)
+        → length (filter (λ set. is_other n set && outcome_passed set) (outcomes seeds session (row ∷ sets)))
+        ≡ passed_count session (changed (is_set n) with_cancelled (row ∷ sets))
     go true true true passes a b c d e later = rw (a, b, c) later
     go true true false passes a b c d e later = rw (a, b, c) later
     go true false of true a b c d e later = rw (a, b, a, e, d) (ap (λ k. suc k) later)
@@ -88,14 +101,18 @@ next_count live seeds session n c kept =
     rw (live session c) (live_left seeds session n c.sets, passed_left seeds session n c.sets kept.graded)
 
 -- and what is kept of answers stays right
-pub graded_stay : (seeds : List (List ℕ)) (n : ℕ) (sets : List SetRow) → All (IsGradedSet seeds) sets → All (IsGradedSet seeds) (changed (is_set n) with_cancelled sets)
+pub graded_stay : (seeds : List (List ℕ)) (n : ℕ) (sets : List SetRow) → All (IsGradedSet seeds) sets
+    → All (IsGradedSet seeds) (changed (is_set n) with_cancelled sets)
 unfolding IsGradedSet
 graded_stay seeds n [] graded = All-nil (IsGradedSet seeds)
 graded_stay seeds n (row ∷ sets) graded =
-    All-cons (IsGradedSet seeds) (if is_set n row then with_cancelled row else row) (changed (is_set n) with_cancelled sets)
-    (go (is_set n row) (All-head (IsGradedSet seeds) row sets graded)) (graded_stay seeds n sets (All-tail (IsGradedSet seeds) row sets graded))
+    All-cons (IsGradedSet seeds) (if is_set n row then with_cancelled row else row)
+    (changed (is_set n) with_cancelled sets)
+    (go (is_set n row) (All-head (IsGradedSet seeds) row sets graded))
+    (graded_stay seeds n sets (All-tail (IsGradedSet seeds) row sets graded))
   where
-    rightly : (seed : List ℕ) (graded : Option GradedValue) → IfSome graded (IsRightly seed row) → IfSome graded (IsRightly seed (with_cancelled row))
+    rightly : (seed : List ℕ) (graded : Option GradedValue) → IfSome graded (IsRightly seed row)
+        → IfSome graded (IsRightly seed (with_cancelled row))
     rightly seed None right = tt
     rightly seed (Some g) right = record { verdicts = right.verdicts; disposition = right.disposition }
 

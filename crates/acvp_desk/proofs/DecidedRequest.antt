@@ -1,5 +1,6 @@
 -- A request that is decided is next: it waits, and its number is its account's next of the kind.
-use Rattle.std.proofs.Common.{◌≡◌, ◌≢◌, ◌∙◌, ℕ, suc, ◌+◌, ◌≤◌, List, [], ◌∷◌, length, filter, Bool, true, false, Option, None, Some, refl, sym, ap, arith}
+use Rattle.std.proofs.Common.{◌≡◌, ◌≢◌, ◌∙◌, ℕ, suc, ◌+◌, ◌≤◌, List, [], ◌∷◌, length, filter, Bool, true, false, Option}
+use Rattle.std.proofs.Common.{None, Some, refl, sym, ap, arith}
 use Rattle.std.proofs.lemmas.Bool.Decides.{nat_tests}
 use Rattle.std.specs.Prelude.{◌==◌, ◌&&◌, not, find, is_some, option_and_then, if◌then◌else◌}
 use Rattle.std.specs.List.{list_all}
@@ -9,7 +10,8 @@ use Rattle.acvp_registry.specs.declared.kind.Kind.TheVariants.{Vendor, Module, E
 use Rattle.acvp_tables.specs.Content.{Content, count_of as rows_of, counts_of, objects_of, request_at, purpose_of}
 use Rattle.acvp_tables.specs.declared.summary.Counted.TheVariants.{Objects}
 use Rattle.acvp_tables.specs.Next.{IsNextApproved, IsNextOrderFor, IsWaiting}
-use Rattle.acvp_tables.specs.State.{State, own, owner_of, first_of_account, has_registered, has_vendor, is_sound_body, objects_in, record_counts, state_of, IsWellNumbered}
+use Rattle.acvp_tables.specs.State.{State, own, owner_of, first_of_account, has_registered, has_vendor, is_sound_body}
+use Rattle.acvp_tables.specs.State.{objects_in, record_counts, state_of, IsWellNumbered}
 use Rattle.acvp_tables.specs.declared.change.OrderChange.TheVariants as order_change
 use Rattle.acvp_tables.specs.declared.rows.RequestBody.{RequestBody}
 use Rattle.acvp_tables.specs.declared.rows.RequestBody.TheVariants as body
@@ -19,22 +21,27 @@ use Rattle.acvp_tables.specs.declared.rows.RequestStatus.TheVariants as status
 use Rattle.acvp_desk.specs.Orders.{approved_as, approved_number, count_of_kind, if_initial, is_initial, waiting_request}
 
 -- what is found among rows that pass a test passes it
-pub found_passes : {X : Type 0} (p q : X → Bool) (xs : List X) (x : X) → find p xs ≡ Some x → list_all q xs ≡ true → q x ≡ true
+pub found_passes : {X : Type 0} (p q : X → Bool) (xs : List X) (x : X) → find p xs ≡ Some x → list_all q xs ≡ true
+    → q x ≡ true
 found_passes p q [] x is all = absurd (cc)
 found_passes {X = X} p q (y ∷ xs) x is all = go (p y) refl (q y) refl is (found_passes p q xs x)
   where
-    go : (a : Bool) → p y ≡ a → (b : Bool) → q y ≡ b → (if a then Some y else find p xs) ≡ Some x → (find p xs ≡ Some x → list_all q xs ≡ true → q x ≡ true) → q x ≡ true
+    go : (a : Bool) → p y ≡ a → (b : Bool) → q y ≡ b → (if a then Some y else find p xs) ≡ Some x
+        → (find p xs ≡ Some x → list_all q xs ≡ true → q x ≡ true) → q x ≡ true
     go a e false f is later = absurd (let all = rw f at all in cc)
     go true e true f is later = let same : y ≡ x = cc in rw (← same) f
     go false e true f is later = later is (rw f at all)
 
 -- a request that is kept registers no certification
-no_certification : (vendor : Bool) (object : KeptObject) → object.kind ≡ Certification → (not (is_some (object_fault object.kind object.value)) && vendor) ≡ true → ⊥
+no_certification : (vendor : Bool) (object : KeptObject) → object.kind ≡ Certification
+    → (not (is_some (object_fault object.kind object.value)) && vendor) ≡ true → ⊥
 unfolding object_fault is_fit
 no_certification vendor object is sound = absurd (let sound = rw is at sound in cc)
 
-counted : (objects : (u : ℕ) (kind : Kind) (state : State) → objects_in kind (own u state).objects ≡ objects_of kind u state.objects)
-    → (state : State) (u : ℕ) (kind : Kind) → (kind ≡ Certification → ⊥) → count_of_kind kind (record_counts u state) ≡ length (objects_in kind (own u state).objects)
+counted : (objects : (u : ℕ) (kind : Kind) (state : State)
+    → objects_in kind (own u state).objects ≡ objects_of kind u state.objects)
+    → (state : State) (u : ℕ) (kind : Kind) → (kind ≡ Certification → ⊥)
+    → count_of_kind kind (record_counts u state) ≡ length (objects_in kind (own u state).objects)
 counted objects state u Vendor other = ap length (sym (objects u Vendor state))
 counted objects state u Module other = ap length (sym (objects u Module state))
 counted objects state u Environment other = ap length (sym (objects u Environment state))
@@ -44,13 +51,16 @@ few_pass : {X : Type 0} (p : X → Bool) (xs : List X) → length (filter p xs) 
 few_pass p [] = omega arith
 few_pass p (x ∷ xs) = go (p x) (few_pass p xs)
   where
-    go : (b : Bool) → length (filter p xs) ≤ length xs → length (if b then x ∷ filter p xs else filter p xs) ≤ suc (length xs)
+    go : (b : Bool) → length (filter p xs) ≤ length xs
+        → length (if b then x ∷ filter p xs else filter p xs) ≤ suc (length xs)
     go true few = omega (arith, few)
     go false few = omega (arith, few)
 
 -- in sound records an account has at most 999999 objects of a kind
-pub few_of_kind : (objects : (u : ℕ) (kind : Kind) (state : State) → objects_in kind (own u state).objects ≡ objects_of kind u state.objects)
-    → (state : State) → IsWellNumbered state → (u : ℕ) (kind : Kind) → count_of_kind kind (record_counts u state) ≤ 999999
+pub few_of_kind : (objects : (u : ℕ) (kind : Kind) (state : State)
+    → objects_in kind (own u state).objects ≡ objects_of kind u state.objects)
+    → (state : State) → IsWellNumbered state → (u : ℕ) (kind : Kind)
+    → count_of_kind kind (record_counts u state) ≤ 999999
 unfolding IsWellNumbered
 few_of_kind objects state well u kind = go kind
   where
@@ -72,10 +82,14 @@ status_is status.Initial e = refl
 status_is (status.Approved n) e = absurd (cc)
 status_is status.Rejected e = absurd (cc)
 
-module _ (requests : (u n : ℕ) (state : State) → IsWellNumbered state → request_at n (own u state).requests ≡ (if owner_of n == u then request_at n state.requests else None))
-    (names : (n : ℕ) (state : State) (row : RequestRow) → IsWellNumbered state → request_at n state.requests ≡ Some row → row.account ≡ owner_of n)
-    (objects : (u : ℕ) (kind : Kind) (state : State) → objects_in kind (own u state).objects ≡ objects_of kind u state.objects)
-    (state : State) (well : IsWellNumbered state) (n : ℕ) (row : RequestRow) (found : waiting_request n state ≡ Some row) where
+module _ (requests : (u n : ℕ) (state : State) → IsWellNumbered state
+    → request_at n (own u state).requests ≡ (if owner_of n == u then request_at n state.requests else None))
+    (names : (n : ℕ) (state : State) (row : RequestRow) → IsWellNumbered state → request_at n state.requests ≡ Some row
+    → row.account ≡ owner_of n)
+    (objects : (u : ℕ) (kind : Kind) (state : State)
+    → objects_in kind (own u state).objects ≡ objects_of kind u state.objects)
+    (state : State) (well : IsWellNumbered state) (n : ℕ) (row : RequestRow)
+    (found : waiting_request n state ≡ Some row) where
   record IsThere : Type 0 where
     pub there : request_at n state.requests ≡ Some row
     pub initial : row.status ≡ status.Initial
@@ -83,8 +97,10 @@ module _ (requests : (u n : ℕ) (state : State) → IsWellNumbered state → re
   is_there : IsThere
   is_there = go (request_at n state.requests) refl found
     where
-      at : (r : RequestRow) (b : Bool) → is_initial r.status ≡ b → request_at n state.requests ≡ Some r → (if b then Some r else None) ≡ Some row → IsThere
-      at r true i e is = let same : r ≡ row = cc in record { there = rw (← same) e; initial = rw (← same) (status_is r.status i) }
+      at : (r : RequestRow) (b : Bool) → is_initial r.status ≡ b → request_at n state.requests ≡ Some r
+          → (if b then Some r else None) ≡ Some row → IsThere
+      at r true i e is = let same : r ≡ row = cc in
+          record { there = rw (← same) e; initial = rw (← same) (status_is r.status i) }
       at r false i e is = absurd (cc)
 
       go : (r : Option RequestRow) → request_at n state.requests ≡ r → option_and_then if_initial r ≡ Some row → IsThere
@@ -92,7 +108,8 @@ module _ (requests : (u n : ℕ) (state : State) → IsWellNumbered state → re
       go (Some r) e is = at r (is_initial r.status) refl e is
 
   own_request : request_at n (own (owner_of n) state).requests ≡ Some row
-  own_request = let same : (owner_of n == owner_of n) ≡ true = grind (arith, nat_tests) in rw (requests (owner_of n) n state well, same) is_there.there
+  own_request = let same : (owner_of n == owner_of n) ≡ true = grind (arith, nat_tests) in
+      rw (requests (owner_of n) n state well, same) is_there.there
 
   waits : IsWaiting n (own (owner_of n) state)
   waits = record { row = row; there = own_request; initial = is_there.initial }
@@ -102,26 +119,38 @@ module _ (requests : (u n : ℕ) (state : State) → IsWellNumbered state → re
 
   sound : is_sound_body (own (owner_of n) state) row.body ≡ true
   unfolding IsWellNumbered
-  sound = found_passes (λ (r : RequestRow). r.number == n) (λ (r : RequestRow). is_sound_body (own (owner_of n) state) r.body) (own (owner_of n) state).requests row own_request (asked_of well)
+  sound = found_passes (λ (r : RequestRow). r.number == n)
+      (λ (r : RequestRow). is_sound_body (own (owner_of n) state) r.body)
+      (own (owner_of n) state).requests row own_request (asked_of well)
     where
-      asked_of : IsWellNumbered state → list_all (λ (r : RequestRow). is_sound_body (own (owner_of n) state) r.body) (own (owner_of n) state).requests ≡ true
+      asked_of : IsWellNumbered state
+          → list_all (λ (r : RequestRow). is_sound_body (own (owner_of n) state) r.body)
+          (own (owner_of n) state).requests ≡ true
       asked_of well = (well (owner_of n)).asked
 
   number_next : IsNextApproved (owner_of n) (own (owner_of n) state) row.body (approved_number state row)
   number_next = rw (names n state row well is_there.there) (go row.body sound)
     where
-      go : (b : RequestBody) → is_sound_body (own (owner_of n) state) b ≡ true → IsNextApproved (owner_of n) (own (owner_of n) state) b (approved_as state (owner_of n) (purpose_of b))
+      go : (b : RequestBody) → is_sound_body (own (owner_of n) state) b ≡ true
+          → IsNextApproved (owner_of n) (own (owner_of n) state) b (approved_as state (owner_of n) (purpose_of b))
       go (body.Registration object) kept = ap (λ k. first_of_account (owner_of n) + k)
-          (counted objects state (owner_of n) object.kind (λ is. no_certification (has_vendor (own (owner_of n) state).objects object) object is kept))
+          (counted objects state (owner_of n) object.kind
+          (λ is. no_certification (has_vendor (own (owner_of n) state).objects object) object is kept))
       go (body.Certification c) kept = refl
 
-  pub approved_next : IsNextOrderFor (own (owner_of n) state) (order_change.Approve (record { request = n; approved = approved_number state row }))
+  pub approved_next : IsNextOrderFor (own (owner_of n) state)
+      (order_change.Approve (record { request = n; approved = approved_number state row }))
   approved_next = (record { row = row; there = own_request; initial = is_there.initial }, number_next)
 
 -- how many of a kind are registered, by the count of its objects
-pub registered_as : (kind : Kind) (u : ℕ) (c : Content) (count registered : ℕ) → record_counts u (state_of c) ≡ counts_of u c → count ≡ rows_of (Objects kind) u c
-    → (kind ≢ Certification → registered ≡ count) → (kind ≡ Certification → registered ≡ 0) → registered ≡ count_of_kind kind (record_counts u (state_of c))
-registered_as Vendor u c count registered follows is some none = some (λ e. let impossible = e in cc) ∙ is ∙ ap (λ n. n.vendors) (sym follows)
-registered_as Module u c count registered follows is some none = some (λ e. let impossible = e in cc) ∙ is ∙ ap (λ n. n.modules) (sym follows)
-registered_as Environment u c count registered follows is some none = some (λ e. let impossible = e in cc) ∙ is ∙ ap (λ n. n.environments) (sym follows)
+pub registered_as : (kind : Kind) (u : ℕ) (c : Content) (count registered : ℕ)
+    → record_counts u (state_of c) ≡ counts_of u c → count ≡ rows_of (Objects kind) u c
+    → (kind ≢ Certification → registered ≡ count) → (kind ≡ Certification → registered ≡ 0)
+    → registered ≡ count_of_kind kind (record_counts u (state_of c))
+registered_as Vendor u c count registered follows is some none = some (λ e. let impossible = e in cc) ∙ is
+    ∙ ap (λ n. n.vendors) (sym follows)
+registered_as Module u c count registered follows is some none = some (λ e. let impossible = e in cc) ∙ is
+    ∙ ap (λ n. n.modules) (sym follows)
+registered_as Environment u c count registered follows is some none = some (λ e. let impossible = e in cc) ∙ is
+    ∙ ap (λ n. n.environments) (sym follows)
 registered_as Certification u c count registered follows is some none = none refl

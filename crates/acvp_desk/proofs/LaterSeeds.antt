@@ -1,5 +1,6 @@
 -- What holds of the records under some seeds holds where more come behind them.
-use Rattle.std.proofs.Common.{◌≡◌, ℕ, zero, suc, List, [], ◌∷◌, ◌++◌, Option, None, Some, slice_get, length-append, arith}
+use Rattle.std.proofs.Common.{◌≡◌, ℕ, zero, suc, List, [], ◌∷◌, ◌++◌, Option, None, Some, slice_get, length-append}
+use Rattle.std.proofs.Common.{arith}
 use Rattle.std.proofs.lemmas.List.Elements.{All-weaker}
 use Rattle.acvp_tables.specs.Content.{Content}
 use Rattle.acvp_tables.specs.declared.rows.SetRow.{SetRow}

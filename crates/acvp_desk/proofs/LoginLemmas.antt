@@ -12,16 +12,19 @@ use Rattle.acvp_desk.specs.declared.ask.LoginAsk.{LoginAsk}
 use Rattle.acvp_desk.specs.declared.found.Found.TheVariants.{Login}
 
 -- without an account it isn't
-pub needs_account : (moment : ℕ) (login : LoginAsk) (account : Option AccountRow) → first_broken (policy_conditions moment (Login login account)) ≡ None → account ≡ None → ⊥
+pub needs_account : (moment : ℕ) (login : LoginAsk) (account : Option AccountRow)
+    → first_broken (policy_conditions moment (Login login account)) ≡ None → account ≡ None → ⊥
 unfolding policy_conditions policy
 needs_account moment login account held none = absurd (let h = rw none at held in cc)
 
 -- nor without a step whose code was given
-pub needs_step : (moment : ℕ) (login : LoginAsk) (account : Option AccountRow) (row : AccountRow) → first_broken (policy_conditions moment (Login login account)) ≡ None → account ≡ Some row
+pub needs_step : (moment : ℕ) (login : LoginAsk) (account : Option AccountRow) (row : AccountRow)
+    → first_broken (policy_conditions moment (Login login account)) ≡ None → account ≡ Some row
     → login_step moment login row ≡ None → ⊥
 unfolding policy_conditions policy
 needs_step moment login account row held some none = go row.enabled _ (rw (some, none) at held)
   where
-    go : (b : Bool) (other : Condition Rule) → first_broken {F = Rule} ((b && false, LoginRefused) ∷ other ∷ []) ≡ None → ⊥
+    go : (b : Bool) (other : Condition Rule) → first_broken {F = Rule} ((b && false, LoginRefused) ∷ other ∷ []) ≡ None
+        → ⊥
     go true other h = absurd (cc)
     go false other h = absurd (cc)

@@ -15,7 +15,8 @@ use Rattle.acvp_tables.specs.declared.summary.RequestSummary.{RequestSummary}
 use Rattle.acvp_tables.specs.declared.tables.StoreFault.{StoreFault}
 use Rattle.acvp_desk.specs.Private.Waiting.{waiting_in}
 use Rattle.acvp_desk.specs.declared.order.Waiting.{Waiting}
-use Rattle.acvp_desk.specs.Orders.{is_initial, order_reply, order_change, content_after_order, content_order_effect, Orders}
+use Rattle.acvp_desk.specs.Orders.{is_initial, order_reply, order_change, content_after_order, content_order_effect}
+use Rattle.acvp_desk.specs.Orders.{Orders}
 use Rattle.acvp_desk.specs.declared.order.Order.{Order}
 use Rattle.acvp_desk.specs.declared.order.Order.TheVariants as order
 use Rattle.acvp_desk.specs.declared.order.OrderReply.{OrderReply}
@@ -35,12 +36,14 @@ pub record IsDecided (it : Order) (reply : OrderReply) (made : Option OrderChang
   pub reply_is : order_reply it (state_of c) ≡ reply
   pub change_is : order_change it (state_of c) ≡ made
 
-pub taken : (a : ℕ) (secret : List ℕ) (row : AccountRow) (c : Content) → Some row ≡ account_at a c.accounts → IsDecided (order.AddAccount a secret) Taken None c
+pub taken : (a : ℕ) (secret : List ℕ) (row : AccountRow) (c : Content) → Some row ≡ account_at a c.accounts
+    → IsDecided (order.AddAccount a secret) Taken None c
 unfolding order_reply order_change state_of
 taken a secret row c is = record { reply_is = rw (← is) refl; change_is = rw (← is) refl }
 
 pub added : (a : ℕ) (secret : List ℕ) (c : Content) → None ≡ account_at a c.accounts
-    → IsDecided (order.AddAccount a secret) (Done None) (Some (change.AddAccount (record { account = a; secret = secret }))) c
+    → IsDecided (order.AddAccount a secret) (Done None)
+    (Some (change.AddAccount (record { account = a; secret = secret }))) c
 unfolding order_reply order_change state_of
 added a secret c is = record { reply_is = rw (← is) refl; change_is = rw (← is) refl }
 
@@ -53,67 +56,84 @@ pub disabled : (a : ℕ) (row : AccountRow) (c : Content) → Some row ≡ accou
 unfolding order_reply order_change state_of
 disabled a row c is = record { reply_is = rw (← is) refl; change_is = rw (← is) refl }
 
-pub no_request : (n : ℕ) (c : Content) → None ≡ option_map (waiting_in (state_of c)) (request_at n c.requests) → IsDecided (order.ApproveRequest n) Unknown None c
+pub no_request : (n : ℕ) (c : Content) → None ≡ option_map (waiting_in (state_of c)) (request_at n c.requests)
+    → IsDecided (order.ApproveRequest n) Unknown None c
 unfolding order_reply order_change state_of
 no_request n c is = go (request_at n c.requests) refl is
   where
-    go : (found : Option RequestRow) → request_at n c.requests ≡ found → None ≡ option_map (waiting_in (state_of c)) found → IsDecided (order.ApproveRequest n) Unknown None c
+    go : (found : Option RequestRow) → request_at n c.requests ≡ found
+        → None ≡ option_map (waiting_in (state_of c)) found → IsDecided (order.ApproveRequest n) Unknown None c
     go None e is = record { reply_is = rw e refl; change_is = rw e refl }
     go (Some row) e is = absurd (cc)
 
 -- a request that was decided isn't approved
-pub decided_before : (n : ℕ) (w : Waiting) (c : Content) → Some w ≡ option_map (waiting_in (state_of c)) (request_at n c.requests) → w.initial ≡ false
+pub decided_before : (n : ℕ) (w : Waiting) (c : Content)
+    → Some w ≡ option_map (waiting_in (state_of c)) (request_at n c.requests) → w.initial ≡ false
     → IsDecided (order.ApproveRequest n) NotInitial None c
 unfolding order_reply order_change state_of
 decided_before n w c is late = go (request_at n c.requests) refl is
   where
-    at : (row : RequestRow) (b : Bool) → is_initial row.status ≡ b → request_at n c.requests ≡ Some row → b ≡ false → IsDecided (order.ApproveRequest n) NotInitial None c
+    at : (row : RequestRow) (b : Bool) → is_initial row.status ≡ b → request_at n c.requests ≡ Some row → b ≡ false
+        → IsDecided (order.ApproveRequest n) NotInitial None c
     at row false i e late = record { reply_is = rw (e, i) refl; change_is = rw (e, i) refl }
     at row true i e late = absurd (cc)
 
-    go : (found : Option RequestRow) → request_at n c.requests ≡ found → Some w ≡ option_map (waiting_in (state_of c)) found → IsDecided (order.ApproveRequest n) NotInitial None c
+    go : (found : Option RequestRow) → request_at n c.requests ≡ found
+        → Some w ≡ option_map (waiting_in (state_of c)) found → IsDecided (order.ApproveRequest n) NotInitial None c
     go None e is = absurd (cc)
     go (Some row) e is =
         let same : w ≡ waiting_in (state_of c) row = cc in
         at row (is_initial row.status) refl e (ap (λ (w : Waiting). w.initial) (sym same) ∙ late)
 
-pub approved : (n : ℕ) (w : Waiting) (c : Content) → Some w ≡ option_map (waiting_in (state_of c)) (request_at n c.requests) → w.initial ≡ true
-    → IsDecided (order.ApproveRequest n) (Done (Some (w.kind, w.approved))) (Some (change.Approve (record { request = n; approved = w.approved }))) c
+pub approved : (n : ℕ) (w : Waiting) (c : Content)
+    → Some w ≡ option_map (waiting_in (state_of c)) (request_at n c.requests) → w.initial ≡ true
+    → IsDecided (order.ApproveRequest n) (Done (Some (w.kind, w.approved)))
+    (Some (change.Approve (record { request = n; approved = w.approved }))) c
 unfolding order_reply order_change state_of
 approved n w c is waits = go (request_at n c.requests) refl is
   where
-    at : (row : RequestRow) (b : Bool) → is_initial row.status ≡ b → request_at n c.requests ≡ Some row → b ≡ true → w ≡ waiting_in (state_of c) row
-        → IsDecided (order.ApproveRequest n) (Done (Some (w.kind, w.approved))) (Some (change.Approve (record { request = n; approved = w.approved }))) c
+    at : (row : RequestRow) (b : Bool) → is_initial row.status ≡ b → request_at n c.requests ≡ Some row → b ≡ true
+        → w ≡ waiting_in (state_of c) row
+        → IsDecided (order.ApproveRequest n) (Done (Some (w.kind, w.approved)))
+        (Some (change.Approve (record { request = n; approved = w.approved }))) c
     at row true i e waits same = rw same (record { reply_is = rw (e, i) refl; change_is = rw (e, i) refl })
     at row false i e waits same = absurd (cc)
 
-    go : (found : Option RequestRow) → request_at n c.requests ≡ found → Some w ≡ option_map (waiting_in (state_of c)) found
-        → IsDecided (order.ApproveRequest n) (Done (Some (w.kind, w.approved))) (Some (change.Approve (record { request = n; approved = w.approved }))) c
+    go : (found : Option RequestRow) → request_at n c.requests ≡ found
+        → Some w ≡ option_map (waiting_in (state_of c)) found
+        → IsDecided (order.ApproveRequest n) (Done (Some (w.kind, w.approved)))
+        (Some (change.Approve (record { request = n; approved = w.approved }))) c
     go None e is = absurd (cc)
     go (Some row) e is =
         let same : w ≡ waiting_in (state_of c) row = cc in
         at row (is_initial row.status) refl e (ap (λ (w : Waiting). w.initial) (sym same) ∙ waits) same
 
-pub none_rejected : (n : ℕ) (c : Content) → None ≡ option_map request_summary (request_at n c.requests) → IsDecided (order.RejectRequest n) Unknown None c
+pub none_rejected : (n : ℕ) (c : Content) → None ≡ option_map request_summary (request_at n c.requests)
+    → IsDecided (order.RejectRequest n) Unknown None c
 unfolding order_reply order_change state_of
 none_rejected n c is = go (request_at n c.requests) refl is
   where
-    go : (found : Option RequestRow) → request_at n c.requests ≡ found → None ≡ option_map request_summary found → IsDecided (order.RejectRequest n) Unknown None c
+    go : (found : Option RequestRow) → request_at n c.requests ≡ found → None ≡ option_map request_summary found
+        → IsDecided (order.RejectRequest n) Unknown None c
     go None e is = record { reply_is = rw e refl; change_is = rw e refl }
     go (Some row) e is = absurd (cc)
 
-pub rejected_by : (n : ℕ) (found : RequestSummary) (b : Bool) (c : Content) → Some found ≡ option_map request_summary (request_at n c.requests) → is_initial found.status ≡ b
-    → IsDecided (order.RejectRequest n) (if b then Done None else NotInitial) (if b then Some (change.Reject n) else None) c
+pub rejected_by : (n : ℕ) (found : RequestSummary) (b : Bool) (c : Content)
+    → Some found ≡ option_map request_summary (request_at n c.requests) → is_initial found.status ≡ b
+    → IsDecided (order.RejectRequest n) (if b then Done None else NotInitial)
+    (if b then Some (change.Reject n) else None) c
 unfolding order_reply order_change state_of
 rejected_by n found b c is waits = go (request_at n c.requests) refl is
   where
     at : (row : RequestRow) (b : Bool) → is_initial row.status ≡ b → request_at n c.requests ≡ Some row
-        → IsDecided (order.RejectRequest n) (if b then Done None else NotInitial) (if b then Some (change.Reject n) else None) c
+        → IsDecided (order.RejectRequest n) (if b then Done None else NotInitial)
+        (if b then Some (change.Reject n) else None) c
     at row true i e = record { reply_is = rw (e, i) refl; change_is = rw (e, i) refl }
     at row false i e = record { reply_is = rw (e, i) refl; change_is = rw (e, i) refl }
 
     go : (there : Option RequestRow) → request_at n c.requests ≡ there → Some found ≡ option_map request_summary there
-        → IsDecided (order.RejectRequest n) (if b then Done None else NotInitial) (if b then Some (change.Reject n) else None) c
+        → IsDecided (order.RejectRequest n) (if b then Done None else NotInitial)
+        (if b then Some (change.Reject n) else None) c
     go None e is = absurd (cc)
     go (Some row) e is =
         let same : found ≡ request_summary row = cc in
@@ -125,15 +145,20 @@ module _ {T : Type 0} (faults : StoreFault → Type 0) (meaning : Meaning T) (it
   open meaning use {stands, is_open, is_clean, leaves}
 
   abbrev Decides : T → T → OrderReply → Option OrderChange → Type 0
-  Decides old mid reply made = is_open mid → (c : Content) → AreWellNumbered c → stands old c → IsDecided it reply made c
+  Decides old mid reply made = is_open mid → (c : Content) → AreWellNumbered c → stands old c
+      → IsDecided it reply made c
 
-  becomes : (made : Option OrderChange) (reply : OrderReply) (c : Content) → IsDecided it reply made c → content_order_effect it c ≡ content_after_order made c
+  becomes : (made : Option OrderChange) (reply : OrderReply) (c : Content) → IsDecided it reply made c
+      → content_order_effect it c ≡ content_after_order made c
   becomes made reply c decided = ap (λ x. content_after_order x c) decided.change_is
 
   -- answered without a change
-  pub left_alone : {X : Type 0} (x : X) (old new : T) (told : OrderReply) → Reads faults meaning {X = X} (Ok x) old new → Decides old new told None
-      → (is_open new → (c : Content) → AreWellNumbered c → stands old c → (told ≡ order_reply it (state_of c)) × stands new (content_order_effect it c))
-      × (is_clean new → is_open old → (c d : Content) → AreWellNumbered c → stands old c → leaves new (content_order_effect it c) d)
+  pub left_alone : {X : Type 0} (x : X) (old new : T) (told : OrderReply) → Reads faults meaning {X = X} (Ok x) old new
+      → Decides old new told None
+      → (is_open new → (c : Content) → AreWellNumbered c → stands old c → (told ≡ order_reply it (state_of c))
+      × stands new (content_order_effect it c))
+      × (is_clean new → is_open old → (c d : Content) → AreWellNumbered c → stands old c
+      → leaves new (content_order_effect it c) d)
   left_alone x old new told reads decides = (
     λ live c sound h. let decided = decides live c sound h in
         (sym decided.reply_is, subst (λ d. stands new d) (sym (becomes None told c decided)) (reads.same live c h)),
@@ -141,7 +166,8 @@ module _ {T : Type 0} (faults : StoreFault → Type 0) (meaning : Meaning T) (it
         subst (λ e. leaves new e d) (sym (becomes None told c decided)) (reads.left clean live c d h),
   )
 
-  module _ {X Y : Type 0} (x : X) (old mid new : T) (ch : OrderChange) (reads : Reads faults meaning {X = X} (Ok x) old mid)
+  module _ {X Y : Type 0} (x : X) (old mid new : T) (ch : OrderChange)
+      (reads : Reads faults meaning {X = X} (Ok x) old mid)
       (approval : Option (Kind × ℕ)) (decides : Decides old mid (Done approval) (Some ch)) where
     -- carried out
     pub carried_out : (y : Y) → Changes faults meaning {X = Y} (Ok y) mid new (after_order ch)
@@ -150,14 +176,19 @@ module _ {T : Type 0} (faults : StoreFault → Type 0) (meaning : Meaning T) (it
       was_open = λ live. reads.was_open (changes.was_open live);
       was_clean = λ clean. reads.was_clean (changes.was_clean clean);
       same = tt;
-      stays_open = λ clean. let read = reads.stays_open (changes.was_clean clean) in (read.0, changes.stays_open clean read.1);
+      stays_open = λ clean. let read = reads.stays_open (changes.was_clean clean) in
+          (read.0, changes.stays_open clean read.1);
       kept = tt;
       shut = λ clean off. absurd (off (reads.stays_open (changes.was_clean clean)).0);
       answered = λ live c sound h. let up = changes.was_open live in
-          let decided = decides up c sound h in
-          (sym decided.reply_is, subst (λ d. stands new d) (sym (becomes (Some ch) (Done approval) c decided)) (changes.ok live c sound (reads.same up c h)));
+          let decided = decides up c sound h in (
+            sym decided.reply_is,
+            subst (λ d. stands new d) (sym (becomes (Some ch) (Done approval) c decided))
+                (changes.ok live c sound (reads.same up c h)),
+          );
       settled = λ clean live c d sound h. let up = (reads.stays_open (changes.was_clean clean)).1 in
-          subst (λ e. leaves new e d) (sym (becomes (Some ch) (Done approval) c (decides up c sound h))) (changes.settled clean up c d sound (reads.same up c h));
+          subst (λ e. leaves new e d) (sym (becomes (Some ch) (Done approval) c (decides up c sound h)))
+          (changes.settled clean up c d sound (reads.same up c h));
     }
 
     -- the change failed
@@ -172,5 +203,6 @@ module _ {T : Type 0} (faults : StoreFault → Type 0) (meaning : Meaning T) (it
       kept = tt;
       shut = λ clean off. absurd (off (reads.stays_open (changes.was_clean clean)).0);
       settled = λ clean live c sound h. let up = (reads.stays_open (changes.was_clean clean)).1 in
-          subst (λ e. leaves new c e) (sym (becomes (Some ch) (Done approval) c (decides up c sound h))) (changes.unsettled clean up c sound (reads.same up c h));
+          subst (λ e. leaves new c e) (sym (becomes (Some ch) (Done approval) c (decides up c sound h)))
+          (changes.unsettled clean up c sound (reads.same up c h));
     }

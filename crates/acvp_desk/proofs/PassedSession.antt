@@ -1,5 +1,6 @@
 -- A session has passed exactly where its counters say so.
-use Rattle.std.proofs.Common.{◌≡◌, ◌≤◌, ℕ, suc, List, [], ◌∷◌, map, length, find, Bool, true, false, ◌&&◌, ◌==◌, nat_le, Option, None, Some, refl, sym, ap, ◌∙◌, arith}
+use Rattle.std.proofs.Common.{◌≡◌, ◌≤◌, ℕ, suc, List, [], ◌∷◌, map, length, find, Bool, true, false, ◌&&◌, ◌==◌, nat_le}
+use Rattle.std.proofs.Common.{Option, None, Some, refl, sym, ap, ◌∙◌, arith}
 use Rattle.std.specs.Prelude.{option_map, IfSome}
 use Rattle.std.specs.List.{All, list_all}
 use Rattle.std.proofs.lemmas.Bool.Decides.{nat_tests}
@@ -19,7 +20,8 @@ use Rattle.acvp_desk.specs.Sets.{set_disposition, set_passes, verdicts_on_set, v
 use Rattle.acvp_desk.specs.declared.found.SetOutcome.{SetOutcome}
 
 -- what holds of each row holds of the one that is found
-pub found_holds : {R : Type 0} (p q : R → Bool) (rows : List R) (x : R) → find p rows ≡ Some x → list_all q rows ≡ true → q x ≡ true
+pub found_holds : {R : Type 0} (p q : R → Bool) (rows : List R) (x : R) → find p rows ≡ Some x → list_all q rows ≡ true
+    → q x ≡ true
 found_holds p q [] x found all = absurd (cc)
 found_holds {R = R} p q (r ∷ rows) x found all = go (p r) (q r) refl refl (found_holds p q rows x)
   where
@@ -31,7 +33,8 @@ found_holds {R = R} p q (r ∷ rows) x found all = go (p r) (q r) refl refl (fou
 
 -- a set's stored disposition passes where its answers do
 disposed_at : (row : SetRow) (seed : List ℕ) (graded : Option GradedValue) → IfSome graded (IsRightly seed row)
-    → option_map (λ (g : GradedValue). g.disposition) graded ≡ option_map disposition_of (verdicts_under (set_record row) (Some seed) (option_map (λ (g : GradedValue). g.answers) graded))
+    → option_map (λ (g : GradedValue). g.disposition) graded ≡ option_map disposition_of
+    (verdicts_under (set_record row) (Some seed) (option_map (λ (g : GradedValue). g.answers) graded))
 disposed_at row seed None rightly = refl
 disposed_at row seed (Some g) rightly = ap Some (rw rightly.verdicts at rightly.disposition)
 
@@ -41,12 +44,15 @@ graded_disposition : (seeds : List (List ℕ)) (row : SetRow) → IsGradedSet se
 unfolding IsGradedSet set_disposition verdicts_on_set
 graded_disposition seeds row right = rw (right.1) (disposed_at row right.0 row.graded right.2)
 
-pub passed_is : (graded : Option GradedValue) → answers_passed graded ≡ is_some_and (option_map (λ (g : GradedValue). g.disposition) graded) is_passed
+pub passed_is : (graded : Option GradedValue)
+    → answers_passed graded ≡ is_some_and (option_map (λ (g : GradedValue). g.disposition) graded) is_passed
 passed_is None = refl
 passed_is (Some g) = refl
 
-pub graded_passes : (seeds : List (List ℕ)) (row : SetRow) → IsGradedSet seeds row → answers_passed row.graded ≡ set_passes seeds (set_record row)
-graded_passes seeds row right = passed_is row.graded ∙ ap (λ d. is_some_and d is_passed) (graded_disposition seeds row right)
+pub graded_passes : (seeds : List (List ℕ)) (row : SetRow) → IsGradedSet seeds row
+    → answers_passed row.graded ≡ set_passes seeds (set_record row)
+graded_passes seeds row right = passed_is row.graded
+    ∙ ap (λ d. is_some_and d is_passed) (graded_disposition seeds row right)
 
 -- what is read of a session's sets is what they come to
 abbrev pub outcome_of : SetSummary → SetOutcome
@@ -59,10 +65,15 @@ outcomes_among seeds m (row ∷ sets) graded =
     go (is_live_in m row) refl (graded_disposition seeds row (All-head (IsGradedSet seeds) row sets graded))
     (outcomes_among seeds m sets (All-tail (IsGradedSet seeds) row sets graded))
   where
-    go : (live : Bool) → is_live_in m row ≡ live → option_map (λ (g : GradedValue). g.disposition) row.graded ≡ set_disposition seeds (set_record row)
-        → map outcome_of (map set_summary (live_sets m sets)) ≡ map (set_outcome seeds) (map set_record (live_sets m sets))
-        → map outcome_of (map set_summary (live_sets m (row ∷ sets))) ≡ map (set_outcome seeds) (map set_record (live_sets m (row ∷ sets)))
-    go true live is later = rw live (rw is (ap (λ rest. (record { vs = row.number; disposition = set_disposition seeds (set_record row) }) ∷ rest) later))
+    go : (live : Bool) → is_live_in m row ≡ live → option_map (λ (g : GradedValue). g.disposition) row.graded
+        ≡ set_disposition seeds (set_record row)
+        → map outcome_of (map set_summary (live_sets m sets)) ≡ map (set_outcome seeds)
+        (map set_record (live_sets m sets))
+        → map outcome_of (map set_summary (live_sets m (row ∷ sets))) ≡ map (set_outcome seeds)
+        (map set_record (live_sets m (row ∷ sets)))
+    go true live is later = rw live
+        (rw is (ap (λ rest. (record { vs = row.number; disposition = set_disposition seeds (set_record row) })
+        ∷ rest) later))
     go false live is later = rw live later
 
 any_length : {A B : Type 0} (f : A → B) (xs : List A) → nat_le 1 (length xs) ≡ is_any (map f xs)
@@ -73,7 +84,8 @@ fewer_passed : (m : ℕ) (sets : List SetRow) → passed_count m sets ≤ live_c
 fewer_passed m [] = omega (arith)
 fewer_passed m (row ∷ sets) = go (is_live_in m row) (answers_passed row.graded) refl refl (fewer_passed m sets)
   where
-    go : (live pass : Bool) → is_live_in m row ≡ live → answers_passed row.graded ≡ pass → passed_count m sets ≤ live_count m sets
+    go : (live pass : Bool) → is_live_in m row ≡ live → answers_passed row.graded ≡ pass
+        → passed_count m sets ≤ live_count m sets
         → passed_count m (row ∷ sets) ≤ live_count m (row ∷ sets)
     go true true live pass later = rw (live, pass) (omega (arith, later))
     go true false live pass later = rw (live, pass) (omega (arith, later))
@@ -90,28 +102,38 @@ all_counted : (seeds : List (List ℕ)) (m : ℕ) (sets : List SetRow) → All (
     → (passed_count m sets == live_count m sets) ≡ list_all (set_passes seeds) (map set_record (live_sets m sets))
 all_counted seeds m [] graded = refl
 all_counted seeds m (row ∷ sets) graded =
-    go (is_live_in m row) (answers_passed row.graded) refl refl (graded_passes seeds row (All-head (IsGradedSet seeds) row sets graded))
+    go (is_live_in m row) (answers_passed row.graded) refl refl
+    (graded_passes seeds row (All-head (IsGradedSet seeds) row sets graded))
     (fewer_passed m sets) (all_counted seeds m sets (All-tail (IsGradedSet seeds) row sets graded))
   where
-    go : (live pass : Bool) → is_live_in m row ≡ live → answers_passed row.graded ≡ pass → answers_passed row.graded ≡ set_passes seeds (set_record row)
+    go : (live pass : Bool) → is_live_in m row ≡ live → answers_passed row.graded ≡ pass
+        → answers_passed row.graded ≡ set_passes seeds (set_record row)
         → passed_count m sets ≤ live_count m sets
         → (passed_count m sets == live_count m sets) ≡ list_all (set_passes seeds) (map set_record (live_sets m sets))
-        → (passed_count m (row ∷ sets) == live_count m (row ∷ sets)) ≡ list_all (set_passes seeds) (map set_record (live_sets m (row ∷ sets)))
-    go true true live pass passes fewer later = rw (live, pass, sym passes ∙ pass) (both_more (passed_count m sets) (live_count m sets) ∙ later)
-    go true false live pass passes fewer later = rw (live, pass, sym passes ∙ pass) (not_one_more (passed_count m sets) (live_count m sets) fewer)
+        → (passed_count m (row ∷ sets) == live_count m (row ∷ sets)) ≡ list_all (set_passes seeds)
+        (map set_record (live_sets m (row ∷ sets)))
+    go true true live pass passes fewer later =
+        rw (live, pass, sym passes ∙ pass) (both_more (passed_count m sets) (live_count m sets) ∙ later)
+    go true false live pass passes fewer later =
+        rw (live, pass, sym passes ∙ pass) (not_one_more (passed_count m sets) (live_count m sets) fewer)
     go false pass live is passes fewer later = rw live later
 
 -- the session's counters say whether it has passed
-pub counters_tell : (follows : (s : ℕ) (c : Content) → live_records s (state_of c).sets ≡ map set_record (live_sets s c.sets))
-    → (seeds : List (List ℕ)) (c : Content) (n : ℕ) (row : SessionRow) → IsKept seeds c → session_at n c.sessions ≡ Some row
+pub counters_tell : (follows : (s : ℕ) (c : Content)
+    → live_records s (state_of c).sets ≡ map set_record (live_sets s c.sets))
+    → (seeds : List (List ℕ)) (c : Content) (n : ℕ) (row : SessionRow) → IsKept seeds c
+    → session_at n c.sessions ≡ Some row
     → (nat_le 1 row.live && (row.passed == row.live)) ≡ session_passes seeds row.number (state_of c).sets
 unfolding session_passes
 counters_tell follows seeds c n row kept found =
     let counted = found_holds (λ r. r.number == n) (is_counted c.sets) c.sessions row found kept.counted in
     rw (follows row.number c) (go (row.live) (row.passed) counted)
   where
-    go : (live passed : ℕ) → ((live == live_count row.number c.sets) && (passed == passed_count row.number c.sets)) ≡ true
-        → (nat_le 1 live && (passed == live)) ≡ (is_any (map set_record (live_sets row.number c.sets)) && list_all (set_passes seeds) (map set_record (live_sets row.number c.sets)))
+    go : (live passed : ℕ) → ((live == live_count row.number c.sets) && (passed == passed_count row.number c.sets))
+        ≡ true
+        → (nat_le 1 live && (passed == live))
+        ≡ (is_any (map set_record (live_sets row.number c.sets)) && list_all (set_passes seeds)
+        (map set_record (live_sets row.number c.sets)))
     go live passed counted =
         let any = any_length set_record (live_sets row.number c.sets) in
         let all = all_counted seeds row.number c.sets kept.graded in

@@ -3,7 +3,8 @@ use Rattle.std.proofs.Common.{◌≡◌, ℕ, List, [], ◌∷◌, ◌++◌, map
 use Rattle.std.specs.Prelude.{Ok, Result, option_map, option_and_then, if◌then◌else◌, not}
 use Rattle.std.specs.List.{flat_map, list_all}
 use Rattle.acvp_caps.specs.Algorithms.{is_hmac_of}
-use Rattle.acvp_caps.specs.Registered.{algorithm_at, algorithm_conditions, capabilities_at, capability_conditions, parameter_conditions, registration_conditions}
+use Rattle.acvp_caps.specs.Registered.{algorithm_at, algorithm_conditions, capabilities_at, capability_conditions}
+use Rattle.acvp_caps.specs.Registered.{parameter_conditions, registration_conditions}
 use Rattle.acvp_caps.specs.declared.algorithm.Algorithm.{Algorithm}
 use Rattle.acvp_caps.specs.declared.CapFault.{CapFault}
 use Rattle.acvp_caps.specs.declared.CapFault.TheVariants as cap
@@ -20,7 +21,8 @@ use Rattle.acvp_json.specs.declared.fault.BodyFault.{BodyFault}
 use Rattle.acvp_json.specs.declared.fault.BodyFault.TheVariants as fault
 use Rattle.acvp_mac.specs.Conditions.{Condition, first_broken, with_fault}
 use Rattle.acvp_policy.specs.Conditions.{claims_of, is_reviewer}
-use Rattle.acvp_policy.specs.Policy.{caller_conditions, claims_conditions, policy, resource_conditions, session_conditions}
+use Rattle.acvp_policy.specs.Policy.{caller_conditions, claims_conditions, policy, resource_conditions}
+use Rattle.acvp_policy.specs.Policy.{session_conditions}
 use Rattle.acvp_policy.specs.Scope.{scope_of}
 use Rattle.acvp_policy.specs.declared.action.Action.{Action}
 use Rattle.acvp_policy.specs.declared.action.Action.TheVariants as action
@@ -35,9 +37,12 @@ use Rattle.acvp_registry.specs.declared.fault.RegFault.{RegFault}
 use Rattle.acvp_registry.specs.declared.fault.RegFault.TheVariants as reg
 use Rattle.acvp_registry.specs.declared.kind.Kind.{Kind}
 use Rattle.acvp_tables.specs.State.{State}
-use Rattle.acvp_desk.specs.Answer.{action_in, answer, asker_of, conditions, facts_in, first_conditions, first_conditions_on, found_of, later_of, own_conditions, policy_conditions, reply_to}
-use Rattle.acvp_desk.specs.Asked.{certified_conditions, certified_in, judged_read, kept_as, object_in, requested_conditions, registered_conditions}
-use Rattle.acvp_desk.specs.Bodies.{body_conditions, object_conditions as conditions_on, object_rule, registration_rule, rule_of}
+use Rattle.acvp_desk.specs.Answer.{action_in, answer, asker_of, conditions, facts_in, first_conditions}
+use Rattle.acvp_desk.specs.Answer.{first_conditions_on, found_of, later_of, own_conditions, policy_conditions, reply_to}
+use Rattle.acvp_desk.specs.Asked.{certified_conditions, certified_in, judged_read, kept_as, object_in}
+use Rattle.acvp_desk.specs.Asked.{requested_conditions, registered_conditions}
+use Rattle.acvp_desk.specs.Bodies.{body_conditions, object_conditions as conditions_on, object_rule, registration_rule}
+use Rattle.acvp_desk.specs.Bodies.{rule_of}
 use Rattle.acvp_desk.specs.OwnConditions.{place_conditions, prompted_conditions, submitted_conditions}
 use Rattle.acvp_desk.specs.Registries.{kind_of}
 use Rattle.acvp_desk.specs.Replies.{prompts_from}
@@ -65,20 +70,24 @@ use Rattle.acvp_desk.proofs.FirstBroken.{broken}
 abbrev lacks : {F : Type 0} → (F → Bool) → List (Condition F) → Bool
 lacks such conditions = list_all (λ c. not (such c.1)) conditions
 
-both_lack : {F : Type 0} (such : F → Bool) (front rest : List (Condition F)) → lacks such front ≡ true → lacks such rest ≡ true → lacks such (front ++ rest) ≡ true
+both_lack : {F : Type 0} (such : F → Bool) (front rest : List (Condition F)) → lacks such front ≡ true
+    → lacks such rest ≡ true → lacks such (front ++ rest) ≡ true
 both_lack such [] rest a b = b
 both_lack such (c ∷ front) rest a b = go (such c.1) (λ e. both_lack such front rest e b) a
   where
-    go : (x : Bool) → (lacks such front ≡ true → lacks such (front ++ rest) ≡ true) → (not x && lacks such front) ≡ true → (not x && lacks such (front ++ rest)) ≡ true
+    go : (x : Bool) → (lacks such front ≡ true → lacks such (front ++ rest) ≡ true) → (not x && lacks such front) ≡ true
+        → (not x && lacks such (front ++ rest)) ≡ true
     go true later e = absurd (cc)
     go false later e = later e
 
 -- so none is broken by such a fault
-not_broken : {F : Type 0} (such : F → Bool) (conditions : List (Condition F)) (f : F) → lacks such conditions ≡ true → first_broken conditions ≡ Some f → such f ≡ false
+not_broken : {F : Type 0} (such : F → Bool) (conditions : List (Condition F)) (f : F) → lacks such conditions ≡ true
+    → first_broken conditions ≡ Some f → such f ≡ false
 not_broken such [] f lack is = absurd (cc)
 not_broken {F = F} such (c ∷ conditions) f lack is = go c.0 is (such c.1) refl lack (not_broken such conditions f)
   where
-    go : (holds : Bool) → first_broken ((holds, c.1) ∷ conditions) ≡ Some f → (x : Bool) → such c.1 ≡ x → (not x && lacks such conditions) ≡ true
+    go : (holds : Bool) → first_broken ((holds, c.1) ∷ conditions) ≡ Some f → (x : Bool) → such c.1 ≡ x
+        → (not x && lacks such conditions) ≡ true
         → (lacks such conditions ≡ true → first_broken conditions ≡ Some f → such f ≡ false) → such f ≡ false
     go holds is true e lack later = absurd (cc)
     go true is false e lack later = later lack is
@@ -116,27 +125,34 @@ objects_lack reg.Field e = refl
 objects_lack reg.NoReference e = refl
 objects_lack reg.Memory e = absurd (cc)
 
-told_lack : {F : Type 0} (such : F → Bool) (told : F → Rule) → ((f : F) → such f ≡ false → is_unavailable (told f) ≡ false) → (conditions : List (Condition F)) → lacks such conditions ≡ true
+told_lack : {F : Type 0} (such : F → Bool) (told : F → Rule)
+    → ((f : F) → such f ≡ false → is_unavailable (told f) ≡ false) → (conditions : List (Condition F))
+    → lacks such conditions ≡ true
     → lacks is_unavailable (map (with_fault told) conditions) ≡ true
 told_lack such told each [] lack = refl
 told_lack such told each (c ∷ conditions) lack = go (such c.1) refl lack (told_lack such told each conditions)
   where
-    go : (x : Bool) → such c.1 ≡ x → (not x && lacks such conditions) ≡ true → (lacks such conditions ≡ true → lacks is_unavailable (map (with_fault told) conditions) ≡ true)
+    go : (x : Bool) → such c.1 ≡ x → (not x && lacks such conditions) ≡ true
+        → (lacks such conditions ≡ true → lacks is_unavailable (map (with_fault told) conditions) ≡ true)
         → (not (is_unavailable (told c.1)) && lacks is_unavailable (map (with_fault told) conditions)) ≡ true
     go true e lack later = absurd (cc)
     go false e lack later = rw (each c.1 e) (later lack)
 
 -- ---- bodies
 
-body_lacks : {F : Type 0} (such : F → Bool) (told : F → Rule) → ((f : F) → such f ≡ false → is_unavailable (told f) ≡ false) → (asked : Data → List (Condition F))
-    → ((d : Data) → lacks such (asked d) ≡ true) → (body : List ℕ) → lacks is_unavailable (body_conditions told asked body) ≡ true
+body_lacks : {F : Type 0} (such : F → Bool) (told : F → Rule)
+    → ((f : F) → such f ≡ false → is_unavailable (told f) ≡ false) → (asked : Data → List (Condition F))
+    → ((d : Data) → lacks such (asked d) ≡ true) → (body : List ℕ)
+    → lacks is_unavailable (body_conditions told asked body) ≡ true
 body_lacks such told each asked lack body = go (object_of body)
   where
-    go : (d : Option Data) → lacks is_unavailable (map (with_fault rule_of) (envelope_conditions body) ++ map (with_fault told) (conditions_on asked d)) ≡ true
+    go : (d : Option Data) → lacks is_unavailable
+        (map (with_fault rule_of) (envelope_conditions body) ++ map (with_fault told) (conditions_on asked d)) ≡ true
     go None = refl
     go (Some d) = told_lack such told each (asked d) (lack d)
 
-chosen_lack : {F : Type 0} (such : F → Bool) (b : Bool) (one other : List (Condition F)) → lacks such one ≡ true → lacks such other ≡ true → lacks such (if b then one else other) ≡ true
+chosen_lack : {F : Type 0} (such : F → Bool) (b : Bool) (one other : List (Condition F)) → lacks such one ≡ true
+    → lacks such other ≡ true → lacks such (if b then one else other) ≡ true
 chosen_lack such true one other x y = x
 chosen_lack such false one other x y = y
 
@@ -152,9 +168,11 @@ capability_lacks d = go (algorithm_at d)
 
 capabilities_lack : (ds : List Data) → lacks is_memory_of_caps (flat_map capability_conditions ds) ≡ true
 capabilities_lack [] = refl
-capabilities_lack (d ∷ ds) = both_lack is_memory_of_caps (capability_conditions d) (flat_map capability_conditions ds) (capability_lacks d) (capabilities_lack ds)
+capabilities_lack (d ∷ ds) = both_lack is_memory_of_caps (capability_conditions d) (flat_map capability_conditions ds)
+    (capability_lacks d) (capabilities_lack ds)
 
-given_lack : (prompts : PromptsValue) (before : List ℕ) (given : List GivenValue) → lacks is_memory (all_given_conditions prompts before given) ≡ true
+given_lack : (prompts : PromptsValue) (before : List ℕ) (given : List GivenValue)
+    → lacks is_memory (all_given_conditions prompts before given) ≡ true
 given_lack prompts before [] = refl
 given_lack prompts before (first ∷ more) = given_lack prompts (before ++ first.test ∷ []) more
 
@@ -181,7 +199,8 @@ resources_lack _ f = refl
 
 policy_lacks : (a : Action) (f : Facts) → lacks is_unavailable (policy a f) ≡ true
 unfolding policy
-policy_lacks a f = both_lack is_unavailable (claims_conditions (scope_of a) f) (resource_conditions a f) (claims_lack (scope_of a) f) (resources_lack a f)
+policy_lacks a f = both_lack is_unavailable (claims_conditions (scope_of a) f) (resource_conditions a f)
+    (claims_lack (scope_of a) f) (resources_lack a f)
 
 -- ---- what is read of a body
 
@@ -190,10 +209,12 @@ abbrev is_told : {X : Type 0} → Result X Rule → Bool
 is_told (Ok x) = true
 is_told (Err broken) = not (is_unavailable broken)
 
-judged_told : {X : Type 0} (conditions : List (Condition Rule)) (read : Option X) → lacks is_unavailable conditions ≡ true → is_told (judged_read (first_broken conditions) read) ≡ true
+judged_told : {X : Type 0} (conditions : List (Condition Rule)) (read : Option X)
+    → lacks is_unavailable conditions ≡ true → is_told (judged_read (first_broken conditions) read) ≡ true
 judged_told conditions read lack = go (first_broken conditions) refl read
   where
-    go : {X : Type 0} (b : Option Rule) → first_broken conditions ≡ b → (read : Option X) → is_told (judged_read b read) ≡ true
+    go : {X : Type 0} (b : Option Rule) → first_broken conditions ≡ b → (read : Option X)
+        → is_told (judged_read b read) ≡ true
     go (Some broken) e read = rw (not_broken is_unavailable conditions broken lack e) refl
     go None e None = refl
     go None e (Some x) = refl
@@ -205,15 +226,18 @@ object_told kind body = judged_told (registered_conditions kind body) (option_ma
 
 parts_told : (body : List ℕ) → is_told (certified_in body) ≡ true
 unfolding certified_in
-parts_told body = judged_told (certified_conditions body) (option_and_then certify_body_of (object_of body)) (body_lacks is_memory rule_of rule_lacks certify_body_conditions (λ d. refl) body)
+parts_told body = judged_told (certified_conditions body) (option_and_then certify_body_of (object_of body))
+    (body_lacks is_memory rule_of rule_lacks certify_body_conditions (λ d. refl) body)
 
-read_lacks : {X : Type 0} (read : Result X Rule) (asked : Grounds) → is_told read ≡ true → lacks is_unavailable (requested_conditions read asked) ≡ true
+read_lacks : {X : Type 0} (read : Result X Rule) (asked : Grounds) → is_told read ≡ true
+    → lacks is_unavailable (requested_conditions read asked) ≡ true
 read_lacks (Ok x) asked told = refl
 read_lacks (Err broken) asked told = rw told refl
 
 -- ---- what an action asks itself
 
-with_room : (front : List (Condition Rule)) (room : Bool) (full : Rule) → is_unavailable full ≡ false → lacks is_unavailable front ≡ true → lacks is_unavailable (front ++ (room, full) ∷ []) ≡ true
+with_room : (front : List (Condition Rule)) (room : Bool) (full : Rule) → is_unavailable full ≡ false
+    → lacks is_unavailable front ≡ true → lacks is_unavailable (front ++ (room, full) ∷ []) ≡ true
 with_room front room full other lack = both_lack is_unavailable front ((room, full) ∷ []) lack (rw other refl)
 
 module _ (seeds : List (List ℕ)) (body : List ℕ) where
@@ -223,7 +247,8 @@ module _ (seeds : List (List ℕ)) (body : List ℕ) where
     where
       go : (prompts : Option PromptsValue) → lacks is_unavailable (prompted_conditions body prompts) ≡ true
       go None = refl
-      go (Some prompts) = body_lacks is_memory rule_of rule_lacks (λ d. answers_body_conditions d prompts) (answers_lack prompts) body
+      go (Some prompts) = body_lacks is_memory rule_of rule_lacks (λ d. answers_body_conditions d prompts)
+          (answers_lack prompts) body
 
   abbrev reads : Place → Bool
   reads (place.Certify n found parts asked) = is_told parts
@@ -232,9 +257,12 @@ module _ (seeds : List (List ℕ)) (body : List ℕ) where
 
   place_lacks : (it : Place) → reads it ≡ true → lacks is_unavailable (place_conditions seeds body it) ≡ true
   place_lacks (place.Session n found (in_session.AddReviewer accounts)) told =
-      with_room (body_conditions rule_of reviewer_body_conditions body) _ rule.ReviewersFull refl (body_lacks is_memory rule_of rule_lacks reviewer_body_conditions (λ d. refl) body)
-  place_lacks (place.NewSession sessions) told = with_room (body_conditions registration_rule registration_conditions body) _ rule.AccountFull refl
-      (body_lacks is_memory_of_caps registration_rule caps_lack registration_conditions (λ d. capabilities_lack (capabilities_at d)) body)
+      with_room (body_conditions rule_of reviewer_body_conditions body) _ rule.ReviewersFull refl
+      (body_lacks is_memory rule_of rule_lacks reviewer_body_conditions (λ d. refl) body)
+  place_lacks (place.NewSession sessions) told =
+      with_room (body_conditions registration_rule registration_conditions body) _ rule.AccountFull refl
+      (body_lacks is_memory_of_caps registration_rule caps_lack registration_conditions
+      (λ d. capabilities_lack (capabilities_at d)) body)
   place_lacks (place.Set session n found (in_set.Submit s)) told = submission_lacks n s
   place_lacks (place.Set session n found (in_set.Resubmit s)) told = submission_lacks n s
   place_lacks (place.Certify n found parts asked) told = read_lacks parts asked told
@@ -242,7 +270,8 @@ module _ (seeds : List (List ℕ)) (body : List ℕ) where
   place_lacks _ told = refl
 
 -- what is read of a body is told so
-wish_reads : (seeds : List (List ℕ)) (u : ℕ) (body : List ℕ) (state : State) (it : Wish) → reads seeds body (place_of seeds u body state it) ≡ true
+wish_reads : (seeds : List (List ℕ)) (u : ℕ) (body : List ℕ) (state : State) (it : Wish)
+    → reads seeds body (place_of seeds u body state it) ≡ true
 wish_reads seeds u body state (wish.Account on_account.Read) = refl
 wish_reads seeds u body state (wish.Certify n) = parts_told body
 wish_reads seeds u body state (wish.Registry (on_registry.New of)) = object_told (kind_of of) body
@@ -256,13 +285,16 @@ module _ (keys : Keys) (moment : ℕ) (r : RequestValue) (state : State) where
   later_lacks None = refl
   later_lacks (Some it) =
       let found = found_of keys.seed r.body it state in
-      both_lack is_unavailable (policy_conditions moment found) (own_conditions keys.seed r.body found) (policy_lacks (action_in found) (facts_in moment found)) (own_lacks it)
+      both_lack is_unavailable (policy_conditions moment found) (own_conditions keys.seed r.body found)
+      (policy_lacks (action_in found) (facts_in moment found)) (own_lacks it)
     where
-      own_lacks : (it : Asker) → lacks is_unavailable (own_conditions keys.seed r.body (found_of keys.seed r.body it state)) ≡ true
+      own_lacks : (it : Asker) → lacks is_unavailable
+          (own_conditions keys.seed r.body (found_of keys.seed r.body it state)) ≡ true
       own_lacks (Login login) = refl
       own_lacks (Caller caller) =
           let at = place_of keys.seed (account_of_claims (claims_of caller.token)) r.body state caller.wish in
-          place_lacks keys.seed r.body at (wish_reads keys.seed (account_of_claims (claims_of caller.token)) r.body state caller.wish)
+          place_lacks keys.seed r.body at (wish_reads keys.seed
+          (account_of_claims (claims_of caller.token)) r.body state caller.wish)
 
   first_lacks : (a : Ask) → lacks is_unavailable (first_conditions_on a r) ≡ true
   first_lacks request.Login = body_lacks is_memory rule_of rule_lacks login_body_conditions (λ d. refl) r.body
@@ -273,6 +305,7 @@ module _ (keys : Keys) (moment : ℕ) (r : RequestValue) (state : State) where
   never_unavailable is =
       let all = conditions keys moment r state in
       let none = not_broken is_unavailable all rule.Unavailable
-      (both_lack is_unavailable (first_conditions moment r) (later_of keys.seed moment r (asker_of keys moment r) state) (first_lacks r.ask) (later_lacks (asker_of keys moment r)))
+      (both_lack is_unavailable (first_conditions moment r) (later_of keys.seed moment r (asker_of keys moment r) state)
+      (first_lacks r.ask) (later_lacks (asker_of keys moment r)))
       (broken all (reply_to keys moment r (asker_of keys moment r) state) rule.Unavailable is) in
       cc

@@ -29,7 +29,8 @@ pub record IsTrueTo (seeds : List (List ℕ)) (number : ℕ) (e : Entry) : Type 
 
 -- the standard answers are those of the vector set of a number, by a capability and under an epoch's seed
 abbrev pub AreStandard : List (List ℕ) → ℕ → CapabilityValue → ℕ → List Answer → Type 0
-AreStandard seeds number capability epoch answers = answers ≡ standard_of (prompts_of (seed_at seeds epoch) number capability)
+AreStandard seeds number capability epoch answers =
+    answers ≡ standard_of (prompts_of (seed_at seeds epoch) number capability)
 
 -- kept standard answers are those of the vector set of this number
 abbrev pub IsStandardOf : List (List ℕ) → ℕ → Standard → Type 0

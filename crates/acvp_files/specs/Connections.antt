@@ -9,7 +9,8 @@ use Rattle.sqlite.specs.Held.{Held, IsNew}
 use Rattle.sqlite.specs.Start.{FindsIn}
 use Rattle.sqlite.specs.State.{HasCleanDisk}
 
--- It is new. If the disk is clean, it is open, and shows what the files held before; if they held no database, its pages
+-- It is new. If the disk is clean, it is open, and shows what the files held before; if they held no database, its
+-- pages
 -- have sums.
 abbrev pub IsConnected : {D : Type 0} {g : Ghosts D} → Image → Held (FileStore D g) → Type 0
 IsConnected image c =

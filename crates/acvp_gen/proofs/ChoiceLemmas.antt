@@ -1,5 +1,6 @@
 -- Lemmas on the groups that a capability gets: there are few, of few and short tests.
-use Rattle.std.proofs.Common.{◌≡◌, ℕ, ◌*◌, ◌%◌, ◌≤◌, List, [], ◌∷◌, ◌++◌, length, get_or, map, Bool, true, false, cond, Option, None, Some, refl, sym, subst, length-append, arith}
+use Rattle.std.proofs.Common.{◌≡◌, ℕ, ◌*◌, ◌%◌, ◌≤◌, List, [], ◌∷◌, ◌++◌, length, get_or, map, Bool, true, false, cond}
+use Rattle.std.proofs.Common.{Option, None, Some, refl, sym, subst, length-append, arith}
 use Rattle.std.specs.Prelude.{All, MatchBool, is_some, IfSome}
 use Rattle.std.specs.List.{filter_map, flat_map, slice_get, range_with_len}
 use Rattle.std.proofs.lemmas.List.Elements.{All-filter, All-cons, All-map, All-nil, All-append, All-head, All-tail}
@@ -9,11 +10,14 @@ use Rattle.acvp_caps.specs.declared.algorithm.Algorithm.{Algorithm}
 use Rattle.acvp_caps.specs.declared.capability.Domains.{Domains}
 use Rattle.acvp_caps.specs.declared.capability.Domains.TheVariants.{Message, KeyAndMac}
 use Rattle.acvp_caps.specs.Algorithms.{is_hmac_of}
-use Rattle.acvp_caps.specs.Capability.{AreLengths, AreDomainsOf, AreHashDomains, AreHmacDomains, block_bits, digest_bits}
+use Rattle.acvp_caps.specs.Capability.{AreLengths, AreDomainsOf, AreHashDomains, AreHmacDomains, block_bits}
+use Rattle.acvp_caps.specs.Capability.{digest_bits}
 use Rattle.acvp_gen.specs.declared.group.GroupForm.{GroupForm}
 use Rattle.acvp_gen.specs.declared.group.GroupForm.TheVariants.{Digest, MonteCarlo}
 use Rattle.acvp_gen.specs.declared.shape.TestShape.{TestShape}
-use Rattle.acvp_gen.specs.Choice.{ShapeValue, ends, has, ends_and_edges, drawn, message_lengths, key_lengths, mac_lengths, hash_test, hash_shape, hash_shapes, hmac_test, hmac_shape, hmac_shapes, shapes_on}
+use Rattle.acvp_gen.specs.Choice.{ShapeValue, ends, has, ends_and_edges, drawn, message_lengths, key_lengths}
+use Rattle.acvp_gen.specs.Choice.{mac_lengths, hash_test, hash_shape, hash_shapes, hmac_test, hmac_shape, hmac_shapes}
+use Rattle.acvp_gen.specs.Choice.{shapes_on}
 use Rattle.acvp_gen.specs.Choice as choice
 use Rattle.acvp_gen.specs.Words.{word_of}
 use Rattle.acvp_gen.specs.Prompt.{sizes_of}
@@ -214,7 +218,8 @@ fit_for_keys a (key ∷ keys) macs hmac whole most =
     (fit_for_keys a keys macs hmac (All-tail (λ n. n % 8 ≡ 0) key keys whole) most)
 
 fit_hmac_shapes : (seed : List ℕ) (vs : ℕ) (a : Algorithm) (keys macs : List ℕ) → is_hmac_of a ≡ true
-    → AreLengths 8 524288 keys → AreLengths 32 (digest_bits a) macs → All (IsShapeOf a) (hmac_shapes seed vs a keys macs)
+    → AreLengths 8 524288 keys → AreLengths 32 (digest_bits a) macs
+    → All (IsShapeOf a) (hmac_shapes seed vs a keys macs)
 fit_hmac_shapes seed vs a keys macs hmac fit_keys fit_macs =
     fit_for_keys a (key_lengths seed vs a keys) (mac_lengths macs) hmac
     (all_lengths (λ n. n % 8 ≡ 0) (choice.key_edges (block_bits a)) keys seed vs choice.key_draws fit_keys.whole_bytes)

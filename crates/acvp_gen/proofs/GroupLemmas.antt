@@ -1,5 +1,6 @@
 -- Lemmas on tests and groups: by what comes before them is the same as by a number and a place that move along.
-use Rattle.std.proofs.Common.{◌≡◌, ℕ, zero, suc, ◌+◌, List, [], ◌∷◌, ◌++◌, length, map, refl, sym, ◌∙◌, ap, length-append, arith, ◌*◌, ◌/◌, ◌%◌, None, Some}
+use Rattle.std.proofs.Common.{◌≡◌, ℕ, zero, suc, ◌+◌, List, [], ◌∷◌, ◌++◌, length, map, refl, sym, ◌∙◌, ap}
+use Rattle.std.proofs.Common.{length-append, arith, ◌*◌, ◌/◌, ◌%◌, None, Some}
 use Rattle.std.specs.Prelude.{All, Option, IfSome}
 use Rattle.std.specs.List.{sum_by, flat_map, range_with_len}
 use Rattle.std.proofs.lemmas.List.{map-append, length-take-le}
@@ -12,7 +13,8 @@ use Rattle.acvp_gen.specs.declared.shape.TestShape.{TestShape}
 use Rattle.acvp_gen.specs.Choice.{ShapeValue}
 use Rattle.acvp_gen.specs.Words.{word_bytes_of, words_in, bytes_of}
 use Rattle.acvp_gen.specs.Prompt.{TestValue, GroupValue, sizes_of}
-use Rattle.acvp_gen.specs.Prompts.{words_of_test, test_at, tests_after, groups_after, tests_in, IsSized, IsGroupOf, AreGroupsOf}
+use Rattle.acvp_gen.specs.Prompts.{words_of_test, test_at, tests_after, groups_after, tests_in, IsSized, IsGroupOf}
+use Rattle.acvp_gen.specs.Prompts.{AreGroupsOf}
 use Rattle.acvp_gen.specs.Private.Filling.{tests_from, groups_from}
 use Rattle.acvp_gen.proofs.ChoiceLemmas.{IsShapeOf}
 use Rattle.acvp_gen.proofs.WordLemmas.{two_ranges}

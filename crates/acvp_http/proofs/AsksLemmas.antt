@@ -1,12 +1,14 @@
 -- An input asks for one thing.
-use Rattle.std.proofs.Common.{◌≡◌, ◌<◌, ◌⊎◌, ⊎_elim, ℕ, ◌-◌, List, [], length, take, drop, Bool, true, false, Option, Result, Ok, Err, refl, sym, ap, ◌∙◌, arith, subst}
+use Rattle.std.proofs.Common.{◌≡◌, ◌<◌, ◌⊎◌, ⊎_elim, ℕ, ◌-◌, List, [], length, take, drop, Bool, true, false, Option}
+use Rattle.std.proofs.Common.{Result, Ok, Err, refl, sym, ap, ◌∙◌, arith, subst}
 use Rattle.std.specs.Prelude.{nat_lt, nat_le, MatchBool}
 use Rattle.httparse.specs.Grammar.{RequestHead, ReadsRequest}
 use Rattle.httparse.proofs.GrammarLemmas.{request_unique}
 use Rattle.acvp_policy.specs.declared.rule.Rule.{Rule}
 use Rattle.acvp_policy.specs.declared.rule.Rule.TheVariants.{BadHead, HeadTooLarge, Truncated}
 use Rattle.acvp_http.proofs.PathLemmas.{Names-one}
-use Rattle.acvp_http.specs.Asks.{FramedHead, ParsedRequest, ReadsBlock, refused, Asks, AsksBlock, IsBlockEnd, HasNoEmptyLine, ends_empty, AskedBy, asked_path, told_size, window, line_count}
+use Rattle.acvp_http.specs.Asks.{FramedHead, ParsedRequest, ReadsBlock, refused, Asks, AsksBlock, IsBlockEnd}
+use Rattle.acvp_http.specs.Asks.{HasNoEmptyLine, ends_empty, AskedBy, asked_path, told_size, window, line_count}
 use Rattle.acvp_http.specs.Paths.{Names}
 use Rattle.acvp_http.specs.Target.{path_of}
 use Rattle.acvp_http.specs.declared.path.Path.{Path}
@@ -31,7 +33,8 @@ refused_once block r s false x y =
     let other : told_size q.0 ≡ Err s = q.2 in
     cc) y) x
 
-refused_or_read : (block : List ℕ) (r : Rule) (head : RequestHead) (size : ℕ) (long : Bool) → long ≡ false → IsRefusedBy block r long
+refused_or_read : (block : List ℕ) (r : Rule) (head : RequestHead) (size : ℕ) (long : Bool) → long ≡ false
+    → IsRefusedBy block r long
     → ReadsRequest block head [] → told_size head ≡ Ok size → ⊥
 refused_or_read block r head size true few x reads told = cc
 refused_or_read block r head size false few x reads told =
@@ -56,26 +59,34 @@ framed_once f g same one other =
 -- a block is read in one way
 pub read_unique : (block : List ℕ) (a b : Result FramedHead Rule) → ReadsBlock block a → ReadsBlock block b → a ≡ b
 read_unique block (Err r) (Err s) x y = ap Err (refused_once block r s (nat_lt 64 (line_count block - 2)) x y)
-read_unique block (Err r) (Ok g) x y = absurd (refused_or_read block r g.head g.size (nat_lt 64 (line_count block - 2)) y.0 x y.1 y.2)
-read_unique block (Ok f) (Err s) x y = absurd (refused_or_read block s f.head f.size (nat_lt 64 (line_count block - 2)) x.0 y x.1 x.2)
-read_unique block (Ok f) (Ok g) x y = ap Ok (framed_once f g (request_unique block f.head g.head [] [] x.1 y.1).0 x.2 y.2)
+read_unique block (Err r) (Ok g) x y =
+    absurd (refused_or_read block r g.head g.size (nat_lt 64 (line_count block - 2)) y.0 x y.1 y.2)
+read_unique block (Ok f) (Err s) x y =
+    absurd (refused_or_read block s f.head f.size (nat_lt 64 (line_count block - 2)) x.0 y x.1 x.2)
+read_unique block (Ok f) (Ok g) x y =
+    ap Ok (framed_once f g (request_unique block f.head g.head [] [] x.1 y.1).0 x.2 y.2)
 
 -- what is asked where the body is there, or isn't
 there_unique : (f : FramedHead) (rest : List ℕ) (a b : ParsedRequest) (there : Bool)
-    → MatchBool there ((named : Option Path) × Names (path_of f.head.target) named × (a ≡ asked_path f.head (take f.size rest) named)) (a ≡ refused Truncated)
-    → MatchBool there ((named : Option Path) × Names (path_of f.head.target) named × (b ≡ asked_path f.head (take f.size rest) named)) (b ≡ refused Truncated)
+    → MatchBool there ((named : Option Path) × Names (path_of f.head.target) named
+    × (a ≡ asked_path f.head (take f.size rest) named)) (a ≡ refused Truncated)
+    → MatchBool there ((named : Option Path) × Names (path_of f.head.target) named
+    × (b ≡ asked_path f.head (take f.size rest) named)) (b ≡ refused Truncated)
     → a ≡ b
 there_unique f rest a b true x y =
-    x.2 ∙ (ap (λ named. asked_path f.head (take f.size rest) named) (Names-one (path_of f.head.target) x.0 y.0 x.1 y.1) ∙ sym y.2)
+    x.2 ∙ (ap (λ named. asked_path f.head (take f.size rest) named) (Names-one (path_of f.head.target) x.0 y.0 x.1 y.1)
+    ∙ sym y.2)
 there_unique f rest a b false x y = x ∙ sym y
 
-asked_by_unique : (rest : List ℕ) (read : Result FramedHead Rule) (a b : ParsedRequest) → AskedBy rest read a → AskedBy rest read b → a ≡ b
+asked_by_unique : (rest : List ℕ) (read : Result FramedHead Rule) (a b : ParsedRequest) → AskedBy rest read a
+    → AskedBy rest read b → a ≡ b
 asked_by_unique rest (Err rule) a b x y = x ∙ sym y
 asked_by_unique rest (Ok f) a b x y = there_unique f rest a b (nat_le f.size (length rest)) x y
 
 block_unique : (block rest : List ℕ) (a b : ParsedRequest) → AsksBlock block rest a → AsksBlock block rest b → a ≡ b
 block_unique block rest a b x y =
-    asked_by_unique rest y.0 a b (subst (λ (read : Result FramedHead Rule). AskedBy rest read a) (read_unique block x.0 y.0 x.1 y.1) x.2) y.2
+    asked_by_unique rest y.0 a b
+    (subst (λ (read : Result FramedHead Rule). AskedBy rest read a) (read_unique block x.0 y.0 x.1 y.1) x.2) y.2
 
 -- ---- an input
 

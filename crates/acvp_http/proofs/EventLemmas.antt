@@ -1,5 +1,6 @@
 -- Lemmas on how an event is written.
-use Rattle.std.proofs.Common.{◌≡◌, ◌≢◌, ◌<◌, ◌≤◌, ◌+◌, ℕ, suc, true, List, [], ◌∷◌, ◌++◌, length, get_or, codes, decimal, arith, rules, sym, ◌∙◌, ap, refl, append_assoc, length-append}
+use Rattle.std.proofs.Common.{◌≡◌, ◌≢◌, ◌<◌, ◌≤◌, ◌+◌, ℕ, suc, true, List, [], ◌∷◌, ◌++◌, length, get_or, codes}
+use Rattle.std.proofs.Common.{decimal, arith, rules, sym, ◌∙◌, ap, refl, append_assoc, length-append}
 use Rattle.std.proofs.lemmas.Fmt.{length-decimal-le}
 use Rattle.hex.specs.Hex.{is_hex_digit}
 use Rattle.hex.proofs.HexLemmas.{decode_of-ok}
@@ -150,7 +151,8 @@ line_short (line.Order m (kind.RejectRequest decided)) text (rest, is, (named, m
     rw is (omega arith)
 
 -- an event's text begins with its line
-pub event_front : (e : Event) (front : List ℕ) → IsWritten e front → (said : ScriptLine) × (text : List ℕ) × (tail : List ℕ)
+pub event_front : (e : Event) (front : List ℕ) → IsWritten e front → (said : ScriptLine) × (text : List ℕ)
+    × (tail : List ℕ)
     × IsLine said text × (front ≡ text ++ 10 ∷ tail)
 event_front (request m bytes) front written =
     let parts = request_parts m bytes front written in
@@ -160,12 +162,33 @@ event_front (order m o) front written =
     (line.Order m o, parts.0, [], parts.1, parts.2)
 
 -- an order's line and its line feed are the order, written
-pub order_written : (m : ℕ) (o : Order) (text : List ℕ) → IsLine (line.Order m o) text → IsWritten (order m o) (text ++ 10 ∷ [])
-order_written m (kind.AddAccount account secret) text (rest, is, (named, (digits, hex, (number, is')))) =
-    (number, named, (digits, hex, rw (is, is') (sym (ap (λ more. codes "account-add " ++ more) (regroup_add (decimal m) (decimal account) digits)))))
-order_written m (kind.DisableAccount account) text (rest, is, (named, (number, is'))) =
-    (number, named, rw (is, is') (sym (ap (λ more. codes "account-disable " ++ more) (regroup_number (decimal m) (decimal account)))))
-order_written m (kind.ApproveRequest decided) text (rest, is, (named, (number, is'))) =
-    (number, named, rw (is, is') (sym (ap (λ more. codes "request-approve " ++ more) (regroup_number (decimal m) (decimal decided)))))
-order_written m (kind.RejectRequest decided) text (rest, is, (named, (number, is'))) =
-    (number, named, rw (is, is') (sym (ap (λ more. codes "request-reject " ++ more) (regroup_number (decimal m) (decimal decided)))))
+pub order_written : (m : ℕ) (o : Order) (text : List ℕ) → IsLine (line.Order m o) text
+    → IsWritten (order m o) (text ++ 10 ∷ [])
+order_written m (kind.AddAccount account secret) text (rest, is, (named, (digits, hex, (number, is')))) = (
+  number,
+  named,
+  (
+    digits,
+    hex,
+    rw (is, is') (sym (ap (λ more. codes "account-add " ++ more)
+        (regroup_add (decimal m) (decimal account) digits))),
+  ),
+)
+order_written m (kind.DisableAccount account) text (rest, is, (named, (number, is'))) = (
+  number,
+  named,
+  rw (is, is')
+      (sym (ap (λ more. codes "account-disable " ++ more) (regroup_number (decimal m) (decimal account)))),
+)
+order_written m (kind.ApproveRequest decided) text (rest, is, (named, (number, is'))) = (
+  number,
+  named,
+  rw (is, is')
+      (sym (ap (λ more. codes "request-approve " ++ more) (regroup_number (decimal m) (decimal decided)))),
+)
+order_written m (kind.RejectRequest decided) text (rest, is, (named, (number, is'))) = (
+  number,
+  named,
+  rw (is, is')
+      (sym (ap (λ more. codes "request-reject " ++ more) (regroup_number (decimal m) (decimal decided)))),
+)

@@ -1,5 +1,7 @@
 -- Lemmas on the fields of a head.
-use Rattle.std.proofs.Common.{◌≡◌, ◌<◌, ℕ, ◌+◌, List, [], ◌∷◌, ◌++◌, length, map, drop, get_or, Bool, true, false, if◌then◌else◌, cond, not, ◌||◌, ◌==◌, nat_le, codes, Some, None, Ok, refl, sym, ◌∙◌, ap, ◌≤◌, arith, append_assoc, length-append}
+use Rattle.std.proofs.Common.{◌≡◌, ◌<◌, ℕ, ◌+◌, List, [], ◌∷◌, ◌++◌, length, map, drop, get_or, Bool, true, false}
+use Rattle.std.proofs.Common.{if◌then◌else◌, cond, not, ◌||◌, ◌==◌, nat_le, codes, Some, None, Ok, refl, sym, ◌∙◌, ap}
+use Rattle.std.proofs.Common.{◌≤◌, arith, append_assoc, length-append}
 use Rattle.std.specs.Prelude.{All}
 use Rattle.std.proofs.lemmas.List.Elements.{All-push, All-get_or}
 use Rattle.std.proofs.lemmas.List.{drop_more, map-append, length-map}
@@ -10,7 +12,8 @@ use Rattle.httparse.specs.declared.spans.HeaderSpan.{HeaderSpan}
 use Rattle.acvp_desk.specs.Conditions.{judged}
 use Rattle.acvp_policy.specs.declared.rule.Rule.{Rule}
 use Rattle.acvp_policy.specs.declared.rule.Rule.TheVariants.{LengthMissing, BadLength, BodyTooLarge, HostMissing}
-use Rattle.acvp_http.specs.Asks.{values_of, needs_length, is_nil, lengths_agree, body_length, hosts_fit, framing_conditions}
+use Rattle.acvp_http.specs.Asks.{values_of, needs_length, is_nil, lengths_agree, body_length, hosts_fit}
+use Rattle.acvp_http.specs.Asks.{framing_conditions}
 
 values_of-cons : (block name : List ℕ) (found : List Span) (h : HeaderSpan) (rest : List HeaderSpan) (b : Bool)
     → b ≡ str_eq_ignore_ascii_case (span_bytes block h.name) name →

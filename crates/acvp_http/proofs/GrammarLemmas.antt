@@ -1,5 +1,6 @@
 -- Lemmas on input that leaves the grammar of scripts.
-use Rattle.std.proofs.Common.{◌≡◌, ◌≢◌, ℕ, List, [], ◌∷◌, ◌++◌, length, decimal, Option, Some, None, IfSome, arith, sym, ◌∙◌, ap, refl, append_assoc, append-nil, length-append}
+use Rattle.std.proofs.Common.{◌≡◌, ◌≢◌, ℕ, List, [], ◌∷◌, ◌++◌, length, decimal, Option, Some, None, IfSome, arith, sym}
+use Rattle.std.proofs.Common.{◌∙◌, ap, refl, append_assoc, append-nil, length-append}
 use Rattle.std.specs.Io.KnownBytes.{Consumes}
 use Rattle.acvp_desk.specs.declared.order.Order.{Order}
 use Rattle.acvp_desk.specs.declared.order.Order.TheVariants as kind
@@ -176,7 +177,8 @@ pub no_bytes_alone : (text part : List ℕ) (m n : ℕ) → IsLine (line.Request
 no_bytes_alone text part m n says none = no_bytes ((text ++ 10 ∷ []) ++ part) part text m n refl says none
 
 -- why no line was read is why no event was
-pub stops_line : (a b : InputStream) (fault : ScriptFault) (limit : ℕ) → StopsLine a fault b limit × TakesPart a b (Lacks 10)
+pub stops_line : (a b : InputStream) (fault : ScriptFault) (limit : ℕ) → StopsLine a fault b limit
+    × TakesPart a b (Lacks 10)
     → StopsEvent a fault b limit × TakesPart a b HasNoEvent
 stops_line a b Read limit (stops, (part, taken, lacks)) = (stops, (part, taken, no_event_lacks part lacks))
 stops_line a b Write limit (stops, taken) = absurd stops
@@ -194,7 +196,8 @@ stops_body_part a b c text m n consumed says (part, taken, none) = (
   no_bytes_alone text part m n says none,
 )
 
-pub stops_body : (a b c : InputStream) (text : List ℕ) (m n : ℕ) (fault : ScriptFault) (limit : ℕ) → Gives a b (text ++ 10 ∷ [])
+pub stops_body : (a b c : InputStream) (text : List ℕ) (m n : ℕ) (fault : ScriptFault) (limit : ℕ)
+    → Gives a b (text ++ 10 ∷ [])
     → IsLine (line.Request m n) text → StopsBody n b fault c limit × TakesPart b c (HasNoBody n)
     → StopsEvent a fault c limit × TakesPart a c HasNoEvent
 stops_body a b c text m n Read limit consumed line (stops, taken) =

@@ -24,9 +24,11 @@ pub told_apart : {X F : Type 0} {told : Result X F} {x : X} → told ≡ Ok x �
 told_apart is (fault, refused) = cc
 
 module _ {T : Type 0} (meaning : Meaning T)
-    (rests : (t : T) (c d : Content) → meaning.is_open t → meaning.stands t c → meaning.leaves t c d) (m : ℕ) (bytes : List ℕ) where
+    (rests : (t : T) (c d : Content) → meaning.is_open t → meaning.stands t c → meaning.leaves t c d) (m : ℕ)
+    (bytes : List ℕ) where
   -- nobody was looked at
-  pub handled_at_once : (at : DeskValue T) (reply : List ℕ) → RefusesAtOnce m bytes reply → Handles meaning m bytes reply at at
+  pub handled_at_once : (at : DeskValue T) (reply : List ℕ) → RefusesAtOnce m bytes reply
+      → Handles meaning m bytes reply at at
   handled_at_once at reply at_once = record {
     keys = refl;
     was_open = λ live. live;
@@ -45,24 +47,35 @@ module _ {T : Type 0} (meaning : Meaning T)
     | inr asked ↦ inr asked
   ]
 
-  module _ (r : RequestValue) (asks : AsksTheDesk m bytes r) (date : List ℕ) (dated : IsDateOf m date) (old new : DeskValue T) (same : new.keys ≡ old.keys)
+  module _ (r : RequestValue) (asks : AsksTheDesk m bytes r) (date : List ℕ) (dated : IsDateOf m date)
+      (old new : DeskValue T) (same : new.keys ≡ old.keys)
       (changed : Bool) (reply : List ℕ) where
     -- the desk has denied it
-    pub handled_denied : (told : Rule) → desk.Serves meaning (result_of (Denied told) changed) old.tables new.tables old.keys m r
+    pub handled_denied : (told : Rule)
+        → desk.Serves meaning (result_of (Denied told) changed) old.tables new.tables old.keys m r
         → reply ≡ refusal (Some date) told → Handles meaning m bytes reply old new
     handled_denied told serves is = record {
       keys = same;
       was_open = serves.was_open;
       was_clean = serves.was_clean;
-      stays_open = live_denied meaning old.keys m bytes r asks date dated old.tables new.tables changed told reply serves is;
-      shown = inr (r, asks, shown_denied meaning old.keys m bytes r asks date dated old.tables new.tables changed told reply serves is);
-      served = taken_denied meaning old.keys m bytes r asks date dated old.tables new.tables changed rests told reply serves is;
+      stays_open = live_denied meaning old.keys m bytes r asks date dated old.tables new.tables changed told reply
+          serves is;
+      shown = inr (
+        r,
+        asks,
+        shown_denied meaning old.keys m bytes r asks date dated old.tables new.tables changed told
+            reply serves is,
+      );
+      served = taken_denied meaning old.keys m bytes r asks date dated old.tables new.tables changed rests told reply
+          serves is;
       shut = serves.shut;
     }
 
     -- the desk has given a reply
     pub handled_given : (start : (seeds : List (List ℕ)) → IsKept seeds no_rows)
-        (nobody : (keys : Keys) (m : ℕ) (r : RequestValue) (shown : Data) → answer keys m r (state_of no_rows) ≡ Ok (Some shown) → ⊥) (buffer : Vec ℕ Global) → desk.Serves meaning (result_of (Given buffer) changed) old.tables new.tables old.keys m r
+        (nobody : (keys : Keys) (m : ℕ) (r : RequestValue) (shown : Data)
+        → answer keys m r (state_of no_rows) ≡ Ok (Some shown) → ⊥) (buffer : Vec ℕ Global)
+        → desk.Serves meaning (result_of (Given buffer) changed) old.tables new.tables old.keys m r
         → reply ≡ framed 200 (Some date) [] (drop spare buffer.items) → Handles meaning m bytes reply old new
     handled_given start nobody buffer serves is = record {
       keys = same;
@@ -70,6 +83,7 @@ module _ {T : Type 0} (meaning : Meaning T)
       was_clean = serves.was_clean;
       stays_open = inr serves.stays_open;
       shown = inr (r, asks, (date, dated, inl (_, is)));
-      served = taken_given meaning old.keys m bytes r asks date dated old.tables new.tables changed start nobody buffer reply serves is;
+      served = taken_given meaning old.keys m bytes r asks date dated old.tables new.tables changed start nobody buffer
+          reply serves is;
       shut = serves.shut;
     }

@@ -1,11 +1,14 @@
 -- Lemmas on the block of a head: how many lines it has.
-use Rattle.std.proofs.Common.{◌≡◌, ◌≤◌, ℕ, ◌+◌, List, [], ◌∷◌, ◌++◌, length, Bool, true, false, ◌||◌, ◌==◌, if◌then◌else◌, count_by, arith, refl, ap, ◌∙◌, lit≤, append-nil, append_assoc}
+use Rattle.std.proofs.Common.{◌≡◌, ◌≤◌, ℕ, ◌+◌, List, [], ◌∷◌, ◌++◌, length, Bool, true, false, ◌||◌, ◌==◌}
+use Rattle.std.proofs.Common.{if◌then◌else◌, count_by, arith, refl, ap, ◌∙◌, lit≤, append-nil, append_assoc}
 use Rattle.std.specs.Prelude.{IsTrue}
 use Rattle.std.proofs.lemmas.List.Elements.{All-head}
 use Rattle.std.proofs.lemmas.Bool.Decides.{nat_tests}
 use Rattle.std.proofs.lemmas.List.Sums.{sum_by-append}
 use Rattle.std.specs.List.{flat_map}
-use Rattle.httparse.specs.Grammar.{LineEnd, crlf, lf, print_end, print_blank, Field, print_field, print_section, print_version, RequestHead, print_request, IsRequestHead, ReadsRequest, IsToken, is_token_byte}
+use Rattle.httparse.specs.Grammar.{LineEnd, crlf, lf, print_end, print_blank, Field, print_field, print_section}
+use Rattle.httparse.specs.Grammar.{print_version, RequestHead, print_request, IsRequestHead, ReadsRequest, IsToken}
+use Rattle.httparse.specs.Grammar.{is_token_byte}
 use Rattle.httparse.proofs.GrammarLemmas.{cons-append}
 use Rattle.httparse.proofs.PieceLemmas.{token_is_no_newline}
 use Rattle.acvp_http.specs.Asks.{starts_empty, line_count}

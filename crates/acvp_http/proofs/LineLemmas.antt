@@ -1,5 +1,6 @@
 -- Lemmas on the lines of a script and their words.
-use Rattle.std.proofs.Common.{◌≡◌, ◌≢◌, ◌<◌, ◌^◌, ◌+◌, ℕ, List, [], ◌∷◌, ◌++◌, length, get_or, take, decimal, true, arith, rules, sym, ◌∙◌, refl}
+use Rattle.std.proofs.Common.{◌≡◌, ◌≢◌, ◌<◌, ◌^◌, ◌+◌, ℕ, List, [], ◌∷◌, ◌++◌, length, get_or, take, decimal, true}
+use Rattle.std.proofs.Common.{arith, rules, sym, ◌∙◌, refl}
 use Rattle.std.proofs.lemmas.List.{take_more}
 use Rattle.std.proofs.lemmas.Fmt.{decimal_injective, digits_decimal}
 use Rattle.std.proofs.lemmas.Str.Parse.{IsNumeralModel, numerals_by_value, tells_all_ascii_digits, digit_from_value}
@@ -10,7 +11,8 @@ use Rattle.acvp_http.specs.declared.script.Command.{Command}
 use Rattle.acvp_http.specs.declared.script.Command.TheVariants as command
 use Rattle.acvp_http.specs.declared.script.ScriptLine.{ScriptLine}
 use Rattle.acvp_http.specs.declared.script.ScriptLine.TheVariants as line
-use Rattle.acvp_http.specs.Private.Lines.{Lacks, IsMoment, IsRequestTail, IsAddTail, IsDisableTail, IsDecisionTail, IsLine, command_word}
+use Rattle.acvp_http.specs.Private.Lines.{Lacks, IsMoment, IsRequestTail, IsAddTail, IsDisableTail, IsDecisionTail}
+use Rattle.acvp_http.specs.Private.Lines.{IsLine, command_word}
 use Rattle.acvp_http.specs.Script.{IsNumber, IsAccountNumber, IsSecretText}
 
 -- the kit's test of digits and the number that they write

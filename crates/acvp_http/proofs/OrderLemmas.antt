@@ -16,7 +16,8 @@ use Rattle.acvp_http.proofs.ReadLineLemmas.{same_fronts}
 same_line : (text a b : List ℕ) → text ≡ a ++ 10 ∷ [] → text ≡ b ++ 10 ∷ [] → a ≡ b
 same_line text a b is is' =
     let both = sym is ∙ is' in
-    (same_fronts a (10 ∷ []) b (10 ∷ []) (omega (arith, length-append a (10 ∷ []), length-append b (10 ∷ []), ap length both)) both).0
+    (same_fronts a (10 ∷ []) b (10 ∷ [])
+    (omega (arith, length-append a (10 ∷ []), length-append b (10 ∷ []), ap length both)) both).0
 
 -- no order is written without a line feed at its end
 pub no_order_unended : (text : List ℕ) → ((front : List ℕ) → text ≢ front ++ 10 ∷ []) → (m : ℕ) (o : Order)
@@ -34,16 +35,20 @@ no_order_unsaid text said ends none m o written =
 not_both : (said : List ℕ) (m n k : ℕ) (o : Order) → IsLine (line.Request m n) said → IsLine (line.Order k o) said → ⊥
 not_both said m n k (kind.AddAccount account secret) (rest, is, tail) (other, is', tail') =
     let same : command_word command.Request ≡ command_word command.AddAccount =
-    (word_is said (command_word command.Request) rest other command.AddAccount (word_lacks command.Request, is) is').0 in cc
+    (word_is said (command_word command.Request) rest other command.AddAccount
+    (word_lacks command.Request, is) is').0 in cc
 not_both said m n k (kind.DisableAccount account) (rest, is, tail) (other, is', tail') =
     let same : command_word command.Request ≡ command_word command.DisableAccount =
-    (word_is said (command_word command.Request) rest other command.DisableAccount (word_lacks command.Request, is) is').0 in cc
+    (word_is said (command_word command.Request) rest other command.DisableAccount
+    (word_lacks command.Request, is) is').0 in cc
 not_both said m n k (kind.ApproveRequest decided) (rest, is, tail) (other, is', tail') =
     let same : command_word command.Request ≡ command_word command.ApproveRequest =
-    (word_is said (command_word command.Request) rest other command.ApproveRequest (word_lacks command.Request, is) is').0 in cc
+    (word_is said (command_word command.Request) rest other command.ApproveRequest
+    (word_lacks command.Request, is) is').0 in cc
 not_both said m n k (kind.RejectRequest decided) (rest, is, tail) (other, is', tail') =
     let same : command_word command.Request ≡ command_word command.RejectRequest =
-    (word_is said (command_word command.Request) rest other command.RejectRequest (word_lacks command.Request, is) is').0 in cc
+    (word_is said (command_word command.Request) rest other command.RejectRequest
+    (word_lacks command.Request, is) is').0 in cc
 
 pub no_order_request : (text said : List ℕ) (m n : ℕ) → text ≡ said ++ 10 ∷ [] → IsLine (line.Request m n) said
     → (k : ℕ) (o : Order) → IsWritten (order k o) text → ⊥

@@ -1,5 +1,6 @@
 -- Lemmas on runs that go on by one turn.
-use Rattle.std.proofs.Common.{◌≡◌, ◌≢◌, ◌<◌, ◌≤◌, ◌+◌, ◌-◌, ◌^◌, min, inr, ℕ, true, List, [], ◌∷◌, ◌++◌, length, Option, None, Some, Err, subst, arith, sym, ◌∙◌, ap, refl, append_assoc, length-append}
+use Rattle.std.proofs.Common.{◌≡◌, ◌≢◌, ◌<◌, ◌≤◌, ◌+◌, ◌-◌, ◌^◌, min, inr, ℕ, true, List, [], ◌∷◌, ◌++◌, length, Option}
+use Rattle.std.proofs.Common.{None, Some, Err, subst, arith, sym, ◌∙◌, ap, refl, append_assoc, length-append}
 use Rattle.std.proofs.lemmas.Bool.{le-leb}
 use Rattle.std.proofs.lemmas.List.{append-nil}
 use Rattle.std.specs.Io.KnownBytes.{Appends, Consumes}
@@ -39,7 +40,8 @@ pub events_more : (turns : List Turn) (turn : Turn) → events_of (turns ++ turn
 events_more [] turn = refl
 events_more (t ∷ turns) turn = ap (λ rest. t.event ∷ rest) (events_more turns turn)
 
-pub output_more : (answers : List EventAnswer) (answer : EventAnswer) → output_of (answers ++ answer ∷ []) ≡ output_of answers
+pub output_more : (answers : List EventAnswer) (answer : EventAnswer)
+    → output_of (answers ++ answer ∷ []) ≡ output_of answers
     ++ answer_text answer
 output_more [] answer = append-nil (answer_text answer)
 output_more (a ∷ answers) answer = ap (λ rest. answer_text a ++ rest) (output_more answers answer)
@@ -50,12 +52,15 @@ appends_nothing None = tt
 appends_nothing (Some xs) = sym (append-nil xs)
 
 -- a turn of a desk with the same keys
-pub under : {T : Type 0} (meaning : Meaning T) (now keys : Keys) (old new : T) (turn : Turn) (answer : EventAnswer) → now ≡ keys
+pub under : {T : Type 0} (meaning : Meaning T) (now keys : Keys) (old new : T) (turn : Turn) (answer : EventAnswer)
+    → now ≡ keys
     → HandlesTurn meaning now turn answer old new → HandlesTurn meaning keys turn answer old new
-under meaning now keys old new turn answer same handled = subst (λ (k : Keys). HandlesTurn meaning k turn answer old new) same handled
+under meaning now keys old new turn answer same handled =
+    subst (λ (k : Keys). HandlesTurn meaning k turn answer old new) same handled
 
 -- a store that is shut, over one turn more
-pub shut_more : {T : Type 0} (meaning : Meaning T) (start mid now : T) → (meaning.is_clean now → meaning.is_clean mid) → (meaning.is_open mid → meaning.is_open start)
+pub shut_more : {T : Type 0} (meaning : Meaning T) (start mid now : T) → (meaning.is_clean now → meaning.is_clean mid)
+    → (meaning.is_open mid → meaning.is_open start)
     → LeavesShut meaning start mid → LeavesShut meaning mid now → LeavesShut meaning start now
 shut_more meaning start mid now was_clean was_open first last =
     λ clean off c d left. last clean (λ live. off (was_open live)) c d (first (was_clean clean) off c d left)
@@ -64,7 +69,8 @@ shut_more meaning start mid now was_clean was_open first last =
 module _ {T : Type 0} (meaning : Meaning T) (keys : Keys) where
   open meaning use {stands, is_open, is_clean}
 
-  through_more : (turns : List Turn) (answers : List EventAnswer) (start mid now : T) (turn : Turn) (answer : EventAnswer)
+  through_more : (turns : List Turn) (answers : List EventAnswer) (start mid now : T) (turn : Turn)
+      (answer : EventAnswer)
       → GoesThrough meaning keys turns answers start mid → HandlesTurn meaning keys turn answer mid now
       → GoesThrough meaning keys (turns ++ turn ∷ []) (answers ++ answer ∷ []) start now
   through_more [] [] start mid now turn answer through handled =
@@ -76,16 +82,20 @@ module _ {T : Type 0} (meaning : Meaning T) (keys : Keys) where
       (next, first, through_more turns answers next mid now turn answer through handled)
 
   -- a disk that is clean at the end was clean at the start
-  pub through_clean : (turns : List Turn) (answers : List EventAnswer) (old new : T) → GoesThrough meaning keys turns answers old new → is_clean new → is_clean old
+  pub through_clean : (turns : List Turn) (answers : List EventAnswer) (old new : T)
+      → GoesThrough meaning keys turns answers old new → is_clean new → is_clean old
   through_clean [] [] old new through clean = subst (λ (t : T). is_clean t) through clean
   through_clean [] (a ∷ answers) old new through clean = absurd through
   through_clean (t ∷ turns) [] old new through clean = absurd through
-  through_clean (t ∷ turns) (a ∷ answers) old new (mid, first, through) clean = first.was_clean (through_clean turns answers mid new through clean)
+  through_clean (t ∷ turns) (a ∷ answers) old new (mid, first, through) clean =
+      first.was_clean (through_clean turns answers mid new through clean)
 
   -- and then the tables go by all turns
-  pub make_a_run : (turns : List Turn) (answers : List EventAnswer) (old new : T) → GoesThrough meaning keys turns answers old new
+  pub make_a_run : (turns : List Turn) (answers : List EventAnswer) (old new : T)
+      → GoesThrough meaning keys turns answers old new
       → GoesByTurns meaning keys turns answers old new
-  make_a_run [] [] old new through = λ clean c kept h. (c, refl, subst (λ (t : T). is_open t → stands t c) (sym through) h, kept)
+  make_a_run [] [] old new through =
+      λ clean c kept h. (c, refl, subst (λ (t : T). is_open t → stands t c) (sym through) h, kept)
   make_a_run [] (a ∷ answers) old new through = absurd through
   make_a_run (t ∷ turns) [] old new through = absurd through
   make_a_run (t ∷ turns) (a ∷ answers) old new (mid, first, through) = λ clean c kept h.
@@ -118,7 +128,8 @@ module _ {T : Type 0} (meaning : Meaning T) (keys : Keys) (start : T) where
     appended = appends_nothing old.contents;
   }
 
-  module _ (mid now : T) (input left left' : InputStream) (old new new' : OutputStream) (turn : Turn) (answer : EventAnswer) (front : List ℕ) where
+  module _ (mid now : T) (input left left' : InputStream) (old new new' : OutputStream) (turn : Turn)
+      (answer : EventAnswer) (front : List ℕ) where
     -- one turn more
     pub ran_more : (count : ℕ) → Ran mid input left old new count → IsWritten turn.event front
         → Gives left left' front → HandlesTurn meaning keys turn answer mid now
@@ -134,7 +145,8 @@ module _ {T : Type 0} (meaning : Meaning T) (keys : Keys) (start : T) where
               (script_more (events_of ran.turns) ran.text front turn.event ran.script written);
           size = omega (arith, length-append ran.turns (turn ∷ []), ran.size);
           consumed = consumes_consumes input.held left.held left'.held ran.text front ran.consumed consumed;
-          appended = rw (output_more ran.answers answer) (appends_appends old.contents new.contents new'.contents (output_of ran.answers)
+          appended = rw (output_more ran.answers answer)
+              (appends_appends old.contents new.contents new'.contents (output_of ran.answers)
               (answer_text answer) ran.appended appended);
         }
 
@@ -153,7 +165,13 @@ module _ {T : Type 0} (meaning : Meaning T) (keys : Keys) (start : T) where
         ran.answers,
         answer,
         refl,
-        (begun, rest, parts, appends_appends old.contents new.contents new'.contents (output_of ran.answers) begun ran.appended appended),
+        (
+          begun,
+          rest,
+          parts,
+          appends_appends old.contents new.contents new'.contents
+              (output_of ran.answers) begun ran.appended appended,
+        ),
       ),
       omega (arith, length-append ran.turns (turn ∷ []), ran.size),
     )
@@ -161,11 +179,14 @@ module _ {T : Type 0} (meaning : Meaning T) (keys : Keys) (start : T) where
 -- what was taken behind the turns holds no whole event
 pub in_part : (input left left' : InputStream) (text : List ℕ) → Gives input left text → TakesPart left left' HasNoEvent
     → TakesInPart input left' text
-in_part input left left' text consumed (part, taken, none) = (part, none, consumes_consumes input.held left.held left'.held text part consumed taken)
+in_part input left left' text consumed (part, taken, none) =
+    (part, none, consumes_consumes input.held left.held left'.held text part consumed taken)
 
 -- the byte behind the last turn isn't read: a read has failed, or there were too many
-pub stopped_at_last : (read : ReadFault) (limit : ℕ) (input left : InputStream) (old new : OutputStream) (turns : List Turn)
-    (answers : List EventAnswer) (text : List ℕ) → StopsReading read left limit → limit ≡ min (input.reads + most_reads) (2 ^ 64 - 1)
+pub stopped_at_last : (read : ReadFault) (limit : ℕ) (input left : InputStream) (old new : OutputStream)
+    (turns : List Turn)
+    (answers : List EventAnswer) (text : List ℕ) → StopsReading read left limit
+    → limit ≡ min (input.reads + most_reads) (2 ^ 64 - 1)
     → TakesInPart input left text → Gets old new (output_of answers)
     → StopsAfter input left turns text (Err (stopped_by read)) × WritesAnswers old new answers (Err (stopped_by read))
 stopped_at_last Failed limit input left old new turns answers text stops at part appended = (part, appended)

@@ -18,10 +18,13 @@ module _ {T : Type 0} (meaning : Meaning T)
 
   -- it is done or refused, or it is unavailable
   abbrev pub Turned : OrderReply → Type 0
-  Turned reply = (unavailable : Bool) × HandlesTurn meaning keys (record { event = order m o; unavailable = unavailable }) (ordered reply) old new
+  Turned reply = (unavailable : Bool)
+      × HandlesTurn meaning keys (record { event = order m o; unavailable = unavailable }) (ordered reply) old new
 
-  answered : {reply : OrderReply} → (is_open new → is_open old) → (is_clean new → is_clean old) → (is_clean new → is_open old × is_open new)
-      → Answers meaning reply old new o → Settles meaning old new o → LeavesShut meaning old new → ShowsEvent meaning (order m o) (ordered reply) old new
+  answered : {reply : OrderReply} → (is_open new → is_open old) → (is_clean new → is_clean old)
+      → (is_clean new → is_open old × is_open new)
+      → Answers meaning reply old new o → Settles meaning old new o → LeavesShut meaning old new
+      → ShowsEvent meaning (order m o) (ordered reply) old new
       → Turned reply
   answered was_open was_clean lasting said settles shut shown = (
     false,
@@ -45,9 +48,12 @@ module _ {T : Type 0} (meaning : Meaning T)
   -- an order that is carried out is a turn
   pub order_taken : (reply : OrderReply) → Orders meaning reply old new o → Turned reply
   order_taken (Done approved) it = answered it.was_open it.was_clean it.stays_open it.answered it.settled it.shut tt
-  order_taken Taken it = answered it.was_open it.was_clean it.stays_open it.answered it.settled it.shut (it.same, it.kept)
-  order_taken Unknown it = answered it.was_open it.was_clean it.stays_open it.answered it.settled it.shut (it.same, it.kept)
-  order_taken NotInitial it = answered it.was_open it.was_clean it.stays_open it.answered it.settled it.shut (it.same, it.kept)
+  order_taken Taken it = answered it.was_open it.was_clean it.stays_open it.answered it.settled it.shut
+      (it.same, it.kept)
+  order_taken Unknown it = answered it.was_open it.was_clean it.stays_open it.answered it.settled it.shut
+      (it.same, it.kept)
+  order_taken NotInitial it = answered it.was_open it.was_clean it.stays_open it.answered it.settled it.shut
+      (it.same, it.kept)
   order_taken Unavailable it = (
     true,
     record {
@@ -56,7 +62,8 @@ module _ {T : Type 0} (meaning : Meaning T)
       stays_open = inl refl;
       shown = it.same;
       taken = λ clean c kept h. (c, (refl, refl), λ live. it.same live c (h (it.was_open live)), kept);
-      left = λ clean live c kept h. (c, (refl, refl), kept, (content_order_effect o c, refl, it.settled clean live c kept.sound h));
+      left = λ clean live c kept h.
+          (c, (refl, refl), kept, (content_order_effect o c, refl, it.settled clean live c kept.sound h));
       shut = it.shut;
       idle = λ clean off c kept. (refl, refl);
     },

@@ -1,5 +1,7 @@
 -- Lemmas on writing.
-use Rattle.std.proofs.Common.{◌≡◌, ◌<◌, ◌≤◌, ◌+◌, ◌-◌, ◌||◌, ◌&&◌, ◌==◌, nat_lt, ℕ, Bool, true, false, List, [], ◌++◌, length, take, take-add, drop, codes, decimal, Option, Some, None, Result, Ok, Err, arith, sym, ◌∙◌, ap, append_assoc}
+use Rattle.std.proofs.Common.{◌≡◌, ◌<◌, ◌≤◌, ◌+◌, ◌-◌, ◌||◌, ◌&&◌, ◌==◌, nat_lt, ℕ, Bool, true, false, List, [], ◌++◌}
+use Rattle.std.proofs.Common.{length, take, take-add, drop, codes, decimal, Option, Some, None, Result, Ok, Err, arith}
+use Rattle.std.proofs.Common.{sym, ◌∙◌, ap, append_assoc}
 use Rattle.std.proofs.lemmas.List.{append-nil, length-drop, take_all, take-append-drop}
 use Rattle.std.proofs.lemmas.Bool.Decides.{nat_tests}
 use Rattle.std.specs.Io.KnownBytes.{Appends, Keeps}
@@ -63,34 +65,45 @@ wrote_more a b c bs k n low first bound second =
 -- the writer stopped after k bytes
 pub stopped_after : (a b c : OutputStream) (bs : List ℕ) (k : ℕ) → Gets a b (take k bs) → Keeps b.contents c.contents
     → GetsFront a c bs
-stopped_after a b c bs k first second =
-    (take k bs, drop k bs, sym (take-append-drop k bs), appends_keeps a.contents b.contents c.contents (take k bs) first second)
+stopped_after a b c bs k first second = (
+  take k bs,
+  drop k bs,
+  sym (take-append-drop k bs),
+  appends_keeps a.contents b.contents c.contents (take k bs) first second,
+)
 
 pub stopped_zero : (a b c : OutputStream) (bs rest : List ℕ) (k n : ℕ) → Gets a b (take k bs) → n ≡ 0
     → Gets b c (take n rest) → GetsFront a c bs
 stopped_zero a b c bs rest k n first none second =
     let nothing : Gets b c [] = rw none at second in
-    let same : Gets a c (take k bs ++ []) = appends_appends a.contents b.contents c.contents (take k bs) [] first nothing in
+    let same : Gets a c (take k bs ++ []) =
+    appends_appends a.contents b.contents c.contents (take k bs) [] first nothing in
     (take k bs, drop k bs, sym (take-append-drop k bs), rw append-nil at same)
 
 -- a text is written, and then another is tried
 pub writes_after : {X E : Type 0} (a b c : OutputStream) (x y : List ℕ) (r : Result X E)
     → Gets a b x → WritesText b c y r → WritesText a c (x ++ y) r
-writes_after a b c x y (Ok u) first second = (second.0, appends_appends a.contents b.contents c.contents x y first second.1)
+writes_after a b c x y (Ok u) first second =
+    (second.0, appends_appends a.contents b.contents c.contents x y first second.1)
 writes_after a b c x y (Err fault) first second = (second.0, gets_front a b c x y first second.1)
 
-pub stopped_before : (a b : OutputStream) (x y : List ℕ) → (b.failed ≡ true) × GetsFront a b x → (b.failed ≡ true) × GetsFront a b (x ++ y)
+pub stopped_before : (a b : OutputStream) (x y : List ℕ) → (b.failed ≡ true) × GetsFront a b x → (b.failed ≡ true)
+    × GetsFront a b (x ++ y)
 stopped_before a b x y stops = (stops.0, front_more a b x y stops.1)
 
 -- the writer stopped before the last line feed of a reply's text
-pub reply_stopped : (a b : OutputStream) (line bytes : List ℕ) → line ≡ codes "reply " ++ decimal (length bytes) ++ codes "\n"
-    → (b.failed ≡ true) × GetsFront a b (line ++ bytes) → (b.failed ≡ true) × GetsFront a b (answer_text (replied bytes))
+pub reply_stopped : (a b : OutputStream) (line bytes : List ℕ) → line ≡ codes "reply " ++ decimal (length bytes)
+    ++ codes "\n"
+    → (b.failed ≡ true) × GetsFront a b (line ++ bytes) → (b.failed ≡ true)
+    × GetsFront a b (answer_text (replied bytes))
 reply_stopped a b line bytes is stops =
     stopped_before a b (codes "reply " ++ decimal (length bytes) ++ codes "\n" ++ bytes) (codes "\n") (rw is at stops)
 
 -- the last line feed of a reply's text
 pub reply_written : {X E : Type 0} (a b c : OutputStream) (line bytes : List ℕ) (r : Result X E)
-    → line ≡ codes "reply " ++ decimal (length bytes) ++ codes "\n" → Gets a b (line ++ bytes) → WritesText b c (codes "\n") r
+    → line ≡ codes "reply " ++ decimal (length bytes) ++ codes "\n" → Gets a b (line ++ bytes)
+    → WritesText b c (codes "\n") r
     → WritesText a c (answer_text (replied bytes)) r
 reply_written a b c line bytes r is first last =
-    writes_after a b c (codes "reply " ++ decimal (length bytes) ++ codes "\n" ++ bytes) (codes "\n") r (rw is at first) last
+    writes_after a b c (codes "reply " ++ decimal (length bytes) ++ codes "\n" ++ bytes) (codes "\n") r
+    (rw is at first) last

@@ -1,5 +1,7 @@
 -- Lemmas on a body of answers: its tests as one list are what reading its answers one by one finds.
-use Rattle.std.proofs.Common.{◌≡◌, ℕ, List, [], ◌∷◌, ◌++◌, Bool, true, false, nat_eq, ◌||◌, Option, None, Some, inl, inr, refl, sym, ◌∙◌, ap, append_assoc, add-one, option_map, ◌+◌, ◌<◌, length, get_or, drop, arith}
+use Rattle.std.proofs.Common.{◌≡◌, ℕ, List, [], ◌∷◌, ◌++◌, Bool, true, false, nat_eq, ◌||◌, Option, None, Some, inl}
+use Rattle.std.proofs.Common.{inr, refl, sym, ◌∙◌, ap, append_assoc, add-one, option_map, ◌+◌, ◌<◌, length, get_or}
+use Rattle.std.proofs.Common.{drop, arith}
 use Rattle.std.specs.Prelude.{◌⊎◌, not, is_some, Result, Ok, Err}
 use Rattle.std.specs.BTreeMap.{insert_entry}
 use Rattle.std.specs.List.{list_any, filter_map}
@@ -18,7 +20,8 @@ use Rattle.acvp_gen.specs.Prompt.{GroupValue, PromptsValue}
 use Rattle.acvp_answers.specs.Answer.{Answer, is_answered}
 use Rattle.acvp_json.specs.declared.fault.BodyFault.{BodyFault}
 use Rattle.acvp_json.specs.declared.fault.BodyFault.TheVariants.{UnknownTest, DuplicateTest, BodyField, Memory}
-use Rattle.acvp_json.specs.AnswersBody.{is_for_set, answers_body_conditions, answers_body_of, answers_from, group_for, texts_given, given_conditions, all_given_conditions, answer_given, placed}
+use Rattle.acvp_json.specs.AnswersBody.{is_for_set, answers_body_conditions, answers_body_of, answers_from, group_for}
+use Rattle.acvp_json.specs.AnswersBody.{texts_given, given_conditions, all_given_conditions, answer_given, placed}
 use Rattle.acvp_json.specs.Elements.{each, joined}
 use Rattle.acvp_json.specs.SubmittedAnswers.{GivenValue, SubmissionValue, submission_of}
 use Rattle.acvp_json.specs.Private.AnswersReading.{after_given, after_all, and_then_all}

@@ -1,5 +1,6 @@
 -- A text is taken by the scan exactly where it keeps answers.
-use Rattle.std.proofs.Common.{◌≡◌, ℕ, ◌^◌, ◌<◌, ◌≤◌, ℤ, Float, List, [], ◌∷◌, map, Bool, true, false, cond, ◌==◌, ◌&&◌, Option, None, Some, option_map, refl, sym, ◌∙◌, ap, subst, append-nil, arith}
+use Rattle.std.proofs.Common.{◌≡◌, ℕ, ◌^◌, ◌<◌, ◌≤◌, ℤ, Float, List, [], ◌∷◌, map, Bool, true, false, cond, ◌==◌, ◌&&◌}
+use Rattle.std.proofs.Common.{Option, None, Some, option_map, refl, sym, ◌∙◌, ap, subst, append-nil, arith}
 use Rattle.std.specs.Map.{keys_of}
 use Rattle.std.specs.Prelude.{IsUtf8, nat_lt, option_and_then, is_some, slice_index, drop}
 use Rattle.std.proofs.lemmas.Bool.Decides.{nat_tests}
@@ -11,7 +12,8 @@ use Rattle.json.specs.Token.{Token}
 use Rattle.json.proofs.Printed.Decimals.{IsNumber-decimal}
 use Rattle.json.proofs.Printed.Tokens.{tokens-print}
 use Rattle.json.proofs.Printed.Trees.{value-json_tokens, ArePrintable-json_tokens}
-use Rattle.serde_json.specs.Data.{Data, number, unsigned, negative, float, string, array, object, Items, no_items, item, no_members}
+use Rattle.serde_json.specs.Data.{Data, number, unsigned, negative, float, string, array, object, Items, no_items, item}
+use Rattle.serde_json.specs.Data.{no_members}
 use Rattle.serde_json.specs.Read.{read, of_json, of_items, of_members, number_of, number_from, max_depth}
 use Rattle.serde_json.specs.View.{items_of}
 use Rattle.std.specs.Str.{is_utf8}
@@ -41,15 +43,18 @@ texts_have : (texts : List (List ℕ)) → tree.ItemsHaveNumbers (items_outline 
 texts_have [] = tt
 texts_have (s ∷ texts) = (tt, texts_have texts)
 
-answers_have : (answers : List Answer) → AreFitting answers → tree.ItemsHaveNumbers (items_outline (items_of (map answer_data answers)))
+answers_have : (answers : List Answer) → AreFitting answers
+    → tree.ItemsHaveNumbers (items_outline (items_of (map answer_data answers)))
 answers_have [] fit = tt
 answers_have (a ∷ answers) fit = ((IsNumber-decimal a.0 fit.0, (texts_have a.1, tt)), answers_have answers fit.1)
 
-texts_back : (texts : List (List ℕ)) → of_items (items_outline (items_of (map string texts))) ≡ Some (items_of (map string texts))
+texts_back : (texts : List (List ℕ))
+    → of_items (items_outline (items_of (map string texts))) ≡ Some (items_of (map string texts))
 texts_back [] = refl
 texts_back (s ∷ texts) = rw (texts_back texts) refl
 
-answers_back : (answers : List Answer) → AreFitting answers → of_items (items_outline (items_of (map answer_data answers))) ≡ Some (items_of (map answer_data answers))
+answers_back : (answers : List Answer) → AreFitting answers
+    → of_items (items_outline (items_of (map answer_data answers))) ≡ Some (items_of (map answer_data answers))
 answers_back [] fit = refl
 answers_back (a ∷ answers) fit = rw (number_of-decimal a.0 fit.0, texts_back a.1, answers_back answers fit.1) refl
 
@@ -61,9 +66,12 @@ unfolding kept_text
 reads answers fit =
     let d = answers_data answers in
     let js = outline d in
-    let shown : tokens (compact_text d) ≡ tree.json_tokens js = ap tokens (sym (print-outline d)) ∙ tokens-print (tree.json_tokens js) (ArePrintable-json_tokens js (answers_have answers fit)) in
+    let shown : tokens (compact_text d) ≡ tree.json_tokens js = ap tokens (sym (print-outline d))
+    ∙ tokens-print (tree.json_tokens js) (ArePrintable-json_tokens js (answers_have answers fit)) in
     let shallow : tree.depth js ≤ max_depth = omega (arith, answers_shallow answers) in
-    ap whole (shown ∙ sym (append-nil (tree.json_tokens js))) ∙ ap (λ o. option_and_then of_json (option_and_then (λ p. json.if_last p.0 p.1) o)) (value-json_tokens js max_depth [] shallow) ∙ ap (option_map array) (answers_back answers fit)
+    ap whole (shown ∙ sym (append-nil (tree.json_tokens js)))
+    ∙ ap (λ o. option_and_then of_json (option_and_then (λ p. json.if_last p.0 p.1) o))
+    (value-json_tokens js max_depth [] shallow) ∙ ap (option_map array) (answers_back answers fit)
 
 -- ---- the numbers of answers that were read fit
 
@@ -81,11 +89,13 @@ float_no : (b : Bool) (x : Float) (n : ℕ) → cond b (Some (float x)) None ≡
 float_no true x n h = absurd (cc)
 float_no false x n h = absurd (cc)
 
-negative_no : (b c : Bool) (z : ℤ) (x : Float) (n : ℕ) → cond b (Some (negative z)) (cond c (Some (float x)) None) ≡ Some (unsigned n) → n < 2 ^ 64
+negative_no : (b c : Bool) (z : ℤ) (x : Float) (n : ℕ) → cond b (Some (negative z)) (cond c (Some (float x)) None)
+    ≡ Some (unsigned n) → n < 2 ^ 64
 negative_no true c z x n h = absurd (cc)
 negative_no false c z x n h = float_no c x n h
 
-unsigned_no : (i small c : Bool) (m : ℕ) (x : Float) (n : ℕ) → (small ≡ true → m < 2 ^ 64) → cond (i && small) (Some (unsigned m)) (cond c (Some (float x)) None) ≡ Some (unsigned n) → n < 2 ^ 64
+unsigned_no : (i small c : Bool) (m : ℕ) (x : Float) (n : ℕ) → (small ≡ true → m < 2 ^ 64)
+    → cond (i && small) (Some (unsigned m)) (cond c (Some (float x)) None) ≡ Some (unsigned n) → n < 2 ^ 64
 unsigned_no true true c m x n fits h = let is : m ≡ n = cc in subst (λ k. k < 2 ^ 64) is (fits refl)
 unsigned_no true false c m x n fits h = float_no c x n h
 unsigned_no false small c m x n fits h = float_no c x n h
@@ -97,17 +107,21 @@ unsigned_fits : (s : List ℕ) (n : ℕ) → number_of s ≡ Some (unsigned n) �
 unfolding number_of
 unsigned_fits s n h = go (slice_index s 0 == minus) h
   where
-    go : (b : Bool) → cond b (number_from true (scan (drop 1 s))) (number_from false (scan s)) ≡ Some (unsigned n) → n < 2 ^ 64
+    go : (b : Bool) → cond b (number_from true (scan (drop 1 s))) (number_from false (scan s)) ≡ Some (unsigned n)
+        → n < 2 ^ 64
     go true h = negative_no _ _ _ _ n h
     go false h = unsigned_no _ _ _ _ _ n (below (digits_of (scan s))) h
 
 array_back : (j : json.Json) (ds : Items) → of_json j ≡ Some (array ds) → (js : json.Items) × (of_items js ≡ Some ds)
 array_back json.null ds h = absurd (cc)
 array_back (json.boolean b) ds h = absurd (cc)
-array_back (json.number s) ds h = absurd (let is = map_some number (number_of s) (array ds) h in let no : number is.0 ≡ array ds = is.2 in cc)
+array_back (json.number s) ds h = absurd (let is = map_some number (number_of s) (array ds) h in
+    let no : number is.0 ≡ array ds = is.2 in cc)
 array_back (json.string s) ds h = absurd (cc)
-array_back (json.array js) ds h = let is = map_some array (of_items js) (array ds) h in let e : is.0 ≡ ds = (let f : array is.0 ≡ array ds = is.2 in cc) in (js, is.1 ∙ ap Some e)
-array_back (json.object ms) ds h = absurd (let is = map_some object (of_members ms no_members) (array ds) h in let no : object is.0 ≡ array ds = is.2 in cc)
+array_back (json.array js) ds h = let is = map_some array (of_items js) (array ds) h in
+    let e : is.0 ≡ ds = (let f : array is.0 ≡ array ds = is.2 in cc) in (js, is.1 ∙ ap Some e)
+array_back (json.object ms) ds h = absurd (let is = map_some object (of_members ms no_members) (array ds) h in
+    let no : object is.0 ≡ array ds = is.2 in cc)
 
 item_back : (js : json.Items) (d : Data) (ds : Items) → of_items js ≡ Some (item d ds)
     → (j : json.Json) × (more : json.Items) × (of_json j ≡ Some d) × (of_items more ≡ Some ds)
@@ -128,8 +142,11 @@ number_back (json.number s) n h =
     let e : is.0 ≡ unsigned n = (let f : number is.0 ≡ number (unsigned n) = is.2 in cc) in
     unsigned_fits s n (is.1 ∙ ap Some e)
 number_back (json.string s) n h = absurd (cc)
-number_back (json.array js) n h = absurd (let is = map_some array (of_items js) (number (unsigned n)) h in let no : array is.0 ≡ number (unsigned n) = is.2 in cc)
-number_back (json.object ms) n h = absurd (let is = map_some object (of_members ms no_members) (number (unsigned n)) h in let no : object is.0 ≡ number (unsigned n) = is.2 in cc)
+number_back (json.array js) n h = absurd (let is = map_some array (of_items js) (number (unsigned n)) h in
+    let no : array is.0 ≡ number (unsigned n) = is.2 in cc)
+number_back (json.object ms) n h =
+    absurd (let is = map_some object (of_members ms no_members) (number (unsigned n)) h in
+    let no : object is.0 ≡ number (unsigned n) = is.2 in cc)
 
 answer_fits : (j : json.Json) (a : Answer) → of_json j ≡ Some (answer_data a) → a.0 < 2 ^ 64
 answer_fits j a h =
@@ -137,7 +154,8 @@ answer_fits j a h =
     let first = item_back parts.0 (number (unsigned a.0)) (item (texts_data a.1) no_items) parts.1 in
     number_back first.0 a.0 first.2
 
-answers_fit : (js : json.Items) (answers : List Answer) → of_items js ≡ Some (items_of (map answer_data answers)) → AreFitting answers
+answers_fit : (js : json.Items) (answers : List Answer) → of_items js ≡ Some (items_of (map answer_data answers))
+    → AreFitting answers
 answers_fit js [] h = tt
 answers_fit js (a ∷ answers) h =
     let first = item_back js (answer_data a) (items_of (map answer_data answers)) h in
@@ -145,7 +163,8 @@ answers_fit js (a ∷ answers) h =
 
 pub read_fits : (text : List ℕ) (answers : List Answer) → read text ≡ Some (answers_data answers) → AreFitting answers
 read_fits text answers h =
-    let all = and_then_some of_json (option_and_then (λ p. json.if_last p.0 p.1) (json.value max_depth (tokens text))) (answers_data answers) h in
+    let all = and_then_some of_json (option_and_then (λ p. json.if_last p.0 p.1) (json.value max_depth (tokens text)))
+    (answers_data answers) h in
     let parts = array_back all.0 (items_of (map answer_data answers)) all.2 in
     answers_fit parts.0 answers parts.1
 
@@ -164,7 +183,8 @@ body_read text d h =
 
 -- ---- both ways
 
-kept_so : (text : List ℕ) (answers : List Answer) → IsUtf8 text → text ≡ kept_text answers → AreGood None answers → kept_answers text ≡ Some answers
+kept_so : (text : List ℕ) (answers : List Answer) → IsUtf8 text → text ≡ kept_text answers → AreGood None answers
+    → kept_answers text ≡ Some answers
 kept_so text answers utf8 is good =
     let reads' : read text ≡ Some (answers_data answers) = ap read is ∙ reads answers good.fitting in
     is-kept text answers (record {
@@ -185,8 +205,10 @@ taken_so text answers kept =
 pub exact : (text : List ℕ) → IsUtf8 text → accepts Begin text ≡ is_some (kept_answers text)
 exact text utf8 = go (accepts Begin text) (kept_answers text) refl refl
   where
-    go : (taken : Bool) (kept : Option (List Answer)) → accepts Begin text ≡ taken → kept_answers text ≡ kept → taken ≡ is_some kept
+    go : (taken : Bool) (kept : Option (List Answer)) → accepts Begin text ≡ taken → kept_answers text ≡ kept
+        → taken ≡ is_some kept
     go true (Some answers) t k = refl
     go false None t k = refl
-    go true None t k = absurd (let is = from_begin text t in let some = kept_so text is.0 utf8 is.1 is.2 in let no : None ≡ Some is.0 = sym k ∙ some in cc)
+    go true None t k = absurd (let is = from_begin text t in let some = kept_so text is.0 utf8 is.1 is.2 in
+        let no : None ≡ Some is.0 = sym k ∙ some in cc)
     go false (Some answers) t k = absurd (let no : false ≡ true = sym t ∙ taken_so text answers k in cc)

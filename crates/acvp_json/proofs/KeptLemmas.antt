@@ -1,5 +1,7 @@
 -- Lemmas on kept answers: what is written is read, and nothing else.
-use Rattle.std.proofs.Common.{◌≡◌, ℕ, ◌+◌, ◌<◌, ◌≤◌, List, [], ◌∷◌, ◌++◌, length, get_or, drop, map, Bool, true, false, cond, ◌&&◌, Option, None, Some, option_map, refl, sym, ◌∙◌, ap, subst, append_assoc, add-one, string_bytes, String, Global, arith}
+use Rattle.std.proofs.Common.{◌≡◌, ℕ, ◌+◌, ◌<◌, ◌≤◌, List, [], ◌∷◌, ◌++◌, length, get_or, drop, map, Bool, true, false}
+use Rattle.std.proofs.Common.{cond, ◌&&◌, Option, None, Some, option_map, refl, sym, ◌∙◌, ap, subst, append_assoc}
+use Rattle.std.proofs.Common.{add-one, string_bytes, String, Global, arith}
 use Rattle.std.specs.Prelude.{nat_lt, option_and_then, Contains, MatchBool, Result, Ok, Err, IfOk, ◌↔◌}
 use Rattle.std.specs.BTreeMap.{insert_entry}
 use Rattle.std.specs.Cmp.{nat_cmp_is}
@@ -18,7 +20,8 @@ use Rattle.std.proofs.lemmas.List.Sums.{AllPass-from_list_all}
 use Rattle.std.proofs.lemmas.Simd.{map-map}
 use Rattle.std.proofs.lemmas.Slice.Eq.{bytes_eq-Decides}
 use Rattle.std.proofs.lemmas.Str.{IsUtf8-string_bytes}
-use Rattle.serde_json.specs.Data.{Data, null, boolean, number, unsigned, negative, float, string, array, object, Items, no_items, item, depth, items_depth}
+use Rattle.serde_json.specs.Data.{Data, null, boolean, number, unsigned, negative, float, string, array, object, Items}
+use Rattle.serde_json.specs.Data.{no_items, item, depth, items_depth}
 use Rattle.serde_json.specs.Find.{as_str, as_array}
 use Rattle.serde_json.specs.Read.{read}
 use Rattle.serde_json.specs.View.{view, items_of, items_view}
@@ -28,7 +31,9 @@ use Rattle.acvp_caps.specs.Json.{whole_number}
 use Rattle.acvp_answers.specs.Answer.{Answer, AreAscending}
 use Rattle.acvp_json.specs.Elements.{each}
 use Rattle.acvp_registry.specs.Json.{body_json}
-use Rattle.acvp_json.specs.KeptAnswers.{texts_data, answer_data, answers_data, kept_text, texts_of, pair_items, pair_of, answer_of, is_above, are_rising, if_rising, answers_after, answers_of, is_compact, kept_in, kept_answers, IsKeptAs}
+use Rattle.acvp_json.specs.KeptAnswers.{texts_data, answer_data, answers_data, kept_text, texts_of, pair_items, pair_of}
+use Rattle.acvp_json.specs.KeptAnswers.{answer_of, is_above, are_rising, if_rising, answers_after, answers_of}
+use Rattle.acvp_json.specs.KeptAnswers.{is_compact, kept_in, kept_answers, IsKeptAs}
 use Rattle.acvp_json.proofs.AnswersLemmas.{regrouped}
 use Rattle.acvp_registry.proofs.JsonLemmas.{body_json-read}
 

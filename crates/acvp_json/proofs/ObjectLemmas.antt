@@ -1,5 +1,6 @@
 -- Lemmas on objects whose members are put one by one.
-use Rattle.std.proofs.Common.{◌≡◌, ℕ, ◌<◌, List, [], ◌∷◌, ◌++◌, length, map, slice_index_or, refl, sym, ◌∙◌, ap, String, Global, BTreeMap, Bor, arith}
+use Rattle.std.proofs.Common.{◌≡◌, ℕ, ◌<◌, List, [], ◌∷◌, ◌++◌, length, map, slice_index_or, refl, sym, ◌∙◌, ap, String}
+use Rattle.std.proofs.Common.{Global, BTreeMap, Bor, arith}
 use Rattle.std.proofs.lemmas.List.{map-append, length-map}
 use Rattle.serde_json.specs.Data.{Data, object, Members, put}
 use Rattle.serde_json.specs.View.{view, members_view}

@@ -1,5 +1,7 @@
 -- No reply holds a number that is kept as a float, so each has a compact text.
-use Rattle.std.proofs.Common.{◌≡◌, ℕ, suc, ◌+◌, ◌<◌, List, [], ◌∷◌, ◌++◌, length, get_or, take, map, Bool, true, false, if◌then◌else◌, Option, None, Some, unwrap_or, refl, sym, string_bytes, String, Global, arith}
+use Rattle.std.proofs.Common.{◌≡◌, ℕ, suc, ◌+◌, ◌<◌, List, [], ◌∷◌, ◌++◌, length, get_or, take, map, Bool, true, false}
+use Rattle.std.proofs.Common.{if◌then◌else◌, Option, None, Some, unwrap_or, refl, sym, string_bytes, String, Global}
+use Rattle.std.proofs.Common.{arith}
 use Rattle.std.specs.List.{enumerate_from}
 use Rattle.std.proofs.lemmas.List.{take_more, length-take, map-append}
 use Rattle.std.proofs.lemmas.Simd.{map-map}
@@ -13,7 +15,10 @@ use Rattle.acvp_gen.specs.Prompt.{GroupValue}
 use Rattle.acvp_answers.specs.Answer.{Answer}
 use Rattle.acvp_json.specs.declared.page.Page.{Page}
 use Rattle.acvp_json.specs.declared.reply_object.ReplyObject.{ReplyObject}
-use Rattle.acvp_json.specs.declared.reply_object.ReplyObject.TheVariants.{ListSessions, NewSession, ReadSession, SessionResults, ListSets, ReadSet, SetResults, Expected, ReadObject, ListObjects, Request, ListRequests, Reviewers}
+use Rattle.acvp_json.specs.declared.reply_object.ReplyObject.TheVariants.{ListSessions, NewSession, ReadSession}
+use Rattle.acvp_json.specs.declared.reply_object.ReplyObject.TheVariants.{SessionResults, ListSets, ReadSet, SetResults}
+use Rattle.acvp_json.specs.declared.reply_object.ReplyObject.TheVariants.{Expected, ReadObject, ListObjects, Request}
+use Rattle.acvp_json.specs.declared.reply_object.ReplyObject.TheVariants.{ListRequests, Reviewers}
 use Rattle.acvp_json.specs.Expected.{digest_data, expected_answer, expected_test, expected_group}
 use Rattle.acvp_json.specs.Page.{link_data, next_offset, prev_offset, page_data}
 use Rattle.acvp_json.specs.Registry.{registered_data, request_in}
@@ -46,7 +51,8 @@ answer-no_float (Mac sizes) texts n = refl
 
 expected-no_float : (standard : List Answer) (group : GroupValue) → has_float (expected_group standard group) ≡ false
 expected-no_float standard group =
-    rw (items-no_float (expected_test standard group.form) (λ t. answer-no_float group.form _ t.number) group.tests) refl
+    rw (items-no_float (expected_test standard group.form) (λ t. answer-no_float group.form _ t.number) group.tests)
+    refl
 
 link-no_float : (path : List ℕ) (limit : ℕ) (offset : Option ℕ) → has_float (link_data path limit offset) ≡ false
 link-no_float path limit None = refl
@@ -61,7 +67,8 @@ page-no_float f plain path page total rows =
       link-no_float path page.limit (prev_offset page),
     ) refl
 
-plain-no_float : (d : Data) (b : Bool) → has_float d ≡ b → has_float (unwrap_or (if b then None else Some d) null) ≡ false
+plain-no_float : (d : Data) (b : Bool) → has_float d ≡ b
+    → has_float (unwrap_or (if b then None else Some d) null) ≡ false
 plain-no_float d true is = refl
 plain-no_float d false is = is
 

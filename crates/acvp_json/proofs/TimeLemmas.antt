@@ -1,9 +1,11 @@
 -- Lemmas on moments: the kit's date of a moment is the one that counting day after day comes to.
-use Rattle.std.proofs.Common.{◌≡◌, ℕ, zero, suc, ◌+◌, ◌*◌, ◌/◌, ◌%◌, ◌<◌, ◌≤◌, inl, inr, add-one, ◌++◌, refl, sym, ap, ◌∙◌, arith, rules, pos, ◌+ℤ◌, codes}
+use Rattle.std.proofs.Common.{◌≡◌, ℕ, zero, suc, ◌+◌, ◌*◌, ◌/◌, ◌%◌, ◌<◌, ◌≤◌, inl, inr, add-one, ◌++◌, refl, sym, ap}
+use Rattle.std.proofs.Common.{◌∙◌, arith, rules, pos, ◌+ℤ◌, codes}
 use Rattle.std.proofs.lemmas.Bool.{lt-ltb, le-ltb, cases_order}
 use Rattle.jiff.specs.Words.{epoch_day, time_nanos, days_in_month, iso_datetime_text}
 use Rattle.jiff.specs.Types.{Date, DateTime, Time}
-use Rattle.jiff.proofs.Family.{epoch_day_injective, days_from_civil-day, days_from_civil-next_month, days_from_civil-next_year, days_from_civil-max, civil_nanos-parts, time_nanos_bound}
+use Rattle.jiff.proofs.Family.{epoch_day_injective, days_from_civil-day, days_from_civil-next_month}
+use Rattle.jiff.proofs.Family.{days_from_civil-next_year, days_from_civil-max, civil_nanos-parts, time_nanos_bound}
 use Rattle.jiff.proofs.SpanFacts.{signed_arith}
 use Rattle.jiff.proofs.OnLiterals.{jiff_on_literals}
 use Rattle.acvp_json.specs.Time.{CivilDate, first_date, next_date, date_after, date_text, clock_text, time_of}
@@ -135,7 +137,14 @@ next_year n y m d below is last december =
       day_in = (omega arith, grind arith);
     } in
     let after : pos (y + 1) ≡ a.year +ℤ pos 1 = rw is.year (omega (arith, signed_arith)) in
-    record { date = b; number = year_on n a b is.number twelve ends after refl refl; year = refl; month = refl; day = refl }
+    record {
+      date = b;
+      number = year_on n a b is.number twelve ends after refl refl;
+      year = refl;
+      month = refl;
+      day =
+          refl;
+    }
 
 day_after : (n : ℕ) (d : CivilDate) → n < 2932896 → IsDay n d → IsDay (n + 1) (next_date d)
 day_after n d below is =

@@ -1,5 +1,6 @@
 -- Lemmas on keys that are retired.
-use Rattle.std.proofs.Common.{◌≡◌, ◌<◌, ◌≤◌, ◌+◌, ◌++◌, ◌∷◌, ℕ, List, [], Option, None, Some, true, false, length, take, take_all, drop, get_or, ap, refl, sym, ◌∙◌, slice_set}
+use Rattle.std.proofs.Common.{◌≡◌, ◌<◌, ◌≤◌, ◌+◌, ◌++◌, ◌∷◌, ℕ, List, [], Option, None, Some, true, false, length, take}
+use Rattle.std.proofs.Common.{take_all, drop, get_or, ap, refl, sym, ◌∙◌, slice_set}
 use Rattle.std.proofs.lemmas.List.{take-append-drop, take-set, drop-set, set-get_or, take_more}
 use Rattle.std.specs.Option.{is_some}
 use Rattle.acvp_token.specs.Keys.{Ring}

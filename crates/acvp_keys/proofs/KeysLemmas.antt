@@ -1,5 +1,7 @@
 -- Lemmas on the lines of a keys file.
-use Rattle.std.proofs.Common.{◌≡◌, ◌≢◌, ◌<◌, ◌≤◌, ◌+◌, ℕ, List, [], ◌∷◌, ◌++◌, length, take, codes, get_or, true, Bor, MatchOption, Option, None, Some, Ok, inl, inr, ◌-◌, arith, ap, sym, refl, ◌∙◌, append_assoc, append-nil, length-append}
+use Rattle.std.proofs.Common.{◌≡◌, ◌≢◌, ◌<◌, ◌≤◌, ◌+◌, ℕ, List, [], ◌∷◌, ◌++◌, length, take, codes, get_or, true, Bor}
+use Rattle.std.proofs.Common.{MatchOption, Option, None, Some, Ok, inl, inr, ◌-◌, arith, ap, sym, refl, ◌∙◌}
+use Rattle.std.proofs.Common.{append_assoc, append-nil, length-append}
 use Rattle.std.proofs.lemmas.List.{append_cancel_left, length-take, take_at}
 use Rattle.hex.proofs.HexLemmas.{decode_of-ok, decode_of-same}
 use Rattle.hex.specs.Hex.{decode_of, is_hex_digit}
@@ -11,7 +13,8 @@ use Rattle.acvp_keys.specs.Private.Taking.{StartsWith, HasNoLine, StartsWithLine
 -- fronts of one length, with one text, are the same, and so is what stands behind them
 same_fronts : (p q r s : List ℕ) → length p ≡ length r → p ++ q ≡ r ++ s → (p ≡ r) × (q ≡ s)
 same_fronts p q r s size is =
-    let front : p ≡ r = sym (take_at p q (length p) refl) ∙ (ap (take (length p)) is ∙ take_at r s (length p) (sym size)) in
+    let front : p ≡ r = sym (take_at p q (length p) refl)
+    ∙ (ap (take (length p)) is ∙ take_at r s (length p) (sym size)) in
     (front, append_cancel_left r q s (rw front at is))
 
 length-IsLine : (line bytes : List ℕ) → IsLine line bytes → length line ≡ 65

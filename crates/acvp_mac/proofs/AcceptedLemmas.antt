@@ -1,7 +1,9 @@
 -- The accepted step is the only one of its kind, so it is a value.
-use Rattle.std.proofs.Common.{◌≡◌, ◌≢◌, ℕ, zero, suc, ◌+◌, ◌≤◌, Bool, true, false, cond, ◌||◌, ◌&&◌, nat_eq, Option, None, Some, List, ◌⊎◌, inl, inr, refl, ap, arith}
+use Rattle.std.proofs.Common.{◌≡◌, ◌≢◌, ℕ, zero, suc, ◌+◌, ◌≤◌, Bool, true, false, cond, ◌||◌, ◌&&◌, nat_eq, Option}
+use Rattle.std.proofs.Common.{None, Some, List, ◌⊎◌, inl, inr, refl, ap, arith}
 use Rattle.std.proofs.lemmas.Bool.Decides.{nat_tests}
-use Rattle.acvp_mac.specs.Codes.{step_of, IsUnused, IsAcceptable, IsAcceptedStep, greatest_where, is_unused, is_acceptable, accepted}
+use Rattle.acvp_mac.specs.Codes.{step_of, IsUnused, IsAcceptable, IsAcceptedStep, greatest_where, is_unused}
+use Rattle.acvp_mac.specs.Codes.{is_acceptable, accepted}
 
 unused-test : (last : Option ℕ) (s : ℕ) → IsUnused last s → is_unused last s ≡ true
 unused-test None s h = refl

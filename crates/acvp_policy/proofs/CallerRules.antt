@@ -80,14 +80,18 @@ caller-refused a caller found r same h =
     refused-front (claims_conditions (scope_of a) found) (resource_conditions a found) nothing (granted a found) r
     (rw (← claims_conditions-agree (scope_of a) caller found same) h)
 
-pub caller-judged : (a : Action) (caller : Facts) (result : Result (Unit {0}) Rule) → result ≡ judged {X = Unit {0}} (claims_conditions (scope_of a) caller) tt →
+pub caller-judged : (a : Action) (caller : Facts) (result : Result (Unit {0}) Rule)
+    → result ≡ judged {X = Unit {0}} (claims_conditions (scope_of a) caller) tt →
     IfErr result (λ rule. (found : Facts) → AgreeOnCaller caller found → decision a found ≡ Err rule)
 caller-judged a caller (Ok x) is = tt
 caller-judged a caller (Err rule) is = λ found same. caller-refused a caller found rule same (sym is)
 
 -- what the rules on a caller let through they let through, whatever is found at the path
-pub caller-admitted : (a : Action) (caller : Facts) (result : Result (Unit {0}) Rule) → result ≡ judged {X = Unit {0}} (claims_conditions (scope_of a) caller) tt →
-    IfOk result (λ _. (found : Facts) → AgreeOnCaller caller found → first_broken (claims_conditions (scope_of a) found) ≡ None)
+pub caller-admitted : (a : Action) (caller : Facts) (result : Result (Unit {0}) Rule)
+    → result ≡ judged {X = Unit {0}} (claims_conditions (scope_of a) caller) tt →
+    IfOk result (λ _. (found : Facts) → AgreeOnCaller caller found
+    → first_broken (claims_conditions (scope_of a) found) ≡ None)
 caller-admitted a caller (Ok x) is = λ found same.
-    rw (← claims_conditions-agree (scope_of a) caller found same) (holds-is (first_broken (claims_conditions (scope_of a) caller)) x (sym is))
+    rw (← claims_conditions-agree (scope_of a) caller found same)
+    (holds-is (first_broken (claims_conditions (scope_of a) caller)) x (sym is))
 caller-admitted a caller (Err rule) is = tt

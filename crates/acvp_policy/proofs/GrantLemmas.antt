@@ -1,5 +1,6 @@
 -- What a grant tells of the facts that it was given on: every condition held.
-use Rattle.std.proofs.Common.{◌≡◌, ℕ, Bool, true, false, ◌&&◌, List, [], ◌∷◌, ◌++◌, ◌==◌, Option, Some, None, is_some, is_none}
+use Rattle.std.proofs.Common.{◌≡◌, ℕ, Bool, true, false, ◌&&◌, List, [], ◌∷◌, ◌++◌, ◌==◌, Option, Some, None, is_some}
+use Rattle.std.proofs.Common.{is_none}
 use Rattle.std.proofs.Common.{Ok, IfSome, ◌⊎◌, inl, inr, refl, arith, if◌then◌else◌}
 use Rattle.std.specs.List.{list_all}
 use Rattle.std.proofs.lemmas.Bool.Decides.{nat_tests}
@@ -14,12 +15,15 @@ use Rattle.acvp_policy.specs.declared.facts.LoginFacts.{LoginFacts}
 use Rattle.acvp_policy.specs.declared.facts.RowSubject.{RowSubject}
 use Rattle.acvp_policy.specs.declared.facts.Subject.{Subject}
 use Rattle.acvp_policy.specs.declared.facts.Subject.TheVariants as subject
-use Rattle.acvp_policy.specs.Conditions.{is_account, algorithm_of, session_found, set_found, reviewer_found, vendor_of, module_of, environment_of, request_of, login_of, is_some_and, are_of_session, claims_of, with_session, is_reviewer}
+use Rattle.acvp_policy.specs.Conditions.{is_account, algorithm_of, session_found, set_found, reviewer_found, vendor_of}
+use Rattle.acvp_policy.specs.Conditions.{module_of, environment_of, request_of, login_of, is_some_and, are_of_session}
+use Rattle.acvp_policy.specs.Conditions.{claims_of, with_session, is_reviewer}
 use Rattle.acvp_policy.specs.declared.facts.Token.{Token}
 use Rattle.acvp_policy.specs.declared.facts.Token.TheVariants as token
 use Rattle.acvp_policy.specs.declared.resource.Resource.{Resource}
 use Rattle.acvp_policy.specs.declared.resource.Resource.TheVariants as resource
-use Rattle.acvp_policy.specs.Kinds.{IsOfItsKind, IsOfSession, IsReview, IsAccount, IsAlgorithm, IsSession, IsSet, IsReviewer, IsVendor, IsModule, IsEnvironment, IsRequest}
+use Rattle.acvp_policy.specs.Kinds.{IsOfItsKind, IsOfSession, IsReview, IsAccount, IsAlgorithm, IsSession, IsSet}
+use Rattle.acvp_policy.specs.Kinds.{IsReviewer, IsVendor, IsModule, IsEnvironment, IsRequest}
 use Rattle.acvp_policy.specs.Resource.{resource_of, session_number}
 use Rattle.acvp_policy.specs.Scope.{scope_of}
 use Rattle.acvp_policy.specs.declared.action.Scope.TheVariants as scope
@@ -37,7 +41,8 @@ all_hold ((true, rule) ∷ conditions) x y h = all_hold conditions x y h
 all_hold ((false, rule) ∷ conditions) x y h = cc
 
 -- where none is broken, all hold
-pub none_broken : (conditions : List (Condition Rule)) → first_broken conditions ≡ None → list_all holds conditions ≡ true
+pub none_broken : (conditions : List (Condition Rule)) → first_broken conditions ≡ None
+    → list_all holds conditions ≡ true
 none_broken [] none = refl
 none_broken ((true, rule) ∷ conditions) none = none_broken conditions none
 none_broken ((false, rule) ∷ conditions) none = absurd (cc)
@@ -62,27 +67,33 @@ account_kind : (s : Subject) (rest : Bool) → (is_account s && rest) ≡ true �
 account_kind subject.Account rest h = refl
 account_kind _ rest h = cc
 
-login_kind : (s : Subject) (test : LoginFacts → Bool) (rest : Bool) → (is_some_and (login_of s) test && rest) ≡ true → IsAccount (resource_of s)
+login_kind : (s : Subject) (test : LoginFacts → Bool) (rest : Bool) → (is_some_and (login_of s) test && rest) ≡ true
+    → IsAccount (resource_of s)
 login_kind (subject.Login found) test rest h = refl
 login_kind _ test rest h = cc
 
-algorithm_kind : (s : Subject) (test : ℕ → Bool) (rest : Bool) → (is_some_and (algorithm_of s) test && rest) ≡ true → IsAlgorithm (resource_of s)
+algorithm_kind : (s : Subject) (test : ℕ → Bool) (rest : Bool) → (is_some_and (algorithm_of s) test && rest) ≡ true
+    → IsAlgorithm (resource_of s)
 algorithm_kind (subject.Algorithm number) test rest h = (number, refl)
 algorithm_kind _ test rest h = cc
 
-vendor_kind : (s : Subject) (test : RowSubject → Bool) (rest : Bool) → (is_some_and (vendor_of s) test && rest) ≡ true → IsVendor (resource_of s)
+vendor_kind : (s : Subject) (test : RowSubject → Bool) (rest : Bool) → (is_some_and (vendor_of s) test && rest) ≡ true
+    → IsVendor (resource_of s)
 vendor_kind (subject.Vendor row) test rest h = (row.number, refl)
 vendor_kind _ test rest h = cc
 
-module_kind : (s : Subject) (test : RowSubject → Bool) (rest : Bool) → (is_some_and (module_of s) test && rest) ≡ true → IsModule (resource_of s)
+module_kind : (s : Subject) (test : RowSubject → Bool) (rest : Bool) → (is_some_and (module_of s) test && rest) ≡ true
+    → IsModule (resource_of s)
 module_kind (subject.Module row) test rest h = (row.number, refl)
 module_kind _ test rest h = cc
 
-environment_kind : (s : Subject) (test : RowSubject → Bool) (rest : Bool) → (is_some_and (environment_of s) test && rest) ≡ true → IsEnvironment (resource_of s)
+environment_kind : (s : Subject) (test : RowSubject → Bool) (rest : Bool)
+    → (is_some_and (environment_of s) test && rest) ≡ true → IsEnvironment (resource_of s)
 environment_kind (subject.Environment row) test rest h = (row.number, refl)
 environment_kind _ test rest h = cc
 
-request_kind : (s : Subject) (test : RowSubject → Bool) (rest : Bool) → (is_some_and (request_of s) test && rest) ≡ true → IsRequest (resource_of s)
+request_kind : (s : Subject) (test : RowSubject → Bool) (rest : Bool) → (is_some_and (request_of s) test && rest) ≡ true
+    → IsRequest (resource_of s)
 request_kind (subject.Request row) test rest h = (row.number, refl)
 request_kind _ test rest h = cc
 
@@ -133,7 +144,8 @@ this_claims : (s : ℕ) (o : Option Claims) → is_some_and o (are_of_session s)
     account_of_session s ≡ account_of_claims o
 this_claims s None h = cc
 this_claims s (Some claims) h =
-    let parts = both_hold (is_some_and claims.session (λ bound. bound == s)) (account_of_session s == claims.account) h in
+    let parts = both_hold (is_some_and claims.session (λ bound. bound == s))
+    (account_of_session s == claims.account) h in
     grind (arith, nat_tests, parts.1)
 
 -- whatever the path names, where the claims are of its session

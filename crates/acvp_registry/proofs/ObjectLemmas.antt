@@ -1,5 +1,6 @@
 -- Lemmas on what is kept.
-use Rattle.std.proofs.Common.{◌≡◌, ◌≤◌, ◌<◌, ℕ, List, [], ◌∷◌, length, Bool, true, false, ◌&&◌, ◌||◌, not, Option, Some, None, option_map, refl, arith, String, Global, string_bytes}
+use Rattle.std.proofs.Common.{◌≡◌, ◌≤◌, ◌<◌, ℕ, List, [], ◌∷◌, length, Bool, true, false, ◌&&◌, ◌||◌, not, Option, Some}
+use Rattle.std.proofs.Common.{None, option_map, refl, arith, String, Global, string_bytes}
 use Rattle.std.specs.Prelude.{nat_le, string_len, unwrap_or, find, codes}
 use Rattle.std.specs.Cmp.Lexicographic.{slice_cmp}
 use Rattle.std.specs.Ordering.{nat_cmp, match_ordering}
@@ -7,13 +8,15 @@ use Rattle.std.specs.declared.cmp.Ordering.{Ordering}
 use Rattle.std.specs.declared.cmp.Ordering.TheVariants.{Less, Equal, Greater}
 use Rattle.std.proofs.lemmas.Bool.Decides.{nat_tests}
 use Rattle.std.proofs.lemmas.Str.{IsUtf8-string_bytes}
-use Rattle.serde_json.specs.Data.{Data, null, boolean, number, string, array, object, Members, no_members, member, put, depth}
+use Rattle.serde_json.specs.Data.{Data, null, boolean, number, string, array, object, Members, no_members, member, put}
+use Rattle.serde_json.specs.Data.{depth}
 use Rattle.serde_json.specs.Read.{read}
 use Rattle.serde_json.specs.Written.{has_float, members_have_float, compact_text}
 use Rattle.acvp_registry.specs.declared.fault.RegFault.{RegFault}
 use Rattle.acvp_registry.specs.declared.fault.RegFault.TheVariants.{Field, NoReference}
 use Rattle.acvp_registry.specs.declared.kind.Kind.{Kind}
-use Rattle.acvp_registry.specs.Object.{KeptObject, object_text, is_fit, has_fields, is_readable, is_short, names_vendor, object_fault, put_url, with_url_data}
+use Rattle.acvp_registry.specs.Object.{KeptObject, object_text, is_fit, has_fields, is_readable, is_short, names_vendor}
+use Rattle.acvp_registry.specs.Object.{object_fault, put_url, with_url_data}
 use Rattle.acvp_registry.specs.Private.Invariant.{IsKeptText}
 use Rattle.acvp_registry.specs.Url.{url_of}
 use Rattle.acvp_registry.proofs.JsonLemmas.{body_json-read}
@@ -34,7 +37,8 @@ at_most n k h = grind (arith, nat_tests)
 -- ---- the first condition that doesn't hold
 
 abbrev fault_of : Bool → Bool → Option RegFault
-fault_of fit vendor = option_map (λ (c : Bool × RegFault). c.1) (find (λ c. not c.0) ((fit, Field) ∷ (vendor, NoReference) ∷ []))
+fault_of fit vendor = option_map (λ (c : Bool × RegFault). c.1)
+    (find (λ c. not c.0) ((fit, Field) ∷ (vendor, NoReference) ∷ []))
 
 pub unfit_fields : (kind : Kind) (d : Data) → has_fields kind d ≡ false → object_fault kind d ≡ Some Field
 unfolding object_fault is_fit
@@ -91,12 +95,14 @@ few_of n h = grind (arith, nat_tests)
 -- the text that was written is too long
 pub is_long : (d : Data) (s : String Global) → is_readable d ≡ true
     → (has_float d ≡ false → string_bytes s ≡ compact_text d) → 16384 < string_len s → is_short d ≡ false
-is_long d s readable text h = rw (text (plain_of d readable)) at (long_of (length (string_bytes s)) (rw s.bytes.ok.0 at h))
+is_long d s readable text h =
+    rw (text (plain_of d readable)) at (long_of (length (string_bytes s)) (rw s.bytes.ok.0 at h))
 
 -- it isn't
 pub is_few : (d : Data) (s : String Global) → is_readable d ≡ true
     → (has_float d ≡ false → string_bytes s ≡ compact_text d) → string_len s ≤ 16384 → is_short d ≡ true
-is_few d s readable text h = rw (text (plain_of d readable)) at (few_of (length (string_bytes s)) (rw s.bytes.ok.0 at h))
+is_few d s readable text h =
+    rw (text (plain_of d readable)) at (few_of (length (string_bytes s)) (rw s.bytes.ok.0 at h))
 
 -- an object that is made of a value and the text that was written for it
 pub kept : (kind : Kind) (d e : Data) (s : String Global) → e ≡ d → object_fault kind d ≡ None → is_readable d ≡ true
@@ -106,14 +112,16 @@ unfolding object_text
 kept kind d e s same fault readable text reads = rw same record {
   fit = fault;
   written = text (plain_of d readable);
-  reads_back = body_json-read (string_bytes s) d (IsUtf8-string_bytes s) (reads (shallow_of d readable)) (plain_of d readable);
+  reads_back = body_json-read (string_bytes s) d (IsUtf8-string_bytes s) (reads (shallow_of d readable))
+      (plain_of d readable);
 }
 
 -- ---- with a URL
 
 put-no_float_at : (o : Ordering) (k l s : List ℕ) (d : Data) (ms more : Members)
     → (has_float d || members_have_float ms) ≡ false → (has_float d || members_have_float more) ≡ false
-    → members_have_float (match_ordering o (member k (string s) (member l d ms)) (member l (string s) ms) (member l d more)) ≡ false
+    → members_have_float (match_ordering o (member k (string s) (member l d ms)) (member l (string s) ms)
+    (member l d more)) ≡ false
 put-no_float_at Less k l s d ms more h g = h
 put-no_float_at Equal k l s d ms more h g = rest (has_float d) (members_have_float ms) h
   where

@@ -1,12 +1,14 @@
 -- Lemmas on plain decimals.
-use Rattle.std.proofs.Common.{◌≡◌, ◌≢◌, ◌<◌, ◌≤◌, ◌^◌, length, ℕ, Bool, true, false, List, decimal, Option, Some, None, MatchOption, refl, sym, ◌∙◌, arith, if◌then◌else◌}
+use Rattle.std.proofs.Common.{◌≡◌, ◌≢◌, ◌<◌, ◌≤◌, ◌^◌, length, ℕ, Bool, true, false, List, decimal, Option, Some, None}
+use Rattle.std.proofs.Common.{MatchOption, refl, sym, ◌∙◌, arith, if◌then◌else◌}
 use Rattle.std.specs.Str.{bytes_eq}
 use Rattle.std.specs.Str.Parse.{digits_value}
 use Rattle.std.proofs.lemmas.Slice.Eq.{bytes_eq-Decides}
 use Rattle.std.proofs.lemmas.Str.Parse.{digits_value_short}
 use Rattle.std.proofs.lemmas.Fmt.{digits_value-decimal}
 use Rattle.acvp_registry.specs.Number.{digits_number_of, is_number_text, plain_number_of}
-use Rattle.acvp_registry.proofs.NumberLemmas.{own, decimal_is_number_text, number_text_parts, number_of_some, number_of_none}
+use Rattle.acvp_registry.proofs.NumberLemmas.{own, decimal_is_number_text, number_text_parts, number_of_some}
+use Rattle.acvp_registry.proofs.NumberLemmas.{number_of_none}
 
 plain_number_of-decimal : (n : ℕ) → n < 10 ^ 19 → plain_number_of (decimal n) ≡ Some n
 plain_number_of-decimal n small =

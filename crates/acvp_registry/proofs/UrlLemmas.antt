@@ -1,5 +1,6 @@
 -- Lemmas on URLs.
-use Rattle.std.proofs.Common.{◌≡◌, ◌≢◌, ◌<◌, ◌^◌, ℕ, true, List, ◌++◌, length, take, drop, take-append-drop, decimal, Option, Some, None, MatchOption, sym, ◌∙◌, ap}
+use Rattle.std.proofs.Common.{◌≡◌, ◌≢◌, ◌<◌, ◌^◌, ℕ, true, List, ◌++◌, length, take, drop, take-append-drop, decimal}
+use Rattle.std.proofs.Common.{Option, Some, None, MatchOption, sym, ◌∙◌, ap}
 use Rattle.std.proofs.lemmas.List.{append_cancel_left}
 use Rattle.std.specs.Str.{bytes_eq}
 use Rattle.std.proofs.lemmas.Slice.Eq.{bytes_eq-Decides}

@@ -20,13 +20,15 @@ sure true h = refl
 sure false h = absurd (cc)
 
 -- it lies within where it isn't outside
-pub number_within : (f l : ℕ) (v : Value) → IsTrue (is_int v) → is_outside f l v ≡ false → (n : ℕ) × (v ≡ whole n) × (is_number_between f l n ≡ true)
+pub number_within : (f l : ℕ) (v : Value) → IsTrue (is_int v) → is_outside f l v ≡ false → (n : ℕ) × (v ≡ whole n)
+    × (is_number_between f l n ≡ true)
 number_within f l (Int (pos n)) good is = (n, refl, sym (between_whole f l n) ∙ sure _ is)
 number_within f l (Int (negsuc n)) good is = absurd (let e : false ≡ true = sym (between_none f l n) ∙ sure _ is in cc)
 number_within f l _ good is = absurd (cc)
 
 -- and isn't outside where it lies within
-pub not_outside : (place f l : ℕ) (row : Row) → HasNumberBetween place f l row → is_outside f l (column row place) ≡ false
+pub not_outside : (place f l : ℕ) (row : Row) → HasNumberBetween place f l row
+    → is_outside f l (column row place) ≡ false
 not_outside place f l row is = ap (is_outside f l) is.1 ∙ ap not (between_whole f l is.0 ∙ is.2)
 
 -- what no row passes
@@ -38,5 +40,7 @@ all_fail p (r ∷ rows) none = elim (cases_Bool (p r)) [
 ]
 
 -- the test of a column that is a whole number
-pub column_test : (place : ℕ) (row : Row) (n : ℕ) → column row place ≡ whole n → (f l : ℕ) → is_column_between place f l row ≡ is_number_between f l n
-column_test place row n is f l = ap (λ v. is_ge (value_cmp v (whole f)) && is_le (value_cmp v (whole l))) is ∙ between_whole f l n
+pub column_test : (place : ℕ) (row : Row) (n : ℕ) → column row place ≡ whole n → (f l : ℕ)
+    → is_column_between place f l row ≡ is_number_between f l n
+column_test place row n is f l = ap (λ v. is_ge (value_cmp v (whole f)) && is_le (value_cmp v (whole l))) is
+    ∙ between_whole f l n

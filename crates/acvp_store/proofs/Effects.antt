@@ -40,30 +40,46 @@ module _ (layout : Layout) {A : Type 0} (key : A → ℕ) (stored : A → Row)
   abbrev renewed : A → Row
   renewed a = whole (key a) ∷ stored (f a)
 
-  none_found : keyed key n kept.ordered ≡ [] → Writes (schema_of layout) Enforced trees (edit_for table trees []) (Ok next) → next table.tree ≡ map stored (map (changing key n f) kept.ordered)
+  none_found : keyed key n kept.ordered ≡ []
+      → Writes (schema_of layout) Enforced trees (edit_for table trees []) (Ok next)
+      → next table.tree ≡ map stored (map (changing key n f) kept.ordered)
   none_found none wrote =
       let it = applied layout trees next (edit_for table trees []) wrote in
       it.rows ∙ kept.rows_are ∙ ap (map stored) (sym (none_changing key n f kept.ordered none))
 
-  one_found : (a : A) → keyed key n kept.ordered ≡ a ∷ [] → key a ≡ n → Writes (schema_of layout) Enforced trees (edit_for table trees (renewed a ∷ [])) (Ok next) → next table.tree ≡ map stored (map (changing key n f) kept.ordered)
+  one_found : (a : A) → keyed key n kept.ordered ≡ a ∷ [] → key a ≡ n
+      → Writes (schema_of layout) Enforced trees (edit_for table trees (renewed a ∷ [])) (Ok next)
+      → next table.tree ≡ map stored (map (changing key n f) kept.ordered)
   one_found a one same wrote =
       let it = applied layout trees next (edit_for table trees (renewed a ∷ [])) wrote in
       let rest = filter (λ (x : A). not (key x == n)) kept.ordered in
       let gone : ids_of (renewed a ∷ []) ≡ pos n ∷ [] = ap (λ k. pos k ∷ []) same in
       let left : left_by trees (edit_for table trees (renewed a ∷ [])) ≡ map stored rest =
-      ap (without_all (trees table.tree)) gone ∙ ap (λ rows. without_all rows (pos n ∷ [])) kept.rows_are ∙ without_key key stored rowid_is n kept.ordered in
-      let free : keyed key (key (f a)) rest ≡ [] = subst (λ k. keyed key k rest ≡ []) (sym (keeps a ∙ same)) (gone_keyed key n kept.ordered) in
+      ap (without_all (trees table.tree)) gone ∙ ap (λ rows. without_all rows (pos n ∷ [])) kept.rows_are
+      ∙ without_key key stored rowid_is n kept.ordered in
+      let free : keyed key (key (f a)) rest ≡ [] =
+      subst (λ k. keyed key k rest ≡ []) (sym (keeps a ∙ same)) (gone_keyed key n kept.ordered) in
       it.rows ∙ ap (put_row (cast_row table (stored (f a)))) left ∙ ap (λ r. put_row r (map stored rest)) (casts (f a))
-      ∙ put_new key stored rowid_is (f a) rest free ∙ ap (map stored) (rechanged key n f keeps kept.ordered a kept.rising one)
+      ∙ put_new key stored rowid_is (f a) rest free
+      ∙ ap (map stored) (rechanged key n f keeps kept.ordered a kept.rising one)
 
-  pub rows_updated : (rows : List Row) → IsPermutation (map renewed (keyed key n kept.ordered)) rows → Writes (schema_of layout) Enforced trees (edit_for table trees rows) (Ok next) → next table.tree ≡ map stored (map (changing key n f) kept.ordered)
+  pub rows_updated : (rows : List Row) → IsPermutation (map renewed (keyed key n kept.ordered)) rows
+      → Writes (schema_of layout) Enforced trees (edit_for table trees rows) (Ok next)
+      → next table.tree ≡ map stored (map (changing key n f) kept.ordered)
   rows_updated rows found wrote = elim (few_keyed key n kept.ordered kept.rising) [
-    | inl none ↦ none_found none (subst (λ rs. Writes (schema_of layout) Enforced trees (edit_for table trees rs) (Ok next)) (none_left rows (rw none at found)) wrote)
-    | inr one ↦ one_found one.0 one.1 one.2 (subst (λ rs. Writes (schema_of layout) Enforced trees (edit_for table trees rs) (Ok next)) (one_permutation (renewed one.0) rows (rw one.1 at found)) wrote)
+    | inl none ↦ none_found none
+        (subst (λ rs. Writes (schema_of layout) Enforced trees (edit_for table trees rs) (Ok next))
+        (none_left rows (rw none at found)) wrote)
+    | inr one ↦ one_found one.0 one.1 one.2
+        (subst (λ rs. Writes (schema_of layout) Enforced trees (edit_for table trees rs) (Ok next))
+        (one_permutation (renewed one.0) rows (rw one.1 at found)) wrote)
   ]
 
-  pub updates : (rows : List Row) → IsPermutation (map renewed (keyed key n kept.ordered)) rows → Writes (schema_of layout) Enforced trees (edit_for table trees rows) (Ok next) → AreKept key stored (next table.tree) (map (changing key n f) list)
-  updates rows found wrote = kept_changed key stored rowid_is n f keeps (trees table.tree) (next table.tree) list kept (rows_updated rows found wrote)
+  pub updates : (rows : List Row) → IsPermutation (map renewed (keyed key n kept.ordered)) rows
+      → Writes (schema_of layout) Enforced trees (edit_for table trees rows) (Ok next)
+      → AreKept key stored (next table.tree) (map (changing key n f) list)
+  updates rows found wrote = kept_changed key stored rowid_is n f keeps (trees table.tree) (next table.tree) list kept
+      (rows_updated rows found wrote)
 
 -- ---- the insertion of one row under a number that it brings, into whichever table has numbers as keys
 
@@ -71,20 +87,28 @@ pub not_false : (b : Bool) → (not b && true) ≡ true → b ≡ false
 not_false true h = absurd (cc)
 not_false false h = refl
 
-numbered_one : (r s : Row) (n : ℕ) (rows : List Row) → r ≡ s → rowid s ≡ whole n → numbered_rows Chosen rows (r ∷ []) ≡ s ∷ []
+numbered_one : (r s : Row) (n : ℕ) (rows : List Row) → r ≡ s → rowid s ≡ whole n
+    → numbered_rows Chosen rows (r ∷ []) ≡ s ∷ []
 numbered_one r s n rows same given = rw (same, given) refl
 
-module _ (layout : Layout) {A : Type 0} (key : A → ℕ) (stored : A → Row) (rowid_is : (a : A) → rowid (stored a) ≡ whole (key a)) (table : Table) (new : A) (given : Row) (casts : cast_row table given ≡ stored new) (trees next : Trees)
+module _ (layout : Layout) {A : Type 0} (key : A → ℕ) (stored : A → Row) (rowid_is : (a : A)
+    → rowid (stored a) ≡ whole (key a)) (table : Table) (new : A) (given : Row)
+    (casts : cast_row table given ≡ stored new) (trees next : Trees)
     (low : key new < 2 ^ 63) where
-  pub inserts : Writes (schema_of layout) Enforced trees (edit_of trees table [] Chosen 0 (given ∷ [])) (Ok next) → (list : List A) → AreKept key stored (trees table.tree) list → AreKept key stored (next table.tree) (list ++ new ∷ [])
+  pub inserts : Writes (schema_of layout) Enforced trees (edit_of trees table [] Chosen 0 (given ∷ [])) (Ok next)
+      → (list : List A) → AreKept key stored (trees table.tree) list
+      → AreKept key stored (next table.tree) (list ++ new ∷ [])
   inserts wrote list kept =
       let it = applied layout trees next (edit_of trees table [] Chosen 0 (given ∷ [])) wrote in
       let news = numbered_one (cast_row table given) (stored new) (key new) (trees table.tree) casts (rowid_is new) in
       let one = subst (λ rs. are_fresh (trees table.tree) rs ≡ true) news it.fresh in
       let fresh = not_false _ (subst (λ rows. are_fresh rows (stored new ∷ []) ≡ true) kept.rows_are one) in
-      let free = free_key key stored rowid_is (key new) kept.ordered (subst (λ v. list_any (λ r. is_eq (value_cmp (rowid r) v)) (map stored kept.ordered) ≡ false) (rowid_is new) fresh) in
+      let free = free_key key stored rowid_is (key new) kept.ordered
+      (subst (λ v. list_any (λ r. is_eq (value_cmp (rowid r) v)) (map stored kept.ordered) ≡ false)
+      (rowid_is new) fresh) in
       kept_with key stored rowid_is (trees table.tree) (next table.tree) list new kept free
-      (it.rows ∙ ap (put_all (trees table.tree)) news ∙ rw kept.rows_are (put_new key stored rowid_is new kept.ordered free)) low
+      (it.rows ∙ ap (put_all (trees table.tree)) news
+      ∙ rw kept.rows_are (put_new key stored rowid_is new kept.ordered free)) low
 
 -- ---- what a statement makes of the one table that it writes, whichever that is
 
@@ -92,16 +116,20 @@ abbrev pub mode : Mode
 mode = record { keys = Enforced; in_doubt = false; may_wait = false }
 
 abbrev pub task_of : Layout → Option ℕ → Table → Row → Task
-task_of layout limit table params = record { limit = limit; keys = Enforced; schema = schema_of layout; table = table; params = params }
+task_of layout limit table params =
+    record { limit = limit; keys = Enforced; schema = schema_of layout; table = table; params = params }
 
 -- the database after has the trees that were written
-pub concluded : (task : Task) (w : Written) (tally : Tally) (after : Database) → Concludes task mode None w (Ok (tally, after)) → after ≡ record { schema = task.schema; trees = w.trees }
+pub concluded : (task : Task) (w : Written) (tally : Tally) (after : Database)
+    → Concludes task mode None w (Ok (tally, after)) → after ≡ record { schema = task.schema; trees = w.trees }
 concluded task w tally after h = ap (λ (p : Tally × Database). p.1) (same_value (went (went h).2).2)
 
 -- the other tables after two statements on one
-pub spares_then : (layout : Layout) (tree : ℕ) (a b c : Trees) → SparesOthers layout tree a b → SparesOthers layout tree b c → SparesOthers layout tree a c
+pub spares_then : (layout : Layout) (tree : ℕ) (a b c : Trees) → SparesOthers layout tree a b
+    → SparesOthers layout tree b c → SparesOthers layout tree a c
 spares_then layout tree a b c p q =
-    all_both (λ (t : Table). t.tree ≢ tree → b t.tree ≡ a t.tree) (λ t. t.tree ≢ tree → c t.tree ≡ b t.tree) (λ t. t.tree ≢ tree → c t.tree ≡ a t.tree) (λ t p q apart. q apart ∙ p apart) (schema_of layout).tables p q
+    all_both (λ (t : Table). t.tree ≢ tree → b t.tree ≡ a t.tree) (λ t. t.tree ≢ tree → c t.tree ≡ b t.tree)
+    (λ t. t.tree ≢ tree → c t.tree ≡ a t.tree) (λ t p q apart. q apart ∙ p apart) (schema_of layout).tables p q
 
 -- ---- what a statement on the rows of a table leaves
 

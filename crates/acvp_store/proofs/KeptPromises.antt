@@ -42,7 +42,8 @@ use Rattle.acvp_store.proofs.Texts.{whole_schema, migrated_schema}
 
 -- ---- reads
 
-pub serves_read : {X E : Type 0} (r : Result X E) (old new : State) → ServesStore old → IsRead r old new → ServesStore new
+pub serves_read : {X E : Type 0} (r : Result X E) (old new : State) → ServesStore old → IsRead r old new
+    → ServesStore new
 serves_read r old new serves h live =
     let was = serves (h.stays.was_open live) in
     record {
@@ -51,19 +52,30 @@ serves_read r old new serves h live =
       sound = subst IsDatabase (sym (h.stays.now live)) was.sound;
     }
 
-module _ {S : Type 0} (g : Ghosts S) (a b : Held S) (serves : ServesStore (state g a)) (settled : (db : Trees) → IsTrue (state g a).is_open → (state g a).may_leave db → db ≡ (state g a).committed.trees) where
-  pub reads : {X : Type 0} (r : Result X StoreFault) → IsRead r (state g a) (state g b) → Reads may_fail (meaning_of g) r a b
+module _ {S : Type 0} (g : Ghosts S) (a b : Held S) (serves : ServesStore (state g a)) (settled : (db : Trees)
+    → IsTrue (state g a).is_open → (state g a).may_leave db → db ≡ (state g a).committed.trees) where
+  pub reads : {X : Type 0} (r : Result X StoreFault) → IsRead r (state g a) (state g b)
+      → Reads may_fail (meaning_of g) r a b
   reads r h = record {
     fault = any r;
     was_open = h.stays.was_open;
     was_clean = h.was_clean;
     stays_open = h.stays_open;
-    same = λ live c st. (st.0, same_schema live st.0 st.1, subst (λ (d : Database). Stands st.0 d.trees c) (sym (h.stays.now live)) st.2, serves_read r (state g a) (state g b) serves h);
-    left = λ clean live c d st clean' db may. inl (store_of st.0 (state g a).now db st.1 (sym (settled db live (h.left clean db may) ∙ ap (λ (x : Database). x.trees) (sym ((serves live).ready.settled)))) (serves live).sound c st.2);
+    same = λ live c st. (
+      st.0,
+      same_schema live st.0 st.1,
+      subst (λ (d : Database). Stands st.0 d.trees c) (sym (h.stays.now live)) st.2,
+      serves_read r (state g a) (state g b) serves h,
+    );
+    left = λ clean live c d st clean' db may.
+        inl (store_of st.0 (state g a).now db st.1
+        (sym (settled db live (h.left clean db may)
+        ∙ ap (λ (x : Database). x.trees) (sym ((serves live).ready.settled)))) (serves live).sound c st.2);
     kept = λ clean c d was clean' db may. was (h.was_clean clean) db (h.left clean db may);
   }
     where
-      same_schema : IsTrue (state g b).is_open → (layout : Layout) → (state g a).now.schema ≡ schema_of layout → (state g b).now.schema ≡ schema_of layout
+      same_schema : IsTrue (state g b).is_open → (layout : Layout) → (state g a).now.schema ≡ schema_of layout
+          → (state g b).now.schema ≡ schema_of layout
       same_schema now layout is = ap (λ (d : Database). d.schema) (h.stays.now now) ∙ is
 
       any : {X : Type 0} (r : Result X StoreFault) → IfErr r may_fail
@@ -73,14 +85,17 @@ module _ {S : Type 0} (g : Ghosts S) (a b : Held S) (serves : ServesStore (state
 -- what is found of the rows, whichever way the tables lie
 module _ {S : Type 0} (g : Ghosts S) (a b : Held S) where
   pub finds : {X Y : Type 0} (r : Result X StoreFault) (shown : X → Y) (selected : Content → Y)
-      → (IsTrue (state g b).is_open → IfOk r (λ x. InStore (state g a).now (λ layout. (c : Content) → AreWellNumbered c → Stands layout (state g a).now.trees c → shown x ≡ selected c)))
+      → (IsTrue (state g b).is_open
+      → IfOk r (λ x. InStore (state g a).now (λ layout. (c : Content) → AreWellNumbered c
+      → Stands layout (state g a).now.trees c → shown x ≡ selected c)))
       → Finds (meaning_of g) shown r a b selected
   finds (Ok x) shown selected found live = λ c sound st. found live st.0 st.1 c sound st.2
   finds (Err e) shown selected found live = tt
 
 -- ---- changes
 
-pub written_as : {X E : Type 0} (r : Result X E) (old new : State) (P Q : Database → Database → Type 0) → ((d e : Database) → P d e → Q d e) → IsWritten r old new P → IsWritten r old new Q
+pub written_as : {X E : Type 0} (r : Result X E) (old new : State) (P Q : Database → Database → Type 0)
+    → ((d e : Database) → P d e → Q d e) → IsWritten r old new P → IsWritten r old new Q
 written_as (Ok x) old new P Q turns h = record {
   was_open = h.was_open;
   was_clean = h.was_clean;
@@ -101,11 +116,13 @@ written_as (Err e) old new P Q turns h = record {
   ok = tt;
   err = h.err;
   left_ok = tt;
-  left_err = λ clean live db may. elim (h.left_err clean live db may) [ inl was ↦ inl was | inr it ↦ inr (it.0, it.1, turns _ _ it.2) ];
+  left_err = λ clean live db may.
+      elim (h.left_err clean live db may) [ inl was ↦ inl was | inr it ↦ inr (it.0, it.1, turns _ _ it.2) ];
 }
 
 -- the tables are the store's after a change that keeps the schema
-pub serves_written : {X E : Type 0} (r : Result X E) (old new : State) (Change : Layout → Database → Database → Type 0) → ServesStore old → ((layout : Layout) (d e : Database) → Change layout d e → e.schema ≡ schema_of layout)
+pub serves_written : {X E : Type 0} (r : Result X E) (old new : State) (Change : Layout → Database → Database → Type 0)
+    → ServesStore old → ((layout : Layout) (d e : Database) → Change layout d e → e.schema ≡ schema_of layout)
     → IsWritten r old new (UnderStore Change) → ServesStore new
 serves_written (Ok x) old new Change serves keeps h live =
     let was = serves (h.was_open live) in
@@ -113,21 +130,39 @@ serves_written (Ok x) old new Change serves keeps h live =
     record { ready = h.settled live; schema = (was.schema.0, keeps was.schema.0 _ _ made.1); sound = made.0 was.sound }
 serves_written (Err e) old new Change serves keeps h live =
     let was = serves (h.was_open live) in
-    record { ready = h.settled live; schema = (was.schema.0, ap (λ (d : Database). d.schema) (h.err live) ∙ was.schema.1); sound = subst IsDatabase (sym (h.err live)) was.sound }
+    record {
+      ready = h.settled live;
+      schema =
+          (was.schema.0, ap (λ (d : Database). d.schema) (h.err live) ∙ was.schema.1);
+      sound =
+          subst IsDatabase (sym (h.err live)) was.sound;
+    }
 
-module _ {S : Type 0} (g : Ghosts S) (a b : Held S) (Change : Layout → Database → Database → Type 0) (change : Content → Content) (serves : ServesStore (state g a)) (keeps : (layout : Layout) (d e : Database) → Change layout d e → e.schema ≡ schema_of layout)
-    (turns : (layout : Layout) (d e : Database) → Change layout d e → (c : Content) → AreWellNumbered c → Stands layout d.trees c → Stands layout e.trees (change c)) where
+module _ {S : Type 0} (g : Ghosts S) (a b : Held S) (Change : Layout → Database → Database → Type 0) (change : Content
+    → Content) (serves : ServesStore (state g a)) (keeps : (layout : Layout) (d e : Database) → Change layout d e
+    → e.schema ≡ schema_of layout)
+    (turns : (layout : Layout) (d e : Database) → Change layout d e → (c : Content) → AreWellNumbered c
+    → Stands layout d.trees c → Stands layout e.trees (change c)) where
   -- a database with the change is a store's, with the changed content
-  made : (live : IsTrue (state g a).is_open) (c : Content) → AreWellNumbered c → (st : stands g a c) (after : Database) (db : Trees) → after.trees ≡ db → StaysSound (state g a).now after × Change st.0 (state g a).now after → IsStoreOf db (change c)
-  made live c sound st after db trees it = store_of st.0 after db (keeps st.0 _ _ it.1) trees (it.0 (serves live).sound) (change c) (turns st.0 _ _ it.1 c sound st.2)
+  made : (live : IsTrue (state g a).is_open) (c : Content) → AreWellNumbered c
+      → (st : stands g a c) (after : Database) (db : Trees) → after.trees ≡ db → StaysSound (state g a).now after
+      × Change st.0 (state g a).now after → IsStoreOf db (change c)
+  made live c sound st after db trees it = store_of st.0 after db (keeps st.0 _ _ it.1) trees (it.0 (serves live).sound)
+      (change c) (turns st.0 _ _ it.1 c sound st.2)
 
-  pub changes_sound : {X : Type 0} (r : Result X StoreFault) → IsWritten r (state g a) (state g b) (UnderStore Change) → Changes may_fail (meaning_of g) r a b change
+  pub changes_sound : {X : Type 0} (r : Result X StoreFault) → IsWritten r (state g a) (state g b) (UnderStore Change)
+      → Changes may_fail (meaning_of g) r a b change
   changes_sound (Ok x) h = record {
     fault = tt;
     was_open = h.was_open;
     was_clean = h.was_clean;
     stays_open = h.stays_open;
-    ok = λ live c sound st. let it = (h.ok live st.0 st.1).1 in (st.0, keeps st.0 _ _ it, turns st.0 _ _ it c sound st.2, serves_written (Ok x) (state g a) (state g b) Change serves keeps h);
+    ok = λ live c sound st. let it = (h.ok live st.0 st.1).1 in (
+      st.0,
+      keeps st.0 _ _ it,
+      turns st.0 _ _ it c sound st.2,
+      serves_written (Ok x) (state g a) (state g b) Change serves keeps h,
+    );
     err = tt;
     settled = λ clean live c d sound st clean' db may. let it = h.left_ok clean live db may in
         inl (made live c sound st it.0 db it.1 (it.2 st.0 st.1));
@@ -139,7 +174,13 @@ module _ {S : Type 0} (g : Ghosts S) (a b : Held S) (Change : Layout → Databas
     was_clean = h.was_clean;
     stays_open = tt;
     ok = tt;
-    err = λ live c st. (st.0, ap (λ (d : Database). d.schema) (h.err live) ∙ st.1, subst (λ (d : Database). Stands st.0 d.trees c) (sym (h.err live)) st.2, serves_written (Err e) (state g a) (state g b) Change serves keeps h);
+    err = λ live c st. (
+      st.0,
+      ap (λ (d : Database). d.schema) (h.err live)
+          ∙ st.1,
+      subst (λ (d : Database). Stands st.0 d.trees c) (sym (h.err live)) st.2,
+      serves_written (Err e) (state g a) (state g b) Change serves keeps h,
+    );
     settled = tt;
     unsettled = λ clean live c sound st clean' db may. elim (h.left_err clean live db may) [
       | inl was ↦ inl (store_of st.0 (state g a).now db st.1 (sym was) (serves live).sound c st.2)
@@ -148,29 +189,43 @@ module _ {S : Type 0} (g : Ghosts S) (a b : Held S) (Change : Layout → Databas
   }
 
 -- of whichever content
-module _ {S : Type 0} (g : Ghosts S) (a b : Held S) (Change : Layout → Database → Database → Type 0) (change : Content → Content) (serves : ServesStore (state g a)) (keeps : (layout : Layout) (d e : Database) → Change layout d e → e.schema ≡ schema_of layout)
-    (turns : (layout : Layout) (d e : Database) → Change layout d e → (c : Content) → Stands layout d.trees c → Stands layout e.trees (change c)) where
-  pub changes : {X : Type 0} (r : Result X StoreFault) → IsWritten r (state g a) (state g b) (UnderStore Change) → Changes may_fail (meaning_of g) r a b change
+module _ {S : Type 0} (g : Ghosts S) (a b : Held S) (Change : Layout → Database → Database → Type 0) (change : Content
+    → Content) (serves : ServesStore (state g a)) (keeps : (layout : Layout) (d e : Database) → Change layout d e
+    → e.schema ≡ schema_of layout)
+    (turns : (layout : Layout) (d e : Database) → Change layout d e → (c : Content) → Stands layout d.trees c
+    → Stands layout e.trees (change c)) where
+  pub changes : {X : Type 0} (r : Result X StoreFault) → IsWritten r (state g a) (state g b) (UnderStore Change)
+      → Changes may_fail (meaning_of g) r a b change
   changes r h = changes_sound g a b Change change serves keeps (λ layout d e h c sound st. turns layout d e h c st) r h
 
 -- the tables are the store's after the first of two parts
-both_under : (First Second : Layout → Database → Database → Type 0) → ((layout : Layout) (d e : Database) → First layout d e → e.schema ≡ schema_of layout)
-    → (d e : Database) → Both (UnderStore First) (UnderStore Second) d e → UnderStore (λ layout. Both (First layout) (Second layout)) d e
+both_under : (First Second : Layout → Database → Database → Type 0)
+    → ((layout : Layout) (d e : Database) → First layout d e → e.schema ≡ schema_of layout)
+    → (d e : Database) → Both (UnderStore First) (UnderStore Second) d e
+    → UnderStore (λ layout. Both (First layout) (Second layout)) d e
 both_under First Second keeps d e h layout schema =
     let first = h.1 layout schema in
     let second = h.2 layout (keeps layout d h.0 first.1) in
     (λ sound. second.0 (first.0 sound), (h.0, first.1, second.1))
 
-module _ {S : Type 0} (g : Ghosts S) (a b : Held S) (First Second : Layout → Database → Database → Type 0) (change : Content → Content) (serves : ServesStore (state g a))
-    (keeps_first : (layout : Layout) (d e : Database) → First layout d e → e.schema ≡ schema_of layout) (keeps : (layout : Layout) (d e : Database) → Second layout d e → e.schema ≡ schema_of layout)
-    (turns : (layout : Layout) (d e : Database) → Both (First layout) (Second layout) d e → (c : Content) → AreWellNumbered c → Stands layout d.trees c → Stands layout e.trees (change c)) where
-  pub changes_both : {X : Type 0} (r : Result X StoreFault) → IsWritten r (state g a) (state g b) (Both (UnderStore First) (UnderStore Second)) → Changes may_fail (meaning_of g) r a b change
-  changes_both r h = changes_sound g a b (λ layout. Both (First layout) (Second layout)) change serves (λ layout d e h. keeps layout _ _ h.2) turns r (written_as r (state g a) (state g b) _ _ (both_under First Second keeps_first) h)
+module _ {S : Type 0} (g : Ghosts S) (a b : Held S) (First Second : Layout → Database → Database → Type 0)
+    (change : Content → Content) (serves : ServesStore (state g a))
+    (keeps_first : (layout : Layout) (d e : Database) → First layout d e → e.schema ≡ schema_of layout)
+    (keeps : (layout : Layout) (d e : Database) → Second layout d e → e.schema ≡ schema_of layout)
+    (turns : (layout : Layout) (d e : Database) → Both (First layout) (Second layout) d e → (c : Content)
+    → AreWellNumbered c → Stands layout d.trees c → Stands layout e.trees (change c)) where
+  pub changes_both : {X : Type 0} (r : Result X StoreFault)
+      → IsWritten r (state g a) (state g b) (Both (UnderStore First) (UnderStore Second))
+      → Changes may_fail (meaning_of g) r a b change
+  changes_both r h = changes_sound g a b (λ layout. Both (First layout) (Second layout)) change serves
+      (λ layout d e h. keeps layout _ _ h.2) turns r
+      (written_as r (state g a) (state g b) _ _ (both_under First Second keeps_first) h)
 
 -- ---- a read before a change
 
 module _ {S : Type 0} (g : Ghosts S) (a m b : Held S) (change : Content → Content) where
-  pub read_then : {X Y : Type 0} (x : X) (r : Result Y StoreFault) → Reads may_fail (meaning_of g) (Ok x) a m → Changes may_fail (meaning_of g) r m b change
+  pub read_then : {X Y : Type 0} (x : X) (r : Result Y StoreFault) → Reads may_fail (meaning_of g) (Ok x) a m
+      → Changes may_fail (meaning_of g) r m b change
       → Changes may_fail (meaning_of g) r a b change
   read_then x (Ok y) prior h = record {
     fault = tt;
@@ -179,7 +234,8 @@ module _ {S : Type 0} (g : Ghosts S) (a m b : Held S) (change : Content → Cont
     stays_open = λ clean live. h.stays_open clean (prior.stays_open (h.was_clean clean)).1;
     ok = λ live c sound st. h.ok live c sound (prior.same (h.was_open live) c st);
     err = tt;
-    settled = λ clean live c d sound st. let now = (prior.stays_open (h.was_clean clean)).1 in h.settled clean now c d sound (prior.same now c st);
+    settled = λ clean live c d sound st. let now = (prior.stays_open (h.was_clean clean)).1 in
+        h.settled clean now c d sound (prior.same now c st);
     unsettled = tt;
   }
   read_then x (Err e) prior h = record {
@@ -190,11 +246,13 @@ module _ {S : Type 0} (g : Ghosts S) (a m b : Held S) (change : Content → Cont
     ok = tt;
     err = λ live c st. h.err live c (prior.same (h.was_open live) c st);
     settled = tt;
-    unsettled = λ clean live c sound st. let now = (prior.stays_open (h.was_clean clean)).1 in h.unsettled clean now c sound (prior.same now c st);
+    unsettled = λ clean live c sound st. let now = (prior.stays_open (h.was_clean clean)).1 in
+        h.unsettled clean now c sound (prior.same now c st);
   }
 
   -- nothing is left to change
-  pub read_alone : {X Y : Type 0} (x : X) (y : Y) → Reads may_fail (meaning_of g) (Ok x) a m → (IsTrue (state g m).is_open → (c : Content) → AreWellNumbered c → stands g a c → change c ≡ c)
+  pub read_alone : {X Y : Type 0} (x : X) (y : Y) → Reads may_fail (meaning_of g) (Ok x) a m
+      → (IsTrue (state g m).is_open → (c : Content) → AreWellNumbered c → stands g a c → change c ≡ c)
       → Changes {E = StoreFault} may_fail (meaning_of g) (Ok y) a m change
   read_alone x y prior same = record {
     fault = tt;
@@ -203,132 +261,199 @@ module _ {S : Type 0} (g : Ghosts S) (a m b : Held S) (change : Content → Cont
     stays_open = λ clean live. (prior.stays_open clean).1;
     ok = λ live c sound st. subst (stands g m) (sym (same live c sound st)) (prior.same live c st);
     err = tt;
-    settled = λ clean live c d sound st. subst (λ x. leaves g m x d) (sym (same (prior.stays_open clean).1 c sound st)) (prior.left clean live c d st);
+    settled = λ clean live c d sound st. subst (λ x. leaves g m x d) (sym (same (prior.stays_open clean).1 c sound st))
+        (prior.left clean live c d st);
     unsettled = tt;
   }
 
 -- ---- one table after another
 
-pub accounts_altered : (change : List AccountRow → List AccountRow) (layout : Layout) (d e : Database) → Alters layout account_tree HoldsAccounts change d e → (c : Content) → Stands layout d.trees c → Stands layout e.trees (record c { accounts = change c.accounts })
+pub accounts_altered : (change : List AccountRow → List AccountRow) (layout : Layout) (d e : Database)
+    → Alters layout account_tree HoldsAccounts change d e → (c : Content) → Stands layout d.trees c
+    → Stands layout e.trees (record c { accounts = change c.accounts })
 accounts_altered change layout d e h c st = record {
   version = ap (list_any (is_version_row 3)) (h.others.0 (apart 0 2 refl)) ∙ st.version;
   accounts = h.kept c.accounts st.accounts;
   sessions = subst (λ rows. HoldsSessions rows c.sessions) (sym (h.others.1.1.0 (apart 3 2 refl))) st.sessions;
-  sets = subst (λ rows. HoldsSets rows c.sets) (sym (sets_spared layout 2 d.trees e.trees (set_apart layout 2 refl refl) h.others)) st.sets;
+  sets = subst (λ rows. HoldsSets rows c.sets)
+      (sym (sets_spared layout 2 d.trees e.trees (set_apart layout 2 refl refl) h.others)) st.sets;
   no_old_sets = old_spared layout 2 d.trees e.trees (old_apart layout 2 refl) h.others st.no_old_sets;
   objects = subst (λ rows. HoldsObjects rows c.objects) (sym (h.others.1.1.1.1.0 (apart 5 2 refl))) st.objects;
   object_numbers = st.object_numbers;
   requests = subst (λ rows. HoldsRequests rows c.requests) (sym (h.others.1.1.1.1.1.0 (apart 7 2 refl))) st.requests;
-  reviewers = subst (λ rows. HoldsReviewers rows c.reviewers) (sym (reviewers_spared layout 2 d.trees e.trees (reviewer_apart layout 2 refl refl) h.others)) st.reviewers;
+  reviewers = subst (λ rows. HoldsReviewers rows c.reviewers)
+      (sym (reviewers_spared layout 2 d.trees e.trees (reviewer_apart layout 2 refl refl) h.others)) st.reviewers;
 }
 
-pub sessions_altered : (change : List SessionRow → List SessionRow) (layout : Layout) (d e : Database) → Alters layout session_tree HoldsSessions change d e → (c : Content) → Stands layout d.trees c → Stands layout e.trees (record c { sessions = change c.sessions })
+pub sessions_altered : (change : List SessionRow → List SessionRow) (layout : Layout) (d e : Database)
+    → Alters layout session_tree HoldsSessions change d e → (c : Content) → Stands layout d.trees c
+    → Stands layout e.trees (record c { sessions = change c.sessions })
 sessions_altered change layout d e h c st = record {
   version = ap (list_any (is_version_row 3)) (h.others.0 (apart 0 3 refl)) ∙ st.version;
   accounts = subst (λ rows. HoldsAccounts rows c.accounts) (sym (h.others.1.0 (apart 2 3 refl))) st.accounts;
   sessions = h.kept c.sessions st.sessions;
-  sets = subst (λ rows. HoldsSets rows c.sets) (sym (sets_spared layout 3 d.trees e.trees (set_apart layout 3 refl refl) h.others)) st.sets;
+  sets = subst (λ rows. HoldsSets rows c.sets)
+      (sym (sets_spared layout 3 d.trees e.trees (set_apart layout 3 refl refl) h.others)) st.sets;
   no_old_sets = old_spared layout 3 d.trees e.trees (old_apart layout 3 refl) h.others st.no_old_sets;
   objects = subst (λ rows. HoldsObjects rows c.objects) (sym (h.others.1.1.1.1.0 (apart 5 3 refl))) st.objects;
   object_numbers = st.object_numbers;
   requests = subst (λ rows. HoldsRequests rows c.requests) (sym (h.others.1.1.1.1.1.0 (apart 7 3 refl))) st.requests;
-  reviewers = subst (λ rows. HoldsReviewers rows c.reviewers) (sym (reviewers_spared layout 3 d.trees e.trees (reviewer_apart layout 3 refl refl) h.others)) st.reviewers;
+  reviewers = subst (λ rows. HoldsReviewers rows c.reviewers)
+      (sym (reviewers_spared layout 3 d.trees e.trees (reviewer_apart layout 3 refl refl) h.others)) st.reviewers;
 }
 
-pub sets_altered : (change : List SetRow → List SetRow) (layout : Layout) (d e : Database) → Alters layout (set_tree layout) HoldsSets change d e → (c : Content) → Stands layout d.trees c → Stands layout e.trees (record c { sets = change c.sets })
+pub sets_altered : (change : List SetRow → List SetRow) (layout : Layout) (d e : Database)
+    → Alters layout (set_tree layout) HoldsSets change d e → (c : Content) → Stands layout d.trees c
+    → Stands layout e.trees (record c { sets = change c.sets })
 sets_altered change layout d e h c st = record {
   version = ap (list_any (is_version_row 3)) (h.others.0 (λ e. set_apart layout 0 refl refl (sym e))) ∙ st.version;
-  accounts = subst (λ rows. HoldsAccounts rows c.accounts) (sym (h.others.1.0 (λ e. set_apart layout 2 refl refl (sym e)))) st.accounts;
-  sessions = subst (λ rows. HoldsSessions rows c.sessions) (sym (h.others.1.1.0 (λ e. set_apart layout 3 refl refl (sym e)))) st.sessions;
+  accounts = subst (λ rows. HoldsAccounts rows c.accounts)
+      (sym (h.others.1.0 (λ e. set_apart layout 2 refl refl (sym e)))) st.accounts;
+  sessions = subst (λ rows. HoldsSessions rows c.sessions)
+      (sym (h.others.1.1.0 (λ e. set_apart layout 3 refl refl (sym e)))) st.sessions;
   sets = h.kept c.sets st.sets;
   no_old_sets = old_spared layout (set_tree layout) d.trees e.trees (old_is_no_set layout) h.others st.no_old_sets;
-  objects = subst (λ rows. HoldsObjects rows c.objects) (sym (h.others.1.1.1.1.0 (λ e. set_apart layout 5 refl refl (sym e)))) st.objects;
+  objects = subst (λ rows. HoldsObjects rows c.objects)
+      (sym (h.others.1.1.1.1.0 (λ e. set_apart layout 5 refl refl (sym e)))) st.objects;
   object_numbers = st.object_numbers;
-  requests = subst (λ rows. HoldsRequests rows c.requests) (sym (h.others.1.1.1.1.1.0 (λ e. set_apart layout 7 refl refl (sym e)))) st.requests;
-  reviewers = subst (λ rows. HoldsReviewers rows c.reviewers) (sym (reviewers_spared layout (set_tree layout) d.trees e.trees (λ e. set_is_no_reviewer layout (sym e)) h.others)) st.reviewers;
+  requests = subst (λ rows. HoldsRequests rows c.requests)
+      (sym (h.others.1.1.1.1.1.0 (λ e. set_apart layout 7 refl refl (sym e)))) st.requests;
+  reviewers = subst (λ rows. HoldsReviewers rows c.reviewers)
+      (sym (reviewers_spared layout (set_tree layout) d.trees e.trees
+      (λ e. set_is_no_reviewer layout (sym e)) h.others)) st.reviewers;
 }
 
-pub requests_altered : (change : List RequestRow → List RequestRow) (layout : Layout) (d e : Database) → Alters layout request_tree HoldsRequests change d e → (c : Content) → Stands layout d.trees c → Stands layout e.trees (record c { requests = change c.requests })
+pub requests_altered : (change : List RequestRow → List RequestRow) (layout : Layout) (d e : Database)
+    → Alters layout request_tree HoldsRequests change d e → (c : Content) → Stands layout d.trees c
+    → Stands layout e.trees (record c { requests = change c.requests })
 requests_altered change layout d e h c st = record {
   version = ap (list_any (is_version_row 3)) (h.others.0 (apart 0 7 refl)) ∙ st.version;
   accounts = subst (λ rows. HoldsAccounts rows c.accounts) (sym (h.others.1.0 (apart 2 7 refl))) st.accounts;
   sessions = subst (λ rows. HoldsSessions rows c.sessions) (sym (h.others.1.1.0 (apart 3 7 refl))) st.sessions;
-  sets = subst (λ rows. HoldsSets rows c.sets) (sym (sets_spared layout 7 d.trees e.trees (set_apart layout 7 refl refl) h.others)) st.sets;
+  sets = subst (λ rows. HoldsSets rows c.sets)
+      (sym (sets_spared layout 7 d.trees e.trees (set_apart layout 7 refl refl) h.others)) st.sets;
   no_old_sets = old_spared layout 7 d.trees e.trees (old_apart layout 7 refl) h.others st.no_old_sets;
   objects = subst (λ rows. HoldsObjects rows c.objects) (sym (h.others.1.1.1.1.0 (apart 5 7 refl))) st.objects;
   object_numbers = st.object_numbers;
   requests = h.kept c.requests st.requests;
-  reviewers = subst (λ rows. HoldsReviewers rows c.reviewers) (sym (reviewers_spared layout 7 d.trees e.trees (reviewer_apart layout 7 refl refl) h.others)) st.reviewers;
+  reviewers = subst (λ rows. HoldsReviewers rows c.reviewers)
+      (sym (reviewers_spared layout 7 d.trees e.trees (reviewer_apart layout 7 refl refl) h.others)) st.reviewers;
 }
 
-pub reviewers_altered : (change : List ReviewerRow → List ReviewerRow) (layout : Layout) (d e : Database) → Alters layout (reviewer_tree layout) HoldsReviewers change d e → (c : Content) → Stands layout d.trees c → Stands layout e.trees (record c { reviewers = change c.reviewers })
+pub reviewers_altered : (change : List ReviewerRow → List ReviewerRow) (layout : Layout) (d e : Database)
+    → Alters layout (reviewer_tree layout) HoldsReviewers change d e → (c : Content) → Stands layout d.trees c
+    → Stands layout e.trees (record c { reviewers = change c.reviewers })
 reviewers_altered change layout d e h c st = record {
   version = ap (list_any (is_version_row 3)) (h.others.0 (λ e. reviewer_apart layout 0 refl refl (sym e))) ∙ st.version;
-  accounts = subst (λ rows. HoldsAccounts rows c.accounts) (sym (h.others.1.0 (λ e. reviewer_apart layout 2 refl refl (sym e)))) st.accounts;
-  sessions = subst (λ rows. HoldsSessions rows c.sessions) (sym (h.others.1.1.0 (λ e. reviewer_apart layout 3 refl refl (sym e)))) st.sessions;
-  sets = subst (λ rows. HoldsSets rows c.sets) (sym (sets_spared layout (reviewer_tree layout) d.trees e.trees (set_is_no_reviewer layout) h.others)) st.sets;
-  no_old_sets = old_spared layout (reviewer_tree layout) d.trees e.trees (old_is_no_reviewer layout) h.others st.no_old_sets;
-  objects = subst (λ rows. HoldsObjects rows c.objects) (sym (h.others.1.1.1.1.0 (λ e. reviewer_apart layout 5 refl refl (sym e)))) st.objects;
+  accounts = subst (λ rows. HoldsAccounts rows c.accounts)
+      (sym (h.others.1.0 (λ e. reviewer_apart layout 2 refl refl (sym e)))) st.accounts;
+  sessions = subst (λ rows. HoldsSessions rows c.sessions)
+      (sym (h.others.1.1.0 (λ e. reviewer_apart layout 3 refl refl (sym e)))) st.sessions;
+  sets = subst (λ rows. HoldsSets rows c.sets)
+      (sym (sets_spared layout (reviewer_tree layout) d.trees e.trees (set_is_no_reviewer layout) h.others)) st.sets;
+  no_old_sets = old_spared layout (reviewer_tree layout) d.trees e.trees
+      (old_is_no_reviewer layout) h.others st.no_old_sets;
+  objects = subst (λ rows. HoldsObjects rows c.objects)
+      (sym (h.others.1.1.1.1.0 (λ e. reviewer_apart layout 5 refl refl (sym e)))) st.objects;
   object_numbers = st.object_numbers;
-  requests = subst (λ rows. HoldsRequests rows c.requests) (sym (h.others.1.1.1.1.1.0 (λ e. reviewer_apart layout 7 refl refl (sym e)))) st.requests;
+  requests = subst (λ rows. HoldsRequests rows c.requests)
+      (sym (h.others.1.1.1.1.1.0 (λ e. reviewer_apart layout 7 refl refl (sym e)))) st.requests;
   reviewers = h.kept c.reviewers st.reviewers;
 }
 
-pub cancelled : (n : ℕ) (layout : Layout) (d e : Database) → Alters layout session_tree HoldsSessions (changed (is_session n) cancelled_session) d e → (c : Content) → Stands layout d.trees c → Stands layout e.trees (after (change.CancelSession n) c)
+pub cancelled : (n : ℕ) (layout : Layout) (d e : Database)
+    → Alters layout session_tree HoldsSessions (changed (is_session n) cancelled_session) d e → (c : Content)
+    → Stands layout d.trees c → Stands layout e.trees (after (change.CancelSession n) c)
 unfolding after
 cancelled n layout d e h c st = sessions_altered (changed (is_session n) cancelled_session) layout d e h c st
 
-pub added : (a : NewAccount) (layout : Layout) (d e : Database) → Alters layout account_tree HoldsAccounts (λ rows. rows ++ new_account a ∷ []) d e → (c : Content) → Stands layout d.trees c → Stands layout e.trees (after_order (order.AddAccount a) c)
+pub added : (a : NewAccount) (layout : Layout) (d e : Database)
+    → Alters layout account_tree HoldsAccounts (λ rows. rows ++ new_account a ∷ []) d e → (c : Content)
+    → Stands layout d.trees c → Stands layout e.trees (after_order (order.AddAccount a) c)
 unfolding after_order
 added a layout d e h c st = accounts_altered (λ rows. rows ++ new_account a ∷ []) layout d e h c st
 
-pub turned_off : (n : ℕ) (layout : Layout) (d e : Database) → Alters layout account_tree HoldsAccounts (changed (is_account n) disabled) d e → (c : Content) → Stands layout d.trees c → Stands layout e.trees (after_order (order.DisableAccount n) c)
+pub turned_off : (n : ℕ) (layout : Layout) (d e : Database)
+    → Alters layout account_tree HoldsAccounts (changed (is_account n) disabled) d e → (c : Content)
+    → Stands layout d.trees c → Stands layout e.trees (after_order (order.DisableAccount n) c)
 unfolding after_order
 turned_off n layout d e h c st = accounts_altered (changed (is_account n) disabled) layout d e h c st
 
-pub stepped : (u : UsedStep) (layout : Layout) (d e : Database) → Alters layout account_tree HoldsAccounts (changed (is_account u.account) (with_step u.step)) d e → (c : Content) → Stands layout d.trees c → Stands layout e.trees (after (change.UseStep u) c)
+pub stepped : (u : UsedStep) (layout : Layout) (d e : Database)
+    → Alters layout account_tree HoldsAccounts (changed (is_account u.account) (with_step u.step)) d e → (c : Content)
+    → Stands layout d.trees c → Stands layout e.trees (after (change.UseStep u) c)
 unfolding after
 stepped u layout d e h c st = accounts_altered (changed (is_account u.account) (with_step u.step)) layout d e h c st
 
 -- ---- two parts
 
-pub set_cancelled : (x : CancelledSet) (layout : Layout) (d e : Database) → Both (Alters layout (set_tree layout) HoldsSets (changed (is_set x.set) cancelled_set)) (Alters layout session_tree HoldsSessions (changed (is_session x.session) (with_counts x.live x.passed))) d e
+pub set_cancelled : (x : CancelledSet) (layout : Layout) (d e : Database)
+    → Both (Alters layout (set_tree layout) HoldsSets (changed (is_set x.set) cancelled_set))
+    (Alters layout session_tree HoldsSessions (changed (is_session x.session) (with_counts x.live x.passed))) d e
     → (c : Content) → AreWellNumbered c → Stands layout d.trees c → Stands layout e.trees (after (change.CancelSet x) c)
 unfolding after
-set_cancelled x layout d e h c sound st = sessions_altered (changed (is_session x.session) (with_counts x.live x.passed)) layout h.0 e h.2 _ (sets_altered (changed (is_set x.set) cancelled_set) layout d h.0 h.1 c st)
+set_cancelled x layout d e h c sound st =
+    sessions_altered (changed (is_session x.session) (with_counts x.live x.passed)) layout h.0 e h.2 _
+    (sets_altered (changed (is_set x.set) cancelled_set) layout d h.0 h.1 c st)
 
-pub answers_kept : (k : KeptAnswers) (layout : Layout) (d e : Database) → Both (Alters layout (set_tree layout) HoldsSets (changed (is_set k.set) (with_graded k.graded))) (Alters layout session_tree HoldsSessions (changed (is_session k.session) (with_passed k.passed))) d e
-    → (c : Content) → AreWellNumbered c → Stands layout d.trees c → Stands layout e.trees (after (change.KeepAnswers k) c)
+pub answers_kept : (k : KeptAnswers) (layout : Layout) (d e : Database)
+    → Both (Alters layout (set_tree layout) HoldsSets (changed (is_set k.set) (with_graded k.graded)))
+    (Alters layout session_tree HoldsSessions (changed (is_session k.session) (with_passed k.passed))) d e
+    → (c : Content) → AreWellNumbered c → Stands layout d.trees c
+    → Stands layout e.trees (after (change.KeepAnswers k) c)
 unfolding after
-answers_kept k layout d e h c sound st = sessions_altered (changed (is_session k.session) (with_passed k.passed)) layout h.0 e h.2 _ (sets_altered (changed (is_set k.set) (with_graded k.graded)) layout d h.0 h.1 c st)
+answers_kept k layout d e h c sound st =
+    sessions_altered (changed (is_session k.session) (with_passed k.passed)) layout h.0 e h.2 _
+    (sets_altered (changed (is_set k.set) (with_graded k.graded)) layout d h.0 h.1 c st)
 
-pub session_begun : (s : NewSession) (layout : Layout) (d e : Database) → Both (Alters layout session_tree HoldsSessions (λ rows. rows ++ new_session s ∷ [])) (Alters layout (set_tree layout) HoldsSets (λ rows. rows ++ new_sets s.number s.epoch 1 s.registration.capabilities)) d e
-    → (c : Content) → AreWellNumbered c → Stands layout d.trees c → Stands layout e.trees (after (change.NewSession s) c)
+pub session_begun : (s : NewSession) (layout : Layout) (d e : Database)
+    → Both (Alters layout session_tree HoldsSessions (λ rows. rows ++ new_session s ∷ []))
+    (Alters layout (set_tree layout) HoldsSets
+    (λ rows. rows ++ new_sets s.number s.epoch 1 s.registration.capabilities)) d e
+    → (c : Content) → AreWellNumbered c → Stands layout d.trees c
+    → Stands layout e.trees (after (change.NewSession s) c)
 unfolding after
-session_begun s layout d e h c sound st = sets_altered (λ rows. rows ++ new_sets s.number s.epoch 1 s.registration.capabilities) layout h.0 e h.2 _ (sessions_altered (λ rows. rows ++ new_session s ∷ []) layout d h.0 h.1 c st)
+session_begun s layout d e h c sound st =
+    sets_altered (λ rows. rows ++ new_sets s.number s.epoch 1 s.registration.capabilities) layout h.0 e h.2 _
+    (sessions_altered (λ rows. rows ++ new_session s ∷ []) layout d h.0 h.1 c st)
 
-pub request_made : (r : NewRequest) (layout : Layout) (d e : Database) → Alters layout request_tree HoldsRequests (λ rows. rows ++ new_request r ∷ []) d e → (c : Content) → Stands layout d.trees c → Stands layout e.trees (after (change.NewRequest r) c)
+pub request_made : (r : NewRequest) (layout : Layout) (d e : Database)
+    → Alters layout request_tree HoldsRequests (λ rows. rows ++ new_request r ∷ []) d e → (c : Content)
+    → Stands layout d.trees c → Stands layout e.trees (after (change.NewRequest r) c)
 unfolding after
 request_made r layout d e h c st = requests_altered (λ rows. rows ++ new_request r ∷ []) layout d e h c st
 
-pub certification_asked : (x : NewCertification) (layout : Layout) (d e : Database) → Both (Alters layout request_tree HoldsRequests (λ rows. rows ++ new_certification x ∷ [])) (Alters layout session_tree HoldsSessions (changed (is_session x.certification.session) (with_last_request x.number))) d e
+pub certification_asked : (x : NewCertification) (layout : Layout) (d e : Database)
+    → Both (Alters layout request_tree HoldsRequests (λ rows. rows ++ new_certification x ∷ []))
+    (Alters layout session_tree HoldsSessions
+    (changed (is_session x.certification.session) (with_last_request x.number))) d e
     → (c : Content) → AreWellNumbered c → Stands layout d.trees c → Stands layout e.trees (after (change.Certify x) c)
 unfolding after
-certification_asked x layout d e h c sound st = sessions_altered (changed (is_session x.certification.session) (with_last_request x.number)) layout h.0 e h.2 _ (requests_altered (λ rows. rows ++ new_certification x ∷ []) layout d h.0 h.1 c st)
+certification_asked x layout d e h c sound st =
+    sessions_altered (changed (is_session x.certification.session) (with_last_request x.number)) layout h.0 e h.2 _
+    (requests_altered (λ rows. rows ++ new_certification x ∷ []) layout d h.0 h.1 c st)
 
-pub rejected : (n : ℕ) (layout : Layout) (d e : Database) → Alters layout request_tree HoldsRequests (changed (is_request n) (with_status status.Rejected)) d e → (c : Content) → Stands layout d.trees c → Stands layout e.trees (after_order (order.Reject n) c)
+pub rejected : (n : ℕ) (layout : Layout) (d e : Database)
+    → Alters layout request_tree HoldsRequests (changed (is_request n) (with_status status.Rejected)) d e
+    → (c : Content) → Stands layout d.trees c → Stands layout e.trees (after_order (order.Reject n) c)
 unfolding after_order
 rejected n layout d e h c st = requests_altered (changed (is_request n) (with_status status.Rejected)) layout d e h c st
 
-pub reviewer_added : (r : ReviewerRow) (layout : Layout) (d e : Database) → Alters layout (reviewer_tree layout) HoldsReviewers (with_reviewer r) d e → (c : Content) → Stands layout d.trees c → Stands layout e.trees (after (change.AddReviewer r) c)
+pub reviewer_added : (r : ReviewerRow) (layout : Layout) (d e : Database)
+    → Alters layout (reviewer_tree layout) HoldsReviewers (with_reviewer r) d e → (c : Content)
+    → Stands layout d.trees c → Stands layout e.trees (after (change.AddReviewer r) c)
 unfolding after
 reviewer_added r layout d e h c st = reviewers_altered (with_reviewer r) layout d e h c st
 
-pub reviewer_removed : (r : ReviewerRow) (layout : Layout) (d e : Database) → Alters layout (reviewer_tree layout) HoldsReviewers (filter (λ row. not (is_pair r row))) d e → (c : Content) → Stands layout d.trees c → Stands layout e.trees (after (change.RemoveReviewer r) c)
+pub reviewer_removed : (r : ReviewerRow) (layout : Layout) (d e : Database)
+    → Alters layout (reviewer_tree layout) HoldsReviewers (filter (λ row. not (is_pair r row))) d e → (c : Content)
+    → Stands layout d.trees c → Stands layout e.trees (after (change.RemoveReviewer r) c)
 unfolding after
 reviewer_removed r layout d e h c st = reviewers_altered (filter (λ row. not (is_pair r row))) layout d e h c st
 
-fit_registered : (n number : ℕ) → number < 2 ^ 63 → (requests : List RequestRow) → AllByRecursion (λ (r : RequestRow). BodyReads r.body) requests → FitColumns (approved_objects (request_at n requests) number)
+fit_registered : (n number : ℕ) → number < 2 ^ 63 → (requests : List RequestRow)
+    → AllByRecursion (λ (r : RequestRow). BodyReads r.body) requests
+    → FitColumns (approved_objects (request_at n requests) number)
 fit_registered n number low [] all = tt
 fit_registered n number low (r ∷ requests) all = elim (cases_Bool (r.number == n)) [
   | inl same ↦ rw same (go r.account r.body all.0)
@@ -339,38 +464,56 @@ fit_registered n number low (r ∷ requests) all = elim (cases_Bool (r.number ==
     go account (body.Registration o) reads = ((low, reads), tt)
     go account (body.Certification c) reads = tt
 
-registered : (n number : ℕ) (layout : Layout) (d e : Database) → Registers layout n number d e → (c : Content) → AreWellNumbered c → Stands layout d.trees c → Stands layout e.trees (record c { objects = c.objects ++ approved_objects (request_at n c.requests) number })
+registered : (n number : ℕ) (layout : Layout) (d e : Database) → Registers layout n number d e → (c : Content)
+    → AreWellNumbered c → Stands layout d.trees c
+    → Stands layout e.trees (record c { objects = c.objects ++ approved_objects (request_at n c.requests) number })
 registered n number layout d e h c sound st = record {
   version = ap (list_any (is_version_row 3)) (h.others.0 (apart 0 5 refl)) ∙ st.version;
   accounts = subst (λ rows. HoldsAccounts rows c.accounts) (sym (h.others.1.0 (apart 2 5 refl))) st.accounts;
   sessions = subst (λ rows. HoldsSessions rows c.sessions) (sym (h.others.1.1.0 (apart 3 5 refl))) st.sessions;
-  sets = subst (λ rows. HoldsSets rows c.sets) (sym (sets_spared layout 5 d.trees e.trees (set_apart layout 5 refl refl) h.others)) st.sets;
+  sets = subst (λ rows. HoldsSets rows c.sets)
+      (sym (sets_spared layout 5 d.trees e.trees (set_apart layout 5 refl refl) h.others)) st.sets;
   no_old_sets = old_spared layout 5 d.trees e.trees (old_apart layout 5 refl) h.others st.no_old_sets;
   objects = h.kept c.requests c.objects (kinds_of c sound) st.requests st.objects;
-  object_numbers = all-append IsKeepable c.objects _ st.object_numbers (fit_registered n number h.fits c.requests st.requests.texts);
+  object_numbers = all-append IsKeepable c.objects _ st.object_numbers
+      (fit_registered n number h.fits c.requests st.requests.texts);
   requests = subst (λ rows. HoldsRequests rows c.requests) (sym (h.others.1.1.1.1.1.0 (apart 7 5 refl))) st.requests;
-  reviewers = subst (λ rows. HoldsReviewers rows c.reviewers) (sym (reviewers_spared layout 5 d.trees e.trees (reviewer_apart layout 5 refl refl) h.others)) st.reviewers;
+  reviewers = subst (λ rows. HoldsReviewers rows c.reviewers)
+      (sym (reviewers_spared layout 5 d.trees e.trees (reviewer_apart layout 5 refl refl) h.others)) st.reviewers;
 }
 
-pub approved : (x : Approval) (layout : Layout) (d e : Database) → Both (Registers layout x.request x.approved) (Alters layout request_tree HoldsRequests (changed (is_request x.request) (with_status (status.Approved x.approved)))) d e
-    → (c : Content) → AreWellNumbered c → Stands layout d.trees c → Stands layout e.trees (after_order (order.Approve x) c)
+pub approved : (x : Approval) (layout : Layout) (d e : Database)
+    → Both (Registers layout x.request x.approved)
+    (Alters layout request_tree HoldsRequests
+    (changed (is_request x.request) (with_status (status.Approved x.approved)))) d e
+    → (c : Content) → AreWellNumbered c → Stands layout d.trees c
+    → Stands layout e.trees (after_order (order.Approve x) c)
 unfolding after_order
-approved x layout d e h c sound st = requests_altered (changed (is_request x.request) (with_status (status.Approved x.approved))) layout h.0 e h.2 _ (registered x.request x.approved layout d h.0 h.1 c sound st)
+approved x layout d e h c sound st =
+    requests_altered (changed (is_request x.request) (with_status (status.Approved x.approved))) layout h.0 e h.2 _
+    (registered x.request x.approved layout d h.0 h.1 c sound st)
 
 -- one who is there already
-pub reviewer_there : (r : ReviewerRow) (c : Content) → is_reviewer r.session r.account c.reviewers ≡ true → after (change.AddReviewer r) c ≡ c
+pub reviewer_there : (r : ReviewerRow) (c : Content) → is_reviewer r.session r.account c.reviewers ≡ true
+    → after (change.AddReviewer r) c ≡ c
 unfolding after
-reviewer_there r c there = ap (λ rows. record c { reviewers = rows }) (ap (λ b. if b then c.reviewers else c.reviewers ++ r ∷ []) there)
+reviewer_there r c there =
+    ap (λ rows. record c { reviewers = rows }) (ap (λ b. if b then c.reviewers else c.reviewers ++ r ∷ []) there)
 
 -- ---- the beginning
 
 pub kept_none : {A : Type 0} (key : A → ℕ) (stored : A → Row) (rows : List Row) → rows ≡ [] → AreKept key stored rows []
-kept_none key stored rows none = record { ordered = []; rows_are = none; rising = tt; fits = tt; same = IsPermutation-refl [] }
+kept_none key stored rows none =
+    record { ordered = []; rows_are = none; rising = tt; fits = tt; same = IsPermutation-refl [] }
 
 -- what all the statements that make the store do, one after the other
 abbrev pub MakesAll : Database → Database → Type 0
-MakesAll = Both (Under (before table.Meta) (Makes table.Meta)) (Both (Under (before table.Account) (Makes table.Account)) (Both (Under (before table.Session) (Makes table.Session))
-    (Both (Under (before table.Set) (Makes table.Set)) (Both (Under (before table.Object) (Makes table.Object)) (Both (Under (before table.Request) (Makes table.Request))
+MakesAll = Both (Under (before table.Meta) (Makes table.Meta))
+    (Both (Under (before table.Account) (Makes table.Account))
+    (Both (Under (before table.Session) (Makes table.Session))
+    (Both (Under (before table.Set) (Makes table.Set))
+    (Both (Under (before table.Object) (Makes table.Object))
+    (Both (Under (before table.Request) (Makes table.Request))
     (Both (Under (before table.Reviewer) (Makes table.Reviewer)) (Under (schema_of Created) (WritesVersion 3))))))))
 
 pub begins : (old new : Database) → MakesAll old new → Under no_schema Begins old new
@@ -392,9 +535,12 @@ begins old new h start =
     let d8 = h.2.2.2.2.2.2.2 (m7.schema ∙ whole_schema) in
     let v = d8.1 in
     let meta = m7.others.0 ∙ m6.others.0 ∙ m5.others.0 ∙ m4.others.0 ∙ m3.others.0 ∙ m2.others.0 ∙ m1.empty in
-    let accounts = v.others.1.0 (apart 2 0 refl) ∙ m7.others.1.0 ∙ m6.others.1.0 ∙ m5.others.1.0 ∙ m4.others.1.0 ∙ m3.others.1.0 ∙ m2.empty in
-    let sessions = v.others.1.1.0 (apart 3 0 refl) ∙ m7.others.1.1.0 ∙ m6.others.1.1.0 ∙ m5.others.1.1.0 ∙ m4.others.1.1.0 ∙ m3.empty in
-    let sets = v.others.1.1.1.0 (apart 4 0 refl) ∙ m7.others.1.1.1.0 ∙ m6.others.1.1.1.0 ∙ m5.others.1.1.1.0 ∙ m4.empty in
+    let accounts = v.others.1.0 (apart 2 0 refl) ∙ m7.others.1.0 ∙ m6.others.1.0 ∙ m5.others.1.0 ∙ m4.others.1.0
+    ∙ m3.others.1.0 ∙ m2.empty in
+    let sessions = v.others.1.1.0 (apart 3 0 refl) ∙ m7.others.1.1.0 ∙ m6.others.1.1.0 ∙ m5.others.1.1.0
+    ∙ m4.others.1.1.0 ∙ m3.empty in
+    let sets = v.others.1.1.1.0 (apart 4 0 refl) ∙ m7.others.1.1.1.0 ∙ m6.others.1.1.1.0 ∙ m5.others.1.1.1.0
+    ∙ m4.empty in
     let objects = v.others.1.1.1.1.0 (apart 5 0 refl) ∙ m7.others.1.1.1.1.0 ∙ m6.others.1.1.1.1.0 ∙ m5.empty in
     let requests = v.others.1.1.1.1.1.0 (apart 7 0 refl) ∙ m7.others.1.1.1.1.1.0 ∙ m6.empty in
     let reviewers = v.others.1.1.1.1.1.1.0 (apart 8 0 refl) ∙ m7.empty in (
@@ -410,16 +556,25 @@ begins old new h start =
           objects = record { entries = []; rows_are = objects; rising = tt; same = IsPermutation-refl [] };
           object_numbers = tt;
           requests = record { kept = kept_none _ _ _ requests; texts = tt };
-          reviewers = record { kept = record { entries = []; rows_are = reviewers; rising = tt; same = IsPermutation-refl [] }; fits = tt };
+          reviewers = record {
+            kept =
+                record { entries = []; rows_are = reviewers; rising = tt; same = IsPermutation-refl [] };
+            fits = tt;
+          };
         };
       },
     )
 
 -- the same of those that make the tables as they lie where those of the first schema were there before them
 abbrev pub MakesMigrated : Database → Database → Type 0
-MakesMigrated = Both (Under (before table.Meta) (Makes table.Meta)) (Both (Under (before table.Account) (Makes table.Account)) (Both (Under (before table.Session) (Makes table.Session))
-    (Both (Under (before table.OldSet) (Makes table.OldSet)) (Both (Under (before table.LaterObject) (Makes table.LaterObject)) (Both (Under (before table.LaterRequest) (Makes table.LaterRequest))
-    (Both (Under (before table.LaterSet) (Makes table.LaterSet)) (Under (before table.LaterReviewer) (Makes table.LaterReviewer))))))))
+MakesMigrated = Both (Under (before table.Meta) (Makes table.Meta))
+    (Both (Under (before table.Account) (Makes table.Account))
+    (Both (Under (before table.Session) (Makes table.Session))
+    (Both (Under (before table.OldSet) (Makes table.OldSet))
+    (Both (Under (before table.LaterObject) (Makes table.LaterObject))
+    (Both (Under (before table.LaterRequest) (Makes table.LaterRequest))
+    (Both (Under (before table.LaterSet) (Makes table.LaterSet))
+    (Under (before table.LaterReviewer) (Makes table.LaterReviewer))))))))
 
 pub becomes_migrated : (old new : Database) → MakesMigrated old new → Under no_schema BecomesMigrated old new
 becomes_migrated old new h start =

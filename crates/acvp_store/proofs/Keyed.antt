@@ -15,7 +15,8 @@ same_whole m n = ap is_eq (value_cmp-Int (pos m) (pos n)) ∙ grind (arith, nat_
 pub eq_of : (m n : ℕ) → (m == n) ≡ true → m ≡ n
 eq_of m n h = grind (arith, nat_tests)
 
-pub order_whole : {X : Type 0} (m n : ℕ) (x y z : X) → match_ordering (value_cmp (whole m) (whole n)) x y z ≡ (if nat_lt m n then x else (if m == n then y else z))
+pub order_whole : {X : Type 0} (m n : ℕ) (x y z : X)
+    → match_ordering (value_cmp (whole m) (whole n)) x y z ≡ (if nat_lt m n then x else (if m == n then y else z))
 order_whole m n x y z = ap (λ o. match_ordering o x y z) (value_cmp-Int (pos m) (pos n)) ∙ grind (arith, nat_tests)
 
 pub none_left : {X : Type 0} (ys : List X) → IsPermutation [] ys → ys ≡ []
@@ -71,7 +72,8 @@ module _ {A : Type 0} (key : A → ℕ) where
     | inr apart ↦ above m n all a h.1 (rw apart at one)
   ]
 
-  pub few_keyed : (n : ℕ) (all : List A) → Rise all → (keyed n all ≡ []) ⊎ ((a : A) × (keyed n all ≡ a ∷ []) × (key a ≡ n))
+  pub few_keyed : (n : ℕ) (all : List A) → Rise all → (keyed n all ≡ [])
+      ⊎ ((a : A) × (keyed n all ≡ a ∷ []) × (key a ≡ n))
   few_keyed n [] rise = inl refl
   few_keyed n (x ∷ all) rise = elim (cases_Bool (key x == n)) [
     | inl same ↦
@@ -97,7 +99,8 @@ module _ {A : Type 0} (key : A → ℕ) where
 
   -- the changed member in its place, among the others
   module _ (n : ℕ) (f : A → A) (keeps : (a : A) → key (f a) ≡ key a) where
-    pub rechanged : (all : List A) (a : A) → Rise all → keyed n all ≡ a ∷ [] → with_row (f a) (filter (λ a. not (key a == n)) all) ≡ map (changing n f) all
+    pub rechanged : (all : List A) (a : A) → Rise all → keyed n all ≡ a ∷ []
+        → with_row (f a) (filter (λ a. not (key a == n)) all) ≡ map (changing n f) all
     rechanged [] a rise one = absurd (cc)
     rechanged (x ∷ all) a rise one = elim (cases_Bool (key x == n)) [
       | inl same ↦
@@ -108,7 +111,8 @@ module _ {A : Type 0} (key : A → ℕ) where
           let rest = all_beyond n all up in
           let still = none_changing n f all none in
           let low : key (f a) ≡ key x = keeps a ∙ ap key (sym it) in
-          let head : with_row (f a) all ≡ f a ∷ all = first_beyond (f a) all (subst (λ k. AllByRecursion (λ y. k < key y) all) (sym low) rise.0) in
+          let head : with_row (f a) all ≡ f a ∷ all =
+          first_beyond (f a) all (subst (λ k. AllByRecursion (λ y. k < key y) all) (sym low) rise.0) in
           grind (arith, nat_tests, same, it, rest, still, head)
       | inr apart ↦
           let low = above (key x) n all a rise.0 (rw apart at one) in
@@ -128,33 +132,44 @@ module _ {A : Type 0} (key : A → ℕ) where
     rise_changed [] rise = tt
     rise_changed (x ∷ all) rise = (below all rise.0, rise_changed all rise.1)
       where
-        below : (all : List A) → AllByRecursion (λ y. key x < key y) all → AllByRecursion (λ y. key (changing n f x) < key y) (map (changing n f) all)
+        below : (all : List A) → AllByRecursion (λ y. key x < key y) all
+            → AllByRecursion (λ y. key (changing n f x) < key y) (map (changing n f) all)
         below [] h = tt
-        below (y ∷ all) h = (let a = key_changing x in let b = key_changing y in let low = h.0 in omega arith, below all h.1)
+        below (y ∷ all) h = (
+          let a = key_changing x in let b = key_changing y in let low = h.0 in
+              omega arith,
+          below all h.1,
+        )
 
-    pub fits_changed : (all : List A) → AllByRecursion (λ a. key a < 2 ^ 63) all → AllByRecursion (λ a. key a < 2 ^ 63) (map (changing n f) all)
+    pub fits_changed : (all : List A) → AllByRecursion (λ a. key a < 2 ^ 63) all
+        → AllByRecursion (λ a. key a < 2 ^ 63) (map (changing n f) all)
     fits_changed [] h = tt
     fits_changed (x ∷ all) h = (subst (λ k. k < 2 ^ 63) (sym (key_changing x)) h.0, fits_changed all h.1)
 
   -- a number that doesn't fit is that of none
   pub none_fits : (n : ℕ) (all : List A) → 2 ^ 63 ≤ n → AllByRecursion (λ a. key a < 2 ^ 63) all → keyed n all ≡ []
   none_fits n [] high h = refl
-  none_fits n (x ∷ all) high h = let more = none_fits n all high h.1 in let low = h.0 in grind (arith, nat_tests, more, low, high)
+  none_fits n (x ∷ all) high h = let more = none_fits n all high h.1 in let low = h.0 in
+      grind (arith, nat_tests, more, low, high)
 
-  all_with : (P : A → Type 0) (new : A) (all : List A) → P new → AllByRecursion P all → AllByRecursion P (with_row new all)
+  all_with : (P : A → Type 0) (new : A) (all : List A) → P new → AllByRecursion P all
+      → AllByRecursion P (with_row new all)
   all_with P new [] p h = (p, tt)
   all_with P new (x ∷ all) p h = go (all_with P new all p h.1) (nat_lt (key x) (key new))
     where
-      go : AllByRecursion P (with_row new all) → (b : Bool) → AllByRecursion P (if b then x ∷ with_row new all else new ∷ x ∷ all)
+      go : AllByRecursion P (with_row new all) → (b : Bool)
+          → AllByRecursion P (if b then x ∷ with_row new all else new ∷ x ∷ all)
       go more true = (h.0, more)
       go more false = (p, h)
 
-  all_above : (m n : ℕ) (all : List A) → m < n → AllByRecursion (λ y. n < key y) all → AllByRecursion (λ y. m < key y) all
+  all_above : (m n : ℕ) (all : List A) → m < n → AllByRecursion (λ y. n < key y) all
+      → AllByRecursion (λ y. m < key y) all
   all_above m n [] low h = tt
   all_above m n (y ∷ all) low h = (let k = h.0 in omega arith, all_above m n all low h.1)
 
   apart_from : (new x : A) (all : List A) → keyed (key new) (x ∷ all) ≡ [] → (key x == key new) ≡ false
-  apart_from new x all free = elim (cases_Bool (key x == key new)) [ inl same ↦ absurd (let e = rw same at free in cc) | inr apart ↦ apart ]
+  apart_from new x all free =
+      elim (cases_Bool (key x == key new)) [ inl same ↦ absurd (let e = rw same at free in cc) | inr apart ↦ apart ]
 
   pub rise_with : (new : A) (all : List A) → keyed (key new) all ≡ [] → Rise all → Rise (with_row new all)
   rise_with new [] free rise = (tt, tt)
@@ -162,8 +177,10 @@ module _ {A : Type 0} (key : A → ℕ) where
       let apart = apart_from new x all free in
       let more = rise_with new all (rw apart at free) rise.1 in
       elim (cases_Bool (nat_lt (key x) (key new))) [
-        | inl low ↦ let below : key x < key new = grind (arith, nat_tests, low) in rw low (all_with (λ y. key x < key y) new all below rise.0, more)
-        | inr high ↦ let over : key new < key x = grind (arith, nat_tests, high, apart) in rw high ((over, all_above (key new) (key x) all over rise.0), rise)
+        | inl low ↦ let below : key x < key new = grind (arith, nat_tests, low) in
+            rw low (all_with (λ y. key x < key y) new all below rise.0, more)
+        | inr high ↦ let over : key new < key x = grind (arith, nat_tests, high, apart) in
+            rw high ((over, all_above (key new) (key x) all over rise.0), rise)
       ]
 
   -- ---- in any order
@@ -171,15 +188,19 @@ module _ {A : Type 0} (key : A → ℕ) where
   with_shuffles : (new : A) (all : List A) → IsPermutation (new ∷ all) (with_row new all)
   with_shuffles new [] = IsPermutation-refl _
   with_shuffles new (x ∷ all) = elim (cases_Bool (nat_lt (key x) (key new))) [
-    | inl low ↦ rw low (IsPermutation-trans _ (x ∷ new ∷ all) _ (IsPermutation-append_left all (new ∷ x ∷ []) (x ∷ new ∷ []) (IsPermutation-append_comm (new ∷ []) (x ∷ []))) (IsPermutation-cons x _ _ (with_shuffles new all)))
+    | inl low ↦ rw low (IsPermutation-trans _ (x ∷ new ∷ all) _
+        (IsPermutation-append_left all (new ∷ x ∷ []) (x ∷ new ∷ []) (IsPermutation-append_comm (new ∷ []) (x ∷ [])))
+        (IsPermutation-cons x _ _ (with_shuffles new all)))
     | inr high ↦ rw high (IsPermutation-refl _)
   ]
 
   -- the member in its place, or behind all others
-  pub same_with : (new : A) (ordered list : List A) → IsPermutation ordered list → IsPermutation (with_row new ordered) (list ++ new ∷ [])
+  pub same_with : (new : A) (ordered list : List A) → IsPermutation ordered list
+      → IsPermutation (with_row new ordered) (list ++ new ∷ [])
   same_with new ordered list same =
       IsPermutation-trans _ (new ∷ ordered) _ (IsPermutation-sym _ _ (with_shuffles new ordered))
-      (IsPermutation-trans _ (new ∷ list) _ (IsPermutation-cons new _ _ same) (IsPermutation-sym _ _ (IsPermutation-to_front list new)))
+      (IsPermutation-trans _ (new ∷ list) _ (IsPermutation-cons new _ _ same)
+      (IsPermutation-sym _ _ (IsPermutation-to_front list new)))
 
   -- what is found of a list is the one row that has the number
   pub find_is : (n : ℕ) (list : List A) → find (λ a. key a == n) list ≡ slice_get (keyed n list) 0
@@ -189,7 +210,8 @@ module _ {A : Type 0} (key : A → ℕ) where
     | inr apart ↦ rw apart (find_is n list)
   ]
 
-  pub keyed_same : (n : ℕ) (ordered list : List A) → Rise ordered → IsPermutation ordered list → keyed n ordered ≡ keyed n list
+  pub keyed_same : (n : ℕ) (ordered list : List A) → Rise ordered → IsPermutation ordered list
+      → keyed n ordered ≡ keyed n list
   keyed_same n ordered list rise same =
       let its = IsPermutation-filter (λ a. key a == n) ordered list same in
       elim (few_keyed n ordered rise) [
@@ -203,15 +225,19 @@ module _ {A : Type 0} (key : A → ℕ) (stored : A → Row) (rowid_is : (a : A)
   has_key : (n : ℕ) (a : A) → has_rowid (pos n) (stored a) ≡ (key a == n)
   has_key n a = ap (λ v. is_eq (value_cmp v (whole n))) (rowid_is a) ∙ same_whole (key a) n
 
-  pub without_key : (n : ℕ) (all : List A) → without_rowid (pos n) (map stored all) ≡ map stored (filter (λ a. not (key a == n)) all)
+  pub without_key : (n : ℕ) (all : List A)
+      → without_rowid (pos n) (map stored all) ≡ map stored (filter (λ a. not (key a == n)) all)
   without_key n [] = refl
   without_key n (a ∷ all) = grind (arith, has_key n a, without_key n all)
 
-  order_rows : {X : Type 0} (a b : A) (x y z : X) → match_ordering (value_cmp (rowid (stored a)) (rowid (stored b))) x y z ≡ (if nat_lt (key a) (key b) then x else (if key a == key b then y else z))
+  order_rows : {X : Type 0} (a b : A) (x y z : X)
+      → match_ordering (value_cmp (rowid (stored a)) (rowid (stored b))) x y z
+      ≡ (if nat_lt (key a) (key b) then x else (if key a == key b then y else z))
   order_rows a b x y z = rw (rowid_is a, rowid_is b) (order_whole (key a) (key b) x y z)
 
   -- a row with a number that isn't there
-  pub put_new : (new : A) (all : List A) → keyed key (key new) all ≡ [] → put_row (stored new) (map stored all) ≡ map stored (with_row key new all)
+  pub put_new : (new : A) (all : List A) → keyed key (key new) all ≡ []
+      → put_row (stored new) (map stored all) ≡ map stored (with_row key new all)
   put_new new [] none = refl
   put_new new (a ∷ all) none =
       let later : (key a == key new) ≡ false → keyed key (key new) all ≡ [] = λ apart. rw apart at none in
@@ -220,7 +246,8 @@ module _ {A : Type 0} (key : A → ℕ) (stored : A → Row) (rowid_is : (a : A)
         | inr apart ↦ let more = put_new new all (later apart) in grind (arith, nat_tests, apart, more)
       ]
 
-  pub free_key : (n : ℕ) (all : List A) → list_any (λ r. is_eq (value_cmp (rowid r) (whole n))) (map stored all) ≡ false → keyed key n all ≡ []
+  pub free_key : (n : ℕ) (all : List A) → list_any (λ r. is_eq (value_cmp (rowid r) (whole n))) (map stored all) ≡ false
+      → keyed key n all ≡ []
   free_key n [] h = refl
   free_key n (x ∷ all) h = elim (cases_Bool (key x == n)) [
     | inl same ↦ absurd (let e = rw (has_key n x, same) at h in cc)
@@ -229,7 +256,9 @@ module _ {A : Type 0} (key : A → ℕ) (stored : A → Row) (rowid_is : (a : A)
 
   -- ---- what a table keeps
 
-  pub kept_with : (rows next : List Row) (list : List A) (new : A) (kept : AreKept key stored rows list) → keyed key (key new) kept.ordered ≡ [] → next ≡ map stored (with_row key new kept.ordered) → key new < 2 ^ 63 → AreKept key stored next (list ++ new ∷ [])
+  pub kept_with : (rows next : List Row) (list : List A) (new : A) (kept : AreKept key stored rows list)
+      → keyed key (key new) kept.ordered ≡ [] → next ≡ map stored (with_row key new kept.ordered) → key new < 2 ^ 63
+      → AreKept key stored next (list ++ new ∷ [])
   kept_with rows next list new kept free is low = record {
     ordered = with_row key new kept.ordered;
     rows_are = is;
@@ -238,7 +267,9 @@ module _ {A : Type 0} (key : A → ℕ) (stored : A → Row) (rowid_is : (a : A)
     same = same_with key new kept.ordered list kept.same;
   }
 
-  pub kept_changed : (n : ℕ) (f : A → A) → ((a : A) → key (f a) ≡ key a) → (rows next : List Row) (list : List A) (kept : AreKept key stored rows list) → next ≡ map stored (map (changing key n f) kept.ordered) → AreKept key stored next (map (changing key n f) list)
+  pub kept_changed : (n : ℕ) (f : A → A) → ((a : A) → key (f a) ≡ key a)
+      → (rows next : List Row) (list : List A) (kept : AreKept key stored rows list)
+      → next ≡ map stored (map (changing key n f) kept.ordered) → AreKept key stored next (map (changing key n f) list)
   kept_changed n f keeps rows next list kept is = record {
     ordered = map (changing key n f) kept.ordered;
     rows_are = is;

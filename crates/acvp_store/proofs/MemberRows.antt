@@ -77,7 +77,8 @@ flag_is true = refl
 flag_is false = refl
 
 abbrev pub add_session_params : NewSession → Row
-add_session_params s = whole s.number ∷ whole s.account ∷ flag s.registration.sample ∷ whole s.created ∷ whole (length s.registration.capabilities) ∷ []
+add_session_params s = whole s.number ∷ whole s.account ∷ flag s.registration.sample ∷ whole s.created
+    ∷ whole (length s.registration.capabilities) ∷ []
 
 pub add_session_effect : (layout : Layout) (old : State) (s : NewSession) → s.number < 2 ^ 63
     → Effects SessionAdded layout (add_session_params s) old
@@ -122,15 +123,20 @@ module _ (layout : Layout) (old : State) (n : ℕ) where
 
 -- ---- requests: what is kept, with texts that read
 
-keeps_texts : (layout : Layout) (change : List RequestRow → List RequestRow) → ((list : List RequestRow) → AllByRecursion (λ (r : RequestRow). BodyReads r.body) list → AllByRecursion (λ (r : RequestRow). BodyReads r.body) (change list)) → (old new : Database)
-    → Alters layout request_tree (AreKept request_key request_row) change old new → Alters layout request_tree HoldsRequests change old new
+keeps_texts : (layout : Layout) (change : List RequestRow → List RequestRow)
+    → ((list : List RequestRow) → AllByRecursion (λ (r : RequestRow). BodyReads r.body) list
+    → AllByRecursion (λ (r : RequestRow). BodyReads r.body) (change list)) → (old new : Database)
+    → Alters layout request_tree (AreKept request_key request_row) change old new
+    → Alters layout request_tree HoldsRequests change old new
 keeps_texts layout change keeps old new h = record {
   schema = h.schema;
   kept = λ list held. record { kept = h.kept list held.kept; texts = keeps list held.texts };
   others = h.others;
 }
 
-read_decided : (n : ℕ) (s : RequestStatus) (list : List RequestRow) → AllByRecursion (λ (r : RequestRow). BodyReads r.body) list → AllByRecursion (λ (r : RequestRow). BodyReads r.body) (changed (is_request n) (with_status s) list)
+read_decided : (n : ℕ) (s : RequestStatus) (list : List RequestRow)
+    → AllByRecursion (λ (r : RequestRow). BodyReads r.body) list
+    → AllByRecursion (λ (r : RequestRow). BodyReads r.body) (changed (is_request n) (with_status s) list)
 read_decided n s [] all = tt
 read_decided n s (r ∷ list) all = (one (is_request n r), read_decided n s list all.1)
   where

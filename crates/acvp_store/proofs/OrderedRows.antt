@@ -100,20 +100,25 @@ either_way : (n m : ℕ) → more n m
 either_way n m = search arith
 
 take_all : {A : Type 0} (n : ℕ) (xs : List A) → length xs ≤ n → take n xs ≡ xs
-take_all n xs few = let same : min n (length xs) ≡ length xs = omega arith in sym (take_min n xs) ∙ ap (λ k. take k xs) same ∙ take-length xs
+take_all n xs few = let same : min n (length xs) ≡ length xs = omega arith in
+    sym (take_min n xs) ∙ ap (λ k. take k xs) same ∙ take-length xs
 
 capped_take : {A : Type 0} (l m : ℕ) (xs : List A) → length xs ≤ m → take (min l m) xs ≡ take l xs
 capped_take l m xs few = elim (either_way l m) [
   | inl low ↦ let same : min l m ≡ l = omega arith in ap (λ n. take n xs) same
-  | inr high ↦ let same : min l m ≡ m = omega arith in ap (λ n. take n xs) same ∙ take_all m xs few ∙ sym (take_all l xs (omega arith))
+  | inr high ↦ let same : min l m ≡ m = omega arith in
+      ap (λ n. take n xs) same ∙ take_all m xs few ∙ sym (take_all l xs (omega arith))
 ]
 
 capped_drop : {A : Type 0} (o m : ℕ) (xs : List A) → length xs ≤ m → drop (min o m) xs ≡ drop o xs
 capped_drop o m xs few = elim (either_way o m) [
   | inl low ↦ let same : min o m ≡ o = omega arith in ap (λ n. drop n xs) same
-  | inr high ↦ let same : min o m ≡ m = omega arith in ap (λ n. drop n xs) same ∙ drop_all m xs few ∙ sym (drop_all o xs (omega arith))
+  | inr high ↦ let same : min o m ≡ m = omega arith in
+      ap (λ n. drop n xs) same ∙ drop_all m xs few ∙ sym (drop_all o xs (omega arith))
 ]
 
-pub capped_page : {A : Type 0} (o l : ℕ) (xs : List A) → length xs ≤ 999999 → take (min l 9223372036854775807) (drop (min o 999999) xs) ≡ page o l xs
+pub capped_page : {A : Type 0} (o l : ℕ) (xs : List A) → length xs ≤ 999999
+    → take (min l 9223372036854775807) (drop (min o 999999) xs) ≡ page o l xs
 capped_page o l xs few =
-    ap (take (min l 9223372036854775807)) (capped_drop o 999999 xs few) ∙ capped_take l 9223372036854775807 (drop o xs) (omega (arith, length-drop o xs))
+    ap (take (min l 9223372036854775807)) (capped_drop o 999999 xs few)
+    ∙ capped_take l 9223372036854775807 (drop o xs) (omega (arith, length-drop o xs))

@@ -10,7 +10,8 @@ use Rattle.acvp_store.proofs.Words.{IsRolledBack, IsUnchanged, LeavesNoMore, Row
 use Rattle.acvp_store.proofs.Silent.{asks, silent, commits_nothing}
 
 -- an open store is clean, by the law of each store
-pub clean_if_open : (is_clean is_open : Bool) → (is_clean ≡ false → is_open ≡ false) → IsTrue is_open → doubt is_clean ≡ 0
+pub clean_if_open : (is_clean is_open : Bool) → (is_clean ≡ false → is_open ≡ false) → IsTrue is_open
+    → doubt is_clean ≡ 0
 clean_if_open true is_open law h = no_doubt true refl
 clean_if_open false is_open law h = absurd (let e = law refl in cc)
 
@@ -24,7 +25,11 @@ same_unchanged old new ready same =
     record {
       was_open = λ _. same.0.was_open;
       now = λ _. same.0.now_is;
-      settled = λ _. record { settled = same.0.now_is ∙ was.settled ∙ sym same.0.committed_is; autocommit = same.0.mode ∙ was.autocommit };
+      settled = λ _. record {
+        settled = same.0.now_is ∙ was.settled ∙ sym same.0.committed_is;
+        autocommit =
+            same.0.mode ∙ was.autocommit;
+      };
     }
 
 same_undone : (old new : State) → IsReady old → IsRolledBack old new → Stays old new
@@ -34,29 +39,38 @@ same_undone old new ready back = record {
   settled = λ h. record { settled = (back.undone h).0 ∙ sym (back.undone h).1; autocommit = back.autocommit };
 }
 
-stays_failed : (sql : List ℕ) (params : Row) (old new : State) (e : Error) → IsReady old → FailsToQuery sql params old new e → Stays old new
+stays_failed : (sql : List ℕ) (params : Row) (old new : State) (e : Error) → IsReady old
+    → FailsToQuery sql params old new e → Stays old new
 unfolding FailsToQuery IsNotRun
 stays_failed sql params old new e ready (inl (inl h)) = same_unchanged old new ready h.1
 stays_failed sql params old new e ready (inl (inr h)) = same_undone old new ready h.3
 stays_failed sql params old new e ready (inr h) = go h.0.returning h.2
   where
-    go : (what : Option Returning) → FailsToShow old new sql h.0 (timed params h.0.formats h.1.now) e what → Stays old new
+    go : (what : Option Returning) → FailsToShow old new sql h.0 (timed params h.0.formats h.1.now) e what
+        → Stays old new
     go None it = same_unchanged old new ready it.3
     go (Some what) (inl it) = same_unchanged old new ready it.1
     go (Some what) (inr it) = same_undone old new ready it.3
 
-pub unchanged_shown : (sql : List ℕ) (params : Row) (old new : State) (rows : List Row) → asks (first sql) ≡ true → Shown sql params old new rows → IsUnchanged old new
+pub unchanged_shown : (sql : List ℕ) (params : Row) (old new : State) (rows : List Row) → asks (first sql) ≡ true
+    → Shown sql params old new rows → IsUnchanged old new
 unfolding Shown
-unchanged_shown sql params old new rows is h = (subst (ShowsRows old new sql h.0 (timed params h.0.formats h.1.now) rows) (silent old.now.schema sql h.0 is h.1.is) h.2).3
+unchanged_shown sql params old new rows is h =
+    (subst (ShowsRows old new sql h.0 (timed params h.0.formats h.1.now) rows)
+    (silent old.now.schema sql h.0 is h.1.is) h.2).3
 
 -- what is made of a query's answer was read as the query was
-pub read_as : {X Y E F : Type 0} (r : Result X E) (q : Result Y F) (old new : State) → (IsOk q → IsOk r) → IsRead r old new → IsRead q old new
-read_as (Ok x) (Ok y) old new same h = record { stays = h.stays; was_clean = h.was_clean; stays_open = h.stays_open; limit = h.limit; left = h.left }
+pub read_as : {X Y E F : Type 0} (r : Result X E) (q : Result Y F) (old new : State) → (IsOk q → IsOk r)
+    → IsRead r old new → IsRead q old new
+read_as (Ok x) (Ok y) old new same h =
+    record { stays = h.stays; was_clean = h.was_clean; stays_open = h.stays_open; limit = h.limit; left = h.left }
 read_as (Err e) (Ok y) old new same h = absurd (let impossible = same refl in cc)
-read_as r (Err f) old new same h = record { stays = h.stays; was_clean = h.was_clean; stays_open = tt; limit = h.limit; left = h.left }
+read_as r (Err f) old new same h =
+    record { stays = h.stays; was_clean = h.was_clean; stays_open = tt; limit = h.limit; left = h.left }
 
 -- what `query_all` ensures, of a text that is a SELECT
-module _ (sql : List ℕ) (params : Row) (old new : State) (law : new.is_clean ≡ false → new.is_open ≡ false) (ready : IsReady old) (is : asks (first sql) ≡ true)
+module _ (sql : List ℕ) (params : Row) (old new : State) (law : new.is_clean ≡ false → new.is_open ≡ false)
+    (ready : IsReady old) (is : asks (first sql) ≡ true)
     (kept : Survives old new (CommitsShowing sql params old)) where
   later : (HasCleanDisk new → Stays old new) → Stays old new
   later h = let clean = clean_if_open new.is_clean new.is_open law in record {
@@ -75,9 +89,11 @@ module _ (sql : List ℕ) (params : Row) (old new : State) (law : new.is_clean �
       → (HasCleanDisk new → IfOk result (λ x. Shown sql params old new (rows_of x)))
       → (HasCleanDisk new → IfErr result (FailsToQuery sql params old new)) → IsRead result old new
   read (Ok x) rows_of ok err = record {
-    stays = later (λ clean. same_unchanged old new ready (unchanged_shown sql params old new (rows_of x) is (ok clean)));
+    stays = later (λ clean. same_unchanged old new ready
+        (unchanged_shown sql params old new (rows_of x) is (ok clean)));
     was_clean = clean_before old.is_clean new.is_clean kept.clean;
-    stays_open = λ clean. let same = unchanged_shown sql params old new (rows_of x) is (ok clean) in (same.0.was_open, same.0.is_open);
+    stays_open = λ clean. let same = unchanged_shown sql params old new (rows_of x) is (ok clean) in
+        (same.0.was_open, same.0.is_open);
     limit = kept.limit;
     left = left;
   }

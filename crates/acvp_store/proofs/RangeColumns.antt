@@ -38,11 +38,15 @@ null_is Null h = refl
 null_is _ h = absurd (cc)
 
 -- a row has no more values than the table has columns
-pub not_longer : (key : Option ℕ) (at : ℕ) (columns : List Column) (row : Row) → are_typed key at columns row ≡ true → length row ≤ length columns
+pub not_longer : (key : Option ℕ) (at : ℕ) (columns : List Column) (row : Row) → are_typed key at columns row ≡ true
+    → length row ≤ length columns
 not_longer key at [] [] typed = omega arith
 not_longer key at [] (v ∷ row) typed = absurd (no typed)
 not_longer key at (c ∷ columns) [] typed = omega arith
-not_longer key at (c ∷ columns) (v ∷ row) typed = let more = not_longer key (at + 1) columns row (right_true (if is_key key at then is_null v else suits c v) (are_typed key (at + 1) columns row) typed) in omega (arith, more)
+not_longer key at (c ∷ columns) (v ∷ row) typed = let more =
+    not_longer key (at + 1) columns row
+    (right_true (if is_key key at then is_null v else suits c v) (are_typed key (at + 1) columns row) typed) in
+    omega (arith, more)
 
 -- NULL behind the number
 abbrev pub with_null : Row → Row

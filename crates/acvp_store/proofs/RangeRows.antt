@@ -18,11 +18,14 @@ use Rattle.acvp_store.proofs.Told.{told}
 -- ---- BETWEEN
 
 -- NULL is before every number
-drop_null : (v : Value) (f l : ℕ) → (is_at_least f v && is_at_most l v) ≡ (is_ge (value_cmp v (whole f)) && is_le (value_cmp v (whole l)))
+drop_null : (v : Value) (f l : ℕ)
+    → (is_at_least f v && is_at_most l v) ≡ (is_ge (value_cmp v (whole f)) && is_le (value_cmp v (whole l)))
 drop_null Null f l = rw (value_cmp-apart Null (whole f) (λ e. absurd (omega arith))) refl
 drop_null _ f l = refl
 
-pub test_between : (v : Value) (f l : ℕ) → (is_true (binary (Compare Ge Binary) v (whole f)) && (is_true (binary (Compare Le Binary) v (whole l)) && true)) ≡ (is_ge (value_cmp v (whole f)) && is_le (value_cmp v (whole l)))
+pub test_between : (v : Value) (f l : ℕ)
+    → (is_true (binary (Compare Ge Binary) v (whole f)) && (is_true (binary (Compare Le Binary) v (whole l)) && true))
+    ≡ (is_ge (value_cmp v (whole f)) && is_le (value_cmp v (whole l)))
 test_between v f l = both_true _ _ _ _ (test_from v f) (test_until v l) ∙ drop_null v f l
 
 -- ---- the order of the tree
@@ -50,13 +53,15 @@ in_tree_order params p terms tests tree project columns shows db all rows has ri
 
 pub lower : (m n : ℕ) → value_cmp (whole m) (whole n) ≡ Less → m < n
 lower m n low =
-    let test : is_lt (value_cmp (whole m) (whole n)) ≡ nat_lt m n = ap is_lt (value_cmp-Int (pos m) (pos n)) ∙ grind (arith, nat_tests) in
+    let test : is_lt (value_cmp (whole m) (whole n)) ≡ nat_lt m n = ap is_lt (value_cmp-Int (pos m) (pos n))
+    ∙ grind (arith, nat_tests) in
     let is : nat_lt m n ≡ true = sym test ∙ ap is_lt low in
     grind (arith, nat_tests, is)
 
 pub within_last : (m n : ℕ) → is_le (value_cmp (whole m) (whole n)) ≡ true → m ≤ n
 within_last m n low =
-    let test : is_le (value_cmp (whole m) (whole n)) ≡ nat_le m n = ap is_le (value_cmp-Int (pos m) (pos n)) ∙ grind (arith, nat_tests) in
+    let test : is_le (value_cmp (whole m) (whole n)) ≡ nat_le m n = ap is_le (value_cmp-Int (pos m) (pos n))
+    ∙ grind (arith, nat_tests) in
     let is : nat_le m n ≡ true = sym test ∙ low in
     grind (arith, nat_tests, is)
 
@@ -75,46 +80,64 @@ all_passed p (r ∷ rows) = elim (cases_Bool (p r)) [
 
 module _ {A : Type 0} (key : A → ℕ) (stored : A → Row) (rowid_is : (a : A) → rowid (stored a) ≡ whole (key a)) where
   keys_below : (a b : A) → value_cmp (rowid (stored a)) (rowid (stored b)) ≡ Less → key a < key b
-  keys_below a b low = lower (key a) (key b) (subst (λ v. value_cmp v (whole (key b)) ≡ Less) (rowid_is a) (subst (λ v. value_cmp (rowid (stored a)) v ≡ Less) (rowid_is b) low))
+  keys_below a b low = lower (key a) (key b)
+      (subst (λ v. value_cmp v (whole (key b)) ≡ Less) (rowid_is a)
+      (subst (λ v. value_cmp (rowid (stored a)) v ≡ Less) (rowid_is b) low))
 
   pub keys_rise : (found : List A) → IsTable (map stored found) → IsAscending (λ a b. key a < key b) found
-  keys_rise found rise = ascending_weaker (λ a b. value_cmp (rowid (stored a)) (rowid (stored b)) ≡ Less) (λ a b. key a < key b) keys_below found (ascending_from_map (λ (x y : Row). value_cmp (rowid x) (rowid y) ≡ Less) stored found rise)
+  keys_rise found rise = ascending_weaker (λ a b. value_cmp (rowid (stored a)) (rowid (stored b)) ≡ Less)
+      (λ a b. key a < key b) keys_below found
+      (ascending_from_map (λ (x y : Row). value_cmp (rowid x) (rowid y) ≡ Less) stored found rise)
 
 -- each row that the schema lets be is that of what is read of it, where that is told by the columns that are read
-module _ {A : Type 0} (key : A → ℕ) (stored shown : A → Row) (columns : Row → Row) (Typed : Row → Type 0) (rowid_is : (a : A) → rowid (stored a) ≡ whole (key a))
+module _ {A : Type 0} (key : A → ℕ) (stored shown : A → Row) (columns : Row → Row) (Typed : Row → Type 0)
+    (rowid_is : (a : A) → rowid (stored a) ≡ whole (key a))
     (row_is : (row : Row) (a : A) → Typed row → BeginsWith (shown a) (columns row) → row ≡ stored a) where
-  stored_all : (Good : A → Type 0) (rows : List Row) (found : List A) → AllByRecursion Typed rows → AreShown Good shown (map columns rows) found → rows ≡ map stored found
+  stored_all : (Good : A → Type 0) (rows : List Row) (found : List A) → AllByRecursion Typed rows
+      → AreShown Good shown (map columns rows) found → rows ≡ map stored found
   stored_all Good [] [] typed shows = refl
-  stored_all Good (r ∷ rows) (a ∷ found) typed shows = ap₂ (λ x l. x ∷ l) (row_is r a typed.0 shows.0.0) (stored_all Good rows found typed.1 shows.1)
+  stored_all Good (r ∷ rows) (a ∷ found) typed shows =
+      ap₂ (λ x l. x ∷ l) (row_is r a typed.0 shows.0.0) (stored_all Good rows found typed.1 shows.1)
   stored_all _ _ _ typed shows = absurd shows
 
   module _ (first last : ℕ) (low : last < 2 ^ 63) where
     key_fits : (a : A) → is_between first last (stored a) ≡ true → key a < 2 ^ 63
     key_fits a is =
         let at_most : is_le (value_cmp (rowid (stored a)) (whole last)) ≡ true = right_true _ _ is in
-        let most : key a ≤ last = within_last (key a) last (subst (λ v. is_le (value_cmp v (whole last)) ≡ true) (rowid_is a) at_most) in
+        let most : key a ≤ last =
+        within_last (key a) last (subst (λ v. is_le (value_cmp v (whole last)) ≡ true) (rowid_is a) at_most) in
         omega (arith, most, low)
 
-    pub range_holds : (Good : A → Type 0) (table : List Row) (found : List A) → IsTree table → AllByRecursion Typed table → AreShown Good shown (map columns (filter (is_between first last) table)) found → IsRange (AreKept key stored) key first last table found
+    pub range_holds : (Good : A → Type 0) (table : List Row) (found : List A) → IsTree table
+        → AllByRecursion Typed table → AreShown Good shown (map columns (filter (is_between first last) table)) found
+        → IsRange (AreKept key stored) key first last table found
     range_holds Good table found tree typed shows =
         let picked = filter (is_between first last) table in
-        let is : picked ≡ map stored found = stored_all Good picked found (all-filter Typed (is_between first last) table typed) shows in
-        let rise = keys_rise key stored rowid_is found (subst IsTable is (ascending-filter (λ (x y : Row). value_cmp (rowid x) (rowid y) ≡ Less) (is_between first last) table tree.0)) in
-        let inside = all_from_map (λ r. is_between first last r ≡ true) stored found (subst (AllByRecursion (λ r. is_between first last r ≡ true)) is (all_passed (is_between first last) table)) in
+        let is : picked ≡ map stored found =
+        stored_all Good picked found (all-filter Typed (is_between first last) table typed) shows in
+        let rise = keys_rise key stored rowid_is found
+        (subst IsTable is (ascending-filter (λ (x y : Row). value_cmp (rowid x) (rowid y) ≡ Less)
+        (is_between first last) table tree.0)) in
+        let inside = all_from_map (λ r. is_between first last r ≡ true) stored found
+        (subst (AllByRecursion (λ r. is_between first last r ≡ true)) is
+        (all_passed (is_between first last) table)) in
         record {
           holds = record {
             ordered = found;
             rows_are = is;
             rising = rise;
-            fits = all_weaker (λ a. is_between first last (stored a) ≡ true) (λ a. key a < 2 ^ 63) key_fits found inside;
+            fits = all_weaker (λ a. is_between first last (stored a) ≡ true)
+                (λ a. key a < 2 ^ 63) key_fits found inside;
             same = IsPermutation-refl found;
           };
           rising = rise;
         }
 
     -- what is read of a query's answer
-    pub range_read : {X B E F : Type 0} (Good : A → Type 0) (table : List Row) (outcome : Result X E) (rows_in : X → List Row) (result : Result B F) (items : B → List A) → (IsOk result → IsOk outcome)
-        → IfOk result (λ b. IfOk outcome (λ x. AreShown Good shown (rows_in x) (items b))) → AllByRecursion Typed table → IfOk outcome (λ x. IsTree table → rows_in x ≡ map columns (filter (is_between first last) table))
+    pub range_read : {X B E F : Type 0} (Good : A → Type 0) (table : List Row) (outcome : Result X E)
+        (rows_in : X → List Row) (result : Result B F) (items : B → List A) → (IsOk result → IsOk outcome)
+        → IfOk result (λ b. IfOk outcome (λ x. AreShown Good shown (rows_in x) (items b))) → AllByRecursion Typed table
+        → IfOk outcome (λ x. IsTree table → rows_in x ≡ map columns (filter (is_between first last) table))
         → IfOk result (λ b. IsTree table → IsRange (AreKept key stored) key first last table (items b))
     range_read Good table outcome rows_in result items ok shows typed =
         told outcome result ok _ _ _
@@ -122,8 +145,11 @@ module _ {A : Type 0} (key : A → ℕ) (stored shown : A → Row) (columns : Ro
         (subst (λ l. AreShown Good shown l (items b)) (rows tree) shows)) shows
 
     -- the same where something else is given of the table
-    pub range_given : {X B E F Given : Type 0} (Good : A → Type 0) (table : List Row) (outcome : Result X E) (rows_in : X → List Row) (result : Result B F) (items : B → List A) → (IsOk result → IsOk outcome)
-        → IfOk result (λ b. IfOk outcome (λ x. AreShown Good shown (rows_in x) (items b))) → (Given → AllByRecursion Typed table) → IfOk outcome (λ x. IsTree table → rows_in x ≡ map columns (filter (is_between first last) table))
+    pub range_given : {X B E F Given : Type 0} (Good : A → Type 0) (table : List Row) (outcome : Result X E)
+        (rows_in : X → List Row) (result : Result B F) (items : B → List A) → (IsOk result → IsOk outcome)
+        → IfOk result (λ b. IfOk outcome (λ x. AreShown Good shown (rows_in x) (items b)))
+        → (Given → AllByRecursion Typed table)
+        → IfOk outcome (λ x. IsTree table → rows_in x ≡ map columns (filter (is_between first last) table))
         → IfOk result (λ b. IsTree table → Given → IsRange (AreKept key stored) key first last table (items b))
     range_given Good table outcome rows_in result items ok shows typed =
         told outcome result ok _ _ _

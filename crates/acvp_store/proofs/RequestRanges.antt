@@ -45,8 +45,13 @@ had r h = (readable r.body h.0.1 h.1, (h.0.0, fits_body r.body h.0.1, text_reads
 
 -- ---- what is made of what was read
 
-pub rows_through : {B E F : Type 0} (f l : ℕ) (table : List Row) (found : Result B E) (result : Result B F) (items : B → List RequestRow) → (IsOk result → IsOk found) → IfOk result (λ b. IfOk found (λ before. items b ≡ items before)) → IfOk result (λ b. AllByRecursion (λ r. BodyReads r.body) (items b))
-    → IfOk found (λ b. IsTree table → AreFull 7 table → IsRange (AreKept request_key request_row) request_key f l table (items b)) → IfOk result (λ b. IsTree table → AreFull 7 table → IsRange HoldsRequests request_key f l table (items b))
+pub rows_through : {B E F : Type 0} (f l : ℕ) (table : List Row) (found : Result B E) (result : Result B F)
+    (items : B → List RequestRow) → (IsOk result → IsOk found)
+    → IfOk result (λ b. IfOk found (λ before. items b ≡ items before))
+    → IfOk result (λ b. AllByRecursion (λ r. BodyReads r.body) (items b))
+    → IfOk found (λ b. IsTree table → AreFull 7 table
+    → IsRange (AreKept request_key request_row) request_key f l table (items b))
+    → IfOk result (λ b. IsTree table → AreFull 7 table → IsRange HoldsRequests request_key f l table (items b))
 rows_through f l table found (Err e) items ok same reads rows = tt
 rows_through f l table (Err e) (Ok b) items ok same reads rows = absurd (let impossible = ok refl in cc)
 rows_through f l table (Ok before) (Ok b) items ok same reads rows = λ tree full.
@@ -55,26 +60,36 @@ rows_through f l table (Ok before) (Ok b) items ok same reads rows = λ tree ful
 
 -- ---- a row that is of no request
 
-pub each : (table : List Row) (list : List RequestRow) → AllByRecursion FitsRequest list → HoldsRequests table list → AllByRecursion (λ row. (r : RequestRow) × FitsRequest r × IsRequestRow row r) table
+pub each : (table : List Row) (list : List RequestRow) → AllByRecursion FitsRequest list → HoldsRequests table list
+    → AllByRecursion (λ row. (r : RequestRow) × FitsRequest r × IsRequestRow row r) table
 each table list fits holds =
-    all_weaker (λ row. (r : RequestRow) × IsHad r × (row ≡ request_row r)) (λ row. (r : RequestRow) × FitsRequest r × IsRequestRow row r) (λ row is. (is.0, is.1.0, (is.2, is.1.1))) table
-    (each_kept request_key request_row IsHad table list (all_both FitsRequest (λ r. BodyReads r.body) IsHad (λ r a b. (a, b)) list fits holds.texts) holds.kept)
+    all_weaker (λ row. (r : RequestRow) × IsHad r × (row ≡ request_row r)) (λ row. (r : RequestRow) × FitsRequest r
+    × IsRequestRow row r) (λ row is. (is.0, is.1.0, (is.2, is.1.1))) table
+    (each_kept request_key request_row IsHad table list
+    (all_both FitsRequest (λ r. BodyReads r.body) IsHad (λ r a b. (a, b)) list fits holds.texts) holds.kept)
 
-pub shows : (row : Row) (r : RequestRow) → FitsRequest r → IsRequestRow row r → (x : RequestRow) × IsMember x × (request_columns row ≡ request_shown x)
+pub shows : (row : Row) (r : RequestRow) → FitsRequest r → IsRequestRow row r → (x : RequestRow) × IsMember x
+    × (request_columns row ≡ request_shown x)
 shows row r fits is = (r, had r (fits, is.1), ap request_columns is.0)
 
 -- ---- ranges, joined
 
 module _ (rows : List Row) (lists : ℕ → List RequestRow) where
-  joined_read : (n : ℕ) → AreRanges HoldsRequests request_key rows lists n → AllByRecursion (λ r. BodyReads r.body) (joined lists n)
+  joined_read : (n : ℕ) → AreRanges HoldsRequests request_key rows lists n
+      → AllByRecursion (λ r. BodyReads r.body) (joined lists n)
   unfolding joined
   joined_read zero ranges = tt
   joined_read (suc n) ranges =
-      all-append (λ (r : RequestRow). BodyReads r.body) (joined lists n) (lists (suc n)) (joined_read n (λ u some low. ranges u some (omega arith))) (ranges (suc n) (omega arith) (omega arith)).holds.texts
+      all-append (λ (r : RequestRow). BodyReads r.body) (joined lists n) (lists (suc n))
+      (joined_read n (λ u some low. ranges u some (omega arith)))
+      (ranges (suc n) (omega arith) (omega arith)).holds.texts
 
-  pub requests_whole : (n : ℕ) → IsTree rows → AreRanges HoldsRequests request_key rows lists n → AllByRecursion (λ row. is_between (first_number 1) (last_number n) row ≡ true) rows → HoldsRequests rows (joined lists n)
+  pub requests_whole : (n : ℕ) → IsTree rows → AreRanges HoldsRequests request_key rows lists n
+      → AllByRecursion (λ row. is_between (first_number 1) (last_number n) row ≡ true) rows
+      → HoldsRequests rows (joined lists n)
   requests_whole n tree ranges inside = record {
-    kept = ranges_whole request_key request_row (λ r. refl) rows lists n tree (λ u some low. let it = ranges u some low in record { holds = it.holds.kept; rising = it.rising }) inside;
+    kept = ranges_whole request_key request_row (λ r. refl) rows lists n tree
+        (λ u some low. let it = ranges u some low in record { holds = it.holds.kept; rising = it.rising }) inside;
     texts = joined_read n ranges;
   }
 
@@ -85,4 +100,7 @@ full_row : (r : RequestRow) → length (request_row r) ≡ 7
 full_row r = refl
 
 pub requests_full : (rows : List Row) (list : List RequestRow) → HoldsRequests rows list → AreFull 7 rows
-requests_full rows list holds = subst (AreFull 7) (sym holds.kept.rows_are) (all-map (λ (r : Row). length r ≡ 7) request_row holds.kept.ordered (all_of (λ r. length (request_row r) ≡ 7) full_row holds.kept.ordered))
+requests_full rows list holds =
+    subst (AreFull 7) (sym holds.kept.rows_are)
+    (all-map (λ (r : Row). length r ≡ 7) request_row holds.kept.ordered
+    (all_of (λ r. length (request_row r) ≡ 7) full_row holds.kept.ordered))

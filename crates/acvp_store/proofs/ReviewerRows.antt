@@ -42,22 +42,32 @@ abbrev FitsColumn : ReviewerRow → Type 0
 FitsColumn r = r.session < 2 ^ 63
 
 -- what is so of the members is so of their entries
-pub each_entry : (P : ReviewerRow → Type 0) (es : List (Entry ReviewerRow)) → AllByRecursion P (map (λ (e : Entry ReviewerRow). e.row) es) → AllByRecursion (λ (e : Entry ReviewerRow). P e.row) es
+pub each_entry : (P : ReviewerRow → Type 0) (es : List (Entry ReviewerRow))
+    → AllByRecursion P (map (λ (e : Entry ReviewerRow). e.row) es)
+    → AllByRecursion (λ (e : Entry ReviewerRow). P e.row) es
 each_entry P [] h = tt
 each_entry P (e ∷ es) h = (h.0, each_entry P es h.1)
 
-pub entries_fit : (rows : List Row) (list : List ReviewerRow) (h : HoldsReviewers rows list) → AllByRecursion (λ (e : Entry ReviewerRow). e.row.session < 2 ^ 63) h.kept.entries
-entries_fit rows list h = each_entry FitsColumn h.kept.entries (all-permutation FitsColumn list (map (λ (e : Entry ReviewerRow). e.row) h.kept.entries) (IsPermutation-sym _ _ h.kept.same) h.fits)
+pub entries_fit : (rows : List Row) (list : List ReviewerRow) (h : HoldsReviewers rows list)
+    → AllByRecursion (λ (e : Entry ReviewerRow). e.row.session < 2 ^ 63) h.kept.entries
+entries_fit rows list h =
+    each_entry FitsColumn h.kept.entries
+    (all-permutation FitsColumn list (map (λ (e : Entry ReviewerRow). e.row) h.kept.entries)
+    (IsPermutation-sym _ _ h.kept.same) h.fits)
 
 -- a session with a number that no column keeps has none
-none_paired : (r : ReviewerRow) (es : List (Entry ReviewerRow)) → 2 ^ 63 ≤ r.session → AllByRecursion (λ (e : Entry ReviewerRow). e.row.session < 2 ^ 63) es → filter (λ (e : Entry ReviewerRow). is_pair r e.row) es ≡ []
+none_paired : (r : ReviewerRow) (es : List (Entry ReviewerRow)) → 2 ^ 63 ≤ r.session
+    → AllByRecursion (λ (e : Entry ReviewerRow). e.row.session < 2 ^ 63) es
+    → filter (λ (e : Entry ReviewerRow). is_pair r e.row) es ≡ []
 none_paired r [] high low = refl
 none_paired r (e ∷ es) high low =
     let under = low.0 in
     let apart : (e.row.session == r.session) ≡ false = grind (arith, nat_tests, under, high) in
     rw apart (none_paired r es high low.1)
 
-module _ (layout : Layout) (r : ReviewerRow) (old new : State) (rows : List Row) (schema : old.now.schema ≡ schema_of layout) (list : List ReviewerRow) (h : HoldsReviewers (old.now.trees (reviewer_tree layout)) list) where
+module _ (layout : Layout) (r : ReviewerRow) (old new : State) (rows : List Row)
+    (schema : old.now.schema ≡ schema_of layout) (list : List ReviewerRow)
+    (h : HoldsReviewers (old.now.trees (reviewer_tree layout)) list) where
   rows_by : (k : ℤ) (p : Entry ReviewerRow → Bool)
       → ((e : Entry ReviewerRow) → list_all (holds (pair_params k r.account ∷ entry_row reviewer_columns e ∷ []))
       (reading_query ReviewerAt layout).filter ≡ p e)
@@ -71,28 +81,38 @@ module _ (layout : Layout) (r : ReviewerRow) (old new : State) (rows : List Row)
 
   pub reviewer_rows : (k : ℤ) → (r.session < 2 ^ 63 → k ≡ pos r.session) → (2 ^ 63 ≤ r.session → k ≡ negsuc 0)
       → Shown (reading_text ReviewerAt) (pair_params k r.account) old new rows
-      → IsPermutation (map (λ (e : Entry ReviewerRow). whole e.row.account ∷ []) (filter (λ e. is_pair r e.row) h.kept.entries)) rows
+      → IsPermutation (map (λ (e : Entry ReviewerRow). whole e.row.account ∷ [])
+      (filter (λ e. is_pair r e.row) h.kept.entries)) rows
   reviewer_rows k fits large shown = elim (small_or_large r.session) [
     | inl low ↦
         let at = subst (λ k. Shown (reading_text ReviewerAt) (pair_params k r.account) old new rows) (fits low) shown in
-        rows_by (pos r.session) (λ e. is_pair r e.row) (λ e. both_true _ _ (e.row.session == r.session) (e.row.account == r.account) (test_equals e.row.session r.session) (test_equals e.row.account r.account)) at
+        rows_by (pos r.session) (λ e. is_pair r e.row)
+        (λ e. both_true _ _ (e.row.session == r.session) (e.row.account == r.account)
+        (test_equals e.row.session r.session) (test_equals e.row.account r.account)) at
     | inr high ↦
         let at = subst (λ k. Shown (reading_text ReviewerAt) (pair_params k r.account) old new rows) (large high)
         shown in
-        let none = rows_by (negsuc 0) (λ e. false) (λ e. both_true _ _ false (e.row.account == r.account) (test_none e.row.session) (test_equals e.row.account r.account)) at in
-        let empty : filter (λ (e : Entry ReviewerRow). false) h.kept.entries ≡ filter (λ (e : Entry ReviewerRow). is_pair r e.row) h.kept.entries = none_passes h.kept.entries ∙ sym (none_paired r h.kept.entries high (entries_fit (old.now.trees (reviewer_tree layout)) list h)) in
+        let none = rows_by (negsuc 0) (λ e. false)
+        (λ e. both_true _ _ false (e.row.account == r.account) (test_none e.row.session)
+        (test_equals e.row.account r.account)) at in
+        let empty : filter (λ (e : Entry ReviewerRow). false) h.kept.entries
+        ≡ filter (λ (e : Entry ReviewerRow). is_pair r e.row) h.kept.entries = none_passes h.kept.entries
+        ∙ sym (none_paired r h.kept.entries high (entries_fit (old.now.trees (reviewer_tree layout)) list h)) in
         subst (λ es. IsPermutation (map (λ (e : Entry ReviewerRow). whole e.row.account ∷ []) es) rows) empty none
   ]
 
 -- there is one exactly where one passes
-counted : {A : Type 0} (shown : A → Row) (p : A → Bool) (xs : List A) → nat_lt 0 (length (map shown (filter p xs))) ≡ list_any p xs
+counted : {A : Type 0} (shown : A → Row) (p : A → Bool) (xs : List A)
+    → nat_lt 0 (length (map shown (filter p xs))) ≡ list_any p xs
 counted shown p [] = refl
 counted shown p (x ∷ xs) = elim (cases_Bool (p x)) [
-  | inl hit ↦ let some : nat_lt 0 (length (shown x ∷ map shown (filter p xs))) ≡ true = grind (arith, nat_tests) in rw hit some
+  | inl hit ↦ let some : nat_lt 0 (length (shown x ∷ map shown (filter p xs))) ≡ true = grind (arith, nat_tests) in
+      rw hit some
   | inr miss ↦ rw miss (counted shown p xs)
 ]
 
-pub any_passes : {A : Type 0} (shown : A → Row) (p : A → Bool) (xs : List A) (rows : List Row) → IsPermutation (map shown (filter p xs)) rows → nat_lt 0 (length rows) ≡ list_any p xs
+pub any_passes : {A : Type 0} (shown : A → Row) (p : A → Bool) (xs : List A) (rows : List Row)
+    → IsPermutation (map shown (filter p xs)) rows → nat_lt 0 (length rows) ≡ list_any p xs
 any_passes shown p xs rows same = ap (nat_lt 0) (length_permutation _ _ same) ∙ counted shown p xs
 
 pub any_row : (p : ReviewerRow → Bool) (es : List (Entry ReviewerRow))
@@ -105,22 +125,31 @@ any_row p (e ∷ es) = elim (cases_Bool (p e.row)) [
 
 -- ---- one who is put in
 
-cast_given : (tree : ℕ) (r : ReviewerRow) → cast_row (reviewer_table tree) (Null ∷ reviewer_columns r) ≡ Null ∷ reviewer_columns r
+cast_given : (tree : ℕ) (r : ReviewerRow) → cast_row (reviewer_table tree) (Null ∷ reviewer_columns r) ≡ Null
+    ∷ reviewer_columns r
 cast_given tree r = rw (cast_null, cast_whole r.session, cast_whole r.account) refl
 
-agrees : (r a : ReviewerRow) (i j : ℤ) → agree plain (1 ∷ 2 ∷ []) (Int i ∷ reviewer_columns a) (1 ∷ 2 ∷ []) (Int j ∷ reviewer_columns r) ≡ is_pair r a
+agrees : (r a : ReviewerRow) (i j : ℤ)
+    → agree plain (1 ∷ 2 ∷ []) (Int i ∷ reviewer_columns a) (1 ∷ 2 ∷ []) (Int j ∷ reviewer_columns r) ≡ is_pair r a
 unfolding first_key
-agrees r a i j = both_true _ _ (a.session == r.session) (a.account == r.account) (test_equals a.session r.session) (test_equals a.account r.account)
+agrees r a i j = both_true _ _ (a.session == r.session) (a.account == r.account) (test_equals a.session r.session)
+    (test_equals a.account r.account)
 
 all_last : (P : Row → Type 0) (xs : List Row) (r : Row) → AllByRecursion P (xs ++ r ∷ []) → P r
 all_last P [] r h = h.0
 all_last P (x ∷ xs) r h = all_last P xs r h.1
 
-only_index : (layout : Layout) (db : Trees) (row : Row) → passes Unique (schema_of layout) db (reviewer_table (reviewer_tree layout)) row ≡ (not (clashes plain (1 ∷ 2 ∷ []) (db (reviewer_tree layout)) row) && true)
+only_index : (layout : Layout) (db : Trees) (row : Row)
+    → passes Unique (schema_of layout) db (reviewer_table (reviewer_tree layout)) row
+    ≡ (not (clashes plain (1 ∷ 2 ∷ []) (db (reviewer_tree layout)) row) && true)
 only_index Created db row = refl
 only_index Migrated db row = refl
 
-module _ (layout : Layout) (r : ReviewerRow) (trees next : Trees) (wrote : Writes (schema_of layout) Enforced trees (edit_of trees (reviewer_table (reviewer_tree layout)) [] Chosen 0 ((Null ∷ reviewer_columns r) ∷ [])) (Ok next)) (list : List ReviewerRow) (held : HoldsReviewers (trees (reviewer_tree layout)) list) (low : r.session < 2 ^ 63) where
+module _ (layout : Layout) (r : ReviewerRow) (trees next : Trees)
+    (wrote : Writes (schema_of layout) Enforced trees
+    (edit_of trees (reviewer_table (reviewer_tree layout)) [] Chosen 0 ((Null ∷ reviewer_columns r) ∷ [])) (Ok next))
+    (list : List ReviewerRow) (held : HoldsReviewers (trees (reviewer_tree layout)) list)
+    (low : r.session < 2 ^ 63) where
   abbrev h : HoldsEntries reviewer_columns (trees (reviewer_tree layout)) list
   h = held.kept
 
@@ -129,24 +158,39 @@ module _ (layout : Layout) (r : ReviewerRow) (trees next : Trees) (wrote : Write
 
   clear : clashes plain (1 ∷ 2 ∷ []) (next (reviewer_tree layout)) (entry_row reviewer_columns new) ≡ false
   clear =
-      let it = applied layout trees next (edit_of trees (reviewer_table (reviewer_tree layout)) [] Chosen 0 ((Null ∷ reviewer_columns r) ∷ [])) wrote in
-      let rows = rows_put reviewer_columns layout (reviewer_table (reviewer_tree layout)) r (cast_given (reviewer_tree layout) r) trees next list h wrote ∙ map_last reviewer_columns new h.entries in
-      let unique = subst (λ rows. AllByRecursion (λ row. passes Unique (schema_of layout) next (reviewer_table (reviewer_tree layout)) row ≡ true) rows) rows (of_reviewers layout (λ t. AllByRecursion (λ row. passes Unique (schema_of layout) next t row ≡ true) (next t.tree)) (it.fits.rules Unique (λ e. absurd (cc)))) in
-      not_false _ (sym (only_index layout next (entry_row reviewer_columns new)) ∙ all_last _ (map (entry_row reviewer_columns) h.entries) (entry_row reviewer_columns new) unique)
+      let it = applied layout trees next
+      (edit_of trees (reviewer_table (reviewer_tree layout)) [] Chosen 0 ((Null ∷ reviewer_columns r) ∷ []))
+      wrote in
+      let rows = rows_put reviewer_columns layout (reviewer_table (reviewer_tree layout)) r
+      (cast_given (reviewer_tree layout) r) trees next list h wrote ∙ map_last reviewer_columns new h.entries in
+      let unique = subst (λ rows.
+      AllByRecursion (λ row. passes Unique (schema_of layout) next (reviewer_table (reviewer_tree layout)) row
+      ≡ true) rows) rows (of_reviewers layout
+      (λ t. AllByRecursion (λ row. passes Unique (schema_of layout) next t row ≡ true) (next t.tree))
+      (it.fits.rules Unique (λ e. absurd (cc)))) in
+      not_false _ (sym (only_index layout next (entry_row reviewer_columns new))
+      ∙ all_last _ (map (entry_row reviewer_columns) h.entries) (entry_row reviewer_columns new) unique)
 
   joins : HoldsReviewers (next (reviewer_tree layout)) (with_reviewer r list)
   joins =
-      let free = was_free reviewer_columns layout (reviewer_table (reviewer_tree layout)) r (cast_given (reviewer_tree layout) r) trees next list h wrote (1 ∷ 2 ∷ []) (is_pair r) (agrees r) clear in
+      let free = was_free reviewer_columns layout (reviewer_table (reviewer_tree layout)) r
+      (cast_given (reviewer_tree layout) r) trees next list h wrote (1 ∷ 2 ∷ []) (is_pair r) (agrees r) clear in
       record {
-        kept = subst (λ b. HoldsEntries reviewer_columns (next (reviewer_tree layout)) (if b then list else list ++ r ∷ [])) (sym free) (puts reviewer_columns layout (reviewer_table (reviewer_tree layout)) r (cast_given (reviewer_tree layout) r) trees next list h wrote);
-        fits = subst (λ b. AllByRecursion FitsColumn (if b then list else list ++ r ∷ [])) (sym free) (all-append FitsColumn list (r ∷ []) held.fits (low, tt));
+        kept = subst (λ b. HoldsEntries reviewer_columns (next (reviewer_tree layout))
+            (if b then list else list ++ r ∷ [])) (sym free)
+            (puts reviewer_columns layout (reviewer_table (reviewer_tree layout)) r
+            (cast_given (reviewer_tree layout) r) trees next list h wrote);
+        fits = subst (λ b. AllByRecursion FitsColumn (if b then list else list ++ r ∷ [])) (sym free)
+            (all-append FitsColumn list (r ∷ []) held.fits (low, tt));
       }
 
-adds : (layout : Layout) (limit : Option ℕ) (text : List ℕ) (r : ReviewerRow) → r.session < 2 ^ 63 → (trees : Trees) (tally : Tally) (after : Database)
+adds : (layout : Layout) (limit : Option ℕ) (text : List ℕ) (r : ReviewerRow) → r.session < 2 ^ 63
+    → (trees : Trees) (tally : Tally) (after : Database)
     → Does limit (record { keys = Enforced; in_doubt = false; may_wait = false }) (reviewer_columns r)
     (record { schema = schema_of layout; trees = trees }) text None
     (Insert (reviewer_place layout) (Values (writing_terms ReviewerAdded) 3)) (Ok (tally, after))
-    → Alters layout (reviewer_tree layout) HoldsReviewers (with_reviewer r) (record { schema = schema_of layout; trees = trees }) after
+    → Alters layout (reviewer_tree layout) HoldsReviewers (with_reviewer r)
+    (record { schema = schema_of layout; trees = trees }) after
 adds layout limit text r low trees tally after does =
     let tree = reviewer_tree layout in
     let q = Insert (reviewer_place layout) (Values (writing_terms ReviewerAdded) 3) in
@@ -174,9 +218,13 @@ add_reviewer_effect layout old r low =
 
 -- ---- one who is taken out
 
-removes : (layout : Layout) (limit : Option ℕ) (text : List ℕ) (r : ReviewerRow) (trees : Trees) (tally : Tally) (after : Database)
-    → Does limit (record { keys = Enforced; in_doubt = false; may_wait = false }) (reviewer_columns r) (record { schema = schema_of layout; trees = trees }) text None (Delete (reviewer_place layout) (record { lets = []; body = (remove_query layout) })) (Ok (tally, after))
-    → Alters layout (reviewer_tree layout) HoldsReviewers (filter (λ row. not (is_pair r row))) (record { schema = schema_of layout; trees = trees }) after
+removes : (layout : Layout) (limit : Option ℕ) (text : List ℕ) (r : ReviewerRow) (trees : Trees) (tally : Tally)
+    (after : Database)
+    → Does limit (record { keys = Enforced; in_doubt = false; may_wait = false }) (reviewer_columns r)
+    (record { schema = schema_of layout; trees = trees }) text None
+    (Delete (reviewer_place layout) (record { lets = []; body = (remove_query layout) })) (Ok (tally, after))
+    → Alters layout (reviewer_tree layout) HoldsReviewers (filter (λ row. not (is_pair r row)))
+    (record { schema = schema_of layout; trees = trees }) after
 removes layout limit text r trees tally after does =
     let tree = reviewer_tree layout in
     let q = Delete (reviewer_place layout) (record { lets = []; body = remove_query layout }) in
@@ -191,8 +239,10 @@ removes layout limit text r trees tally after does =
       schema = deleted.2.schema;
       kept = λ list held.
           let h = held.kept in
-          let rows = selected (reviewer_columns r) (entry_row reviewer_columns) (λ e. is_pair r e.row) (remove_query layout).filter
-          (λ e. both_true _ _ (e.row.session == r.session) (e.row.account == r.account) (test_equals e.row.session r.session) (test_equals e.row.account r.account))
+          let rows = selected (reviewer_columns r) (entry_row reviewer_columns) (λ e. is_pair r e.row)
+          (remove_query layout).filter
+          (λ e. both_true _ _ (e.row.session == r.session) (e.row.account == r.account)
+          (test_equals e.row.session r.session) (test_equals e.row.account r.account))
           tree (remove_query layout).project (λ e. Int e.id ∷ []) (λ e. refl) (overlay trees []) h.entries deleted.0
           (reviewers_seen layout trees ∙ h.rows_are) (deleted.1.answer Null) in
           let left = it.rows ∙ ap (λ all. without_all all (ids_of deleted.0)) h.rows_are
@@ -223,14 +273,17 @@ Rising = IsAscending (λ m n. m < n)
 -- ---- the rows that the query gives
 
 -- a session with a number that no column keeps has none
-none_reviews : (s : ℕ) (list : List ReviewerRow) → 2 ^ 63 ≤ s → AllByRecursion (λ (r : ReviewerRow). r.session < 2 ^ 63) list → accounts_in s list ≡ []
+none_reviews : (s : ℕ) (list : List ReviewerRow) → 2 ^ 63 ≤ s
+    → AllByRecursion (λ (r : ReviewerRow). r.session < 2 ^ 63) list → accounts_in s list ≡ []
 none_reviews s [] high low = refl
 none_reviews s (r ∷ list) high low =
     let under = low.0 in
     let apart : (r.session == s) ≡ false = grind (arith, nat_tests, under, high) in
     rw apart (none_reviews s list high low.1)
 
-module _ (layout : Layout) (s : ℕ) (old new : State) (rows : List Row) (schema : old.now.schema ≡ schema_of layout) (list : List ReviewerRow) (h : HoldsReviewers (old.now.trees (reviewer_tree layout)) list) (numbers : List ℕ) (rise : Rising numbers) where
+module _ (layout : Layout) (s : ℕ) (old new : State) (rows : List Row) (schema : old.now.schema ≡ schema_of layout)
+    (list : List ReviewerRow) (h : HoldsReviewers (old.now.trees (reviewer_tree layout)) list) (numbers : List ℕ)
+    (rise : Rising numbers) where
   listed_by : (k : ℤ) (p : Entry ReviewerRow → Bool)
       → ((e : Entry ReviewerRow) → list_all (holds ((Int k ∷ []) ∷ entry_row reviewer_columns e ∷ []))
       (reading_query ReviewersOf layout).filter ≡ p e)
@@ -261,10 +314,15 @@ module _ (layout : Layout) (s : ℕ) (old new : State) (rows : List Row) (schema
         listed_by (negsuc 0) (λ e. false) (λ e. rw test_none refl) at (rw (empty, none) (IsPermutation-refl []))
   ]
     where
-      told : (es : List (Entry ReviewerRow)) → IsPermutation (map (λ e. e.row) es) list → IsPermutation (map (λ e. e.row.account) (filter (λ e. e.row.session == s) es)) (accounts_in s list)
+      told : (es : List (Entry ReviewerRow)) → IsPermutation (map (λ e. e.row) es) list
+          → IsPermutation (map (λ e. e.row.account) (filter (λ e. e.row.session == s) es)) (accounts_in s list)
       told es same =
-          let kept = IsPermutation-map (λ (r : ReviewerRow). r.account) _ _ (IsPermutation-filter (λ (r : ReviewerRow). r.session == s) _ _ same) in
-          let is = ap (map (λ (r : ReviewerRow). r.account)) (filter-map (λ (r : ReviewerRow). r.session == s) (λ (e : Entry ReviewerRow). e.row) es) ∙ map-map (λ (r : ReviewerRow). r.account) (λ (e : Entry ReviewerRow). e.row) (filter (λ e. e.row.session == s) es) in
+          let kept = IsPermutation-map (λ (r : ReviewerRow). r.account) _ _
+          (IsPermutation-filter (λ (r : ReviewerRow). r.session == s) _ _ same) in
+          let is = ap (map (λ (r : ReviewerRow). r.account))
+          (filter-map (λ (r : ReviewerRow). r.session == s) (λ (e : Entry ReviewerRow). e.row) es)
+          ∙ map-map (λ (r : ReviewerRow). r.account) (λ (e : Entry ReviewerRow). e.row)
+          (filter (λ e. e.row.session == s) es) in
           subst (λ accounts. IsPermutation accounts (accounts_in s list)) is kept
 
 -- ---- numbers put in order
@@ -273,21 +331,29 @@ placed_same : (n : ℕ) (placed : List ℕ) → IsPermutation (n ∷ placed) (wi
 placed_same n [] = IsPermutation-refl _
 placed_same n (m ∷ placed) = go (placed_same n placed) (nat_le n m)
   where
-    go : IsPermutation (n ∷ placed) (with_number n placed) → (b : Bool) → IsPermutation (n ∷ m ∷ placed) (if b then n ∷ m ∷ placed else m ∷ with_number n placed)
+    go : IsPermutation (n ∷ placed) (with_number n placed) → (b : Bool)
+        → IsPermutation (n ∷ m ∷ placed) (if b then n ∷ m ∷ placed else m ∷ with_number n placed)
     go more true = IsPermutation-refl _
-    go more false = IsPermutation-trans _ (m ∷ n ∷ placed) _ (IsPermutation-append_left placed (n ∷ m ∷ []) (m ∷ n ∷ []) (IsPermutation-append_comm (n ∷ []) (m ∷ []))) (IsPermutation-cons m _ _ more)
+    go more false = IsPermutation-trans _ (m ∷ n ∷ placed) _
+        (IsPermutation-append_left placed (n ∷ m ∷ []) (m ∷ n ∷ []) (IsPermutation-append_comm (n ∷ []) (m ∷ [])))
+        (IsPermutation-cons m _ _ more)
 
 ordered_same : (placed numbers : List ℕ) → IsPermutation (numbers ++ placed) (ascending placed numbers)
 ordered_same placed [] = IsPermutation-refl _
 ordered_same placed (n ∷ numbers) =
     let front = IsPermutation-sym _ _ (IsPermutation-middle numbers n placed) in
     IsPermutation-trans _ (numbers ++ n ∷ placed) _ front
-    (IsPermutation-trans _ (numbers ++ with_number n placed) _ (IsPermutation-append_right numbers (n ∷ placed) (with_number n placed) (placed_same n placed)) (ordered_same (with_number n placed) numbers))
+    (IsPermutation-trans _ (numbers ++ with_number n placed) _
+    (IsPermutation-append_right numbers (n ∷ placed) (with_number n placed) (placed_same n placed))
+    (ordered_same (with_number n placed) numbers))
 
 -- ---- of well numbered rows they are the session's
 
-reviewers_same : (s : ℕ) (c : Content) → AreWellNumbered c → IsPermutation (accounts_in s c.reviewers) (reviewers_of s c.reviewers)
-reviewers_same s c sound = subst (IsPermutation (accounts_in s c.reviewers)) (reviewers_read s c c.reviewers _ sound refl refl) (rw append-nil at (ordered_same [] (accounts_in s c.reviewers)))
+reviewers_same : (s : ℕ) (c : Content) → AreWellNumbered c
+    → IsPermutation (accounts_in s c.reviewers) (reviewers_of s c.reviewers)
+reviewers_same s c sound =
+    subst (IsPermutation (accounts_in s c.reviewers)) (reviewers_read s c c.reviewers _ sound refl refl)
+    (rw append-nil at (ordered_same [] (accounts_in s c.reviewers)))
 
 above_range : (m a k : ℕ) → m < a → AllByRecursion (λ n. m < n) (range_with_len a k)
 above_range m a zero low = tt
@@ -299,15 +365,18 @@ rise_range a (suc k) = (above_range a (a + 1) k (omega arith), rise_range (a + 1
 
 reviewers_rise : (s : ℕ) (rows : List ReviewerRow) → Rising (reviewers_of s rows)
 unfolding reviewers_of account_numbers
-reviewers_rise s rows = ascending-filter (λ m n. m < n) (λ account. is_reviewer s account rows) (range_with_len 1 9999) (rise_range 1 9999)
+reviewers_rise s rows = ascending-filter (λ m n. m < n) (λ account. is_reviewer s account rows) (range_with_len 1 9999)
+    (rise_range 1 9999)
 
 -- ---- the whole
 
 module _ {X L E F : Type 0} (s : ℕ) (table : List Row) (rows_in : X → List Row) (listed : L → List ℕ) where
   pub find_all : (outcome : Result X E) (result : Result L F) → (IsOk result → IsOk outcome)
       → IfOk result (λ l. IfOk outcome (λ x. (list : List ℕ) → rows_in x ≡ map account_shown list → listed l ≡ list))
-      → IfOk outcome (λ x. (list : List ReviewerRow) → HoldsReviewers table list → (numbers : List ℕ) → Rising numbers → IsPermutation (accounts_in s list) numbers → rows_in x ≡ map account_shown numbers)
-      → IfOk result (λ l. (c : Content) → AreWellNumbered c → HoldsReviewers table c.reviewers → listed l ≡ reviewers_of s c.reviewers)
+      → IfOk outcome (λ x. (list : List ReviewerRow) → HoldsReviewers table list → (numbers : List ℕ) → Rising numbers
+      → IsPermutation (accounts_in s list) numbers → rows_in x ≡ map account_shown numbers)
+      → IfOk result (λ l. (c : Content) → AreWellNumbered c → HoldsReviewers table c.reviewers
+      → listed l ≡ reviewers_of s c.reviewers)
   find_all outcome result ok =
       told outcome result ok _ _ _
       (λ x l lists rows. λ c sound h. lists (reviewers_of s c.reviewers)

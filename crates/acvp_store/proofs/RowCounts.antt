@@ -28,12 +28,15 @@ down before (suc n) = (before + suc n) ∷ down before n
 
 down_more : (before n : ℕ) → down before (suc n) ≡ down (before + 1) n ++ (before + 1) ∷ []
 down_more before zero = refl
-down_more before (suc n) = let same : before + suc (suc n) ≡ (before + 1) + suc n = omega arith in ap₂ (λ m xs. m ∷ xs) same (down_more before n)
+down_more before (suc n) = let same : before + suc (suc n) ≡ (before + 1) + suc n = omega arith in
+    ap₂ (λ m xs. m ∷ xs) same (down_more before n)
 
 down_is : (before n : ℕ) → IsPermutation (range_with_len (before + 1) n) (down before n)
 down_is before zero = IsPermutation-refl []
 down_is before (suc n) =
-    subst (IsPermutation (range_with_len (before + 1) (suc n))) (sym (down_more before n)) (IsPermutation-trans _ _ _ (IsPermutation-cons (before + 1) _ _ (down_is (before + 1) n)) (IsPermutation-sym _ _ (IsPermutation-to_front (down (before + 1) n) (before + 1))))
+    subst (IsPermutation (range_with_len (before + 1) (suc n))) (sym (down_more before n))
+    (IsPermutation-trans _ _ _ (IsPermutation-cons (before + 1) _ _ (down_is (before + 1) n))
+    (IsPermutation-sym _ _ (IsPermutation-to_front (down (before + 1) n) (before + 1))))
 
 down_below : (before m n : ℕ) → before + n < m → AllByRecursion (λ b. b < m) (down before n)
 down_below before m zero low = tt
@@ -46,8 +49,10 @@ down_falls before (suc n) = (down_below before (before + suc n) n (omega arith),
 -- ---- what the query for the greatest number shows
 
 -- E is what a row of the table is of, and A the member in it
-module _ {E A : Type 0} (params : Row) (encode : E → Row) (member : E → A) (p : A → Bool) (terms : List Term) (place : ℕ) (key : A → ℕ)
-    (tests : (e : E) → list_all (holds (params ∷ encode e ∷ [])) terms ≡ p (member e)) (keyed : (e : E) → eval (col 1 place) (params ∷ encode e ∷ []) ≡ whole (key (member e))) (tree : ℕ) where
+module _ {E A : Type 0} (params : Row) (encode : E → Row) (member : E → A) (p : A → Bool) (terms : List Term)
+    (place : ℕ) (key : A → ℕ)
+    (tests : (e : E) → list_all (holds (params ∷ encode e ∷ [])) terms ≡ p (member e)) (keyed : (e : E)
+    → eval (col 1 place) (params ∷ encode e ∷ []) ≡ whole (key (member e))) (tree : ℕ) where
   abbrev out : ℕ → Output
   out n = (whole n ∷ [], whole n ∷ [])
 
@@ -68,7 +73,8 @@ module _ {E A : Type 0} (params : Row) (encode : E → Row) (member : E → A) (
       let same = subst (λ xs. IsPermutation xs (filter p list)) (filter-map p member all)
       (IsPermutation-filter p _ list whole_list) in
       let numbers : IsPermutation (map key (map member (filter passing all))) (down before n) =
-      IsPermutation-trans _ _ _ (IsPermutation-map key _ _ same) (subst (λ xs. IsPermutation xs (down before n)) (sym numbered) (down_is before n)) in
+      IsPermutation-trans _ _ _ (IsPermutation-map key _ _ same)
+      (subst (λ xs. IsPermutation xs (down before n)) (sym numbered) (down_is before n)) in
       sorted_rows params encode passing terms tests (λ e. key (member e)) ((col 1 place, descending) ∷ [])
       (lit (Int (pos 1)))
       tree (col 1 place ∷ []) out (λ e i. (keyed e i ∷ [], keyed e i ∷ [])) (λ a b. b < a) above db all (down before n)
@@ -84,26 +90,32 @@ range_params u = whole (first_of_account u + 0) ∷ whole (last_number u) ∷ []
 
 pub sessions_counted : (layout : Layout) (u : ℕ) (old new : State) (rows : List Row) → old.now.schema ≡ schema_of layout
     → Shown (reading_text NewestSession) (range_params u) old new rows
-    → (c : Content) → AreWellNumbered c → HoldsSessions (old.now.trees session_tree) c.sessions → rows ≡ greatest (u * 1000000) (length (sessions_of u c.sessions))
+    → (c : Content) → AreWellNumbered c → HoldsSessions (old.now.trees session_tree) c.sessions
+    → rows ≡ greatest (u * 1000000) (length (sessions_of u c.sessions))
 sessions_counted layout u old new rows schema shown c sound h =
     let key = λ (s : SessionRow). s.number in
     let account = λ (s : SessionRow). s.account in
     let selection = session_selection c u sound in
     let picked = range_drops key account u 0 (λ s. true) c.sessions (session_numbers c sound) selection.numbered in
-    let it = greatest_shown (range_params u) session_row (λ s. s) (in_range key account u 0) (within 0) 0 key (λ s. test_range s.number (first_of_account u + 0) (last_number u)) (λ s. refl) session_tree (overlay old.now.trees []) h.ordered c.sessions (u * 1000000) rows h.rows_are
+    let it = greatest_shown (range_params u) session_row (λ s. s) (in_range key account u 0) (within 0) 0 key
+    (λ s. test_range s.number (first_of_account u + 0) (last_number u)) (λ s. refl) session_tree
+    (overlay old.now.trees []) h.ordered c.sessions (u * 1000000) rows h.rows_are
     (subst (λ xs. IsPermutation xs c.sessions) (sym (map-id h.ordered)) h.same) (rw picked selection.numbered)
     (answers NewestSession layout (range_params u) old new rows schema shown) in
     it ∙ ap (λ xs. greatest (u * 1000000) (length xs)) picked
 
 pub requests_counted : (layout : Layout) (u : ℕ) (old new : State) (rows : List Row) → old.now.schema ≡ schema_of layout
     → Shown (reading_text NewestRequest) (range_params u) old new rows
-    → (c : Content) → AreWellNumbered c → HoldsRequests (old.now.trees request_tree) c.requests → rows ≡ greatest (u * 1000000) (length (requests_of u c.requests))
+    → (c : Content) → AreWellNumbered c → HoldsRequests (old.now.trees request_tree) c.requests
+    → rows ≡ greatest (u * 1000000) (length (requests_of u c.requests))
 requests_counted layout u old new rows schema shown c sound h =
     let key = λ (r : RequestRow). r.number in
     let account = λ (r : RequestRow). r.account in
     let selection = request_selection c u sound in
     let picked = range_drops key account u 0 (λ r. true) c.requests (request_numbers c sound) selection.numbered in
-    let it = greatest_shown (range_params u) request_row (λ r. r) (in_range key account u 0) (within 0) 0 key (λ r. test_range r.number (first_of_account u + 0) (last_number u)) (λ r. refl) request_tree (overlay old.now.trees []) h.kept.ordered c.requests (u * 1000000) rows h.kept.rows_are
+    let it = greatest_shown (range_params u) request_row (λ r. r) (in_range key account u 0) (within 0) 0 key
+    (λ r. test_range r.number (first_of_account u + 0) (last_number u)) (λ r. refl) request_tree
+    (overlay old.now.trees []) h.kept.ordered c.requests (u * 1000000) rows h.kept.rows_are
     (subst (λ xs. IsPermutation xs c.requests) (sym (map-id h.kept.ordered)) h.kept.same) (rw picked selection.numbered)
     (answers NewestRequest layout (range_params u) old new rows schema shown) in
     it ∙ ap (λ xs. greatest (u * 1000000) (length xs)) picked
@@ -113,15 +125,19 @@ kind_params kind u = whole (first_of_account u + 0) ∷ whole (last_number u) �
 
 pub objects_counted : (layout : Layout) (kind : Kind) (u : ℕ) (old new : State) (rows : List Row)
     → old.now.schema ≡ schema_of layout → Shown (reading_text NewestObject) (kind_params kind u) old new rows
-    → (c : Content) → AreWellNumbered c → HoldsObjects (old.now.trees object_tree) c.objects → rows ≡ greatest (u * 1000000) (length (objects_of kind u c.objects))
+    → (c : Content) → AreWellNumbered c → HoldsObjects (old.now.trees object_tree) c.objects
+    → rows ≡ greatest (u * 1000000) (length (objects_of kind u c.objects))
 objects_counted layout kind u old new rows schema shown c sound h =
     let key = λ (x : ObjectRow). x.number in
     let account = λ (x : ObjectRow). x.account in
     let of_kind = λ (x : ObjectRow). is_kind x.object.kind kind in
     let selection = object_selection c kind u sound in
     let picked = range_drops key account u 0 of_kind c.objects (object_numbers c sound) selection.numbered in
-    let it = greatest_shown (kind_params kind u) (entry_row object_columns) (λ (e : Entry ObjectRow). e.row) (λ x. of_kind x && in_range key account u 0 x) (equals 1 2 ∷ within 2) 2 key
-    (λ e. ap₂ (λ a b. a && b) (test_equals (kind_number e.row.object.kind) (kind_number kind)) (test_range e.row.number (first_of_account u + 0) (last_number u))) (λ e. refl) object_tree (overlay old.now.trees []) h.entries c.objects (u * 1000000) rows h.rows_are
+    let it = greatest_shown (kind_params kind u) (entry_row object_columns) (λ (e : Entry ObjectRow). e.row)
+    (λ x. of_kind x && in_range key account u 0 x) (equals 1 2 ∷ within 2) 2 key
+    (λ e. ap₂ (λ a b. a && b) (test_equals (kind_number e.row.object.kind) (kind_number kind))
+    (test_range e.row.number (first_of_account u + 0) (last_number u))) (λ e. refl) object_tree
+    (overlay old.now.trees []) h.entries c.objects (u * 1000000) rows h.rows_are
     h.same (rw picked selection.numbered)
     (answers NewestObject layout (kind_params kind u) old new rows schema shown) in
     it ∙ ap (λ xs. greatest (u * 1000000) (length xs)) picked

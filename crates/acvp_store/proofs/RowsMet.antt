@@ -37,12 +37,14 @@ sets_met layout s old new rows schema h =
     (overlay old.now.trees []) (old.now.trees (set_tree layout)) rows (sets_seen layout old.now.trees ∙ map_same _)
     (answers SetsOf layout params old new rows schema h)
 
-pub judged_one : (found : Option ReadColumns) (told : Option SetSummary) → IsSummaryOf found told → AllByRecursion IsJudgedWhole (option_to_list found)
+pub judged_one : (found : Option ReadColumns) (told : Option SetSummary) → IsSummaryOf found told
+    → AllByRecursion IsJudgedWhole (option_to_list found)
 judged_one None told is = tt
 judged_one (Some c) None is = absurd is
 judged_one (Some c) (Some s) is = ((is.0, (s.disposition, is.1.disposition)), tt)
 
-pub judged_each : (found : List ShortColumns) (told : List SetSummary) → AllZip IsSummary found told → AllByRecursion IsJudged found
+pub judged_each : (found : List ShortColumns) (told : List SetSummary) → AllZip IsSummary found told
+    → AllByRecursion IsJudged found
 judged_each [] told is = tt
 judged_each (c ∷ found) [] is = absurd is
 judged_each (c ∷ found) (s ∷ told) is = ((s.disposition, is.0.disposition), judged_each found told is.1)
@@ -51,7 +53,8 @@ pub capability_met : (layout : Layout) → MeetsUnder CapabilityAt layout (set_t
 capability_met layout = rows_under CapabilityAt layout (set_tree layout) (col 1 3 ∷ []) refl (sets_seen layout)
     capability_column (λ k r. refl)
 
-pub told_one : (found : Option (Option (List ℕ))) (told : Option CapabilityValue) → TellsCapability found told → AllByRecursion IsOfCapability (option_to_list found)
+pub told_one : (found : Option (Option (List ℕ))) (told : Option CapabilityValue) → TellsCapability found told
+    → AllByRecursion IsOfCapability (option_to_list found)
 told_one None told is = tt
 told_one (Some column) None is = absurd is
 told_one (Some column) (Some told) is = ((told, is), tt)

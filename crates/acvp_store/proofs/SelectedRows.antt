@@ -53,7 +53,8 @@ pub below_is : (m n : ℤ) → m <ℤ n → int_cmp m n ≡ Less
 below_is m n low = let lt : int_lt m n ≡ true = grind (arith, ints) in rw lt refl
 
 pub above_is : (m n : ℤ) → m <ℤ n → int_cmp n m ≡ Greater
-above_is m n low = let lt : int_lt m n ≡ true = grind (arith, ints) in let not_lt : int_lt n m ≡ false = grind (arith, ints) in rw (not_lt, lt) refl
+above_is m n low = let lt : int_lt m n ≡ true = grind (arith, ints) in
+    let not_lt : int_lt n m ≡ false = grind (arith, ints) in rw (not_lt, lt) refl
 
 pub itself_is : (m : ℤ) → int_eq m m ≡ true
 itself_is m = let not_lt : int_lt m m ≡ false = grind (arith, ints) in rw not_lt refl
@@ -62,16 +63,21 @@ pub test_differs : (m n : ℤ) → m <ℤ n → is_true (binary (Compare Ne Bina
 unfolding binary
 test_differs m n low = truth_back _ ∙ ap is_ne (value_cmp-Int m n ∙ below_is m n low)
 
-module _ {A : Type 0} (params : Row) (encode : A → Row) (p : A → Bool) (terms : List Term) (tests : (a : A) → list_all (holds (params ∷ encode a ∷ [])) terms ≡ p a) where
+module _ {A : Type 0} (params : Row) (encode : A → Row) (p : A → Bool) (terms : List Term) (tests : (a : A)
+    → list_all (holds (params ∷ encode a ∷ [])) terms ≡ p a) where
   abbrev pub env_of : A → Env
   env_of a = params ∷ encode a ∷ []
 
-  pub matched : (all : List A) → flat_map (λ r. cond (list_all (holds (params ∷ r ∷ [])) terms) ((params ∷ r ∷ []) ∷ []) []) (map encode all) ≡ map env_of (filter p all)
+  pub matched : (all : List A)
+      → flat_map (λ r. cond (list_all (holds (params ∷ r ∷ [])) terms) ((params ∷ r ∷ []) ∷ []) []) (map encode all)
+      ≡ map env_of (filter p all)
   matched [] = refl
   matched (a ∷ all) = grind (arith, tests a, matched all)
 
   -- the rows that pass, as the query shows them, in some order
-  pub selected_by : (collations : List Collation) (tree : ℕ) (project : List Term) (show : A → Row) → ((a : A) → eval_all project (params ∷ encode a ∷ []) ≡ show a) → (db : Trees) (all : List A) (rows : List Row) → db tree ≡ map encode all
+  pub selected_by : (collations : List Collation) (tree : ℕ) (project : List Term) (show : A → Row)
+      → ((a : A) → eval_all project (params ∷ encode a ∷ []) ≡ show a) → (db : Trees) (all : List A) (rows : List Row)
+      → db tree ≡ map encode all
       → IsAnswer (collated collations tree terms project) db params rows → IsPermutation (map show (filter p all)) rows
   selected_by collations tree project show shows db all rows has a =
       let q = collated collations tree terms project in
@@ -81,10 +87,13 @@ module _ {A : Type 0} (params : Row) (encode : A → Row) (p : A → Bool) (term
       let same = IsPermutation-map (λ (p : Output). p.1) _ _ (rw kept at a.same) in
       rw (a.shown, ← map-map (λ (p : Output). p.1) o (filter p all)) same
     where
-      shown_by : (xs : List A) → map (output (collated collations tree terms project)) (map env_of xs) ≡ map (λ x. let it : Output = ([], show x) in it) xs
+      shown_by : (xs : List A) → map (output (collated collations tree terms project)) (map env_of xs)
+          ≡ map (λ x. let it : Output = ([], show x) in it) xs
       shown_by [] = refl
       shown_by (x ∷ xs) = grind (arith, shows x, shown_by xs)
 
-  pub selected : (tree : ℕ) (project : List Term) (show : A → Row) → ((a : A) → eval_all project (params ∷ encode a ∷ []) ≡ show a) → (db : Trees) (all : List A) (rows : List Row) → db tree ≡ map encode all
+  pub selected : (tree : ℕ) (project : List Term) (show : A → Row)
+      → ((a : A) → eval_all project (params ∷ encode a ∷ []) ≡ show a) → (db : Trees) (all : List A) (rows : List Row)
+      → db tree ≡ map encode all
       → IsAnswer (simple tree terms project) db params rows → IsPermutation (map show (filter p all)) rows
   selected tree project show shows db all rows has a = selected_by [] tree project show shows db all rows has a

@@ -44,7 +44,8 @@ pub short_shows : (params : Row) (c : SetColumns) → eval_all short_terms (para
 short_shows params c = rw (null_is c.answers) refl
 
 -- where no disposition is that of the letters and the number, the columns are those of no set
-pub not_given : (c : ShortColumns) (text : List ℕ) (number : ℕ) → c.verdicts ≡ Some text → c.disposition ≡ Some number → ((d : Disposition) → ¬ IsGiven text number d) → (d : Option Disposition) → ¬ IsDispositionOf c d
+pub not_given : (c : ShortColumns) (text : List ℕ) (number : ℕ) → c.verdicts ≡ Some text → c.disposition ≡ Some number
+    → ((d : Disposition) → ¬ IsGiven text number d) → (d : Option Disposition) → ¬ IsDispositionOf c d
 not_given c text number v n none None is = let impossible : Some text ≡ None = sym v ∙ is.1 in cc
 not_given c text number v n none (Some d) is =
     let both : Some text ≡ Some (verdicts_text is.1) = sym v ∙ is.2 in
@@ -83,38 +84,55 @@ back_is Missing n h = let e : 1 ≡ n = cc in subst (λ k. back k ≡ Missing) e
 back_is Passed n h = let e : 2 ≡ n = cc in subst (λ k. back k ≡ Passed) e refl
 back_is _ n h = absurd (cc)
 
-told : (c : SetColumns) (g : Option GradedValue) (d : Option Disposition) → IsGradedAs c g → IsDispositionOf (short_of c) d → d ≡ option_map (λ (g : GradedValue). g.disposition) g
+told : (c : SetColumns) (g : Option GradedValue) (d : Option Disposition) → IsGradedAs c g
+    → IsDispositionOf (short_of c) d → d ≡ option_map (λ (g : GradedValue). g.disposition) g
 told c None None h is = refl
-told c None (Some d) h is = absurd (let is_there : c.verdicts ≡ Some (verdicts_text is.1) = is.2 in let is_not : c.verdicts ≡ None = h.1 in cc)
-told c (Some g) None h is = absurd (let is_not : c.verdicts ≡ None = is.1 in let is_there : c.verdicts ≡ Some (verdicts_text g.verdicts) = h.1 in cc)
+told c None (Some d) h is = absurd (let is_there : c.verdicts ≡ Some (verdicts_text is.1) = is.2 in
+    let is_not : c.verdicts ≡ None = h.1 in cc)
+told c (Some g) None h is = absurd (let is_not : c.verdicts ≡ None = is.1 in
+    let is_there : c.verdicts ≡ Some (verdicts_text g.verdicts) = h.1 in cc)
 told c (Some g) (Some d) h is = ap Some (sym (back_is d h.2 (sym is.4 ∙ h.3)) ∙ back_is g.disposition h.2 h.4)
 
-pub summary_is : (c : SetColumns) (row : SetRow) (s : SetSummary) → IsSet c row → IsSummary (short_of c) s → s ≡ set_summary row
+pub summary_is : (c : SetColumns) (row : SetRow) (s : SetSummary) → IsSet c row → IsSummary (short_of c) s
+    → s ≡ set_summary row
 summary_is c row s h is =
     let number = is.number ∙ h.number in
     let session = is.session ∙ h.session in
     let epoch = is.epoch ∙ h.epoch in
     let cancelled = is.cancelled ∙ h.cancelled in
     let disposition = told c row.graded s.disposition h.graded is.disposition in
-    λ i. record { number = number i; session = session i; epoch = epoch i; cancelled = cancelled i; disposition = disposition i }
+    λ i. record {
+      number = number i;
+      session = session i;
+      epoch = epoch i;
+      cancelled = cancelled i;
+      disposition =
+          disposition i;
+    }
 
 pub none_told : (s : Option SetSummary) → IsSummaryOf None s → s ≡ None
 none_told None h = refl
 none_told (Some s) h = absurd h
 
-pub one_told : (c : SetColumns) (row : SetRow) (s : Option SetSummary) → IsSet c row → IsSummaryOf (Some (read_of c)) s → s ≡ Some (set_summary row)
+pub one_told : (c : SetColumns) (row : SetRow) (s : Option SetSummary) → IsSet c row → IsSummaryOf (Some (read_of c)) s
+    → s ≡ Some (set_summary row)
 one_told c row None h is = absurd is
 one_told c row (Some s) h is = ap Some (summary_is c row s h is.1)
 
 -- ---- the whole: of the columns of the set of a number, as `shown`, a query's answer tells what `pick` has of the set
 
-module _ {B Y : Type 0} (of : SetColumns → B) (Tells : Option B → Y → Type 0) (pick : Option SetRow → Y) (none : (y : Y) → Tells None y → y ≡ pick None)
-    (some : (c : SetColumns) (row : SetRow) (y : Y) → IsSet c row → Tells (Some (of c)) y → y ≡ pick (Some row)) (n : ℕ) where
-  told_of : (columns : List SetColumns) (sets : List SetRow) (y : Y) → AllZip IsSet columns sets → Tells (option_map of (find (λ c. c.number == n) columns)) y → y ≡ pick (set_at n sets)
+module _ {B Y : Type 0} (of : SetColumns → B) (Tells : Option B → Y → Type 0) (pick : Option SetRow → Y)
+    (none : (y : Y) → Tells None y → y ≡ pick None)
+    (some : (c : SetColumns) (row : SetRow) (y : Y) → IsSet c row → Tells (Some (of c)) y → y ≡ pick (Some row))
+    (n : ℕ) where
+  told_of : (columns : List SetColumns) (sets : List SetRow) (y : Y) → AllZip IsSet columns sets
+      → Tells (option_map of (find (λ c. c.number == n) columns)) y → y ≡ pick (set_at n sets)
   told_of [] [] y h is = none y is
   told_of (c ∷ columns) (r ∷ sets) y h is = elim (cases_Bool (r.number == n)) [
-    | inl same ↦ let at : (c.number == n) ≡ true = ap (λ k. k == n) h.0.number ∙ same in rw same (some c r y h.0 (rw at at is))
-    | inr apart ↦ let at : (c.number == n) ≡ false = ap (λ k. k == n) h.0.number ∙ apart in rw apart (told_of columns sets y h.1 (rw at at is))
+    | inl same ↦ let at : (c.number == n) ≡ true = ap (λ k. k == n) h.0.number ∙ same in
+        rw same (some c r y h.0 (rw at at is))
+    | inr apart ↦ let at : (c.number == n) ≡ false = ap (λ k. k == n) h.0.number ∙ apart in
+        rw apart (told_of columns sets y h.1 (rw at at is))
   ]
   told_of _ _ y h is = absurd h
 
@@ -123,34 +141,43 @@ module _ {B Y : Type 0} (of : SetColumns → B) (Tells : Option B → Y → Type
   first_of (x ∷ xs) = refl
 
   module _ {X Z E F G : Type 0} (shown : B → Row) (view : Z → Y) (table : List Row) (rows_in : X → List Row) where
-    pub find_told : (outcome : Result X E) (found : Result (Option B) F) (result : Result Z G) → (IsOk found → IsOk outcome) → (IsOk result → IsOk found)
-        → IfOk found (λ b. IfOk outcome (λ x. (list : List B) → IsPermutation (map shown list) (rows_in x) → b ≡ slice_get list 0))
+    pub find_told : (outcome : Result X E) (found : Result (Option B) F) (result : Result Z G)
+        → (IsOk found → IsOk outcome) → (IsOk result → IsOk found)
+        → IfOk found (λ b. IfOk outcome (λ x. (list : List B) → IsPermutation (map shown list) (rows_in x)
+        → b ≡ slice_get list 0))
         → IfOk result (λ z. IfOk found (λ b. Tells b (view z)))
-        → IfOk outcome (λ x. (list : List SetColumns) (kept : AreKept set_key set_row table list) → IsPermutation (map (λ c. shown (of c)) (keyed set_key n kept.ordered)) (rows_in x))
+        → IfOk outcome (λ x. (list : List SetColumns) (kept : AreKept set_key set_row table list)
+        → IsPermutation (map (λ c. shown (of c)) (keyed set_key n kept.ordered)) (rows_in x))
         → IfOk result (λ z. (sets : List SetRow) → HoldsSets table sets → view z ≡ pick (set_at n sets))
     find_told outcome found result ok_found ok_result =
         told_through outcome found result ok_found ok_result _ _ _ _ (λ x b z one tells rows sets h.
         let all = keyed set_key n h.kept.ordered in
         let is : b ≡ slice_get (map of all) 0 = one (map of all) (rw (map-map shown of all) (rows h.columns h.kept)) in
         let at : b ≡ option_map of (find (λ (c : SetColumns). c.number == n) h.columns) =
-        is ∙ first_of all ∙ ap (option_map of) (ap (λ l. slice_get l 0) (keyed_same set_key n h.kept.ordered h.columns h.kept.rising h.kept.same) ∙ sym (find_is set_key n h.columns)) in
+        is ∙ first_of all ∙ ap (option_map of)
+        (ap (λ l. slice_get l 0) (keyed_same set_key n h.kept.ordered h.columns h.kept.rising h.kept.same)
+        ∙ sym (find_is set_key n h.columns)) in
         told_of h.columns sets (view z) h.same (subst (λ o. Tells o (view z)) at tells))
 
 -- ---- what the texts tell
 
-pub capability_some : (c : SetColumns) (row : SetRow) (told : Option CapabilityValue) → IsSet c row → TellsCapability (Some (Some c.capability)) told → told ≡ Some row.capability
+pub capability_some : (c : SetColumns) (row : SetRow) (told : Option CapabilityValue) → IsSet c row
+    → TellsCapability (Some (Some c.capability)) told → told ≡ Some row.capability
 capability_some c row None h is = absurd is
 capability_some c row (Some told) h is = cc (h.capability)
 
-verdicts_none : (told : Option (List Verdict)) (column : Option (List ℕ)) → column ≡ None → AreVerdictsOf column told → told ≡ None
+verdicts_none : (told : Option (List Verdict)) (column : Option (List ℕ)) → column ≡ None → AreVerdictsOf column told
+    → told ≡ None
 verdicts_none told None e is = is
 verdicts_none told (Some text) e is = absurd (cc)
 
-verdicts_some : (told : Option (List Verdict)) (column : Option (List ℕ)) (verdicts : List Verdict) → column ≡ Some (verdicts_text verdicts) → AreVerdictsOf column told → told ≡ Some verdicts
+verdicts_some : (told : Option (List Verdict)) (column : Option (List ℕ)) (verdicts : List Verdict)
+    → column ≡ Some (verdicts_text verdicts) → AreVerdictsOf column told → told ≡ Some verdicts
 verdicts_some told None verdicts e is = absurd (cc)
 verdicts_some told (Some text) verdicts e is = is verdicts (cc)
 
-pub verdicts_told : (c : SetColumns) (row : SetRow) (told : Option (List Verdict)) → IsSet c row → AreVerdictsOf c.verdicts told → told ≡ set_verdicts row
+pub verdicts_told : (c : SetColumns) (row : SetRow) (told : Option (List Verdict)) → IsSet c row
+    → AreVerdictsOf c.verdicts told → told ≡ set_verdicts row
 verdicts_told c row told h is = go row.graded h.graded
   where
     go : (g : Option GradedValue) → IsGradedAs c g → told ≡ option_map (λ (g : GradedValue). g.verdicts) g
@@ -160,8 +187,10 @@ verdicts_told c row told h is = go row.graded h.graded
 -- ---- one set changed
 
 -- a change of the columns and one of the set go together
-zip_changed : (n : ℕ) (f : SetColumns → SetColumns) (g : SetRow → SetRow) → ((c : SetColumns) (row : SetRow) → IsSet c row → IsSet (f c) (g row))
-    → (columns : List SetColumns) (sets : List SetRow) → AllZip IsSet columns sets → AllZip IsSet (map (changing set_key n f) columns) (changed (is_set n) g sets)
+zip_changed : (n : ℕ) (f : SetColumns → SetColumns) (g : SetRow → SetRow)
+    → ((c : SetColumns) (row : SetRow) → IsSet c row → IsSet (f c) (g row))
+    → (columns : List SetColumns) (sets : List SetRow) → AllZip IsSet columns sets
+    → AllZip IsSet (map (changing set_key n f) columns) (changed (is_set n) g sets)
 zip_changed n f g turns [] [] h = tt
 zip_changed n f g turns (c ∷ columns) (r ∷ sets) h = (
   elim (cases_Bool (r.number == n)) [
@@ -193,7 +222,12 @@ module _ (layout : Layout) (old : State) (n : ℕ) (terms : List Term) (more : R
       (sets_seen layout) (casts tree) terms n more f keeps shows old schema tally after does in
       record {
         schema = made.schema;
-        kept = λ sets h. record { columns = map (changing set_key n f) h.columns; kept = made.kept h.columns h.kept; same = zip_changed n f g turns h.columns sets h.same };
+        kept = λ sets h. record {
+          columns = map (changing set_key n f) h.columns;
+          kept =
+              made.kept h.columns h.kept;
+          same = zip_changed n f g turns h.columns sets h.same;
+        };
         others = made.others;
       }
 
@@ -211,12 +245,21 @@ pub cancel_set_effect : (layout : Layout) (old : State) (n : ℕ)
     (Alters layout (set_tree layout) HoldsSets (changed (is_set n) cancelled_set))
 cancel_set_effect layout old n =
     set_effect layout old n (writing_terms SetCancelled) [] off (λ c. refl) (λ c. refl) cancelled_set
-    (λ c row is. record { number = is.number; session = is.session; capability = is.capability; cancelled = refl; graded = graded_off c row.graded is.graded; epoch = is.epoch })
+    (λ c row is. record {
+      number = is.number;
+      session = is.session;
+      capability = is.capability;
+      cancelled =
+          refl;
+      graded = graded_off c row.graded is.graded;
+      epoch = is.epoch;
+    })
 
 -- ---- answers to a set
 
 abbrev answered : List ℕ → List ℕ → ℕ → SetColumns → SetColumns
-answered answers verdicts disposition c = record c { answers = Some answers; verdicts = Some verdicts; disposition = Some disposition }
+answered answers verdicts disposition c =
+    record c { answers = Some answers; verdicts = Some verdicts; disposition = Some disposition }
 
 abbrev pub grade_params : ℕ → List ℕ → List ℕ → ℕ → Row
 grade_params n answers verdicts disposition = whole n ∷ Text answers ∷ Text verdicts ∷ whole disposition ∷ []
@@ -231,12 +274,39 @@ pub grade_effect : (layout : Layout) (old : State) (n : ℕ) (g : GradedValue) (
 grade_effect layout old n g answers verdicts disposition a back v d given =
     set_effect layout old n (writing_terms SetGraded) (Text answers ∷ Text verdicts ∷ whole disposition ∷ [])
     (answered answers verdicts disposition) (λ c. refl) (λ c. refl) (with_graded g)
-    (λ c row is. record { number = is.number; session = is.session; capability = is.capability; cancelled = is.cancelled; graded = (ap Some a, ap Some v, disposition, refl, d, subst (λ t. kept_answers t ≡ Some g.answers) a back, given); epoch = is.epoch })
+    (λ c row is. record {
+      number = is.number;
+      session = is.session;
+      capability = is.capability;
+      cancelled =
+          is.cancelled;
+      graded = (
+        ap Some a,
+        ap Some v,
+        disposition,
+        refl,
+        d,
+        subst (λ t. kept_answers t ≡ Some g.answers) a back,
+        given,
+      );
+      epoch = is.epoch;
+    })
 
 -- ---- a new set
 
 abbrev new_columns : ℕ → ℕ → List ℕ → ℕ → SetColumns
-new_columns number session text epoch = record { number = number; session = session; capability = text; cancelled = false; answers = None; verdicts = None; disposition = None; epoch = epoch }
+new_columns number session text epoch =
+    record {
+      number = number;
+      session = session;
+      capability = text;
+      cancelled = false;
+      answers = None;
+      verdicts =
+          None;
+      disposition = None;
+      epoch = epoch;
+    }
 
 abbrev pub add_set_params : ℕ → ℕ → List ℕ → ℕ → Row
 add_set_params number session text epoch = whole number ∷ whole session ∷ Text text ∷ whole epoch ∷ []
@@ -273,7 +343,9 @@ add_set_effect layout old number session capability text epoch reads low schema 
 -- ---- new sets, one after the other
 
 -- a set more
-pub one_more : (mores news : List SetRow) (d e : Database) → Both (UnderStore (λ layout. AddsSets layout mores)) (UnderStore (λ layout. AddsSets layout news)) d e → UnderStore (λ layout. AddsSets layout (mores ++ news)) d e
+pub one_more : (mores news : List SetRow) (d e : Database)
+    → Both (UnderStore (λ layout. AddsSets layout mores)) (UnderStore (λ layout. AddsSets layout news)) d e
+    → UnderStore (λ layout. AddsSets layout (mores ++ news)) d e
 one_more mores news d e h layout schema =
     let begun = h.1 layout schema in
     let first = begun.1 in
@@ -288,8 +360,12 @@ one_more mores news d e h layout schema =
     )
 
 -- the sets of one capability more
-pub sets_more : (session epoch i : ℕ) (done : List CapabilityValue) (capability : CapabilityValue) → new_sets session epoch i (done ++ capability ∷ []) ≡ new_sets session epoch i done ++ new_set (session * 100 + (i + length done)) session capability epoch ∷ []
-sets_more session epoch i [] capability = let at : i ≡ i + 0 = omega arith in ap (λ k. new_set (session * 100 + k) session capability epoch ∷ []) at
+pub sets_more : (session epoch i : ℕ) (done : List CapabilityValue) (capability : CapabilityValue)
+    → new_sets session epoch i (done ++ capability ∷ []) ≡ new_sets session epoch i done
+    ++ new_set (session * 100 + (i + length done)) session capability epoch ∷ []
+sets_more session epoch i [] capability = let at : i ≡ i + 0 = omega arith in
+    ap (λ k. new_set (session * 100 + k) session capability epoch ∷ []) at
 sets_more session epoch i (c ∷ done) capability =
     let at : (i + 1) + length done ≡ i + length (c ∷ done) = omega arith in
-    ap (λ l. new_set (session * 100 + i) session c epoch ∷ l) (sets_more session epoch (i + 1) done capability ∙ ap (λ k. new_sets session epoch (i + 1) done ++ new_set (session * 100 + k) session capability epoch ∷ []) at)
+    ap (λ l. new_set (session * 100 + i) session c epoch ∷ l) (sets_more session epoch (i + 1) done capability
+    ∙ ap (λ k. new_sets session epoch (i + 1) done ++ new_set (session * 100 + k) session capability epoch ∷ []) at)

@@ -35,23 +35,30 @@ module _ (test : ℕ → RequestBody → Bool) where
   abbrev of_account : ℕ → List RequestRow → Bool
   of_account u rows = list_all (λ (r : RequestRow). test u r.body) (filter (λ r. r.account == u) rows)
 
-  tail_holds : (x : RequestRow) (rows : List RequestRow) (u : ℕ) → of_account u (x ∷ rows) ≡ true → of_account u rows ≡ true
+  tail_holds : (x : RequestRow) (rows : List RequestRow) (u : ℕ) → of_account u (x ∷ rows) ≡ true
+      → of_account u rows ≡ true
   tail_holds x rows u h = elim (cases_Bool (x.account == u)) [
     | inl same ↦ then_of _ _ (rw same at h)
     | inr apart ↦ rw apart at h
   ]
 
-  head_holds : (x : RequestRow) (rows : List RequestRow) → of_account x.account (x ∷ rows) ≡ true → test x.account x.body ≡ true
-  head_holds x rows h = let same : (x.account == x.account) ≡ true = grind (arith, nat_tests) in first_of _ _ (rw same at h)
+  head_holds : (x : RequestRow) (rows : List RequestRow) → of_account x.account (x ∷ rows) ≡ true
+      → test x.account x.body ≡ true
+  head_holds x rows h = let same : (x.account == x.account) ≡ true = grind (arith, nat_tests) in
+      first_of _ _ (rw same at h)
 
-  each : (rows : List RequestRow) → ((u : ℕ) → of_account u rows ≡ true) → AllByRecursion (λ (r : RequestRow). test r.account r.body ≡ true) rows
+  each : (rows : List RequestRow) → ((u : ℕ) → of_account u rows ≡ true)
+      → AllByRecursion (λ (r : RequestRow). test r.account r.body ≡ true) rows
   each [] h = tt
   each (x ∷ rows) h = (head_holds x rows (h x.account), each rows (λ u. tail_holds x rows u (h u)))
 
-all_kinds : (c : Content) (rows : List RequestRow) → AllByRecursion (λ (r : RequestRow). is_sound_body (own r.account (state_of c)) r.body ≡ true) rows → AllByRecursion (λ (r : RequestRow). IsOfKind r.body) rows
+all_kinds : (c : Content) (rows : List RequestRow)
+    → AllByRecursion (λ (r : RequestRow). is_sound_body (own r.account (state_of c)) r.body ≡ true) rows
+    → AllByRecursion (λ (r : RequestRow). IsOfKind r.body) rows
 all_kinds c [] h = tt
 all_kinds c (x ∷ rows) h = (body_kind (own x.account (state_of c)) x.body h.0, all_kinds c rows h.1)
 
 pub kinds_of : (c : Content) → AreWellNumbered c → AllByRecursion (λ (r : RequestRow). IsOfKind r.body) c.requests
 unfolding IsWellNumbered own state_of
-kinds_of c sound = all_kinds c c.requests (each (λ u b. is_sound_body (own u (state_of c)) b) c.requests (λ u. (sound u).asked))
+kinds_of c sound = all_kinds c c.requests
+    (each (λ u b. is_sound_body (own u (state_of c)) b) c.requests (λ u. (sound u).asked))

@@ -42,7 +42,9 @@ second_beside_is = refl
 
 -- a text makes a table in the schema that is there before it
 abbrev pub IsMaking : StoreTable → Type 0
-IsMaking t = (command_of (understood (before t) (text_of t)) ≡ CreateTable) × (statement_of (text_of t) (understood (before t) (text_of t)) ≡ text_of t) × (table_defined_by (text_of t) ≡ Ok (table_of t)) × IsPlain (understood (before t) (text_of t))
+IsMaking t = (command_of (understood (before t) (text_of t)) ≡ CreateTable)
+    × (statement_of (text_of t) (understood (before t) (text_of t)) ≡ text_of t)
+    × (table_defined_by (text_of t) ≡ Ok (table_of t)) × IsPlain (understood (before t) (text_of t))
 
 pub is_making : (t : StoreTable) → IsMaking t
 unfolding understood everything

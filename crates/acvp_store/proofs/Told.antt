@@ -9,8 +9,11 @@ use Rattle.acvp_store.proofs.Words.{take_more, zip_push, ⊤}
 use Rattle.acvp_store.proofs.Keyed.{keyed, keyed_same, find_is}
 
 -- one more is told of a list's members
-pub told_more : {A B : Type 0} (R : A → B → Type 0) (list : List A) (told next : List B) (i : ℕ) (d : A) (y : B) → next ≡ told ++ y ∷ [] → i < length list → AllZip R (take i list) told → R (get_or list i d) y → AllZip R (take (i + 1) list) next
-told_more R list told next i d y is low zip new = rw (is, take_more list i d low) (zip_push R (take i list) told (get_or list i d) y zip new)
+pub told_more : {A B : Type 0} (R : A → B → Type 0) (list : List A) (told next : List B) (i : ℕ) (d : A) (y : B)
+    → next ≡ told ++ y ∷ [] → i < length list → AllZip R (take i list) told → R (get_or list i d) y
+    → AllZip R (take (i + 1) list) next
+told_more R list told next i d y is low zip new =
+    rw (is, take_more list i d low) (zip_push R (take i list) told (get_or list i d) y zip new)
 
 -- what is told of an answer that is Ok only where the query's is
 pub told : {X Y E F : Type 0} (outcome : Result X E) (result : Result Y F) → (IsOk result → IsOk outcome)
@@ -35,18 +38,22 @@ told_through (Ok x) (Ok b) (Ok y) ok_found ok P Q S R made q s p = made x b y q 
 -- ---- the row that a query by a number finds
 
 -- what is found, whichever way the store's tables lie
-pub in_store : {X E : Type 0} (r : Result X E) (db : Database) (P : X → Layout → Type 0) → ((layout : Layout) → db.schema ≡ schema_of layout → IfOk r (λ x. P x layout)) → IfOk r (λ x. InStore db (P x))
+pub in_store : {X E : Type 0} (r : Result X E) (db : Database) (P : X → Layout → Type 0)
+    → ((layout : Layout) → db.schema ≡ schema_of layout → IfOk r (λ x. P x layout)) → IfOk r (λ x. InStore db (P x))
 in_store (Ok x) db P h = h
 in_store (Err e) db P h = tt
 
 -- ---- one row at most
 
-pub none_found : {A : Type 0} (shown : A → Row) (xs : List A) (rows : List Row) → IsPermutation (map shown xs) rows → slice_get rows 0 ≡ None → None ≡ slice_get xs 0
+pub none_found : {A : Type 0} (shown : A → Row) (xs : List A) (rows : List Row) → IsPermutation (map shown xs) rows
+    → slice_get rows 0 ≡ None → None ≡ slice_get xs 0
 none_found shown [] rows same none = refl
 none_found shown (x ∷ xs) [] same none = absurd (omega (arith, length_permutation _ _ same))
 none_found shown (x ∷ xs) (r ∷ rows) same none = absurd (cc)
 
-pub one_found : {A : Type 0} (shown : A → Row) (xs : List A) (rows : List Row) (row : Row) (a : A) → IsPermutation (map shown xs) rows → length rows ≤ 1 → slice_get rows 0 ≡ Some row → ((y : A) → row ≡ shown y → a ≡ y) → Some a ≡ slice_get xs 0
+pub one_found : {A : Type 0} (shown : A → Row) (xs : List A) (rows : List Row) (row : Row) (a : A)
+    → IsPermutation (map shown xs) rows → length rows ≤ 1 → slice_get rows 0 ≡ Some row
+    → ((y : A) → row ≡ shown y → a ≡ y) → Some a ≡ slice_get xs 0
 one_found shown xs [] row a same few head is = absurd (cc)
 one_found shown xs (r ∷ s ∷ rows) row a same few head is = absurd (omega arith)
 one_found shown (x ∷ []) (r ∷ []) row a same few head is =
@@ -67,7 +74,8 @@ first_kept key stored n table list kept =
 
 -- ---- lists of rows that a query answers, and what they are of
 
-pub listed_as : {T : Type 0} (reads : T → Type 0) (shown : T → Row) (rows : List Row) (found list : List T) → AllZip (IsRowOf reads shown) rows found → AllByRecursion reads list → rows ≡ map shown list → found ≡ list
+pub listed_as : {T : Type 0} (reads : T → Type 0) (shown : T → Row) (rows : List Row) (found list : List T)
+    → AllZip (IsRowOf reads shown) rows found → AllByRecursion reads list → rows ≡ map shown list → found ≡ list
 listed_as reads shown [] [] [] all each is = refl
 listed_as reads shown [] (x ∷ found) list all each is = absurd all
 listed_as reads shown (r ∷ rows) [] list all each is = absurd all
@@ -78,17 +86,23 @@ listed_as reads shown (r ∷ rows) (x ∷ found) (y ∷ list) all each is =
 listed_as reads shown _ _ _ all each is = absurd (cc)
 
 -- where nothing has to be read of the members
-pub listed_plainly : {T X Y E F : Type 0} (shown : T → Row) (outcome : Result X E) (rows_of : X → List Row) (result : Result Y F) (items_of : Y → List T)
-    → IfOk result (λ found. IfOk outcome (λ x. (list : List T) → AllByRecursion (λ _. ⊤) list → rows_of x ≡ map shown list → items_of found ≡ list))
+pub listed_plainly : {T X Y E F : Type 0} (shown : T → Row) (outcome : Result X E) (rows_of : X → List Row)
+    (result : Result Y F) (items_of : Y → List T)
+    → IfOk result (λ found. IfOk outcome (λ x. (list : List T) → AllByRecursion (λ _. ⊤) list
+    → rows_of x ≡ map shown list → items_of found ≡ list))
     → IfOk result (λ found. IfOk outcome (λ x. (list : List T) → rows_of x ≡ map shown list → items_of found ≡ list))
 listed_plainly shown outcome rows_of (Err f) items_of found = tt
 listed_plainly shown (Err e) rows_of (Ok r) items_of found = tt
 listed_plainly shown (Ok x) rows_of (Ok r) items_of found = λ list is. found list (all_of (λ _. ⊤) (λ _. tt) list) is
 
 -- what a query's answer lists, of each content that is meant
-pub all_listed : {T C X Y E F : Type 0} (Sound Held : C → Type 0) (reads : T → Type 0) (shown : T → Row) (outcome : Result X E) (rows_of : X → List Row) (result : Result Y F) (items_of : Y → List T) (picked : C → List T) → (IsOk result → IsOk outcome)
-    → IfOk result (λ found. IfOk outcome (λ x. (list : List T) → AllByRecursion reads list → rows_of x ≡ map shown list → items_of found ≡ list))
-    → IfOk outcome (λ x. (c : C) → Sound c → Held c → AllByRecursion reads (picked c) × (rows_of x ≡ map shown (picked c)))
+pub all_listed : {T C X Y E F : Type 0} (Sound Held : C → Type 0) (reads : T → Type 0) (shown : T → Row)
+    (outcome : Result X E) (rows_of : X → List Row) (result : Result Y F) (items_of : Y → List T) (picked : C → List T)
+    → (IsOk result → IsOk outcome)
+    → IfOk result (λ found. IfOk outcome (λ x. (list : List T) → AllByRecursion reads list → rows_of x ≡ map shown list
+    → items_of found ≡ list))
+    → IfOk outcome (λ x. (c : C) → Sound c → Held c → AllByRecursion reads (picked c)
+    × (rows_of x ≡ map shown (picked c)))
     → IfOk result (λ found. (c : C) → Sound c → Held c → items_of found ≡ picked c)
 all_listed Sound Held reads shown outcome rows_of result items_of picked ok =
     told outcome result ok _ _ _ (λ x r found rows. λ c sound held. let it = rows c sound held in
@@ -96,7 +110,9 @@ all_listed Sound Held reads shown outcome rows_of result items_of picked ok =
 
 -- ---- one row at most
 
-pub single_found : {T : Type 0} (reads : T → Type 0) (shown : T → Row) (xs : List T) (rows : List Row) (row : Row) (a : T) → AllByRecursion reads xs → IsPermutation (map shown xs) rows → length rows ≤ 1 → slice_get rows 0 ≡ Some row → IsRowOf reads shown row a → Some a ≡ slice_get xs 0
+pub single_found : {T : Type 0} (reads : T → Type 0) (shown : T → Row) (xs : List T) (rows : List Row) (row : Row)
+    (a : T) → AllByRecursion reads xs → IsPermutation (map shown xs) rows → length rows ≤ 1
+    → slice_get rows 0 ≡ Some row → IsRowOf reads shown row a → Some a ≡ slice_get xs 0
 single_found reads shown xs [] row a each same few head is = absurd (cc)
 single_found reads shown xs (r ∷ s ∷ rows) row a each same few head is = absurd (omega arith)
 single_found reads shown (x ∷ []) (r ∷ []) row a each same few head is =
@@ -106,9 +122,13 @@ single_found reads shown (x ∷ []) (r ∷ []) row a each same few head is =
 single_found reads shown _ _ row a each same few head is = absurd (omega (arith, length_permutation _ _ same))
 
 -- what a query's answer shows as one row, of each content that is meant
-pub one_listed : {T C X E F : Type 0} (Sound Held : C → Type 0) (reads : T → Type 0) (shown : T → Row) (outcome : Result X E) (rows_of : X → List Row) (result : Result (Option T) F) (picked : C → List T) → (IsOk result → IsOk outcome)
-    → IfOk result (λ found. IfOk outcome (λ x. (list : List T) → AllByRecursion reads list → IsPermutation (map shown list) (rows_of x) → found ≡ slice_get list 0))
-    → IfOk outcome (λ x. (c : C) → Sound c → Held c → AllByRecursion reads (picked c) × IsPermutation (map shown (picked c)) (rows_of x))
+pub one_listed : {T C X E F : Type 0} (Sound Held : C → Type 0) (reads : T → Type 0) (shown : T → Row)
+    (outcome : Result X E) (rows_of : X → List Row) (result : Result (Option T) F) (picked : C → List T)
+    → (IsOk result → IsOk outcome)
+    → IfOk result (λ found. IfOk outcome (λ x. (list : List T) → AllByRecursion reads list
+    → IsPermutation (map shown list) (rows_of x) → found ≡ slice_get list 0))
+    → IfOk outcome (λ x. (c : C) → Sound c → Held c → AllByRecursion reads (picked c)
+    × IsPermutation (map shown (picked c)) (rows_of x))
     → IfOk result (λ found. (c : C) → Sound c → Held c → found ≡ slice_get (picked c) 0)
 one_listed Sound Held reads shown outcome rows_of result picked ok =
     told outcome result ok _ _ _ (λ x r found rows. λ c sound held. let it = rows c sound held in
@@ -121,7 +141,8 @@ all_taken P zero xs all = tt
 all_taken P (suc n) [] all = tt
 all_taken P (suc n) (x ∷ xs) all = (all.0, all_taken P n xs all.1)
 
-pub all_dropped : {T : Type 0} (P : T → Type 0) (n : ℕ) (xs : List T) → AllByRecursion P xs → AllByRecursion P (drop n xs)
+pub all_dropped : {T : Type 0} (P : T → Type 0) (n : ℕ) (xs : List T) → AllByRecursion P xs
+    → AllByRecursion P (drop n xs)
 all_dropped P zero xs all = all
 all_dropped P (suc n) [] all = tt
 all_dropped P (suc n) (x ∷ xs) all = all_dropped P n xs all.1

@@ -39,7 +39,8 @@ its_text_of : (s : List ℕ) (v : Value) → is_equal v (Text s) ≡ true → v 
 its_text_of s Null is = absurd (let apart = value_cmp-apart Null (Text s) (λ e. absurd (omega arith)) in cc)
 its_text_of s (Int n) is = absurd (let apart = value_cmp-apart (Int n) (Text s) (λ e. absurd (omega arith)) in cc)
 its_text_of s (Real x) is = absurd (let apart = value_cmp-apart (Real x) (Text s) (λ e. absurd (omega arith)) in cc)
-its_text_of s (Text t) is = ap Text ((bytes_eq-Decides t s).0 (sym (ap is_eq (value_cmp-Text t s) ∙ is_eq-slice_cmp t s) ∙ is))
+its_text_of s (Text t) is =
+    ap Text ((bytes_eq-Decides t s).0 (sym (ap is_eq (value_cmp-Text t s) ∙ is_eq-slice_cmp t s) ∙ is))
 its_text_of s (Blob b) is = absurd (let apart = value_cmp-apart (Blob b) (Text s) (λ e. absurd (omega arith)) in cc)
 
 pub its_text : (v : Value) → is_equal v (Text (codes "schema")) ≡ true → v ≡ Text (codes "schema")
@@ -50,7 +51,8 @@ its_name = ap is_eq (value_cmp-Text (codes "schema") (codes "schema"))
 
 -- the row as it is made names its version
 pub named_so : (n : ℕ) (trees : Trees) → trees 0 ≡ version_row n ∷ [] → HasVersion n trees
-named_so n trees is = let same : (n == n) ≡ true = grind (arith, nat_tests) in subst (λ rows. list_any (is_version_row n) rows ≡ true) (sym is) (rw (its_name, same_whole n n, same) refl)
+named_so n trees is = let same : (n == n) ≡ true = grind (arith, nat_tests) in
+    subst (λ rows. list_any (is_version_row n) rows ≡ true) (sym is) (rw (its_name, same_whole n n, same) refl)
 
 abbrev pub value_of : Row → Row
 value_of row = column row 2 ∷ []
@@ -59,9 +61,13 @@ pub map_same : (rows : List Row) → rows ≡ map (λ r. r) rows
 map_same [] = refl
 map_same (r ∷ rows) = ap (λ l. r ∷ l) (map_same rows)
 
-pub version_rows : (version : SchemaVersion) (n : ℕ) (old new : State) (rows : List Row) → old.now.schema ≡ schema_at version → Shown find_version (whole n ∷ []) old new rows → IsPermutation (map value_of (filter (is_version_row n) (old.now.trees 0))) rows
+pub version_rows : (version : SchemaVersion) (n : ℕ) (old new : State) (rows : List Row)
+    → old.now.schema ≡ schema_at version → Shown find_version (whole n ∷ []) old new rows
+    → IsPermutation (map value_of (filter (is_version_row n) (old.now.trees 0))) rows
 version_rows version n old new rows schema h =
-    selected (whole n ∷ []) (λ (r : Row). r) (is_version_row n) find_version_query.filter (λ r. both_true _ _ _ _ (test_text (column r 1) (codes "schema")) (test_whole (column r 2) n)) 0 find_version_query.project value_of (λ r. refl) (overlay old.now.trees []) (old.now.trees 0) rows (map_same _)
+    selected (whole n ∷ []) (λ (r : Row). r) (is_version_row n) find_version_query.filter
+    (λ r. both_true _ _ _ _ (test_text (column r 1) (codes "schema")) (test_whole (column r 2) n)) 0
+    find_version_query.project value_of (λ r. refl) (overlay old.now.trees []) (old.now.trees 0) rows (map_same _)
     (let is = finds_version version in
     (reads_as find_version (whole n ∷ []) old new (schema_at version) schema _ is.0 is.1 is.2 rows h).answer Null)
 
@@ -70,12 +76,15 @@ version_rows version n old new rows schema h =
 abbrev pub number_of : Row → Row
 number_of row = column row 0 ∷ []
 
-in_old : (schema : Schema) → FindsOldSets schema → (old new : State) (rows : List Row) → old.now.schema ≡ schema → Shown find_old_sets [] old new rows → IsPermutation (map number_of (filter (λ row. true) (old.now.trees 4))) rows
+in_old : (schema : Schema) → FindsOldSets schema → (old new : State) (rows : List Row) → old.now.schema ≡ schema
+    → Shown find_old_sets [] old new rows → IsPermutation (map number_of (filter (λ row. true) (old.now.trees 4))) rows
 in_old schema finds old new rows is h =
-    selected [] (λ (r : Row). r) (λ r. true) [] (λ r. refl) 4 old_sets_query.project number_of (λ r. refl) (overlay old.now.trees []) (old.now.trees 4) rows (map_same _)
+    selected [] (λ (r : Row). r) (λ r. true) [] (λ r. refl) 4 old_sets_query.project number_of (λ r. refl)
+    (overlay old.now.trees []) (old.now.trees 4) rows (map_same _)
     ((reads_as find_old_sets [] old new schema is _ finds.0 finds.1 finds.2 rows h).answer Null)
 
-pub old_rows : (old new : State) (rows : List Row) → HasOldTable old.now.schema → Shown find_old_sets [] old new rows → IsPermutation (map number_of (filter (λ row. true) (old.now.trees 4))) rows
+pub old_rows : (old new : State) (rows : List Row) → HasOldTable old.now.schema → Shown find_old_sets [] old new rows
+    → IsPermutation (map number_of (filter (λ row. true) (old.now.trees 4))) rows
 old_rows old new rows (inl was) h = in_old (second_schema Migrated) old_sets_were old new rows was h
 old_rows old new rows (inr is) h = in_old (schema_of Migrated) old_sets_are old new rows is h
 
@@ -94,7 +103,9 @@ mark : Schema → ℕ
 mark s = length s.tables * 10 + unwrap_or (option_map (λ (t : Table). length t.name) (slice_get s.tables 3)) 0
 
 back : ℕ → SchemaVersion
-back n = if n == 64 then First else (if n == 65 then Second Created else (if n == 74 then Second Migrated else (if n == 75 then Third Created else Third Migrated)))
+back n = if n == 64 then First else
+    (if n == 65 then Second Created else
+    (if n == 74 then Second Migrated else (if n == 75 then Third Created else Third Migrated)))
 
 back_is : (version : SchemaVersion) → back (mark (schema_at version)) ≡ version
 unfolding mark back
@@ -109,24 +120,30 @@ same_version v w same = sym (back_is v) ∙ ap (λ s. back (mark s)) same ∙ ba
 
 -- ---- whose tables are of no version, or aren't those that `meta` names
 
-pub unknown : (db : Database) → ((from : Earlier) → db.schema ≢ schema_at (version_of from)) → ¬ IsOurs db → ¬ IsKnown db
+pub unknown : (db : Database) → ((from : Earlier) → db.schema ≢ schema_at (version_of from)) → ¬ IsOurs db
+    → ¬ IsKnown db
 unknown db none ours known = go known.0 known.1
   where
     go : (v : SchemaVersion) → IsOf v db → ⊥
     go First is = none earlier.First is.schema
     go (Second Created) is = none earlier.Second is.schema
     go (Second Migrated) is = none earlier.SecondBeside is.schema
-    go (Third layout) is = ours (record { layout = layout; schema = is.schema; version = is.named; no_old_sets = is.no_old_sets })
+    go (Third layout) is = ours
+        (record { layout = layout; schema = is.schema; version = is.named; no_old_sets = is.no_old_sets })
 
 pub not_known : (v : SchemaVersion) (db : Database) → db.schema ≡ schema_at v → ¬ IsOf v db → ¬ IsKnown db
-not_known v db schema not known = not (subst (λ w. IsOf w db) (same_version known.0 v (sym known.1.schema ∙ schema)) known.1)
+not_known v db schema not known =
+    not (subst (λ w. IsOf w db) (same_version known.0 v (sym known.1.schema ∙ schema)) known.1)
 
 -- ---- what an open finds
 
 -- what was committed
-pub left_as_committed : (old new : State) (P : Trees → Type 0) → ((db : Trees) → IsTrue old.is_open → old.may_leave db → db ≡ old.committed.trees) → LeavesNoMore old new → LeavesSo old new (λ db. (db ≡ old.committed.trees) ⊎ P db)
+pub left_as_committed : (old new : State) (P : Trees → Type 0)
+    → ((db : Trees) → IsTrue old.is_open → old.may_leave db → db ≡ old.committed.trees) → LeavesNoMore old new
+    → LeavesSo old new (λ db. (db ≡ old.committed.trees) ⊎ P db)
 left_as_committed old new P settled none clean live db may = inl (settled db live (none clean db may))
 
-pub of_fault : {X E : Type 0} (r : Result X E) (P : X → Type 0) (Q R : E → Type 0) → ((e : E) → Q e → R e) → MatchResult r P Q → IfErr r R
+pub of_fault : {X E : Type 0} (r : Result X E) (P : X → Type 0) (Q R : E → Type 0) → ((e : E) → Q e → R e)
+    → MatchResult r P Q → IfErr r R
 of_fault (Ok x) P Q R turns h = tt
 of_fault (Err e) P Q R turns h = turns e h

@@ -14,15 +14,18 @@ none_kept : (n : ℕ) (rows : List AccountRow) → account_at n rows ≡ None �
 none_kept n [] none = refl
 none_kept n (r ∷ rows) none = go (r.number == n) refl (none_kept n rows)
   where
-    go : (b : Bool) → (r.number == n) ≡ b → (account_at n rows ≡ None → filter (λ row. row.number == n) rows ≡ []) → filter (λ row. row.number == n) (r ∷ rows) ≡ []
+    go : (b : Bool) → (r.number == n) ≡ b → (account_at n rows ≡ None → filter (λ row. row.number == n) rows ≡ [])
+        → filter (λ row. row.number == n) (r ∷ rows) ≡ []
     go true e later = absurd (let f = rw e at none in cc)
     go false e later = rw e (later (rw e at none))
 
-own_none : (a : NewAccount) (c : Content) → account_at a.account c.accounts ≡ None → (own a.account (state_of c)).accounts ≡ []
+own_none : (a : NewAccount) (c : Content) → account_at a.account c.accounts ≡ None
+    → (own a.account (state_of c)).accounts ≡ []
 unfolding own state_of
 own_none a c none = none_kept a.account c.accounts none
 
-pub added_sound : (a : NewAccount) (c : Content) → AreWellNumbered c → is_account_row (new_account a) ≡ true → account_at a.account c.accounts ≡ None
+pub added_sound : (a : NewAccount) (c : Content) → AreWellNumbered c → is_account_row (new_account a) ≡ true
+    → account_at a.account c.accounts ≡ None
     → AreWellNumbered (after_order (AddAccount a) c)
 added_sound a c sound fine none = subst (λ s. IsWellNumbered s) (sym (order_follows c (AddAccount a)))
     (well_ordered (AddAccount a) (state_of c) sound (own_none a c none, fine))

@@ -17,7 +17,8 @@ was_there : {R : Type 0} → (p q : R → Bool) (rows : List R) → list_any p (
 was_there p q [] there = there
 was_there p q (row ∷ rows) there = go (p row) (q row) refl refl (was_there p q rows)
   where
-    go : (passes stays : Bool) → p row ≡ passes → q row ≡ stays → (list_any p (filter q rows) ≡ true → list_any p rows ≡ true) → list_any p (row ∷ rows) ≡ true
+    go : (passes stays : Bool) → p row ≡ passes → q row ≡ stays
+        → (list_any p (filter q rows) ≡ true → list_any p rows ≡ true) → list_any p (row ∷ rows) ≡ true
     go true stays passes e later = rw passes refl
     go false true passes e later = rw passes (later (rw (e, passes) at there))
     go false false passes e later = rw passes (later (rw e at there))
@@ -25,11 +26,13 @@ was_there p q (row ∷ rows) there = go (p row) (q row) refl refl (was_there p q
 -- the one row behind the others is the pair where none of the others is
 added : (s a : ℕ) (r : ReviewerRow) (rows : List ReviewerRow) → is_reviewer s a (rows ++ r ∷ []) ≡ true
     → (is_reviewer s a rows ≡ true) ⊎ (change.AddReviewer r ≡ change.AddReviewer (record { session = s; account = a }))
-added s a r rows there = go (is_reviewer s a rows) ((r.session == s) && (r.account == a)) refl refl (sym (list_any-append (λ (row : ReviewerRow). (row.session == s) && (row.account == a)) rows (r ∷ [])) ∙ there)
+added s a r rows there = go (is_reviewer s a rows) ((r.session == s) && (r.account == a)) refl refl
+    (sym (list_any-append (λ (row : ReviewerRow). (row.session == s) && (row.account == a)) rows (r ∷ [])) ∙ there)
   where
     go : (was is : Bool) → is_reviewer s a rows ≡ was → ((r.session == s) && (r.account == a)) ≡ is
         → (is_reviewer s a rows || is_reviewer s a (r ∷ [])) ≡ true
-        → (is_reviewer s a rows ≡ true) ⊎ (change.AddReviewer r ≡ change.AddReviewer (record { session = s; account = a }))
+        → (is_reviewer s a rows ≡ true)
+        ⊎ (change.AddReviewer r ≡ change.AddReviewer (record { session = s; account = a }))
     go true is was e h = inl was
     go false true was e h =
         let session : r.session ≡ s = grind (arith, nat_tests, e) in
@@ -43,11 +46,13 @@ unfolding after_state
 reviewers_added s a (change.AddReviewer r) state there = go (is_reviewer r.session r.account state.reviewers) refl
   where
     go : (b : Bool) → is_reviewer r.session r.account state.reviewers ≡ b
-        → (is_reviewer s a state.reviewers ≡ true) ⊎ (change.AddReviewer r ≡ change.AddReviewer (record { session = s; account = a }))
+        → (is_reviewer s a state.reviewers ≡ true)
+        ⊎ (change.AddReviewer r ≡ change.AddReviewer (record { session = s; account = a }))
     go true is = inl (rw is at there)
     go false is = added s a r state.reviewers (rw is at there)
 reviewers_added s a (change.RemoveReviewer r) state there =
-    inl (was_there (λ (row : ReviewerRow). (row.session == s) && (row.account == a)) (λ row. not (is_pair r row)) state.reviewers there)
+    inl (was_there (λ (row : ReviewerRow). (row.session == s) && (row.account == a))
+    (λ row. not (is_pair r row)) state.reviewers there)
 reviewers_added s a _ state there = inl there
 
 pub reviewers_stay : (it : OrderChange) (state : State) → (after_order_state it state).reviewers ≡ state.reviewers

@@ -8,7 +8,8 @@ abbrev pub merged : Option ℕ → Option ℕ → Option ℕ
 merged so_far None = so_far
 merged so_far (Some m) = Some (greater m so_far)
 
-pub merged_more : (so_far rest : Option ℕ) (e : ℕ) → merged so_far (Some (greater e rest)) ≡ merged (Some (greater e so_far)) rest
+pub merged_more : (so_far rest : Option ℕ) (e : ℕ)
+    → merged so_far (Some (greater e rest)) ≡ merged (Some (greater e so_far)) rest
 merged_more None None e = refl
 merged_more None (Some m) e = grind (arith, nat_tests)
 merged_more (Some n) None e = refl

@@ -6,8 +6,16 @@ use Rattle.acvp_tables.specs.Content.{Content}
 use Rattle.acvp_tables.specs.State.{AreWellNumbered}
 
 -- a change that is made of well numbered rows, or not at all
-pub made : {X E : Type 0} (faults : E → Type 0) (result : Result X E) (old new : Content) (change : Content → Content) → (AreWellNumbered old → OnOk result (new ≡ change old)) → OnErr result (new ≡ old) → IfErr result faults
-    → Changes {T = Content} faults (record { stands = λ t c. c ≡ t; is_open = λ _. Unit {0}; is_clean = λ _. Unit {0}; leaves = λ t c d. (t ≡ c) ⊎ (t ≡ d) }) result old new change
+pub made : {X E : Type 0} (faults : E → Type 0) (result : Result X E) (old new : Content) (change : Content → Content)
+    → (AreWellNumbered old → OnOk result (new ≡ change old)) → OnErr result (new ≡ old) → IfErr result faults
+    → Changes {T = Content} faults
+    (record {
+      stands = λ t c. c ≡ t;
+      is_open = λ _. Unit {0};
+      is_clean = λ _. Unit {0};
+      leaves = λ t c d. (t ≡ c)
+          ⊎ (t ≡ d);
+    }) result old new change
 made faults (Ok x) old new change ok err fault = record {
   fault = tt;
   was_open = λ live. live;

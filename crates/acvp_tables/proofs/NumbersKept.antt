@@ -11,7 +11,8 @@ use Rattle.acvp_tables.specs.declared.change.OrderChange.{OrderChange}
 use Rattle.acvp_tables.specs.declared.change.OrderChange.TheVariants as order
 use Rattle.acvp_tables.proofs.Numbers.{keyed}
 use Rattle.acvp_tables.proofs.OwnRows.{own_same, own_other, own_ordered, other_ordered}
-use Rattle.acvp_tables.proofs.KeptRows.{well_step, well_disabled, well_added, well_answered, well_cancelled_set, well_less_reviewer, well_reviewed}
+use Rattle.acvp_tables.proofs.KeptRows.{well_step, well_disabled, well_added, well_answered, well_cancelled_set}
+use Rattle.acvp_tables.proofs.KeptRows.{well_less_reviewer, well_reviewed}
 use Rattle.acvp_tables.proofs.KeptRequests.{well_requested, well_approved, well_rejected}
 use Rattle.acvp_tables.proofs.KeptSessions.{well_new_session, well_cancelled, well_certified}
 
@@ -28,7 +29,8 @@ well_after (change.Certify c) mine well fits next = rw (← fits.0) (well_certif
 well_after (change.AddReviewer r) mine well fits next = well_reviewed (owner_of r.session) r mine well next
 well_after (change.RemoveReviewer r) mine well fits next = well_less_reviewer (owner_of r.session) r mine well
 
-well_after_order : (it : OrderChange) (mine : State) → IsWellNumberedFor (account_of_order it) mine → IsNextOrderFor mine it
+well_after_order : (it : OrderChange) (mine : State) → IsWellNumberedFor (account_of_order it) mine
+    → IsNextOrderFor mine it
     → IsWellNumberedFor (account_of_order it) (after_order_state it mine)
 well_after_order (order.AddAccount a) mine well next = well_added a mine well next
 well_after_order (order.DisableAccount n) mine well next = well_disabled n n mine well
@@ -44,7 +46,8 @@ every u old new its others well v = elim (eqb_tells u v) [
   | inr d ↦ subst (λ mine. IsWellNumberedFor v mine) (sym (others v d.1)) (well v)
 ]
 
-pub well_changed : (it : Change) (state : State) → IsWellNumbered state → IsNext state it → IsWellNumbered (after_state it state)
+pub well_changed : (it : Change) (state : State) → IsWellNumbered state → IsNext state it
+    → IsWellNumbered (after_state it state)
 unfolding IsWellNumbered
 well_changed it state well next =
     let its : IsWellNumberedFor (account_of_change it) (after_state it (own (account_of_change it) state))
@@ -53,7 +56,8 @@ well_changed it state well next =
     (subst (λ mine. IsWellNumberedFor (account_of_change it) mine) (sym (own_same it state next.0)) its)
     (λ v apart. own_other v it state apart (keyed state well) next.0) well
 
-pub well_ordered : (it : OrderChange) (state : State) → IsWellNumbered state → IsNextOrder state it → IsWellNumbered (after_order_state it state)
+pub well_ordered : (it : OrderChange) (state : State) → IsWellNumbered state → IsNextOrder state it
+    → IsWellNumbered (after_order_state it state)
 unfolding IsWellNumbered
 well_ordered it state well next =
     let its : IsWellNumberedFor (account_of_order it) (after_order_state it (own (account_of_order it) state))

@@ -1,7 +1,8 @@
 -- Which entry of a ring a header names.
 use Rattle.std.proofs.Common.{◌≡◌, ℕ, zero, suc, ◌+◌, ◌<◌, ◌≤◌, List, [], ◌∷◌, length, Bool, true, false, cond}
 use Rattle.std.proofs.Common.{◌-◌, ◌/◌, ◌%◌, nat_lt}
-use Rattle.std.proofs.Common.{Option, None, Some, IsSome, option_and_then, unwrap_or, codes, decimal, refl, sym, ap, ◌∙◌}
+use Rattle.std.proofs.Common.{Option, None, Some, IsSome, option_and_then, unwrap_or, codes, decimal, refl, sym, ap}
+use Rattle.std.proofs.Common.{◌∙◌}
 use Rattle.std.proofs.Common.{arith}
 use Rattle.std.specs.List.{find, enumerate_from}
 use Rattle.std.specs.Prelude.{slice_index}

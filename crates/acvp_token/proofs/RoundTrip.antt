@@ -1,7 +1,8 @@
 -- An issued token reads as the claims that it was issued for.
 use Rattle.std.proofs.Common.{◌≡◌, ℕ, zero, suc, ◌+◌, ◌*◌, ◌/◌, ◌%◌, ◌^◌, ◌<◌, ◌≤◌, List, [], ◌∷◌, ◌++◌, Bool, true}
 use Rattle.std.proofs.Common.{false, nat_lt, ◌&&◌, length, length-append, get_or, Option, None, Some, IfSome, Result}
-use Rattle.std.proofs.Common.{Ok, Err, IfOk, OnOk, String, string_bytes, Global, codes, decimal, refl, sym, ap, subst, ◌∙◌}
+use Rattle.std.proofs.Common.{Ok, Err, IfOk, OnOk, String, string_bytes, Global, codes, decimal, refl, sym, ap, subst}
+use Rattle.std.proofs.Common.{◌∙◌}
 use Rattle.std.proofs.Common.{arith, append-nil}
 use Rattle.std.proofs.lemmas.Fmt.{decimal_by_steps, length-decimal-le, IsAscii-decimal}
 use Rattle.std.proofs.lemmas.Grind.{flat_map-append}
@@ -176,7 +177,8 @@ named-reads (suc (suc (suc (suc (suc (suc (suc (suc (suc (suc (suc (suc zero))))
 named-reads (suc (suc (suc (suc (suc (suc (suc (suc (suc (suc (suc (suc (suc zero))))))))))))) h = refl
 named-reads (suc (suc (suc (suc (suc (suc (suc (suc (suc (suc (suc (suc (suc (suc zero)))))))))))))) h = refl
 named-reads (suc (suc (suc (suc (suc (suc (suc (suc (suc (suc (suc (suc (suc (suc (suc zero))))))))))))))) h = refl
-named-reads (suc (suc (suc (suc (suc (suc (suc (suc (suc (suc (suc (suc (suc (suc (suc (suc n)))))))))))))))) h = absurd (omega arith)
+named-reads (suc (suc (suc (suc (suc (suc (suc (suc (suc (suc (suc (suc (suc (suc (suc (suc n)))))))))))))))) h =
+    absurd (omega arith)
 
 plain-reads : read (issued_header zero) ≡ Some (header_data zero)
 unfolding serde_json_on_literals header_data

@@ -17,5 +17,6 @@ module _ {L : Type 0} (takes : L → List ℕ → L → Type 0) where
   escaped_both before between after first second = record {
     texts = first.texts ++ second.texts;
     taken = subst (λ lines. TakesAll takes lines before after) (sym (map-append escaped first.texts second.texts))
-        (takes_both takes (map escaped first.texts) (map escaped second.texts) before between after first.taken second.taken);
+        (takes_both takes (map escaped first.texts)
+        (map escaped second.texts) before between after first.taken second.taken);
   }

@@ -1,5 +1,6 @@
 -- Lemmas on what is handed on, a line at a time.
-use Rattle.std.proofs.Common.{◌≡◌, ℕ, zero, suc, ◌+◌, ◌-◌, ◌≤◌, ◌<◌, List, [], ◌∷◌, ◌++◌, length, get_or, Result, Ok, Err, refl, sym, ap, ◌∙◌, subst, arith}
+use Rattle.std.proofs.Common.{◌≡◌, ℕ, zero, suc, ◌+◌, ◌-◌, ◌≤◌, ◌<◌, List, [], ◌∷◌, ◌++◌, length, get_or, Result, Ok}
+use Rattle.std.proofs.Common.{Err, refl, sym, ap, ◌∙◌, subst, arith}
 use Rattle.std.specs.Prelude.{OnOk, take}
 use Rattle.std.specs.List.{flat_map, range_with_len}
 use Rattle.std.proofs.lemmas.List.{append-nil, append_assoc}
@@ -87,7 +88,8 @@ module _ {L : Type 0} (takes : L → List ℕ → L → Type 0) where
     told = first.told ++ second.told;
     untold = second.untold;
     both = append_assoc first.told second.told second.untold ∙ ap (λ rest. first.told ++ rest) second.both
-        ∙ ap (λ front. front ++ more) (sym (append-nil first.told) ∙ ap (λ rest. first.told ++ rest) (sym first.all) ∙ first.both);
+        ∙ ap (λ front. front ++ more) (sym (append-nil first.told) ∙ ap (λ rest. first.told ++ rest) (sym first.all)
+        ∙ first.both);
     all = second.all;
     taken = takes_both first.told second.told before between after first.taken second.taken;
   }
@@ -199,14 +201,16 @@ module _ {L : Type 0} (takes : L → List ℕ → L → Type 0) where
         → IsToldTo f first more old new before after
     told_next f first count n more x old mid new before between after next one so_far looks told = (
       looks_twice meaning 0 x 0 old mid new so_far.0 looks,
-      told_then 0 (Ok 0) old mid new before between after (λ c. flat_map (f c) (range_with_len first count)) (λ c. f c n)
+      told_then 0 (Ok 0) old mid new before between after (λ c. flat_map (f c) (range_with_len first count))
+          (λ c. f c n)
           (λ c. flat_map (f c) (range_with_len first more)) (λ c. rw (one, next) (one_number_more (f c) first count))
           so_far.0 looks.was_open so_far.1
           (told_as x 0 mid new between after (λ c. f c n) (λ c. f c n) (λ c well h. refl) told),
     )
 
     -- a fault at a number
-    pub told_fault : {X Y : Type 0} (result : Result Y ViewFault) (f : Content → ℕ → List (List ℕ)) (first count n most : ℕ) (e other : ViewFault)
+    pub told_fault : {X Y : Type 0} (result : Result Y ViewFault) (f : Content → ℕ → List (List ℕ))
+        (first count n most : ℕ) (e other : ViewFault)
         (old mid new : T) (before between after : L) → result ≡ Err other → n ≡ first + count → count < most
         → IsToldTo f first count old mid before between → Looks meaning {X = X} {E = ViewFault} (Err e) mid new
         → Tells takes {X = X} {E = ViewFault} meaning (Err e) mid new between after (λ c. f c n)

@@ -12,7 +12,8 @@ use Rattle.acvp_tables.specs.declared.tables.StoreFault.{StoreFault}
 use Rattle.acvp_tables.specs.declared.tables.StoreFault.TheVariants.{Memory}
 
 module _ {S : Type 0} (g : Ghosts S) (a b : Held S)
-    (settled : (db : Trees) → IsTrue (state g a).is_open → (state g a).may_leave db → db ≡ (state g a).committed.trees) where
+    (settled : (db : Trees) → IsTrue (state g a).is_open → (state g a).may_leave db
+    → db ≡ (state g a).committed.trees) where
   pub read_looks : {X Y E F : Type 0} (r : Result X E) (s : Result Y F)
       → OnOk s (is_clean g b → IsTrue (state g a).is_open → IsTrue (state g b).is_open)
       → IsRead r (state g a) (state g b) → Looks (meaning_of g) s a b

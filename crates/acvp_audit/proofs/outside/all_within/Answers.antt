@@ -23,5 +23,7 @@ returns-in-Ok-clause-first g c = λ live.
     (λ fault told layout schema inside t number is.
     let within = c.in-Ok.ensures.within live_mid layout schema inside in
     later_behind layout old.now.trees within.0 within.1 within.2 t
-    (earlier old mid (λ layout trees. (t : Table) (number : ℤ) → fault ≡ Wrong (Outside t number) → IsBehind table.Object table.Request table.Reviewer t layout trees) now_mid told layout schema inside t number is))
+    (earlier old mid (λ layout trees. (t : Table) (number : ℤ) → fault ≡ Wrong (Outside t number)
+    → IsBehind table.Object table.Request table.Reviewer t layout trees) now_mid told layout schema inside t number
+    is))
     (c.are_within-in-Ok.ensures.before live)

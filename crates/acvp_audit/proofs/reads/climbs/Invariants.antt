@@ -5,4 +5,5 @@ use Rattle.acvp_audit.proofs.reads.climbs.Given as goal
 
 abbrev pub invariant-loop-row : goal.invariant-loop-row
 invariant-loop-row l =
-    climbs l.before (map (λ row. row.number) (objects_in l.kind (drop l.row-index l.objects))) ≡ kind_climbs l.objects l.kind
+    climbs l.before (map (λ row. row.number) (objects_in l.kind (drop l.row-index l.objects)))
+    ≡ kind_climbs l.objects l.kind

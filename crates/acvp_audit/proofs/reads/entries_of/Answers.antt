@@ -20,6 +20,13 @@ returns-clause-rows g c = λ opened layout schema inside.
     let reviewers = of_found _ _ _ c.in_ok-reviewers.ensures.same (c.reviewers_numbered.ensures.rows opened) in
     record {
       of_kinds = c.in_ok-objects.ensures.rows open_one layout schema inside;
-      request_range = earlier old one (λ layout trees. IsRange HoldsRequests request_key (first_number u) (last_number u) (trees request_tree) c.in_ok-requests.requests.items) now_one (λ layout schema inside. requests inside.requests inside.full_requests) layout schema inside;
-      reviewer_rows = earlier old two (λ layout trees. HoldsReviewers (filter (is_column_between 1 (first_number u) (last_number u)) (trees (reviewer_tree layout))) c.in_ok-reviewers.reviewers.items) (now_two ∙ now_one) (λ layout schema inside. reviewers layout schema inside.reviewers) layout schema inside;
+      request_range = earlier old one
+          (λ layout trees. IsRange HoldsRequests request_key (first_number u) (last_number u)
+          (trees request_tree) c.in_ok-requests.requests.items) now_one
+          (λ layout schema inside. requests inside.requests inside.full_requests) layout schema inside;
+      reviewer_rows = earlier old two
+          (λ layout trees. HoldsReviewers
+          (filter (is_column_between 1 (first_number u) (last_number u)) (trees (reviewer_tree layout)))
+          c.in_ok-reviewers.reviewers.items) (now_two ∙ now_one)
+          (λ layout schema inside. reviewers layout schema inside.reviewers) layout schema inside;
     }

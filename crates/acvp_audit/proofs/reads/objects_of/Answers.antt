@@ -24,6 +24,8 @@ returns-clause-rows g c = λ opened.
       environments = environments;
       joined = is;
       of_vendors = c.in_ok-vendors.ensures.rows open_one layout schema inside;
-      of_modules = earlier old one (λ layout trees. AreOfKind 2 trees u modules) now_one (c.in_ok-modules.ensures.rows open_two) layout schema inside;
-      of_environments = earlier old two (λ layout trees. AreOfKind 3 trees u environments) (now_two ∙ now_one) (c.in_ok-environments.ensures.rows opened) layout schema inside;
+      of_modules = earlier old one (λ layout trees. AreOfKind 2 trees u modules) now_one
+          (c.in_ok-modules.ensures.rows open_two) layout schema inside;
+      of_environments = earlier old two (λ layout trees. AreOfKind 3 trees u environments) (now_two ∙ now_one)
+          (c.in_ok-environments.ensures.rows opened) layout schema inside;
     }) c.joined.ensures.rows

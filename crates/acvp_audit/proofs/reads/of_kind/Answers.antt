@@ -5,4 +5,5 @@ use Rattle.acvp_audit.proofs.reads.of_kind.Goals as goal
 
 pub returns-clause-stray : goal.returns-clause-stray
 returns-clause-stray g c = λ live.
-    stray_objects (kind_number c.args.kind) c.args.account (state g.S.Store c.args.tables.now) c.objects_numbered.result (c.objects_numbered.ensures.stray live) c.read_of.result c.read_of.ensures.stray
+    stray_objects (kind_number c.args.kind) c.args.account (state g.S.Store c.args.tables.now) c.objects_numbered.result
+    (c.objects_numbered.ensures.stray live) c.read_of.result c.read_of.ensures.stray

@@ -16,7 +16,10 @@ returns-clause-rows g c = λ live layout schema inside.
     let now_one = c.in_ok-tests.ensures.read.stays.now live_one in
     record {
       tests = c.in_ok-tests.ensures.rows live_one layout schema inside;
-      entries = earlier old one (λ layout trees. AreEntries layout trees c.args.account it.objects.items it.requests.items it.reviewers.items) now_one (c.in_ok-entries.ensures.rows live) layout schema inside;
-      in_order = λ kind. climbing (λ row. row.number) (objects_in kind it.objects.items) None (rw c.deref.ensures.value at (c.all_climb.ensures (grind (arith, nat_tests, c.if-not-all_climb.false))) kind);
+      entries = earlier old one
+          (λ layout trees. AreEntries layout trees c.args.account it.objects.items it.requests.items it.reviewers.items)
+          now_one (c.in_ok-entries.ensures.rows live) layout schema inside;
+      in_order = λ kind. climbing (λ row. row.number) (objects_in kind it.objects.items) None
+          (rw c.deref.ensures.value at (c.all_climb.ensures (grind (arith, nat_tests, c.if-not-all_climb.false))) kind);
       registrable = rw c.deref-2.ensures.value at c.are_registrable.ensures;
     }

@@ -21,6 +21,12 @@ returns-clause-rows g c = λ opened layout schema inside.
     let sets = of_found _ _ _ c.in_ok-sets.ensures.same (c.sets_numbered.ensures.rows opened) in
     record {
       account_range = accounts inside.accounts inside.full_accounts;
-      session_range = earlier old one (λ layout trees. IsRange HoldsSessions session_key (first_number u) (last_number u) (trees session_tree) c.in_ok-sessions.sessions.items) now_one (λ layout schema inside. sessions inside.sessions) layout schema inside;
-      set_range = earlier old two (λ layout trees. IsRange KeepsSets set_number (first_set u) (last_set u) (trees (set_tree layout)) c.in_ok-sets.sets.items) (now_two ∙ now_one) (λ layout schema inside. sets layout schema inside.sets) layout schema inside;
+      session_range = earlier old one
+          (λ layout trees. IsRange HoldsSessions session_key (first_number u) (last_number u)
+          (trees session_tree) c.in_ok-sessions.sessions.items) now_one
+          (λ layout schema inside. sessions inside.sessions) layout schema inside;
+      set_range = earlier old two
+          (λ layout trees. IsRange KeepsSets set_number (first_set u) (last_set u)
+          (trees (set_tree layout)) c.in_ok-sets.sets.items) (now_two ∙ now_one)
+          (λ layout schema inside. sets layout schema inside.sets) layout schema inside;
     }

@@ -8,6 +8,7 @@ use Rattle.acvp_commands.proofs.files.secret_in.Goals as goal
 pub returns-in-Ok : goal.returns-in-Ok
 returns-in-Ok g c =
     rw c.ok_or.ensures.value
-    (given_or (g.F.TextFiles.holds c.args.files.now c.args.path.now) (IsUnread (g.F.TextFiles.fails c.args.files.now) c.args.path.now fault.Secret)
+    (given_or (g.F.TextFiles.holds c.args.files.now c.args.path.now)
+    (IsUnread (g.F.TextFiles.fails c.args.files.now) c.args.path.now fault.Secret)
     c.in-Ok.text.items c.bytes_of.result fault.Secret IsLine (λ text. (bytes : List ℕ) → IsLine text bytes → ⊥)
     c.in-Ok.ensures (rw c.deref.ensures.value at c.bytes_of.ensures))

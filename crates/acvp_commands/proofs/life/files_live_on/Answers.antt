@@ -24,5 +24,7 @@ returns-clause-takes_up g c = λ seeds content tables up kept stood. record {
 
 pub returns-clause-goes_on : goal.returns-clause-goes_on
 returns-clause-goes_on g c = λ first runs run seeds opened last next lived adds went resumes.
-    ∥∥₁_elim lived squash₁ (λ it. one_more c.records_are_kept.ensures.request c.records_are_kept.ensures.order c.records_outlast_keys.ensures.kept c.turns_leave.ensures
+    ∥∥₁_elim lived squash₁ (λ it.
+    one_more c.records_are_kept.ensures.request c.records_are_kept.ensures.order c.records_outlast_keys.ensures.kept
+    c.turns_leave.ensures
     first runs run seeds opened last next it adds went resumes)

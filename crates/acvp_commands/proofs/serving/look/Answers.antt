@@ -10,5 +10,9 @@ pub returns-in_default : goal.returns-in_default
 returns-in_default g c =
     let (unavailable, handled) = c.handle_order.ensures.turn in record {
       keys = c.handle_order.ensures.keys;
-      looked = (record { unavailable = unavailable; reply = c.handle_order.result }, handled, c.in_default.not-Unavailable);
+      looked = (
+        record { unavailable = unavailable; reply = c.handle_order.result },
+        handled,
+        c.in_default.not-Unavailable,
+      );
     }

@@ -32,7 +32,16 @@ returns-in-Some-clause-turn g c =
         answers = answer ∷ [];
       },
       refl,
-      inl (c.in-Some.moment, c.in-Some.order, c.handle_order-reply.result, unavailable, written, c.outcome_of.ensures, (refl, refl)),
+      inl (
+        c.in-Some.moment,
+        c.in-Some.order,
+        c.handle_order-reply.result,
+        unavailable,
+        written,
+        c.outcome_of.ensures,
+        (refl, refl),
+      ),
       (c.handle_order-reply.new.desk.tables, handled, refl),
-      All-cons (λ (turn : Turn). CanHappen turn.event) turn [] happens (All-nil (λ (turn : Turn). CanHappen turn.event)),
+      All-cons (λ (turn : Turn). CanHappen turn.event) turn [] happens
+          (All-nil (λ (turn : Turn). CanHappen turn.event)),
     )

@@ -26,5 +26,9 @@ returns-in-Err-clause-next g c =
 
 pub returns-else-served-clause-next : goal.returns-else-served-clause-next
 returns-else-served-clause-next g c =
-    let (came, is, serves) = c.in_ok-served.ensures.next in
-    (record { came = came; look = None }, is, tt, (c.serve_arrival.new.desk.tables, rw c.if-served.false at serves, refl))
+    let (came, is, serves) = c.in_ok-served.ensures.next in (
+      record { came = came; look = None },
+      is,
+      tt,
+      (c.serve_arrival.new.desk.tables, rw c.if-served.false at serves, refl),
+    )

@@ -4,7 +4,8 @@ use Rattle.acvp_desk.proofs.Allowed.{each_algorithm}
 use Rattle.acvp_desk.proofs.algorithm.draft_algorithm.Goals as goal
 
 pub returns-in_default-clause-denied : goal.returns-in_default-clause-denied
-returns-in_default-clause-denied c = absurd (each_algorithm c.args.number c.requires (sym c.algorithm_at.ensures ∙ c.in_default.is))
+returns-in_default-clause-denied c =
+    absurd (each_algorithm c.args.number c.requires (sym c.algorithm_at.ensures ∙ c.in_default.is))
 
 pub returns-clause-reply : goal.returns-clause-reply
 unfolding reply_data

@@ -10,5 +10,6 @@ pub returns-in-Err-clause-err : goal.returns-in-Err-clause-err
 returns-in-Err-clause-err c =
     let object = view c.args.object.now in
     c.renamed_conditions.ensures rule_of (certify_body_conditions object)
-    ∙ ap (option_map rule_of) (broken (certify_body_conditions object) (certify_body_of object) c.in-Err.fault c.in-Err.ensures)
+    ∙ ap (option_map rule_of)
+    (broken (certify_body_conditions object) (certify_body_of object) c.in-Err.fault c.in-Err.ensures)
     ∙ ap Some (sym c.rule_of.ensures)

@@ -10,4 +10,5 @@ use Rattle.acvp_desk.proofs.body.reviewer_body.Goals as goal
 pub returns-in-Err-clause-err : goal.returns-in-Err-clause-err
 returns-in-Err-clause-err c =
     denied_first (map (with_fault rule_of) (envelope_conditions c.args.body.now))
-    (map (with_fault rule_of) (object_conditions reviewer_body_conditions (object_of c.args.body.now))) rule.Unavailable c.in-Err.rule c.in-Err.ensures.err
+    (map (with_fault rule_of) (object_conditions reviewer_body_conditions (object_of c.args.body.now))) rule.Unavailable
+    c.in-Err.rule c.in-Err.ensures.err

@@ -11,7 +11,8 @@ returns-in-Some-clause-found g c =
     λ live seeds content kept h.
     let facts = c.in_ok-facts.ensures.found live seeds content kept (h.0, ap (λ (rows : SetRows). rows.session) h.1) in
     c.set_facts_from.ensures
-    ∙ facts_stand c.selections_follow.ensures.set content c.args.session c.args.number (session_facts seeds (state_of content) c.args.session) c.in-Some.facts
+    ∙ facts_stand c.selections_follow.ensures.set content c.args.session c.args.number
+    (session_facts seeds (state_of content) c.args.session) c.in-Some.facts
     c.args.rows.now.set (sym c.in-Some.is ∙ facts) (ap (λ (rows : SetRows). rows.set) h.1)
 
 pub returns-in-None-clause-found : goal.returns-in-None-clause-found

@@ -7,5 +7,6 @@ use Rattle.acvp_desk.proofs.find.set_facts.Goals as goal
 
 pub returns-then-number-session-clause-found : goal.returns-then-number-session-clause-found
 returns-then-number-session-clause-found g c =
-    λ live seeds content kept h. no_set_elsewhere c.numbers_name.ensures.set (session_facts seeds (state_of content) c.args.session) c.args.session c.args.number
+    λ live seeds content kept h. no_set_elsewhere c.numbers_name.ensures.set
+    (session_facts seeds (state_of content) c.args.session) c.args.session c.args.number
     (state_of content) kept.sound (grind (arith, nat_tests, c.if-number-session.true))

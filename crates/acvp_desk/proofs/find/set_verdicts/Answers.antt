@@ -4,7 +4,8 @@ use Rattle.acvp_desk.proofs.find.set_verdicts.Goals as goal
 
 pub returns-in-Some-clause-found : goal.returns-in-Some-clause-found
 returns-in-Some-clause-found g c =
-    λ live seeds content kept h. verdicts_found c.selections_follow.ensures.set seeds content c.args.number (Some c.in-Some.verdicts.items) kept
+    λ live seeds content kept h. verdicts_found c.selections_follow.ensures.set seeds content c.args.number
+    (Some c.in-Some.verdicts.items) kept
     (rw (c.in-Some.is) at (c.in_ok-verdicts.ensures.found live content kept.sound h))
 
 pub returns-in-None-clause-found : goal.returns-in-None-clause-found

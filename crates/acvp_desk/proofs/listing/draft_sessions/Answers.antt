@@ -3,4 +3,5 @@ use Rattle.acvp_desk.proofs.listing.draft_sessions.Goals as goal
 
 pub returns-clause-reply : goal.returns-clause-reply
 unfolding reply_data
-returns-clause-reply c = rw (c.in-Some.is, ← c.found.view_is) (rw (c.deref-2.ensures.value, c.in-Ok.ensures.shown, c.deref.ensures.value) at c.told.ensures.reply)
+returns-clause-reply c = rw (c.in-Some.is, ← c.found.view_is)
+    (rw (c.deref-2.ensures.value, c.in-Ok.ensures.shown, c.deref.ensures.value) at c.told.ensures.reply)

@@ -12,4 +12,8 @@ returns-in-Err-clause-denied c =
     ((nat_lt c.args.sessions 999999, rule.AccountFull) ∷ []) rule.Unavailable c.in-Err.rule c.in-Err.ensures.err
 
 pub returns-clause-reply : goal.returns-clause-reply
-returns-clause-reply c = rw (c.newest_epoch.ensures, c.in-Ok.ensures.ok.1, ← c.next_number.ensures) c.told_session.ensures.reply
+returns-clause-reply c = rw (
+  c.newest_epoch.ensures,
+  c.in-Ok.ensures.ok.1,
+  ← c.next_number.ensures,
+) c.told_session.ensures.reply

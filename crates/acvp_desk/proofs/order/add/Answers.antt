@@ -13,12 +13,23 @@ returns-in-Ok-Some g c =
     (λ live content sound h. taken c.args.account c.args.secret c.in-Ok-Some.field-0-0 content
     (sym c.in-Ok-Some.field-0-is ∙ c.in-Ok-Some.ensures.found live content sound h)) in
     let reads = c.in-Ok-Some.ensures.reads in
-    record { was_open = reads.was_open; was_clean = reads.was_clean; answered = alone.0; settled = alone.1; same = reads.same; stays_open = reads.stays_open; kept = reads.kept; shut = λ clean off. reads.kept clean }
+    record {
+      was_open = reads.was_open;
+      was_clean = reads.was_clean;
+      answered = alone.0;
+      settled = alone.1;
+      same =
+          reads.same;
+      stays_open = reads.stays_open;
+      kept = reads.kept;
+      shut = λ clean off. reads.kept clean;
+    }
 
 pub returns-in-Ok : goal.returns-in-Ok
 returns-in-Ok g c =
     carried_out g.T.Tables.faults g.T.Tables.meaning
-    (order.AddAccount c.args.account c.args.secret) c.in-Ok-None.field-0 c.args.tables.now c.account.new.self c.order.new.self
+    (order.AddAccount c.args.account c.args.secret) c.in-Ok-None.field-0 c.args.tables.now c.account.new.self
+    c.order.new.self
     (add_account (record { account = c.args.account; secret = c.args.secret })) c.in-Ok-None.ensures.reads None
     (λ live content sound h. added c.args.account c.args.secret content
     (sym c.in-Ok-None.field-0-is ∙ c.in-Ok-None.ensures.found live content sound h)) _ c.in-Ok.ensures
@@ -26,7 +37,8 @@ returns-in-Ok g c =
 pub returns-in-Err-order : goal.returns-in-Err-order
 returns-in-Err-order g c =
     failed g.T.Tables.faults g.T.Tables.meaning
-    (order.AddAccount c.args.account c.args.secret) c.in-Ok-None.field-0 c.args.tables.now c.account.new.self c.order.new.self
+    (order.AddAccount c.args.account c.args.secret) c.in-Ok-None.field-0 c.args.tables.now c.account.new.self
+    c.order.new.self
     (add_account (record { account = c.args.account; secret = c.args.secret })) c.in-Ok-None.ensures.reads None
     (λ live content sound h. added c.args.account c.args.secret content
     (sym c.in-Ok-None.field-0-is ∙ c.in-Ok-None.ensures.found live content sound h)) _ c.in-Err-order.ensures

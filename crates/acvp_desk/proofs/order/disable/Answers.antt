@@ -13,7 +13,17 @@ returns-in-Ok-None g c =
     (λ live content sound h. unknown c.args.account content
     (sym c.in-Ok-None.field-0-is ∙ c.in-Ok-None.ensures.found live content sound h)) in
     let reads = c.in-Ok-None.ensures.reads in
-    record { was_open = reads.was_open; was_clean = reads.was_clean; answered = alone.0; settled = alone.1; same = reads.same; stays_open = reads.stays_open; kept = reads.kept; shut = λ clean off. reads.kept clean }
+    record {
+      was_open = reads.was_open;
+      was_clean = reads.was_clean;
+      answered = alone.0;
+      settled = alone.1;
+      same =
+          reads.same;
+      stays_open = reads.stays_open;
+      kept = reads.kept;
+      shut = λ clean off. reads.kept clean;
+    }
 
 pub returns-in-Ok : goal.returns-in-Ok
 returns-in-Ok g c =

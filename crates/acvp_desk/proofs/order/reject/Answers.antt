@@ -10,8 +10,19 @@ returns-in-Ok-None g c =
     let reads = c.in-Ok-None.ensures.reads in
     let alone = left_alone g.T.Tables.faults g.T.Tables.meaning
     (order.RejectRequest c.args.number) c.in-Ok-None.field-0 c.args.tables.now c.request.new.self Unknown reads
-    (λ live content sound h. none_rejected c.args.number content (sym c.in-Ok-None.field-0-is ∙ c.in-Ok-None.ensures.found live content sound h)) in
-    record { was_open = reads.was_open; was_clean = reads.was_clean; answered = alone.0; settled = alone.1; same = reads.same; stays_open = reads.stays_open; kept = reads.kept; shut = λ clean off. reads.kept clean }
+    (λ live content sound h. none_rejected c.args.number content
+    (sym c.in-Ok-None.field-0-is ∙ c.in-Ok-None.ensures.found live content sound h)) in
+    record {
+      was_open = reads.was_open;
+      was_clean = reads.was_clean;
+      answered = alone.0;
+      settled = alone.1;
+      same =
+          reads.same;
+      stays_open = reads.stays_open;
+      kept = reads.kept;
+      shut = λ clean off. reads.kept clean;
+    }
 
 pub returns-then-not-is_initial : goal.returns-then-not-is_initial
 returns-then-not-is_initial g c =
@@ -19,8 +30,19 @@ returns-then-not-is_initial g c =
     let alone = left_alone g.T.Tables.faults g.T.Tables.meaning
     (order.RejectRequest c.args.number) c.in-Ok-Some.field-0 c.args.tables.now c.request.new.self NotInitial reads
     (λ live content sound h. rejected_by c.args.number c.in-Ok-Some.request false content
-    (sym c.in-Ok-Some.field-0-is ∙ c.in-Ok-Some.ensures.found live content sound h) (sym c.if-not-is_initial.ensures)) in
-    record { was_open = reads.was_open; was_clean = reads.was_clean; answered = alone.0; settled = alone.1; same = reads.same; stays_open = reads.stays_open; kept = reads.kept; shut = λ clean off. reads.kept clean }
+    (sym c.in-Ok-Some.field-0-is ∙ c.in-Ok-Some.ensures.found live content sound h)
+    (sym c.if-not-is_initial.ensures)) in
+    record {
+      was_open = reads.was_open;
+      was_clean = reads.was_clean;
+      answered = alone.0;
+      settled = alone.1;
+      same =
+          reads.same;
+      stays_open = reads.stays_open;
+      kept = reads.kept;
+      shut = λ clean off. reads.kept clean;
+    }
 
 pub returns-in-Ok : goal.returns-in-Ok
 returns-in-Ok g c =
@@ -28,7 +50,8 @@ returns-in-Ok g c =
     (order.RejectRequest c.args.number) c.in-Ok-Some.field-0 c.args.tables.now c.request.new.self c.order.new.self
     (Reject c.args.number) c.in-Ok-Some.ensures.reads None
     (λ live content sound h. rejected_by c.args.number c.in-Ok-Some.request true content
-    (sym c.in-Ok-Some.field-0-is ∙ c.in-Ok-Some.ensures.found live content sound h) (sym c.if-not-is_initial.ensures)) _ c.in-Ok.ensures
+    (sym c.in-Ok-Some.field-0-is ∙ c.in-Ok-Some.ensures.found live content sound h) (sym c.if-not-is_initial.ensures)) _
+    c.in-Ok.ensures
 
 pub returns-in-Err-order : goal.returns-in-Err-order
 returns-in-Err-order g c =
@@ -36,4 +59,5 @@ returns-in-Err-order g c =
     (order.RejectRequest c.args.number) c.in-Ok-Some.field-0 c.args.tables.now c.request.new.self c.order.new.self
     (Reject c.args.number) c.in-Ok-Some.ensures.reads None
     (λ live content sound h. rejected_by c.args.number c.in-Ok-Some.request true content
-    (sym c.in-Ok-Some.field-0-is ∙ c.in-Ok-Some.ensures.found live content sound h) (sym c.if-not-is_initial.ensures)) _ c.in-Err-order.ensures
+    (sym c.in-Ok-Some.field-0-is ∙ c.in-Ok-Some.ensures.found live content sound h) (sym c.if-not-is_initial.ensures)) _
+    c.in-Err-order.ensures

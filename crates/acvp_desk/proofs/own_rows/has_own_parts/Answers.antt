@@ -7,7 +7,8 @@ returns-then-has_module-clause-found g c =
     rw (
       ← c.in_ok-has_module.ensures.found up seeds content kept h,
       c.if-has_module.true,
-      ← c.in_ok-has_environment.ensures.found live seeds content kept (c.in_ok-has_module.ensures.looks.same up content h),
+      ← c.in_ok-has_environment.ensures.found live seeds content kept
+          (c.in_ok-has_module.ensures.looks.same up content h),
     ) refl
 
 pub returns-else-has_module-clause-found : goal.returns-else-has_module-clause-found

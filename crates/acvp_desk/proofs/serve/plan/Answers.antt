@@ -38,6 +38,9 @@ returns-in-Ok-draft_for-clause-held c =
 
 pub returns-in-Ok-draft_for-clause-covers : goal.returns-in-Ok-draft_for-clause-covers
 returns-in-Ok-draft_for-clause-covers c =
-    covered_by c.granted_resources.ensures.own (keys_of c.args.ring.now c.args.cache.now.seeds) c.args.moment c.args.body.now c.args.found c.args.action c.facts_in.result c.in-Ok.grant
-    c.in-Ok-draft_for.draft.change c.requires.fit c.in-Ok-draft_for.ensures.held (sym c.requires.action) c.facts_in.ensures c.in-Ok.ensures.decision c.in-Ok.ensures.grant
+    covered_by c.granted_resources.ensures.own
+    (keys_of c.args.ring.now c.args.cache.now.seeds) c.args.moment c.args.body.now c.args.found c.args.action
+    c.facts_in.result c.in-Ok.grant
+    c.in-Ok-draft_for.draft.change c.requires.fit c.in-Ok-draft_for.ensures.held
+    (sym c.requires.action) c.facts_in.ensures c.in-Ok.ensures.decision c.in-Ok.ensures.grant
     c.in-Ok-draft_for.ensures.change

@@ -9,7 +9,8 @@ returns-clause-small c =
     let value : c.loop-key_bits.shapes.items
     ≡ hmac_shapes c.args.words.now.seed c.args.words.now.vs c.args.algorithm c.args.keys.now c.args.macs.now =
     grind (arith, common_steps) in
-    rw value (small_hmac_shapes c.args.words.now.seed c.args.words.now.vs c.args.algorithm c.args.keys.now c.args.macs.now
+    rw value (small_hmac_shapes c.args.words.now.seed c.args.words.now.vs c.args.algorithm c.args.keys.now
+    c.args.macs.now
     c.requires.keys
     (omega (arith, c.in_ok-key_lengths.ensures.few, ap length c.in_ok-key_lengths.ensures.value))
     (omega (arith, c.in_ok-macs.ensures.few, ap length c.in_ok-macs.ensures.value)))

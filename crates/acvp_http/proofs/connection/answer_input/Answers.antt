@@ -22,9 +22,11 @@ returns-in-Ok-clause-answered g c =
     let handled = rw c.deref.ensures.value at c.answer.ensures in (
       clear,
       answers_early g.T.Tables.meaning c.args.desk.now.keys c.args.moment c.answer.result c.args.desk.now.tables
-          c.answer.new.desk.tables (g.S.Source.stream c.args.reader.now) (g.S.Source.stream c.receive.new.reader) c.in-Ok.field-0.bytes.items
+          c.answer.new.desk.tables (g.S.Source.stream c.args.reader.now)
+          (g.S.Source.stream c.receive.new.reader) c.in-Ok.field-0.bytes.items
           c.in-Some.ensures.0 consumed needed handled.served
-          (shows_handled g.T.Tables.meaning g.met.T.Tables.rests c.args.moment c.in-Ok.field-0.bytes.items c.answer.result
+          (shows_handled g.T.Tables.meaning g.met.T.Tables.rests c.args.moment c.in-Ok.field-0.bytes.items
+          c.answer.result
           c.args.desk.now c.answer.new.desk handled)
           handled.stays_open,
     )

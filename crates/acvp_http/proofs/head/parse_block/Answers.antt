@@ -9,6 +9,7 @@ pub returns-in_err-size : goal.returns-in_err-size
 returns-in_err-size c =
     let few : nat_lt 64 (line_count c.args.block.now - 2) ≡ false = grind (arith, nat_tests) in
     let (head, at) = c.in-Some.ensures in
-    let told = rw (c.of-method.ensures, at.parts.method, at.parts.version, at.parts.fields) at (sym c.body_size.ensures ∙ c.in_err-size.was) in
+    let told = rw (c.of-method.ensures, at.parts.method, at.parts.version, at.parts.fields) at (sym c.body_size.ensures
+    ∙ c.in_err-size.was) in
     let p = err_from_is_err_and c.from_residual.result c.from_residual.ensures.1 in
     rw (p.1, p.2, few) (inr (head, at.reads, told))

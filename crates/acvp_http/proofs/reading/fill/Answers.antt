@@ -14,7 +14,8 @@ loop-filled-preserved g c =
       low = filled_low c.loop-filled.filled
           (length c.loop-filled.buf - c.loop-filled.filled) c.in_ok-count.count c.loop-filled.buf c.read_some.new.buf
           c.loop-filled.invariant.low read.0;
-      consumed = rw more (consumes_consumes (g.S.Source.stream c.args.reader.now).held (g.S.Source.stream c.loop-filled.reader).held
+      consumed = rw more (consumes_consumes (g.S.Source.stream c.args.reader.now).held
+          (g.S.Source.stream c.loop-filled.reader).held
           (g.S.Source.stream c.read_some.new.reader).held (take c.loop-filled.filled c.loop-filled.buf)
           (take c.in_ok-count.count c.read_some.new.buf) c.loop-filled.invariant.consumed read.2);
     }

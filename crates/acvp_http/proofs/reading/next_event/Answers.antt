@@ -44,7 +44,9 @@ returns-in_ok-bytes-in-Some-Request g c =
         request_written c.in-Some-Request.moment c.in-Some-Request.length bytes text
             (omega (arith, c.in_ok-bytes-in-Some-Request.bytes.ok.0, read.1))
             (rw c.in-Some-Request.field-0-is at c.in-Some-Request.ensures),
-        consumes_consumes (g.S.Source.stream c.args.reader.now).held (g.S.Source.stream c.read_whole_line.new.reader).held
-            (g.S.Source.stream c.read_request_bytes.new.reader).held (text ++ 10 ∷ []) (bytes ++ 10 ∷ []) line.1.2 read.2,
+        consumes_consumes (g.S.Source.stream c.args.reader.now).held
+            (g.S.Source.stream c.read_whole_line.new.reader).held
+            (g.S.Source.stream c.read_request_bytes.new.reader).held (text ++ 10 ∷ [])
+            (bytes ++ 10 ∷ []) line.1.2 read.2,
       ),
     )

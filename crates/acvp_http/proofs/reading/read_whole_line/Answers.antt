@@ -30,7 +30,8 @@ loop-count-preserved g c =
     take_more_set c.loop-count.line c.loop-count.count c.in-Some.byte (omega arith) in
     record {
       clear = byte.0;
-      consumed = rw more (consumes_consumes (g.S.Source.stream c.args.reader.now).held (g.S.Source.stream c.loop-count.reader).held
+      consumed = rw more (consumes_consumes (g.S.Source.stream c.args.reader.now).held
+          (g.S.Source.stream c.loop-count.reader).held
           (g.S.Source.stream c.read_byte.new.reader).held (take c.loop-count.count c.loop-count.line) (c.in-Some.byte
           ∷ []) c.loop-count.invariant.consumed byte.1);
       lacks = rw more (lacks_append 10 (take c.loop-count.count c.loop-count.line) (c.in-Some.byte

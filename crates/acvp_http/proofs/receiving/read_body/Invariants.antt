@@ -6,5 +6,6 @@ abbrev pub invariant-loop : goal.invariant-loop
 invariant-loop g l = record {
   clear : (g.S.Source.stream l.reader).failed ≡ false;
   taken : (part : List ℕ) × (l.bytes.items ≡ l.fn.bytes.items ++ part)
-      × Consumes (g.S.Source.stream l.fn.reader).held (g.S.Source.stream l.reader).held part × (length part ≡ l.counter);
+      × Consumes (g.S.Source.stream l.fn.reader).held (g.S.Source.stream l.reader).held part
+      × (length part ≡ l.counter);
 }

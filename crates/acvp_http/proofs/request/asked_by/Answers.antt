@@ -7,20 +7,35 @@ returns-then-head-rest c = asks_short c.args.block.now c.args.rest.now c.args.he
 
 pub returns-in_default : goal.returns-in_default
 returns-in_default c =
-    asks_named c.args.block.now c.args.rest.now c.path_and_query.result.0.now c.args.head.now None _ c.requires (omega arith)
+    asks_named c.args.block.now c.args.rest.now c.path_and_query.result.0.now c.args.head.now None _ c.requires
+    (omega arith)
     (rw c.of.ensures at c.path_and_query.ensures.path) c.in_default.ensures refl
 
 pub returns-in_default-asked : goal.returns-in_default-asked
 returns-in_default-asked c =
-    let none = rw (c.of-2.ensures, c.requires.at.parts.method, c.path_and_query.ensures.query, c.of.ensures, c.requires.at.parts.path)
+    let none = rw (
+      c.of-2.ensures,
+      c.requires.at.parts.method,
+      c.path_and_query.ensures.query,
+      c.of.ensures,
+      c.requires.at.parts.path,
+    )
     at (sym c.asked.ensures ∙ c.in_default-asked.is) in
-    asks_named c.args.block.now c.args.rest.now c.path_and_query.result.0.now c.args.head.now (Some c.in-Some.path) _ c.requires (omega arith)
+    asks_named c.args.block.now c.args.rest.now c.path_and_query.result.0.now c.args.head.now
+    (Some c.in-Some.path) _ c.requires (omega arith)
     (rw c.of.ensures at c.path_and_query.ensures.path) c.in-Some.ensures (rw none refl)
 
 pub returns : goal.returns
 returns c =
-    let some = rw (c.of-2.ensures, c.requires.at.parts.method, c.path_and_query.ensures.query, c.of.ensures, c.requires.at.parts.path)
+    let some = rw (
+      c.of-2.ensures,
+      c.requires.at.parts.method,
+      c.path_and_query.ensures.query,
+      c.of.ensures,
+      c.requires.at.parts.path,
+    )
     at (sym c.asked.ensures ∙ c.in-Some-asked.is) in
     let token = rw c.requires.at.parts.fields at c.token_of.ensures in
-    asks_named c.args.block.now c.args.rest.now c.path_and_query.result.0.now c.args.head.now (Some c.in-Some.path) _ c.requires (omega arith)
+    asks_named c.args.block.now c.args.rest.now c.path_and_query.result.0.now c.args.head.now
+    (Some c.in-Some.path) _ c.requires (omega arith)
     (rw c.of.ensures at c.path_and_query.ensures.path) c.in-Some.ensures (rw (some, token) refl)

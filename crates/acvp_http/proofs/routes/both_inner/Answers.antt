@@ -5,7 +5,11 @@ use Rattle.acvp_http.proofs.NumberLemmas.{both-inner, both-inner-other}
 use Rattle.acvp_http.proofs.routes.both_inner.Goals as goal
 
 pub returns-in_err-whole : goal.returns-in_err-whole
-returns-in_err-whole c = rw c.from_residual.ensures (both-inner-other c.args.text.now c.args.front.now c.args.middle.now c.args.back.now (strip_suffix_is Decides-eqb c.args.text.now c.args.back.now None c.in_err-whole.ensures.cases))
+returns-in_err-whole c = rw c.from_residual.ensures
+    (both-inner-other c.args.text.now c.args.front.now c.args.middle.now c.args.back.now
+    (strip_suffix_is Decides-eqb c.args.text.now c.args.back.now None c.in_err-whole.ensures.cases))
 
 pub returns : goal.returns
-returns c = both-inner c.args.text.now c.args.front.now c.args.middle.now c.args.back.now c.in_ok-whole.whole.now c.both_last.result (strip_suffix_is Decides-eqb c.args.text.now c.args.back.now (Some c.in_ok-whole.whole) c.in_ok-whole.ensures.cases) c.both_last.ensures
+returns c = both-inner c.args.text.now c.args.front.now c.args.middle.now c.args.back.now c.in_ok-whole.whole.now
+    c.both_last.result (strip_suffix_is Decides-eqb c.args.text.now c.args.back.now
+    (Some c.in_ok-whole.whole) c.in_ok-whole.ensures.cases) c.both_last.ensures

@@ -3,7 +3,8 @@ use Rattle.acvp_http.specs.Private.Reading.{event_of, stopped_by}
 use Rattle.acvp_http.specs.declared.script.ScriptFault.TheVariants.{Write}
 use Rattle.acvp_http.specs.Run.{most_reads, RunsTurns}
 use Rattle.acvp_http.proofs.GrammarLemmas.{no_event_byte, no_event_lacks}
-use Rattle.acvp_http.proofs.RunLemmas.{ran_none, ran_more, in_part, ran_writes, shut_more, under, stopped_at_last, goes_on, can_happen}
+use Rattle.acvp_http.proofs.RunLemmas.{ran_none, ran_more, in_part, ran_writes, shut_more, under, stopped_at_last}
+use Rattle.acvp_http.proofs.RunLemmas.{goes_on, can_happen}
 use Rattle.acvp_http.proofs.running.run_turns.Goals as goal
 
 pub loop-count-init : goal.loop-count-init
@@ -26,8 +27,10 @@ returns-in_err-take_turn-clause-run g c =
     (g.S.Source.stream c.args.reader.now) (g.S.Source.stream c.next_event.new.reader)
     (g.K.Sink.stream c.args.writer.now) (g.K.Sink.stream c.take_turn.new.writer)
     (Err Write) =
-    ran_writes g.T.Tables.meaning c.args.desk.now.keys c.args.desk.now.tables c.loop-count.desk.tables c.take_turn.new.desk.tables
-    (g.S.Source.stream c.args.reader.now) (g.S.Source.stream c.loop-count.reader) (g.S.Source.stream c.next_event.new.reader)
+    ran_writes g.T.Tables.meaning c.args.desk.now.keys c.args.desk.now.tables c.loop-count.desk.tables
+    c.take_turn.new.desk.tables
+    (g.S.Source.stream c.args.reader.now) (g.S.Source.stream c.loop-count.reader)
+    (g.S.Source.stream c.next_event.new.reader)
     (g.K.Sink.stream c.args.writer.now) (g.K.Sink.stream c.loop-count.writer) (g.K.Sink.stream c.take_turn.new.writer)
     (record {
       event = event_of c.in-Some.event;
@@ -35,13 +38,15 @@ returns-in_err-take_turn-clause-run g c =
     }) answer front
     c.loop-count.count
     c.loop-count.invariant.ran (omega arith) written consumed
-    (under g.T.Tables.meaning c.loop-count.desk.keys c.args.desk.now.keys c.loop-count.desk.tables c.take_turn.new.desk.tables _ answer
+    (under g.T.Tables.meaning c.loop-count.desk.keys c.args.desk.now.keys c.loop-count.desk.tables
+    c.take_turn.new.desk.tables _ answer
     c.loop-count.invariant.keys handled) stopped.1 in
     search rules
 
 pub returns-in_err-take_turn-clause-shut : goal.returns-in_err-take_turn-clause-shut
 returns-in_err-take_turn-clause-shut g c =
-    shut_more g.T.Tables.meaning c.args.desk.now.tables c.loop-count.desk.tables c.take_turn.new.desk.tables c.in_err-take_turn.ensures.was_clean
+    shut_more g.T.Tables.meaning c.args.desk.now.tables c.loop-count.desk.tables c.take_turn.new.desk.tables
+    c.in_err-take_turn.ensures.was_clean
     c.loop-count.invariant.was_open c.loop-count.invariant.shut c.in_err-take_turn.ensures.shut
 
 pub loop-count-preserved : goal.loop-count-preserved
@@ -54,9 +59,11 @@ loop-count-preserved g c =
       keys = c.take_turn.ensures.keys ∙ c.loop-count.invariant.keys;
       was_open = λ live. c.loop-count.invariant.was_open (c.take_turn.ensures.was_open live);
       was_clean = λ clean. c.loop-count.invariant.was_clean (c.take_turn.ensures.was_clean clean);
-      shut = shut_more g.T.Tables.meaning c.args.desk.now.tables c.loop-count.desk.tables c.take_turn.new.desk.tables c.take_turn.ensures.was_clean
+      shut = shut_more g.T.Tables.meaning c.args.desk.now.tables c.loop-count.desk.tables c.take_turn.new.desk.tables
+          c.take_turn.ensures.was_clean
           c.loop-count.invariant.was_open c.loop-count.invariant.shut c.take_turn.ensures.shut;
-      ran = ran_more g.T.Tables.meaning c.args.desk.now.keys c.args.desk.now.tables c.loop-count.desk.tables c.take_turn.new.desk.tables
+      ran = ran_more g.T.Tables.meaning c.args.desk.now.keys c.args.desk.now.tables c.loop-count.desk.tables
+          c.take_turn.new.desk.tables
           (g.S.Source.stream c.args.reader.now) (g.S.Source.stream c.loop-count.reader)
           (g.S.Source.stream c.next_event.new.reader) (g.K.Sink.stream c.args.writer.now)
           (g.K.Sink.stream c.loop-count.writer) (g.K.Sink.stream c.take_turn.new.writer)
@@ -64,7 +71,8 @@ loop-count-preserved g c =
             event = event_of c.in-Some.event;
             unavailable = unavailable;
           }) answer front c.loop-count.count c.loop-count.invariant.ran written consumed
-          (under g.T.Tables.meaning c.loop-count.desk.keys c.args.desk.now.keys c.loop-count.desk.tables c.take_turn.new.desk.tables _ answer
+          (under g.T.Tables.meaning c.loop-count.desk.keys c.args.desk.now.keys c.loop-count.desk.tables
+          c.take_turn.new.desk.tables _ answer
           c.loop-count.invariant.keys handled) done.1;
     }
 
@@ -79,7 +87,8 @@ returns-in-Some-2-clause-run g c =
       ran.runs,
       ran.script,
       (
-        in_part (g.S.Source.stream c.args.reader.now) (g.S.Source.stream c.loop-count.reader) (g.S.Source.stream c.read_byte.new.reader)
+        in_part (g.S.Source.stream c.args.reader.now) (g.S.Source.stream c.loop-count.reader)
+            (g.S.Source.stream c.read_byte.new.reader)
             ran.text ran.consumed (c.in-Some-2.field-0 ∷ [], taken, no_event_byte c.in-Some-2.field-0),
         inl (
           omega (arith, ran.size),
@@ -101,11 +110,15 @@ returns-in_err-read_byte-clause-run g c =
     let ran = c.loop-count.invariant.ran in
     let ends : RunsTurns g.T.Tables.meaning c.args.desk.now.keys c.args.desk.now.tables c.loop-count.desk.tables
     (g.S.Source.stream c.args.reader.now) (g.S.Source.stream c.read_byte.new.reader)
-    (g.K.Sink.stream c.args.writer.now) (g.K.Sink.stream c.loop-count.writer) (Err (stopped_by c.in_err-read_byte.field-0.0)) =
-    let stopped = stopped_at_last c.in_err-read_byte.field-0.0 c.saturating_add-limit.result (g.S.Source.stream c.args.reader.now) (g.S.Source.stream c.read_byte.new.reader)
+    (g.K.Sink.stream c.args.writer.now) (g.K.Sink.stream c.loop-count.writer)
+    (Err (stopped_by c.in_err-read_byte.field-0.0)) =
+    let stopped = stopped_at_last c.in_err-read_byte.field-0.0 c.saturating_add-limit.result
+    (g.S.Source.stream c.args.reader.now) (g.S.Source.stream c.read_byte.new.reader)
     (g.K.Sink.stream c.args.writer.now) (g.K.Sink.stream c.loop-count.writer) ran.turns ran.answers ran.text
-    c.in_err-read_byte.ensures.0 (c.saturating_add-limit.ensures ∙ ap (λ n. min (n + most_reads) (2 ^ 64 - 1)) c.reads.ensures)
-    (in_part (g.S.Source.stream c.args.reader.now) (g.S.Source.stream c.loop-count.reader) (g.S.Source.stream c.read_byte.new.reader)
+    c.in_err-read_byte.ensures.0
+    (c.saturating_add-limit.ensures ∙ ap (λ n. min (n + most_reads) (2 ^ 64 - 1)) c.reads.ensures)
+    (in_part (g.S.Source.stream c.args.reader.now) (g.S.Source.stream c.loop-count.reader)
+    (g.S.Source.stream c.read_byte.new.reader)
     ran.text ran.consumed ([], c.in_err-read_byte.ensures.1, no_event_lacks [] tt)) ran.appended in
     (ran.turns, ran.answers, ran.text, ran.runs, ran.script, stopped.0, stopped.1, omega (arith, ran.size)) in
     search rules

@@ -14,7 +14,8 @@ returns-in_err-moment-clause-said c =
 pub returns-in-Order-clause-said : goal.returns-in-Order-clause-said
 returns-in-Order-clause-said c =
     rw c.in_ok-line.ensures
-    (order_written c.in-Order.moment c.in-Order.order c.in_ok-line.line.now (rw c.in-Order.is at c.in_ok-moment.ensures))
+    (order_written c.in-Order.moment c.in-Order.order c.in_ok-line.line.now
+    (rw c.in-Order.is at c.in_ok-moment.ensures))
 
 pub returns-in-Request-clause-said : goal.returns-in-Request-clause-said
 returns-in-Request-clause-said c =

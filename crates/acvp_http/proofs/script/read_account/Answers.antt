@@ -1,6 +1,7 @@
 use Rattle.std.proofs.Common.{◌≡◌, arith}
 use Rattle.acvp_http.proofs.LineLemmas.{same_number}
-use Rattle.acvp_http.proofs.script.read_account.Goals.{then-account-lt1-via-then-account-lt1, then-account-lt1-via-else-account-lt1+then-account-gt-GREATEST_ACCOUNT}
+use Rattle.acvp_http.proofs.script.read_account.Goals.{then-account-lt1-via-then-account-lt1}
+use Rattle.acvp_http.proofs.script.read_account.Goals.{then-account-lt1-via-else-account-lt1+then-account-gt-GREATEST_ACCOUNT}
 use Rattle.acvp_http.proofs.script.read_account.Goals as goal
 
 pub returns-then-account-lt1 : goal.returns-then-account-lt1

@@ -5,7 +5,8 @@ use Rattle.acvp_http.proofs.serve.handle_bytes.Goals as goal
 
 pub returns-in-Some-clause-apart : goal.returns-in-Some-clause-apart
 returns-in-Some-clause-apart g c =
-    taken_apart g.T.Tables.meaning c.request_isolation.ensures c.args.desk.now.keys c.args.moment c.args.bytes.now c.answer.result
+    taken_apart g.T.Tables.meaning c.request_isolation.ensures c.args.desk.now.keys c.args.moment c.args.bytes.now
+    c.answer.result
     c.args.desk.now.tables c.answer.new.desk.tables c.answer.ensures.served
 
 pub returns-in-None-clause-handled : goal.returns-in-None-clause-handled
@@ -16,6 +17,8 @@ returns-in-None-clause-handled g c =
 pub returns-in-None-clause-apart : goal.returns-in-None-clause-apart
 returns-in-None-clause-apart g c =
     let handled = handled_at_once g.T.Tables.meaning g.met.T.Tables.rests c.args.moment c.args.bytes.now c.args.desk.now
-    c.refusal.result (refused_late c.args.moment c.args.bytes.now c.refusal.result c.in-None.ensures c.refusal.ensures) in
-    taken_apart g.T.Tables.meaning c.request_isolation.ensures c.args.desk.now.keys c.args.moment c.args.bytes.now c.refusal.result
+    c.refusal.result (refused_late c.args.moment c.args.bytes.now c.refusal.result c.in-None.ensures
+    c.refusal.ensures) in
+    taken_apart g.T.Tables.meaning c.request_isolation.ensures c.args.desk.now.keys c.args.moment c.args.bytes.now
+    c.refusal.result
     c.args.desk.now.tables c.args.desk.now.tables handled.served

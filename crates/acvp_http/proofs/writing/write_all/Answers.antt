@@ -36,7 +36,8 @@ loop-written-preserved g c =
 
 pub returns-in-Err : goal.returns-in-Err
 returns-in-Err g c = (
-  flag_err (g.K.Sink.stream c.loop-written.writer).failed (g.K.Sink.stream c.write.new.self).failed c.in-Err.ensures.flag,
+  flag_err (g.K.Sink.stream c.loop-written.writer).failed
+      (g.K.Sink.stream c.write.new.self).failed c.in-Err.ensures.flag,
   stopped_after (g.K.Sink.stream c.args.writer.now) (g.K.Sink.stream c.loop-written.writer)
       (g.K.Sink.stream c.write.new.self) c.args.bytes.now c.loop-written.written c.loop-written.invariant.appended
       c.in-Err.ensures.bytes,

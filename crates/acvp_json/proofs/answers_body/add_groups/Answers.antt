@@ -15,7 +15,8 @@ returns-in_err-add_group c =
     (map (λ g. g.items) (drop (c.loop-group.group-index + 1) c.args.groups.now))
     (map (λ g. g.items) (drop c.loop-group.group-index c.args.groups.now))
     (after_all c.args.prompts.now c.args.answers.now (joined (map (λ g. g.items) c.args.groups.now)))
-    c.in_err-add_group.field-0.0 (ap (λ gs. map (λ g. g.items) gs) next) (rw c.deref.ensures.value at c.in_err-add_group.ensures)
+    c.in_err-add_group.field-0.0 (ap (λ gs. map (λ g. g.items) gs) next)
+    (rw c.deref.ensures.value at c.in_err-add_group.ensures)
     c.loop-group.invariant in
     search rules
 
@@ -29,4 +30,5 @@ loop-group-preserved c =
     (map (λ g. g.items) (drop (c.loop-group.group-index + 1) c.args.groups.now))
     (map (λ g. g.items) (drop c.loop-group.group-index c.args.groups.now))
     (after_all c.args.prompts.now c.args.answers.now (joined (map (λ g. g.items) c.args.groups.now)))
-    (ap (λ gs. map (λ g. g.items) gs) next) (rw c.deref.ensures.value at c.in_ok-add_group.ensures) c.loop-group.invariant
+    (ap (λ gs. map (λ g. g.items) gs) next)
+    (rw c.deref.ensures.value at c.in_ok-add_group.ensures) c.loop-group.invariant

@@ -12,7 +12,8 @@ loop-number-preserved c =
     shown-more c.loop-number.values.items c.push.new.self.items c.loop-number.number-iterator c.next.new.self (
       c.in-Some.number,
       map string_bytes c.in-Some.texts.now,
-    ) c.in_ok-answer_value.field-0 _ c.in-Some.ensures.steps c.in_ok-answer_value.ensures c.loop-number.invariant c.in_ok-push.ensures.items
+    ) c.in_ok-answer_value.field-0 _ c.in-Some.ensures.steps c.in_ok-answer_value.ensures c.loop-number.invariant
+    c.in_ok-push.ensures.items
 
 pub returns-clause-value : goal.returns-clause-value
 returns-clause-value c =

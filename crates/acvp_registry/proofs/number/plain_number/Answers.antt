@@ -1,7 +1,8 @@
 use Rattle.std.proofs.Common.{◌≢◌, ◌<◌, length, arith, get_or, None}
 use Rattle.acvp_registry.proofs.NumberLemmas.{leading_zero, plain_is}
 use Rattle.acvp_registry.proofs.PlainLemmas.{plain_of_is}
-use Rattle.acvp_registry.proofs.number.plain_number.Goals.{else-text-gt1-via-then-text-gt1+else-text-eq48, else-text-gt1-via-else-text-gt1}
+use Rattle.acvp_registry.proofs.number.plain_number.Goals.{else-text-gt1-via-then-text-gt1+else-text-eq48}
+use Rattle.acvp_registry.proofs.number.plain_number.Goals.{else-text-gt1-via-else-text-gt1}
 use Rattle.acvp_registry.proofs.number.plain_number.Goals as goal
 
 pub returns-then-text-eq48-clause-written : goal.returns-then-text-eq48-clause-written

@@ -2,8 +2,10 @@ use Rattle.std.proofs.Common.{◌≡◌, true, inr, sym, ◌∙◌, ap}
 use Rattle.serde_json.specs.View.{view}
 use Rattle.serde_json.specs.Data.{Data}
 use Rattle.acvp_registry.specs.Object.{KeptObject, has_fields, is_readable}
-use Rattle.acvp_registry.proofs.ObjectLemmas.{unfit_fields, unfit_readable, unfit_short, unfit_vendor, fit, kept, is_long, is_few}
-use Rattle.acvp_registry.proofs.object.read_object.Goals.{then-not-has_fields-via-then-not-has_fields, then-not-has_fields-via-else-not-has_fields+then-not-is_readable}
+use Rattle.acvp_registry.proofs.ObjectLemmas.{unfit_fields, unfit_readable, unfit_short, unfit_vendor, fit, kept}
+use Rattle.acvp_registry.proofs.ObjectLemmas.{is_long, is_few}
+use Rattle.acvp_registry.proofs.object.read_object.Goals.{then-not-has_fields-via-then-not-has_fields}
+use Rattle.acvp_registry.proofs.object.read_object.Goals.{then-not-has_fields-via-else-not-has_fields+then-not-is_readable}
 use Rattle.acvp_registry.proofs.object.read_object.Goals as goal
 
 pub returns-then-not-has_fields : goal.returns-then-not-has_fields
@@ -51,6 +53,7 @@ returns c =
     let readable : is_readable d ≡ true = sym c.is_readable.ensures ∙ c.if-not-is_readable.false in (
       fit c.args.kind d fields readable
           (is_few d c.in_ok-text.text readable c.in_ok-text.ensures.text
-          (rw c.len.ensures at c.if-len-gt-TEXT_LIMIT.false)) (sym c.names_vendor.ensures ∙ c.if-not-names_vendor.false),
+          (rw c.len.ensures at c.if-len-gt-TEXT_LIMIT.false))
+          (sym c.names_vendor.ensures ∙ c.if-not-names_vendor.false),
       ap (λ (e : Data). let o : KeptObject = record { kind = c.args.kind; value = e } in o) c.in_ok-value.ensures.cases,
     )

@@ -26,4 +26,17 @@ returns-clause-found g c live =
     (IfOk-weaker c.query_all.result _ _
     (λ rows shown d sound held. object_page store.schema.0 c.args.kind c.args.account c.args.offset c.args.limit _ _
     rows.items store.schema.1
-    (rw (c.params-to_sql.ensures, c.params-to_sql-2.ensures, c.params-to_sql-3.ensures, to_z-of_z first, to_z-of_z last, to_z-of_z limit, c.page_of-at.ensures.first, c.page_of-at.ensures.last, c.page_of-at.ensures.limit, c.params-to_sql-4.ensures, c.kind_number.ensures) at shown) d sound held.0 held.1) (c.query_all.ensures.ok clean)))
+    (rw (
+      c.params-to_sql.ensures,
+      c.params-to_sql-2.ensures,
+      c.params-to_sql-3.ensures,
+      to_z-of_z first,
+      to_z-of_z last,
+      to_z-of_z limit,
+      c.page_of-at.ensures.first,
+      c.page_of-at.ensures.last,
+      c.page_of-at.ensures.limit,
+      c.params-to_sql-4.ensures,
+      c.kind_number.ensures,
+    ) at shown) d sound held.0 held.1)
+    (c.query_all.ensures.ok clean)))

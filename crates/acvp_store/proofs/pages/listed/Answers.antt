@@ -4,4 +4,7 @@ use Rattle.acvp_store.proofs.pages.listed.Goals as goal
 
 pub returns-in-Ok-clause-found : goal.returns-in-Ok-clause-found
 returns-in-Ok-clause-found g c =
-    IfOk-weaker c.each.result _ _ (λ found all. rw c.in-Ok.is (λ list reads is. listed_as g.T.Member.reads g.T.Member.listed_as c.in-Ok.rows.items found.items list (rw c.deref.ensures.value at all) reads is)) c.each.ensures.known
+    IfOk-weaker c.each.result _ _
+    (λ found all. rw c.in-Ok.is
+    (λ list reads is. listed_as g.T.Member.reads g.T.Member.listed_as c.in-Ok.rows.items found.items list
+    (rw c.deref.ensures.value at all) reads is)) c.each.ensures.known

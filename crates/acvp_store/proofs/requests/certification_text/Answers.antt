@@ -7,4 +7,5 @@ pub returns-clause-reads : goal.returns-clause-reads
 returns-clause-reads c =
     let fits_module : c.args.asked.«module» < 2 ^ 64 = search rules in
     let fits_environment : c.args.asked.environment < 2 ^ 64 = search rules in
-    text_reads c.args.asked (view c.in_ok-certification_value.field-0) c.to_string.result fits_module fits_environment c.in_ok-certification_value.ensures c.to_string.ensures.text c.to_string.ensures.reads_back
+    text_reads c.args.asked (view c.in_ok-certification_value.field-0) c.to_string.result fits_module fits_environment
+    c.in_ok-certification_value.ensures c.to_string.ensures.text c.to_string.ensures.reads_back

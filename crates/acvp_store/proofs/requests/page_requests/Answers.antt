@@ -25,4 +25,15 @@ returns-clause-found g c live =
     (IfOk-weaker c.query_all.result _ _
     (λ rows shown d sound held. request_page store.schema.0 c.args.account c.args.offset c.args.limit _ _ rows.items
     store.schema.1
-    (rw (c.params-to_sql.ensures, c.params-to_sql-2.ensures, c.params-to_sql-3.ensures, to_z-of_z first, to_z-of_z last, to_z-of_z limit, c.page_of-at.ensures.first, c.page_of-at.ensures.last, c.page_of-at.ensures.limit) at shown) d sound held) (c.query_all.ensures.ok clean))
+    (rw (
+      c.params-to_sql.ensures,
+      c.params-to_sql-2.ensures,
+      c.params-to_sql-3.ensures,
+      to_z-of_z first,
+      to_z-of_z last,
+      to_z-of_z limit,
+      c.page_of-at.ensures.first,
+      c.page_of-at.ensures.last,
+      c.page_of-at.ensures.limit,
+    ) at shown) d
+    sound held) (c.query_all.ensures.ok clean))

@@ -26,7 +26,8 @@ returns-clause-rows g c live =
     let last : SFits w64 c.numbers_of-numbers.result.last = search rules in
     let low : last_number u < 2 ^ 63 = omega (arith, c.ranges.account.fits) in
     in_store c.ranged.result old.now _ (λ layout schema.
-    rows_told (first_number u) (last_number u) low _ (old.now.trees (reviewer_tree layout)) c.query_all.result (λ v. v.items) c.ranged.result (λ v. v.items) c.ranged.ensures.ok c.ranged.ensures.judged
+    rows_told (first_number u) (last_number u) low _ (old.now.trees (reviewer_tree layout)) c.query_all.result
+    (λ v. v.items) c.ranged.result (λ v. v.items) c.ranged.ensures.ok c.ranged.ensures.judged
     (reviewers_typed layout old.now schema store.sound)
     (IfOk-weaker c.query_all.result _ _
     (λ rows shown. reviewers_met layout (first_number u) (last_number u) old _ rows.items schema
@@ -42,7 +43,10 @@ returns-clause-stray g c live =
     let first : SFits w64 c.numbers_of-numbers.result.first = search rules in
     let last : SFits w64 c.numbers_of-numbers.result.last = search rules in
     fault_in_store c.ranged.result old.now _ (λ layout schema.
-    stray_of HoldsReviewers IsReviewerRow FitsReviewer each (λ r. ⊤ × FitsReviewer r) reviewer_columns columns_of_reviewer 0 1 (λ r. refl) shows (is_column_between 1 (first_number u) (last_number u)) (old.now.trees (reviewer_tree layout)) c.query_all.result (λ v. v.items) c.ranged.result c.ranged.ensures.stray
+    stray_of HoldsReviewers IsReviewerRow FitsReviewer each
+    (λ r. ⊤ × FitsReviewer r) reviewer_columns columns_of_reviewer 0 1 (λ r. refl) shows
+    (is_column_between 1 (first_number u) (last_number u)) (old.now.trees (reviewer_tree layout)) c.query_all.result
+    (λ v. v.items) c.ranged.result c.ranged.ensures.stray
     (IfOk-weaker c.query_all.result _ _
     (λ rows shown. reviewers_met layout (first_number u) (last_number u) old _ rows.items schema
     (rw (c.numbers_of-numbers.ensures.first, c.numbers_of-numbers.ensures.last) at (rw

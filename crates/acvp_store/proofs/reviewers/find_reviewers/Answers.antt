@@ -18,7 +18,10 @@ returns-clause-found g c live =
     let clean = clean_if_open _ _ (g.met.S.Store.shut_if_dirty c.query_all.new.self.store) live in
     let fit : SFits w64 c.key.result = search rules in
     in_store c.listed.result old.now _ (λ layout schema.
-    find_all c.args.session (old.now.trees (reviewer_tree layout)) (λ v. v.items) (λ v. v.items) c.query_all.result c.listed.result c.listed.ensures.ok (listed_plainly account_shown c.query_all.result (λ v. v.items) c.listed.result (λ v. v.items) c.listed.ensures.found)
+    find_all c.args.session (old.now.trees (reviewer_tree layout)) (λ v. v.items)
+    (λ v. v.items) c.query_all.result c.listed.result c.listed.ensures.ok
+    (listed_plainly account_shown c.query_all.result (λ v. v.items) c.listed.result
+    (λ v. v.items) c.listed.ensures.found)
     (IfOk-weaker c.query_all.result _ _
     (λ rows shown list h numbers rise same. session_rows layout c.args.session old _ rows.items schema list h numbers
     rise c.key.result c.key.ensures.fits c.key.ensures.too_large (rw (c.params-to_sql.ensures, to_z-of_z fit) at shown)

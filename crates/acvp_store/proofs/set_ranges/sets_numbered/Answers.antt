@@ -27,8 +27,13 @@ returns-clause-rows g c live =
     let last : SFits w64 c.set_numbers_of-numbers.result.last = search rules in
     let low : last_set u < 2 ^ 63 = omega (arith, c.ranges.account.fits) in
     in_store c.sets_in.result old.now _ (λ layout schema.
-    rows_through (first_set u) (last_set u) (old.now.trees (set_tree layout)) c.query_all.result (λ v. v.items) c.ranged-found.result (λ v. v.items) c.sets_in.result (λ v. v.items) c.ranged-found.ensures.ok c.sets_in.ensures.ok c.ranged-found.ensures.judged c.sets_in.ensures.told
-    (range_read set_key set_row whole_shown set_columns IsSetTyped (λ s. refl) set_is (first_set u) (last_set u) low _ (old.now.trees (set_tree layout)) c.query_all.result (λ v. v.items) c.ranged-found.result (λ v. v.items) c.ranged-found.ensures.ok c.ranged-found.ensures.judged
+    rows_through (first_set u) (last_set u) (old.now.trees (set_tree layout)) c.query_all.result
+    (λ v. v.items) c.ranged-found.result (λ v. v.items) c.sets_in.result
+    (λ v. v.items) c.ranged-found.ensures.ok c.sets_in.ensures.ok c.ranged-found.ensures.judged
+    c.sets_in.ensures.told
+    (range_read set_key set_row whole_shown set_columns IsSetTyped (λ s. refl) set_is (first_set u) (last_set u) low _
+    (old.now.trees (set_tree layout)) c.query_all.result (λ v. v.items) c.ranged-found.result
+    (λ v. v.items) c.ranged-found.ensures.ok c.ranged-found.ensures.judged
     (sets_typed layout old.now schema store.sound)
     (IfOk-weaker c.query_all.result _ _
     (λ rows shown. sets_in_order layout (first_set u) (last_set u) old _ rows.items schema
@@ -45,7 +50,10 @@ returns-clause-stray g c live =
     let first : SFits w64 c.set_numbers_of-numbers.result.first = search rules in
     let last : SFits w64 c.set_numbers_of-numbers.result.last = search rules in
     fault_in_store c.sets_in.result old.now _ (λ layout schema.
-    stray_through (first_set u) (last_set u) (old.now.trees (set_tree layout)) c.query_all.result (λ v. v.items) c.ranged-found.result (λ v. v.items) c.sets_in.result c.ranged-found.ensures.ok c.ranged-found.ensures.judged c.ranged-found.ensures.stray c.sets_in.ensures.stray
+    stray_through (first_set u) (last_set u) (old.now.trees (set_tree layout)) c.query_all.result
+    (λ v. v.items) c.ranged-found.result
+    (λ v. v.items) c.sets_in.result c.ranged-found.ensures.ok c.ranged-found.ensures.judged
+    c.ranged-found.ensures.stray c.sets_in.ensures.stray
     (sets_typed layout old.now schema store.sound)
     (IfOk-weaker c.query_all.result _ _
     (λ rows shown. sets_met layout (first_set u) (last_set u) old _ rows.items schema

@@ -22,7 +22,10 @@ returns-clause-found g c live =
     let clean = clean_if_open _ _ (g.met.S.Store.shut_if_dirty c.query_all.new.self.store) live in
     let fit : SFits w64 c.key.result = search rules in
     in_store c.capability_in.result old.now _ (λ layout schema.
-    find_told (λ (c : SetColumns). Some c.capability) TellsCapability (option_map (λ (row : SetRow). row.capability)) (λ y e. e) capability_some c.args.number text_shown (λ z. z) (old.now.trees (set_tree layout)) (λ v. v.items) c.query_all.result c.answered.result c.capability_in.result c.answered.ensures.ok c.capability_in.ensures.ok c.answered.ensures.found c.capability_in.ensures.told
+    find_told (λ (c : SetColumns). Some c.capability) TellsCapability (option_map (λ (row : SetRow). row.capability))
+    (λ y e. e) capability_some c.args.number text_shown (λ z. z) (old.now.trees (set_tree layout))
+    (λ v. v.items) c.query_all.result c.answered.result c.capability_in.result c.answered.ensures.ok
+    c.capability_in.ensures.ok c.answered.ensures.found c.capability_in.ensures.told
     (IfOk-weaker c.query_all.result _ _
     (λ rows shown. capability_rows layout c.args.number c.key.result c.key.ensures.fits c.key.ensures.too_large old _
     rows.items schema (rw (c.params-to_sql.ensures, to_z-of_z fit) at shown)) (c.query_all.ensures.ok clean)))
@@ -33,8 +36,13 @@ returns-clause-judged g c live low =
     let clean = clean_if_open _ _ (g.met.S.Store.shut_if_dirty c.query_all.new.self.store) live in
     let fit : SFits w64 c.key.result = search rules in
     in_store c.capability_in.result old.now _ (λ layout schema.
-    met (is_under c.args.number) capability_column text_shown _ (λ row x is. is) IsOfCapability (old.now.trees (set_tree layout)) (λ v. v.items) option_to_list c.query_all.result c.answered.result c.capability_in.result c.answered.ensures.ok c.capability_in.ensures.ok c.answered.ensures.judged
-    (IfOk-weaker c.capability_in.result _ _ (λ told tells. IfOk-weaker c.answered.result _ _ (λ found is. told_one found told is) tells) c.capability_in.ensures.told)
+    met (is_under c.args.number) capability_column text_shown _ (λ row x is. is) IsOfCapability
+    (old.now.trees (set_tree layout))
+    (λ v. v.items) option_to_list c.query_all.result c.answered.result c.capability_in.result c.answered.ensures.ok
+    c.capability_in.ensures.ok c.answered.ensures.judged
+    (IfOk-weaker c.capability_in.result _ _
+    (λ told tells. IfOk-weaker c.answered.result _ _ (λ found is. told_one found told is) tells)
+    c.capability_in.ensures.told)
     (IfOk-weaker c.query_all.result _ _
     (λ rows shown. capability_met layout c.args.number c.key.result low c.key.ensures.fits old _ rows.items schema
     (rw (c.params-to_sql.ensures, to_z-of_z fit) at shown)) (c.query_all.ensures.ok clean)))

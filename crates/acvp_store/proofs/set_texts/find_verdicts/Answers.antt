@@ -19,7 +19,10 @@ returns-clause-found g c live =
     let clean = clean_if_open _ _ (g.met.S.Store.shut_if_dirty c.query_all.new.self.store) live in
     let fit : SFits w64 c.key.result = search rules in
     in_store c.verdicts_in.result old.now _ (λ layout schema.
-    find_told (λ (c : SetColumns). c.verdicts) TellsVerdicts (option_and_then set_verdicts) (λ y e. e) verdicts_told c.args.number text_shown (option_map (λ v. v.items)) (old.now.trees (set_tree layout)) (λ v. v.items) c.query_all.result c.answered.result c.verdicts_in.result c.answered.ensures.ok c.verdicts_in.ensures.ok c.answered.ensures.found c.verdicts_in.ensures.told
+    find_told (λ (c : SetColumns). c.verdicts) TellsVerdicts (option_and_then set_verdicts)
+    (λ y e. e) verdicts_told c.args.number text_shown (option_map (λ v. v.items)) (old.now.trees (set_tree layout))
+    (λ v. v.items) c.query_all.result c.answered.result c.verdicts_in.result c.answered.ensures.ok
+    c.verdicts_in.ensures.ok c.answered.ensures.found c.verdicts_in.ensures.told
     (IfOk-weaker c.query_all.result _ _
     (λ rows shown. verdict_rows layout c.args.number c.key.result c.key.ensures.fits c.key.ensures.too_large old _
     rows.items schema (rw (c.params-to_sql.ensures, to_z-of_z fit) at shown)) (c.query_all.ensures.ok clean)))

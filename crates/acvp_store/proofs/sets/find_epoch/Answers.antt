@@ -17,6 +17,8 @@ returns-clause-found g c live =
     let old = state g.S.Store c.args.conn.now in
     let clean = clean_if_open _ _ (g.met.S.Store.shut_if_dirty c.query_all.new.self.store) live in
     in_store c.epoch_in.result old.now _ (λ layout schema.
-    find_greatest (old.now.trees (set_tree layout)) (λ v. v.items) c.query_all.result c.answered.result c.epoch_in.result c.answered.ensures.ok c.epoch_in.ensures.ok c.answered.ensures.found c.epoch_in.ensures.told
+    find_greatest (old.now.trees (set_tree layout))
+    (λ v. v.items) c.query_all.result c.answered.result c.epoch_in.result c.answered.ensures.ok
+    c.epoch_in.ensures.ok c.answered.ensures.found c.epoch_in.ensures.told
     (IfOk-weaker c.query_all.result _ _ (λ rows shown. epoch_rows layout old _ rows.items schema shown)
     (c.query_all.ensures.ok clean)))

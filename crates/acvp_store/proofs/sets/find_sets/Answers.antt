@@ -26,7 +26,11 @@ returns-clause-found g c live =
     let fit_low : SFits w64 c.key.result = search rules in
     let fit_high : SFits w64 c.key-2.result = search rules in
     in_store c.summaries_in.result old.now _ (λ layout schema.
-    find_live s (old.now.trees (set_tree layout)) (λ v. v.items) (λ v. v.items) (λ v. v.items) c.query_all.result c.listed.result c.summaries_in.result c.listed.ensures.ok c.summaries_in.ensures.ok (listed_plainly short_shown c.query_all.result (λ v. v.items) c.listed.result (λ v. v.items) c.listed.ensures.found) c.summaries_in.ensures.told
+    find_live s (old.now.trees (set_tree layout)) (λ v. v.items) (λ v. v.items)
+    (λ v. v.items) c.query_all.result c.listed.result c.summaries_in.result c.listed.ensures.ok
+    c.summaries_in.ensures.ok
+    (listed_plainly short_shown c.query_all.result (λ v. v.items) c.listed.result
+    (λ v. v.items) c.listed.ensures.found) c.summaries_in.ensures.told
     (IfOk-weaker c.query_all.result _ _
     (λ rows shown. live_rows layout s old _ rows.items schema
     (rw (to_z-of_z fit_low, to_z-of_z fit_high, low, high) at (rw
@@ -42,8 +46,12 @@ returns-clause-judged g c live =
     let fit_low : SFits w64 c.key.result = search rules in
     let fit_high : SFits w64 c.key-2.result = search rules in
     in_store c.summaries_in.result old.now _ (λ layout schema.
-    met (is_live_row s) short_columns short_shown _ (λ row x is. is) IsJudged (old.now.trees (set_tree layout)) (λ v. v.items) (λ v. v.items) c.query_all.result c.listed.result c.summaries_in.result c.listed.ensures.ok c.summaries_in.ensures.ok c.listed.ensures.judged
-    (IfOk-weaker c.summaries_in.result _ _ (λ told tells. IfOk-weaker c.listed.result _ _ (λ found is. judged_each found.items told.items is) tells) c.summaries_in.ensures.told)
+    met (is_live_row s) short_columns short_shown _ (λ row x is. is) IsJudged (old.now.trees (set_tree layout))
+    (λ v. v.items) (λ v. v.items) c.query_all.result c.listed.result c.summaries_in.result c.listed.ensures.ok
+    c.summaries_in.ensures.ok c.listed.ensures.judged
+    (IfOk-weaker c.summaries_in.result _ _
+    (λ told tells. IfOk-weaker c.listed.result _ _ (λ found is. judged_each found.items told.items is) tells)
+    c.summaries_in.ensures.told)
     (IfOk-weaker c.query_all.result _ _
     (λ rows shown. sets_met layout s old _ rows.items schema
     (rw (to_z-of_z fit_low, to_z-of_z fit_high, low, high) at (rw

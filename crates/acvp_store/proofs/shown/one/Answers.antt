@@ -6,4 +6,6 @@ pub returns-in-None-clause-found : goal.returns-in-None-clause-found
 returns-in-None-clause-found g c list same = none_found g.T.Shown.shown list c.args.rows.now same (search rules)
 
 pub returns-in-Ok-clause-found : goal.returns-in-Ok-clause-found
-returns-in-Ok-clause-found g c list same = one_found g.T.Shown.shown list c.args.rows.now c.in-Some.row.now c.in-Ok.x same (omega arith) (search rules) c.in-Ok.ensures.known
+returns-in-Ok-clause-found g c list same =
+    one_found g.T.Shown.shown list c.args.rows.now c.in-Some.row.now c.in-Ok.x same (omega arith)
+    (search rules) c.in-Ok.ensures.known

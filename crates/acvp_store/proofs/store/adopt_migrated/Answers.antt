@@ -7,7 +7,13 @@ pub adopt_named-requires : goal.adopt_named-requires
 adopt_named-requires g c live =
     let stays = c.in-Ok-false.ensures.read.stays in
     let was = c.requires (stays.was_open live) in
-    record { ready = stays.settled live; schema = (Migrated, ap (λ (d : Database). d.schema) (stays.now live) ∙ was.1); sound = subst IsDatabase (sym (stays.now live)) was.2 }
+    record {
+      ready = stays.settled live;
+      schema =
+          (Migrated, ap (λ (d : Database). d.schema) (stays.now live) ∙ was.1);
+      sound =
+          subst IsDatabase (sym (stays.now live)) was.2;
+    }
 
 pub returns-in-Ok-false-clause-adopted : goal.returns-in-Ok-false-clause-adopted
 returns-in-Ok-false-clause-adopted g c =
@@ -32,4 +38,5 @@ returns-in-Ok-false-clause-schema g c =
     let stays = c.in-Ok-false.ensures.read.stays in
     IfErr-weaker c.adopt_named.result _ _ (λ e is schema live ours.
     let it = is schema live in
-    it.1 (subst (λ (d : Database). HasVersion 3 d.trees) (sym (stays.now it.0)) ours.version)) c.adopt_named.ensures.schema
+    it.1 (subst (λ (d : Database). HasVersion 3 d.trees) (sym (stays.now it.0)) ours.version))
+    c.adopt_named.ensures.schema

@@ -4,4 +4,5 @@ use Rattle.acvp_tables.specs.Covers.{Covers}
 use Rattle.acvp_store_tests.proofs.changes.applied.Goals as goal
 
 pub apply-requires-clause-covers : goal.apply-requires-clause-covers
-apply-requires-clause-covers g c = subst (λ (granted : Granted). Covers granted c.args.change.now) (sym c.in-Ok.ensures.grant) c.requires.covers
+apply-requires-clause-covers g c =
+    subst (λ (granted : Granted). Covers granted c.args.change.now) (sym c.in-Ok.ensures.grant) c.requires.covers

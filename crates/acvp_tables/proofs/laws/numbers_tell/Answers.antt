@@ -1,4 +1,5 @@
-use Rattle.acvp_tables.proofs.Numbers.{keyed, account_found, session_found, request_found, object_found, set_found, sets_found, live_found, reviewer_found}
+use Rattle.acvp_tables.proofs.Numbers.{keyed, account_found, session_found, request_found, object_found, set_found}
+use Rattle.acvp_tables.proofs.Numbers.{sets_found, live_found, reviewer_found}
 use Rattle.acvp_tables.proofs.Numbers.{session_seen, set_seen, sets_seen, live_seen, reviewer_seen, own_seen}
 use Rattle.acvp_tables.proofs.Reviewers.{reviewers_found}
 use Rattle.acvp_tables.proofs.Selections.{own_sessions, own_objects, own_requests, own_counts}

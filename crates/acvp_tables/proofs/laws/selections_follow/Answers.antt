@@ -1,4 +1,5 @@
-use Rattle.acvp_tables.proofs.Selections.{session_follows, set_follows, live_follow, sessions_follow, page_follows, counts_follow}
+use Rattle.acvp_tables.proofs.Selections.{session_follows, set_follows, live_follow, sessions_follow, page_follows}
+use Rattle.acvp_tables.proofs.Selections.{counts_follow}
 use Rattle.acvp_tables.proofs.laws.selections_follow.Goals as goal
 
 pub returns : goal.returns

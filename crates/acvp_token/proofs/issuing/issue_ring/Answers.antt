@@ -9,7 +9,8 @@ returns-clause-text c =
     let written = rw (← c.as_bytes-2.ensures.value) at c.in_ok-payload.ensures in
     let header : c.as_bytes.result.now ≡ issued_header (last_place c.args.ring.now) =
     c.as_bytes.ensures.value ∙ c.in_ok-header.ensures ∙ ap issued_header c.last_place.ensures in
-    ring-issued-text c.write_token.result c.args.ring.now c.as_bytes.result.now c.as_bytes-2.result.now c.args.claims.now
+    ring-issued-text c.write_token.result c.args.ring.now c.as_bytes.result.now c.as_bytes-2.result.now
+    c.args.claims.now
     header written
     (rw c.signing_key.ensures.value at c.write_token.ensures.text)
 

@@ -33,7 +33,8 @@ returns-clause-said g c = λ live content well h.
       sets = record {
         rows = c.in_ok-rows.rows.items;
         are = c.in_ok-rows.ensures.rows live content h5;
-        each = subst (λ rows. AllZip (IsCertifiedSet c.args.seeds.now) (live_sets c.in-Some.certification.session rows) c.in_ok-certified_sets.field-0.items)
+        each = subst (λ rows. AllZip (IsCertifiedSet c.args.seeds.now)
+            (live_sets c.in-Some.certification.session rows) c.in_ok-certified_sets.field-0.items)
             c.deref.ensures.value c.in_ok-certified_sets.ensures;
       };
     }

@@ -6,9 +6,11 @@ use Rattle.acvp_view.proofs.escape.show_text.Goals as goal
 pub returns-clause-handed : goal.returns-clause-handed
 returns-clause-handed g c =
     handed_one g.L.Lines.takes c.take.result _ c.args.lines.now c.take.new.self
-    (subst (λ line. g.L.Lines.takes c.args.lines.now line c.take.new.self) (c.as_str.ensures.value ∙ c.in_ok-line.ensures) c.take.ensures)
+    (subst (λ line. g.L.Lines.takes c.args.lines.now line c.take.new.self)
+    (c.as_str.ensures.value ∙ c.in_ok-line.ensures) c.take.ensures)
 
 pub returns-clause-escaped : goal.returns-clause-escaped
 returns-clause-escaped g c =
     escaped_one g.L.Lines.takes c.args.text.now c.args.lines.now c.take.new.self
-    (subst (λ line. g.L.Lines.takes c.args.lines.now line c.take.new.self) (c.as_str.ensures.value ∙ c.in_ok-line.ensures) c.take.ensures)
+    (subst (λ line. g.L.Lines.takes c.args.lines.now line c.take.new.self)
+    (c.as_str.ensures.value ∙ c.in_ok-line.ensures) c.take.ensures)

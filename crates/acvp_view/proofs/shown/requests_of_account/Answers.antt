@@ -7,7 +7,8 @@ pub returns-in-Ok-clause-rows : goal.returns-in-Ok-clause-rows
 returns-in-Ok-clause-rows g c = λ live content h. record {
   tables = c.args.tables.now;
   stand = h;
-  range = c.in-Ok.ensures.rows live (requests_tree _ content.requests h.2.requests) (requests_full _ content.requests h.2.requests);
+  range = c.in-Ok.ensures.rows live (requests_tree _ content.requests h.2.requests)
+      (requests_full _ content.requests h.2.requests);
 }
 
 pub returns-in-Ok-clause-looks : goal.returns-in-Ok-clause-looks

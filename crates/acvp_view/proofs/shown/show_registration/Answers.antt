@@ -9,4 +9,5 @@ pub returns-in-Registration : goal.returns-in-Registration
 returns-in-Registration g c =
     let same : (c.args.row.now.number == c.args.number) ≡ true = grind (arith, nat_tests, c.if-row-number.true) in
     rw (same, c.in-Registration.is)
-    (subst (λ text. HandsOn g.L.Lines.takes c.show_text.result (escaped text ∷ []) c.args.lines.now c.show_text.new.lines) c.text.ensures.value c.show_text.ensures.handed)
+    (subst (λ text. HandsOn g.L.Lines.takes c.show_text.result
+    (escaped text ∷ []) c.args.lines.now c.show_text.new.lines) c.text.ensures.value c.show_text.ensures.handed)

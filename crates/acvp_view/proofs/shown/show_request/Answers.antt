@@ -15,8 +15,12 @@ returns g c = λ live content well h.
       there = sym (c.in_ok-request.ensures.found up content well h);
       rows = c.in_ok-rows.rows.items;
       are = c.in_ok-rows.ensures.rows live content h1;
-      taken = takes_both g.L.Lines.takes line objects c.args.lines.now c.request_of.new.lines c.show_registrations.new.lines
-          (handed_whole g.L.Lines.takes c.in_ok-request.request line c.args.lines.now c.request_of.new.lines (c.in_ok-request.ensures.told up content well h))
-          (subst (λ rows. TakesAll g.L.Lines.takes (flat_map (object_lines c.in_ok-request.request.number) rows) c.request_of.new.lines c.show_registrations.new.lines)
+      taken = takes_both g.L.Lines.takes line objects c.args.lines.now c.request_of.new.lines
+          c.show_registrations.new.lines
+          (handed_whole g.L.Lines.takes c.in_ok-request.request line c.args.lines.now c.request_of.new.lines
+          (c.in_ok-request.ensures.told up content well h))
+          (subst (λ rows. TakesAll g.L.Lines.takes
+          (flat_map (object_lines c.in_ok-request.request.number) rows) c.request_of.new.lines
+          c.show_registrations.new.lines)
           c.deref.ensures.value c.in_ok-show_registrations.ensures);
     }

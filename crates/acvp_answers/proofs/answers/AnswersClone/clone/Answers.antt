@@ -5,4 +5,7 @@ use Rattle.acvp_answers.proofs.answers.AnswersClone.clone.Goals as goal
 
 -- src/answers.rt:33:5
 pub returns : goal.returns
-returns c = record { cases = shown-clone (λ v w. vec_len w ≡ vec_len v) _ _ c.in_ok-texts.ensures.cases ∙ c.self.view_is }
+returns c = record {
+  cases = shown-clone (λ v w. vec_len w ≡ vec_len v) _ _ c.in_ok-texts.ensures.cases
+      ∙ c.self.view_is;
+}

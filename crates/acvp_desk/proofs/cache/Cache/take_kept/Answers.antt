@@ -13,4 +13,5 @@ invariant_of-self c = rw c.pop.ensures.entries (
 pub returns-clause-is_true : goal.returns-clause-is_true
 returns-clause-is_true c =
     subst (λ s. IfSome c.pop.result (IsTrueTo s c.args.number)) (ap (λ v. v.seeds) c.self.view_is)
-    (true_looked_up (IsTrueTo c.self.inside.seeds) c.pop.result c.self.inside.entries.entries c.args.number c.self.invariant.1 c.pop.ensures.value)
+    (true_looked_up (IsTrueTo c.self.inside.seeds) c.pop.result c.self.inside.entries.entries c.args.number
+    c.self.invariant.1 c.pop.ensures.value)

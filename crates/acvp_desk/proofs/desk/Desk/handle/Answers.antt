@@ -10,12 +10,14 @@ returns-clause-served g c = elim c.match-serve.branch [
 
 pub returns-clause-apart : goal.returns-clause-apart
 returns-clause-apart g c =
-    served_apart c.effects_follow.ensures.request c.requests_are_apart.ensures c.nobody_is_answered_alike.ensures.answer c.seen_rows_answer.ensures.alike
+    served_apart c.effects_follow.ensures.request c.requests_are_apart.ensures c.nobody_is_answered_alike.ensures.answer
+    c.seen_rows_answer.ensures.alike
     c.args.self.now.keys c.args.moment _ g.T.Tables.meaning c.args.self.now.tables c.serve.new.tables
     c.match-serve.result.reply c.match-serve.result.changed (returns-clause-served g c)
 
 pub returns-clause-seen : goal.returns-clause-seen
 returns-clause-seen g c =
-    told_by_seen c.effects_follow.ensures.request c.requests_are_apart.ensures c.nobody_is_answered_alike.ensures.answer c.seen_rows_answer.ensures.alike
+    told_by_seen c.effects_follow.ensures.request c.requests_are_apart.ensures c.nobody_is_answered_alike.ensures.answer
+    c.seen_rows_answer.ensures.alike
     c.args.self.now.keys c.args.moment _ g.T.Tables.meaning c.args.self.now.tables c.serve.new.tables
     c.match-serve.result.reply c.match-serve.result.changed (returns-clause-served g c)

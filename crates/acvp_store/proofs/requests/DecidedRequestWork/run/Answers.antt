@@ -18,9 +18,41 @@ returns-clause-inside g c =
     fit : SFits w64 c.in_ok-number.number
     fit = search rules
 
-    runs : (it : RequestStatus) → c.args.self.now.status ≡ it → HasCleanDisk (state g.S.Store c.execute.new.self.conn.now) → IsTrue (state g.S.Store c.args.tx.now.conn.now).in_transaction
+    runs : (it : RequestStatus) → c.args.self.now.status ≡ it
+        → HasCleanDisk (state g.S.Store c.execute.new.self.conn.now)
+        → IsTrue (state g.S.Store c.args.tx.now.conn.now).in_transaction
         → ExecutesInside 0 (writing_text RequestDecided) (decide_params c.args.self.now.number it)
         (state g.S.Store c.args.tx.now.conn.now) (state g.S.Store c.execute.new.self.conn.now) c.execute.result
-    runs status.Initial is clean on = rw (c.params-to_sql.ensures, c.params-to_sql-2.ensures, c.params-to_sql-3.ensures, to_z-of_z fit, c.in_ok-number.ensures.1, c.status_number.ensures, c.in_ok-approved.ensures, is) at (c.execute.ensures.runs clean on)
-    runs (status.Approved n) is clean on = rw (c.params-to_sql.ensures, c.params-to_sql-2.ensures, c.params-to_sql-3.ensures, to_z-of_z fit, c.in_ok-number.ensures.1, c.status_number.ensures, c.in_ok-approved.ensures, is) at (c.execute.ensures.runs clean on)
-    runs status.Rejected is clean on = rw (c.params-to_sql.ensures, c.params-to_sql-2.ensures, c.params-to_sql-3.ensures, to_z-of_z fit, c.in_ok-number.ensures.1, c.status_number.ensures, c.in_ok-approved.ensures, is) at (c.execute.ensures.runs clean on)
+    runs status.Initial is clean on =
+        rw (
+          c.params-to_sql.ensures,
+          c.params-to_sql-2.ensures,
+          c.params-to_sql-3.ensures,
+          to_z-of_z fit,
+          c.in_ok-number.ensures.1,
+          c.status_number.ensures,
+          c.in_ok-approved.ensures,
+          is,
+        ) at (c.execute.ensures.runs clean on)
+    runs (status.Approved n) is clean on =
+        rw (
+          c.params-to_sql.ensures,
+          c.params-to_sql-2.ensures,
+          c.params-to_sql-3.ensures,
+          to_z-of_z fit,
+          c.in_ok-number.ensures.1,
+          c.status_number.ensures,
+          c.in_ok-approved.ensures,
+          is,
+        ) at (c.execute.ensures.runs clean on)
+    runs status.Rejected is clean on =
+        rw (
+          c.params-to_sql.ensures,
+          c.params-to_sql-2.ensures,
+          c.params-to_sql-3.ensures,
+          to_z-of_z fit,
+          c.in_ok-number.ensures.1,
+          c.status_number.ensures,
+          c.in_ok-approved.ensures,
+          is,
+        ) at (c.execute.ensures.runs clean on)

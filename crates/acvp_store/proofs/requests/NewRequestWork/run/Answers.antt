@@ -10,5 +10,6 @@ returns-clause-inside g c =
       kind_is = sym (c.kind_number.ensures ∙ ap kind_number c.kind.ensures.value);
       body_is = sym c.text.ensures.value;
       status_is = refl;
-      reads = subst (λ t. body_json t ≡ Some c.args.self.now.object.value) c.text.ensures.value c.text.ensures.reads_back;
+      reads = subst (λ t. body_json t ≡ Some c.args.self.now.object.value) c.text.ensures.value
+          c.text.ensures.reads_back;
     })

@@ -16,8 +16,11 @@ returns-clause-judged c =
       disposition = c.in_ok-disposition.disposition;
       epoch = c.in_ok-epoch.epoch;
     } in (
-      begins row s c.in_ok-epoch.ensures.within c.in_ok-number.ensures.value c.in_ok-session.ensures.value c.in_ok-capability.ensures.value c.in_ok-cancelled.ensures.value
-          (text_column string_bytes (column row 4) c.in_ok-answers.answers c.in_ok-answers.ensures.value) (text_column string_bytes (column row 5) c.in_ok-verdicts.verdicts c.in_ok-verdicts.ensures.value)
-          (number_column (column row 6) c.in_ok-disposition.disposition c.in_ok-disposition.ensures.value) c.in_ok-epoch.ensures.value,
+      begins row s c.in_ok-epoch.ensures.within c.in_ok-number.ensures.value c.in_ok-session.ensures.value
+          c.in_ok-capability.ensures.value c.in_ok-cancelled.ensures.value
+          (text_column string_bytes (column row 4) c.in_ok-answers.answers c.in_ok-answers.ensures.value)
+          (text_column string_bytes (column row 5) c.in_ok-verdicts.verdicts c.in_ok-verdicts.ensures.value)
+          (number_column (column row 6) c.in_ok-disposition.disposition c.in_ok-disposition.ensures.value)
+          c.in_ok-epoch.ensures.value,
       IsUtf8-string_bytes c.in_ok-capability.capability,
     )

@@ -12,7 +12,8 @@ returns-clause-inside g c =
     let answers = string_bytes c.in_ok-answers.answers in
     let verdicts = string_bytes c.in_ok-verdicts.verdicts in
     let d = c.in-Some.disposition in
-    let disposition_is = subst (λ x. disposition_number x ≡ Some d) c.disposition.ensures.value c.in-Some.ensures.some in
+    let disposition_is = subst
+    (λ x. disposition_number x ≡ Some d) c.disposition.ensures.value c.in-Some.ensures.some in
     writes SetGraded (grade_params s.number answers verdicts d) old _
     (g.met.S.Store.shut_if_dirty c.execute.new.self.conn.now.store)
     c.execute.result c.done.result c.done.ensures

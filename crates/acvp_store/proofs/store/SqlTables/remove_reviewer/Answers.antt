@@ -7,4 +7,7 @@ use Rattle.acvp_store.proofs.store.SqlTables.remove_reviewer.Goals as goal
 pub returns : goal.returns
 returns g c =
     let r = c.args.reviewer.now in
-    rw (← c.self.view_is) (changes g.S.Store c.self.inside.connection c.commit.new.conn (λ layout. Alters layout (reviewer_tree layout) HoldsReviewers (filter (λ row. not (is_pair r row)))) (after (change.RemoveReviewer r)) c.self.invariant (λ layout d e h. h.schema) (reviewer_removed r) c.commit.result c.commit.ensures)
+    rw (← c.self.view_is) (changes g.S.Store c.self.inside.connection c.commit.new.conn
+    (λ layout. Alters layout (reviewer_tree layout) HoldsReviewers (filter (λ row. not (is_pair r row))))
+    (after (change.RemoveReviewer r)) c.self.invariant (λ layout d e h. h.schema)
+    (reviewer_removed r) c.commit.result c.commit.ensures)

@@ -5,10 +5,15 @@ use Rattle.acvp_store.proofs.store.SqlTablesTables.capability.Goals as goal
 pub returns-clause-reads : goal.returns-clause-reads
 returns-clause-reads g c =
     let old = c.self.inside.connection in
-    rw (← c.self.view_is) (reads g.S.Store old c.find_capability.new.conn c.self.invariant (λ db live may. g.met.S.Store.settled old.store db live may) c.find_capability.result c.find_capability.ensures.read)
+    rw (← c.self.view_is) (reads g.S.Store old c.find_capability.new.conn c.self.invariant
+    (λ db live may. g.met.S.Store.settled old.store db live may) c.find_capability.result
+    c.find_capability.ensures.read)
 
 pub returns-clause-found : goal.returns-clause-found
 returns-clause-found g c =
     let old = c.self.inside.connection in
-    rw (← c.self.view_is) (finds g.S.Store old c.find_capability.new.conn c.find_capability.result (λ x. x) (λ (content : Content). option_map (λ (row : SetRow). row.capability) (set_at c.args.set content.sets))
-    (λ live. IfOk-weaker c.find_capability.result _ _ (λ x is layout schema content sound st. is layout schema content.sets st.sets) (c.find_capability.ensures.found live)))
+    rw (← c.self.view_is) (finds g.S.Store old c.find_capability.new.conn c.find_capability.result (λ x. x)
+    (λ (content : Content). option_map (λ (row : SetRow). row.capability) (set_at c.args.set content.sets))
+    (λ live. IfOk-weaker c.find_capability.result _ _
+    (λ x is layout schema content sound st. is layout schema content.sets st.sets)
+    (c.find_capability.ensures.found live)))

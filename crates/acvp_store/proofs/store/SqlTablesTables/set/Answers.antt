@@ -5,10 +5,13 @@ use Rattle.acvp_store.proofs.store.SqlTablesTables.set.Goals as goal
 pub returns-clause-reads : goal.returns-clause-reads
 returns-clause-reads g c =
     let old = c.self.inside.connection in
-    rw (← c.self.view_is) (reads g.S.Store old c.find_set.new.conn c.self.invariant (λ db live may. g.met.S.Store.settled old.store db live may) c.find_set.result c.find_set.ensures.read)
+    rw (← c.self.view_is) (reads g.S.Store old c.find_set.new.conn c.self.invariant
+    (λ db live may. g.met.S.Store.settled old.store db live may) c.find_set.result c.find_set.ensures.read)
 
 pub returns-clause-found : goal.returns-clause-found
 returns-clause-found g c =
     let old = c.self.inside.connection in
-    rw (← c.self.view_is) (finds g.S.Store old c.find_set.new.conn c.find_set.result (λ x. x) (λ (content : Content). option_map set_summary (set_at c.args.number content.sets))
-    (λ live. IfOk-weaker c.find_set.result _ _ (λ x is layout schema content sound st. is layout schema content.sets st.sets) (c.find_set.ensures.found live)))
+    rw (← c.self.view_is) (finds g.S.Store old c.find_set.new.conn c.find_set.result (λ x. x)
+    (λ (content : Content). option_map set_summary (set_at c.args.number content.sets))
+    (λ live. IfOk-weaker c.find_set.result _ _
+    (λ x is layout schema content sound st. is layout schema content.sets st.sets) (c.find_set.ensures.found live)))
