@@ -1,5 +1,6 @@
 pub mod Begins
 pub mod Causes
+pub mod Copies
 pub mod Devices
 pub mod Folders
 pub mod Owners

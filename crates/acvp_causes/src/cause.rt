@@ -117,14 +117,17 @@ impl fmt::Display for Cause {
         match *self {
             Cause::Missing => f.write_str("there is no such file"),
             Cause::Refused(error) => write!(f, "it can't be opened: {error}"),
-            Cause::Unmade => f.write_str("it can't be made in its folder"),
+            Cause::Unmade => f.write_str(
+                "it can't be made in its folder (its rights, or a full disk)",
+            ),
             Cause::NoFile => f.write_str("it is no regular file"),
             Cause::Names(count) => write!(f, "it has {count} names (hard links), and may have one"),
             Cause::Mounted => f.write_str(
                 "it is mounted by itself: name it where its log (-wal) is beside it",
             ),
             Cause::Moved => f.write_str(
-                "another process has it or the log beside it (-wal), not both: it was moved, or is served by another name",
+                "another process has it or the log beside it (-wal), not both: it was moved, or is served by another \
+                 name",
             ),
             Cause::Owner(user) => write!(
                 f,
@@ -132,11 +135,13 @@ impl fmt::Display for Cause {
             ),
             Cause::Planted(user) => write!(
                 f,
-                "it belongs to user {user}, not to root, its folder's owner or the user of the command, and others can make files there"
+                "it belongs to user {user}, not to root, its folder's owner or the user of the command, and others can \
+                 make files there"
             ),
             Cause::Link(user) => write!(
                 f,
-                "its path goes by a link of user {user}, not of root, the owner of the link's folder or the user of the command"
+                "its path goes by a link of user {user}, not of root, the owner of the link's folder or the user of \
+                 the command"
             ),
             Cause::Companion => f.write_str(
                 "its name is that of a file beside a database (-wal, -shm, -journal, -orders)",

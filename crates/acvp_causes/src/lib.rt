@@ -12,7 +12,7 @@ mod texts;
 
 pub use begins::{LOG_HEADER, header_of, is_database, is_foreign};
 pub use cause::{Because, Cause, Place};
-pub use names::{is_companion, name_of, why_unnamed};
+pub use names::{MOMENT_DIGITS, is_companion, is_copy, name_of, why_unnamed};
 pub use owners::{OF_OTHERS, cause_of_maker, own_text};
 pub use places::{
     EMPTY_LOG, are_there, cause_of_database, cause_of_error, cause_of_files, cause_of_folder,

@@ -1,17 +1,23 @@
 //! The name of a database: beside it lie the log, the socket of orders and the copies that are made.
 ghost use Rattle.std.specs.Prelude.{◌≡◌, ◌≢◌, IfErr, IfOk, IsErr, None, Some};
+ghost use Rattle.std.specs.List.{list_all};
+ghost use Rattle.std.specs.Char.{is_ascii_digit};
 ghost use Rattle.std.specs.IoError.{error_kind};
+ghost use Rattle.acvp_causes.specs.Copies.{is_copy};
 ghost use Rattle.acvp_causes.specs.Folders.{is_companion};
 
 use crate::cause::Cause;
 use crate::owners::{cause_of_link, refusal};
-use crate::places::cause_of_error;
+use crate::places::{cause_of_error, last_of};
 use std::alloc::{AllocError, AllocGlobal, Global};
 use std::fs;
 use std::io::{self, ErrorKind};
 
 /// The system's table of mounts (proc_pid_mountinfo(5)).
 const MOUNTS: &str = "/proc/self/mountinfo";
+
+/// How many digits the moment of a copy has, in billionths of a second since 1970: from 2001 to 2286.
+pub const MOMENT_DIGITS: usize = 19;
 
 /// The number in the first second name that is tried, which has as many digits as that of a copy.
 const FIRST_NAME: u64 = 1000000000000000000;
@@ -55,6 +61,22 @@ pub fn is_companion(path: &str) -> bool
         || name.ends_with(b"-shm")
         || name.ends_with(b"-journal")
         || name.ends_with(b"-orders")
+}
+
+/// Whether all bytes are decimal digits.
+fn are_digits(text: &[u8]) -> bool
+    ensures { result ≡ list_all is_ascii_digit text.now }
+{
+    text.iter().all(|byte| byte.is_ascii_digit())
+}
+
+/// Whether a path has the name of a copy that is being made, or that was left.
+pub fn is_copy(path: &str) -> bool
+    ensures { result ≡ is_copy path.now }
+{
+    let name = last_of(path).as_bytes();
+    let (front, moment) = name.split_at(name.len().saturating_sub(MOMENT_DIGITS));
+    (front.ends_with(b"-part-") || front.ends_with(b"-look-")) && are_digits(moment)
 }
 
 /// How the table of mounts writes a character that would end a field: by its octal number.

@@ -1,5 +1,6 @@
 //! What a command line asks for.
-ghost use Rattle.std.specs.Prelude.{◌≡◌, ◌↔◌, codes, true, IfErr, IfOk, IfSome, IsTrue, MatchOption, MatchResult, None, Some};
+ghost use Rattle.std.specs.Prelude.{◌≡◌, ◌↔◌, codes, true, None, Some};
+ghost use Rattle.std.specs.Prelude.{IfErr, IfOk, IfSome, IsTrue, MatchOption, MatchResult};
 ghost use Rattle.clap.specs.Words.{first_of, subcommand_rows_of};
 ghost use Rattle.acvp_tables.specs.State.{is_account_number};
 ghost use Rattle.acvp_commands.specs.Numbers.{IsNumber, most_account, most_request};

@@ -60,10 +60,10 @@ pub fn commands_are_runs<T: Tables>()
 
 /// The life of a file, from one time that it is opened to the next. It begins with tables that were made without a row,
 /// or that stand for other records which are kept. A run goes over the tables, and the next open finds what it had
-/// closed, or shows what a crash may leave of the connection that it held, behind any of its turns. Then the file has lived through one run more: it goes
-/// over the records that those before it left, which are kept under its own seeds, so it is as `runs_are_promised`
-/// says; what is open stands for what it left, and behind a crash at most the effect of one event more is there, which
-/// was unavailable. So no run, however many there were, loses what was answered.
+/// closed, or shows what a crash may leave of the connection that it held, behind any of its turns. Then the file has
+/// lived through one run more: it goes over the records that those before it left, which are kept under its own seeds,
+/// so it is as `runs_are_promised` says; what is open stands for what it left, and behind a crash at most the effect of
+/// one event more is there, which was unavailable. So no run, however many there were, loses what was answered.
 pub fn files_live_on<D: Disk, E: Disk>()
     ensures begins { (seeds : List (List ℕ)) (made : Held (FileStore D D.Disk)) → IsTrue (file_state made).is_open
         → stands over_files made no_rows → HasLived no_rows [] seeds made }

@@ -10,8 +10,7 @@ use Rattle.sqlite.specs.Start.{FindsIn}
 use Rattle.sqlite.specs.State.{HasCleanDisk}
 
 -- It is new. If the disk is clean, it is open, and shows what the files held before; if they held no database, its
--- pages
--- have sums.
+-- pages have sums.
 abbrev pub IsConnected : {D : Type 0} {g : Ghosts D} → Image → Held (FileStore D g) → Type 0
 IsConnected image c =
     IsNew c × (HasCleanDisk (file_state c) → IsOpened c) × (HasCleanDisk (file_state c) → FindsIn image (file_state c))

@@ -1,4 +1,3 @@
 pub mod Connections
 pub mod Copies
 pub mod Faults
-pub mod Parts

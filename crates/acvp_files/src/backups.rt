@@ -4,12 +4,12 @@ use crate::copies::{connection_to, connection_to_part, copy_file, copy_into, mer
 use crate::fault::{CopyFault, FileFault, Step, at, done, fault_of_cause, refused};
 use crate::number::{FileNumber, file_at, number_of};
 use crate::parts::{
-    Pair, Part, Use, give_up, has_name, is_copy, make_new, new_copy, pair_at, remove, replaced_at,
+    Pair, Part, Use, give_up, has_name, make_new, new_copy, pair_at, remove, replaced_at,
 };
 use crate::rows::count_rows;
 use crate::sums::copy_with_sums;
 use acvp_causes::{
-    cause_of_folder, folder_of, has_journal, has_log, has_sums, holds_any, is_companion,
+    cause_of_folder, folder_of, has_journal, has_log, has_sums, holds_any, is_companion, is_copy,
     is_database, is_held_by_any, last_of, name_of,
 };
 use sqlite::{Alter, Connection, FileStore};
@@ -319,7 +319,8 @@ fn place_alone(rt: &HostRuntime, part: &Part, database: &Pair) -> Result<(), Fil
     }
 }
 
-/// Puts a copy in the place of a database, or where there is none. It gives the name under which what was there is kept.
+/// Puts a copy in the place of a database, or where there is none. It gives the name under which what was there is
+/// kept.
 fn replace(rt: &HostRuntime, part: &Part, database: &Pair) -> Result<Option<String>, FileFault> {
     if has_journal(rt, database.file.as_str())? {
         return Err(FileFault::Unavailable);

@@ -10,9 +10,11 @@ ghost use Rattle.acvp_files.specs.Faults.{fault_of_open, why_unopened};
 
 use crate::fault::{FileFault, fault_of_cause, refused};
 use crate::number::{FileNumber, file_at};
-use crate::parts::{is_copy, settle_names};
+use crate::parts::settle_names;
 use crate::privacy::{has_no_log, make_private};
-use acvp_causes::{cause_of_files, has_log, is_companion, is_foreign, is_left_alone, is_moved};
+use acvp_causes::{
+    cause_of_files, has_log, is_companion, is_copy, is_foreign, is_left_alone, is_moved,
+};
 use sqlite::{Connection, Error, ErrorCode, FileFrom, FileStore, Files, Start};
 use sqlite_disk::Disk;
 use std::alloc::AllocGlobal;
@@ -137,8 +139,8 @@ fn connect_known<S: Start>(
     connect_held(rt, path, start)
 }
 
-/// Refuses a path that a database can't be made at: it is that of a file that lies beside a database, or beside it there
-/// is a log that another has left.
+/// Refuses a path that a database can't be made at: it is that of a file that lies beside a database, or beside it
+/// there is a log that another has left.
 fn may_be_made(rt: &HostRuntime, path: &str) -> Result<(), FileFault> {
     if is_companion(path) || is_copy(path) || is_left_alone(rt, path)? {
         Err(FileFault::Unavailable)

@@ -16,7 +16,6 @@ pub use backups::{Restored, backup, restore};
 pub use connection::{FileConnection, Unopened, close, connect_existing, connect_new};
 pub use copies::{FileTables, tables_of_copy};
 pub use fault::{CopyFault, FileFault, Step};
-pub use parts::is_copy;
 pub use privacy::{has_no_log, remove_empty_log, tell_open, tell_open_database};
 pub use sums::tell_without_sums;
 pub use written::make_file;

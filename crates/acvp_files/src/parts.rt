@@ -1,22 +1,18 @@
 //! The copies that a command makes beside a file, the name of what a restore keeps, and what a killed command has left.
 //!
-//! Whoever makes a copy has it locked until it is taken away or has its name. So a copy that nobody has locked was left.
-ghost use Rattle.std.specs.Prelude.{◌≡◌};
-ghost use Rattle.std.specs.List.{list_all};
-ghost use Rattle.std.specs.Char.{is_ascii_digit};
-ghost use Rattle.acvp_files.specs.Parts.{is_moment};
-
+//! Whoever makes a copy has it locked until it is taken away or has its name. So a copy that nobody has locked was
+//! left.
 use crate::fault::{FileFault, refused};
 use crate::number::{FileNumber, file_at, number_of};
-use acvp_causes::{folder_of, last_of};
+use acvp_causes::{MOMENT_DIGITS, folder_of, is_copy, last_of};
 use std::alloc::{AllocError, AllocGlobal, Global};
 use std::fs::{self, File, Metadata, OpenOptions, Permissions};
 use std::io::{self, ErrorKind};
 use std::os::unix::fs::{MetadataExt, OpenOptionsExt, PermissionsExt, fchown};
 use std::time::{SystemTime, UNIX_EPOCH};
 
-/// How many digits the moment of a copy has, in billionths of a second since 1970: from 2001 to 2286.
-const MOMENT_DIGITS: usize = 19;
+/// How many bytes the name of a copy has more than that of its file: a word of six, and a moment.
+const COPY_BYTES: usize = 6 + MOMENT_DIGITS;
 
 /// The bits of a file's mode by which its owner, its group and others read, write and run it.
 const RIGHTS: u32 = 0o777;
@@ -204,37 +200,11 @@ pub(crate) fn give_up(rt: &HostRuntime, part: &Part) {
     remove_pair(rt, &part.pair);
 }
 
-/// Whether all bytes are decimal digits.
-fn are_digits(text: &[u8]) -> bool
-    ensures { result ≡ list_all is_ascii_digit text.now }
-{
-    text.iter().all(|byte| byte.is_ascii_digit())
-}
-
-/// Whether a text is the digits of a moment.
-fn is_moment(text: &[u8]) -> bool
-    ensures { result ≡ is_moment text.now }
-{
-    text.len() == MOMENT_DIGITS && are_digits(text)
-}
-
 /// Whether a name is that of a copy that is made beside the file of another.
-fn is_copy_name(name: &str, base: &str) -> bool {
+fn is_copy_of(name: &str, base: &str) -> bool {
     match name.strip_prefix(base) {
-        Some(rest) => match (rest.strip_prefix("-part-"), rest.strip_prefix("-look-")) {
-            (Some(moment), _) | (None, Some(moment)) => is_moment(moment.as_bytes()),
-            (None, None) => false,
-        },
+        Some(rest) => rest.len() == COPY_BYTES && is_copy(rest),
         None => false,
-    }
-}
-
-/// Whether a path has the name of a copy that is being made, or that was left.
-pub fn is_copy(path: &str) -> bool {
-    let name = last_of(path);
-    match (name.rsplit_once("-part-"), name.rsplit_once("-look-")) {
-        (Some((_, moment)), _) | (None, Some((_, moment))) => is_moment(moment.as_bytes()),
-        (None, None) => false,
     }
 }
 
@@ -272,7 +242,7 @@ fn remove_left(rt: &HostRuntime, base: &str) {
         };
         let name = entry.file_name();
         let file = name.strip_suffix("-wal").unwrap_or(name);
-        if is_copy_name(file, last_of(base))
+        if is_copy_of(file, last_of(base))
             && let Ok(path) = format!(in rt.alloc(); "{}/{file}", folder_of(base))
             && let Ok(pair) = pair_at(rt.alloc(), path.as_str())
         {

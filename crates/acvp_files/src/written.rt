@@ -17,8 +17,8 @@ fn write_named(rt: &HostRuntime, part: &Part, path: &str, text: &[u8]) -> Result
     name_new(rt, part, path)
 }
 
-/// Makes a file of a text, whole or not at all, that its owner alone may read. Another file isn't written over, and none
-/// gets the name of one that lies beside a database.
+/// Makes a file of a text, whole or not at all, that its owner alone may read. Another file isn't written over, and
+/// none gets the name of one that lies beside a database.
 pub fn make_file(rt: &HostRuntime, path: &str, text: &[u8]) -> Result<(), FileFault> {
     may_be_made(rt, path)?;
     let part = new_copy(rt, path, Use::Part)?;

@@ -10,9 +10,9 @@ use acvp_desk::{Desk, Keys, NewFault, records_are_kept};
 use acvp_tables::ListTables;
 use std::alloc::Global;
 
-/// Runs a script over lists without a row. The input is the script of some turns, the output their answers, and of these
-/// turns, answers and what they leave all is promised: what `headline` and `isolation` say. Without a desk, nothing is
-/// read or written.
+/// Runs a script over lists without a row. The input is the script of some turns, the output their answers, and of
+/// these turns, answers and what they leave all is promised: what `headline` and `isolation` say. Without a desk,
+/// nothing is read or written.
 pub fn run_from_nothing<S: Source, K: Sink>(
     alloc: Global,
     routes: &Routes,

@@ -1,7 +1,8 @@
 //! Keys files that are made, or changed. Nothing that a keys file says is ever taken away but a key that is retired:
 //! tokens and vector sets name its lines by their places.
 ghost use Rattle.std.specs.Prelude.{◌≡◌, IfOk, MatchOption};
-ghost use Rattle.acvp_keys.specs.Changes.{AreNoKeys, CantBeChanged, IsChanged, ring_behind, seeds_behind, with_oldest_retired};
+ghost use Rattle.acvp_keys.specs.Changes.{AreNoKeys, CantBeChanged, IsChanged};
+ghost use Rattle.acvp_keys.specs.Changes.{ring_behind, seeds_behind, with_oldest_retired};
 ghost use Rattle.acvp_keys.specs.KeysFile.{IsLongText};
 
 use crate::reading::lines_of;

@@ -1,5 +1,5 @@
 //! The lines of a keys file or of a secret file, as they are written.
-ghost use Rattle.std.specs.Prelude.{◌≡◌, IfOk};
+ghost use Rattle.std.specs.Prelude.{IfOk};
 ghost use Rattle.acvp_keys.specs.KeysFile.{IsLine, IsSeedLine, IsTokenLine};
 ghost use Rattle.acvp_keys.specs.Private.Adding.{HasLineMore, HasLinesMore};
 

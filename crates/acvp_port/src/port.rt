@@ -106,8 +106,8 @@ fn doors_at<R: Files + Net>(
     }
 }
 
-/// The port of a number, and the socket beside a database. A client is waited for so many seconds in all. If `tells`, an
-/// error of the network is told on standard error.
+/// The port of a number, and the socket beside a database. A client is waited for so many seconds in all. If `tells`,
+/// an error of the network is told on standard error.
 pub fn port_on<'a, R: Clock + Files + Net>(
     rt: &'a R,
     alloc: Global,

@@ -125,8 +125,8 @@ fn run_deed(rt: &HostRuntime, db: &str, deed: Deed<'_>, flags: Flags) -> Result<
     say(rt, said, flags)
 }
 
-/// Shows what is looked at in a database, and says whether it is as it must be. What a check of the rows doesn't tell is
-/// warned of.
+/// Shows what is looked at in a database, and says whether it is as it must be. What a check of the rows doesn't tell
+/// is warned of.
 fn run_look(rt: &HostRuntime, db: &str, look: Look<'_>, flags: Flags) -> Result<bool, Fault> {
     let is_well = shown(rt, db, look)?;
     if flags.warns && matches!(look, Look::Check { .. }) {

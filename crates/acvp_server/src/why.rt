@@ -3,11 +3,11 @@ use crate::failure::Failed;
 use crate::made::{file_to_make, keys_to_change};
 use acvp_causes::{
     Because, Cause, Place, are_there, cause_of_database, cause_of_error, cause_of_folder,
-    cause_of_maker, cause_of_source, is_companion, is_left_alone, is_moved, keys_fault, name_of,
-    secret_fault, why_unnamed,
+    cause_of_maker, cause_of_source, is_companion, is_copy, is_left_alone, is_moved, keys_fault,
+    name_of, secret_fault, why_unnamed,
 };
 use acvp_commands::{Deed, Fault, Invocation, Look, Making};
-use acvp_files::{Step, is_copy};
+use acvp_files::Step;
 use acvp_keys::{bytes_of, read_keys};
 use acvp_port::has_server;
 use std::alloc::AllocGlobal;
