@@ -21,6 +21,7 @@ from laboratory import Laboratory, expect, free_port, rows_of
 import laboratory
 
 NOBODY = 65534
+OTHERS = 60
 IS_ROOT = os.geteuid() == 0
 
 
@@ -760,6 +761,38 @@ def left_copies(lab, slow_lock):
     expect("what is left behind a backup to another name", [name for name in copies(lab) if name not in others], [])
 
 
+# ---- a table of locks that changes
+
+
+LOCKER = """
+import fcntl, struct, sys, time
+files = [open(f"{sys.argv[1]}-{number}", "w") for number in range(40)]
+def lock(file, kind):
+    fcntl.fcntl(file, 37, struct.pack("hhqqi4x", kind, 0, 1 << 30, 510, 0))  # F_OFD_SETLK
+while True:
+    for file in files:
+        lock(file, fcntl.F_WRLCK)
+    for file in files:
+        lock(file, fcntl.F_UNLCK)
+"""
+
+
+def other_locks(lab):
+    """Beside processes that take and give up locks all the time, a served database isn't taken for one that was moved from
+    its log: its server carries orders out, and a backup is made."""
+    lab.add(1)
+    lab.serve(count=None)
+    lockers = [subprocess.Popen([sys.executable, "-c", LOCKER, lab.path(f"other-{number}")]) for number in range(3)]
+    try:
+        for _ in range(OTHERS):
+            expect("an order beside other locks", lab.run("account-disable", "--db", lab.db, "--account", "9"), (1, "", "fault: unknown\n"))
+            expect("accounts beside other locks", account_lines(lab, lab.db), ["1"])
+    finally:
+        for locker in lockers:
+            locker.kill()
+            locker.wait()
+
+
 def main():
     program, slow_lock, no_links = (os.path.abspath(path) for path in sys.argv[1:])
     os.umask(0o077)
@@ -767,7 +800,7 @@ def main():
     parts = [(links,), (hard_links,), (mounts,), (moved_while_serving,), (journals,), (restore_beside_a_start, slow_lock),
              (foreign_neighbours,), (foreign_texts,), (kept_owner,), (without_links, no_links), (left_copies, slow_lock)]
     parts += [(left_beside,), (renamed_meanwhile, slow_lock), (planted,), (without_proc,), (same_numbers,), (names_of_neighbours,),
-              (second_names,), (blamed,), (empty_files,)]
+              (second_names,), (blamed,), (empty_files,), (other_locks,)]
     for part, *more in parts:
         with tempfile.TemporaryDirectory() as folder:
             lab = Laboratory(program, folder)

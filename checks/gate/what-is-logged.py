@@ -4,6 +4,7 @@ came but the program's own words and numbers; and replies that are the same with
     what-is-logged.py PROGRAM SHIM
 
 SHIM is the library of set_clock.c, which shows the program one moment."""
+import datetime
 import os
 import re
 import socket
@@ -18,10 +19,15 @@ import page_sums
 
 MOMENT, END_OF_MOMENTS = 1790000000, 4102444800
 MARK = "marked-by-who-sent-it"
-LINE = re.compile(r"(\d+) (-|[1-9]\d{0,3}) (-|[A-Za-z]+|[a-z]+-[a-z]+) (-|\d+) ([A-Za-z]+|-) (\d+)((?: unsent| because: [ -~]+)?)\n")
+LINE = re.compile(r"(\S+) (-|[1-9]\d{0,3}) (-|[A-Za-z]+|[a-z]+-[a-z]+) (-|\d+) ([A-Za-z]+|-) (\d+)((?: unsent| because: [ -~]+)?)\n")
 STORE = ("the store refused a statement (a full disk, a folder that can't be written to), or met a page or a row that stands"
          " for nothing")
 REGISTRATION = {"algorithms": [{"algorithm": "SHA2-256", "revision": "1.0", "messageLength": [8]}], "mark": MARK}
+
+
+def told_as(moment):
+    """The date and time of a moment, as a line begins with it."""
+    return datetime.datetime.fromtimestamp(moment, datetime.timezone.utc).strftime("%Y-%m-%dT%H:%M:%SZ")
 
 
 class Logged:
@@ -65,7 +71,7 @@ class Logged:
         found = LINE.fullmatch(line)
         expect(f"the form of the line {line!r} of {what}", found is not None, True)
         moment, account, action, number, word, took, tail = found.groups()
-        expect(f"the line of {what}", (int(moment), f"{account} {action} {number} {word}{tail}"), (self.moment, wanted))
+        expect(f"the line of {what}", (moment, f"{account} {action} {number} {word}{tail}"), (told_as(self.moment), wanted))
         expect(f"the milliseconds of {what}", int(took) < 60000, True)
 
     def asks(self, what, text, wanted):

@@ -1,13 +1,18 @@
 -- What a line tells.
-use Rattle.std.specs.Prelude.{ℕ, List, Bool, true, false, Option, Some, None, codes}
+use Rattle.std.specs.Prelude.{ℕ, List, Bool, true, false, Option, Some, None, codes, decimal, if◌then◌else◌, nat_lt}
 use Rattle.acvp_desk.specs.declared.order.Order.{Order}
 use Rattle.acvp_desk.specs.declared.order.Order.TheVariants as order
+use Rattle.acvp_json.specs.Time.{time_of}
 use Rattle.acvp_log.specs.declared.line.Asked.{Asked}
 use Rattle.acvp_log.specs.declared.line.Asked.TheVariants as asked
 use Rattle.acvp_log.specs.declared.line.Came.{Came}
 use Rattle.acvp_log.specs.declared.line.Came.TheVariants.{Done, Refused}
 use Rattle.acvp_log.specs.declared.line.Refusal.{Refusal}
 use Rattle.acvp_log.specs.Rules.{is_behind_token}
+
+-- a moment with its date and time, before the year 10000; behind it, its seconds since 1970
+abbrev pub moment_text : ℕ → List ℕ
+moment_text moment = if nat_lt moment 253402300800 then time_of moment else decimal moment
 
 -- the order, by the command that gives it
 abbrev pub named_command : Order → List ℕ

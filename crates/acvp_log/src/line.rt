@@ -1,7 +1,42 @@
 //! What a line tells, and its text.
+ghost use Rattle.std.specs.Prelude.{◌≡◌, IfOk, string_bytes};
+ghost use Rattle.acvp_log.specs.Lines.{moment_text};
+
 use acvp_causes::Cause;
+use acvp_json::time_text;
 use acvp_policy::{Action, Rule};
+use std::alloc::{AllocError, Global};
 use std::fmt;
+
+/// The first second of the year 10000, for which there is no date in four digits.
+const END_OF_DATES: u64 = 253402300800;
+
+/// A moment in seconds since 1970 as its date and time in UTC, or as the number where it has no date.
+pub(crate) fn moment_text(alloc: Global, moment: u64) -> Result<String, AllocError>
+    ensures { IfOk result (λ text. string_bytes text ≡ moment_text moment) }
+{
+    if moment < END_OF_DATES {
+        time_text(alloc, moment)
+    } else {
+        format!(in alloc; "{moment}")
+    }
+}
+
+/// When something was handed on: its text, or the seconds since 1970 where memory ran out for one.
+#[derive(Clone, Copy)]
+pub(crate) struct When<'a> {
+    pub text: Option<&'a str>,
+    pub moment: u64,
+}
+
+impl fmt::Display for When<'_> {
+    fn fmt<W: fmt::Write>(&self, f: &mut fmt::Formatter<W>) -> fmt::Result {
+        match self.text {
+            Some(text) => f.write_str(text),
+            None => write!(f, "{}", self.moment),
+        }
+    }
+}
 
 /// What was asked for.
 #[derive(Clone, Copy)]

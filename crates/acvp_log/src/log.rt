@@ -8,7 +8,7 @@ ghost use Rattle.acvp_log.specs.declared.line.Came.TheVariants.{Done};
 use crate::head::{
     came_unanswered, claimed_account, given_account, head_of, named_by, reply_of, rule_in,
 };
-use crate::line::{Asked, Came, Entry, Number, Refusal, Tail};
+use crate::line::{Asked, Came, Entry, Number, Refusal, Tail, When, moment_text};
 use crate::rules::is_behind_token;
 use acvp_causes::{Cause, why_refused};
 use acvp_desk::Ask;
@@ -32,6 +32,7 @@ struct Begun {
 /// What the lines are made of, and what is being served.
 #[derive(Drop)]
 pub struct Log {
+    alloc: Global,
     routes: Routes,
     begun: Begun,
 }
@@ -42,6 +43,7 @@ impl Log {
         ensures { IfOk result (λ log. order_begun log ≡ (None, None)) }
     {
         Ok(Log {
+            alloc,
             routes: Routes::new(alloc)?,
             begun: Begun {
                 moment: 0,
@@ -104,9 +106,12 @@ impl Log {
             tail,
         } = entry;
         let moment = self.begun.moment;
+        let told = moment_text(self.alloc, moment).ok();
+        let text = told.as_ref().map(|text| text.as_str());
+        let when = When { text, moment };
         let account = Number(account.map(u64::from));
         let number = Number(number);
-        let _ = eprintln!(rt; "{moment} {account} {asked} {number} {came} {milliseconds}{tail}");
+        let _ = eprintln!(rt; "{when} {account} {asked} {number} {came} {milliseconds}{tail}");
     }
 
     /// What the line of a request tells that was answered so. Nothing came of a connection that broke.

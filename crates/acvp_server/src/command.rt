@@ -5,6 +5,9 @@ use std::alloc::{AllocError, Global};
 /// The flag by which a command that fails says why.
 pub(crate) const VERBOSE: &str = "verbose";
 
+/// The flag by which an order is given without a question.
+pub(crate) const YES: &str = "yes";
+
 /// The flag by which a line is written for each event that is served.
 pub(crate) const LOG: &str = "log";
 
@@ -184,10 +187,17 @@ const VERBOSE_FLAG: Wanted = Wanted {
     form: Form::Flag,
 };
 
+const YES_FLAG: Wanted = Wanted {
+    name: YES,
+    value: "",
+    help: "Asks nothing; on a terminal, what it is about to do is shown without it, and asked",
+    form: Form::Flag,
+};
+
 const LOG_FLAG: Wanted = Wanted {
     name: LOG,
     value: "",
-    help: "Writes a line to standard error for each request and order, as 1790000000 7 ReadAccount 200 ok 2",
+    help: "Writes a line to standard error for each request and order, as 2026-09-21T14:13:20Z 7 ReadAccount 200 ok 2",
     form: Form::Flag,
 };
 
@@ -234,19 +244,19 @@ static SUBCOMMANDS: [Subcommand; 17] = [
         name: "account-disable",
         about: "Disables an account for good: its logins and its tokens are refused",
         example: "Example: acvp_server account-disable --db laboratory.db --account 7",
-        options: &[DB_OPTION, ACCOUNT_OPTION, VERBOSE_FLAG],
+        options: &[DB_OPTION, ACCOUNT_OPTION, YES_FLAG, VERBOSE_FLAG],
     },
     Subcommand {
         name: "request-approve",
         about: "Approves a request, and prints the URL of what it asked for",
         example: "Example: acvp_server request-approve --db laboratory.db --request 7000001",
-        options: &[DB_OPTION, REQUEST_OPTION, VERBOSE_FLAG],
+        options: &[DB_OPTION, REQUEST_OPTION, YES_FLAG, VERBOSE_FLAG],
     },
     Subcommand {
         name: "request-reject",
         about: "Rejects a request",
         example: "Example: acvp_server request-reject --db laboratory.db --request 7000001",
-        options: &[DB_OPTION, REQUEST_OPTION, VERBOSE_FLAG],
+        options: &[DB_OPTION, REQUEST_OPTION, YES_FLAG, VERBOSE_FLAG],
     },
     Subcommand {
         name: "accounts",

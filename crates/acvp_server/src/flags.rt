@@ -6,6 +6,10 @@ pub(crate) struct Flags {
     /// Whether it says why it failed: to a terminal, and if it is verbose.
     pub(crate) says_why: bool,
 
+    /// Whether it asks before it gives an order that can't be taken back: somebody is there to answer, and hasn't said
+    /// yes beforehand.
+    pub(crate) asks: bool,
+
     /// Whether a line is written for each event that is served.
     pub(crate) is_logged: bool,
 

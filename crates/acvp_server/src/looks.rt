@@ -29,7 +29,7 @@ fn fault_of_view(fault: ViewFault) -> Fault
 }
 
 /// The tables of a copy of the database at a path.
-fn copy_of(rt: &HostRuntime, database: &str) -> Result<FileTables, Fault> {
+pub(crate) fn copy_of(rt: &HostRuntime, database: &str) -> Result<FileTables, Fault> {
     match tables_of_copy(rt, database) {
         Ok(tables) => Ok(tables),
         Err(fault) => Err(fault_of_files(fault)),

@@ -3,6 +3,7 @@
 
 ghost use Rattle.acvp_commands.specs.Asked.{NamesAccount, NamesAccountToDo};
 
+mod asks;
 mod command;
 mod database;
 mod failure;
@@ -16,7 +17,8 @@ mod printing;
 mod script;
 mod why;
 
-use crate::command::{LOG, VERBOSE, command};
+use crate::asks::{is_there, is_wanted};
+use crate::command::{LOG, VERBOSE, YES, command};
 use crate::database::{Said, done_in, named};
 use crate::failure::Failed;
 use crate::flags::Flags;
@@ -115,10 +117,15 @@ fn tell_open_files(rt: &HostRuntime, asked: Invocation<'_>) {
     }
 }
 
-/// Does something with a database, prints the line that says so, and says whether it is done.
+/// Does something with a database, prints the line that says so, and says whether it is done. If it isn't wanted,
+/// nothing is.
 fn run_deed(rt: &HostRuntime, db: &str, deed: Deed<'_>, flags: Flags) -> Result<bool, Fault>
     requires { NamesAccountToDo deed }
 {
+    if flags.asks && !is_wanted(rt, db, deed) {
+        let _ = eprintln!(rt; "nothing is changed");
+        return Ok(false);
+    }
     let work = work_of(&own_files(rt, db), deed)?;
     let name = named(rt, db)?;
     let said = done_in(rt, name.as_str(), Wary, work, flags)?;
@@ -208,13 +215,18 @@ fn failed(rt: &impl Eprint, fault: Fault) -> ExitCode {
 
 /// The flags of the command that the command line asks for.
 fn flags_of(rt: &HostRuntime, matches: &ArgMatches<'_>) -> Flags {
-    let (is_verbose, is_logged) = match matches.subcommand() {
-        Some((_, options)) => (options.get_flag(VERBOSE), options.get_flag(LOG)),
-        None => (false, false),
+    let (is_verbose, is_logged, is_sure) = match matches.subcommand() {
+        Some((_, options)) => (
+            options.get_flag(VERBOSE),
+            options.get_flag(LOG),
+            options.get_flag(YES),
+        ),
+        None => (false, false, true),
     };
     let says_why = is_verbose || rt.stderr().is_terminal();
     Flags {
         says_why,
+        asks: !is_sure && is_there(rt),
         is_logged,
         warns: says_why || is_logged,
     }

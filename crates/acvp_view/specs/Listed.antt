@@ -6,10 +6,11 @@ use Rattle.acvp_registry.specs.declared.counts.Counts.{Counts}
 use Rattle.acvp_registry.specs.declared.kind.Kind.{Kind}
 use Rattle.acvp_registry.specs.declared.kind.Kind.TheVariants.{Vendor, Module, Environment, Certification}
 use Rattle.acvp_tables.specs.Content.{Content, account_at, account_numbers, counts_of, request_at, request_summary}
-use Rattle.acvp_tables.specs.Content.{requests_of}
+use Rattle.acvp_tables.specs.Content.{requests_of, session_at}
 use Rattle.acvp_tables.specs.declared.rows.AccountRow.{AccountRow}
 use Rattle.acvp_tables.specs.declared.rows.RequestStatus.{RequestStatus}
 use Rattle.acvp_tables.specs.declared.rows.RequestStatus.TheVariants as status
+use Rattle.acvp_tables.specs.declared.rows.SessionRow.{SessionRow}
 use Rattle.acvp_tables.specs.declared.summary.RequestPurpose.{RequestPurpose}
 use Rattle.acvp_tables.specs.declared.summary.RequestPurpose.TheVariants as asks
 use Rattle.acvp_tables.specs.declared.summary.RequestSummary.{RequestSummary}
@@ -34,6 +35,18 @@ account_text row n = (decimal row.number ++ codes " " ++ enabled_word row.enable
 -- the line of the account of a number, where there is one
 unfoldable pub account_line : ℕ → Content → Option (List ℕ)
 account_line number c = option_map (λ row. account_text row (counts_of number c)) (account_at number c.accounts)
+
+-- ---- a test session
+
+-- how many of its vector sets that aren't cancelled have passed
+abbrev pub session_text : SessionRow → List ℕ
+session_text row =
+    codes "session " ++ decimal row.number ++ codes ": " ++ decimal row.passed ++ codes " of " ++ decimal row.live
+    ++ codes " vector sets passed"
+
+-- the line of the test session of a number, where there is one
+unfoldable pub session_line : ℕ → Content → Option (List ℕ)
+session_line number c = option_map session_text (session_at number c.sessions)
 
 -- ---- a request
 

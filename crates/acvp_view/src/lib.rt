@@ -20,5 +20,5 @@ pub use damaged::{damage_text, whole_text};
 pub use fault::ViewFault;
 pub use lines::{Lines, Printed};
 pub use listed::{account_line, request_line};
-pub use lists::{show_accounts, show_requests};
+pub use lists::{show_account, show_accounts, show_requests, show_session};
 pub use shown::{show_certified, show_request};

@@ -3,11 +3,13 @@ ghost use Rattle.std.specs.Prelude.{◌≡◌, ◌++◌, IfOk, codes, decimal, o
 ghost use Rattle.acvp_tables.specs.Calls.{Finds};
 ghost use Rattle.acvp_desk.specs.Serves.{Looks};
 ghost use Rattle.acvp_view.specs.Listed.{account_line, account_text, counts_text, enabled_word, kind_word};
-ghost use Rattle.acvp_view.specs.Listed.{purpose_text, request_line, request_text, status_text};
+ghost use Rattle.acvp_view.specs.Listed.{purpose_text, request_line, request_text, session_line, session_text};
+ghost use Rattle.acvp_view.specs.Listed.{status_text};
 
 use acvp_registry::{Counts, Kind};
 use acvp_tables::{
-    AccountRow, Certification, RequestPurpose, RequestStatus, RequestSummary, StoreFault, Tables,
+    AccountRow, Certification, RequestPurpose, RequestStatus, RequestSummary, SessionRow,
+    StoreFault, Tables,
 };
 use std::alloc::{AllocError, Global};
 
@@ -72,6 +74,35 @@ pub fn account_line<T: Tables>(
     };
     let counts = tables.counts(number)?;
     Ok(Some(account_text(alloc, &row, counts)?))
+}
+
+/// The line of a test session.
+fn session_text(alloc: Global, row: &SessionRow) -> Result<String, AllocError>
+    ensures { IfOk result (λ text. string_bytes text ≡ session_text row.now) }
+{
+    let SessionRow {
+        number,
+        live,
+        passed,
+        ..
+    } = *row;
+    format!(in alloc; "session {number}: {passed} of {live} vector sets passed")
+}
+
+/// The line of the test session of a number, where there is one: how many of its vector sets have passed.
+#[tactic(auto, unfolding(crate::specs::Listed::session_line))]
+pub(crate) fn session_line<T: Tables>(
+    alloc: Global,
+    tables: &mut T,
+    number: u64,
+) -> Result<Option<String>, StoreFault>
+    ensures found { Finds T.meaning (option_map string_bytes) result tables.old tables.new (session_line number) }
+    ensures looks { Looks T.meaning result tables.old tables.new }
+{
+    let Some(row) = tables.session(number)? else {
+        return Ok(None);
+    };
+    Ok(Some(session_text(alloc, &row)?))
 }
 
 pub(crate) fn kind_word(kind: Kind) -> &'static str

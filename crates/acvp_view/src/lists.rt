@@ -1,13 +1,14 @@
-//! All accounts, and the requests that wait for a decision, or all: a line each.
+//! All accounts, and the requests that wait for a decision, or all: a line each. Also one account or test session.
 ghost use Rattle.std.specs.Prelude.{◌+◌, ◌<◌, ◌^◌};
 ghost use Rattle.std.specs.List.{flat_map, range_with_len};
 ghost use Rattle.acvp_desk.specs.Serves.{Looks};
 ghost use Rattle.acvp_view.specs.Listed.{account_line, account_lines, request_line, request_lines, request_lines_of};
+ghost use Rattle.acvp_view.specs.Listed.{session_line};
 ghost use Rattle.acvp_view.specs.Lines.{Tells, lines_of};
 
 use crate::fault::ViewFault;
 use crate::lines::{Lines, hand_on};
-use crate::listed::{account_line, request_line};
+use crate::listed::{account_line, request_line, session_line};
 use acvp_tables::{Counted, Tables};
 use std::alloc::Global;
 
@@ -18,7 +19,7 @@ const MOST_ACCOUNT: u16 = 9999;
 const NUMBERS_OF_AN_ACCOUNT: u64 = 1_000_000;
 
 /// Hands on the line of the account of a number, where there is one.
-fn show_account<T: Tables, L: Lines>(
+pub fn show_account<T: Tables, L: Lines>(
     alloc: Global,
     tables: &mut T,
     lines: &mut L,
@@ -29,6 +30,21 @@ fn show_account<T: Tables, L: Lines>(
     ensures looks { Looks T.meaning result tables.old tables.new }
 {
     let line = account_line(alloc, tables, number)?;
+    hand_on(lines, line)
+}
+
+/// Hands on the line of the test session of a number, where there is one: how many of its vector sets have passed.
+pub fn show_session<T: Tables, L: Lines>(
+    alloc: Global,
+    tables: &mut T,
+    lines: &mut L,
+    number: u64,
+) -> Result<(), ViewFault>
+    ensures told { Tells L.takes T.meaning result tables.old tables.new lines.old lines.new
+        (λ c. lines_of (session_line number c)) }
+    ensures looks { Looks T.meaning result tables.old tables.new }
+{
+    let line = session_line(alloc, tables, number)?;
     hand_on(lines, line)
 }
 

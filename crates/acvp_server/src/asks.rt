@@ -1,0 +1,106 @@
+//! What an order is about to do, and whether it is wanted. An order that is given can't be taken back.
+use crate::looks::copy_of;
+use acvp_commands::Deed;
+use acvp_files::FileTables;
+use acvp_tables::{RequestPurpose, RequestSummary};
+use acvp_view::{Lines, ViewFault, show_account, show_request, show_session};
+use std::alloc::AllocGlobal;
+use std::io::IsTerminal;
+
+/// Standard error, where a question stands, since standard output has what was done alone.
+#[derive(Drop)]
+struct Shown<'a>(&'a HostRuntime);
+
+impl Lines for Shown<'_> {
+    ghost use Rattle.std.specs.Prelude.{⊤};
+
+    // No contract can say what is printed.
+    ghost takes = { λ _ _ _. ⊤ };
+
+    fn take(&mut self, line: &str) -> Result<(), ViewFault> {
+        let Shown(rt) = self;
+        match eprintln!(rt; "{line}") {
+            Ok(()) => Ok(()),
+            Err(_) => Err(ViewFault::Write),
+        }
+    }
+}
+
+/// Shows whose a request is, and of a certification how many vector sets have passed.
+fn show_behind(
+    rt: &HostRuntime,
+    tables: &mut FileTables,
+    request: &RequestSummary,
+) -> Result<(), ViewFault> {
+    let mut shown = Shown(rt);
+    show_account(rt.alloc(), tables, &mut shown, request.account)?;
+    match request.purpose {
+        RequestPurpose::Certification(it) => {
+            show_session(rt.alloc(), tables, &mut shown, it.session)
+        }
+        RequestPurpose::Registration(_) => Ok(()),
+    }
+}
+
+/// Shows what a decision on the request of a number is about.
+fn show_asked(rt: &HostRuntime, tables: &mut FileTables, number: u64) -> Result<(), ViewFault> {
+    let request = show_request(rt.alloc(), tables, &mut Shown(rt), number)?;
+    show_behind(rt, tables, &request)
+}
+
+/// Shows what an order is about, as far as a copy of the database tells. Where it tells nothing, the order will say why.
+fn show_order(rt: &HostRuntime, db: &str, deed: Deed<'_>) {
+    let Ok(mut tables) = copy_of(rt, db) else {
+        return;
+    };
+    let _ = match deed {
+        Deed::DisableAccount { account } => {
+            show_account(rt.alloc(), &mut tables, &mut Shown(rt), account)
+        }
+        Deed::ApproveRequest { request } | Deed::RejectRequest { request } => {
+            show_asked(rt, &mut tables, request)
+        }
+        _ => Ok(()),
+    };
+}
+
+/// What a question asks, of an order that can't be taken back.
+fn question_of(deed: Deed<'_>) -> Option<&'static str> {
+    match deed {
+        Deed::DisableAccount { .. } => Some("Disable this account for good?"),
+        Deed::ApproveRequest { .. } => Some("Approve this request?"),
+        Deed::RejectRequest { .. } => Some("Reject this request?"),
+        _ => None,
+    }
+}
+
+/// Whether a line says yes.
+fn is_yes(line: &str) -> bool {
+    matches!(line.trim(), "y" | "Y" | "yes" | "Yes" | "YES")
+}
+
+/// Whether what is typed at a question says yes. Nothing, as at the end of the input, says no.
+fn is_answered(rt: &HostRuntime, question: &str) -> bool {
+    let mut line = String::new(rt.alloc());
+    if eprint!(rt; "{question} [y/N] ").is_err() {
+        return false;
+    }
+    match rt.read_line(&mut line) {
+        Ok(_) => is_yes(line.as_str()),
+        Err(_) => false,
+    }
+}
+
+/// Whether somebody is there to answer: standard input and standard error are terminals.
+pub(crate) fn is_there(rt: &HostRuntime) -> bool {
+    rt.stdin().is_terminal() && rt.stderr().is_terminal()
+}
+
+/// Whether what is to be done is wanted: an order that can't be taken back is shown, and asked for.
+pub(crate) fn is_wanted(rt: &HostRuntime, db: &str, deed: Deed<'_>) -> bool {
+    let Some(question) = question_of(deed) else {
+        return true;
+    };
+    show_order(rt, db, deed);
+    is_answered(rt, question)
+}
