@@ -99,6 +99,9 @@ pub enum Cause {
     /// The seed that a vector set names isn't in the file, or is another than that of its prompts.
     OtherSeed,
 
+    /// The seed at this place, from 1 on, is another than the one that the database was served with.
+    Seed(usize),
+
     /// The keys file has as many lines of one kind as there may be.
     Full,
 
@@ -180,6 +183,10 @@ impl fmt::Display for Cause {
             Cause::NoSeed => f.write_str("a vector set names a seed that isn't in it"),
             Cause::OtherSeed => f.write_str(
                 "it lacks a seed that a vector set names, or has another in its place",
+            ),
+            Cause::Seed(place) => write!(
+                f,
+                "its seed {place} is another than the one that the database was served with"
             ),
             Cause::Full => f.write_str("it has 16 lines of that kind, the most there may be"),
             Cause::LastKey => f.write_str("its last key can't be retired: add one first"),

@@ -7,6 +7,7 @@ ghost use Rattle.acvp_server.specs.Faults.{fault_of_files};
 
 use crate::flags::Flags;
 use crate::host::Machine;
+use crate::seeds::with_seeds;
 use acvp_causes::name_of;
 use acvp_commands::{Fault, Message, Task, Work, done_over, make_tables, moment_of, order_line};
 use acvp_desk::Order;
@@ -54,7 +55,7 @@ pub(crate) fn named(rt: &HostRuntime, path: &str) -> Result<String, Fault> {
     }
 }
 
-/// Does this over a connection to the database in a file. If it is done, or was served, the connection is closed; a
+/// Does this over a connection to the database in a file, which is to know the seeds that it is served with. If it is done, or was served, the connection is closed; a
 /// command that is refused leaves the file and its log as they are, and no log if there was none.
 fn done_and_closed<S: Start>(
     rt: &HostRuntime,
@@ -72,7 +73,14 @@ fn done_and_closed<S: Start>(
         flags,
     };
     let serves = matches!(work, Work::Take(Task::Serve { .. }));
-    let (connection, outcome) = done_over(&mut machine, connection, work);
+    let (connection, known) = match &work {
+        Work::Take(Task::Serve { keys, .. }) => with_seeds(rt.alloc(), connection, &keys.seed),
+        _ => (connection, Ok(())),
+    };
+    let (connection, outcome) = match known {
+        Ok(()) => done_over(&mut machine, connection, work),
+        Err(fault) => (connection, Err(fault)),
+    };
     let may_have_served = serves && !matches!(outcome, Err(Fault::Schema));
     if outcome.is_ok() || may_have_served {
         close(connection);

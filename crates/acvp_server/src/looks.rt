@@ -5,8 +5,10 @@ ghost use Rattle.acvp_server.specs.Faults.{fault_of_view};
 
 use crate::database::fault_of_files;
 use crate::makers::own_files;
+use crate::seeds::tables_under;
 use acvp_audit::Watch;
 use acvp_commands::{Fault, Look, keys_in, moment_of};
+use acvp_desk::Keys;
 use acvp_files::{FileTables, tables_of_copy};
 use acvp_view::{
     Printed, ViewFault, show_accounts, show_certificate, show_certified, show_check, show_request,
@@ -36,6 +38,11 @@ pub(crate) fn copy_of(rt: &HostRuntime, database: &str) -> Result<FileTables, Fa
     }
 }
 
+/// The tables of a copy of the database at a path, if it wasn't served with other seeds than these.
+fn copy_under(rt: &HostRuntime, database: &str, keys: &Keys) -> Result<FileTables, Fault> {
+    tables_under(rt.alloc(), copy_of(rt, database)?, &keys.seed)
+}
+
 /// What showing something came to.
 fn seen(outcome: Result<(), ViewFault>) -> Result<bool, Fault> {
     match outcome {
@@ -59,7 +66,7 @@ fn requests(rt: &HostRuntime, database: &str, all: bool) -> Result<bool, Fault> 
 /// Prints what a decision on the request of a number needs.
 fn request_show(rt: &HostRuntime, database: &str, keys: &str, number: u64) -> Result<bool, Fault> {
     let keys = keys_in(&own_files(rt, database), keys)?;
-    let mut tables = copy_of(rt, database)?;
+    let mut tables = copy_under(rt, database, &keys)?;
     let mut lines = Printed(rt);
     match show_request(rt.alloc(), &mut tables, &mut lines, number) {
         Ok(request) => seen(show_certified(
@@ -77,7 +84,7 @@ fn request_show(rt: &HostRuntime, database: &str, keys: &str, number: u64) -> Re
 /// Prints the document of the approved certification of a request's number.
 fn certificate(rt: &HostRuntime, database: &str, keys: &str, number: u64) -> Result<bool, Fault> {
     let keys = keys_in(&own_files(rt, database), keys)?;
-    let mut tables = copy_of(rt, database)?;
+    let mut tables = copy_under(rt, database, &keys)?;
     seen(show_certificate(
         rt.alloc(),
         &mut tables,
@@ -111,7 +118,7 @@ fn tell_damaged(rt: &HostRuntime) -> bool {
 /// Prints what a check of the rows comes to, and says whether they are whole.
 fn checked(rt: &HostRuntime, database: &str, keys: &str, grades: bool) -> Result<bool, Fault> {
     let keys = keys_in(&own_files(rt, database), keys)?;
-    let mut tables = copy_of(rt, database)?;
+    let mut tables = copy_under(rt, database, &keys)?;
     let is_shown = rt.stderr().is_terminal();
     let progress = Progress { rt, is_shown };
     let outcome = show_check(

@@ -15,6 +15,7 @@ mod makers;
 mod port;
 mod printing;
 mod script;
+mod seeds;
 mod why;
 
 use crate::asks::{is_there, is_wanted};

@@ -1,13 +1,15 @@
 //! Why a command failed, as far as it can be seen at its files afterwards.
 use crate::failure::Failed;
 use crate::made::{file_to_make, keys_to_change};
+use crate::seeds::other_seed;
 use acvp_causes::{
     Because, Cause, Place, are_there, cause_of_database, cause_of_error, cause_of_folder,
     cause_of_maker, cause_of_source, is_companion, is_copy, is_left_alone, is_moved, keys_fault,
     name_of, secret_fault, why_unnamed,
 };
 use acvp_commands::{Deed, Fault, Invocation, Look, Making};
-use acvp_files::Step;
+use acvp_files::{Step, tables_of_copy};
+use acvp_gen::Seeds;
 use acvp_keys::{bytes_of, read_keys};
 use acvp_port::has_server;
 use std::alloc::AllocGlobal;
@@ -91,6 +93,25 @@ fn text_again(rt: &HostRuntime, path: &str) -> Option<io::Result<Vec<u8>>> {
     }
 }
 
+/// Why seeds were refused for a database, if it was served with another one at some place.
+fn cause_of_seeds(rt: &HostRuntime, db: &str, seeds: &Seeds) -> Option<Cause> {
+    let Ok(tables) = tables_of_copy(rt, db) else {
+        return None;
+    };
+    match other_seed(rt.alloc(), tables, seeds) {
+        Ok(Some(place)) => Some(Cause::Seed(place)),
+        _ => None,
+    }
+}
+
+/// Why good keys were refused, for a database or for none: this, if nothing else can be seen.
+fn cause_of_good_keys(rt: &HostRuntime, db: Option<&str>, seeds: &Seeds, good: Cause) -> Cause {
+    match db {
+        Some(db) => cause_of_seeds(rt, db, seeds).unwrap_or(good),
+        None => good,
+    }
+}
+
 /// Why the keys in a file were refused, for a database or for none, and what that comes to where its text is of their
 /// form.
 fn cause_of_keys(rt: &HostRuntime, path: &str, db: Option<&str>, good: Cause) -> Option<Cause> {
@@ -99,7 +120,7 @@ fn cause_of_keys(rt: &HostRuntime, path: &str, db: Option<&str>, good: Cause) ->
     }
     match text_again(rt, path)? {
         Ok(text) => match read_keys(&text) {
-            Some(_) => Some(good),
+            Some((_, seeds)) => Some(cause_of_good_keys(rt, db, &seeds, good)),
             None => Some(Cause::Text(keys_fault(&text))),
         },
         Err(error) => Some(cause_of_error(error)),
