@@ -112,7 +112,9 @@ class Front:
             reply = connection.getresponse()
             text = json.loads(reply.read())
             if reply.status == 429:
-                expect("what is told of a rate", (reply.headers["Content-Type"], text), ("application/json", [{"acvVersion": "1.0"}, {"error": "tooManyRequests"}]))
+                wanted = "application/json", "2", [{"acvVersion": "1.0"}, {"error": "tooManyRequests"}]
+                told = reply.headers["Content-Type"], reply.headers["Retry-After"], text
+                expect("what is told of a rate", told, wanted)
                 connection.close()
                 return count
             expect("a request below a rate", (reply.status, text[1]), (401, {"error": "tokenMissing"}))
@@ -206,7 +208,7 @@ def over_tls(lab, port):
     expect("a body that is too large", client.call("POST", "/acvp/v1/testSessions", body=b" " * 2097153)[0], 413)
     expect("a login that is too large", client.call("POST", "/acvp/v1/login", body=b" " * 4097), (413, {"error": "bodyTooLarge"}))
     for certificate, what in [(None, "no certificate"), ("other", "another authority's")]:
-        expect(what, Front(lab, port, certificate).call("GET", "/acvp/v1/account"), (400, {"error": "badRequest"}))
+        expect(what, Front(lab, port, certificate).call("GET", "/acvp/v1/account"), (403, {"error": "clientCertificate"}))
     tries = [client.call("POST", "/acvp/v1/login", thing={"password": "00000000", "user": "7"})[0] for _ in range(20)]
     expect("logins that are tried on and on", (tries[0], tries[-1]), (403, 429))
     rates(lab, port)
