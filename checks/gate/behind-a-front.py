@@ -1,7 +1,10 @@
 """The examples of a front and of a service: nginx with TLS and certificates of clients before the program, as
-examples/nginx.conf has it, and what systemd says of examples/acvp_server.service. What isn't installed is skipped.
+examples/nginx.conf has it, with certificates of examples/certificates; and what systemd says of
+examples/acvp_server.service. What isn't installed is skipped.
 
     behind-a-front.py PROGRAM"""
+import contextlib
+import hashlib
 import http.client
 import json
 import os
@@ -19,10 +22,16 @@ import laboratory
 from validation import answers
 
 TOP = os.path.dirname(os.path.dirname(os.path.dirname(os.path.abspath(__file__))))
+SCRIPT = os.path.join(TOP, "examples", "certificates")
 REGISTRATION = {"algorithms": [{"algorithm": "SHA2-256", "messageLength": [8], "revision": "1.0"}]}
-TWENTY_SETS = {"algorithms": [{"algorithm": "HMAC-SHA2-256", "keyLen": [256], "macLen": [256], "revision": "1.0"}] * 20}
-# What nginx answers itself, or would, and what is answered: a request line, the fields behind Host, a status and an error.
-# Of a request line that can't be read nginx knows no path.
+MACS = {"algorithm": "HMAC-SHA2-256", "keyLen": [256], "macLen": [256], "revision": "1.0"}
+TWENTY_SETS = {"algorithms": [MACS] * 20}
+# what is told to whoever has no certificate that is accepted, and by the server to whoever has one and no token
+NO_CLIENT = 403, {"error": "clientCertificate"}
+NO_TOKEN = 401, {"error": "tokenMissing"}
+TOO_LARGE = 413, {"error": "bodyTooLarge"}
+# What nginx answers itself, or would, and what is answered: a request line, the fields behind Host, a status and an
+# error. Of a request line that can't be read nginx knows no path.
 SHAPES = [
     ("POST /acvp/v1/testSessions HTTP/1.1", ["Transfer-Encoding: xchunked"], 501, "transferCoding"),
     ("POST /acvp/v1/testSessions HTTP/1.1", ["Transfer-Encoding: gzip, chunked"], 501, "transferCoding"),
@@ -48,50 +57,119 @@ SHAPES = [
 ]
 
 
-def openssl(lab, *args):
-    subprocess.run(["openssl", *args], cwd=lab.folder, check=True, capture_output=True)
+def script(lab, *args):
+    """The status, the output and the faults of examples/certificates."""
+    done = subprocess.run([SCRIPT, *args], cwd=lab.folder, capture_output=True, text=True, timeout=60)
+    return done.returncode, done.stdout, done.stderr
+
+
+def makes(lab, *args):
+    status, output, faults = script(lab, *args)
+    expect(f"certificates {args}", (status, len(output.splitlines()), faults), (0, 1, ""))
+
+
+def files_of(folder):
+    """The digest and the mode of each file in a folder."""
+    kept = {}
+    for place, _, names in os.walk(folder):
+        for path in (os.path.join(place, name) for name in names):
+            with open(path, "rb") as file:
+                kept[path] = hashlib.sha256(file.read()).digest(), os.stat(path).st_mode & 0o777
+    return kept
 
 
 def certificates(lab):
-    """An authority, the server's certificate and those of three clients."""
-    for name, subject in [("authority", "/CN=laboratory"), ("stranger", "/CN=stranger")]:
-        openssl(lab, "req", "-x509", "-newkey", "ec", "-pkeyopt", "ec_paramgen_curve:prime256v1", "-nodes", "-days", "2",
-                "-keyout", f"{name}-key.pem", "-out", f"{name}.pem", "-subj", subject)
-    for name, by in [("server", "authority"), ("client", "authority"), ("second", "authority"), ("third", "authority"), ("other", "stranger")]:
-        lab.write(lab.path(f"{name}.ext"), "subjectAltName=IP:127.0.0.1\n")
-        openssl(lab, "req", "-newkey", "ec", "-pkeyopt", "ec_paramgen_curve:prime256v1", "-nodes", "-keyout", f"{name}-key.pem",
-                "-out", f"{name}.csr", "-subj", f"/CN={name}")
-        openssl(lab, "x509", "-req", "-in", f"{name}.csr", "-CA", f"{by}.pem", "-CAkey", f"{by}-key.pem", "-CAcreateserial",
-                "-days", "2", "-out", f"{name}.pem", "-extfile", f"{name}.ext")
-    shutil.copy(lab.path("authority.pem"), lab.path("clients.pem"))
+    """An authority, the front's certificate and those of three clients. A stranger's authority, in a folder whose name
+    has a space, has a client of the same name as one of the three."""
+    makes(lab, "authority", "authority", "Example Laboratory")
+    makes(lab, "server", "authority", "127.0.0.1")
+    makes(lab, "authority", "a stranger", "Stranger")
+    makes(lab, "client", "a stranger", "second")
+    three = [subprocess.Popen([SCRIPT, "client", "authority", name], cwd=lab.folder, stdout=subprocess.DEVNULL)
+             for name in ("acme", "second", "third")]
+    expect("three at once", [one.wait() for one in three], [0, 0, 0])
+    with open(lab.path("authority/records/index.txt")) as file:
+        expect("the records of the front and of three at once", len(file.readlines()), 4)
+    keys = [access[1] for path, access in files_of(lab.folder).items() if path.endswith("-key.pem")]
+    expect("who may read the keys", keys, [0o600] * 7)
+    careless(lab)
+
+
+def careless(lab):
+    """The script writes over nothing, and refuses what is no name: in one line each, and nothing is left of it."""
+    before = files_of(lab.folder)
+    refused = [(1, args.split(" ")) for args in (
+        "authority authority Another", "server authority 127.0.0.1", "client authority acme",
+        "withdraw authority nobody", "withdraw authority 127.0.0.1", "list nowhere", "client nowhere acme",
+        "authority no/where Example", "authority keys.txt Example", "client keys.txt acme")]
+    refused += [(2, args.split(" ")) for args in (
+        "", "client", "client authority", "client authority a b", "remove authority acme", "authority new a/b",
+        "server authority a_b", "list authority acme")]
+    refused += [(2, ["authority", "", "Example"]), (2, ["list", ""])]
+    refused += [(2, ["client", "authority", name])
+                for name in ("", "two words", "a/b", "../a", "..", "-a", "Acme", "a\nb", "a" * 65, "*", "a+O=b")]
+    for wanted, args in refused:
+        status, output, faults = script(lab, *args)
+        expect(f"certificates {args}: {faults}", (status, output, len(faults.splitlines())), (wanted, "", 1))
+    expect("what is there after that", files_of(lab.folder), before)
+
+
+def replaced(name, pairs):
+    """An example, with what this check has in place of its files and ports."""
+    with open(os.path.join(TOP, "examples", name)) as file:
+        text = file.read()
+    for old, new in pairs:
+        expect(f"{old} in {name}", old in text, True)
+        text = text.replace(old, new)
+    return text
 
 
 def configured(lab, port):
-    """The example, with the files and ports of this check in place of its own."""
-    with open(os.path.join(TOP, "examples", "nginx.conf")) as file:
-        text = file.read()
-    for old, new in [("/etc/acvp/", lab.folder + "/"), ("/run/acvp-nginx.pid", lab.path("nginx.pid")), ("/var/lib/nginx/", lab.folder + "/"),
-                     ("listen 443 ssl;", f"listen 127.0.0.1:{port} ssl;"), ("http://127.0.0.1:8080", f"http://127.0.0.1:{lab.port}")]:
-        expect(f"{old} in the example", old in text, True)
-        text = text.replace(old, new)
+    """The example of a front."""
+    text = replaced("nginx.conf", [
+        ("/etc/acvp/", lab.path("authority/")), ("/run/acvp-nginx.pid", lab.path("nginx.pid")),
+        ("/var/lib/nginx/", lab.path("")), ("listen 443 ssl;", f"listen 127.0.0.1:{port} ssl;"),
+        ("127.0.0.1:8080", f"127.0.0.1:{lab.port}")])
     # the paths of nginx's own package, which another user may not write to
-    places = "".join(f"    {kind}_temp_path {lab.path(kind)};\n" for kind in ("fastcgi", "uwsgi", "scgi"))
-    text = text.replace("http {\n", "http {\n" + places, 1)
+    own = "".join(f"    {kind}_temp_path {lab.path(kind)};\n" for kind in ("fastcgi", "uwsgi", "scgi"))
+    text = text.replace("http {\n", "http {\n" + own, 1)
     who = "user root;\n" if os.geteuid() == 0 else ""
     return lab.write(lab.path("nginx.conf"), "daemon off;\n" + who + text)
+
+
+@contextlib.contextmanager
+def nginx(lab, conf, port):
+    """nginx while it runs. Its errors are shown if anything fails."""
+    process = subprocess.Popen(["nginx", "-p", lab.folder, "-c", conf], stderr=subprocess.PIPE)
+    try:
+        waits(port)
+        yield
+    except BaseException:
+        process.terminate()
+        print(process.communicate()[1].decode(), file=sys.stderr)
+        raise
+    finally:
+        process.terminate()
+        process.wait()
+
+
+def reloads(lab):
+    subprocess.run(["nginx", "-p", lab.folder, "-c", lab.path("nginx.conf"), "-s", "reload"], check=True,
+                   capture_output=True, timeout=60)
 
 
 class Front:
     """A client of the front, with a certificate or without one."""
 
-    def __init__(self, lab, port, certificate="client"):
+    def __init__(self, lab, port, certificate="authority/client-acme"):
         self.port = port
-        self.context = ssl.create_default_context(cafile=lab.path("authority.pem"))
+        self.context = ssl.create_default_context(cafile=lab.path("authority/authority.pem"))
         if certificate:
             self.context.load_cert_chain(lab.path(f"{certificate}.pem"), lab.path(f"{certificate}-key.pem"))
 
     def connect(self):
-        return self.context.wrap_socket(socket.create_connection(("127.0.0.1", self.port), timeout=60), server_hostname="127.0.0.1")
+        connection = socket.create_connection(("127.0.0.1", self.port), timeout=60)
+        return self.context.wrap_socket(connection, server_hostname="127.0.0.1")
 
     def tells(self, line, fields):
         """The status and the second object of the reply to a request line and these fields."""
@@ -105,7 +183,8 @@ class Front:
         return reply.status, thing
 
     def until_refused(self, method, path, most=2000):
-        """How many requests for a path are handed on before one is refused for their rate, where so many are sent at most."""
+        """How many requests for a path are handed on before one is refused for their rate, where so many are sent at
+        most."""
         connection = http.client.HTTPSConnection("127.0.0.1", self.port, context=self.context, timeout=60)
         for count in range(most):
             connection.request(method, path)
@@ -117,7 +196,7 @@ class Front:
                 expect("what is told of a rate", told, wanted)
                 connection.close()
                 return count
-            expect("a request below a rate", (reply.status, text[1]), (401, {"error": "tokenMissing"}))
+            expect("a request below a rate", (reply.status, text[1]), NO_TOKEN)
         raise SystemExit(f"{most} requests for {path} are handed on")
 
     def call(self, method, path, token=None, thing=None, body=None):
@@ -155,7 +234,7 @@ def shapes(client):
 
 
 def twenty_sets(client, token):
-    """Twenty vector sets that are fetched, answered, corrected and read again one after another stay below the rates."""
+    """Twenty vector sets that are fetched, answered, corrected and read again in one go stay below the rates."""
     session = client.must("POST", "/acvp/v1/testSessions", token, TWENTY_SETS)
     bound = session["accessToken"]
     for of_set in session["vectorSetUrls"]:
@@ -166,19 +245,51 @@ def twenty_sets(client, token):
     expect("the results of twenty", client.must("GET", session["url"] + "/results", bound)["passed"], True)
 
 
+def withdrawn(lab, port):
+    """A withdrawn certificate is refused from the next reload on, and another one isn't. Its name may get a new one."""
+    first, second = Front(lab, port), Front(lab, port, "authority/client-second")
+    asked = "GET", "/acvp/v1/account"
+
+    def refused():
+        for _ in range(200):
+            if second.call(*asked) == NO_CLIENT:
+                return
+            time.sleep(0.05)
+        raise SystemExit("a withdrawn certificate is accepted")
+
+    makes(lab, "withdraw", "authority", "second")
+    expect("a certificate on the list, before the front is reloaded", second.call(*asked), NO_TOKEN)
+    reloads(lab)
+    refused()
+    expect("another certificate", first.call(*asked), NO_TOKEN)
+    makes(lab, "withdraw", "authority", "second")
+    makes(lab, "list", "authority")
+    for name in ("client-second.pem", "client-second-key.pem"):
+        os.rename(lab.path(f"authority/{name}"), lab.path(f"old-{name}"))
+    makes(lab, "client", "authority", "second")
+    reloads(lab)
+    time.sleep(1)
+    expect("the old certificate, by the list that is made again", second.call(*asked), NO_CLIENT)
+    expect("a new one of the same name", Front(lab, port, "authority/client-second").call(*asked), NO_TOKEN)
+    expect("another certificate behind it", first.call(*asked), NO_TOKEN)
+
+
 def rates(lab, port):
-    """Who sends on and on is refused, and not for another's requests. What costs the server more has a rate of its own."""
-    first, second, third = Front(lab, port), Front(lab, port, "second"), Front(lab, port, "third")
+    """Who sends on and on is refused, and not for another's requests, nor for those of a stranger's certificate with
+    its name. What costs the server more has a rate of its own."""
+    first, second, third = (Front(lab, port, f"authority/client-{name}") for name in ("acme", "second", "third"))
     of_set = "/acvp/v1/testSessions/7000001/vectorSets/700000101"
+    stranger = Front(lab, port, "a stranger/client-second")
+    expect("a stranger's requests", [stranger.call("GET", of_set) for _ in range(140)], [NO_CLIENT] * 140)
     few = second.until_refused("GET", of_set)
     expect(f"{few} costly requests at once, where 120 may be", few >= 120, True)
     for method, path in [("GET", of_set + "/expected"), ("POST", of_set + "/results"), ("PUT", of_set + "/results")]:
         few = second.until_refused(method, path)
         expect(f"{few} of {method} {path} behind them", few < 60, True)
-    expect("what costs less beside them", second.call("GET", of_set + "/results"), (401, {"error": "tokenMissing"}))
+    expect("what costs less beside them", second.call("GET", of_set + "/results"), NO_TOKEN)
     few = third.until_refused("GET", "/acvp/v1/account")
     expect(f"{few} requests at once, where 200 may be", few >= 200, True)
-    expect("another client beside them", first.call("GET", of_set), (401, {"error": "tokenMissing"}))
+    expect("another client beside them", first.call("GET", of_set), NO_TOKEN)
 
 
 def over_tls(lab, port):
@@ -199,16 +310,19 @@ def over_tls(lab, port):
     slow.close()
     shapes(client)
     twenty_sets(client, token)
-    certificate = [lab.path(name) for name in ("authority.pem", "client.pem", "client-key.pem")]
-    done = subprocess.run([sys.executable, os.path.join(TOP, "examples", "validation.py"), "--url", f"https://127.0.0.1:{port}/acvp/v1", "8",
-                           lab.path("secret-8"), *certificate], capture_output=True, text=True, timeout=120)
+    certificate = [lab.path(f"authority/{name}.pem") for name in ("authority", "client-acme", "client-acme-key")]
+    done = subprocess.run([sys.executable, os.path.join(TOP, "examples", "validation.py"), "--url",
+                           f"https://127.0.0.1:{port}/acvp/v1", "8", lab.path("secret-8"), *certificate],
+                          capture_output=True, text=True, timeout=120)
     expect("the example's validation over TLS", (done.returncode, done.stderr), (0, ""))
     expect("its last line", done.stdout.split("\n")[-2].split()[-1], "/acvp/v1/testSessions/8000001")
     expect("a path that is none of the server's", client.call("GET", "/other"), (404, {"error": "noResource"}))
-    expect("a body that is too large", client.call("POST", "/acvp/v1/testSessions", body=b" " * 2097153)[0], 413)
-    expect("a login that is too large", client.call("POST", "/acvp/v1/login", body=b" " * 4097), (413, {"error": "bodyTooLarge"}))
-    for certificate, what in [(None, "no certificate"), ("other", "another authority's")]:
-        expect(what, Front(lab, port, certificate).call("GET", "/acvp/v1/account"), (403, {"error": "clientCertificate"}))
+    for path, most in [("testSessions", 2097152), ("login", 4096)]:
+        expect(f"too much for {path}", client.call("POST", f"/acvp/v1/{path}", body=b" " * (most + 1)), TOO_LARGE)
+    for certificate, what in [(None, "no certificate"), ("a stranger/client-second", "another authority's"),
+                              ("authority/server", "the front's own")]:
+        expect(what, Front(lab, port, certificate).call("GET", "/acvp/v1/account"), NO_CLIENT)
+    withdrawn(lab, port)
     tries = [client.call("POST", "/acvp/v1/login", thing={"password": "00000000", "user": "7"})[0] for _ in range(20)]
     expect("logins that are tried on and on", (tries[0], tries[-1]), (403, 429))
     rates(lab, port)
@@ -217,10 +331,6 @@ def over_tls(lab, port):
 
 
 def front(program):
-    missing = [tool for tool in ("nginx", "openssl") if not shutil.which(tool)]
-    if missing:
-        print(f"skipped: a front before the program (apt-get install {' '.join(missing)})")
-        return
     with tempfile.TemporaryDirectory() as folder:
         lab = Laboratory(program, folder)
         lab.does("ready", "init", "--db", lab.db)
@@ -229,17 +339,10 @@ def front(program):
         lab.add(7)
         lab.add(8)
         port = free_port()
-        nginx = subprocess.Popen(["nginx", "-p", folder, "-c", configured(lab, port)], stderr=subprocess.PIPE)
         try:
-            waits(port)
-            over_tls(lab, port)
-        except BaseException:
-            nginx.terminate()
-            print(nginx.communicate()[1].decode(), file=sys.stderr)
-            raise
+            with nginx(lab, configured(lab, port), port):
+                over_tls(lab, port)
         finally:
-            nginx.terminate()
-            nginx.wait()
             lab.kill()
 
 
@@ -265,7 +368,11 @@ def service(program):
 
 def main():
     program = os.path.abspath(sys.argv[1])
-    front(program)
+    missing = [tool for tool in ("nginx", "openssl") if not shutil.which(tool)]
+    if missing:
+        print(f"skipped: a front before the program (apt-get install {' '.join(missing)})")
+    else:
+        front(program)
     service(program)
     print(f"{laboratory.checked} comparisons")
 
