@@ -21,6 +21,8 @@ from laboratory import Laboratory, compact, expect, free_port, within_a_step
 import laboratory
 from validation import answers
 
+# the bits of the digests
+HASHES = {"SHA2-224": 224, "SHA2-256": 256, "SHA2-384": 384, "SHA2-512": 512, "SHA2-512/224": 224, "SHA2-512/256": 256}
 TOP = os.path.dirname(os.path.dirname(os.path.dirname(os.path.abspath(__file__))))
 SCRIPT = os.path.join(TOP, "examples", "certificates")
 REGISTRATION = {"algorithms": [{"algorithm": "SHA2-256", "messageLength": [8], "revision": "1.0"}]}
@@ -245,6 +247,60 @@ def twenty_sets(client, token):
     expect("the results of twenty", client.must("GET", session["url"] + "/results", bound)["passed"], True)
 
 
+def unread(prompts, number):
+    """Answers as long as the right ones, to the vector set of a number, which aren't worked out."""
+    def answer(group, test):
+        if group["testType"] == "MCT":
+            digits = "0" * (HASHES[prompts["algorithm"]] // 4)
+            return {"resultsArray": [{"md": digits}] * 100, "tcId": test["tcId"]}
+        if "macLen" in group:
+            return {"mac": "0" * (group["macLen"] // 4), "tcId": test["tcId"]}
+        return {"md": "0" * (HASHES[prompts["algorithm"]] // 4), "tcId": test["tcId"]}
+    groups = [{"tests": [answer(group, test) for test in group["tests"]], "tgId": group["tgId"]}
+              for group in prompts["testGroups"]]
+    return {"algorithm": prompts["algorithm"], "revision": "1.0", "testGroups": groups, "vsId": number}
+
+
+def enveloped(thing):
+    return [{"acvVersion": "1.0"}, thing]
+
+
+def padded(thing, most):
+    """A body of so many bytes: indented, and then filled up with white space."""
+    body = json.dumps(enveloped(thing), indent=4).encode()
+    expect(f"{len(body)} of {most} bytes", len(body) <= most, True)
+    return body.ljust(most)
+
+
+def bodies(client, token):
+    """The longest bodies that clients need have the lengths that the example names, and pass. Longer ones don't."""
+    lengths, keys = {"increment": 8, "max": 65536, "min": 0}, {"increment": 8, "max": 524288, "min": 8}
+    wide = [{"algorithm": name, "messageLength": [lengths], "revision": "1.0"} for name in HASHES]
+    wide += [{"algorithm": f"HMAC-{name}", "keyLen": [keys], "macLen": [bits - 8, bits], "revision": "1.0"}
+             for name, bits in HASHES.items()]
+    session = client.must("POST", "/acvp/v1/testSessions", token, {"algorithms": wide})
+    bound = session["accessToken"]
+    prompts = {of_set: client.must("GET", of_set, bound) for of_set in session["vectorSetUrls"]}
+    # by the greatest number that a vector set can have
+    sizes = {of_set: len(compact(enveloped(unread(of, 999999999920)))) for of_set, of in prompts.items()}
+    longest = max(sizes, key=sizes.get)
+    expect(f"the longest of {sizes}", (prompts[longest]["algorithm"], sizes[longest]), ("SHA2-512", 17661))
+    given = unread(prompts[longest], prompts[longest]["vsId"])
+    many = {"algorithm": "HMAC-SHA2-512/256", "keyLen": [{"increment": 524280, "max": 524288, "min": 524280}] * 32,
+            "macLen": [{"increment": 128, "max": 256, "min": 128}] * 32, "revision": "1.0"}
+    several = {"algorithms": [many] * 20, "encryptAtRest": False, "isSample": False}
+    expect("the longest registration", len(compact(enveloped(several))), 55938)
+    vendor = {"name": "\u00fc" * 8186}
+    expect("the longest vendor", len(json.dumps(vendor, ensure_ascii=False, separators=(",", ":")).encode()), 16383)
+    for path, by, thing, most in [(longest + "/results", bound, given, 65536),
+                                  ("/acvp/v1/testSessions", token, several, 262144),
+                                  ("/acvp/v1/vendors", token, vendor, 65536)]:
+        body = padded(thing, most)
+        expect(f"{most} bytes to {path}", client.call("POST", path, by, body=body)[0], 200)
+        expect(f"a byte more to {path}", client.call("POST", path, by, body=body + b" "), TOO_LARGE)
+    expect("more bytes by PUT", client.call("PUT", longest + "/results", bound, body=b" " * 65537), TOO_LARGE)
+
+
 def withdrawn(lab, port):
     """A withdrawn certificate is refused from the next reload on, and another one isn't. Its name may get a new one."""
     first, second = Front(lab, port), Front(lab, port, "authority/client-second")
@@ -310,6 +366,7 @@ def over_tls(lab, port):
     slow.close()
     shapes(client)
     twenty_sets(client, token)
+    bodies(client, token)
     certificate = [lab.path(f"authority/{name}.pem") for name in ("authority", "client-acme", "client-acme-key")]
     done = subprocess.run([sys.executable, os.path.join(TOP, "examples", "validation.py"), "--url",
                            f"https://127.0.0.1:{port}/acvp/v1", "8", lab.path("secret-8"), *certificate],
