@@ -1,6 +1,6 @@
 """The examples of a front and of a service: nginx with TLS and certificates of clients before the program, as
-examples/nginx.conf has it, with certificates of examples/certificates; and what systemd says of
-examples/acvp_server.service. What isn't installed is skipped.
+examples/nginx.conf has it, with certificates of examples/certificates; two programs behind one nginx by
+examples/two_laboratories.conf; and what systemd says of examples/acvp_server.service. What isn't installed is skipped.
 
     behind-a-front.py PROGRAM"""
 import contextlib
@@ -126,12 +126,13 @@ def replaced(name, pairs):
     return text
 
 
-def configured(lab, port):
-    """The example of a front."""
+def configured(lab, port, chosen=None):
+    """The example of a front before one server, or before those that an include chooses from."""
+    one = 'map "" $laboratory {\n        default 127.0.0.1:8080;\n    }'
     text = replaced("nginx.conf", [
         ("/etc/acvp/", lab.path("authority/")), ("/run/acvp-nginx.pid", lab.path("nginx.pid")),
         ("/var/lib/nginx/", lab.path("")), ("listen 443 ssl;", f"listen 127.0.0.1:{port} ssl;"),
-        ("127.0.0.1:8080", f"127.0.0.1:{lab.port}")])
+        (one, f"include {chosen};" if chosen else one.replace("8080", str(lab.port)))])
     # the paths of nginx's own package, which another user may not write to
     own = "".join(f"    {kind}_temp_path {lab.path(kind)};\n" for kind in ("fastcgi", "uwsgi", "scgi"))
     text = text.replace("http {\n", "http {\n" + own, 1)
@@ -403,6 +404,57 @@ def front(program):
             lab.kill()
 
 
+def divided(lab, labs, port):
+    """Each client reaches the accounts of its own laboratory alone, whatever it knows of the other's, and a client that
+    no laboratory has reaches none."""
+    acme, example, third = (Front(lab, port, f"authority/client-{name}") for name in ("acme", "example", "third"))
+    within_a_step(10)
+    first, second = ({"password": of.code(account), "user": str(account)} for of, account in zip(labs, (7, 5007)))
+    for client, login in [(acme, second), (example, first)]:
+        expect("a login of the other's account", client.call("POST", "/acvp/v1/login", thing=login),
+               (403, {"error": "loginRefused"}))
+    tokens = [client.must("POST", "/acvp/v1/login", thing=login)["accessToken"]
+              for client, login in [(acme, first), (example, second)]]
+    for client, other, token, account in zip((acme, example), (example, acme), tokens, (7, 5007)):
+        session = client.must("POST", "/acvp/v1/testSessions", token, REGISTRATION)
+        expect("its session", session["url"], f"/acvp/v1/testSessions/{account}000001")
+        bound, paths = session["accessToken"], [session["url"], session["vectorSetUrls"][0]]
+        expect("its account", client.must("GET", "/acvp/v1/account", token)["account"], account)
+        expect("its session again", client.must("GET", session["url"], bound)["url"], session["url"])
+        for path, by in [("/acvp/v1/account", token), *((path, bound) for path in paths)]:
+            expect(f"{path} of the other's", other.call("GET", path, by), (401, {"error": "tokenSignature"}))
+            expect(f"{path} by a client of no laboratory", third.call("GET", path, by), NO_CLIENT)
+    for path in ("/acvp/v1/login", "/acvp/v1/testSessions", "/acvp/v1/vendors", "/acvp/v1"):
+        expect(f"{path} by a client of no laboratory", third.call("POST", path, tokens[0], first), NO_CLIENT)
+    expect("a path that is none of the servers'", third.call("GET", "/other"), (404, {"error": "noResource"}))
+    labs[1].kill()
+    expect("a laboratory that isn't there", example.call("GET", "/acvp/v1/account"), (503, {"error": "unavailable"}))
+    expect("the other one", acme.must("GET", "/acvp/v1/account", tokens[0])["sessions"], 1)
+
+
+def two_laboratories(program):
+    """Two programs with two databases behind one front."""
+    with contextlib.ExitStack() as opened:
+        labs = [Laboratory(program, opened.enter_context(tempfile.TemporaryDirectory())) for _ in range(2)]
+        for lab, account in zip(labs, (7, 5007)):
+            os.remove(lab.keys)
+            lab.does(f"made {lab.keys}", "keys", "--new", lab.keys)
+            lab.does("ready", "init", "--db", lab.db)
+            lab.add(account)
+            opened.callback(lab.kill)
+            lab.serve(count=None)
+        lab = labs[0]
+        makes(lab, "authority", "authority", "Example Laboratories")
+        makes(lab, "server", "authority", "127.0.0.1")
+        for name in ("acme", "example", "third"):
+            makes(lab, "client", "authority", name)
+        port, ports = free_port(), [labs[0].port, labs[1].port, free_port()]
+        chosen = lab.write(lab.path("two_laboratories.conf"), replaced("two_laboratories.conf", [
+            (f"127.0.0.1:{old}", f"127.0.0.1:{new}") for old, new in zip((8080, 8081, 8082), ports)]))
+        opened.enter_context(nginx(lab, configured(lab, port, chosen), port))
+        divided(lab, labs, port)
+
+
 def service(program):
     if not shutil.which("systemd-analyze"):
         print("skipped: what systemd says of the service (apt-get install systemd)")
@@ -430,6 +482,7 @@ def main():
         print(f"skipped: a front before the program (apt-get install {' '.join(missing)})")
     else:
         front(program)
+        two_laboratories(program)
     service(program)
     print(f"{laboratory.checked} comparisons")
 
