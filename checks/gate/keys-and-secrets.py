@@ -5,15 +5,18 @@ import contextlib
 import os
 import re
 import resource
+import shutil
 import signal
+import sqlite3
 import stat
 import subprocess
 import sys
 import tempfile
 import time
 
-from laboratory import Laboratory, expect, within_a_step
+from laboratory import KEY, Laboratory, expect, fingerprint, free_port, within_a_step
 import laboratory
+import page_sums
 
 NOBODY = 65534
 IS_ROOT = os.geteuid() == 0
@@ -199,6 +202,79 @@ def served(lab):
                (0, "whole: accounts 1 sessions 1 sets 1 requests 0\n", ""))
 
 
+def known(lab, path=None):
+    """What a database knows of seeds, as SQLite reads it from a copy of the file and its log."""
+    path = path or lab.db
+    with tempfile.TemporaryDirectory() as folder:
+        copy = os.path.join(folder, "copy.db")
+        for end in ("", "-wal"):
+            if os.path.exists(path + end):
+                shutil.copy(path + end, copy + end)
+        with contextlib.closing(sqlite3.connect(copy)) as connection:
+            return connection.execute("SELECT name, value FROM meta WHERE name <> 'schema' ORDER BY name").fetchall()
+
+
+def content(lab):
+    """The bytes of a database and of its log."""
+    there = [path for path in (lab.db, lab.db + "-wal") if os.path.exists(path)]
+    return [open(path, "rb").read() for path in there]
+
+
+def keys_of(lab, name, *seeds):
+    """A keys file with one token key and these seeds."""
+    return lab.write(lab.path(name), f"token {KEY.hex()}\n" + "".join(f"seed {seed.hex()}\n" for seed in seeds))
+
+
+def serves_once(lab, keys):
+    lab.serve(count=1, keys=keys)
+    with lab.connect():
+        pass
+    lab.served(1)
+
+
+def seeds_of_another(lab):
+    """A database knows the seeds that it was served with, and refuses others at their places, with nothing changed."""
+    first, second, third = (bytes([number] * 32) for number in (1, 2, 3))
+    rows = [(f"seed {place}", fingerprint(seed)) for place, seed in ((1, first), (2, second))]
+    one, two = keys_of(lab, "one.txt", first), keys_of(lab, "two.txt", first, second)
+    wrong = [(keys_of(lab, "other.txt", second), 1), (keys_of(lab, "swapped.txt", second, first), 1)]
+    lab.add(7)
+    expect("what is known before it was served", known(lab), [])
+    serves_once(lab, one)
+    expect("what is known of one seed", known(lab), rows[:1])
+    serves_once(lab, two)
+    expect("what is known of two", known(lab), rows)
+    serves_once(lab, one)
+    expect("what is known of both, served with one", known(lab), rows)
+    wrong += [(keys_of(lab, "later.txt", first, third), 2), (keys_of(lab, "more.txt", first, third, second), 2)]
+    lab.backs_up()
+    for restored in (False, True):
+        if restored:
+            lab.restores()
+        before = content(lab)
+        for keys, place in wrong:
+            cause = f"--keys: its seed {place} is another than the one that the database was served with"
+            for args in (["serve", "--port", str(free_port()), "--count", "1"], ["check"], ["request-show", "--request", "7000001"],
+                         ["certificate", "--request", "7000001"]):
+                refused(lab, "keys", cause, args[0], "--db", lab.db, "--keys", keys, *args[1:])
+                expect(f"the database behind {args[0]}", content(lab), before)
+        lab.does("whole: accounts 1 sessions 0 sets 0 requests 0", "check", "--db", lab.db, "--keys", two)
+        serves_once(lab, two)
+    # a file that knows none is served, and knows them from then on
+    with contextlib.closing(page_sums.connect(lab.db)) as connection:
+        connection.execute("DELETE FROM meta WHERE name <> 'schema'")
+        connection.commit()
+    serves_once(lab, wrong[0][0])
+    expect("what is known then", known(lab), [("seed 1", fingerprint(second))])
+    # as OPERATING has it, it may forget them
+    with contextlib.closing(sqlite3.connect(lab.db)) as connection:
+        connection.execute("DELETE FROM meta WHERE name LIKE 'seed %'")
+        connection.commit()
+    page_sums.renew(lab.db)
+    serves_once(lab, two)
+    expect("what is known at last", known(lab), rows)
+
+
 def full_disk(lab):
     """Where there is no room, nothing is left of the file."""
     folder = lab.path("full")
@@ -239,7 +315,7 @@ def main():
     os.umask(0o077)
     began = time.time()
     for part in (new_files, changed_files, most_lines, refused_keys, texts_of_pipes, killed_writes, command_lines,
-                 served, full_disk, foreign_folders):
+                 served, seeds_of_another, full_disk, foreign_folders):
         with tempfile.TemporaryDirectory() as folder:
             lab = Laboratory(program, folder)
             lab.does("ready", "init", "--db", lab.db)

@@ -27,7 +27,7 @@ import tempfile
 
 import laboratory
 from chacha20 import Words
-from laboratory import KEY, SEED, STEP, Laboratory, compact, decoded, encoded, expect, request, shown, signed
+from laboratory import KEY, SEED, STEP, Laboratory, compact, decoded, encoded, expect, fingerprint, request, shown, signed
 from validation import answers, one_time_code
 
 earlier = importlib.import_module("files-of-earlier-schemas")
@@ -100,6 +100,12 @@ def with_changes(rows, gone, added):
     return {table: sorted(there, key=repr) for table, there in after.items()}
 
 
+def with_seeds(rows, seeds):
+    """The rows once it is served with these seeds: each that wasn't known has a row of `meta`."""
+    known = [("meta", f"seed {place}", fingerprint(seed)) for place, seed in enumerate(seeds, 1)]
+    return with_changes(rows, [], [row for row in known if row[1:] not in rows["meta"]])
+
+
 def account_row(lab, account, step):
     return "account", account, lab.secret(account), 1, step
 
@@ -164,7 +170,7 @@ class Life:
 
     def begins(self, run):
         """A run begins under its keys. Those of the first are in a file of two lines, and more in one of words."""
-        self.run = run
+        self.run, self.seeds = run, RINGS.get(run, ([KEY], [SEED]))[1]
         self.at(BEGINS[run])
         if run in RINGS:
             keys, seeds = RINGS[run]
@@ -181,8 +187,9 @@ class Life:
         """One event, with a kill behind it. It changes these rows, and nothing else."""
         what = f"{what} in run {self.run}"
         self.at(self.moment + 1)
-        after = with_changes(self.rows, gone, added)
         self.lab.serve()
+        self.rows = with_seeds(self.rows, self.seeds)
+        after = with_changes(self.rows, gone, added)
         self.has(f"before {what}", self.rows)
         reply = done(self.lab, event)
         self.has(f"once {what} is told", after)

@@ -72,6 +72,11 @@ def rows_with_log(path):
         return rows_of(copy)
 
 
+def fingerprint(seed):
+    """By what a database knows a seed that it was served with, in the row of `meta` of the seed's place."""
+    return int.from_bytes(hashlib.sha256(b"acvp_server seed" + seed).digest()[:8], "big", signed=True)
+
+
 def access(path):
     """The owner, the group and the mode of a file."""
     there = os.stat(path)
