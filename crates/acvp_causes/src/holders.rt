@@ -4,12 +4,19 @@ ghost use Rattle.acvp_causes.specs.Devices.{major_of, minor_of};
 
 use crate::names::unless_refused;
 use std::alloc::{AllocError, AllocGlobal, Global};
-use std::fs::{self, File, Metadata};
+use std::fs::{File, Metadata};
+use std::io::{self, ErrorKind, Read};
 use std::os::fd::AsRawFd;
 use std::os::unix::fs::MetadataExt;
 
 /// The system's table of locks (proc_locks(5)).
 const LOCKS: &str = "/proc/locks";
+
+/// For how many bytes of the table there is room at first, so that they are read at once.
+const MOST_BYTES: usize = 65536;
+
+/// How often the table is read, if it doesn't have a lock.
+const READINGS: u32 = 16;
 
 /// The bytes that SQLite locks, from the first on.
 const LOCK_START: u64 = 1 << 30;
@@ -61,18 +68,42 @@ fn is_locked_by_any(rt: &HostRuntime, path: &str) -> bool {
     }
 }
 
+/// What the table of locks says. It is as it is at one moment only if it is no longer than what the system hands out at
+/// once: in the next piece a lock is missed if one that stood before it was given up meanwhile.
+fn table_of_locks(rt: &HostRuntime) -> io::Result<String> {
+    let mut table = Vec::with_capacity(rt.alloc(), MOST_BYTES)?;
+    File::open(rt, LOCKS)?.read_to_end(&mut table)?;
+    match String::from_utf8(table) {
+        Ok(table) => Ok(table),
+        Err(_) => Err(ErrorKind::InvalidData.into()),
+    }
+}
+
+/// Whether the table of locks has a line of this lock, in one of some readings. None if it tells nothing: it is empty,
+/// as one that is hidden is, or can't be read. The error is that memory ran out.
+fn is_told_of(rt: &HostRuntime, lock: &str) -> Result<Option<bool>, AllocError> {
+    for _ in 0..READINGS {
+        match unless_refused(table_of_locks(rt))? {
+            Some(table) if table.is_empty() => return Ok(None),
+            Some(table) if table.contains(lock) => return Ok(Some(true)),
+            Some(_) => {}
+            None => return Ok(None),
+        }
+    }
+    Ok(Some(false))
+}
+
 /// Whether some process has a database's file, or a log, locked as SQLite locks it. The table is asked first, since a
-/// lock that is tried keeps others out for a moment; one that is empty, as one that is hidden is, tells nothing. The
-/// error is that memory ran out.
+/// lock that is tried keeps others out for a moment. The error is that memory ran out.
 pub(crate) fn is_locked(
     rt: &HostRuntime,
     path: &str,
     there: &Metadata,
 ) -> Result<bool, AllocError> {
     let lock = lock_on(rt.alloc(), there)?;
-    match unless_refused(fs::read_to_string(rt, LOCKS))? {
-        Some(table) if !table.is_empty() && !table.contains(lock.as_str()) => Ok(false),
-        Some(table) if !table.is_empty() && is_told(there) => Ok(true),
+    match is_told_of(rt, lock.as_str())? {
+        Some(false) => Ok(false),
+        Some(true) if is_told(there) => Ok(true),
         _ => Ok(is_locked_by_any(rt, path)),
     }
 }
