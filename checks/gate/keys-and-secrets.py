@@ -2,11 +2,13 @@
 
     keys-and-secrets.py PROGRAM"""
 import contextlib
+import hashlib
 import os
 import re
 import resource
 import shutil
 import signal
+import socket
 import sqlite3
 import stat
 import subprocess
@@ -215,9 +217,10 @@ def known(lab, path=None):
 
 
 def content(lab):
-    """The bytes of a database and of its log."""
-    there = [path for path in (lab.db, lab.db + "-wal") if os.path.exists(path)]
-    return [open(path, "rb").read() for path in there]
+    """The digest of a database, how long its log is, and what it knows of seeds. An open renews the header of a log."""
+    with open(lab.db, "rb") as file:
+        digest = hashlib.sha256(file.read()).hexdigest()
+    return digest, os.path.exists(lab.db + "-wal") and os.path.getsize(lab.db + "-wal"), known(lab)
 
 
 def keys_of(lab, name, *seeds):
@@ -275,6 +278,35 @@ def seeds_of_another(lab):
     expect("what is known at last", known(lab), rows)
 
 
+def seeds_of_no_start(lab):
+    """A start that serves nothing, since its port is taken or a seed is missing, has a database know no seed."""
+    first, second = (bytes([number] * 32) for number in (1, 2))
+    one, two, other = keys_of(lab, "one.txt", first), keys_of(lab, "two.txt", first, second), keys_of(lab, "other.txt", second)
+    with socket.socket() as taken:
+        taken.bind(("127.0.0.1", 0))
+        taken.listen()
+        lab.fails("bind", "serve", "--db", lab.db, "--keys", other, "--port", str(taken.getsockname()[1]), "--count", "1")
+    expect("what is known behind a port that is taken", known(lab), [])
+    serves_once(lab, one)
+    expect("what is known of one seed", known(lab), [("seed 1", fingerprint(first))])
+    lab.add(7)
+    lab.serve(count=None, keys=two)
+    within_a_step(5)
+    lab.must("POST", "/testSessions", lab.token(7), {"algorithms": [{"algorithm": "SHA2-256", "revision": "1.0", "messageLength": [8]}]})
+    lab.kill()
+    lab.backs_up("forgetful.db")
+    lab.db = lab.path("forgetful.db")
+    with contextlib.closing(page_sums.connect(lab.db)) as connection:
+        connection.execute("DELETE FROM meta WHERE name <> 'schema'")
+        connection.commit()
+    start = ["serve", "--db", lab.db, "--keys", other, "--port", str(free_port()), "--count", "1"]
+    lab.fails("keys", *start)
+    expect("why it is refused", lab.run(*start, "--verbose"), (1, "", "fault: keys\nbecause: --keys: a vector set names a seed that isn't in it\n"))
+    expect("what is known behind keys without its seed", known(lab), [])
+    serves_once(lab, two)
+    expect("what is known of both", known(lab), [("seed 1", fingerprint(first)), ("seed 2", fingerprint(second))])
+
+
 def full_disk(lab):
     """Where there is no room, nothing is left of the file."""
     folder = lab.path("full")
@@ -315,7 +347,7 @@ def main():
     os.umask(0o077)
     began = time.time()
     for part in (new_files, changed_files, most_lines, refused_keys, texts_of_pipes, killed_writes, command_lines,
-                 served, seeds_of_another, full_disk, foreign_folders):
+                 served, seeds_of_another, seeds_of_no_start, full_disk, foreign_folders):
         with tempfile.TemporaryDirectory() as folder:
             lab = Laboratory(program, folder)
             lab.does("ready", "init", "--db", lab.db)

@@ -6,6 +6,7 @@ import hashlib
 import hmac
 import json
 import os
+import pty
 import re
 import shutil
 import socket
@@ -74,7 +75,7 @@ def rows_with_log(path):
 
 def fingerprint(seed):
     """By what a database knows a seed that it was served with, in the row of `meta` of the seed's place."""
-    return int.from_bytes(hashlib.sha256(b"acvp_server seed" + seed).digest()[:8], "big", signed=True)
+    return int.from_bytes(hashlib.sha256(b"acvp_server seed" + seed).digest()[:4], "big")
 
 
 def access(path):
@@ -169,6 +170,22 @@ class Laboratory:
         done = subprocess.run([self.program, *args], stdin=subprocess.DEVNULL, capture_output=True, text=True,
                               timeout=60, **more)
         return done.returncode, done.stdout, done.stderr
+
+    def typed(self, answer, *args):
+        """The status of a command on a terminal at which an answer is typed once it asks, and what the terminal shows."""
+        process, terminal = pty.fork()
+        if process == 0:
+            os.execv(self.program, [self.program, *args])
+        said, left = b"", answer
+        with contextlib.suppress(OSError):
+            for part in iter(lambda: os.read(terminal, 4096), b""):
+                said += part
+                if b"[y/N] " in said and left:
+                    os.write(terminal, left)
+                    left = b""
+        os.close(terminal)
+        status = os.waitstatus_to_exitcode(os.waitpid(process, 0)[1])
+        return status, said.decode().replace("\r\n", "\n").replace("^D\b\b", "")
 
     def does(self, wanted, *args):
         expect(f"the command {args}", self.run(*args), (0, wanted + "\n", ""))

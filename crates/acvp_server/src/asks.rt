@@ -2,7 +2,7 @@
 use crate::looks::copy_of;
 use acvp_commands::Deed;
 use acvp_files::FileTables;
-use acvp_tables::{RequestPurpose, RequestSummary};
+use acvp_tables::{RequestPurpose, RequestSummary, Tables};
 use acvp_view::{Lines, ViewFault, show_account, show_request, show_session};
 use std::alloc::AllocGlobal;
 use std::io::IsTerminal;
@@ -48,20 +48,26 @@ fn show_asked(rt: &HostRuntime, tables: &mut FileTables, number: u64) -> Result<
     show_behind(rt, tables, &request)
 }
 
-/// Shows what an order is about, as far as a copy of the database tells. Where it tells nothing, the order will say why.
-fn show_order(rt: &HostRuntime, db: &str, deed: Deed<'_>) {
+/// Shows the line of an account that is there.
+fn show_there(rt: &HostRuntime, tables: &mut FileTables, account: u16) -> Result<(), ViewFault> {
+    if tables.account(account)?.is_none() {
+        return Err(ViewFault::Unknown);
+    }
+    show_account(rt.alloc(), tables, &mut Shown(rt), account)
+}
+
+/// Shows what an order is about, as a copy of the database tells.
+fn show_order(rt: &HostRuntime, db: &str, deed: Deed<'_>) -> Result<(), ViewFault> {
     let Ok(mut tables) = copy_of(rt, db) else {
-        return;
+        return Err(ViewFault::Refused);
     };
-    let _ = match deed {
-        Deed::DisableAccount { account } => {
-            show_account(rt.alloc(), &mut tables, &mut Shown(rt), account)
-        }
+    match deed {
+        Deed::DisableAccount { account } => show_there(rt, &mut tables, account),
         Deed::ApproveRequest { request } | Deed::RejectRequest { request } => {
             show_asked(rt, &mut tables, request)
         }
         _ => Ok(()),
-    };
+    }
 }
 
 /// What a question asks, of an order that can't be taken back.
@@ -74,9 +80,9 @@ fn question_of(deed: Deed<'_>) -> Option<&'static str> {
     }
 }
 
-/// Whether a line says yes.
+/// Whether a whole line says yes.
 fn is_yes(line: &str) -> bool {
-    matches!(line.trim(), "y" | "Y" | "yes" | "Yes" | "YES")
+    matches!(line, "y\n" | "Y\n" | "yes\n" | "Yes\n" | "YES\n")
 }
 
 /// Whether what is typed at a question says yes. Nothing, as at the end of the input, says no.
@@ -96,11 +102,18 @@ pub(crate) fn is_there(rt: &HostRuntime) -> bool {
     rt.stdin().is_terminal() && rt.stderr().is_terminal()
 }
 
-/// Whether what is to be done is wanted: an order that can't be taken back is shown, and asked for.
+/// Whether what is to be done is wanted: an order that can't be taken back is shown, and asked for. One about what
+/// isn't there is refused without a question.
 pub(crate) fn is_wanted(rt: &HostRuntime, db: &str, deed: Deed<'_>) -> bool {
     let Some(question) = question_of(deed) else {
         return true;
     };
-    show_order(rt, db, deed);
+    match show_order(rt, db, deed) {
+        Ok(()) => {}
+        Err(ViewFault::Unknown) => return true,
+        Err(_) => {
+            let _ = eprintln!(rt; "what it is about can't be shown");
+        }
+    }
     is_answered(rt, question)
 }

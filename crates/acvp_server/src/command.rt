@@ -57,84 +57,84 @@ struct Subcommand {
 const DB_OPTION: Wanted = Wanted {
     name: "db",
     value: "FILE",
-    help: "The file of the records, as laboratory.db",
+    help: "The file of the records, such as laboratory.db",
     form: Form::Needed,
 };
 
 const KEYS_OPTION: Wanted = Wanted {
     name: "keys",
     value: "FILE",
-    help: "The file of the token keys and the generator's seeds, as keys.txt: lines of 64 hex digits",
+    help: "The file of the token keys and of the generator's seeds, such as keys.txt",
     form: Form::Needed,
 };
 
 const ACCOUNT_OPTION: Wanted = Wanted {
     name: "account",
     value: "N",
-    help: "The account's number, 1 to 9999, as 7",
+    help: "The account's number, 1 to 9999",
     form: Form::Needed,
 };
 
 const REQUEST_OPTION: Wanted = Wanted {
     name: "request",
     value: "N",
-    help: "The request's number, 1 to 9999999999, as 7000001",
+    help: "The request's number, 1 to 9999999999",
     form: Form::Needed,
 };
 
 const SECRET_OPTION: Wanted = Wanted {
     name: "secret",
     value: "FILE",
-    help: "The file of the account's secret, as secret.txt: one line of 64 hex digits",
+    help: "The file of the account's secret, such as secret-7.txt: a line of 64 hex digits",
     form: Form::Needed,
 };
 
 const PORT_OPTION: Wanted = Wanted {
     name: "port",
     value: "P",
-    help: "The port of 127.0.0.1, 1 to 65535, as 8080",
+    help: "The port of 127.0.0.1, 1 to 65535",
     form: Form::Needed,
 };
 
 const COUNT_OPTION: Wanted = Wanted {
     name: "count",
     value: "C",
-    help: "After how many connections it ends, 1 to 1000000, as 1000; without it, it goes on",
+    help: "Ends after C connections, 1 to 1000000; without it, goes on",
     form: Form::Optional,
 };
 
 const PATIENCE_OPTION: Wanted = Wanted {
     name: "patience",
     value: "SECONDS",
-    help: "How many seconds a client is waited for, from its coming until its close, 1 to 3600; 30 without it",
+    help: "Closes a client's connection after so many seconds in all, 1 to 3600; 30 without it",
     form: Form::Optional,
 };
 
 const GRADES_OPTION: Wanted = Wanted {
     name: "grades",
     value: "yes|no",
-    help: "Whether each kept verdict is compared with a new one; yes without it",
+    help: "Compares each kept verdict with a new one, or not; without it, yes",
     form: Form::Optional,
 };
 
 const TO_OPTION: Wanted = Wanted {
     name: "to",
     value: "FILE",
-    help: "The file that is made, as backup.db; none may be there",
+    help: "The file that is made, such as backup.db; none may be there",
     form: Form::Needed,
 };
 
 const FROM_OPTION: Wanted = Wanted {
     name: "from",
     value: "FILE",
-    help: "The backup, as backup.db",
+    help: "The backup, such as backup.db",
     form: Form::Needed,
 };
 
 const NEW_KEYS_OPTION: Wanted = Wanted {
     name: "new",
     value: "FILE",
-    help: "Makes this keys file, as keys.txt, with a token key and a seed; none may be there",
+    help: "Makes a new keys file with a token key and a seed; none may be there",
     form: Form::Optional,
 };
 
@@ -162,14 +162,14 @@ const ADD_SEED_OPTION: Wanted = Wanted {
 const NEW_LINES_OPTION: Wanted = Wanted {
     name: "to",
     value: "FILE",
-    help: "The keys file that is made of the other's lines; none may be there",
+    help: "The keys file that is made by --add-token, --retire or --add-seed; none may be there",
     form: Form::Optional,
 };
 
 const NEW_SECRET_OPTION: Wanted = Wanted {
     name: "new",
     value: "FILE",
-    help: "The file that is made, as secret-7.txt; none may be there",
+    help: "The file that is made, such as secret-7.txt; none may be there",
     form: Form::Needed,
 };
 
@@ -183,14 +183,14 @@ const ALL_FLAG: Wanted = Wanted {
 const VERBOSE_FLAG: Wanted = Wanted {
     name: VERBOSE,
     value: "",
-    help: "If the command fails, says why on a second line, as on a terminal: because: --db: there is no such file",
+    help: "If the command fails, says why on a second line, as it does on a terminal",
     form: Form::Flag,
 };
 
 const YES_FLAG: Wanted = Wanted {
     name: YES,
     value: "",
-    help: "Asks nothing; on a terminal, what it is about to do is shown without it, and asked",
+    help: "Gives the order without showing it and asking first, as is done on a terminal",
     form: Form::Flag,
 };
 
@@ -205,7 +205,7 @@ const LOG_FLAG: Wanted = Wanted {
 static SUBCOMMANDS: [Subcommand; 17] = [
     Subcommand {
         name: "init",
-        about: "Makes the tables in a file, which is made if there is none",
+        about: "Makes an empty laboratory in a new or empty file",
         example: "Example: acvp_server init --db laboratory.db",
         options: &[DB_OPTION, VERBOSE_FLAG],
     },
@@ -217,7 +217,7 @@ static SUBCOMMANDS: [Subcommand; 17] = [
     },
     Subcommand {
         name: "keys",
-        about: "Makes a keys file, or one with another's lines and a change, and leaves the other as it is",
+        about: "Makes a keys file: by --new alone, or by one of the other options and --to",
         example: "Example: acvp_server keys --add-seed keys.txt --to keys-2.txt",
         options: &[
             NEW_KEYS_OPTION,
@@ -348,9 +348,9 @@ fn with_options<'a>(alloc: Global, which: &Subcommand) -> Result<Command<'a>, Al
     Ok(command)
 }
 
-/// What `--version` prints behind the program's name: the schema of its tables, and the kit that it is proved with, as
+/// What `--version` prints behind the program's name: the schema of its tables, and the kit that proves its sources, as
 /// the last line of the README has it.
-const VERSION: &str = "of schema 3, proved with rattle-kit-13f logic dac8208d650f15bf";
+const VERSION: &str = "of schema 3, from sources proved with rattle-kit-13f logic dac8208d650f15bf";
 
 /// The program's command line, with its subcommands.
 pub(crate) fn command<'a>(alloc: Global) -> Result<Command<'a>, AllocError> {

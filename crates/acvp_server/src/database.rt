@@ -7,7 +7,7 @@ ghost use Rattle.acvp_server.specs.Faults.{fault_of_files};
 
 use crate::flags::Flags;
 use crate::host::Machine;
-use crate::seeds::with_seeds;
+use crate::seeds::{Added, forget_seeds, with_seeds};
 use acvp_causes::name_of;
 use acvp_commands::{Fault, Message, Task, Work, done_over, make_tables, moment_of, order_line};
 use acvp_desk::Order;
@@ -55,7 +55,25 @@ pub(crate) fn named(rt: &HostRuntime, path: &str) -> Result<String, Fault> {
     }
 }
 
-/// Does this over a connection to the database in a file, which is to know the seeds that it is served with. If it is done, or was served, the connection is closed; a
+/// Has the database know the seeds under which it is to be served, if it is, and hands it back with those that are new
+/// to it.
+fn with_its_seeds<S: Start>(
+    alloc: Global,
+    connection: FileConnection<S>,
+    work: &Work,
+) -> (FileConnection<S>, Result<Option<Added>, Fault>) {
+    match work {
+        Work::Take(Task::Serve { keys, .. }) => with_seeds(alloc, connection, &keys.seed),
+        _ => (connection, Ok(None)),
+    }
+}
+
+/// Whether nothing was served, as the fault says.
+fn is_unserved(outcome: &Result<Message, Fault>) -> bool {
+    matches!(outcome, Err(Fault::Bind | Fault::Keys | Fault::Memory))
+}
+
+/// Does this over a connection to the database in a file. If it is done, or was served, the connection is closed; a
 /// command that is refused leaves the file and its log as they are, and no log if there was none.
 fn done_and_closed<S: Start>(
     rt: &HostRuntime,
@@ -73,15 +91,18 @@ fn done_and_closed<S: Start>(
         flags,
     };
     let serves = matches!(work, Work::Take(Task::Serve { .. }));
-    let (connection, known) = match &work {
-        Work::Take(Task::Serve { keys, .. }) => with_seeds(rt.alloc(), connection, &keys.seed),
-        _ => (connection, Ok(())),
-    };
-    let (connection, outcome) = match known {
-        Ok(()) => done_over(&mut machine, connection, work),
+    let (connection, known) = with_its_seeds(rt.alloc(), connection, &work);
+    let is_known = known.is_ok();
+    let (mut connection, outcome) = match known {
+        Ok(_) => done_over(&mut machine, connection, work),
         Err(fault) => (connection, Err(fault)),
     };
-    let may_have_served = serves && !matches!(outcome, Err(Fault::Schema));
+    if let Ok(Some(added)) = known
+        && is_unserved(&outcome)
+    {
+        forget_seeds(rt.alloc(), &mut connection, added);
+    }
+    let may_have_served = serves && is_known && !matches!(outcome, Err(Fault::Schema));
     if outcome.is_ok() || may_have_served {
         close(connection);
     } else if is_new_log {

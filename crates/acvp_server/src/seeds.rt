@@ -9,20 +9,26 @@ use acvp_gen::Seeds;
 use acvp_mac::{HashName, hash_pieces};
 use acvp_store::{SqlTables, adopt};
 use sqlite::{Alter, Connection, Error, ErrorCode, params};
-use std::alloc::Global;
+use std::alloc::{AllocError, Global};
 
 /// What stands before a seed where its fingerprint is made, so that this is the digest of nothing else.
 const WORDS: &[u8] = b"acvp_server seed";
 
 /// The fingerprint of a seed, from which the seed can't be had.
 #[tactic(auto, unfolding(crate::specs::Fingerprints::fingerprint_of))]
-fn fingerprint_of(seed: &[u8; 32]) -> i64
+fn fingerprint_of(seed: &[u8; 32]) -> u32
     ensures { result ≡ fingerprint_of seed.now }
 {
     let digest = hash_pieces(HashName::Sha256, &[WORDS, seed]);
-    let mut front = [0; 8];
-    front.copy_from_slice(&digest.as_slice()[..8]);
-    i64::from_be_bytes(front)
+    let mut front = [0; 4];
+    front.copy_from_slice(&digest.as_slice()[..4]);
+    u32::from_be_bytes(front)
+}
+
+/// The name of the row of an epoch's seed: by its place in the keys file, from 1 on.
+fn row_name(alloc: Global, epoch: u64) -> Result<String, AllocError> {
+    let place = epoch.saturating_add(1);
+    format!(in alloc; "seed {place}")
 }
 
 /// The fault of a statement that isn't carried out.
@@ -37,7 +43,7 @@ fn fault_of_statement(error: Error) -> Fault {
 fn known_under<S: Alter + Drop>(
     connection: &mut Connection<S>,
     name: &str,
-) -> Result<Option<i64>, Fault> {
+) -> Result<Option<u32>, Fault> {
     let known = connection.query_all("SELECT value FROM meta WHERE name = ?1", params![name]);
     let rows = known.map_err(fault_of_statement)?;
     match rows.as_slice().first() {
@@ -50,7 +56,7 @@ fn known_under<S: Alter + Drop>(
 fn keep<S: Alter + Drop>(
     connection: &mut Connection<S>,
     name: &str,
-    fingerprint: i64,
+    fingerprint: u32,
 ) -> Result<(), Fault> {
     let row = params![name, fingerprint];
     match connection.execute("INSERT INTO meta (name, value) VALUES (?1, ?2)", row) {
@@ -69,15 +75,15 @@ pub(crate) enum Unknown {
     Kept,
 }
 
-/// Whether the seed at a place, from 1 on, is the one that the database knows, or one that it may come to know.
-fn is_same_at<S: Alter + Drop>(
+/// Whether an epoch's seed is the one that the database knows, or one that it may come to know.
+fn is_same<S: Alter + Drop>(
     alloc: Global,
     connection: &mut Connection<S>,
-    place: usize,
+    epoch: u64,
     seed: &[u8; 32],
     unknown: Unknown,
 ) -> Result<bool, Fault> {
-    let name = format!(in alloc; "seed {place}")?;
+    let name = row_name(alloc, epoch)?;
     let fingerprint = fingerprint_of(seed);
     match (known_under(connection, name.as_str())?, unknown) {
         (Some(known), _) => Ok(known == fingerprint),
@@ -89,30 +95,29 @@ fn is_same_at<S: Alter + Drop>(
     }
 }
 
-/// The place, from 1 on, of the first seed that is another than the one that the database knows.
+/// The epoch of the first seed that is another than the one that the database knows.
 fn other_in<S: Alter + Drop>(
     alloc: Global,
     connection: &mut Connection<S>,
     seeds: &Seeds,
     unknown: Unknown,
-) -> Result<Option<usize>, Fault> {
+) -> Result<Option<u64>, Fault> {
     for epoch in 0..=seeds.newest() {
-        let place = epoch as usize + 1;
         if let Some(seed) = seeds.get(epoch)
-            && !is_same_at(alloc, connection, place, seed, unknown)?
+            && !is_same(alloc, connection, epoch, seed, unknown)?
         {
-            return Ok(Some(place));
+            return Ok(Some(epoch));
         }
     }
     Ok(None)
 }
 
-/// The place, from 1 on, of the first seed that is another than the one that these tables were served with.
+/// The epoch of the first seed that is another than the one that these tables were served with.
 pub(crate) fn other_seed<S: Alter + Drop>(
     alloc: Global,
     tables: SqlTables<S>,
     seeds: &Seeds,
-) -> Result<Option<usize>, Fault> {
+) -> Result<Option<u64>, Fault> {
     other_in(
         alloc,
         &mut tables.into_connection(),
@@ -137,32 +142,71 @@ pub(crate) fn tables_under<S: Alter + Drop>(
     }
 }
 
-/// Has a database know these seeds. If it knows another one, nothing is written.
+/// The seeds that a start made a database know, which it hasn't known before: the epochs of the first and of the last.
+#[derive(Clone, Copy)]
+pub(crate) struct Added {
+    first: u64,
+    last: u64,
+}
+
+/// The epoch of the first seed that a database doesn't know.
+fn first_unknown<S: Alter + Drop>(
+    alloc: Global,
+    connection: &mut Connection<S>,
+    seeds: &Seeds,
+) -> Result<Option<u64>, Fault> {
+    for epoch in 0..=seeds.newest() {
+        let name = row_name(alloc, epoch)?;
+        if known_under(connection, name.as_str())?.is_none() {
+            return Ok(Some(epoch));
+        }
+    }
+    Ok(None)
+}
+
+/// Has a database know these seeds, and gives those that are new to it. If it knows another one, nothing is written.
 fn keep_seeds<S: Alter + Drop>(
     alloc: Global,
     connection: &mut Connection<S>,
     seeds: &Seeds,
-) -> Result<(), Fault> {
+) -> Result<Option<Added>, Fault> {
     if other_in(alloc, connection, seeds, Unknown::LetPass)?.is_some() {
         return Err(Fault::Keys);
     }
+    let Some(first) = first_unknown(alloc, connection, seeds)? else {
+        return Ok(None);
+    };
     other_in(alloc, connection, seeds, Unknown::Kept)?;
-    Ok(())
+    let last = seeds.newest();
+    Ok(Some(Added { first, last }))
 }
 
-/// Has a database know the seeds that it is to be served with, and hands it back. One that can't be taken over is handed
-/// back as it is.
+/// Has a database know the seeds that it is to be served with, and hands it back with those that are new to it. One
+/// that can't be taken over, or knows another seed, is handed back as it is.
 pub(crate) fn with_seeds<S: Alter + Drop>(
     alloc: Global,
     connection: Connection<S>,
     seeds: &Seeds,
-) -> (Connection<S>, Result<(), Fault>) {
+) -> (Connection<S>, Result<Option<Added>, Fault>) {
     match adopt(alloc, connection) {
         Ok(tables) => {
             let mut connection = tables.into_connection();
             let known = keep_seeds(alloc, &mut connection, seeds);
             (connection, known)
         }
-        Err((connection, _)) => (connection, Ok(())),
+        Err((connection, fault)) => (connection, Err(Fault::from(fault))),
+    }
+}
+
+/// Has a database forget seeds again, since it wasn't served with them.
+pub(crate) fn forget_seeds<S: Alter + Drop>(
+    alloc: Global,
+    connection: &mut Connection<S>,
+    added: Added,
+) {
+    for epoch in added.first..=added.last {
+        if let Ok(name) = row_name(alloc, epoch) {
+            let _ = connection.execute("DELETE FROM meta WHERE name = ?1", params![name.as_str()]);
+        }
     }
 }

@@ -99,7 +99,7 @@ fn cause_of_seeds(rt: &HostRuntime, db: &str, seeds: &Seeds) -> Option<Cause> {
         return None;
     };
     match other_seed(rt.alloc(), tables, seeds) {
-        Ok(Some(place)) => Some(Cause::Seed(place)),
+        Ok(Some(epoch)) => Some(Cause::Seed(epoch.saturating_add(1) as usize)),
         _ => None,
     }
 }
