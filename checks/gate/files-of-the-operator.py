@@ -708,22 +708,6 @@ def told_on_a_terminal(lab):
     expect("whether there was a warning and a cause", "warning: " in lab.run(*restore(lab), "--verbose")[2], True)
 
 
-def typed(lab, answer, *args):
-    """What a command comes to whose terminal is typed an answer at, once it asks."""
-    process, terminal = pty.fork()
-    if process == 0:
-        os.execv(lab.program, [lab.program, *args])
-    said, left = b"", answer
-    with contextlib.suppress(OSError):
-        for part in iter(lambda: os.read(terminal, 4096), b""):
-            said += part
-            if b"[y/N] " in said and left:
-                os.write(terminal, left)
-                left = b""
-    os.close(terminal)
-    return os.waitstatus_to_exitcode(os.waitpid(process, 0)[1]), said.decode().replace("\r\n", "\n").replace("^D\b\b", "")
-
-
 def asked_on_a_terminal(lab):
     """An order that can't be taken back is shown and asked for on a terminal; --yes asks nothing. What isn't wanted changes
     nothing. While it is served, the same."""
@@ -741,18 +725,18 @@ def asked_on_a_terminal(lab):
     order = ["account-disable", "--db", lab.db, "--account", "2"]
     question, unchanged = "Disable this account for good? [y/N] ", "nothing is changed\n"
     for answer, echo in ((b"n\n", "n\n"), (b"\n", "\n"), (b"yess\n", "yess\n"), (b"\x04", "")):
-        expect(f"what {answer} changes", typed(lab, answer, *order), (1, f"{before}\n{question}{echo}{unchanged}"))
+        expect(f"what {answer} changes", lab.typed(answer, *order), (1, f"{before}\n{question}{echo}{unchanged}"))
         expect("the account", line_of(2), before)
-    expect("yes", typed(lab, b"y\n", *order), (0, f"{before}\n{question}y\naccount 2 disabled\n"))
-    expect("an order with --yes", typed(lab, b"", "account-disable", "--db", lab.db, "--account", "3", "--yes"), (0, "account 3 disabled\n"))
+    expect("yes", lab.typed(b"y\n", *order), (0, f"{before}\n{question}y\naccount 2 disabled\n"))
+    expect("an order with --yes", lab.typed(b"", "account-disable", "--db", lab.db, "--account", "3", "--yes"), (0, "account 3 disabled\n"))
     lab.kill()
     orders = [("request-approve", "Approve", "approved /acvp/v1/vendors/1000001"), ("request-reject", "Reject", "rejected")]
     for number, (command, verb, done) in zip(asked, orders):
         shown = lab.run("request-show", "--db", lab.db, "--keys", lab.keys, "--request", number)[1]
         about = f"{shown}{line_of(1)}\n{verb} this request? [y/N] "
         order = [command, "--db", lab.db, "--request", number]
-        expect(f"{command} that isn't wanted", typed(lab, b"no\n", *order), (1, f"{about}no\n{unchanged}"))
-        expect(f"{command} that is wanted", typed(lab, b"yes\n", *order), (0, f"{about}yes\nrequest {number} {done}\n"))
+        expect(f"{command} that isn't wanted", lab.typed(b"no\n", *order), (1, f"{about}no\n{unchanged}"))
+        expect(f"{command} that is wanted", lab.typed(b"yes\n", *order), (0, f"{about}yes\nrequest {number} {done}\n"))
     # without a terminal nothing is asked
     lab.does("account 4 disabled", "account-disable", "--db", lab.db, "--account", "4")
 

@@ -212,6 +212,13 @@ def looks(lab, wanted):
             "7000003 account 7 environment approved 7000001", wanted[0], "8000001 account 8 vendor initial"])
     show = ["request-show", "--db", lab.db, "--keys", lab.keys, "--request"]
     compared("the certification", shows(lab, *show, "7000004"), wanted)
+    question = (f"{wanted[0]}\n7 enabled sessions 1 requests 4 vendors 1 modules 1 environments 1\n"
+                "session 7000001: 1 of 1 vector sets passed\n")
+    for command, verb in (("request-approve", "Approve"), ("request-reject", "Reject")):
+        expect(f"what {command} asks", lab.typed(b"n\n", command, "--db", lab.db, "--request", "7000004"),
+               (1, f"{question}{verb} this request? [y/N] n\nnothing is changed\n"))
+    expect("a question about what isn't there", lab.typed(b"n\n", "request-approve", "--db", lab.db, "--request", "7000005"),
+           (1, "fault: unknown\n"))
     expect("a vendor of a disabled account", shows(lab, *show, "8000001"),
            ["8000001 account 8 vendor initial", '{"name":"Another"}'])
     lab.fails("unknown", *show, "7000005")

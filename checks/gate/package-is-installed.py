@@ -24,13 +24,16 @@ TOP = os.path.dirname(os.path.dirname(os.path.dirname(os.path.abspath(__file__))
 IS_ROOT = os.geteuid() == 0
 DOCUMENTS = "usr/share/doc/acvp-server"
 COPIES = {f"{DOCUMENTS}/{name}": name for name in (
-    "README.md", "CHANGELOG.md", "SECURITY.md", "examples/nginx.conf", "examples/validation.py",
+    "README.md", "CHANGELOG.md", "SECURITY.md", "examples/nginx.conf", "examples/two_laboratories.conf",
+    "examples/validation.py", "examples/certificates",
     *sorted(os.path.relpath(path, TOP) for path in glob.glob(os.path.join(glob.escape(TOP), "docs", "*.md"))))}
+COPIES[f"{DOCUMENTS}/examples/page_sums.py"] = "checks/lib/page_sums.py"
 COPIES["usr/share/bash-completion/completions/acvp_server"] = "examples/acvp_server.bash"
 PAGE, UNIT = "usr/share/man/man1/acvp_server.1.gz", "usr/lib/systemd/system/acvp_server.service"
 OTHERS = [PAGE, UNIT, f"{DOCUMENTS}/copyright", "usr/lib/sysusers.d/acvp_server.conf",
           "usr/lib/tmpfiles.d/acvp_server.conf"]
-PROGRAMS = ["usr/bin/acvp_server", f"{DOCUMENTS}/examples/validation.py"]
+PROGRAMS = ["usr/bin/acvp_server",
+            *(f"{DOCUMENTS}/examples/{name}" for name in ("validation.py", "certificates", "page_sums.py"))]
 
 
 def bytes_of(path):

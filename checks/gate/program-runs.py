@@ -127,7 +127,7 @@ def version():
     for word in ("--version", "-V"):
         told = run([word])
         expect(f"the line {word}", (told.returncode, told.stdout, told.stderr),
-               (0, f"acvp_server of schema 3, proved with {kit}\n".encode(), b""))
+               (0, f"acvp_server of schema 3, from sources proved with {kit}\n".encode(), b""))
 
 
 def command_lines(keys, folder):
