@@ -49,9 +49,9 @@ _acvp_server() {
         keys) options="--new --add-token --retire --add-seed --to --verbose --help" ;;
         secret) options="--new --verbose --help" ;;
         account-add) options="--db --account --secret --verbose --help" ;;
-        account-disable) options="--db --account --verbose --help" ;;
-        request-approve) options="--db --request --verbose --help" ;;
-        request-reject) options="--db --request --verbose --help" ;;
+        account-disable) options="--db --account --yes --verbose --help" ;;
+        request-approve) options="--db --request --yes --verbose --help" ;;
+        request-reject) options="--db --request --yes --verbose --help" ;;
         accounts) options="--db --verbose --help" ;;
         requests) options="--db --all --verbose --help" ;;
         request-show) options="--db --keys --request --verbose --help" ;;
