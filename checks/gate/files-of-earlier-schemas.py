@@ -13,7 +13,7 @@ import tempfile
 import time
 
 import laboratory
-from laboratory import Laboratory, compact, expect, free_port, signed
+from laboratory import SEED, Laboratory, compact, expect, fingerprint, free_port, signed
 from validation import answers
 
 META = "CREATE TABLE meta (name TEXT PRIMARY KEY NOT NULL, value INTEGER NOT NULL) STRICT"
@@ -185,7 +185,7 @@ def kept(lab):
     expect("the other columns", (*after[:4], after[7]), (*before[:4], before[7]))
     expect("the disposition", after[6], 2)
     expect("the other vector sets", same, others)
-    expect("the rows of meta", rows_of(lab.db, "meta"), meta)
+    expect("the rows of meta", rows_of(lab.db, "meta"), meta + [("seed 1", fingerprint(SEED))])
     remove(lab.db)
 
 

@@ -484,14 +484,14 @@ def why_a_database_is_unavailable(lab):
         other = {"user": 65534, "group": 65534}
         denied = "it can't be opened: Permission denied (os error 13)"
         because(lab, "unavailable", f"--db: {denied}", *disable(lab.db), what="by another user", **other)
-        because(lab, "unavailable", "--to: it can't be made in its folder", *backup(lab, "b.db"), what="by another user", **other)
+        because(lab, "unavailable", "--to: it can't be made in its folder (its rights, or a full disk)", *backup(lab, "b.db"), what="by another user", **other)
         with tempfile.TemporaryDirectory() as theirs:
             os.chown(theirs, 65534, 65534)
             because(lab, "unavailable", f"--db: {denied}", *backup(lab, os.path.join(theirs, "b.db")), what="by another user", **other)
         because(lab, "keys", f"--keys: {denied}", "script", "--keys", lab.keys, what="by another user", **other)
         because(lab, "secret", f"--secret: {denied}", "account-add", "--db", lab.db, "--account", "2", "--secret",
                 lab.path("secret-1"), what="by another user", **other)
-        because(lab, "unavailable", "--db: it can't be made in its folder", "init", "--db", gone, what="by another user", **other)
+        because(lab, "unavailable", "--db: it can't be made in its folder (its rights, or a full disk)", "init", "--db", gone, what="by another user", **other)
         os.chmod(lab.folder, 0o700)
     else:
         print("skipped: what another user may not open (only root may become one)")

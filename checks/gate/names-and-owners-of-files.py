@@ -125,7 +125,7 @@ def links(lab):
     os.symlink("not-there.db", nowhere)
     for command in commands_over(lab, nowhere) + looks_over(lab, nowhere) + [serving(lab, nowhere)]:
         refused(lab, "--db: there is no such file", *command)
-    refused(lab, "--db: it can't be made in its folder", "init", "--db", nowhere)
+    refused(lab, "--db: it can't be made in its folder (its rights, or a full disk)", "init", "--db", nowhere)
     expect("what a link that leads nowhere leads to", os.path.lexists(lab.path("not-there.db")), False)
 
 

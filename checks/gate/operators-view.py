@@ -17,6 +17,7 @@ import tempfile
 
 from laboratory import Laboratory, expect, request
 import laboratory
+import page_sums
 from validation import answers
 
 CAPABILITIES = [{"algorithm": "SHA2-256", "messageLength": [8], "revision": "1.0"},
@@ -144,8 +145,16 @@ def no_documents(lab):
     lab.fails("unavailable", "certificate", "--db", lab.path("absent.db"), "--keys", lab.keys, "--request", "7000004")
     other = lab.write(lab.path("other-keys"), f"{laboratory.KEY.hex()}\n{bytes(32).hex()}\n")
     os.chmod(other, 0o600)
-    expect("under another seed", lab.run("certificate", "--verbose", "--db", lab.db, "--keys", other, "--request", "7000004"),
-           (1, "", "fault: keys\nbecause: --keys: it lacks a seed that a vector set names, or has another in its place\n"))
+    # a database that knows its seeds tells which is another; one that knows none tells by the answers
+    unknowing = lab.path("unknowing.db")
+    lab.backs_up("unknowing.db")
+    with contextlib.closing(page_sums.connect(unknowing)) as connection:
+        connection.execute("DELETE FROM meta WHERE name <> 'schema'")
+        connection.commit()
+    for db, cause in ((lab.db, "its seed 1 is another than the one that the database was served with"),
+                      (unknowing, "it lacks a seed that a vector set names, or has another in its place")):
+        expect(f"under another seed, of {db}", lab.run("certificate", "--verbose", "--db", db, "--keys", other, "--request", "7000004"),
+               (1, "", f"fault: keys\nbecause: --keys: {cause}\n"))
     os.remove(other)
     expect("no number", lab.run(*show, "0")[0], 2)
 

@@ -291,11 +291,14 @@ def each_damage(lab, whole):
 
 
 def other_keys(lab, whole):
-    """Under another seed the first answered set has other standard answers; without a seed it has none."""
+    """Under another seed the first answered set has other standard answers, where the file doesn't know its seeds; without
+    a seed it has none."""
     lines = bytes_of(lab.keys).decode().split()
     other = lab.write(lab.path("other.txt"), f"{lines[0]}\n{'5' * 64}\n")
-    is_wrong(lab, whole, f"set {CERTIFIED * 100 + 1} verdicts", keys=other)
-    is_whole(lab, whole, "--grades", "no", keys=other)
+    lab.fails("keys", "check", "--db", whole, "--keys", other)
+    unknowing = damage(lab, whole, [delete("meta", name="seed 1")], "unknowing")
+    is_wrong(lab, unknowing, f"set {CERTIFIED * 100 + 1} verdicts", keys=other)
+    is_whole(lab, unknowing, "--grades", "no", keys=other)
     added = lab.write(lab.path("added.txt"), f"token {lines[0]}\nseed {lines[1]}\nseed {'5' * 64}\n")
     is_whole(lab, whole, keys=added)
 
