@@ -1,10 +1,9 @@
 //! Requests out of readers, some of which fail, and their replies into writers.
 
-use crate::cases::asked::push;
-use crate::cases::server::{Door, paths};
 use crate::over_both_forms::{Deed, over_a_database, over_both, over_lists};
-use crate::requests::{ACCEPTED, LOGIN, desk_of_seven, refusal};
+use crate::servers::{desk_of_seven, paths};
 use crate::streams::{FailsOnce, Interrupted, Narrow};
+use crate::texts::{ACCEPTED, LOGIN, LOST, NO_ROUTE, push};
 use acvp_desk::Desk;
 use acvp_http::{Flagged, ServeFault, serve_one};
 use acvp_tables::Tables;
@@ -34,13 +33,13 @@ pub(crate) enum Connected {
     GoesOn(usize),
 }
 
-/// Serves this, and hands the tables back.
+/// Serves this.
 pub(crate) fn connects<T: Tables + Drop>(
     rt: &impl Abort,
     alloc: Global,
     tables: T,
     connected: Connected,
-) -> T {
+) {
     let mut desk = desk_of_seven(rt, alloc, tables);
     match connected {
         Connected::EndsEarly => leaves_the_code(rt, alloc, &mut desk),
@@ -50,11 +49,7 @@ pub(crate) fn connects<T: Tables + Drop>(
         Connected::GivesUp => gives_up(rt, alloc, &mut desk),
         Connected::GoesOn(place) => goes_on(rt, alloc, &mut desk, place),
     }
-    desk.into_tables()
 }
-
-/// A request of no path, and its reply.
-const LOST: &[u8] = b"GET /acvp/v2 HTTP/1.0\r\n\r\n";
 
 /// What serving one request answered, and its reader and writer.
 #[derive(Drop)]
@@ -149,9 +144,8 @@ fn writes_as_far<T: Tables>(
 
 /// A reply goes out up to the end of each writer.
 fn writes_each_front<T: Tables>(rt: &impl Abort, alloc: Global, desk: &mut Desk<T>) {
-    let reply = refusal(rt, alloc, b"404 Not Found", b"", b"noRoute");
-    for room in 0..reply.len() {
-        writes_as_far(rt, alloc, desk, 90, LOST, &reply[..room]);
+    for room in 0..NO_ROUTE.len() {
+        writes_as_far(rt, alloc, desk, 90, LOST, &NO_ROUTE[..room]);
     }
 }
 
@@ -244,8 +238,8 @@ fn goes_on<T: Tables>(rt: &impl Abort, alloc: Global, desk: &mut Desk<T>, place:
 fn an_interrupted_read_is_tried_again(rt: HostRuntime) {
     for place in 0..LOGIN.len() {
         let deed = Deed::Connected(Connected::GoesOn(place));
-        over_lists(&rt, rt.alloc(), Door::Bytes, deed);
+        over_lists(&rt, rt.alloc(), deed);
     }
     let deed = Deed::Connected(Connected::GoesOn(100));
-    over_a_database(&rt, rt.alloc(), Door::Bytes, deed);
+    over_a_database(&rt, rt.alloc(), deed);
 }

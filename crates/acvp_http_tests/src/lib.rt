@@ -1,9 +1,8 @@
-//! Tests from bytes to bytes, through the public faces of `acvp_http`, `acvp_desk` and `acvp_store`: there is nothing
-//! here but tests.
+//! Tests through the public faces of `acvp_http`, `acvp_desk` and `acvp_store`: there is nothing here but tests.
 #![tactic(auto)]
 
 #[cfg(test)]
-mod cases;
+mod cached;
 #[cfg(test)]
 mod connections;
 #[cfg(test)]
@@ -13,14 +12,16 @@ mod lives;
 #[cfg(test)]
 mod over_both_forms;
 #[cfg(test)]
-mod requests;
-#[cfg(test)]
 mod rows;
 #[cfg(test)]
 mod scripts;
 #[cfg(test)]
+mod servers;
+#[cfg(test)]
 mod stops;
 #[cfg(test)]
 mod streams;
+#[cfg(test)]
+mod texts;
 #[cfg(test)]
 mod validation;

@@ -3,9 +3,9 @@
 //! stop has after the same events, and what is put out is the same, byte for byte. So it is for a copy of what the first
 //! run left, and where the third run begins with such a copy: it is then that of a life without a second.
 
-use crate::cases::asked::push;
 use crate::disks::{Held, MemoryFile, Stop, abandoned, disks, left_by_a_crash, opened};
 use crate::stops::{RunKeys, Script, Work, acknowledges, after, happens, looked_at};
+use crate::texts::push;
 use acvp_store_tests::earlier_schemas::FIRST_SCHEMA;
 use std::alloc::Global;
 use std::ops::Range;

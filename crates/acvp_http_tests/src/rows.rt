@@ -1,6 +1,6 @@
 //! The rows of a database, as text, by statements that the product doesn't have.
 
-use crate::cases::asked::push;
+use crate::texts::push;
 use sqlite::{Alter, Connection, Row};
 use std::alloc::Global;
 use std::process::Abort;

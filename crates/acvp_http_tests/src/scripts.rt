@@ -1,10 +1,9 @@
 //! Scripts over readers and writers in memory, some of which fail.
 
-use crate::cases::asked::{joined, push};
-use crate::cases::server::{Door, account_of, desk_over, keys, keys_of, paths};
 use crate::over_both_forms::{Deed, over_a_database, over_both, over_lists};
-use crate::requests::ACCEPTED;
+use crate::servers::{account_of, desk_over, keys, keys_of, paths};
 use crate::streams::{FailsOnce, Narrow};
+use crate::texts::{ACCEPTED, joined, push};
 use acvp_desk::{Desk, Keys};
 use acvp_http::{Flagged, ScriptFault, run};
 use acvp_tables::Tables;
@@ -118,18 +117,16 @@ fn leaves<T: Tables>(rt: &impl Abort, tables: &mut T, scripted: Scripted<'_>) {
     }
 }
 
-/// Runs this, asserts what it leaves in the tables, and hands them back.
+/// Runs this, and asserts what it leaves in the tables.
 pub(crate) fn runs<T: Tables + Drop>(
     rt: &impl Abort,
     alloc: Global,
     tables: T,
     scripted: Scripted<'_>,
-) -> T {
+) {
     let mut desk = desk_over(rt, alloc, keys_for(rt, scripted), tables);
     runs_with(rt, alloc, &mut desk, scripted);
-    let mut tables = desk.into_tables();
-    leaves(rt, &mut tables, scripted);
-    tables
+    leaves(rt, &mut desk.into_tables(), scripted);
 }
 
 /// The bytes from 0 to 31 in hex.
@@ -366,10 +363,10 @@ fn goes_on<T: Tables>(rt: &impl Abort, alloc: Global, desk: &mut Desk<T>, place:
 fn an_interrupted_read_is_tried_again(rt: HostRuntime) {
     for place in 0..=ORDERS.len() {
         let deed = Deed::Scripted(Scripted::GoesOn(place));
-        over_lists(&rt, rt.alloc(), Door::Bytes, deed);
+        over_lists(&rt, rt.alloc(), deed);
     }
     let deed = Deed::Scripted(Scripted::GoesOn(170));
-    over_a_database(&rt, rt.alloc(), Door::Bytes, deed);
+    over_a_database(&rt, rt.alloc(), deed);
 }
 
 /// Asserts that a writer with room for a front of the answers ends the run.

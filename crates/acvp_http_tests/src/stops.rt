@@ -1,12 +1,12 @@
 //! Stops: while events are under way over a file, a disk fails from a call on, at each call in turn. Opened anew and
 //! adopted, the file has the rows after the events that were acknowledged, or after the next one, too.
 
-use crate::cases::server::{keys, keys_of, new_desk};
 use crate::disks::{
     Disks, Held, Stop, all_written, closed, disks, have_stopped, left_by_a_crash, opened,
 };
 use crate::rows::{rows, rows_alone};
 use crate::scripts::run_over;
+use crate::servers::{keys, keys_of, new_desk};
 use crate::validation::{AFTERWARDS, AGAIN, ON_THE_SECOND_SESSION, REFUSED, VALIDATION};
 use acvp_desk::{Desk, Keys};
 use acvp_store::{SqlTables, adopt, create, migrate};
