@@ -12,10 +12,10 @@ With --port the client speaks to PROGRAM, as `acvp_server`, over sockets of port
 FILE, which `acvp_server init` has made, under the keys in KEYS. The operator's orders are commands of PROGRAM, which it
 carries out while it serves. The account is the lowest of 7 to 9999 that isn't there.
 
-With --url the client speaks to the address of a server, or of what stands in front of it, as
+With --url the client speaks to the address of a server, or of its reverse proxy, as
 https://laboratory.example/acvp/v1, for an account whose secret is in the file SECRET. AUTHORITY is the certificate of
-who signed the front's, and CERTIFICATE and KEY are the client's own. It ends once its test session has passed, since the
-operator isn't there.
+who signed the proxy's, and CERTIFICATE and KEY are the client's own. It ends once its test session has passed, since
+the operator isn't there.
 
 With --without-monte-carlo in front of all these the longest message has 760 bits. That is less than three digests, and
 so the vector sets have no Monte Carlo test, which takes an unproved build with its checks more than a minute.

@@ -1,8 +1,8 @@
-"""The examples of a front and of a service: nginx with TLS and certificates of clients before the program, as
+"""The examples of a reverse proxy and of a service: nginx with TLS and certificates of clients before the program, as
 examples/nginx.conf has it, with certificates of examples/certificates; two programs behind one nginx by
 examples/two_laboratories.conf; and what systemd says of examples/acvp_server.service. What isn't installed is skipped.
 
-    behind-a-front.py PROGRAM"""
+    behind-a-proxy.py PROGRAM"""
 import contextlib
 import hashlib
 import http.client
@@ -81,7 +81,7 @@ def files_of(folder):
 
 
 def certificates(lab):
-    """An authority, the front's certificate and those of three clients. A stranger's authority, in a folder whose name
+    """An authority, the proxy's certificate and those of three clients. A stranger's authority, in a folder whose name
     has a space, has a client of the same name as one of the three."""
     makes(lab, "authority", "authority", "Example Laboratory")
     makes(lab, "server", "authority", "127.0.0.1")
@@ -91,7 +91,7 @@ def certificates(lab):
              for name in ("acme", "second", "third")]
     expect("three at once", [one.wait() for one in three], [0, 0, 0])
     with open(lab.path("authority/records/index.txt")) as file:
-        expect("the records of the front and of three at once", len(file.readlines()), 4)
+        expect("the records of the proxy and of three at once", len(file.readlines()), 4)
     keys = [access[1] for path, access in files_of(lab.folder).items() if path.endswith("-key.pem")]
     expect("who may read the keys", keys, [0o600] * 7)
     careless(lab)
@@ -127,7 +127,7 @@ def replaced(name, pairs):
 
 
 def configured(lab, port, chosen=None):
-    """The example of a front before one server, or before those that an include chooses from."""
+    """The example of a proxy before one server, or before those that an include chooses from."""
     one = 'map "" $laboratory {\n        default 127.0.0.1:8080;\n    }'
     text = replaced("nginx.conf", [
         ("/etc/acvp/", lab.path("authority/")), ("/run/acvp-nginx.pid", lab.path("nginx.pid")),
@@ -162,7 +162,7 @@ def reloads(lab):
 
 
 class Front:
-    """A client of the front, with a certificate or without one."""
+    """A client of the proxy, with a certificate or without one."""
 
     def __init__(self, lab, port, certificate="authority/client-acme"):
         self.port = port
@@ -315,7 +315,7 @@ def withdrawn(lab, port):
         raise SystemExit("a withdrawn certificate is accepted")
 
     makes(lab, "withdraw", "authority", "second")
-    expect("a certificate on the list, before the front is reloaded", second.call(*asked), NO_TOKEN)
+    expect("a certificate on the list, before the proxy is reloaded", second.call(*asked), NO_TOKEN)
     reloads(lab)
     refused()
     expect("another certificate", first.call(*asked), NO_TOKEN)
@@ -350,7 +350,7 @@ def rates(lab, port):
 
 
 def over_tls(lab, port):
-    """A session passes through the front, beside a client that stops half way; what isn't a request of a client's is
+    """A session passes through the proxy, beside a client that stops half way; what isn't a request of a client's is
     told in the protocol's envelope."""
     client = Front(lab, port)
     slow = client.connect()
@@ -378,7 +378,7 @@ def over_tls(lab, port):
     for path, most in [("testSessions", 2097152), ("login", 4096)]:
         expect(f"too much for {path}", client.call("POST", f"/acvp/v1/{path}", body=b" " * (most + 1)), TOO_LARGE)
     for certificate, what in [(None, "no certificate"), ("a stranger/client-second", "another authority's"),
-                              ("authority/server", "the front's own")]:
+                              ("authority/server", "the proxy's own")]:
         expect(what, Front(lab, port, certificate).call("GET", "/acvp/v1/account"), NO_CLIENT)
     withdrawn(lab, port)
     tries = [client.call("POST", "/acvp/v1/login", thing={"password": "00000000", "user": "7"})[0] for _ in range(20)]
@@ -388,7 +388,7 @@ def over_tls(lab, port):
     expect("a server that isn't there", client.call("GET", "/acvp/v1/account"), (503, {"error": "unavailable"}))
 
 
-def front(program):
+def proxy(program):
     with tempfile.TemporaryDirectory() as folder:
         lab = Laboratory(program, folder)
         lab.does("ready", "init", "--db", lab.db)
@@ -433,7 +433,7 @@ def divided(lab, labs, port):
 
 
 def two_laboratories(program):
-    """Two programs with two databases behind one front."""
+    """Two programs with two databases behind one proxy."""
     with contextlib.ExitStack() as opened:
         labs = [Laboratory(program, opened.enter_context(tempfile.TemporaryDirectory())) for _ in range(2)]
         for lab, account in zip(labs, (7, 5007)):
@@ -479,9 +479,9 @@ def main():
     program = os.path.abspath(sys.argv[1])
     missing = [tool for tool in ("nginx", "openssl") if not shutil.which(tool)]
     if missing:
-        print(f"skipped: a front before the program (apt-get install {' '.join(missing)})")
+        print(f"skipped: a proxy before the program (apt-get install {' '.join(missing)})")
     else:
-        front(program)
+        proxy(program)
         two_laboratories(program)
     service(program)
     print(f"{laboratory.checked} comparisons")
