@@ -2,16 +2,14 @@
 // every-action, accounts-apart, each-growth-refused, damaged-rows, lives-of-a-file, turned-bits,
 // what-is-logged and whole-and-damaged-files. It takes no memory, so that each growth is one of the program's own.
 #define _GNU_SOURCE
-#include <dlfcn.h>
 #include <fcntl.h>
 #include <stdlib.h>
+#include <sys/syscall.h>
 #include <time.h>
 #include <unistd.h>
 
 int clock_gettime(clockid_t clock, struct timespec *now) {
-    static int (*next)(clockid_t, struct timespec *);
-    if (next == NULL) next = (int (*)(clockid_t, struct timespec *))dlsym(RTLD_NEXT, "clock_gettime");
-    int result = next(clock, now);
+    int result = (int)syscall(SYS_clock_gettime, clock, now);
     const char *path = getenv("CLOCK");
     int file = result == 0 && clock == CLOCK_REALTIME && path != NULL ? open(path, O_RDONLY) : -1;
     if (file >= 0) {
