@@ -49,9 +49,9 @@ class Watched:
                 text = file.read()
             if text.count("\n") >= count:
                 self.read += len(text)
-                found = [line.split(" ", 6) for line in text.splitlines()]
+                found = [line.split(" ", 7) for line in text.splitlines()]
                 expect("how many lines there are", len(found), count)
-                return [tuple(words[1:5] + words[6:]) for words in found]
+                return [tuple(words[1:3] + words[4:6] + words[7:]) for words in found]
             time.sleep(0.01)
         raise SystemExit(f"a line is missing: {text!r}")
 

@@ -19,7 +19,7 @@ import page_sums
 
 MOMENT, END_OF_MOMENTS = 1790000000, 4102444800
 MARK = "marked-by-who-sent-it"
-LINE = re.compile(r"(\S+) (-|[1-9]\d{0,3}) (-|[A-Za-z]+|[a-z]+-[a-z]+) (-|\d+) ([A-Za-z]+|-) (\d+)((?: unsent| because: [ -~]+)?)\n")
+LINE = re.compile(r"(\S+) (-|[1-9]\d{0,3}) (-|[A-Za-z]+|[a-z]+-[a-z]+) (-|\d+) (-|\d{3}) ([A-Za-z]+|-) (\d+)((?: unsent| because: [ -~]+)?)\n")
 STORE = ("the store refused a statement (a full disk, a folder that can't be written to), or met a page or a row that stands"
          " for nothing")
 REGISTRATION = {"algorithms": [{"algorithm": "SHA2-256", "revision": "1.0", "messageLength": [8]}], "mark": MARK}
@@ -63,15 +63,15 @@ class Logged:
         raise SystemExit("a line is missing")
 
     def tells(self, what, wanted):
-        """The next line has this account, action, status or number, word, and what stands behind the milliseconds."""
+        """The next line has this account, action, number, status, word, and what stands behind the milliseconds."""
         if not self.is_logged:
             return
         line = self.line()
         self.lines.append(line)
         found = LINE.fullmatch(line)
         expect(f"the form of the line {line!r} of {what}", found is not None, True)
-        moment, account, action, number, word, took, tail = found.groups()
-        expect(f"the line of {what}", (moment, f"{account} {action} {number} {word}{tail}"), (told_as(self.moment), wanted))
+        moment, account, action, subject, status, word, took, tail = found.groups()
+        expect(f"the line of {what}", (moment, f"{account} {action} {subject} {status} {word}{tail}"), (told_as(self.moment), wanted))
         expect(f"the milliseconds of {what}", int(took) < 60000, True)
 
     def asks(self, what, text, wanted):
@@ -106,82 +106,82 @@ class Logged:
 def requests(it):
     """Each kind of request, with and without a token."""
     secret = it.lab.secret(7)
-    it.orders("account-add", f"account-add 1 7 {secret.hex()}\n".encode(), "- account-add 7 ok")
+    it.orders("account-add", f"account-add 1 7 {secret.hex()}\n".encode(), "- account-add 7 - ok")
     code = one_time_code(secret, MOMENT)
     it.secret_texts += [secret.hex(), code, MARK]
     login = {"password": code, "user": "7", "mark": MARK}
-    it.calls("- Login 403 loginRefused", "POST", "/login", thing={**login, "password": "00000000"})
-    it.calls("- Login 400 bodyField", "POST", "/login", thing={"user": "7"}, token=signed({"sub": "8", "iat": 1, "exp": 2}))
-    token = it.calls("7 Login 200 ok", "POST", "/login", thing=login)["accessToken"]
-    it.calls("- Login 403 loginRefused", "POST", "/login", thing=login)
-    it.calls("7 ReadAccount 200 ok", "GET", "/account", token)
-    it.calls("- ReadAccount 401 tokenMissing", "GET", "/account")
-    it.calls("- ReadAccount 401 tokenMalformed", "GET", "/account", MARK)
+    it.calls("- Login - 403 loginRefused", "POST", "/login", thing={**login, "password": "00000000"})
+    it.calls("- Login - 400 bodyField", "POST", "/login", thing={"user": "7"}, token=signed({"sub": "8", "iat": 1, "exp": 2}))
+    token = it.calls("7 Login - 200 ok", "POST", "/login", thing=login)["accessToken"]
+    it.calls("- Login - 403 loginRefused", "POST", "/login", thing=login)
+    it.calls("7 ReadAccount - 200 ok", "GET", "/account", token)
+    it.calls("- ReadAccount - 401 tokenMissing", "GET", "/account")
+    it.calls("- ReadAccount - 401 tokenMalformed", "GET", "/account", MARK)
     forged = signed({"exp": MOMENT + 9, "iat": MOMENT, "sub": "8"}, bytes([1] * 32))
-    it.calls("- ReadAccount 401 tokenSignature", "GET", "/account", forged)
+    it.calls("- ReadAccount - 401 tokenSignature", "GET", "/account", forged)
     old = signed({"exp": MOMENT, "iat": MOMENT - 9, "sub": "7"})
-    it.calls("- ReadAccount 401 tokenExpired", "GET", "/account", old)
-    it.calls("- ReadAccount 403 accountRefused", "GET", "/account", signed({"exp": MOMENT + 9, "iat": MOMENT, "sub": "8"}))
-    it.calls("7 NewSession 400 bodyField", "POST", "/testSessions", token, {"mark": MARK})
-    it.calls("7 NewSession 400 bodyNotJson", "POST", "/testSessions", token, body=MARK.encode())
-    session = it.calls("7 NewSession 200 ok", "POST", "/testSessions", token, REGISTRATION)
+    it.calls("- ReadAccount - 401 tokenExpired", "GET", "/account", old)
+    it.calls("- ReadAccount - 403 accountRefused", "GET", "/account", signed({"exp": MOMENT + 9, "iat": MOMENT, "sub": "8"}))
+    it.calls("7 NewSession - 400 bodyField", "POST", "/testSessions", token, {"mark": MARK})
+    it.calls("7 NewSession - 400 bodyNotJson", "POST", "/testSessions", token, body=MARK.encode())
+    session = it.calls("7 NewSession - 200 ok", "POST", "/testSessions", token, REGISTRATION)
     bound, path = session["accessToken"], session["url"].removeprefix("/acvp/v1")
     it.secret_texts += [part for one in (token, bound, forged, old) for part in one.split(".")[1:]]
     of_set = session["vectorSetUrls"][0].removeprefix("/acvp/v1")
-    it.calls("7 ReadSet 200 ok", "GET", of_set, bound)
-    it.calls("7 SetResults 200 ok", "GET", of_set + "/results", bound)
-    it.calls("7 Resubmit 409 notSubmitted", "PUT", of_set + "/results", bound, {"mark": MARK})
-    it.calls("- ReadSession 403 sessionTokenNeeded", "GET", path, token)
-    it.calls("- NewVendor 403 accountTokenNeeded", "POST", "/vendors", bound, {"name": MARK})
-    it.calls("- ReadSession 403 otherSession", "GET", "/testSessions/8000001", bound)
-    it.calls("7 ReadSet 404 noResource", "GET", path + "/vectorSets/1", bound)
-    it.calls("7 NewVendor 200 ok", "POST", "/vendors", token, {"name": MARK})
-    it.calls("7 ListVendors 400 badPage", "GET", f"/vendors?{MARK}", token)
-    it.calls("- - 404 noRoute", "GET", f"/{MARK}", token)
-    it.calls("- - 405 noMethod", "DELETE", "/account", token)
+    it.calls("7 ReadSet 700000101 200 ok", "GET", of_set, bound)
+    it.calls("7 SetResults 700000101 200 ok", "GET", of_set + "/results", bound)
+    it.calls("7 Resubmit 700000101 409 notSubmitted", "PUT", of_set + "/results", bound, {"mark": MARK})
+    it.calls("- ReadSession 7000001 403 sessionTokenNeeded", "GET", path, token)
+    it.calls("- NewVendor - 403 accountTokenNeeded", "POST", "/vendors", bound, {"name": MARK})
+    it.calls("- ReadSession 8000001 403 otherSession", "GET", "/testSessions/8000001", bound)
+    it.calls("7 ReadSet 1 404 noResource", "GET", path + "/vectorSets/1", bound)
+    it.calls("7 NewVendor - 200 ok", "POST", "/vendors", token, {"name": MARK})
+    it.calls("7 ListVendors - 400 badPage", "GET", f"/vendors?{MARK}", token)
+    it.calls("- - - 404 noRoute", "GET", f"/{MARK}", token)
+    it.calls("- - - 405 noMethod", "DELETE", "/account", token)
 
 
 def orders(it):
     """Each kind of order, and what is none."""
-    it.orders("an account that is there", b"account-add 1 7 " + b"ab" * 32 + b"\n", "- account-add 7 taken")
-    it.orders("a rejection", b"request-reject 1 7000001\n", "- request-reject 7000001 ok")
-    it.orders("another rejection", b"request-reject 1 7000001\n", "- request-reject 7000001 notInitial")
-    it.orders("an approval of nothing", b"request-approve 1 7000002\n", "- request-approve 7000002 unknown")
-    it.orders("another word", f"{MARK} 1 7\n".encode(), "- - - syntax")
-    it.orders("nothing", b"", "- - - syntax")
-    it.orders("control characters", b"account-disable 1 \x1b[31m7\r\n", "- - - syntax")
-    it.orders("account-disable", b"account-disable 1 7\n", "- account-disable 7 ok")
+    it.orders("an account that is there", b"account-add 1 7 " + b"ab" * 32 + b"\n", "- account-add 7 - taken")
+    it.orders("a rejection", b"request-reject 1 7000001\n", "- request-reject 7000001 - ok")
+    it.orders("another rejection", b"request-reject 1 7000001\n", "- request-reject 7000001 - notInitial")
+    it.orders("an approval of nothing", b"request-approve 1 7000002\n", "- request-approve 7000002 - unknown")
+    it.orders("another word", f"{MARK} 1 7\n".encode(), "- - - - syntax")
+    it.orders("nothing", b"", "- - - - syntax")
+    it.orders("control characters", b"account-disable 1 \x1b[31m7\r\n", "- - - - syntax")
+    it.orders("account-disable", b"account-disable 1 7\n", "- account-disable 7 - ok")
     token = signed({"exp": MOMENT + 9, "iat": MOMENT, "sub": "7"})
-    it.calls("- ReadAccount 403 accountRefused", "GET", "/account", token)
+    it.calls("- ReadAccount - 403 accountRefused", "GET", "/account", token)
 
 
 def hostile_bytes(it):
     """What is no request, and what is a large one."""
-    it.asks("nothing", b"", "- - 400 truncated")
-    it.asks("half a head", b"GET /acvp/v1/account HTTP/1.1\r\nHost:", "- - 400 truncated")
+    it.asks("nothing", b"", "- - - 400 truncated")
+    it.asks("half a head", b"GET /acvp/v1/account HTTP/1.1\r\nHost:", "- - - 400 truncated")
     host = b" HTTP/1.1\r\nHost: laboratory.example\r\n"
     for what, target in [("an escape", b"/\x1b[31m"), ("a bell", b"/acvp/v1/account\x07"), ("a line feed", b"/acvp\n1 7 Login 200 ok 0"),
                          ("a null", b"/\0")]:
-        it.asks(what, b"GET " + target + host + b"\r\n", "- - 400 badHead")
-    it.asks("an escape by two bytes", b"GET /\xc2\x9b31m" + host + b"\r\n", "- - 404 noRoute")
-    it.asks("a control character in a field", b"GET /acvp/v1/account" + host + b"A: \x1b[31m\r\n\r\n", "- - 400 badHead")
-    it.asks("no bytes of a head", bytes(range(256)) * 100, "- - 431 headTooLarge")
-    it.asks("a method of another name", b"\x1b[31m /acvp/v1/account" + host + b"\r\n", "- - 400 badHead")
+        it.asks(what, b"GET " + target + host + b"\r\n", "- - - 400 badHead")
+    it.asks("an escape by two bytes", b"GET /\xc2\x9b31m" + host + b"\r\n", "- - - 404 noRoute")
+    it.asks("a control character in a field", b"GET /acvp/v1/account" + host + b"A: \x1b[31m\r\n\r\n", "- - - 400 badHead")
+    it.asks("no bytes of a head", bytes(range(256)) * 100, "- - - 431 headTooLarge")
+    it.asks("a method of another name", b"\x1b[31m /acvp/v1/account" + host + b"\r\n", "- - - 400 badHead")
     it.asks("two fields for the token", b"GET /acvp/v1/account" + host + b"Authorization: Bearer a\r\n" * 2 + b"\r\n",
-            "- ReadAccount 401 tokenMalformed")
-    it.asks("no token", b"GET /acvp/v1/account" + host + b"Authorization: \x80\r\n\r\n", "- ReadAccount 401 tokenMissing")
+            "- ReadAccount - 401 tokenMalformed")
+    it.asks("no token", b"GET /acvp/v1/account" + host + b"Authorization: \x80\r\n\r\n", "- ReadAccount - 401 tokenMissing")
     it.asks("claims that are none", request("GET", "/account", (encoded(b"{}") + b".\x1b." + encoded(b"{}")).decode()),
-            "- - 400 badHead")
+            "- - - 400 badHead")
     large = b"[" + b"\x1b" * (2097152 - 2) + b"]"
-    it.calls("- Login 400 bodyNotJson", "POST", "/login", body=large)
-    it.calls("- Login 400 bodyEnvelope", "POST", "/login", body=b"[" + b'"' + MARK.encode() + b"a" * 2097000 + b'"' + b"]")
+    it.calls("- Login - 400 bodyNotJson", "POST", "/login", body=large)
+    it.calls("- Login - 400 bodyEnvelope", "POST", "/login", body=b"[" + b'"' + MARK.encode() + b"a" * 2097000 + b'"' + b"]")
     it.asks("a body that is too large", request("POST", "/login", body=b"") .replace(b"Content-Length: 0", b"Content-Length: 2097153"),
-            "- Login 413 bodyTooLarge")
+            "- Login - 413 bodyTooLarge")
     with it.lab.connect() as broken:
         broken.sendall(b"GET /acvp")
         time.sleep(0.2)
         broken.setsockopt(socket.SOL_SOCKET, socket.SO_LINGER, struct.pack("ii", 1, 0))
-    it.tells("a connection that is reset", "- - - broken")
+    it.tells("a connection that is reset", "- - - - broken")
 
 
 def what_is_unavailable(it):
@@ -195,20 +195,20 @@ def what_is_unavailable(it):
     it.serve()
     token = signed({"exp": MOMENT + 9, "iat": MOMENT, "sub": "8"})
     because = f" because: {STORE}"
-    it.calls(f"- ReadAccount 503 unavailable{because}", "GET", "/account", token)
-    it.orders("an order on such a row", b"account-disable 1 8\n", f"- account-disable 8 unavailable{because}")
+    it.calls(f"- ReadAccount - 503 unavailable{because}", "GET", "/account", token)
+    it.orders("an order on such a row", b"account-disable 1 8\n", f"- account-disable 8 - unavailable{because}")
     other = lab.path("other")
     os.link(lab.db, other)
-    it.calls("- ReadAccount 503 unavailable because: it has 2 names (hard links), and may have one", "GET", "/account", token)
+    it.calls("- ReadAccount - 503 unavailable because: it has 2 names (hard links), and may have one", "GET", "/account", token)
     os.remove(other)
     os.rename(lab.db, other)
-    it.calls("- ReadAccount 503 unavailable because: there is no such file", "GET", "/account", token)
+    it.calls("- ReadAccount - 503 unavailable because: there is no such file", "GET", "/account", token)
     os.rename(other, lab.db)
     it.at(END_OF_MOMENTS)
     past = "because: the clock is past the year 2099, or can't be read"
-    it.calls(f"- ReadAccount 503 clockOutOfRange {past}", "GET", "/account", token)
+    it.calls(f"- ReadAccount - 503 clockOutOfRange {past}", "GET", "/account", token)
     it.at(MOMENT)
-    it.calls("- ReadAccount 401 tokenMissing", "GET", "/account")
+    it.calls("- ReadAccount - 401 tokenMissing", "GET", "/account")
 
 
 def nobody_reads(program):

@@ -2,6 +2,8 @@
 use Rattle.std.specs.Prelude.{ℕ, List, Bool, true, false, Option, Some, None, codes, decimal, if◌then◌else◌, nat_lt}
 use Rattle.acvp_desk.specs.declared.order.Order.{Order}
 use Rattle.acvp_desk.specs.declared.order.Order.TheVariants as order
+use Rattle.acvp_desk.specs.declared.wish.Wish.{Wish}
+use Rattle.acvp_desk.specs.declared.wish.Wish.TheVariants as wish
 use Rattle.acvp_json.specs.Time.{time_of}
 use Rattle.acvp_log.specs.declared.line.Asked.{Asked}
 use Rattle.acvp_log.specs.declared.line.Asked.TheVariants as asked
@@ -27,6 +29,15 @@ named_number (order.AddAccount account secret) = account
 named_number (order.DisableAccount account) = account
 named_number (order.ApproveRequest request) = request
 named_number (order.RejectRequest request) = request
+
+-- the number of the vector set that is named, or else that of the test session
+abbrev pub subject_of : Wish → Option ℕ
+subject_of (wish.Set session set it) = Some set
+subject_of (wish.CancelSet session set) = Some set
+subject_of (wish.Session session it) = Some session
+subject_of (wish.Reviewer session account) = Some session
+subject_of (wish.Certify session) = Some session
+subject_of _ = None
 
 -- the word of what was asked for, where that is an order
 abbrev pub word_asked : Asked → Option (List ℕ)

@@ -1,11 +1,11 @@
 //! What a request carries, and what its reply tells.
 ghost use Rattle.std.specs.Prelude.{◌≡◌, IsNone, IsSome, Some};
-ghost use Rattle.acvp_log.specs.Lines.{named_command, named_number, word_asked};
+ghost use Rattle.acvp_log.specs.Lines.{named_command, named_number, subject_of, word_asked};
 ghost use Rattle.acvp_log.specs.declared.line.Came.TheVariants.{Broken, Nothing};
 
 use crate::line::{Asked, Came, Refusal};
 use crate::rules::rule_named;
-use acvp_desk::Order;
+use acvp_desk::{Order, Wish};
 use acvp_http::HEAD_BYTES;
 use acvp_policy::Rule;
 use base64::engine::general_purpose::URL_SAFE_NO_PAD;
@@ -63,6 +63,19 @@ pub(crate) fn head_of(request: &[u8]) -> Option<Head<'_>> {
         target: part(window, spans.path),
         token,
     })
+}
+
+/// The number of the vector set that a wish is about, or else that of the test session.
+pub(crate) fn subject_of(wish: Wish) -> Option<u64>
+    ensures { result ≡ subject_of wish }
+{
+    match wish {
+        Wish::Set(_, set, _) | Wish::CancelSet(_, set) => Some(set),
+        Wish::Session(session, _) | Wish::Reviewer(session, _) | Wish::Certify(session) => {
+            Some(session)
+        }
+        _ => None,
+    }
 }
 
 /// The status of a reply, and its body.

@@ -138,8 +138,11 @@ pub(crate) struct Entry<E> {
     pub account: Option<u16>,
     pub asked: Asked,
 
-    /// The status, or the number that an order names.
-    pub number: Option<u64>,
+    /// The number of the vector set or the test session that a request is about, or the number that an order names.
+    pub subject: Option<u64>,
+
+    /// The status of a reply.
+    pub status: Option<u64>,
     pub came: Came<E>,
     pub tail: Tail,
 }

@@ -7,6 +7,7 @@ ghost use Rattle.acvp_log.specs.declared.line.Came.TheVariants.{Done};
 
 use crate::head::{
     came_unanswered, claimed_account, given_account, head_of, named_by, reply_of, rule_in,
+    subject_of,
 };
 use crate::line::{Asked, Came, Entry, Number, Refusal, Tail, When, moment_text};
 use crate::rules::is_behind_token;
@@ -28,6 +29,21 @@ struct Begun {
     /// The order and the number that it names.
     order: (Asked, Option<u64>),
 }
+
+/// What a request asks for, the number of what that is about, and the token that it carries.
+#[derive(Clone, Copy)]
+struct AskedBy<'a> {
+    asked: Asked,
+    subject: Option<u64>,
+    token: Option<&'a [u8]>,
+}
+
+/// What is known of a request without a head that can be read.
+const UNREAD: AskedBy<'_> = AskedBy {
+    asked: Asked::Nothing,
+    subject: None,
+    token: None,
+};
 
 /// What the lines are made of, and what is being served.
 #[derive(Drop)]
@@ -76,20 +92,24 @@ impl Log {
         }
     }
 
-    /// What a request asks for, and the token that it carries.
-    fn asked<'a>(&self, request: Option<&'a [u8]>) -> (Asked, Option<&'a [u8]>) {
+    /// What is known of a request.
+    fn asked_by<'a>(&self, request: Option<&'a [u8]>) -> AskedBy<'a> {
         let Some(request) = request else {
-            return (Asked::Nothing, None);
+            return UNREAD;
         };
         let Some(head) = head_of(request) else {
-            return (Asked::Nothing, None);
+            return UNREAD;
         };
-        let asked = match self.routes.find(head.method, head.target) {
-            Ok(Ask::Login) => Asked::Action(Action::Login),
-            Ok(Ask::Caller(wish)) => Asked::Action(wish.action()),
-            Err(_) => Asked::Nothing,
+        let (asked, subject) = match self.routes.find(head.method, head.target) {
+            Ok(Ask::Login) => (Asked::Action(Action::Login), None),
+            Ok(Ask::Caller(wish)) => (Asked::Action(wish.action()), subject_of(wish)),
+            Err(_) => (Asked::Nothing, None),
         };
-        (asked, head.token)
+        AskedBy {
+            asked,
+            subject,
+            token: head.token,
+        }
     }
 
     /// Writes a line.
@@ -101,7 +121,8 @@ impl Log {
         let Entry {
             account,
             asked,
-            number,
+            subject,
+            status,
             came,
             tail,
         } = entry;
@@ -110,28 +131,36 @@ impl Log {
         let text = told.as_ref().map(|text| text.as_str());
         let when = When { text, moment };
         let account = Number(account.map(u64::from));
-        let number = Number(number);
-        let _ = eprintln!(rt; "{when} {account} {asked} {number} {came} {milliseconds}{tail}");
+        let subject = Number(subject);
+        let status = Number(status);
+        let _ = eprintln!(rt;
+            "{when} {account} {asked} {subject} {status} {came} {milliseconds}{tail}"
+        );
     }
 
     /// What the line of a request tells that was answered so. Nothing came of a connection that broke.
     fn entry_of(&self, alloc: Global, request: Option<&[u8]>, reply: &[u8]) -> Entry<Refusal>
         ensures account { may_tell result.came ≡ false → result.account ≡ None }
-        ensures done { (result.came ≡ Done) ↔ (result.number ≡ Some 200) }
+        ensures done { (result.came ≡ Done) ↔ (result.status ≡ Some 200) }
     {
-        let (asked, token) = self.asked(request);
+        let AskedBy {
+            asked,
+            subject,
+            token,
+        } = self.asked_by(request);
         let is_login = matches!(asked, Asked::Action(Action::Login));
         let mut entry = Entry {
             account: None,
             asked,
-            number: None,
+            subject,
+            status: None,
             came: came_unanswered(request),
             tail: Tail::Nothing,
         };
         let Some((status, body)) = reply_of(reply) else {
             return entry;
         };
-        entry.number = Some(u64::from(status));
+        entry.status = Some(u64::from(status));
         if status == 200 {
             entry.came = Came::Done;
             entry.account = if is_login {
@@ -178,7 +207,7 @@ impl Log {
         refused: Option<E>,
         because: Option<Cause>,
     ) {
-        let (asked, number) = self.begun.order;
+        let (asked, subject) = self.begun.order;
         let came = match refused {
             Some(word) => Came::Refused(word),
             None => Came::Done,
@@ -190,7 +219,8 @@ impl Log {
         let entry = Entry {
             account: None,
             asked,
-            number,
+            subject,
+            status: None,
             came,
             tail,
         };
