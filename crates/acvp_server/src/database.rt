@@ -93,14 +93,17 @@ fn done_and_closed<S: Start>(
     let serves = matches!(work, Work::Take(Task::Serve { .. }));
     let (connection, known) = with_its_seeds(rt.alloc(), connection, &work);
     let is_known = known.is_ok();
-    let (mut connection, outcome) = match known {
-        Ok(_) => done_over(&mut machine, connection, work),
-        Err(fault) => (connection, Err(fault)),
+    let (mut connection, added, outcome) = match known {
+        Ok(added) => {
+            let (connection, outcome) = done_over(&mut machine, connection, work);
+            (connection, added, outcome)
+        }
+        Err(fault) => (connection, None, Err(fault)),
     };
-    if let Ok(Some(added)) = known
+    if let Some(added) = added
         && is_unserved(&outcome)
     {
-        forget_seeds(rt.alloc(), &mut connection, added);
+        forget_seeds(&mut connection, &added);
     }
     let may_have_served = serves && is_known && !matches!(outcome, Err(Fault::Schema));
     if outcome.is_ok() || may_have_served {

@@ -8,7 +8,7 @@ use acvp_commands::Fault;
 use acvp_gen::Seeds;
 use acvp_mac::{HashName, hash_pieces};
 use acvp_store::{SqlTables, adopt};
-use sqlite::{Alter, Connection, Error, ErrorCode, params};
+use sqlite::{Alter, Connection, Error, ErrorCode, Transaction, params};
 use std::alloc::{AllocError, Global};
 
 /// What stands before a seed where its fingerprint is made, so that this is the digest of nothing else.
@@ -52,46 +52,17 @@ fn known_under<S: Alter + Drop>(
     }
 }
 
-/// Has a database know the fingerprint of a seed under a name.
-fn keep<S: Alter + Drop>(
-    connection: &mut Connection<S>,
-    name: &str,
-    fingerprint: u32,
-) -> Result<(), Fault> {
-    let row = params![name, fingerprint];
-    match connection.execute("INSERT INTO meta (name, value) VALUES (?1, ?2)", row) {
-        Ok(_) => Ok(()),
-        Err(error) => Err(fault_of_statement(error)),
-    }
-}
-
-/// What a database is to do with a seed that it doesn't know.
-#[derive(Clone, Copy)]
-pub(crate) enum Unknown {
-    /// It goes on without it.
-    LetPass,
-
-    /// It knows it from then on.
-    Kept,
-}
-
-/// Whether an epoch's seed is the one that the database knows, or one that it may come to know.
+/// Whether an epoch's seed is the one that the database knows, if it knows one.
 fn is_same<S: Alter + Drop>(
     alloc: Global,
     connection: &mut Connection<S>,
     epoch: u64,
     seed: &[u8; 32],
-    unknown: Unknown,
 ) -> Result<bool, Fault> {
     let name = row_name(alloc, epoch)?;
-    let fingerprint = fingerprint_of(seed);
-    match (known_under(connection, name.as_str())?, unknown) {
-        (Some(known), _) => Ok(known == fingerprint),
-        (None, Unknown::LetPass) => Ok(true),
-        (None, Unknown::Kept) => {
-            keep(connection, name.as_str(), fingerprint)?;
-            Ok(true)
-        }
+    match known_under(connection, name.as_str())? {
+        Some(known) => Ok(known == fingerprint_of(seed)),
+        None => Ok(true),
     }
 }
 
@@ -100,11 +71,10 @@ fn other_in<S: Alter + Drop>(
     alloc: Global,
     connection: &mut Connection<S>,
     seeds: &Seeds,
-    unknown: Unknown,
 ) -> Result<Option<u64>, Fault> {
     for epoch in 0..=seeds.newest() {
         if let Some(seed) = seeds.get(epoch)
-            && !is_same(alloc, connection, epoch, seed, unknown)?
+            && !is_same(alloc, connection, epoch, seed)?
         {
             return Ok(Some(epoch));
         }
@@ -118,12 +88,7 @@ pub(crate) fn other_seed<S: Alter + Drop>(
     tables: SqlTables<S>,
     seeds: &Seeds,
 ) -> Result<Option<u64>, Fault> {
-    other_in(
-        alloc,
-        &mut tables.into_connection(),
-        seeds,
-        Unknown::LetPass,
-    )
+    other_in(alloc, &mut tables.into_connection(), seeds)
 }
 
 /// These tables, if they weren't served with another seed than one of these.
@@ -133,7 +98,7 @@ pub(crate) fn tables_under<S: Alter + Drop>(
     seeds: &Seeds,
 ) -> Result<SqlTables<S>, Fault> {
     let mut connection = tables.into_connection();
-    if other_in(alloc, &mut connection, seeds, Unknown::LetPass)?.is_some() {
+    if other_in(alloc, &mut connection, seeds)?.is_some() {
         return Err(Fault::Keys);
     }
     match adopt(alloc, connection) {
@@ -142,43 +107,76 @@ pub(crate) fn tables_under<S: Alter + Drop>(
     }
 }
 
-/// The seeds that a start made a database know, which it hasn't known before: the epochs of the first and of the last.
-#[derive(Clone, Copy)]
-pub(crate) struct Added {
-    first: u64,
-    last: u64,
+/// A row that a database doesn't have.
+#[derive(Drop)]
+struct NewRow {
+    name: String,
+    fingerprint: u32,
 }
 
-/// The epoch of the first seed that a database doesn't know.
-fn first_unknown<S: Alter + Drop>(
+/// The rows that a start put into a database.
+#[derive(Drop)]
+pub(crate) struct Added {
+    rows: Vec<NewRow>,
+}
+
+/// The rows of the seeds that a database doesn't know.
+fn unknown_rows<S: Alter + Drop>(
     alloc: Global,
     connection: &mut Connection<S>,
     seeds: &Seeds,
-) -> Result<Option<u64>, Fault> {
+) -> Result<Vec<NewRow>, Fault> {
+    let mut rows = Vec::new(alloc);
     for epoch in 0..=seeds.newest() {
         let name = row_name(alloc, epoch)?;
-        if known_under(connection, name.as_str())?.is_none() {
-            return Ok(Some(epoch));
+        if let Some(seed) = seeds.get(epoch)
+            && known_under(connection, name.as_str())?.is_none()
+        {
+            let fingerprint = fingerprint_of(seed);
+            if rows.push(NewRow { name, fingerprint }).is_err() {
+                return Err(Fault::Memory);
+            }
         }
     }
-    Ok(None)
+    Ok(rows)
 }
 
-/// Has a database know these seeds, and gives those that are new to it. If it knows another one, nothing is written.
+/// Puts a row into a database.
+fn put<S: Alter + Drop>(tx: &mut Transaction<'_, S>, row: &NewRow) -> Result<(), Fault> {
+    let values = params![row.name.as_str(), row.fingerprint];
+    match tx.execute("INSERT INTO meta (name, value) VALUES (?1, ?2)", values) {
+        Ok(_) => Ok(()),
+        Err(error) => Err(fault_of_statement(error)),
+    }
+}
+
+/// Puts rows into a database in one transaction.
+fn put_all<S: Alter + Drop>(connection: &mut Connection<S>, rows: &[NewRow]) -> Result<(), Fault> {
+    if !connection.is_autocommit() {
+        return Err(Fault::Unavailable);
+    }
+    let mut tx = connection.transaction();
+    for row in rows {
+        put(&mut tx, row)?;
+    }
+    tx.commit().map_err(fault_of_statement)
+}
+
+/// Has a database know these seeds, and gives the rows that it got. If it knows another one, nothing is written.
 fn keep_seeds<S: Alter + Drop>(
     alloc: Global,
     connection: &mut Connection<S>,
     seeds: &Seeds,
 ) -> Result<Option<Added>, Fault> {
-    if other_in(alloc, connection, seeds, Unknown::LetPass)?.is_some() {
+    if other_in(alloc, connection, seeds)?.is_some() {
         return Err(Fault::Keys);
     }
-    let Some(first) = first_unknown(alloc, connection, seeds)? else {
+    let rows = unknown_rows(alloc, connection, seeds)?;
+    if rows.is_empty() {
         return Ok(None);
-    };
-    other_in(alloc, connection, seeds, Unknown::Kept)?;
-    let last = seeds.newest();
-    Ok(Some(Added { first, last }))
+    }
+    put_all(connection, &rows)?;
+    Ok(Some(Added { rows }))
 }
 
 /// Has a database know the seeds that it is to be served with, and hands it back with those that are new to it. One
@@ -198,15 +196,10 @@ pub(crate) fn with_seeds<S: Alter + Drop>(
     }
 }
 
-/// Has a database forget seeds again, since it wasn't served with them.
-pub(crate) fn forget_seeds<S: Alter + Drop>(
-    alloc: Global,
-    connection: &mut Connection<S>,
-    added: Added,
-) {
-    for epoch in added.first..=added.last {
-        if let Ok(name) = row_name(alloc, epoch) {
-            let _ = connection.execute("DELETE FROM meta WHERE name = ?1", params![name.as_str()]);
-        }
+/// Takes rows out of a database again, since it wasn't served.
+pub(crate) fn forget_seeds<S: Alter + Drop>(connection: &mut Connection<S>, added: &Added) {
+    for row in &added.rows {
+        let name = params![row.name.as_str()];
+        let _ = connection.execute("DELETE FROM meta WHERE name = ?1", name);
     }
 }
