@@ -694,6 +694,33 @@ def on_a_terminal(lab, *args):
     return done.returncode, said.decode().replace("\r\n", "\n")
 
 
+def room_for(db, files):
+    """The line that says how much room files and their logs take."""
+    lengths = [os.path.getsize(path + end) for path in files for end in ("", "-wal") if os.path.exists(path + end)]
+    return f"room: up to {sum(lengths)} bytes beside {db}\n"
+
+
+def more_on_a_terminal(lab):
+    """On a terminal a restore says how much room it may take, for the backup twice and for what is there, and
+    account-add that another account has the same secret."""
+    lab.add(1)
+    lab.backs_up()
+    lab.add(2)
+    backup = lab.path("backup.db")
+    room = room_for(lab.db, [backup, backup, lab.db])
+    expect("a restore", on_a_terminal(lab, *restore(lab)), (0, room))
+    room = room_for(lab.path("new.db"), [backup, backup])
+    expect("a restore to a new place", on_a_terminal(lab, *restore(lab, db=lab.path("new.db"))), (0, room))
+    for account, secret, said in (("3", "secret-2", ""), ("4", "secret-1", "warning: account 1 has the same secret\n"),
+                                  ("5", "secret-2", "warning: account 3 has the same secret\n")):
+        order = ["account-add", "--db", lab.db, "--account", account, "--secret", lab.path(secret)]
+        expect(f"account {account}", on_a_terminal(lab, *order), (0, said))
+    lab.serve(count=None)
+    expect("while it is served", on_a_terminal(lab, "account-add", "--db", lab.db, "--account", "6", "--secret", lab.path("secret-1")),
+           (0, "warning: account 1 has the same secret\n"))
+    lab.kill()
+
+
 def told_on_a_terminal(lab):
     """On a terminal a command says what it says with --verbose: its warnings, its fault and the cause."""
     lab.add(1)
@@ -704,7 +731,11 @@ def told_on_a_terminal(lab):
                  ["account-add", "--db", lab.db, "--account", "2", "--secret", bad], restore(lab), ["script", "--keys", bad],
                  ["init", "--db", lab.db]):
         status, _, faults = lab.run(*args, "--verbose")
-        expect(f"what {args} says on a terminal", on_a_terminal(lab, *args), (status, faults))
+        told, text = on_a_terminal(lab, *args)
+        if args[0] == "restore":
+            before, _, text = text.partition(room_for(lab.db, [lab.db]))
+            text = before + text
+        expect(f"what {args} says on a terminal", (told, text), (status, faults))
     expect("whether there was a warning and a cause", "warning: " in lab.run(*restore(lab), "--verbose")[2], True)
 
 
@@ -774,7 +805,7 @@ def main():
     killed.__name__ = "killed_restores"
     for part in (backups_while_nobody_serves, backups_while_serving, copies_apart, restores, sums_by_a_restore, wrong_sums, killed,
                  what_others_may_read, foreign_files, why_a_database_is_unavailable, why_a_text_is_refused, what_verbose_leaves, each_fault_both_ways, told_on_a_terminal,
-                 asked_on_a_terminal, little_stack):
+                 more_on_a_terminal, asked_on_a_terminal, little_stack):
         with tempfile.TemporaryDirectory() as folder:
             lab = Laboratory(program, folder)
             lab.does("ready", "init", "--db", lab.db)

@@ -14,7 +14,9 @@ mod made;
 mod makers;
 mod port;
 mod printing;
+mod room;
 mod script;
+mod secrets;
 mod seeds;
 mod why;
 
@@ -27,7 +29,9 @@ use crate::looks::shown;
 use crate::made::{file_to_make, keys_to_change, make};
 use crate::makers::{OwnFiles, own_files};
 use crate::printing::{print_line, print_restored};
+use crate::room::tell_room;
 use crate::script::script;
+use crate::secrets::tell_same_secret;
 use crate::why::{tell_because, why_failed};
 use acvp_causes::{Because, Cause};
 use acvp_commands::{Deed, Fault, Invocation, Look, asked_by, exit_status, work_of};
@@ -129,6 +133,9 @@ fn run_deed(rt: &HostRuntime, db: &str, deed: Deed<'_>, flags: Flags) -> Result<
     }
     let work = work_of(&own_files(rt, db), deed)?;
     let name = named(rt, db)?;
+    if flags.says_why {
+        tell_same_secret(rt, name.as_str(), &work);
+    }
     let said = done_in(rt, name.as_str(), Wary, work, flags)?;
     say(rt, said, flags)
 }
@@ -164,6 +171,9 @@ fn run(rt: &HostRuntime, asked: Invocation<'_>, flags: Flags) -> Result<bool, Fa
             printed(println!(rt; "backed up: {rows} rows"))
         }
         Invocation::Restore { from, db } => {
+            if rt.stderr().is_terminal() {
+                tell_room(rt, from, db);
+            }
             let done = restore(rt, from, db)?;
             printed(print_restored(rt, &done))
         }
