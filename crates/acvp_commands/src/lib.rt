@@ -9,6 +9,7 @@ mod files;
 mod host;
 mod life;
 mod lines;
+mod logged;
 mod making;
 mod numbers;
 mod orders;
@@ -26,6 +27,7 @@ pub use life::{
     left_files_are_found,
 };
 pub use lines::Message;
+pub use logged::{Log, Logged};
 pub use making::{Drawn, text_to_make};
 pub use numbers::{account_number, connection_count, patience_number, port_number, request_number};
 pub use orders::{carry_out, order_line};

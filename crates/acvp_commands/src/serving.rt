@@ -79,8 +79,8 @@ pub trait Listener {
 }
 
 /// The seconds since 1970 that the clock gave; where it gave no time, a moment that isn't served.
-fn seconds_of(now: io::Result<SystemTime>) -> u64
-    ensures { IsMomentOf now result }
+pub(crate) fn seconds_of(now: &io::Result<SystemTime>) -> u64
+    ensures { IsMomentOf now.now result }
 {
     let Ok(time) = now else {
         return END_OF_MOMENTS;
@@ -93,7 +93,7 @@ fn seconds_of(now: io::Result<SystemTime>) -> u64
 
 /// The moment that the clock gives, in seconds since 1970; one that isn't served where it gives no time.
 pub fn moment_of<C: Clock>(clock: &C) -> u64 {
-    seconds_of(SystemTime::now(clock))
+    seconds_of(&SystemTime::now(clock))
 }
 
 /// Whether a connection was told that the server is unavailable.
@@ -179,7 +179,7 @@ fn serve_arrival<T: Tables, L: Listener>(
                 mut output,
                 now,
             } = taken;
-            let moment = seconds_of(now);
+            let moment = seconds_of(&now);
             let served = serve_request(alloc, routes, desk, &mut input, &mut output, moment);
             listener.end(input, output, served.is_ok());
             Ok(Served {

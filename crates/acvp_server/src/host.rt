@@ -39,7 +39,7 @@ impl<'a, R: AllocGlobal + Clock + Eprint + Files + Net + Print> Host for Machine
     }
 
     fn finish(&mut self, port: &mut LoggedPort<'a, R>) {
-        port.finish();
+        port.listener.finish();
     }
 
     fn print(&mut self, message: Message) -> Result<(), Fault> {

@@ -9,6 +9,7 @@ mod database;
 mod failure;
 mod flags;
 mod host;
+mod log;
 mod looks;
 mod made;
 mod makers;

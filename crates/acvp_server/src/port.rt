@@ -1,9 +1,8 @@
 //! The port of this machine, as what is served takes connections and orders from it.
 use crate::flags::Flags;
-use acvp_causes::why_refused;
-use acvp_commands::{Arrival, Fault, Listener, Message, Service, Taken, moment_of};
+use crate::log::LineLog;
+use acvp_commands::{Arrival, Fault, Listener, Logged, Message, Service, Taken};
 use acvp_http::Flagged;
-use acvp_log::Log;
 use acvp_port::{Errand, Incoming, Outgoing, Port, port_on};
 use std::alloc::{AllocError, Global};
 use std::fs::Files;
@@ -11,25 +10,20 @@ use std::io::Write;
 use std::net::Net;
 use std::time::{Clock, SystemTime};
 
-/// A port of this machine and the socket of orders beside a database, the clock that says when a request is handed on,
-/// and what writes a line for each that was served, where that is asked for.
+/// A port of this machine and the socket of orders beside a database, and the clock that says when a request is handed
+/// on.
 #[derive(Drop)]
-pub(crate) struct LoggedPort<'a, R> {
+pub(crate) struct MachinePort<'a, R> {
     alloc: Global,
     rt: &'a R,
     port: Port<'a, R>,
-    database: &'a str,
-    log: Option<Log>,
+
+    /// Whether the first bytes of each answer are kept, for a log.
+    keeps_fronts: bool,
 }
 
-/// A log, where one is asked for.
-fn log_for(alloc: Global, is_logged: bool) -> Result<Option<Log>, Fault> {
-    if is_logged {
-        Ok(Some(Log::new(alloc)?))
-    } else {
-        Ok(None)
-    }
-}
+/// The port, of which a log is kept if one is asked for.
+pub(crate) type LoggedPort<'a, R> = Logged<MachinePort<'a, R>, LineLog<'a, R>>;
 
 /// The port that is to be served, and the socket beside a database.
 pub(crate) fn logged_port<'a, R: Clock + Files + Net>(
@@ -39,24 +33,44 @@ pub(crate) fn logged_port<'a, R: Clock + Files + Net>(
     service: Service,
     flags: Flags,
 ) -> Result<LoggedPort<'a, R>, Fault> {
-    let log = log_for(alloc, flags.is_logged)?;
+    let log = LineLog::asked_for(rt, alloc, database, flags)?;
+    let keeps_fronts = log.is_some();
     let Service { port, patience, .. } = service;
     match port_on(rt, alloc, database, port, patience, flags.warns) {
-        Ok(port) => Ok(LoggedPort {
-            alloc,
-            rt,
-            port,
-            database,
+        Ok(port) => Ok(Logged {
+            listener: MachinePort {
+                alloc,
+                rt,
+                port,
+                keeps_fronts,
+            },
             log,
         }),
         Err(error) => Err(Fault::Bind.of_system(&error)),
     }
 }
 
-impl<'a, R: Clock + Eprint + Files> LoggedPort<'a, R> {
+impl<'a, R: Clock + Eprint + Files> MachinePort<'a, R> {
     /// Lets the answers that are under way go out, as long as their clients take them. Nothing is taken any more.
     pub(crate) fn finish(&mut self) {
         self.port.finish();
+    }
+
+    /// A request that has come, with the moment at which it is handed on.
+    fn taken(
+        &self,
+        input: Incoming,
+        output: Outgoing,
+    ) -> Arrival<Flagged<Incoming>, Flagged<Outgoing>, Outgoing> {
+        let mut output = output;
+        if self.keeps_fronts {
+            output.keep_front(self.alloc);
+        }
+        Arrival::Connection(Taken {
+            input: Flagged::new(input),
+            output: Flagged::new(output),
+            now: SystemTime::now(self.rt),
+        })
     }
 }
 
@@ -71,7 +85,7 @@ fn outcome_text(alloc: Global, outcome: Result<Message, Fault>) -> Result<String
     }
 }
 
-impl<'a, R: Clock + Eprint + Files> Listener for LoggedPort<'a, R> {
+impl<'a, R: Clock + Eprint + Files> Listener for MachinePort<'a, R> {
     ghost use Rattle.std.specs.Prelude.{⊤};
 
     type Input = Flagged<Incoming>;
@@ -85,49 +99,20 @@ impl<'a, R: Clock + Eprint + Files> Listener for LoggedPort<'a, R> {
 
     fn accept(&mut self) -> Result<Arrival<Flagged<Incoming>, Flagged<Outgoing>, Outgoing>, Fault> {
         match self.port.next() {
-            Some(Errand::Request(input, mut output)) => {
-                if let Some(log) = &mut self.log {
-                    log.begin(self.rt, moment_of(self.rt));
-                    output.keep_front(self.alloc);
-                }
-                Ok(Arrival::Connection(Taken {
-                    input: Flagged::new(input),
-                    output: Flagged::new(output),
-                    now: SystemTime::now(self.rt),
-                }))
-            }
-            Some(Errand::Order(line, output)) => {
-                if let Some(log) = &mut self.log {
-                    log.begin_order(self.rt, moment_of(self.rt), &line);
-                }
-                Ok(Arrival::Order(line, output))
-            }
+            Some(Errand::Request(input, output)) => Ok(self.taken(input, output)),
+            Some(Errand::Order(line, output)) => Ok(Arrival::Order(line, output)),
             None => Err(Fault::Accept),
         }
     }
 
-    fn end(&mut self, input: Flagged<Incoming>, output: Flagged<Outgoing>, sent: bool) {
-        let output = output.into_inner();
-        if let Some(log) = &self.log {
-            let input = input.into_inner();
-            let (request, reply) = (input.bytes(), output.front());
-            log.tell_request(self.rt, self.alloc, self.database, request, reply, sent);
-        }
+    fn end(&mut self, _: Flagged<Incoming>, output: Flagged<Outgoing>, sent: bool) {
         if sent {
-            self.port.let_out(output);
+            self.port.let_out(output.into_inner());
         }
     }
 
     fn tell(&mut self, asker: Outgoing, outcome: Result<Message, Fault>) {
         let mut output = asker;
-        if let Some(log) = &self.log {
-            let refused = outcome.err();
-            let because = match refused {
-                Some(Fault::Unavailable) => Some(why_refused(self.rt, self.alloc, self.database)),
-                _ => None,
-            };
-            log.tell_order(self.rt, refused, because);
-        }
         if let Ok(text) = outcome_text(self.alloc, outcome)
             && output.write_all(text.as_bytes()).is_ok()
         {

@@ -1,0 +1,67 @@
+//! The log of what is served, a line each on standard error.
+use crate::flags::Flags;
+use acvp_causes::why_refused;
+use acvp_commands::{Fault, Log, Message, moment_of};
+use acvp_http::Flagged;
+use acvp_log::Log as Lines;
+use acvp_port::{Incoming, Outgoing};
+use std::alloc::Global;
+use std::fs::Files;
+use std::time::Clock;
+
+/// What writes the lines, the clock by which it tells how long something took, and the name of the database that is
+/// served.
+#[derive(Drop)]
+pub(crate) struct LineLog<'a, R> {
+    alloc: Global,
+    rt: &'a R,
+    database: &'a str,
+    lines: Lines,
+}
+
+impl<'a, R> LineLog<'a, R> {
+    /// The log, if one is asked for.
+    pub(crate) fn asked_for(
+        rt: &'a R,
+        alloc: Global,
+        database: &'a str,
+        flags: Flags,
+    ) -> Result<Option<LineLog<'a, R>>, Fault> {
+        if !flags.is_logged {
+            return Ok(None);
+        }
+        let lines = Lines::new(alloc)?;
+        Ok(Some(LineLog {
+            alloc,
+            rt,
+            database,
+            lines,
+        }))
+    }
+}
+
+impl<'a, R: Clock + Eprint + Files> Log<Flagged<Incoming>, Flagged<Outgoing>> for LineLog<'a, R> {
+    fn begin(&mut self, moment: u64) {
+        self.lines.begin(self.rt, moment);
+    }
+
+    fn begin_order(&mut self, line: &[u8]) {
+        self.lines.begin_order(self.rt, moment_of(self.rt), line);
+    }
+
+    fn tell_request(&self, input: &Flagged<Incoming>, output: &Flagged<Outgoing>, sent: bool) {
+        let (request, reply) = (input.get_ref().bytes(), output.get_ref().front());
+        let (rt, alloc, database) = (self.rt, self.alloc, self.database);
+        self.lines
+            .tell_request(rt, alloc, database, request, reply, sent);
+    }
+
+    fn tell_order(&self, outcome: Result<Message, Fault>) {
+        let refused = outcome.err();
+        let because = match refused {
+            Some(Fault::Unavailable) => Some(why_refused(self.rt, self.alloc, self.database)),
+            _ => None,
+        };
+        self.lines.tell_order(self.rt, refused, because);
+    }
+}
