@@ -3,6 +3,7 @@ pub mod Causes
 pub mod Copies
 pub mod Devices
 pub mod Folders
+pub mod Marks
 pub mod Owners
 pub mod Pages
 pub mod Texts

@@ -4,14 +4,16 @@
 mod begins;
 mod cause;
 mod holders;
+mod marks;
 mod names;
 mod owners;
 mod pages;
 mod places;
 mod texts;
 
-pub use begins::{LOG_HEADER, header_of, is_database, is_foreign};
+pub use begins::{is_database, is_foreign};
 pub use cause::{Because, Cause, Place};
+pub use marks::{Mark, is_whole, mark_of};
 pub use names::{MOMENT_DIGITS, is_companion, is_copy, name_of, why_unnamed};
 pub use owners::{OF_OTHERS, cause_of_maker, own_text};
 pub use places::{

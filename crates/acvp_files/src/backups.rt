@@ -1,16 +1,15 @@
 //! Backups of a database, and the way back from one.
-use crate::connection::copied;
 use crate::copies::{connection_to, connection_to_part, copy_file, copy_into, merge, with_tables};
-use crate::fault::{CopyFault, FileFault, Step, at, done, fault_of_cause, refused};
-use crate::number::{FileNumber, file_at, number_of};
-use crate::parts::{
-    Pair, Part, Use, give_up, has_name, make_new, new_copy, pair_at, remove, replaced_at,
-};
+use crate::fault::{CopyFault, Step, at};
+use crate::parts::{Pair, Part, Use, give_up, has_name, make_new, new_copy, pair_at, replaced_at};
 use crate::rows::count_rows;
 use crate::sums::copy_with_sums;
 use acvp_causes::{
     cause_of_folder, folder_of, has_journal, has_log, has_sums, holds_any, is_companion, is_copy,
     is_database, is_held_by_any, last_of, name_of,
+};
+use acvp_connections::{
+    FileFault, FileNumber, copied, done, fault_of_cause, file_at, number_of, refused, remove,
 };
 use sqlite::{Alter, Connection, FileStore};
 use sqlite_disk::Disk;

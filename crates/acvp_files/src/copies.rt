@@ -3,14 +3,13 @@
 //! A database is a file and the log beside it. Pages only go from the log to the file, and the log tells by its header
 //! when it was emptied. So the file and then the log are a whole copy if the header is the same before and after, and
 //! the log is that of whoever has the file.
-ghost use Rattle.std.specs.Prelude.{◌↔◌, IsTrue};
-ghost use Rattle.acvp_files.specs.Copies.{IsWhole};
-
-use crate::connection::{FileConnection, Unopened, connect_there, copied};
-use crate::fault::{CopyFault, FileFault, Step, at, done, fault_of_cause};
-use crate::number::{FileNumber, file_at};
-use crate::parts::{Pair, Part, Use, give_up, new_copy, pair_at, remove, settle_names};
-use acvp_causes::{LOG_HEADER, cause_of_source, header_of, is_database, is_moved, name_of};
+use crate::fault::{CopyFault, Step, at};
+use crate::parts::{Pair, Part, Use, give_up, new_copy, pair_at};
+use acvp_causes::{Mark, cause_of_source, is_database, is_moved, is_whole, mark_of, name_of};
+use acvp_connections::{
+    FileConnection, FileFault, FileNumber, Unopened, connect_there, copied, done, fault_of_cause,
+    file_at, remove, settle_names,
+};
 use acvp_store::{SqlTables, adopt};
 use sqlite::{Alter, Connection, FileFrom, FileStore, Wary};
 use sqlite_disk::Disk;
@@ -34,24 +33,6 @@ struct Seen {
     mark: Mark,
 }
 
-/// How far a log has come.
-#[derive(Clone, Copy)]
-struct Mark {
-    header: [u8; LOG_HEADER],
-    bytes: u64,
-}
-
-/// The mark of a log, of zeros if there is none.
-fn mark_of(rt: &HostRuntime, log: &str) -> io::Result<Mark> {
-    let bytes = match fs::metadata(rt, log) {
-        Ok(there) => there.len(),
-        Err(error) if error.kind() == ErrorKind::NotFound => 0,
-        Err(error) => return Err(error),
-    };
-    let header = header_of(rt, log)?;
-    Ok(Mark { header, bytes })
-}
-
 /// What is seen of a database's files.
 fn looked_at(rt: &HostRuntime, pair: &Pair) -> io::Result<Seen> {
     let log = match file_at(rt, pair.log.as_str()) {
@@ -64,13 +45,6 @@ fn looked_at(rt: &HostRuntime, pair: &Pair) -> io::Result<Seen> {
         log,
         mark: mark_of(rt, pair.log.as_str())?,
     })
-}
-
-/// Whether the copy of a log has all that the log had before, and the log wasn't emptied until after the copy.
-fn is_whole(before: &Mark, after: &Mark, copy: &Mark) -> bool
-    ensures { IsTrue result ↔ IsWhole before.now after.now copy.now }
-{
-    before.header == after.header && before.header == copy.header && before.bytes <= copy.bytes
 }
 
 /// Copies a file into an open one, in the place of all that this holds. One that isn't there has an empty copy.

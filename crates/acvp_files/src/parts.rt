@@ -2,9 +2,8 @@
 //!
 //! Whoever makes a copy has it locked until it is taken away or has its name. So a copy that nobody has locked was
 //! left.
-use crate::fault::{FileFault, refused};
-use crate::number::{FileNumber, file_at, number_of};
 use acvp_causes::{MOMENT_DIGITS, folder_of, is_copy, last_of};
+use acvp_connections::{FileFault, file_at, is_left, number_of, refused, remove};
 use std::alloc::{AllocError, AllocGlobal, Global};
 use std::fs::{self, File, Metadata, OpenOptions, Permissions};
 use std::io::{self, ErrorKind};
@@ -112,15 +111,6 @@ pub(crate) fn make_new(rt: &HostRuntime, path: &str) -> io::Result<File> {
         .open(rt, path)
 }
 
-/// Takes a file away, if it is there.
-pub(crate) fn remove(rt: &HostRuntime, path: &str) -> io::Result<()> {
-    match fs::remove_file(rt, path) {
-        Ok(()) => Ok(()),
-        Err(error) if error.kind() == ErrorKind::NotFound => Ok(()),
-        Err(error) => Err(error),
-    }
-}
-
 /// Takes both files away, if they are there.
 fn remove_pair(rt: &HostRuntime, pair: &Pair) {
     let _ = remove(rt, pair.file.as_str());
@@ -208,14 +198,6 @@ fn is_copy_of(name: &str, base: &str) -> bool {
     }
 }
 
-/// Whether nobody makes a copy any more whose file is at a path.
-fn is_left(rt: &HostRuntime, path: &str) -> bool {
-    match File::open(rt, path) {
-        Ok(file) => file.try_lock().is_ok(),
-        Err(_) => false,
-    }
-}
-
 /// Takes a copy away that nobody has: its file is there and can be locked, or only its log is left.
 fn remove_unheld(rt: &HostRuntime, pair: &Pair) {
     match fs::symlink_metadata(rt, pair.file.as_str()) {
@@ -255,40 +237,4 @@ fn remove_left(rt: &HostRuntime, base: &str) {
 pub(crate) fn replaced_at(rt: &HostRuntime, database: &str) -> Result<String, AllocError> {
     let moment = precise_moment(rt);
     format!(in rt.alloc(); "{database}-replaced-{moment}")
-}
-
-/// Takes a name away if it is a copy's that nobody makes any more, and of this file.
-fn remove_name(rt: &HostRuntime, path: &str, number: FileNumber) {
-    if is_copy(path)
-        && matches!(file_at(rt, path), Ok(there) if there == number)
-        && is_left(rt, path)
-    {
-        let _ = remove(rt, path);
-    }
-}
-
-/// Takes the other names of a file away that killed commands have left: the file was their copy, and has its own name.
-fn settle_file(rt: &HostRuntime, path: &str) {
-    let there = match fs::symlink_metadata(rt, path) {
-        Ok(there) if there.is_file() && there.nlink() > 1 && !is_copy(path) => there,
-        _ => return,
-    };
-    let Ok(names) = fs::read_dir(rt, folder_of(path)) else {
-        return;
-    };
-    for entry in names {
-        if let Ok(entry) = entry
-            && let Ok(other) = format!(in rt.alloc(); "{}/{}", folder_of(path), entry.file_name())
-        {
-            remove_name(rt, other.as_str(), number_of(&there));
-        }
-    }
-}
-
-/// Does so with a database and its log.
-pub(crate) fn settle_names(rt: &HostRuntime, path: &str) {
-    settle_file(rt, path);
-    if let Ok(log) = format!(in rt.alloc(); "{path}-wal") {
-        settle_file(rt, log.as_str());
-    }
 }

@@ -35,27 +35,6 @@ pub fn tell_open_database(rt: &HostRuntime, path: &str) {
     }
 }
 
-/// Makes an empty file for its owner alone, where there is none.
-pub(crate) fn make_private(rt: &HostRuntime, path: &str) {
-    let mut options = OpenOptions::new();
-    let _ = options
-        .write(true)
-        .create_new(true)
-        .mode(0o600)
-        .open(rt, path);
-}
-
-/// Whether there is no log beside a database.
-pub fn has_no_log(rt: &HostRuntime, path: &str) -> bool {
-    match format!(in rt.alloc(); "{path}-wal") {
-        Ok(log) => match fs::symlink_metadata(rt, log.as_str()) {
-            Ok(_) => false,
-            Err(error) => error.kind() == ErrorKind::NotFound,
-        },
-        Err(_) => false,
-    }
-}
-
 /// Takes a new log away again that holds nothing. Its database is still held, so that nobody else has the log.
 pub fn remove_empty_log(rt: &HostRuntime, path: &str) {
     if let Ok(log) = format!(in rt.alloc(); "{path}-wal")

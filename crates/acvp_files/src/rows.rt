@@ -1,8 +1,8 @@
 //! How many rows a database has, whatever its tables are.
 ghost use Rattle.std.specs.Prelude.{◌≡◌};
-ghost use Rattle.acvp_files.specs.Faults.{fault_of_open};
+ghost use Rattle.acvp_connections.specs.Faults.{fault_of_open};
 
-use crate::fault::FileFault;
+use acvp_connections::FileFault;
 use sqlite::{Alter, Connection, Error, ErrorCode};
 use std::alloc::{AllocError, Global};
 

@@ -1,10 +1,10 @@
 //! Sums on the pages of a database, by which changed bits are found (SQLite's cksumvfs). A new file has them. The rows
 //! of one that has none are copied into a new one, each under its own number.
 use crate::copies::{connection_to_part, merge};
-use crate::fault::FileFault;
 use crate::parts::Part;
 use crate::rows::{count_rows, fault_of_statement};
 use acvp_causes::{has_sums, name_of};
+use acvp_connections::FileFault;
 use acvp_store::create;
 use sqlite::{Alter, Connection, FileStore, Row, Rows, Transaction};
 use sqlite_disk::Disk;

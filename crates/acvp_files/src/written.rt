@@ -1,7 +1,7 @@
 //! Files of text that are made beside a database, or elsewhere: of keys, or of a secret.
 use crate::backups::{may_be_made, name_new};
-use crate::fault::{FileFault, done};
 use crate::parts::{Part, Use, give_up, new_copy};
+use acvp_connections::{FileFault, done};
 use std::io::{self, Write};
 
 /// Writes a text to the empty file of a copy, and brings it to the disk.

@@ -2,8 +2,8 @@
 use Rattle.acvp_commands.specs.declared.fault.Fault.{Fault}
 use Rattle.acvp_commands.specs.declared.fault.Fault.TheVariants.{Keys, Memory, Schema, Taken, Unavailable, Unknown}
 use Rattle.acvp_commands.specs.declared.fault.Fault.TheVariants.{Write}
-use Rattle.acvp_files.specs.declared.fault.FileFault.{FileFault}
-use Rattle.acvp_files.specs.declared.fault.FileFault.TheVariants as files
+use Rattle.acvp_connections.specs.declared.fault.FileFault.{FileFault}
+use Rattle.acvp_connections.specs.declared.fault.FileFault.TheVariants as files
 use Rattle.acvp_view.specs.declared.fault.ViewFault.{ViewFault}
 use Rattle.acvp_view.specs.declared.fault.ViewFault.TheVariants as view
 

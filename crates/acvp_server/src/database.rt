@@ -10,11 +10,11 @@ use crate::host::Machine;
 use crate::seeds::{Added, forget_seeds, with_seeds};
 use acvp_causes::name_of;
 use acvp_commands::{Fault, Message, Task, Work, done_over, make_tables, moment_of, order_line};
-use acvp_desk::Order;
-use acvp_files::{
+use acvp_connections::{
     FileConnection, FileFault, Unopened, close, connect_existing, connect_new, has_no_log,
-    remove_empty_log,
 };
+use acvp_desk::Order;
+use acvp_files::remove_empty_log;
 use acvp_port::answer_to;
 use acvp_store::SqlTables;
 use sqlite::{Connection, MemStore, Start};

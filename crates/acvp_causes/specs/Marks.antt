@@ -1,6 +1,6 @@
 -- When the copy of a log is whole.
 use Rattle.std.specs.Prelude.{◌≡◌, ◌≤◌}
-use Rattle.acvp_files.specs.declared.copies.Mark.{Mark}
+use Rattle.acvp_causes.specs.declared.marks.Mark.{Mark}
 
 -- the log began the same before and after, and so does the copy, which has all the bytes that the log had before: it
 -- wasn't emptied meanwhile, and only grew

@@ -1,7 +1,7 @@
 use Rattle.std.proofs.Common.{IfErr, IfNone, Result, Ok, Err}
 use Rattle.std.specs.Result.{result_ok}
 use Rattle.sqlite.specs.Files.{IsClosed}
-use Rattle.acvp_files.proofs.connection.copied.Goals as goal
+use Rattle.acvp_connections.proofs.connection.copied.Goals as goal
 
 -- where there is no value, the error leaves what is told of it
 left_of : {A E L : Type 0} (P : L → Type 0) (Q : E × L → Type 0) (r : Result A (E × L))

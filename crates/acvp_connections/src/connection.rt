@@ -5,20 +5,21 @@ ghost use Rattle.sqlite.specs.Closing.{IsCopied};
 ghost use Rattle.sqlite.specs.Files.{IsClosed};
 ghost use Rattle.sqlite_wal.specs.Files.{image_at};
 ghost use Rattle.sqlite_wal.specs.Reads.{AreClean};
-ghost use Rattle.acvp_files.specs.Connections.{IsConnected};
-ghost use Rattle.acvp_files.specs.Faults.{fault_of_open, why_unopened};
+ghost use Rattle.acvp_connections.specs.Connections.{IsConnected};
+ghost use Rattle.acvp_connections.specs.Faults.{fault_of_open, why_unopened};
 
 use crate::fault::{FileFault, fault_of_cause, refused};
+use crate::left::settle_names;
 use crate::number::{FileNumber, file_at};
-use crate::parts::settle_names;
-use crate::privacy::{has_no_log, make_private};
 use acvp_causes::{
     cause_of_files, has_log, is_companion, is_copy, is_foreign, is_left_alone, is_moved,
 };
 use sqlite::{Connection, Error, ErrorCode, FileFrom, FileStore, Files, Start};
 use sqlite_disk::Disk;
 use std::alloc::AllocGlobal;
-use std::fs;
+use std::fs::{self, OpenOptions};
+use std::io::ErrorKind;
+use std::os::unix::fs::OpenOptionsExt;
 
 /// A connection to the database in a file.
 pub type FileConnection<S> = Connection<FileStore<FileFrom<S>>>;
@@ -119,6 +120,17 @@ fn connect_held<S: Start>(
     }
 }
 
+/// Whether there is no log beside a database.
+pub fn has_no_log(rt: &HostRuntime, path: &str) -> bool {
+    match format!(in rt.alloc(); "{path}-wal") {
+        Ok(log) => match fs::symlink_metadata(rt, log.as_str()) {
+            Ok(_) => false,
+            Err(error) => error.kind() == ErrorKind::NotFound,
+        },
+        Err(_) => false,
+    }
+}
+
 /// A connection to the database in a file. If the file holds something else, and there is no log that could make it
 /// one, it isn't opened; nor if another user has made what lies beside it.
 fn connect_known<S: Start>(
@@ -149,6 +161,16 @@ fn may_be_made(rt: &HostRuntime, path: &str) -> Result<(), FileFault> {
     }
 }
 
+/// Makes an empty file for its owner alone, where there is none.
+fn make_private(rt: &HostRuntime, path: &str) {
+    let mut options = OpenOptions::new();
+    let _ = options
+        .write(true)
+        .create_new(true)
+        .mode(0o600)
+        .open(rt, path);
+}
+
 /// A connection to the database in a file, which is made for its owner alone where there is none. It isn't made beside
 /// a log that another has left, nor with the name of a file that lies beside a database.
 pub fn connect_new<S: Start>(
@@ -169,7 +191,7 @@ pub fn connect_new<S: Start>(
 }
 
 /// A connection to the database in a file that is there, or to an empty file.
-pub(crate) fn connect_there<S: Start>(
+pub fn connect_there<S: Start>(
     rt: &HostRuntime,
     path: &str,
     start: S,
@@ -224,7 +246,7 @@ fn files_of<D: Disk + Drop>(closed: Result<Files<D>, (Error, FileStore<D>)>) -> 
 /// Copies what the log beside the file holds into the file, and hands both back: what was committed is in the file
 /// then, as it reads and as a crash leaves it. Nothing where that fails: what was committed is kept also then, the log
 /// stays, and the next command reads it.
-pub(crate) fn copied<D: Disk + Drop>(connection: Connection<FileStore<D>>) -> Option<Files<D>>
+pub fn copied<D: Disk + Drop>(connection: Connection<FileStore<D>>) -> Option<Files<D>>
     ensures copied { IfSome result (λ files. AreClean D.Disk files.log files.db → IsCopied connection files) }
     ensures kept { IfNone result ((last : _) × IsClosed connection last) }
 {

@@ -10,10 +10,10 @@ use Rattle.acvp_tables.specs.declared.tables.StoreFault.{StoreFault}
 use Rattle.acvp_tables.specs.declared.tables.StoreFault.TheVariants as made
 use Rattle.acvp_causes.specs.declared.cause.Cause.{Cause}
 use Rattle.acvp_causes.specs.declared.cause.Cause.TheVariants as cause
-use Rattle.acvp_files.specs.declared.connection.Unopened.{Unopened}
-use Rattle.acvp_files.specs.declared.connection.Unopened.TheVariants.{Failed, Taken}
-use Rattle.acvp_files.specs.declared.fault.FileFault.{FileFault}
-use Rattle.acvp_files.specs.declared.fault.FileFault.TheVariants.{Memory, Schema, Unavailable}
+use Rattle.acvp_connections.specs.declared.connection.Unopened.{Unopened}
+use Rattle.acvp_connections.specs.declared.connection.Unopened.TheVariants.{Failed, Taken}
+use Rattle.acvp_connections.specs.declared.fault.FileFault.{FileFault}
+use Rattle.acvp_connections.specs.declared.fault.FileFault.TheVariants.{Memory, Schema, Unavailable}
 
 -- a database that can't be opened, for whatever else, is unavailable
 abbrev pub fault_of_open : Error → FileFault

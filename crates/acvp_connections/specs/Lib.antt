@@ -1,3 +1,2 @@
 pub mod Connections
-pub mod Copies
 pub mod Faults

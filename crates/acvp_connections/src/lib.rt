@@ -1,0 +1,15 @@
+//! Connections to the database in a file, and why there is none.
+#![tactic(auto)]
+
+mod connection;
+mod fault;
+mod left;
+mod number;
+
+pub use connection::{
+    FileConnection, Unopened, close, connect_existing, connect_new, connect_there, copied,
+    has_no_log,
+};
+pub use fault::{FileFault, done, fault_of_cause, refused};
+pub use left::{is_left, remove, settle_names};
+pub use number::{FileNumber, file_at, number_of};
