@@ -161,7 +161,7 @@ fn may_be_made(rt: &HostRuntime, path: &str) -> Result<(), FileFault> {
     }
 }
 
-/// Makes an empty file for its owner alone, where there is none.
+/// Makes an empty file for its owner alone, where there is none. Its log is made for whom the file is.
 fn make_private(rt: &HostRuntime, path: &str) {
     let mut options = OpenOptions::new();
     let _ = options

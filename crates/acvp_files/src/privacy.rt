@@ -1,10 +1,8 @@
-//! Who may read the files of a laboratory. A database is made for its owner alone, and its log for whom the database
-//! is; what others may read, or a folder that others may write, can be warned of.
+//! Who may read the files of a laboratory: what others may read, or a folder that others may write, is warned of.
 use acvp_causes::{EMPTY_LOG, OF_OTHERS, folder_of, name_of};
 use std::alloc::AllocGlobal;
-use std::fs::{self, OpenOptions};
-use std::io::ErrorKind;
-use std::os::unix::fs::{MetadataExt, OpenOptionsExt};
+use std::fs;
+use std::os::unix::fs::MetadataExt;
 
 /// The bits of a folder's mode by which others than its owner make files in it.
 const WRITE_OF_OTHERS: u32 = 0o022;
