@@ -51,7 +51,7 @@ import sys
 import tempfile
 from contextlib import closing
 
-from laboratory import Piped, Served, expect
+from laboratory import Piped, Served, expect, free_port
 import laboratory
 
 CASES = os.path.join(os.path.dirname(os.path.abspath(__file__)), "..", "cases")
@@ -277,7 +277,8 @@ class Play:
         word, fault = line.split(" ")
         assert word == "not", line
         self.where.end()
-        serve = [self.where.program, "serve", "--db", self.where.db, "--keys", self.where.keys, "--port", "0"]
+        files = ["--db", self.where.db, "--keys", self.where.keys]
+        serve = [self.where.program, "serve", *files, "--port", str(free_port())]
         done = subprocess.run(serve, capture_output=True, text=True, timeout=60)
         expect("what serve says", (done.returncode, done.stdout, done.stderr), (1, "", f"fault: {fault}\n"))
 
