@@ -103,7 +103,7 @@ fn done_and_closed<S: Start>(
     if let Some(added) = added
         && is_unserved(&outcome)
     {
-        forget_seeds(&mut connection, &added);
+        let _ = forget_seeds(&mut connection, &added);
     }
     let may_have_served = serves && is_known && !matches!(outcome, Err(Fault::Schema));
     if outcome.is_ok() || may_have_served {

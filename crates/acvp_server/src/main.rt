@@ -134,7 +134,7 @@ fn run_deed(rt: &HostRuntime, db: &str, deed: Deed<'_>, flags: Flags) -> Result<
     }
     let work = work_of(&own_files(rt, db), deed)?;
     let name = named(rt, db)?;
-    if flags.says_why {
+    if rt.stderr().is_terminal() {
         tell_same_secret(rt, name.as_str(), &work);
     }
     let said = done_in(rt, name.as_str(), Wary, work, flags)?;

@@ -1,32 +1,46 @@
 //! How much room a restore may take.
 use crate::database::named;
+use acvp_causes::has_sums;
 use std::alloc::AllocGlobal;
 use std::fs;
 
-/// The bytes of a file, or 0 if it can't be asked.
+/// The bytes of a regular file, or 0.
 fn length_of(rt: &HostRuntime, path: &str) -> u64 {
     match fs::metadata(rt, path) {
-        Ok(there) => there.len(),
-        Err(_) => 0,
+        Ok(there) if there.is_file() => there.len(),
+        _ => 0,
     }
 }
 
 /// The bytes of a database and of the log beside it.
-fn lengths_of(rt: &HostRuntime, path: &str) -> u64 {
-    let Ok(name) = named(rt, path) else {
-        return 0;
-    };
-    let file = length_of(rt, name.as_str());
+fn lengths_of(rt: &HostRuntime, name: &str) -> u64 {
+    let file = length_of(rt, name);
     match format!(in rt.alloc(); "{name}-wal") {
         Ok(log) => file.saturating_add(length_of(rt, log.as_str())),
         Err(_) => file,
     }
 }
 
-/// Says how much room a restore may take: that of a copy of the backup, of another one if its pages have no sums, and
-/// of a copy of what is there.
+/// How often the bytes of a backup may lie beside the database at once: those of its copy, with what a log held. If its
+/// pages have no sums, those of another one too, and of its log.
+fn copies_of(rt: &HostRuntime, backup: &str) -> u64 {
+    if matches!(has_sums(rt, backup), Ok(true)) {
+        2
+    } else {
+        4
+    }
+}
+
+/// Says how much room a restore may take: that of copies of the backup, and of a copy of what is there. A backup that
+/// isn't there needs none.
 pub(crate) fn tell_room(rt: &HostRuntime, from: &str, db: &str) {
-    let copies = lengths_of(rt, from).saturating_mul(2);
-    let bytes = copies.saturating_add(lengths_of(rt, db));
-    let _ = eprintln!(rt; "room: up to {bytes} bytes beside {db}");
+    let (Ok(backup), Ok(database)) = (named(rt, from), named(rt, db)) else {
+        return;
+    };
+    let bytes = lengths_of(rt, backup.as_str());
+    if bytes > 0 {
+        let copies = bytes.saturating_mul(copies_of(rt, backup.as_str()));
+        let room = copies.saturating_add(lengths_of(rt, database.as_str()));
+        let _ = eprintln!(rt; "room: up to {room} bytes beside {db}");
+    }
 }

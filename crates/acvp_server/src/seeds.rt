@@ -196,10 +196,26 @@ pub(crate) fn with_seeds<S: Alter + Drop>(
     }
 }
 
-/// Takes rows out of a database again, since it wasn't served.
-pub(crate) fn forget_seeds<S: Alter + Drop>(connection: &mut Connection<S>, added: &Added) {
-    for row in &added.rows {
-        let name = params![row.name.as_str()];
-        let _ = connection.execute("DELETE FROM meta WHERE name = ?1", name);
+/// Takes a row out of a database.
+fn take_out<S: Alter + Drop>(tx: &mut Transaction<'_, S>, row: &NewRow) -> Result<(), Fault> {
+    let name = params![row.name.as_str()];
+    match tx.execute("DELETE FROM meta WHERE name = ?1", name) {
+        Ok(_) => Ok(()),
+        Err(error) => Err(fault_of_statement(error)),
     }
+}
+
+/// Takes rows out of a database again, since it wasn't served, in one transaction.
+pub(crate) fn forget_seeds<S: Alter + Drop>(
+    connection: &mut Connection<S>,
+    added: &Added,
+) -> Result<(), Fault> {
+    if !connection.is_autocommit() {
+        return Err(Fault::Unavailable);
+    }
+    let mut tx = connection.transaction();
+    for row in &added.rows {
+        take_out(&mut tx, row)?;
+    }
+    tx.commit().map_err(fault_of_statement)
 }
