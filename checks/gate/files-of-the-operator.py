@@ -694,31 +694,76 @@ def on_a_terminal(lab, *args):
     return done.returncode, said.decode().replace("\r\n", "\n")
 
 
-def room_for(db, files):
-    """The line that says how much room files and their logs take."""
-    lengths = [os.path.getsize(path + end) for path in files for end in ("", "-wal") if os.path.exists(path + end)]
-    return f"room: up to {sum(lengths)} bytes beside {db}\n"
+def most_beside(folder, run):
+    """How many bytes the files in a folder have more, at most, while something runs, and what that gives."""
+    def bytes_there():
+        total = 0
+        for entry in os.scandir(folder):
+            with contextlib.suppress(FileNotFoundError):
+                total += entry.stat(follow_symlinks=False).st_size
+        return total
+
+    before, most, done = bytes_there(), 0, threading.Event()
+
+    def watch():
+        nonlocal most
+        while not done.is_set():
+            most = max(most, bytes_there() - before)
+
+    watcher = threading.Thread(target=watch)
+    watcher.start()
+    try:
+        return run(), most
+    finally:
+        done.set()
+        watcher.join()
 
 
-def more_on_a_terminal(lab):
-    """On a terminal a restore says how much room it may take, for the backup twice and for what is there, and
-    account-add that another account has the same secret."""
+def room_of_a_restore(lab):
+    """On a terminal a restore says how much room it may take, and takes no more. Of a backup that isn't there it says
+    nothing."""
+    for number in range(1, 4):
+        lab.add(number)
+    numbers = "WITH RECURSIVE n (i) AS (SELECT 1 UNION ALL SELECT i + 1 FROM n WHERE i < 20000)"
+    body = '{"name":"%s"}' % ("n" * 200)
+    backup = changed(lab, "backup.db", f"INSERT INTO object {numbers} SELECT 1, i, 1, '{body}' FROM n")
+    page_sums.copy_without(backup, lab.path("plain.db"))
+
+    def length(path):
+        return sum(os.path.getsize(name) for name in (path, path + "-wal") if os.path.exists(name))
+
+    for name, copies in (("backup.db", 2), ("plain.db", 4)):
+        size = length(lab.path(name))
+        for db in (lab.path(f"new-{name}"), lab.db):
+            room = copies * size + length(db)
+            (status, said), most = most_beside(lab.folder, lambda: on_a_terminal(lab, *restore(lab, name, db)))
+            expect(f"a restore of {name} to {db}", (status, said), (0, f"room: up to {room} bytes beside {db}\n"))
+            expect(f"whether {room} bytes suffice for it, of which {most} were seen", size <= most <= room, True)
+    for path in (lab.path("none.db"), lab.folder):
+        expect(f"a restore of {path}", "room" in on_a_terminal(lab, "restore", "--from", path, "--db", lab.db)[1], False)
+
+
+def same_secrets(lab):
+    """On a terminal account-add tells an account that has the same secret, also while the file is served. If a row can't be
+    read, it says so. The account is added as before."""
     lab.add(1)
-    lab.backs_up()
     lab.add(2)
-    backup = lab.path("backup.db")
-    room = room_for(lab.db, [backup, backup, lab.db])
-    expect("a restore", on_a_terminal(lab, *restore(lab)), (0, room))
-    room = room_for(lab.path("new.db"), [backup, backup])
-    expect("a restore to a new place", on_a_terminal(lab, *restore(lab, db=lab.path("new.db"))), (0, room))
-    for account, secret, said in (("3", "secret-2", ""), ("4", "secret-1", "warning: account 1 has the same secret\n"),
-                                  ("5", "secret-2", "warning: account 3 has the same secret\n")):
-        order = ["account-add", "--db", lab.db, "--account", account, "--secret", lab.path(secret)]
-        expect(f"account {account}", on_a_terminal(lab, *order), (0, said))
+    same, unread = "warning: account 1 has the same secret\n", "warning: the other accounts' secrets can't be read\n"
+
+    def added(account, secret):
+        order = ["account-add", "--db", lab.db, "--account", str(account), "--secret", lab.path(secret)]
+        return on_a_terminal(lab, *order)
+
+    lab.write(lab.path("secret-9"), lab.secret(9).hex() + "\n")
+    for account, secret, said in ((3, "secret-9", ""), (4, "secret-1", same)):
+        expect(f"account {account}", added(account, secret), (0, said))
     lab.serve(count=None)
-    expect("while it is served", on_a_terminal(lab, "account-add", "--db", lab.db, "--account", "6", "--secret", lab.path("secret-1")),
-           (0, "warning: account 1 has the same secret\n"))
+    expect("while it is served", added(5, "secret-1"), (0, same))
     lab.kill()
+    with contextlib.closing(page_sums.connect(lab.db)) as connection, connection:
+        connection.execute("UPDATE account SET secret = X'00' WHERE account = 2")
+    expect("beside a malformed row", added(6, "secret-1"), (0, unread))
+    expect("the accounts", [row[0] for row in content(lab.db)["account"]], [1, 2, 3, 4, 5, 6])
 
 
 def told_on_a_terminal(lab):
@@ -731,11 +776,7 @@ def told_on_a_terminal(lab):
                  ["account-add", "--db", lab.db, "--account", "2", "--secret", bad], restore(lab), ["script", "--keys", bad],
                  ["init", "--db", lab.db]):
         status, _, faults = lab.run(*args, "--verbose")
-        told, text = on_a_terminal(lab, *args)
-        if args[0] == "restore":
-            before, _, text = text.partition(room_for(lab.db, [lab.db]))
-            text = before + text
-        expect(f"what {args} says on a terminal", (told, text), (status, faults))
+        expect(f"what {args} says on a terminal", on_a_terminal(lab, *args), (status, faults))
     expect("whether there was a warning and a cause", "warning: " in lab.run(*restore(lab), "--verbose")[2], True)
 
 
@@ -805,7 +846,7 @@ def main():
     killed.__name__ = "killed_restores"
     for part in (backups_while_nobody_serves, backups_while_serving, copies_apart, restores, sums_by_a_restore, wrong_sums, killed,
                  what_others_may_read, foreign_files, why_a_database_is_unavailable, why_a_text_is_refused, what_verbose_leaves, each_fault_both_ways, told_on_a_terminal,
-                 more_on_a_terminal, asked_on_a_terminal, little_stack):
+                 room_of_a_restore, same_secrets, asked_on_a_terminal, little_stack):
         with tempfile.TemporaryDirectory() as folder:
             lab = Laboratory(program, folder)
             lab.does("ready", "init", "--db", lab.db)

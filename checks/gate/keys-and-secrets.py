@@ -307,6 +307,34 @@ def seeds_of_no_start(lab):
     expect("what is known of both", known(lab), [("seed 1", fingerprint(first)), ("seed 2", fingerprint(second))])
 
 
+def commits_of(log):
+    """How many transactions a log holds: the frames that tell how many pages the database has then."""
+    with open(log, "rb") as file:
+        text = file.read()
+    size = int.from_bytes(text[8:12], "big")
+    frames = range(32, len(text), 24 + size) if len(text) > 32 else ()
+    return sum(1 for frame in frames if text[frame + 4:frame + 8] != bytes(4))
+
+
+def seeds_at_once(lab):
+    """The seeds that are new to a database become known in one transaction, beside those that it knows. A start that serves
+    nothing takes these away, and none that was known before."""
+    seeds = [bytes([number] * 32) for number in (1, 2, 3)]
+    keys, there = keys_of(lab, "three.txt", *seeds), ("seed 2", fingerprint(seeds[1]))
+    with contextlib.closing(page_sums.connect(lab.db)) as connection, connection:
+        connection.execute("INSERT INTO meta VALUES (?, ?)", there)
+    with socket.socket() as taken:
+        taken.bind(("127.0.0.1", 0))
+        taken.listen()
+        lab.fails("bind", "serve", "--db", lab.db, "--keys", keys, "--port", str(taken.getsockname()[1]), "--count", "1")
+    expect("what is known behind a port that is taken", known(lab), [there])
+    lab.serve(count=None, keys=keys)
+    expect("how many transactions made them known", commits_of(lab.db + "-wal"), 1)
+    lab.kill()
+    wanted = [(f"seed {place}", fingerprint(seed)) for place, seed in enumerate(seeds, 1)]
+    expect("what is known then", known(lab), wanted)
+
+
 def full_disk(lab):
     """Where there is no room, nothing is left of the file."""
     folder = lab.path("full")
@@ -347,7 +375,7 @@ def main():
     os.umask(0o077)
     began = time.time()
     for part in (new_files, changed_files, most_lines, refused_keys, texts_of_pipes, killed_writes, command_lines,
-                 served, seeds_of_another, seeds_of_no_start, full_disk, foreign_folders):
+                 served, seeds_of_another, seeds_of_no_start, seeds_at_once, full_disk, foreign_folders):
         with tempfile.TemporaryDirectory() as folder:
             lab = Laboratory(program, folder)
             lab.does("ready", "init", "--db", lab.db)

@@ -137,6 +137,9 @@ def requests(it):
     it.calls("7 ReadSet 1 404 noResource", "GET", path + "/vectorSets/1", bound)
     it.calls("7 NewVendor - 200 ok", "POST", "/vendors", token, {"name": MARK})
     it.calls("7 ListVendors - 400 badPage", "GET", f"/vendors?{MARK}", token)
+    longest = "9" * 19
+    it.calls(f"- ReadSet {longest} 401 tokenMissing", "GET", f"/testSessions/0/vectorSets/{longest}")
+    it.calls("- - - 404 noRoute", "GET", f"/testSessions/0/vectorSets/1{longest}", token)
     it.calls("- - - 404 noRoute", "GET", f"/{MARK}", token)
     it.calls("- - - 405 noMethod", "DELETE", "/account", token)
 

@@ -1,5 +1,5 @@
 // Shows the number in the file CLOCK as the seconds since 1970. It is preloaded into the built program, for the checks
-// every-action, accounts-apart, each-growth-refused, damaged-rows, lives-of-a-file, turned-bits,
+// every-action, accounts-apart, cases-of-requests, each-growth-refused, damaged-rows, lives-of-a-file, turned-bits,
 // what-is-logged and whole-and-damaged-files. It takes no memory, so that each growth is one of the program's own.
 #define _GNU_SOURCE
 #include <fcntl.h>

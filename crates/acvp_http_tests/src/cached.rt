@@ -86,8 +86,8 @@ fn is_refused(rt: &impl Abort, server: &mut Server, ask: &str, token: &str, word
     assert_eq!(rt; server.desk.cached(), before, "{ask}");
 }
 
-/// Registers a session with so many vector sets.
-fn registers(rt: &impl Abort, server: &mut Server, count: usize) {
+/// Registers a session with so many vector sets, which ends in this member, if any.
+fn registers(rt: &impl Abort, server: &mut Server, count: usize, member: &str) {
     let mut body = String::new(server.alloc);
     let start = r#"[{"acvVersion":"1.0"},{"algorithms":["#;
     body.push_str(start).ok().expect(rt, "memory");
@@ -96,7 +96,9 @@ fn registers(rt: &impl Abort, server: &mut Server, count: usize) {
         body.push_str(comma).ok().expect(rt, "memory");
         body.push_str(ITEM).ok().expect(rt, "memory");
     }
-    body.push_str("]}]").ok().expect(rt, "memory");
+    body.push_str("]").ok().expect(rt, "memory");
+    body.push_str(member).ok().expect(rt, "memory");
+    body.push_str("}]").ok().expect(rt, "memory");
     let cached = server.desk.cached();
     is_accepted(
         rt,
@@ -120,13 +122,35 @@ fn holds_once(rt: &impl Abort, server: &mut Server, token: &str) {
 #[test]
 fn the_cache_holds_a_set_once_and_none_that_is_not_shown(rt: HostRuntime) {
     let mut server = new_server(&rt, rt.alloc());
-    registers(&rt, &mut server, 2);
+    registers(&rt, &mut server, 2, "");
     let (_, _, token) = SESSIONS[0];
     let expected = "GET /acvp/v1/testSessions/7000001/vectorSets/700000101/expected";
     is_refused(&rt, &mut server, expected, token, r#""notSample"}]"#);
     holds_once(&rt, &mut server, token);
     let of_another = "GET /acvp/v1/testSessions/7000001/vectorSets/900000101";
     is_refused(&rt, &mut server, of_another, token, r#""noResource"}]"#);
+}
+
+/// Answers to no test of the first vector set.
+const NO_ANSWERS: &str = r#"[{"acvVersion":"1.0"},{"testGroups":[],"vsId":700000101}]"#;
+
+#[test]
+fn what_is_shown_and_graded_is_of_the_set_in_the_cache(rt: HostRuntime) {
+    let mut server = new_server(&rt, rt.alloc());
+    registers(&rt, &mut server, 1, r#","isSample":true"#);
+    let (_, _, token) = SESSIONS[0];
+    let set = "/acvp/v1/testSessions/7000001/vectorSets/700000101";
+    for (method, path, body) in [
+        ("GET", "/expected", ""),
+        ("POST", "/results", NO_ANSWERS),
+        ("GET", "/results", ""),
+        ("PUT", "/results", NO_ANSWERS),
+        ("GET", "", ""),
+    ] {
+        let ask = format!(in server.alloc; "{method} {set}{path}");
+        let ask = ask.ok().expect(&rt, "memory");
+        is_accepted(&rt, &mut server, &ask, token, body, 1);
+    }
 }
 
 /// Reads the sets of a session up to this one. The cache takes each of them, up to 64.
@@ -148,7 +172,7 @@ fn reads(
 fn the_cache_holds_sixty_four_sets(rt: HostRuntime) {
     let mut server = new_server(&rt, rt.alloc());
     for session in &SESSIONS {
-        registers(&rt, &mut server, 20);
+        registers(&rt, &mut server, 20, "");
         reads(&rt, &mut server, *session, session.1.saturating_add(19));
     }
     reads(&rt, &mut server, SESSIONS[0], 700000101);
