@@ -17,9 +17,9 @@ SECRET = b"12345678901234567890123456789012"
 MOMENT = 60
 HEAD = """# A request and a reply of each action
 
-Each stands here as it goes over the connection, in the order of the actions' numbers. Lines of a head end with CR LF. A
-body is one line without an end; here it is broken after a comma if it is long. Account 7 has the secret of the examples
-of RFC 6238, and the server's keys are zeros.
+Each stands here as it goes over the connection, by action number, not in the order sent. Lines of a head end with CR
+LF. A body is one line without an end; here it is broken after a comma if it is long. Account 7 has the secret of the
+examples of RFC 6238, and token key and seed are zero bytes.
 """
 
 
