@@ -55,23 +55,6 @@ impl<'a, R: Clock + Eprint + Files> MachinePort<'a, R> {
     pub(crate) fn finish(&mut self) {
         self.port.finish();
     }
-
-    /// A request that has come, with the moment at which it is handed on.
-    fn taken(
-        &self,
-        input: Incoming,
-        output: Outgoing,
-    ) -> Arrival<Flagged<Incoming>, Flagged<Outgoing>, Outgoing> {
-        let mut output = output;
-        if self.keeps_fronts {
-            output.keep_front(self.alloc);
-        }
-        Arrival::Connection(Taken {
-            input: Flagged::new(input),
-            output: Flagged::new(output),
-            now: SystemTime::now(self.rt),
-        })
-    }
 }
 
 /// The text of what came of an order, with its line feed: what its command prints.
@@ -99,7 +82,16 @@ impl<'a, R: Clock + Eprint + Files> Listener for MachinePort<'a, R> {
 
     fn accept(&mut self) -> Result<Arrival<Flagged<Incoming>, Flagged<Outgoing>, Outgoing>, Fault> {
         match self.port.next() {
-            Some(Errand::Request(input, output)) => Ok(self.taken(input, output)),
+            Some(Errand::Request(input, mut output)) => {
+                if self.keeps_fronts {
+                    output.keep_front(self.alloc);
+                }
+                Ok(Arrival::Connection(Taken {
+                    input: Flagged::new(input),
+                    output: Flagged::new(output),
+                    now: SystemTime::now(self.rt),
+                }))
+            }
             Some(Errand::Order(line, output)) => Ok(Arrival::Order(line, output)),
             None => Err(Fault::Accept),
         }
