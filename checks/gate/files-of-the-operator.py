@@ -713,10 +713,11 @@ def most_beside(folder, run):
     watcher = threading.Thread(target=watch)
     watcher.start()
     try:
-        return run(), most
+        outcome = run()
     finally:
         done.set()
         watcher.join()
+    return outcome, max(most, bytes_there() - before)
 
 
 def room_of_a_restore(lab):
