@@ -1,31 +1,32 @@
 -- Objects of a kind in ranges of numbers.
 use Rattle.std.proofs.Common.{◌≡◌, ◌<◌, ◌≤◌, ◌^◌, ℕ, ℤ, pos, List, [], ◌∷◌, ◌++◌, map, length, Bool, true, false}
-use Rattle.std.proofs.Common.{Option, Some, None, Ok, Err, Result, IfOk, IfErr, IsOk, IsTrue, refl, sym, ap, ap₂, subst}
+use Rattle.std.proofs.Common.{Option, Some, None, Result, IfOk, IfErr, IsOk, IsTrue, refl, sym, ap, ap₂, subst}
 use Rattle.std.proofs.Common.{◌∙◌, arith}
 use Rattle.std.specs.Prelude.{◌&&◌, ◌||◌, ◌==◌}
 use Rattle.sqlite.specs.Ops.{binary}
-use Rattle.acvp_store.proofs.Words.{all-append, all-map, all-permutation, all_both, all_from_map, all_weaker}
-use Rattle.acvp_store.proofs.Words.{AllByRecursion, are_present, are_typed, AreLedBy, AreObjectRanges, AreShown}
+use Rattle.acvp_store.proofs.Words.{all-append, all-map, all-permutation, all_both, AllByRecursion, all_from_map}
+use Rattle.acvp_store.proofs.Words.{all_weaker, AreLedBy, AreObjectRanges, are_present, AreShown, are_typed}
 use Rattle.acvp_store.proofs.Words.{body_json, column, columns_of_object, Database, drop, Entry, entry_row, filter}
 use Rattle.acvp_store.proofs.Words.{filter_all, first_number, FitsObject, from_truth, HasRowOutside, HasStray}
-use Rattle.acvp_store.proofs.Words.{HasStrayRow, holds, HoldsEntries, HoldsObjects, is_eq, is_equal, is_ge, is_int}
-use Rattle.acvp_store.proofs.Words.{is_le, is_null, is_object_between, is_true, IsAnswer, IsDatabase, IsErrAnd}
-use Rattle.acvp_store.proofs.Words.{IsKeepable, IsObject, IsObjectRow, IsOkAnd, IsPermutation, IsRegisteredWithin}
-use Rattle.acvp_store.proofs.Words.{IsTree, IsUtf8, joined, KeepsObjects, last_number, Layout, list_all, nat_tests, not}
-use Rattle.acvp_store.proofs.Words.{NotNull, object_columns, object_table, object_text, object_tree, ObjectRow, op2, Or}
-use Rattle.acvp_store.proofs.Words.{or3, overlay, passes, RangeFault, Row, schema_of, Shown, State, Stray, Term, truth}
-use Rattle.acvp_store.proofs.Words.{unwrap_or, Value, value_cmp, value_cmp-Int, whole}
+use Rattle.acvp_store.proofs.Words.{HasStrayRow, holds, HoldsEntries, HoldsObjects, IsAnswer, IsDatabase, is_eq}
+use Rattle.acvp_store.proofs.Words.{is_equal, is_ge, is_int, IsKeepable, is_le, is_null, IsObject, is_object_between}
+use Rattle.acvp_store.proofs.Words.{IsObjectRow, IsOkAnd, IsPermutation, IsReadObject, IsRegisteredWithin, IsTree}
+use Rattle.acvp_store.proofs.Words.{is_true, IsUtf8, joined, KeepsObjects, last_number, Layout, list_all, nat_tests}
+use Rattle.acvp_store.proofs.Words.{not, NotNull, object_columns, ObjectRow, object_table, object_text, object_tree}
+use Rattle.acvp_store.proofs.Words.{op2, Or, or3, overlay, passes, RangeFault, Row, schema_of, Shown, State, Stray}
+use Rattle.acvp_store.proofs.Words.{Term, truth, unwrap_or, Value, value_cmp, value_cmp-Int, whole}
 use Rattle.acvp_store.proofs.ColumnNumbers.{is_whole, number_within, not_outside, all_fail, column_test}
 use Rattle.acvp_store.proofs.EntryRanges.{shown_exactly, entries_hold, each_entry, both_hold, entries_joined}
 use Rattle.acvp_store.proofs.EntryRanges.{entries_tree, joined_all, IsNumbered, IsParted}
 use Rattle.acvp_store.proofs.QueryForms.{equals, first_where, not_between, within as within_terms}
 use Rattle.acvp_store.proofs.Readings.{ObjectOutside, ObjectRange, answers, object_terms, reading_text}
-use Rattle.acvp_store.proofs.QueryRows.{selected_in_order}
+use Rattle.acvp_store.proofs.QueryRows.{all_known, selected_in_order}
 use Rattle.acvp_store.proofs.RangeColumns.{left_true, not_longer, obeyed, typed_at}
 use Rattle.acvp_store.proofs.RangeOutside.{is_outside, none_passing, first_told, only_true, test_outside}
 use Rattle.acvp_store.proofs.RangeRows.{test_between, right_true, all_passed, within_last}
-use Rattle.acvp_store.proofs.RangeStrays.{stray_of, stray_same}
+use Rattle.acvp_store.proofs.RangeStrays.{stray_of}
 use Rattle.acvp_store.proofs.RequestRanges.{text_of_json}
+use Rattle.acvp_store.proofs.Told.{told}
 use Rattle.acvp_store.proofs.Versions.{map_same, test_whole}
 
 -- ---- what the query meets
@@ -112,26 +113,21 @@ module _ (kind f l : ℕ) (low : l < 2 ^ 63) where
 
 -- ---- what is told
 
-pub rows_told : {X B E F G : Type 0} (kind f l : ℕ) (low : l < 2 ^ 63) (Good : ObjectRow → Type 0) (table : List Row)
-    (outcome : Result X E) (rows_in : X → List Row) (found : Result B F) (result : Result B G)
-    (items : B → List ObjectRow) → (IsOk found → IsOk outcome) → (IsOk result → IsOk found)
-    → IfOk found (λ b. IfOk outcome (λ x. AreShown Good object_columns (rows_in x) (items b)))
-    → IfOk result (λ b. IfOk found (λ before. items b ≡ items before))
-    → IfOk result (λ b. AllByRecursion (λ o. body_json (object_text o.object) ≡ Some o.object.value) (items b))
+abbrev IsJudgedObject : ObjectRow → Type 0
+IsJudgedObject o = (o.account < 2 ^ 16) × IsReadObject o.object
+
+pub rows_told : {X B E F : Type 0} (kind f l : ℕ) (low : l < 2 ^ 63) (table : List Row) (outcome : Result X E)
+    (rows_in : X → List Row) (found : Result B F) (items : B → List ObjectRow) → (IsOk found → IsOk outcome)
+    → IfOk found (λ b. IfOk outcome (λ x. AreShown IsJudgedObject object_columns (rows_in x) (items b)))
     → AllByRecursion IsObjectTyped table
     → IfOk outcome (λ x. IsPermutation (map columns_of_object (filter (is_object_between kind f l) table))
-    (rows_in x)) → IfOk result (λ b. IsTree table
+    (rows_in x)) → IfOk found (λ b. IsTree table
     → KeepsObjects (filter (is_object_between kind f l) table) (items b))
-rows_told kind f l low Good table outcome rows_in found (Err e) items ok_found ok_result shows same reads typed rows =
-    tt
-rows_told kind f l low Good table outcome rows_in (Err e) (Ok b) items ok_found ok_result shows same reads typed rows =
-    absurd (let impossible = ok_result refl in cc)
-rows_told kind f l low Good table (Err e) rows_in (Ok a) (Ok b) items ok_found ok_result shows same reads typed rows =
-    absurd (let impossible = ok_found refl in cc)
-rows_told kind f l low Good table (Ok x) rows_in (Ok a) (Ok b) items ok_found ok_result shows same reads typed rows =
-    λ tree.
-    objects_hold kind f l low Good table (rows_in x) (items b) tree typed rows
-    (subst (AreShown Good object_columns (rows_in x)) (sym same) shows) reads
+rows_told kind f l low table outcome rows_in found items ok shows typed =
+    told outcome found ok _ _ _
+    (λ x b shows same tree. objects_hold kind f l low IsJudgedObject table (rows_in x) (items b) tree typed same shows
+    (all_weaker IsJudgedObject (λ o. body_json (object_text o.object) ≡ Some o.object.value) (λ o is. is.1.1) (items b)
+    (all_known object_columns IsJudgedObject (rows_in x) (items b) shows))) shows
 
 -- what is asked of an object that is kept
 abbrev IsHad : ObjectRow → Type 0
@@ -158,18 +154,16 @@ shows : (row : Row) (o : ObjectRow) → FitsObject o → IsObjectRow row o → (
 shows row o fits is = (o, had o (fits, is.1), ap columns_of_object is.0.1)
 
 pub stray_told : {X B E : Type 0} (kind f l : ℕ) (table : List Row) (outcome : Result X E) (rows_in : X → List Row)
-    (found result : Result B RangeFault)
+    (found : Result B RangeFault)
     → IfErr found (λ fault. (number : ℤ) → fault ≡ Stray number
     → IsOkAnd outcome (λ x. HasStray IsMember object_columns 1 number (rows_in x)))
-    → IfErr result (λ fault. (number : ℤ) → fault ≡ Stray number → IsErrAnd found (λ before. before ≡ Stray number))
     → IfOk outcome (λ x. IsPermutation (map columns_of_object (filter (is_object_between kind f l) table))
     (rows_in x))
-    → IfErr result (λ fault. (number : ℤ) → fault ≡ Stray number
+    → IfErr found (λ fault. (number : ℤ) → fault ≡ Stray number
     → HasStrayRow KeepsObjects IsObjectRow FitsObject (is_object_between kind f l) 2 number table)
-stray_told kind f l table outcome rows_in found result strays same rows =
-    stray_same (λ number. HasStrayRow KeepsObjects IsObjectRow FitsObject (is_object_between kind f l) 2 number table)
-    found result same (stray_of KeepsObjects IsObjectRow FitsObject each IsMember object_columns columns_of_object 1
-    2 (λ r. refl) shows (is_object_between kind f l) table outcome rows_in found strays rows)
+stray_told kind f l =
+    stray_of KeepsObjects IsObjectRow FitsObject each IsMember object_columns columns_of_object 1 2 (λ r. refl) shows
+    (is_object_between kind f l)
 
 -- ---- rows outside
 

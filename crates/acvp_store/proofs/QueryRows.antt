@@ -63,6 +63,14 @@ module _ {A : Type 0} (params : Row) (encode : A → Row) (p : A → Bool) (term
 
 -- ---- what is read of each of them
 
+-- what is known of each member that was shown
+pub all_known : {T : Type 0} (shown : T → Row) (Known : T → Type 0) (rows : List Row) (found : List T)
+    → AreShown Known shown rows found → AllByRecursion Known found
+all_known shown Known [] [] shows = tt
+all_known shown Known [] (x ∷ found) shows = absurd shows
+all_known shown Known (r ∷ rows) [] shows = tt
+all_known shown Known (r ∷ rows) (x ∷ found) shows = (shows.0.1, all_known shown Known rows found shows.1)
+
 module _ {T : Type 0} (meets : Row → Bool) (columns : Row → Row) (shown : T → Row) (Known : T → Type 0)
     (exact : (row : Row) (x : T) → BeginsWith (shown x) (columns row) → columns row ≡ shown x) where
   module _ (Good : T → Type 0) where
@@ -94,12 +102,6 @@ module _ {T : Type 0} (meets : Row → Bool) (columns : Row → Row) (shown : T 
         (all-permutation IsRead (rows_in x) (map columns (filter meets table)) (IsPermutation-sym _ _ rows)
         (each_read (rows_in x) (items b) shows good)))
 
-  all_known : (rows : List Row) (found : List T) → AreShown Known shown rows found → AllByRecursion Known found
-  all_known [] [] shows = tt
-  all_known [] (x ∷ found) shows = absurd shows
-  all_known (r ∷ rows) [] shows = tt
-  all_known (r ∷ rows) (x ∷ found) shows = (shows.0.1, all_known rows found shows.1)
-
   -- the same where what was found is told as it is, or in short
   pub met_as_found : {X B Z E F G : Type 0} (table : List Row) (rows_in : X → List Row) (items : B → List T)
       (outcome : Result X E) (found : Result B F) (result : Result Z G) → (IsOk found → IsOk outcome)
@@ -115,7 +117,7 @@ module _ {T : Type 0} (meets : Row → Bool) (columns : Row → Row) (shown : T 
   met_as_found table rows_in items (Ok x) (Ok b) (Ok z) ok_found ok_result shows rows =
       each_met Known (filter meets table)
       (all-permutation (IsRead Known) (rows_in x) (map columns (filter meets table)) (IsPermutation-sym _ _ rows)
-      (each_read Known (rows_in x) (items b) shows (all_known (rows_in x) (items b) shows)))
+      (each_read Known (rows_in x) (items b) shows (all_known shown Known (rows_in x) (items b) shows)))
 
 -- ---- the row of a number, of whichever table has numbers as keys
 

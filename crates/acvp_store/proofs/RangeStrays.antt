@@ -3,7 +3,7 @@ use Rattle.std.proofs.Common.{◌≡◌, ℕ, ℤ, zero, suc, List, [], ◌∷�
 use Rattle.std.proofs.Common.{slice_get, refl, sym, ap, subst, ◌∙◌}
 use Rattle.acvp_store.proofs.Words.{all-filter, all-map, all-permutation, all-slice_get, all_both, all_weaker}
 use Rattle.acvp_store.proofs.Words.{AllByRecursion, AllZip, AreKept, column, Database, filter, HasStray, HasStrayRow}
-use Rattle.acvp_store.proofs.Words.{InStore, Int, IsErrAnd, IsOkAnd, IsPermutation, IsPermutation-sym, Layout}
+use Rattle.acvp_store.proofs.Words.{InStore, Int, IsOkAnd, IsPermutation, IsPermutation-sym, Layout}
 use Rattle.acvp_store.proofs.Words.{RangeFault, Row, schema_of, Stray}
 use Rattle.acvp_store.proofs.RangeRows.{all_passed}
 
@@ -93,15 +93,6 @@ module _ {A : Type 0} (Holds : List Row → List A → Type 0) (IsOf : Row → A
     stray_of p table (Err e) rows_in (Err fault) strays rows = λ number is. absurd (strays number is)
     stray_of p table (Ok x) rows_in (Err fault) strays rows =
         λ number is. stray_shown p table (rows_in x) number rows (strays number is)
-
--- a stray row that was told goes on
-pub stray_same : {B C : Type 0} (P : ℤ → Type 0) (found : Result B RangeFault) (result : Result C RangeFault)
-    → IfErr result (λ fault. (number : ℤ) → fault ≡ Stray number → IsErrAnd found (λ before. before ≡ Stray number))
-    → IfErr found (λ fault. (number : ℤ) → fault ≡ Stray number → P number)
-    → IfErr result (λ fault. (number : ℤ) → fault ≡ Stray number → P number)
-stray_same P found (Ok b) same told = tt
-stray_same P (Ok a) (Err fault) same told = λ number is. absurd (same number is)
-stray_same P (Err before) (Err fault) same told = λ number is. told number (same number is)
 
 -- each row of a table that keeps a list is that of a member
 pub each_kept : {A : Type 0} (key : A → ℕ) (stored : A → Row) (Good : A → Type 0) (table : List Row) (list : List A)

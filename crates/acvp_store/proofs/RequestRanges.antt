@@ -5,11 +5,13 @@ use Rattle.std.specs.Str.{is_utf8}
 use Rattle.serde_json.specs.Data.{Data}
 use Rattle.acvp_tables.specs.declared.rows.RequestBody.TheVariants as body
 use Rattle.acvp_store.specs.Ranges.{joined}
-use Rattle.acvp_store.proofs.Words.{all-append, all-map, all_both, all_of, all_weaker, AllByRecursion, AreFull, AreKept}
-use Rattle.acvp_store.proofs.Words.{AreRanges, body_json, body_text, BodyReads, cases_Bool, first_number, FitsBody}
-use Rattle.acvp_store.proofs.Words.{FitsRequest, FitsRequestBody, HoldsRequests, is_between, IsRange, IsReadable}
-use Rattle.acvp_store.proofs.Words.{IsRequestRow, IsTree, IsUtf8, IsUtf8-from_is_utf8, last_number, request_columns}
-use Rattle.acvp_store.proofs.Words.{request_key, request_row, request_shown, RequestBody, RequestRow, Row}
+use Rattle.acvp_store.proofs.Words.{all-append, all-map, all_both, AllByRecursion, all_of, all_weaker, AreFull}
+use Rattle.acvp_store.proofs.Words.{AreKept, AreRanges, AreShown, body_json, BodyReads, body_text, cases_Bool}
+use Rattle.acvp_store.proofs.Words.{first_number, FitsBody, FitsRequest, FitsRequestBody, HoldsRequests, is_between}
+use Rattle.acvp_store.proofs.Words.{IsJudgedBody, IsJudgedRequest, IsRange, IsReadable, IsRequestRow, IsTree, IsUtf8}
+use Rattle.acvp_store.proofs.Words.{IsUtf8-from_is_utf8, last_number, RequestBody, request_columns, request_key}
+use Rattle.acvp_store.proofs.Words.{RequestRow, request_row, request_shown, Row}
+use Rattle.acvp_store.proofs.QueryRows.{all_known}
 use Rattle.acvp_store.proofs.RangeJoins.{kept_tree, ranges_whole}
 use Rattle.acvp_store.proofs.RangeStrays.{each_kept}
 
@@ -43,20 +45,32 @@ IsMember r = IsReadable r.body × ((r.account < 2 ^ 16) × FitsBody r.body × Is
 had : (r : RequestRow) → IsHad r → IsMember r
 had r h = (readable r.body h.0.1 h.1, (h.0.0, fits_body r.body h.0.1, text_reads r.body h.1))
 
--- ---- what is made of what was read
+-- ---- what is read reads back
 
-pub rows_through : {B E F : Type 0} (f l : ℕ) (table : List Row) (found : Result B E) (result : Result B F)
-    (items : B → List RequestRow) → (IsOk result → IsOk found)
-    → IfOk result (λ b. IfOk found (λ before. items b ≡ items before))
-    → IfOk result (λ b. AllByRecursion (λ r. BodyReads r.body) (items b))
+judged_reads : (b : RequestBody) → IsJudgedBody b → BodyReads b
+judged_reads (body.Registration o) judged = judged.1
+judged_reads (body.Certification c) judged = judged
+
+texts : (rows : List Row) (found : List RequestRow) → AreShown IsJudgedRequest request_shown rows found
+    → AllByRecursion (λ r. BodyReads r.body) found
+texts rows found shows =
+    all_weaker IsJudgedRequest (λ r. BodyReads r.body) (λ r is. judged_reads r.body is.1) found
+    (all_known request_shown IsJudgedRequest rows found shows)
+
+pub with_texts : {X B E F : Type 0} (f l : ℕ) (table : List Row) (outcome : Result X E) (rows_in : X → List Row)
+    (found : Result B F) (items : B → List RequestRow) → (IsOk found → IsOk outcome)
+    → IfOk found (λ b. IfOk outcome (λ x. AreShown IsJudgedRequest request_shown (rows_in x) (items b)))
     → IfOk found (λ b. IsTree table → AreFull 7 table
     → IsRange (AreKept request_key request_row) request_key f l table (items b))
-    → IfOk result (λ b. IsTree table → AreFull 7 table → IsRange HoldsRequests request_key f l table (items b))
-rows_through f l table found (Err e) items ok same reads rows = tt
-rows_through f l table (Err e) (Ok b) items ok same reads rows = absurd (let impossible = ok refl in cc)
-rows_through f l table (Ok before) (Ok b) items ok same reads rows = λ tree full.
-    let it = subst (IsRange (AreKept request_key request_row) request_key f l table) (sym same) (rows tree full) in
-    record { holds = record { kept = it.holds; texts = reads }; rising = it.rising }
+    → IfOk found (λ b. IsTree table → AreFull 7 table → IsRange HoldsRequests request_key f l table (items b))
+with_texts f l table outcome rows_in (Err e) items ok shows rows = tt
+with_texts f l table (Err e) rows_in (Ok b) items ok shows rows = absurd (let impossible = ok refl in cc)
+with_texts f l table (Ok x) rows_in (Ok b) items ok shows rows = λ tree full.
+    let it = rows tree full in
+    record {
+      holds = record { kept = it.holds; texts = texts (rows_in x) (items b) shows };
+      rising = it.rising;
+    }
 
 -- ---- a row that is of no request
 

@@ -16,9 +16,10 @@ pub use Rattle.acvp_store.specs.Private.Columns.{status_columns}
 pub use Rattle.acvp_store.specs.Private.Creating.{before, Makes, table_of, text_of, WritesVersion}
 pub use Rattle.acvp_store.specs.Private.Migration.{CopiesSets, EmptiesOldSets, HasOldTable, IsEarlierOf, RaisesVersion}
 pub use Rattle.acvp_store.specs.Private.Migration.{version_of}
-pub use Rattle.acvp_store.specs.Private.Objects.{IsObject, IsOfKind, Registers}
+pub use Rattle.acvp_store.specs.Private.Objects.{IsObject, IsOfKind, IsReadObject, Registers}
 pub use Rattle.acvp_store.specs.Private.Pages.{greatest, IsRowOf}
-pub use Rattle.acvp_store.specs.Private.Requests.{FitsBody, IsAsked, IsReadable, request_shown}
+pub use Rattle.acvp_store.specs.Private.Requests.{FitsBody, IsAsked, IsJudgedBody, IsJudgedRequest, IsReadable}
+pub use Rattle.acvp_store.specs.Private.Requests.{request_shown}
 pub use Rattle.acvp_store.specs.Private.SetRanges.{AreTexts, HasStraySet, whole_shown}
 pub use Rattle.acvp_store.specs.Private.SetTexts.{AreVerdictsOf, IsOfCapability, TellsCapability, TellsVerdicts}
 pub use Rattle.acvp_store.specs.Private.SetTexts.{text_shown}

@@ -1,9 +1,7 @@
 //! Reads of registered objects in a range of numbers, whatever the rows are.
-ghost use Rattle.std.specs.Prelude.{◌≡◌, ℤ, Some, None, IfOk, IfErr, IsErrAnd, IsOk, IsTrue};
+ghost use Rattle.std.specs.Prelude.{◌≡◌, ℤ, Some, None, IfOk, IfErr, IsTrue};
 ghost use Rattle.std.specs.List.{AllByRecursion, filter};
 ghost use Rattle.sqlite.specs.Held.{state};
-ghost use Rattle.acvp_registry.specs.Json.{body_json};
-ghost use Rattle.acvp_registry.specs.Object.{object_text};
 ghost use Rattle.acvp_tables.specs.Content.{kind_number};
 ghost use Rattle.acvp_store.specs.Connection.{ServesStore, IsRead};
 ghost use Rattle.acvp_store.specs.Ranges.{is_object_between, IsTree, KeepsObjects, HasStrayRow, IsObjectRow};
@@ -16,33 +14,6 @@ use acvp_registry::Kind;
 use acvp_tables::{ObjectRow, StoreFault};
 use sqlite::{Alter, Connection, params};
 use std::alloc::Global;
-
-/// The text of each object reads as it.
-fn all_read_back(rows: &[ObjectRow])
-    ensures { AllByRecursion (λ row. body_json (object_text row.object) ≡ Some row.object.value) rows.now }
-{
-    for row in rows {
-        let _text = row.object.text();
-    }
-}
-
-/// What was found, where the text of each object reads as it.
-fn read_back(found: Result<Vec<ObjectRow>, RangeFault>) -> Result<Vec<ObjectRow>, RangeFault>
-    ensures same { IfOk result (λ rows. IfOk found (λ before. rows.items ≡ before.items)) }
-    ensures reads { IfOk result
-        (λ rows. AllByRecursion (λ row. body_json (object_text row.object) ≡ Some row.object.value) rows.items) }
-    ensures stray { IfErr result (λ fault. (number : ℤ) → fault ≡ RangeFault.Stray number
-        → IsErrAnd found (λ before. before ≡ RangeFault.Stray number)) }
-    ensures ok { IsOk result → IsOk found }
-{
-    match found {
-        Ok(rows) => {
-            all_read_back(&rows);
-            Ok(rows)
-        }
-        Err(fault) => Err(fault),
-    }
-}
 
 /// The objects of a kind whose numbers begin with an account's, whatever the rows are. A stray one is told by its
 /// number.
@@ -65,15 +36,14 @@ pub(crate) fn objects_numbered<S: Alter>(
     ensures read { IsRead result (state S.Store conn.old) (state S.Store conn.new) }
 {
     let numbers = numbers_of(account);
-    let found = ranged(
+    ranged(
         alloc,
         conn.query_all(
             "SELECT kind, number, account, body FROM object WHERE kind = ?3 AND number BETWEEN ?1 AND ?2 ORDER BY number",
             params![numbers.first, numbers.last, kind_number(kind)],
         ),
         1,
-    );
-    read_back(found)
+    )
 }
 
 /// The number of an object that isn't of one of the three kinds, or whose number begins with no account's, 1 to 9999,

@@ -8,7 +8,7 @@ ghost use Rattle.acvp_tables.specs.State.{AreWellNumbered};
 ghost use Rattle.acvp_tables.specs.declared.rows.ObjectRow.{ObjectRow as Registration};
 ghost use Rattle.acvp_store.specs.Connection.{ServesStore, IsRead, UnderStore};
 ghost use Rattle.acvp_store.specs.Private.Columns.{columns_of_object};
-ghost use Rattle.acvp_store.specs.Private.Objects.{IsObject, Registers};
+ghost use Rattle.acvp_store.specs.Private.Objects.{IsObject, IsReadObject, Registers};
 ghost use Rattle.acvp_store.specs.Private.Shown.{AreMet, is_of};
 ghost use Rattle.acvp_store.specs.Stands.{HoldsObjects, FitColumns, object_columns, object_tree};
 
@@ -93,7 +93,7 @@ pub(crate) fn kept_object(kind: u32, text: String) -> Result<Object, StoreFault>
     ensures known { IfOk result (λ found. (o : KeptObject) → body_json (object_text o) ≡ Some o.value
         → kind ≡ kind_number o.kind → string_bytes text ≡ object_text o → found ≡ o) }
     ensures judged { IfOk result (λ found. (kind ≡ kind_number found.kind) × (string_bytes text ≡ object_text found)
-        × IsObject found) }
+        × IsReadObject found) }
     ensures refused { IfErr result (λ fault. fault ≡ StoreFault.Refused → (o : KeptObject) → IsObject o
         → body_json (object_text o) ≡ Some o.value → kind ≡ kind_number o.kind → string_bytes text ≢ object_text o) }
 {
@@ -116,7 +116,7 @@ impl Member for ObjectRow {
     ghost use Rattle.std.specs.Prelude.{◌<◌, ◌^◌};
     ghost use Rattle.std.specs.Prelude.{IsUtf8};
     ghost use Rattle.acvp_registry.specs.Object.{object_text};
-    ghost use Rattle.acvp_store.specs.Private.Objects.{IsObject};
+    ghost use Rattle.acvp_store.specs.Private.Objects.{IsObject, IsReadObject};
     ghost use Rattle.acvp_store.specs.Stands.{IsKeepable, object_columns};
 
     ghost listed_as = { object_columns };
@@ -125,7 +125,7 @@ impl Member for ObjectRow {
 
     ghost fits = { λ o. (o.account < 2 ^ 16) × IsObject o.object × IsUtf8 (object_text o.object) };
 
-    ghost judged_so = { λ o. (o.account < 2 ^ 16) × IsObject o.object };
+    ghost judged_so = { λ o. (o.account < 2 ^ 16) × IsReadObject o.object };
 
     fn from_row(row: &Row) -> Result<ObjectRow, StoreFault> {
         let kind: u32 = field(row, 0)?;
@@ -153,7 +153,7 @@ pub(crate) fn find_object<S: Alter>(
         → found ≡ object_at kind number c.objects) }
     ensures judged { IsTrue (state S.Store conn.new).is_open → number < 2 ^ 63
         → IfOk result (λ _. AreMet (is_of (kind_number kind) number) columns_of_object object_columns
-        (λ o. (o.account < 2 ^ 16) × IsObject o.object) ((state S.Store conn.old).now.trees object_tree)) }
+        (λ o. (o.account < 2 ^ 16) × IsReadObject o.object) ((state S.Store conn.old).now.trees object_tree)) }
     ensures read { IsRead result (state S.Store conn.old) (state S.Store conn.new) }
 {
     only(conn.query_all(

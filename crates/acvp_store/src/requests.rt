@@ -243,8 +243,29 @@ fn summarized(
     }
 }
 
-/// The request of a number, without the object that it asks to register. It is Refused where the request's row isn't
-/// that of one, whatever it asks for.
+/// The request of a number, with all that its row has. It is Refused where the request's row isn't that of one, whatever
+/// it asks for.
+pub(crate) fn find_whole_request<S: Alter>(
+    conn: &mut Connection<S>,
+    number: u64,
+) -> Result<Option<RequestRow>, StoreFault>
+    requires { ServesStore (state S.Store conn.old) }
+    ensures found { IsTrue (state S.Store conn.new).is_open
+        → IfOk result (λ found. (c : Content) → AreWellNumbered c
+        → HoldsRequests ((state S.Store conn.old).now.trees request_tree) c.requests
+        → found ≡ request_at number c.requests) }
+    ensures judged { IsTrue (state S.Store conn.new).is_open → number < 2 ^ 63
+        → IfOk result (λ _. AreMet (is_under number) request_columns request_shown IsJudgedRequest
+        ((state S.Store conn.old).now.trees request_tree)) }
+    ensures read { IsRead result (state S.Store conn.old) (state S.Store conn.new) }
+{
+    only(conn.query_all(
+        "SELECT request, account, kind, body, status, approved FROM request WHERE request = ?1",
+        params![key(number)],
+    ))
+}
+
+/// The request of a number, without the object that it asks to register. It is Refused as above.
 pub(crate) fn find_request<S: Alter>(
     conn: &mut Connection<S>,
     number: u64,
@@ -259,10 +280,7 @@ pub(crate) fn find_request<S: Alter>(
         ((state S.Store conn.old).now.trees request_tree)) }
     ensures read { IsRead result (state S.Store conn.old) (state S.Store conn.new) }
 {
-    summarized(only(conn.query_all(
-        "SELECT request, account, kind, body, status, approved FROM request WHERE request = ?1",
-        params![key(number)],
-    )))
+    summarized(find_whole_request(conn, number))
 }
 
 /// What was decided on the request of a number.

@@ -6,8 +6,8 @@ ghost use Rattle.sqlite.specs.State.{HasCleanDisk};
 ghost use Rattle.sqlite.specs.Steps.{over_memory};
 ghost use Rattle.acvp_store.specs.Adopted.{IsAdopted, IsOurs};
 ghost use Rattle.acvp_store.specs.Version.{HasVersion};
-ghost use Rattle.acvp_tables.specs.Calls.{Changes};
-ghost use Rattle.acvp_tables.specs.Content.{no_rows};
+ghost use Rattle.acvp_tables.specs.Calls.{Changes, Finds, Reads};
+ghost use Rattle.acvp_tables.specs.Content.{no_rows, request_at};
 ghost use Rattle.acvp_tables.specs.Changes.{after, after_order};
 ghost use Rattle.acvp_tables.specs.declared.change.Change.TheVariants as change;
 ghost use Rattle.acvp_tables.specs.declared.change.OrderChange.TheVariants as order;
@@ -25,7 +25,8 @@ use crate::fault::{AdoptFault, adopt_fault};
 use crate::migration::{Earlier, move_earlier};
 use crate::objects::{Registered, find_object, find_owner, page_objects};
 use crate::requests::{
-    CertificationAsked, DecidedRequest, find_request, find_status, page_requests,
+    CertificationAsked, DecidedRequest, find_request, find_status, find_whole_request,
+    page_requests,
 };
 use crate::reviewers::{ReviewerAdded, ReviewerRemoved, find_reviewer, find_reviewers};
 use crate::same::{same_front, same_schema};
@@ -44,8 +45,8 @@ use acvp_policy::{Grant, release};
 use acvp_registry::{Counts, Kind};
 use acvp_tables::{
     AccountRow, Approval, CancelledSet, Change, Counted, KeptAnswers, NewAccount, NewCertification,
-    NewRequest, NewSession, ObjectRow, OrderChange, RequestStatus, RequestSummary, ReviewerRow,
-    SessionRow, SetSummary, StoreFault, Tables, UsedStep,
+    NewRequest, NewSession, ObjectRow, OrderChange, RequestRow, RequestStatus, RequestSummary,
+    ReviewerRow, SessionRow, SetSummary, StoreFault, Tables, UsedStep,
 };
 use sqlite::{Alter, Connection, MemStore};
 use std::alloc::Global;
@@ -582,6 +583,15 @@ impl<S: Alter> SqlTables<S> {
                 reviewer: *reviewer,
             },
         )
+    }
+
+    /// The request of a number, with the object that it asks to register.
+    pub fn whole_request(&mut self, number: u64) -> Result<Option<RequestRow>, StoreFault>
+        ensures found { Finds (meaning_of S.Store) (λ x. x) result self.old self.new
+            (λ c. request_at number c.requests) }
+        ensures reads { Reads may_fail (meaning_of S.Store) result self.old self.new }
+    {
+        find_whole_request(&mut self.connection, number)
     }
 
     /// Rejects the request of a number.

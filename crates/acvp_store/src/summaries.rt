@@ -67,7 +67,8 @@ fn linked(value: &Value, name: &str, kind: Kind) -> Option<u64>
 pub(crate) fn certification(text: String) -> Result<Certification, StoreFault>
     ensures known { IfOk result (λ found. (c : Certified) → BodyReads (body.Certification c)
         → string_bytes text ≡ compact_text (certification_data c) → found ≡ c) }
-    ensures judged { IfOk result (λ found. string_bytes text ≡ compact_text (certification_data found)) }
+    ensures judged { IfOk result (λ found. (string_bytes text ≡ compact_text (certification_data found))
+        × BodyReads (body.Certification found)) }
     ensures refused { IfErr result (λ fault. fault ≡ StoreFault.Refused → (c : Certified)
         → BodyReads (body.Certification c) → FitsCertification c
         → string_bytes text ≢ compact_text (certification_data c)) }

@@ -1,8 +1,9 @@
 -- The registration of what a request asks for.
-use Rattle.std.specs.Prelude.{◌≡◌, ◌<◌, ◌^◌, ℕ, List, ◌++◌, ⊤, None}
+use Rattle.std.specs.Prelude.{◌≡◌, ◌<◌, ◌^◌, ℕ, List, ◌++◌, ⊤, Some, None}
 use Rattle.std.specs.List.{AllByRecursion}
 use Rattle.sqlite.specs.Effect.{Database}
-use Rattle.acvp_registry.specs.Object.{KeptObject, object_fault}
+use Rattle.acvp_registry.specs.Json.{body_json}
+use Rattle.acvp_registry.specs.Object.{KeptObject, object_fault, object_text}
 use Rattle.acvp_tables.specs.Content.{kind_number, request_at}
 use Rattle.acvp_tables.specs.Changes.{approved_objects}
 use Rattle.acvp_tables.specs.declared.rows.ObjectRow.{ObjectRow}
@@ -21,6 +22,10 @@ IsOfKind (body.Certification c) = ⊤
 -- it is one of those that are registered, as the value of one is read
 abbrev pub IsObject : KeptObject → Type 0
 IsObject o = (kind_number o.kind < 4) × (object_fault o.kind o.value ≡ None)
+
+-- it is one, and its text reads as it
+abbrev pub IsReadObject : KeptObject → Type 0
+IsReadObject o = IsObject o × (body_json (object_text o) ≡ Some o.value)
 
 -- what the request of a number asks to register is there under another number
 pub record Registers (layout : Layout) (request number : ℕ) (old new : Database) : Type 0 where

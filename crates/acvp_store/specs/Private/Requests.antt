@@ -1,5 +1,5 @@
 -- A request, by its columns.
-use Rattle.std.specs.Prelude.{◌≡◌, ◌<◌, ◌^◌, ⊤, ℕ, List, ◌∷◌}
+use Rattle.std.specs.Prelude.{◌≡◌, ◌<◌, ◌^◌, ℕ, List, ◌∷◌}
 use Rattle.sqlite_value.specs.declared.value.Value.TheVariants.{Text}
 use Rattle.sqlite_value.specs.Order.{Row}
 use Rattle.acvp_tables.specs.declared.rows.RequestBody.{RequestBody}
@@ -8,7 +8,7 @@ use Rattle.acvp_tables.specs.declared.rows.RequestRow.{RequestRow}
 use Rattle.acvp_tables.specs.declared.rows.RequestStatus.TheVariants as status
 use Rattle.acvp_store.specs.Values.{whole}
 use Rattle.acvp_store.specs.Stands.{body_number, body_text, BodyReads}
-use Rattle.acvp_store.specs.Private.Objects.{IsObject, IsOfKind}
+use Rattle.acvp_store.specs.Private.Objects.{IsObject, IsOfKind, IsReadObject}
 use Rattle.acvp_store.specs.Private.Summaries.{FitsCertification, status_shown}
 
 -- one on which nothing is decided yet
@@ -34,10 +34,10 @@ abbrev pub FitsBody : RequestBody → Type 0
 FitsBody (body.Registration o) = IsObject o
 FitsBody (body.Certification c) = FitsCertification c
 
--- what is asked to register is an object as the value of one is read; a certification is judged by its text alone
+-- what is asked to register is an object as the value of one is read; and the text of either reads as it
 abbrev pub IsJudgedBody : RequestBody → Type 0
-IsJudgedBody (body.Registration o) = IsObject o
-IsJudgedBody (body.Certification c) = ⊤
+IsJudgedBody (body.Registration o) = IsReadObject o
+IsJudgedBody (body.Certification c) = BodyReads (body.Certification c)
 
 abbrev pub IsJudgedRequest : RequestRow → Type 0
 IsJudgedRequest r = (r.account < 2 ^ 16) × IsJudgedBody r.body

@@ -11,7 +11,7 @@ returns-clause-read g c =
     reads_rows ObjectRange _ _ _ c.query_all.ensures.survives
     (g.met.S.Store.shut_if_dirty c.query_all.new.self.store) (λ live. (c.requires live).ready)
     c.query_all.result (λ v. v.items) c.query_all.ensures.ok c.query_all.ensures.err
-    c.read_back.result (λ ok. c.ranged-found.ensures.ok (c.read_back.ensures.ok ok))
+    c.ranged.result c.ranged.ensures.ok
 
 pub returns-clause-rows : goal.returns-clause-rows
 returns-clause-rows g c live =
@@ -21,9 +21,8 @@ returns-clause-rows g c live =
     let first : SFits w64 c.numbers_of-numbers.result.first = search rules in
     let last : SFits w64 c.numbers_of-numbers.result.last = search rules in
     let low : last_number u < 2 ^ 63 = omega (arith, c.ranges.account.fits) in
-    rows_told (kind_number c.args.kind) (first_number u) (last_number u) low _ _ c.query_all.result (λ v. v.items)
-    c.ranged-found.result c.read_back.result (λ v. v.items) c.ranged-found.ensures.ok c.read_back.ensures.ok
-    c.ranged-found.ensures.judged c.read_back.ensures.same c.read_back.ensures.reads
+    rows_told (kind_number c.args.kind) (first_number u) (last_number u) low _ c.query_all.result (λ v. v.items)
+    c.ranged.result (λ v. v.items) c.ranged.ensures.ok c.ranged.ensures.judged
     (objects_typed store.schema.0 _ store.schema.1 store.sound)
     (IfOk-weaker c.query_all.result _ _
     (λ rows shown. objects_met store.schema.0 (kind_number c.args.kind) (first_number u) (last_number u) _ _ rows.items
@@ -41,7 +40,7 @@ returns-clause-stray g c live =
     let first : SFits w64 c.numbers_of-numbers.result.first = search rules in
     let last : SFits w64 c.numbers_of-numbers.result.last = search rules in
     stray_told (kind_number c.args.kind) (first_number u) (last_number u) _ c.query_all.result (λ v. v.items)
-    c.ranged-found.result c.read_back.result c.ranged-found.ensures.stray c.read_back.ensures.stray
+    c.ranged.result c.ranged.ensures.stray
     (IfOk-weaker c.query_all.result _ _
     (λ rows shown. objects_met store.schema.0 (kind_number c.args.kind) (first_number u) (last_number u) _ _ rows.items
     store.schema.1
