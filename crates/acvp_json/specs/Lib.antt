@@ -7,6 +7,7 @@ pub mod Time
 pub mod Written
 pub mod ReplyData
 pub mod Values
+pub mod Nullable
 pub mod VectorSet
 pub mod SetResults
 pub mod Urls
