@@ -1,3 +1,4 @@
 pub mod Lines
 pub mod Log
+pub mod Objects
 pub mod Rules

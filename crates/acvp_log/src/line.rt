@@ -112,22 +112,22 @@ impl<E: fmt::Display> fmt::Display for Came<E> {
 
 /// What stands behind the milliseconds.
 #[derive(Clone, Copy)]
-pub(crate) enum Tail {
-    Nothing,
-
-    /// The client went before its reply was out.
-    Unsent,
+pub(crate) struct Tail {
+    /// Whether the client went before its reply was out.
+    pub unsent: bool,
 
     /// Why it was unavailable.
-    Because(Cause),
+    pub because: Option<Cause>,
 }
 
 impl fmt::Display for Tail {
     fn fmt<W: fmt::Write>(&self, f: &mut fmt::Formatter<W>) -> fmt::Result {
-        match *self {
-            Tail::Nothing => Ok(()),
-            Tail::Unsent => f.write_str(" unsent"),
-            Tail::Because(cause) => write!(f, " because: {cause}"),
+        if self.unsent {
+            f.write_str(" unsent")?;
+        }
+        match self.because {
+            Some(cause) => write!(f, " because: {cause}"),
+            None => Ok(()),
         }
     }
 }

@@ -5,11 +5,13 @@ ghost use Rattle.acvp_log.specs.Lines.{may_tell};
 ghost use Rattle.acvp_log.specs.Log.{IsBegunBy, moment_begun, order_begun};
 ghost use Rattle.acvp_log.specs.declared.line.Came.TheVariants.{Done};
 
+use crate::form::LogForm;
 use crate::head::{
     came_unanswered, claimed_account, given_account, head_of, named_by, reply_of, rule_in,
     subject_of,
 };
 use crate::line::{Asked, Came, Entry, Number, Refusal, Tail, When, moment_text};
+use crate::object::{Told, told_value};
 use crate::rules::is_behind_token;
 use acvp_causes::{Cause, why_refused};
 use acvp_desk::Ask;
@@ -45,21 +47,35 @@ const UNREAD: AskedBy<'_> = AskedBy {
     token: None,
 };
 
+/// The object of a line for which memory ran out.
+const WITHOUT_MEMORY: &str =
+    "{\"account\":null,\"action\":null,\"because\":\"little memory is left\",\"milliseconds\":0,\"result\":null,\"sent\":false,\"status\":null,\"subject\":null,\"time\":null}";
+
 /// What the lines are made of, and what is being served.
 #[derive(Drop)]
 pub struct Log {
     alloc: Global,
+    form: LogForm,
     routes: Routes,
     begun: Begun,
 }
 
+/// A word, or none where it is that of nothing.
+fn unless_none(word: &str) -> Option<&str> {
+    match word {
+        "-" => None,
+        word => Some(word),
+    }
+}
+
 impl Log {
-    /// A log in which nothing is being served.
-    pub fn new(alloc: Global) -> Result<Log, AllocError>
+    /// A log of this form, in which nothing is being served.
+    pub fn new(alloc: Global, form: LogForm) -> Result<Log, AllocError>
         ensures { IfOk result (λ log. order_begun log ≡ (None, None)) }
     {
         Ok(Log {
             alloc,
+            form,
             routes: Routes::new(alloc)?,
             begun: Begun {
                 moment: 0,
@@ -112,12 +128,73 @@ impl Log {
         }
     }
 
+    /// How long it has taken so far, in milliseconds.
+    fn milliseconds<C: Clock>(&self, clock: &C) -> u64 {
+        let Some(since) = self.begun.since else {
+            return 0;
+        };
+        let taken = since.elapsed(clock).unwrap_or(Duration::ZERO).as_millis();
+        u64::try_from(taken).unwrap_or(u64::MAX)
+    }
+
+    /// The text of a line as a JSON object.
+    fn object_text<E: fmt::Display + Copy>(
+        &self,
+        entry: Entry<E>,
+        milliseconds: u64,
+    ) -> Result<String, AllocError> {
+        let alloc = self.alloc;
+        let (asked, came) = (entry.asked, entry.came);
+        let time = moment_text(alloc, self.begun.moment)?;
+        let action = format!(in alloc; "{asked}")?;
+        let result = format!(in alloc; "{came}")?;
+        let because = match entry.tail.because {
+            Some(cause) => Some(format!(in alloc; "{cause}")?),
+            None => None,
+        };
+        let told = Told {
+            account: entry.account.map(u64::from),
+            action: unless_none(action.as_str()),
+            because: because.as_ref().map(|text| text.as_str()),
+            milliseconds,
+            result: unless_none(result.as_str()),
+            sent: !entry.tail.unsent && !matches!(came, Came::Broken),
+            status: entry.status,
+            subject: entry.subject,
+            time: time.as_str(),
+        };
+        told_value(alloc, told)?.to_string(alloc)
+    }
+
+    /// Writes a line as a JSON object.
+    fn write_object<R: Eprint, E: fmt::Display + Copy>(
+        &self,
+        rt: &R,
+        entry: Entry<E>,
+        milliseconds: u64,
+    ) {
+        let _ = match self.object_text(entry, milliseconds) {
+            Ok(text) => eprintln!(rt; "{text}"),
+            Err(_) => eprintln!(rt; "{WITHOUT_MEMORY}"),
+        };
+    }
+
     /// Writes a line.
     fn write<R: Clock + Eprint, E: fmt::Display + Copy>(&self, rt: &R, entry: Entry<E>) {
-        let milliseconds = match self.begun.since {
-            Some(since) => since.elapsed(rt).unwrap_or(Duration::ZERO).as_millis(),
-            None => 0,
-        };
+        let milliseconds = self.milliseconds(rt);
+        match self.form {
+            LogForm::Words => self.write_words(rt, entry, milliseconds),
+            LogForm::Json => self.write_object(rt, entry, milliseconds),
+        }
+    }
+
+    /// Writes a line in words and numbers.
+    fn write_words<R: Eprint, E: fmt::Display + Copy>(
+        &self,
+        rt: &R,
+        entry: Entry<E>,
+        milliseconds: u64,
+    ) {
         let Entry {
             account,
             asked,
@@ -155,7 +232,10 @@ impl Log {
             subject,
             status: None,
             came: came_unanswered(request),
-            tail: Tail::Nothing,
+            tail: Tail {
+                unsent: false,
+                because: None,
+            },
         };
         let Some((status, body)) = reply_of(reply) else {
             return entry;
@@ -188,15 +268,13 @@ impl Log {
         sent: bool,
     ) {
         let mut entry = self.entry_of(alloc, request, reply);
-        entry.tail = match entry.came {
-            Came::Refused(Refusal(Rule::ClockOutOfRange)) => Tail::Because(Cause::Clock),
-            Came::Refused(Refusal(Rule::Unavailable)) => Tail::Because(why_refused(
-                rt, alloc, database,
-            )),
-            Came::Broken => Tail::Nothing,
-            _ if sent => Tail::Nothing,
-            _ => Tail::Unsent,
+        let because = match entry.came {
+            Came::Refused(Refusal(Rule::ClockOutOfRange)) => Some(Cause::Clock),
+            Came::Refused(Refusal(Rule::Unavailable)) => Some(why_refused(rt, alloc, database)),
+            _ => None,
         };
+        let unsent = !sent && !matches!(entry.came, Came::Broken);
+        entry.tail = Tail { unsent, because };
         self.write(rt, entry);
     }
 
@@ -212,17 +290,14 @@ impl Log {
             Some(word) => Came::Refused(word),
             None => Came::Done,
         };
-        let tail = match because {
-            Some(cause) => Tail::Because(cause),
-            None => Tail::Nothing,
-        };
+        let unsent = false;
         let entry = Entry {
             account: None,
             asked,
             subject,
             status: None,
             came,
-            tail,
+            tail: Tail { unsent, because },
         };
         self.write(rt, entry);
     }
