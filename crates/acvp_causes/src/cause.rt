@@ -117,82 +117,90 @@ pub enum Cause {
 
 impl fmt::Display for Cause {
     fn fmt<W: fmt::Write>(&self, f: &mut fmt::Formatter<W>) -> fmt::Result {
-        match *self {
-            Cause::Missing => f.write_str("there is no such file"),
-            Cause::Refused(error) => write!(f, "it can't be opened: {error}"),
-            Cause::Unmade => f.write_str(
-                "it can't be made in its folder (its rights, or a full disk)",
-            ),
-            Cause::NoFile => f.write_str("it is no regular file"),
-            Cause::Names(count) => write!(f, "it has {count} names (hard links), and may have one"),
-            Cause::Mounted => f.write_str(
-                "it is mounted by itself: name it where its log (-wal) is beside it",
-            ),
-            Cause::Moved => f.write_str(
-                "another process has it or the log beside it (-wal), not both: it was moved, or is served by another \
-                 name",
-            ),
-            Cause::Owner(user) => write!(
-                f,
-                "it belongs to user {user}, not to root, the database's owner or the user of the command"
-            ),
-            Cause::Planted(user) => write!(
-                f,
-                "it belongs to user {user}, not to root, its folder's owner or the user of the command, and others can \
-                 make files there"
-            ),
-            Cause::Link(user) => write!(
-                f,
-                "its path goes by a link of user {user}, not of root, the owner of the link's folder or the user of \
-                 the command"
-            ),
-            Cause::Companion => f.write_str(
-                "its name is that of a file beside a database (-wal, -shm, -journal, -orders)",
-            ),
-            Cause::Left => f.write_str(
-                "it is a copy that a killed command may have left: copy it to another name, if it is whole",
-            ),
-            Cause::Open => f.write_str(
-                "others may read or write it, who may not with the database",
-            ),
-            Cause::Journal => f.write_str(
-                "a journal is beside it (-journal), which sqlite3 has to settle",
-            ),
-            Cause::Served => f.write_str("a server has it, and answers at its socket (-orders)"),
-            Cause::Held => f.write_str("another process has it"),
-            Cause::Foreign => f.write_str("it is no database"),
-            Cause::Cut(length, told) => write!(f, "it is cut: it has {length} bytes of {told}"),
-            Cause::Tables => f.write_str("it has tables already"),
-            Cause::LogAlone => f.write_str(
-                "there is no such file, but its log (-wal) holds records, or a process has it",
-            ),
-            Cause::Store(tables) => {
-                f.write_str(REFUSED)?;
-                write!(f, "or met a page or a row{tables} that stands for nothing")
+        // Words are written in one place, since each call to write is proved by itself.
+        let words = match *self {
+            Cause::Refused(error) => return write!(f, "it can't be opened: {error}"),
+            Cause::Names(count) => {
+                return write!(f, "it has {count} names (hard links), and may have one");
             }
-            Cause::Relayed => f.write_str(
-                "its server's store refused a statement, or met a page or a row that stands for nothing",
-            ),
-            Cause::Copy => f.write_str(
+            Cause::Owner(user) => {
+                return write!(
+                    f,
+                    "it belongs to user {user}, not to root, the database's owner or the user of the command"
+                );
+            }
+            Cause::Planted(user) => {
+                return write!(
+                    f,
+                    "it belongs to user {user}, not to root, its folder's owner or the user of the command, and \
+                     others can make files there"
+                );
+            }
+            Cause::Link(user) => {
+                return write!(
+                    f,
+                    "its path goes by a link of user {user}, not of root, the owner of the link's folder or the user \
+                     of the command"
+                );
+            }
+            Cause::Cut(length, told) => {
+                return write!(f, "it is cut: it has {length} bytes of {told}");
+            }
+            Cause::Store(tables) => {
+                return write!(
+                    f,
+                    "{REFUSED}or met a damaged page or a malformed row{tables}"
+                );
+            }
+            Cause::Text(fault) => return write!(f, "{fault}"),
+            Cause::Seed(place) => {
+                return write!(
+                    f,
+                    "its seed {place} is another than the one that the database was served with"
+                );
+            }
+            Cause::Missing => "there is no such file",
+            Cause::Unmade => "it can't be made in its folder (its rights, or a full disk)",
+            Cause::NoFile => "it is no regular file",
+            Cause::Mounted => "it is mounted by itself: name it where its log (-wal) is beside it",
+            Cause::Moved => {
+                "another process has it or the log beside it (-wal), not both: it was moved, or is served by another \
+                 name"
+            }
+            Cause::Companion => {
+                "its name is that of a file beside a database (-wal, -shm, -journal, -orders)"
+            }
+            Cause::Left => {
+                "it is a copy that a killed command may have left: copy it to another name, if it is whole"
+            }
+            Cause::Open => "others may read or write it, who may not with the database",
+            Cause::Journal =>
+                "a journal is beside it (-journal): another program was stopped while it wrote to it",
+            Cause::Served => "a server has it, and answers at its socket (-orders)",
+            Cause::Held => "another process has it",
+            Cause::Foreign => "it is no database",
+            Cause::Tables => "it has tables already",
+            Cause::LogAlone => {
+                "there is no such file, but its log (-wal) holds records, or a process has it"
+            }
+            Cause::Relayed => {
+                "its server's store refused a statement, or met a damaged page or a malformed row"
+            }
+            Cause::Copy =>
                 "it can't be copied: reading it, or writing the copy, fails (a full disk)",
-            ),
-            Cause::Damaged => f.write_str("a page of it is damaged, or it can't be opened"),
-            Cause::Unplaced => f.write_str("the copy is whole, and can't be put there"),
-            Cause::Text(fault) => write!(f, "{fault}"),
-            Cause::Good => f.write_str("it can be read now"),
-            Cause::NoSeed => f.write_str("a vector set names a seed that isn't in it"),
-            Cause::OtherSeed => f.write_str(
-                "it lacks a seed that a vector set names, or has another in its place",
-            ),
-            Cause::Seed(place) => write!(
-                f,
-                "its seed {place} is another than the one that the database was served with"
-            ),
-            Cause::Full => f.write_str("it has 16 lines of that kind, the most there may be"),
-            Cause::LastKey => f.write_str("its last key can't be retired: add one first"),
-            Cause::Memory => f.write_str("little memory is left"),
-            Cause::Clock => f.write_str("the clock is past the year 2099, or can't be read"),
-        }
+            Cause::Damaged => "a page of it is damaged, or it can't be opened",
+            Cause::Unplaced => "the copy is whole, and can't be put there",
+            Cause::Good => "it can be read now",
+            Cause::NoSeed => "a vector set names a seed that isn't in it",
+            Cause::OtherSeed => {
+                "it lacks a seed that a vector set names, or has another in its place"
+            }
+            Cause::Full => "it has 16 lines of that kind, the most there may be",
+            Cause::LastKey => "its last key can't be retired: add one first",
+            Cause::Memory => "little memory is left",
+            Cause::Clock => "the clock is past the year 2099, or can't be read",
+        };
+        f.write_str(words)
     }
 }
 

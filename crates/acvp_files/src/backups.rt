@@ -70,17 +70,16 @@ fn if_known<S: Alter + Drop>(
     }
 }
 
-/// Has all that a copy's database and its log hold in the file alone, and says how many rows it has.
-fn merge_counted<D: Disk + Drop>(
-    rt: &HostRuntime,
-    mut connection: Connection<FileStore<D>>,
-    part: &Part,
-) -> Result<u64, FileFault> {
-    match count_rows(rt.alloc(), &mut connection) {
-        Ok(count) => match merge(rt, part, connection) {
-            Ok(()) => Ok(count),
-            Err(fault) => Err(fault),
-        },
+/// Says how many rows a copy has, and gives its connection back. If it is to be served, its tables must be those of
+/// this version.
+fn counted_if_known<S: Alter + Drop>(
+    alloc: Global,
+    connection: Connection<S>,
+    is_served: bool,
+) -> Result<(Connection<S>, u64), FileFault> {
+    let mut known = if_known(alloc, connection, is_served)?;
+    match count_rows(alloc, &mut known) {
+        Ok(count) => Ok((known, count)),
         Err(fault) => Err(fault),
     }
 }
@@ -93,8 +92,11 @@ fn finish<D: Disk + Drop>(
     part: &Part,
     is_served: bool,
 ) -> Result<u64, FileFault> {
-    match if_known(rt.alloc(), connection, is_served) {
-        Ok(known) => merge_counted(rt, known, part),
+    match counted_if_known(rt.alloc(), connection, is_served) {
+        Ok((counted, rows)) => match merge(rt, part, counted) {
+            Ok(()) => Ok(rows),
+            Err(fault) => Err(fault),
+        },
         Err(fault) => Err(fault),
     }
 }

@@ -5,6 +5,7 @@
 //! the log is that of whoever has the file.
 use crate::fault::{CopyFault, Step, at};
 use crate::parts::{Pair, Part, Use, give_up, new_copy, pair_at};
+use crate::progress::{tell_copied, tell_copied_whole, tell_reading};
 use acvp_causes::{Mark, cause_of_source, is_database, is_moved, is_whole, mark_of, name_of};
 use acvp_connections::{
     FileConnection, FileFault, FileNumber, Unopened, connect_there, copied, done, fault_of_cause,
@@ -15,10 +16,13 @@ use sqlite::{Alter, Connection, FileFrom, FileStore, Wary};
 use sqlite_disk::Disk;
 use std::alloc::{AllocGlobal, Global};
 use std::fs::{self, File};
-use std::io::{self, ErrorKind, Seek};
+use std::io::{self, ErrorKind, Read, Seek};
 
 /// How often a copy is begun anew, if the log was emptied meanwhile.
 const TRIES: u32 = 100;
+
+/// How many bytes are copied at once.
+const PIECE: u64 = 67108864;
 
 /// What is seen of a database's files from outside.
 #[derive(Clone, Copy)]
@@ -47,16 +51,29 @@ fn looked_at(rt: &HostRuntime, pair: &Pair) -> io::Result<Seen> {
     })
 }
 
+/// Copies what is left of a file behind what another one holds, and says on a terminal how much of it is copied.
+fn copy_pieces(rt: &HostRuntime, mut from: &File, mut to: &File) -> io::Result<()> {
+    let all = from.metadata()?.len();
+    for piece in 0..all / PIECE {
+        io::copy(&mut from.take(PIECE), &mut to)?;
+        tell_copied(rt, piece.saturating_add(1).saturating_mul(PIECE), all);
+    }
+    // The last piece; and what was added to the file meanwhile.
+    io::copy(&mut from, &mut to)?;
+    tell_copied_whole(rt, all);
+    Ok(())
+}
+
 /// Copies a file into an open one, in the place of all that this holds. One that isn't there has an empty copy.
 pub(crate) fn copy_file(rt: &HostRuntime, from: &str, mut to: &File) -> io::Result<()> {
     to.set_len(0)?;
     to.rewind()?;
-    let mut source = match File::open(rt, from) {
+    let source = match File::open(rt, from) {
         Ok(source) => source,
         Err(error) if error.kind() == ErrorKind::NotFound => return Ok(()),
         Err(error) => return Err(error),
     };
-    io::copy(&mut source, &mut to)?;
+    copy_pieces(rt, &source, to)?;
     to.sync_all()
 }
 
@@ -100,6 +117,7 @@ pub(crate) fn connection_to(
     rt: &HostRuntime,
     path: &str,
 ) -> Result<FileConnection<Wary>, FileFault> {
+    tell_reading(rt, path);
     match connect_there(rt, path, Wary) {
         Ok(connection) => Ok(connection),
         Err(Unopened::Taken) => Err(FileFault::Unavailable),
@@ -185,5 +203,27 @@ pub fn tables_of_copy(rt: &HostRuntime, database: &str) -> Result<FileTables, Fi
     match connection_to_look_at(rt, database) {
         Ok(connection) => taken_over(rt.alloc(), connection),
         Err(fault) => Err(fault),
+    }
+}
+
+/// The number of the schema that a database names, if it names one.
+fn schema_in<S: Alter + Drop>(connection: &mut Connection<S>) -> Option<i64> {
+    let Ok(rows) = connection.query_all("SELECT value FROM meta WHERE name = 'schema'", &[]) else {
+        return None;
+    };
+    match rows.as_slice().first() {
+        Some(row) => row.get(0).ok(),
+        None => None,
+    }
+}
+
+/// The same of a copy of the database at a path.
+pub fn schema_of_copy(rt: &HostRuntime, database: &str) -> Option<i64> {
+    match connection_to_look_at(rt, database) {
+        Ok(connection) => {
+            let mut connection = connection;
+            schema_in(&mut connection)
+        }
+        Err(_) => None,
     }
 }

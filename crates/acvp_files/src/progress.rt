@@ -1,0 +1,40 @@
+//! How far a command has come with a large file, as it is told on a terminal.
+use std::fs;
+use std::io::IsTerminal;
+
+/// The bytes of a megabyte.
+const MEGABYTE: u64 = 1000000;
+
+/// The bytes from which on a file takes long.
+const LARGE: u64 = 100 * MEGABYTE;
+
+/// Whether something is told of a file of so many bytes: it takes long, and somebody may look on.
+fn is_told(rt: &HostRuntime, bytes: u64) -> bool {
+    bytes >= LARGE && rt.stderr().is_terminal()
+}
+
+/// Says how many bytes of a large file are copied, in a line that is written over.
+pub(crate) fn tell_copied(rt: &HostRuntime, copied: u64, all: u64) {
+    if is_told(rt, all) {
+        let (copied, all) = (copied / MEGABYTE, all / MEGABYTE);
+        let _ = eprint!(rt; "\rcopied {copied} of {all} MB ");
+    }
+}
+
+/// Ends the line that says how many bytes of a large file are copied.
+pub(crate) fn tell_copied_whole(rt: &HostRuntime, all: u64) {
+    if is_told(rt, all) {
+        let megabytes = all / MEGABYTE;
+        let _ = eprintln!(rt; "\rcopied {megabytes} of {megabytes} MB ");
+    }
+}
+
+/// Says that a large database is read, before it is opened: an open reads it whole.
+pub fn tell_reading(rt: &HostRuntime, path: &str) {
+    if let Ok(there) = fs::metadata(rt, path)
+        && is_told(rt, there.len())
+    {
+        let megabytes = there.len() / MEGABYTE;
+        let _ = eprintln!(rt; "reading {megabytes} MB");
+    }
+}
