@@ -19,11 +19,6 @@ pub on_ok : {X E : Type 0} (result : Result X E) (P : Type 0) → P → OnOk res
 on_ok (Ok x) P it = it
 on_ok (Err e) P it = tt
 
--- what follows, follows where it succeeds
-pub on_ok_then : {X E : Type 0} (result : Result X E) (P Q : Type 0) → (P → Q) → OnOk result P → OnOk result Q
-on_ok_then (Ok x) P Q so it = so it
-on_ok_then (Err e) P Q so it = tt
-
 -- ---- numbers in a row
 
 two_ranges : (a m n : ℕ) → range_with_len a (m + n) ≡ range_with_len a m ++ range_with_len (a + m) n
@@ -121,14 +116,6 @@ module _ {L : Type 0} (takes : L → List ℕ → L → Type 0) where
   handed_whole x lines before after handed =
       subst (λ told. TakesAll takes told before after)
       (sym (append-nil handed.told) ∙ ap (λ rest. handed.told ++ rest) (sym handed.all) ∙ handed.both) handed.taken
-
-  -- a line that is handed on was taken, where that succeeds
-  pub handed_line : {X E : Type 0} (result : Result X E) (line : List ℕ) (before after : L)
-      → HandsOn takes result (line ∷ []) before after → OnOk result (takes before line after)
-  handed_line (Ok x) line before after handed =
-      let (between, taken, same) = handed_whole x (line ∷ []) before after handed in
-      subst (λ end. takes before line end) (sym same) taken
-  handed_line (Err e) line before after handed = tt
 
   -- with those of one element more
   pub takes_more : {A : Type 0} (f : A → List (List ℕ)) (xs : List A) (i : ℕ) (d : A) (before between after : L)

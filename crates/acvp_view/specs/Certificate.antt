@@ -1,6 +1,7 @@
--- The document of an approved certification: compact JSON, with the members of each object ascending by name.
-use Rattle.std.specs.Prelude.{ℕ, List, ◌++◌, codes, decimal, map, string_bytes, Option, Some, None, option_map}
-use Rattle.std.specs.Prelude.{option_and_then}
+-- The document of an approved certification: compact JSON, with the members of each object ascending by name; and the
+-- page that says the same.
+use Rattle.std.specs.Prelude.{ℕ, List, ◌++◌, Bool, false, true, codes, decimal, map, string_bytes}
+use Rattle.std.specs.Prelude.{Option, Some, None, option_and_then, option_map}
 use Rattle.std.specs.List.{join_by}
 use Rattle.hex.specs.Hex.{encode_lower}
 use Rattle.acvp_mac.specs.Hash.{digest_of}
@@ -21,6 +22,8 @@ use Rattle.acvp_tables.specs.declared.rows.RequestStatus.TheVariants as status
 use Rattle.acvp_tables.specs.declared.summary.RequestPurpose.{RequestPurpose}
 use Rattle.acvp_tables.specs.declared.summary.RequestPurpose.TheVariants as asks
 use Rattle.acvp_tables.specs.declared.summary.RequestSummary.{RequestSummary}
+use Rattle.acvp_view.specs.Escaped.{escaped}
+use Rattle.acvp_view.specs.Page.{asked_rows, named_rows, page_end, page_head, page_middle, set_row}
 use Rattle.acvp_view.specs.declared.certificate.Certificate.{Certificate}
 use Rattle.acvp_view.specs.declared.certificate.CertifiedSet.{CertifiedSet}
 
@@ -67,8 +70,18 @@ set_rest_text set =
 abbrev pub set_text : CertifiedSet → List ℕ
 set_text set = set_front_text set ++ set_rest_text set
 
-abbrev pub sets_text : List CertifiedSet → List ℕ
-sets_text sets = join_by (λ text. text) (codes ",") (map set_text sets)
+-- a vector set in the document, or on the page
+abbrev pub set_part : Bool → CertifiedSet → List ℕ
+set_part false set = set_text set
+set_part true set = set_row set
+
+abbrev pub between_sets : Bool → List ℕ
+between_sets false = codes ","
+between_sets true = codes "\n"
+
+-- all of them: the items of the array, or the rows of the table
+abbrev pub sets_text : Bool → List CertifiedSet → List ℕ
+sets_text page sets = join_by (λ text. text) (between_sets page) (map (set_part page) sets)
 
 -- ---- the document
 
@@ -88,7 +101,18 @@ session_text it =
 -- its vector sets, and the module's vendor
 unfoldable pub certified_text : Certificate → List ℕ
 certified_text it =
-    codes ",\"vectorSets\":[" ++ sets_text it.sets.items ++ codes "],\"vendor\":" ++ string_bytes it.vendor ++ codes "}"
+    codes ",\"vectorSets\":[" ++ sets_text false it.sets.items ++ codes "],\"vendor\":" ++ string_bytes it.vendor
+    ++ codes "}"
 
 abbrev pub certificate_text : Certificate → List ℕ
 certificate_text it = named_text it ++ session_text it ++ certified_text it
+
+-- ---- the page, and which of both
+
+abbrev pub page_text : Certificate → List ℕ
+page_text it =
+    (page_head ++ asked_rows it ++ named_rows it) ++ page_middle ++ sets_text true it.sets.items ++ page_end
+
+abbrev pub document : Bool → Certificate → List ℕ
+document false it = escaped (certificate_text it)
+document true it = page_text it

@@ -1,6 +1,8 @@
--- What a check of a file prints: how many rows there are, or what is wrong.
-use Rattle.std.specs.Prelude.{ℕ, List, ◌++◌, codes, decimal}
+-- What a check of a file prints, in words or as a JSON object: how many rows there are, or what is wrong.
+use Rattle.std.specs.Prelude.{ℕ, List, ◌++◌, codes, decimal, false}
 use Rattle.std.specs.Fmt.{signed_decimal}
+use Rattle.serde_json.specs.Data.{Data, object, member, no_members, string, boolean}
+use Rattle.serde_json.specs.Written.{compact_text}
 use Rattle.acvp_check.specs.declared.finding.RowKey.{RowKey}
 use Rattle.acvp_check.specs.declared.finding.RowKey.TheVariants as key
 use Rattle.acvp_check.specs.declared.finding.Wrong.{Wrong}
@@ -11,12 +13,28 @@ use Rattle.acvp_audit.specs.declared.damage.Totals.{Totals}
 use Rattle.acvp_audit.specs.declared.table.Table.{Table}
 use Rattle.acvp_audit.specs.declared.table.Table.TheVariants as table
 use Rattle.acvp_view.specs.Listed.{kind_word}
+use Rattle.acvp_view.specs.declared.form.Form.{Form}
+use Rattle.acvp_view.specs.declared.form.Form.TheVariants.{Words, Json}
 
--- the line of a file that is whole
-abbrev pub whole_text : Totals → List ℕ
-whole_text n =
+-- ---- a file that is whole
+
+abbrev pub whole_words : Totals → List ℕ
+whole_words n =
     codes "whole: accounts " ++ decimal n.accounts ++ codes " sessions " ++ decimal n.sessions ++ codes " sets "
     ++ decimal n.sets ++ codes " requests " ++ decimal n.requests
+
+-- a JSON object, whose numbers may be larger than those of the protocol
+abbrev pub whole_object : Totals → List ℕ
+whole_object n =
+    codes "{\"accounts\":" ++ decimal n.accounts ++ codes ",\"requests\":" ++ decimal n.requests
+    ++ codes ",\"sessions\":" ++ decimal n.sessions ++ codes ",\"sets\":" ++ decimal n.sets
+    ++ codes ",\"whole\":true}"
+
+abbrev pub whole_text : Form → Totals → List ℕ
+whole_text Words n = whole_words n
+whole_text Json n = whole_object n
+
+-- ---- a row
 
 abbrev pub table_word : Table → List ℕ
 table_word table.Account = codes "account"
@@ -60,8 +78,28 @@ wrong_word wrong.Object = codes "object"
 wrong_word wrong.ManyReviewers = codes "manyReviewers"
 wrong_word wrong.NoAccountNumber = codes "noAccountNumber"
 
--- what is wrong: the table, the row's key and a word
-abbrev pub damage_text : Damage → List ℕ
-damage_text (damage.Outside t number) = table_word t ++ codes " " ++ signed_decimal number ++ codes " outside"
-damage_text (damage.Stray account t number) = table_word t ++ codes " " ++ signed_decimal number ++ codes " stray"
-damage_text (damage.Broken account found) = key_text found.row ++ codes " " ++ wrong_word found.wrong
+-- ---- what is wrong
+
+-- the table, and the row's key
+abbrev pub damage_row : Damage → List ℕ
+damage_row (damage.Outside t number) = table_word t ++ codes " " ++ signed_decimal number
+damage_row (damage.Stray account t number) = table_word t ++ codes " " ++ signed_decimal number
+damage_row (damage.Broken account found) = key_text found.row
+
+abbrev pub damage_word : Damage → List ℕ
+damage_word (damage.Outside t number) = codes "outside"
+damage_word (damage.Stray account t number) = codes "stray"
+damage_word (damage.Broken account found) = wrong_word found.wrong
+
+abbrev pub damage_words : Damage → List ℕ
+damage_words it = damage_row it ++ codes " " ++ damage_word it
+
+abbrev pub damage_data : Damage → Data
+damage_data it =
+    object (member (codes "row") (string (damage_row it))
+    (member (codes "whole") (boolean false)
+    (member (codes "wrong") (string (damage_word it)) no_members)))
+
+abbrev pub damage_text : Form → Damage → List ℕ
+damage_text Words it = damage_words it
+damage_text Json it = compact_text (damage_data it)

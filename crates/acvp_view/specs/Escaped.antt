@@ -11,16 +11,20 @@ use Rattle.acvp_view.specs.Lines.{TakesAll}
 abbrev pub is_control : ℕ → Bool
 is_control c = is_in_range 0x7F 0x9F c || is_in_range 0x2028 0x2029 c
 
--- it marks a direction of writing
+-- it marks a direction of writing, or joins or parts letters unseen
 abbrev pub is_mark : ℕ → Bool
-is_mark c = c == 0x61C || is_in_range 0x200E 0x200F c
+is_mark c = c == 0x61C || is_in_range 0x200B 0x200F c
 
--- it embeds, overrides or isolates one
+-- it embeds, overrides or isolates a direction, or is an unseen operator
 abbrev pub is_embedding : ℕ → Bool
-is_embedding c = is_in_range 0x202A 0x202E c || is_in_range 0x2066 0x2069 c
+is_embedding c = is_in_range 0x202A 0x202E c || is_in_range 0x2060 0x206F c
+
+-- it isn't seen: a soft hyphen, a mark of the order of bytes, or an annotation
+abbrev pub is_unseen : ℕ → Bool
+is_unseen c = c == 0xAD || c == 0xFEFF || is_in_range 0xFFF9 0xFFFB c
 
 abbrev pub is_escaped : ℕ → Bool
-is_escaped c = is_control c || is_mark c || is_embedding c
+is_escaped c = is_control c || is_mark c || is_embedding c || is_unseen c
 
 -- as in JSON: "\u" and the four digits of its code
 abbrev pub escape_of : ℕ → List ℕ

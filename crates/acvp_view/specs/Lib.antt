@@ -1,8 +1,10 @@
+pub mod Page
 pub mod Certificate
 pub mod Certified
 pub mod Escaped
 pub mod Faults
 pub mod Lines
+pub mod Items
 pub mod Listed
 pub mod Damaged
 pub mod Checked

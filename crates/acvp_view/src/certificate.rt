@@ -1,12 +1,17 @@
-//! The document of an approved certification. It holds what no later event changes, so it is the same bytes whenever it
-//! is made.
-ghost use Rattle.std.specs.Prelude.{◌≡◌, ◌++◌, ◌<◌, IfOk, codes, decimal, map, string_bytes};
+//! The document of an approved certification, and the page that says the same. They hold what no later event changes,
+//! so each is the same bytes whenever it is made.
+ghost use Rattle.std.specs.Prelude.{◌≡◌, ◌++◌, ◌<◌, IfOk, codes, decimal, map, string_bytes, true};
 ghost use Rattle.hex.specs.Hex.{encode_lower};
 ghost use Rattle.acvp_json.specs.SetResults.{disposition_word};
-ghost use Rattle.acvp_view.specs.Certificate.{certificate_text, certified_text, named_text, session_text};
-ghost use Rattle.acvp_view.specs.Certificate.{set_front_text, set_rest_text, set_text, sets_text};
+ghost use Rattle.acvp_view.specs.Certificate.{between_sets, certificate_text, certified_text, document, named_text};
+ghost use Rattle.acvp_view.specs.Certificate.{page_text, session_text, set_front_text, set_part, set_rest_text};
+ghost use Rattle.acvp_view.specs.Certificate.{set_text, sets_text};
+ghost use Rattle.acvp_view.specs.Escaped.{escaped};
+ghost use Rattle.acvp_view.specs.Page.{asked_rows, named_rows, page_end, page_head, page_middle};
 
+use crate::escape::escaped;
 use crate::listed::joined;
+use crate::page::{first_rows, page_end, page_head, page_middle, set_row, three};
 use acvp_answers::Disposition;
 use acvp_json::time_text;
 use acvp_mac::Digest;
@@ -46,7 +51,7 @@ pub struct Certificate {
 }
 
 /// The word for what a vector set comes to.
-fn disposition_word(disposition: Disposition) -> &'static str
+pub(crate) fn disposition_word(disposition: Disposition) -> &'static str
     ensures { result.now ≡ disposition_word disposition }
 {
     match disposition {
@@ -75,7 +80,7 @@ fn set_rest(alloc: Global, word: &str, number: u64) -> Result<String, AllocError
 }
 
 /// The digits of a digest.
-fn digits_of(alloc: Global, digest: &Digest) -> Result<String, AllocError>
+pub(crate) fn digits_of(alloc: Global, digest: &Digest) -> Result<String, AllocError>
     ensures { IfOk result (λ text. string_bytes text ≡ encode_lower digest.now) }
 {
     hex::encode(alloc, digest.as_slice())
@@ -107,23 +112,41 @@ fn set_text(alloc: Global, set: &CertifiedSet) -> Result<String, AllocError>
     joined(alloc, &front, &rest)
 }
 
-/// The objects of vector sets.
-fn set_texts(alloc: Global, sets: &[CertifiedSet]) -> Result<Vec<String>, AllocError>
-    ensures { IfOk result (λ texts. map string_bytes texts.items ≡ map set_text sets.now) }
+/// A vector set in the document, or on the page.
+fn set_part(alloc: Global, set: &CertifiedSet, page: bool) -> Result<String, AllocError>
+    ensures { IfOk result (λ text. string_bytes text ≡ set_part page set.now) }
+{
+    if page {
+        set_row(alloc, set)
+    } else {
+        set_text(alloc, set)
+    }
+}
+
+/// What stands between two vector sets.
+fn between_sets(page: bool) -> &'static str
+    ensures { result.now ≡ between_sets page }
+{
+    if page { "\n" } else { "," }
+}
+
+/// Each of these vector sets.
+fn set_texts(alloc: Global, sets: &[CertifiedSet], page: bool) -> Result<Vec<String>, AllocError>
+    ensures { IfOk result (λ texts. map string_bytes texts.items ≡ map (set_part page) sets.now) }
 {
     let mut texts = Vec::new(alloc);
     for set in sets {
-        texts.push(set_text(alloc, set)?)?;
+        texts.push(set_part(alloc, set, page)?)?;
     }
     Ok(texts)
 }
 
-/// The items of the array of vector sets.
-fn sets_text(alloc: Global, sets: &[CertifiedSet]) -> Result<String, AllocError>
-    ensures { IfOk result (λ text. string_bytes text ≡ sets_text sets.now) }
+/// All of them: the items of the array, or the rows of the table.
+fn sets_text(alloc: Global, sets: &[CertifiedSet], page: bool) -> Result<String, AllocError>
+    ensures { IfOk result (λ text. string_bytes text ≡ sets_text page sets.now) }
 {
-    let texts = set_texts(alloc, sets)?;
-    let text = texts.join(alloc, ",")?;
+    let texts = set_texts(alloc, sets, page)?;
+    let text = texts.join(alloc, between_sets(page))?;
     Ok(text)
 }
 
@@ -186,7 +209,7 @@ fn session_text(alloc: Global, it: &Certificate) -> Result<String, AllocError>
 fn certified_text(alloc: Global, it: &Certificate) -> Result<String, AllocError>
     ensures { IfOk result (λ text. string_bytes text ≡ certified_text it.now) }
 {
-    let sets = sets_text(alloc, &it.sets)?;
+    let sets = sets_text(alloc, &it.sets, false)?;
     certified_members(alloc, &sets, &it.vendor)
 }
 
@@ -200,4 +223,54 @@ pub fn certificate_text(alloc: Global, it: &Certificate) -> Result<String, Alloc
     let certified = certified_text(alloc, it)?;
     let rest = joined(alloc, &session, &certified)?;
     joined(alloc, &named, &rest)
+}
+
+/// The page up to the rows of the first table.
+fn page_front(alloc: Global, it: &Certificate) -> Result<String, AllocError>
+    requires { it.now.created < 253402300800 }
+    ensures { IfOk result (λ text. string_bytes text
+        ≡ page_head ++ asked_rows it.now ++ named_rows it.now) }
+{
+    let rows = first_rows(alloc, it)?;
+    joined(alloc, page_head(), &rows)
+}
+
+/// The rest of the page.
+fn page_rest(alloc: Global, it: &Certificate) -> Result<String, AllocError>
+    ensures { IfOk result (λ text. string_bytes text
+        ≡ page_middle ++ sets_text true it.now.sets.items ++ page_end) }
+{
+    let rows = sets_text(alloc, &it.sets, true)?;
+    three(alloc, page_middle(), &rows, page_end())
+}
+
+/// The page.
+fn page_text(alloc: Global, it: &Certificate) -> Result<String, AllocError>
+    requires { it.now.created < 253402300800 }
+    ensures { IfOk result (λ text. string_bytes text ≡ page_text it.now) }
+{
+    let front = page_front(alloc, it)?;
+    let rest = page_rest(alloc, it)?;
+    joined(alloc, &front, &rest)
+}
+
+/// The document's text, escaped, which leaves it the same JSON value.
+fn escaped_text(alloc: Global, it: &Certificate) -> Result<String, AllocError>
+    requires { it.now.created < 253402300800 }
+    ensures { IfOk result (λ text. string_bytes text ≡ escaped (certificate_text it.now)) }
+{
+    let text = certificate_text(alloc, it)?;
+    escaped(alloc, &text)
+}
+
+/// The document, or the page.
+pub(crate) fn document(alloc: Global, it: &Certificate, page: bool) -> Result<String, AllocError>
+    requires { it.now.created < 253402300800 }
+    ensures { IfOk result (λ text. string_bytes text ≡ document page it.now) }
+{
+    if page {
+        page_text(alloc, it)
+    } else {
+        escaped_text(alloc, it)
+    }
 }

@@ -8,17 +8,15 @@ ghost use Rattle.acvp_store.specs.Store.{meaning_of, stands};
 ghost use Rattle.acvp_tables.specs.Calls.{Finds};
 ghost use Rattle.acvp_tables.specs.Content.{Content, is_live_in, live_sets, object_at, session_at};
 ghost use Rattle.acvp_tables.specs.State.{AreWellNumbered};
-ghost use Rattle.acvp_view.specs.Certificate.{answers_digest, approved_by, approved_in, certificate_text};
-ghost use Rattle.acvp_view.specs.Certificate.{disposition_under};
+ghost use Rattle.acvp_view.specs.Certificate.{answers_digest, approved_by, approved_in, disposition_under, document};
 ghost use Rattle.acvp_view.specs.Certified.{AreSetsOf, IsCertificate, IsCertifiedSet, read_text};
-ghost use Rattle.acvp_view.specs.Escaped.{escaped};
 ghost use Rattle.acvp_view.specs.declared.certificate.Certificate.{Certificate as CertificateValue};
 ghost use Rattle.acvp_view.specs.declared.certificate.CertifiedSet.{CertifiedSet as CertifiedSetValue};
 
-use crate::certificate::{Certificate, CertifiedSet, certificate_text};
-use crate::escape::show_text;
+use crate::certificate::{Certificate, CertifiedSet, document};
 use crate::fault::ViewFault;
 use crate::lines::Lines;
+use crate::listed::END_OF_YEARS;
 use acvp_answers::{Answers, Disposition, disposition, grade, standard};
 use acvp_desk::Seeds;
 use acvp_gen::prompts;
@@ -32,9 +30,6 @@ use acvp_tables::{
 };
 use sqlite::Alter;
 use std::alloc::{AllocError, Global};
-
-/// The first moment whose year has five digits.
-const END_OF_YEARS: u64 = 253402300800;
 
 /// The digest of answers.
 #[tactic(auto, unfolding(crate::specs::Certificate::answers_digest))]
@@ -256,20 +251,21 @@ fn certificate<S: Alter + Drop>(
     })
 }
 
-/// Hands on the document of the approved certification of a request's number, escaped, which leaves it the same JSON
-/// value. Where it can't be made, nothing is handed on.
+/// Hands on the document of the approved certification of a request's number, or the page. If it can't be made, nothing
+/// is handed on.
 pub fn show_certificate<S: Alter + Drop, L: Lines>(
     alloc: Global,
     tables: &mut SqlTables<S>,
     lines: &mut L,
     seeds: &Seeds,
     number: u64,
+    page: bool,
 ) -> Result<(), ViewFault>
     ensures { IsTrue (state S.Store tables.new).is_open → OnOk result ((c : Content)
         → AreWellNumbered c → stands S.Store tables.old c → (it : CertificateValue)
-        × IsCertificate seeds.now number c it × L.takes lines.old (escaped (certificate_text it)) lines.new) }
+        × IsCertificate seeds.now number c it × L.takes lines.old (document page it) lines.new) }
 {
     let it = certificate(alloc, tables, seeds, number)?;
-    let text = certificate_text(alloc, &it)?;
-    show_text(alloc, lines, text.as_str())
+    let text = document(alloc, &it, page)?;
+    lines.take(text.as_str())
 }

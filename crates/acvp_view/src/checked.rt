@@ -9,6 +9,7 @@ ghost use Rattle.acvp_view.specs.Checked.{IsWholeLine, IsWrongLine};
 
 use crate::damaged::{damage_text, whole_text};
 use crate::fault::ViewFault;
+use crate::form::Form;
 use crate::lines::Lines;
 use acvp_audit::{AuditFault, Watch, check};
 use acvp_gen::Seeds;
@@ -20,6 +21,7 @@ use std::alloc::Global;
 fn check_text<S: Alter, W: Watch>(
     alloc: Global,
     tables: &mut SqlTables<S>,
+    form: Form,
     seeds: &Seeds,
     grades: bool,
     watch: &W,
@@ -27,15 +29,16 @@ fn check_text<S: Alter, W: Watch>(
     ensures whole { IsTrue (state S.Store tables.new).is_open
         → IfOk result (λ told. told.1 ≡ true → (ours : IsOurs (state S.Store tables.old).now)
         → AreInTrees ours.layout (state S.Store tables.old).now.trees
-        → IsWholeLine grades seeds.now ours.layout (state S.Store tables.old).now.trees (string_bytes told.0)) }
+        → IsWholeLine form grades seeds.now ours.layout (state S.Store tables.old).now.trees (string_bytes told.0)) }
     ensures wrong { IsTrue (state S.Store tables.new).is_open
         → IfOk result (λ told. told.1 ≡ false → InStore (state S.Store tables.old).now
-        (λ layout. IsWrongLine grades seeds.now layout (state S.Store tables.old).now.trees (string_bytes told.0))) }
+        (λ layout. IsWrongLine form grades seeds.now layout (state S.Store tables.old).now.trees
+        (string_bytes told.0))) }
     ensures read { IsReading result (state S.Store tables.old) (state S.Store tables.new) }
 {
     match check(alloc, tables, seeds, grades, watch) {
-        Ok(totals) => Ok((whole_text(alloc, totals)?, true)),
-        Err(AuditFault::Wrong(damage)) => Ok((damage_text(alloc, damage)?, false)),
+        Ok(totals) => Ok((whole_text(alloc, form, totals)?, true)),
+        Err(AuditFault::Wrong(damage)) => Ok((damage_text(alloc, form, damage)?, false)),
         Err(AuditFault::Store(fault)) => Err(ViewFault::from(fault)),
     }
 }
@@ -45,6 +48,7 @@ pub fn show_check<S: Alter, L: Lines, W: Watch>(
     alloc: Global,
     tables: &mut SqlTables<S>,
     lines: &mut L,
+    form: Form,
     seeds: &Seeds,
     grades: bool,
     watch: &W,
@@ -52,15 +56,15 @@ pub fn show_check<S: Alter, L: Lines, W: Watch>(
     ensures whole { IsTrue (state S.Store tables.new).is_open
         → IfOk result (λ whole. whole ≡ true → (ours : IsOurs (state S.Store tables.old).now)
         → AreInTrees ours.layout (state S.Store tables.old).now.trees
-        → (line : List ℕ) × IsWholeLine grades seeds.now ours.layout (state S.Store tables.old).now.trees line
+        → (line : List ℕ) × IsWholeLine form grades seeds.now ours.layout (state S.Store tables.old).now.trees line
         × L.takes lines.old line lines.new) }
     ensures wrong { IsTrue (state S.Store tables.new).is_open
         → IfOk result (λ whole. whole ≡ false → InStore (state S.Store tables.old).now
-        (λ layout. (line : List ℕ) × IsWrongLine grades seeds.now layout (state S.Store tables.old).now.trees line
+        (λ layout. (line : List ℕ) × IsWrongLine form grades seeds.now layout (state S.Store tables.old).now.trees line
         × L.takes lines.old line lines.new)) }
     ensures read { IsReading result (state S.Store tables.old) (state S.Store tables.new) }
 {
-    let (line, whole) = check_text(alloc, tables, seeds, grades, watch)?;
+    let (line, whole) = check_text(alloc, tables, form, seeds, grades, watch)?;
     lines.take(line.as_str())?;
     Ok(whole)
 }

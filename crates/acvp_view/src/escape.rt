@@ -2,7 +2,7 @@
 //! order it shows others, so they are escaped as JSON does it.
 ghost use Rattle.std.specs.Prelude.{◌≡◌, ◌<◌, ◌^◌, ◌++◌, ◌∷◌, [], ◌||◌, IfOk, IsTrue, OnOk, string_bytes};
 ghost use Rattle.acvp_view.specs.Escaped.{HandsOnEscaped, escape_of, escaped, is_control, is_embedding, is_escaped};
-ghost use Rattle.acvp_view.specs.Escaped.{is_mark, shown_char};
+ghost use Rattle.acvp_view.specs.Escaped.{is_mark, is_unseen, shown_char};
 ghost use Rattle.acvp_view.specs.Lines.{HandsOn};
 
 use crate::fault::ViewFault;
@@ -18,20 +18,28 @@ fn is_control(c: char) -> bool
     matches!(c, '\u{7f}'..='\u{9f}' | '\u{2028}'..='\u{2029}')
 }
 
-/// Whether a character marks a direction of writing.
+/// Whether a character marks a direction of writing, or joins or parts letters unseen.
 fn is_mark(c: char) -> bool
     ensures same { result ≡ is_mark c }
     ensures short { IsTrue result → c < 2 ^ 16 }
 {
-    c == '\u{61c}' || matches!(c, '\u{200e}'..='\u{200f}')
+    c == '\u{61c}' || matches!(c, '\u{200b}'..='\u{200f}')
 }
 
-/// Whether a character embeds, overrides or isolates a direction of writing.
+/// Whether a character embeds, overrides or isolates a direction of writing, or is an unseen operator.
 fn is_embedding(c: char) -> bool
     ensures same { result ≡ is_embedding c }
     ensures short { IsTrue result → c < 2 ^ 16 }
 {
-    matches!(c, '\u{202a}'..='\u{202e}' | '\u{2066}'..='\u{2069}')
+    matches!(c, '\u{202a}'..='\u{202e}' | '\u{2060}'..='\u{206f}')
+}
+
+/// Whether a character isn't seen: a soft hyphen, a mark of the order of bytes, or an annotation.
+fn is_unseen(c: char) -> bool
+    ensures same { result ≡ is_unseen c }
+    ensures short { IsTrue result → c < 2 ^ 16 }
+{
+    c == '\u{ad}' || c == '\u{feff}' || matches!(c, '\u{fff9}'..='\u{fffb}')
 }
 
 /// Whether a character is escaped.
@@ -39,7 +47,7 @@ fn is_escaped(c: char) -> bool
     ensures same { result ≡ is_escaped c }
     ensures short { IsTrue result → c < 2 ^ 16 }
 {
-    is_control(c) || is_mark(c) || is_embedding(c)
+    is_control(c) || is_mark(c) || is_embedding(c) || is_unseen(c)
 }
 
 /// The escape of a character.
@@ -66,7 +74,7 @@ fn push_shown(alloc: Global, shown: &mut String, c: char) -> Result<(), AllocErr
 
 /// A text, as it is shown. A JSON text stays the same value: these characters stand only within its strings.
 #[tactic(auto, unfolding(crate::specs::Escaped::escaped))]
-fn escaped(alloc: Global, text: &str) -> Result<String, AllocError>
+pub(crate) fn escaped(alloc: Global, text: &str) -> Result<String, AllocError>
     ensures { IfOk result (λ shown. string_bytes shown ≡ escaped text.now) }
 {
     let mut shown = String::new(alloc);

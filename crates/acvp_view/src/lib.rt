@@ -8,17 +8,27 @@ mod checked;
 mod damaged;
 mod escape;
 mod fault;
+mod form;
+mod items;
 mod lines;
 mod listed;
 mod lists;
+mod page;
 mod shown;
+mod whole;
 
 pub use certificate::{Certificate, CertifiedSet, certificate_text};
 pub use certified::{approved_certification, show_certificate};
 pub use checked::show_check;
 pub use damaged::{damage_text, whole_text};
 pub use fault::ViewFault;
-pub use lines::{Lines, Printed};
+pub use form::Form;
+pub use items::Items;
+pub use lines::{Lines, MarkedLines, Printed};
 pub use listed::{account_line, request_line};
-pub use lists::{show_account, show_accounts, show_requests, show_session};
+pub use lists::{
+    show_account, show_account_array, show_accounts, show_request_array, show_requests,
+    show_session,
+};
 pub use shown::{show_certified, show_request};
+pub use whole::WholeRequests;

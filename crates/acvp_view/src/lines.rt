@@ -16,6 +16,15 @@ pub trait Lines {
         ensures { takes self.old line.now self.new };
 }
 
+/// Where lines go that begin with a mark.
+pub trait MarkedLines: Lines {
+    ghost use Rattle.std.specs.Prelude.{◌++◌};
+
+    /// Takes a line that is a mark and a text behind it. After a fault it is as after one of `take`.
+    fn take_marked(&mut self, mark: &str, text: &str) -> Result<(), ViewFault>
+        ensures { Self.takes self.old (mark.now ++ text.now) self.new };
+}
+
 /// The standard output.
 #[derive(Drop)]
 pub struct Printed<'a, R>(pub &'a R);
@@ -29,6 +38,16 @@ impl<'a, R: Print> Lines for Printed<'a, R> {
     fn take(&mut self, line: &str) -> Result<(), ViewFault> {
         let Printed(rt) = self;
         match println!(rt; "{line}") {
+            Ok(()) => Ok(()),
+            Err(_) => Err(ViewFault::Write),
+        }
+    }
+}
+
+impl<'a, R: Print> MarkedLines for Printed<'a, R> {
+    fn take_marked(&mut self, mark: &str, text: &str) -> Result<(), ViewFault> {
+        let Printed(rt) = self;
+        match println!(rt; "{mark}{text}") {
             Ok(()) => Ok(()),
             Err(_) => Err(ViewFault::Write),
         }

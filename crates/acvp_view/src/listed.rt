@@ -1,17 +1,40 @@
-//! What the operator is shown of accounts and of requests, a line each.
+//! What the operator is shown of accounts and of requests, each as a line of words or as a JSON object.
 ghost use Rattle.std.specs.Prelude.{◌≡◌, ◌++◌, IfOk, codes, decimal, option_map, string_bytes};
+ghost use Rattle.serde_json.specs.Data.{string};
+ghost use Rattle.serde_json.specs.View.{view};
+ghost use Rattle.serde_json.specs.Written.{compact_text};
+ghost use Rattle.acvp_json.specs.Nullable.{text_or_null};
 ghost use Rattle.acvp_tables.specs.Calls.{Finds};
 ghost use Rattle.acvp_desk.specs.Serves.{Looks};
-ghost use Rattle.acvp_view.specs.Listed.{account_line, account_text, counts_text, enabled_word, kind_word};
-ghost use Rattle.acvp_view.specs.Listed.{purpose_text, request_line, request_text, session_line, session_text};
-ghost use Rattle.acvp_view.specs.Listed.{status_text};
+ghost use Rattle.acvp_registry.specs.Object.{object_name};
+ghost use Rattle.acvp_registry.specs.declared.kind.Kind.TheVariants.{Module};
+ghost use Rattle.acvp_tables.specs.Content.{object_at};
+ghost use Rattle.acvp_view.specs.Escaped.{escaped};
+ghost use Rattle.acvp_view.specs.Listed.{account_data, account_line, account_text, account_words, approved_number};
+ghost use Rattle.acvp_view.specs.Listed.{approved_words, certification_data, certified_data, counts_text};
+ghost use Rattle.acvp_view.specs.Listed.{decided_words, disabled_words, enabled_word, is_enabled, kind_asked};
+ghost use Rattle.acvp_view.specs.Listed.{kind_word, moment_text, name_asked, name_words, request_data, request_head};
+ghost use Rattle.acvp_view.specs.Listed.{request_line, request_parts, request_text, request_words, rest_words};
+ghost use Rattle.acvp_view.specs.Listed.{session_asked, session_line, session_text, session_words, shown_name};
+ghost use Rattle.acvp_view.specs.Listed.{status_word};
 
+use crate::escape::escaped;
+use crate::form::Form;
+use crate::whole::WholeRequests;
+use acvp_json::{number_or_null, time_text};
 use acvp_registry::{Counts, Kind};
 use acvp_tables::{
-    AccountRow, Certification, RequestPurpose, RequestStatus, RequestSummary, SessionRow,
-    StoreFault, Tables,
+    AccountRow, Certification, RequestBody, RequestRow, RequestStatus, SessionRow, StoreFault,
+    Tables,
 };
+use serde_json::{Value, json};
 use std::alloc::{AllocError, Global};
+
+/// How many bytes a name has at most that stands in a line of words.
+const LONGEST_NAME: usize = 100;
+
+/// The first moment whose year has five digits.
+pub(crate) const END_OF_YEARS: u64 = 253402300800;
 
 /// Two texts as one.
 pub(crate) fn joined(alloc: Global, first: &str, second: &str) -> Result<String, AllocError>
@@ -50,30 +73,75 @@ fn account_head(alloc: Global, number: u16, word: &str) -> Result<String, AllocE
 }
 
 /// The line of an account.
-fn account_text(alloc: Global, row: &AccountRow, counts: Counts) -> Result<String, AllocError>
-    ensures { IfOk result (λ text. string_bytes text ≡ account_text row.now counts) }
+fn account_words(alloc: Global, row: &AccountRow, counts: Counts) -> Result<String, AllocError>
+    ensures { IfOk result (λ text. string_bytes text ≡ account_words row.now counts) }
 {
     let head = account_head(alloc, row.number, enabled_word(row.enabled))?;
     let rest = counts_text(alloc, counts)?;
     joined(alloc, &head, &rest)
 }
 
-/// The line of the account of a number, where there is one: whether it is enabled, and how many rows it has of each
-/// kind.
+/// An account as a JSON value.
+fn account_value(alloc: Global, row: &AccountRow, counts: Counts) -> Result<Value, AllocError>
+    ensures { IfOk result (λ value. view value ≡ account_data row.now counts) }
+{
+    let Counts {
+        sessions,
+        vendors,
+        modules,
+        environments,
+        requests,
+    } = counts;
+    json!(in alloc; {
+        "account": row.number,
+        "enabled": row.enabled,
+        "environments": environments,
+        "modules": modules,
+        "requests": requests,
+        "sessions": sessions,
+        "vendors": vendors
+    })
+}
+
+/// An account as a JSON object.
+fn account_object(alloc: Global, row: &AccountRow, counts: Counts) -> Result<String, AllocError>
+    ensures { IfOk result (λ text. string_bytes text ≡ compact_text (account_data row.now counts)) }
+{
+    account_value(alloc, row, counts)?.to_string(alloc)
+}
+
+/// What is shown of an account.
+fn account_text(
+    alloc: Global,
+    form: Form,
+    row: &AccountRow,
+    counts: Counts,
+) -> Result<String, AllocError>
+    ensures { IfOk result (λ text. string_bytes text ≡ account_text form row.now counts) }
+{
+    match form {
+        Form::Words => account_words(alloc, row, counts),
+        Form::Json => account_object(alloc, row, counts),
+    }
+}
+
+/// What is shown of the account of a number, where there is one: whether it is enabled, and how many rows it has of
+/// each kind.
 #[tactic(auto, unfolding(crate::specs::Listed::account_line))]
 pub fn account_line<T: Tables>(
     alloc: Global,
     tables: &mut T,
+    form: Form,
     number: u16,
 ) -> Result<Option<String>, StoreFault>
-    ensures found { Finds T.meaning (option_map string_bytes) result tables.old tables.new (account_line number) }
+    ensures found { Finds T.meaning (option_map string_bytes) result tables.old tables.new (account_line form number) }
     ensures looks { Looks T.meaning result tables.old tables.new }
 {
     let Some(row) = tables.account(number)? else {
         return Ok(None);
     };
     let counts = tables.counts(number)?;
-    Ok(Some(account_text(alloc, &row, counts)?))
+    Ok(Some(account_text(alloc, form, &row, counts)?))
 }
 
 /// The line of a test session.
@@ -116,85 +184,467 @@ pub(crate) fn kind_word(kind: Kind) -> &'static str
     }
 }
 
-/// What a certification names.
-fn certification_text(alloc: Global, it: Certification) -> Result<String, AllocError>
-    ensures { IfOk result (λ text. string_bytes text ≡ codes "certification session " ++ decimal it.session
-        ++ codes " module " ++ decimal it.«module» ++ codes " environment " ++ decimal it.environment) }
-{
-    let Certification {
-        module,
-        environment,
-        session,
-    } = it;
-    format!(in alloc; "certification session {session} module {module} environment {environment}")
-}
-
 /// What a request asks for.
-fn purpose_text(alloc: Global, purpose: RequestPurpose) -> Result<String, AllocError>
-    ensures { IfOk result (λ text. string_bytes text ≡ purpose_text purpose) }
+fn kind_asked(body: &RequestBody) -> Kind
+    ensures { result ≡ kind_asked body.now }
 {
-    match purpose {
-        RequestPurpose::Registration(kind) => String::from_str(alloc, kind_word(kind)),
-        RequestPurpose::Certification(it) => certification_text(alloc, it),
+    match body {
+        RequestBody::Registration(object) => object.kind(),
+        RequestBody::Certification(_) => Kind::Certification,
     }
 }
 
-/// What was decided on a request.
-fn status_text(alloc: Global, status: RequestStatus) -> Result<String, AllocError>
-    ensures { IfOk result (λ text. string_bytes text ≡ status_text status) }
+fn status_word(status: RequestStatus) -> &'static str
+    ensures { result.now ≡ status_word status }
 {
     match status {
-        RequestStatus::Initial => String::from_str(alloc, "initial"),
-        RequestStatus::Approved(number) => format!(in alloc; "approved {number}"),
-        RequestStatus::Rejected => String::from_str(alloc, "rejected"),
+        RequestStatus::Initial => "initial",
+        RequestStatus::Approved(_) => "approved",
+        RequestStatus::Rejected => "rejected",
     }
 }
 
-/// What stands before the purpose in the line of a request.
-fn request_head(alloc: Global, it: &RequestSummary) -> Result<String, AllocError>
-    ensures { IfOk result (λ text. string_bytes text
-        ≡ decimal it.now.number ++ codes " account " ++ decimal it.now.account ++ codes " ") }
+/// The number that an approval gave.
+fn approved_number(status: RequestStatus) -> Option<u64>
+    ensures { result ≡ approved_number status }
 {
-    let number = it.number;
-    let account = it.account;
-    format!(in alloc; "{number} account {account} ")
+    match status {
+        RequestStatus::Approved(number) => Some(number),
+        RequestStatus::Initial | RequestStatus::Rejected => None,
+    }
 }
 
-/// Two texts with a space between them.
-fn spaced(alloc: Global, first: &str, second: &str) -> Result<String, AllocError>
-    ensures { IfOk result (λ text. string_bytes text ≡ first.now ++ codes " " ++ second.now) }
+/// The digits of a number.
+fn decimal_text(alloc: Global, number: u64) -> Result<String, AllocError>
+    ensures { IfOk result (λ text. string_bytes text ≡ decimal number) }
 {
-    format!(in alloc; "{first} {second}")
+    format!(in alloc; "{number}")
 }
 
-/// The line of a request.
-fn request_text(alloc: Global, it: &RequestSummary) -> Result<String, AllocError>
-    ensures { IfOk result (λ text. string_bytes text ≡ request_text it.now) }
+/// The time of a moment before the year 10000, or else its number.
+pub(crate) fn moment_text(alloc: Global, moment: u64) -> Result<String, AllocError>
+    ensures { IfOk result (λ text. string_bytes text ≡ moment_text moment) }
 {
-    let head = request_head(alloc, it)?;
-    let purpose = purpose_text(alloc, it.purpose)?;
-    let status = status_text(alloc, it.status)?;
-    let rest = spaced(alloc, &purpose, &status)?;
-    joined(alloc, &head, &rest)
+    if moment < END_OF_YEARS {
+        time_text(alloc, moment)
+    } else {
+        decimal_text(alloc, moment)
+    }
 }
 
-/// The line of the request of a number, where there is one: what it asks for, and what was decided. One that was
-/// decided is shown only where `all` are.
-#[tactic(auto, unfolding(crate::specs::Listed::request_line))]
-pub fn request_line<T: Tables>(
+/// Whether the account of a number is there, and enabled.
+#[tactic(auto, unfolding(crate::specs::Listed::is_enabled))]
+fn is_enabled<T: Tables>(tables: &mut T, account: u16) -> Result<bool, StoreFault>
+    ensures found { Finds T.meaning (λ x. x) result tables.old tables.new (is_enabled account) }
+    ensures looks { Looks T.meaning result tables.old tables.new }
+{
+    match tables.account(account)? {
+        Some(row) => Ok(row.enabled),
+        None => Ok(false),
+    }
+}
+
+/// The name of a module, where there is one of the number.
+fn module_name<T: Tables>(
     alloc: Global,
     tables: &mut T,
     number: u64,
-    all: bool,
 ) -> Result<Option<String>, StoreFault>
-    ensures found { Finds T.meaning (option_map string_bytes) result tables.old tables.new (request_line all number) }
+    ensures found { Finds T.meaning (option_map string_bytes) result tables.old tables.new
+        (λ c. option_map (λ row. object_name row.object) (object_at Module number c.objects)) }
     ensures looks { Looks T.meaning result tables.old tables.new }
 {
-    let Some(request) = tables.request(number)? else {
+    match tables.object(Kind::Module, number)? {
+        Some(row) => Ok(Some(String::from_str(alloc, row.object.name())?)),
+        None => Ok(None),
+    }
+}
+
+/// The name of what is asked to be registered, or of the module that is to be certified.
+#[tactic(auto, unfolding(crate::specs::Listed::name_asked))]
+fn name_asked<T: Tables>(
+    alloc: Global,
+    tables: &mut T,
+    body: &RequestBody,
+) -> Result<Option<String>, StoreFault>
+    ensures found { Finds T.meaning (option_map string_bytes) result tables.old tables.new (name_asked body.now) }
+    ensures looks { Looks T.meaning result tables.old tables.new }
+{
+    match body {
+        RequestBody::Registration(object) => { Ok(Some(String::from_str(alloc, object.name())?)) }
+        RequestBody::Certification(it) => module_name(alloc, tables, it.module),
+    }
+}
+
+/// The test session that is to be certified.
+#[tactic(auto, unfolding(crate::specs::Listed::session_asked))]
+fn session_asked<T: Tables>(
+    tables: &mut T,
+    body: &RequestBody,
+) -> Result<Option<SessionRow>, StoreFault>
+    ensures found { Finds T.meaning (λ x. x) result tables.old tables.new (session_asked body.now) }
+    ensures looks { Looks T.meaning result tables.old tables.new }
+{
+    match body {
+        RequestBody::Registration(_) => Ok(None),
+        RequestBody::Certification(it) => tables.session(it.session),
+    }
+}
+
+// ---- its line of words
+
+fn disabled_words(enabled: bool) -> &'static str
+    ensures { result.now ≡ disabled_words enabled }
+{
+    if enabled { "" } else { " (disabled)" }
+}
+
+fn approved_words(alloc: Global, number: Option<u64>) -> Result<String, AllocError>
+    ensures { IfOk result (λ text. string_bytes text ≡ approved_words number) }
+{
+    match number {
+        Some(number) => format!(in alloc; " {number}"),
+        None => Ok(String::new(alloc)),
+    }
+}
+
+/// Whose a request is: its number and its account's.
+fn owner_words(alloc: Global, number: u64, account: u16, word: &str) -> Result<String, AllocError>
+    ensures { IfOk result (λ text. string_bytes text
+        ≡ decimal number ++ codes " account " ++ decimal account ++ word.now) }
+{
+    format!(in alloc; "{number} account {account}{word}")
+}
+
+/// What it asks for, and what was decided.
+fn asked_words(alloc: Global, kind: &str, status: &str) -> Result<String, AllocError>
+    ensures { IfOk result (λ text. string_bytes text ≡ codes " " ++ kind.now ++ codes " " ++ status.now) }
+{
+    format!(in alloc; " {kind} {status}")
+}
+
+fn request_head(alloc: Global, it: &RequestRow, enabled: bool) -> Result<String, AllocError>
+    ensures { IfOk result (λ text. string_bytes text ≡ request_head it.now enabled) }
+{
+    let owner = owner_words(alloc, it.number, it.account, disabled_words(enabled))?;
+    let asked = asked_words(
+        alloc,
+        kind_word(kind_asked(&it.body)),
+        status_word(it.status),
+    )?;
+    joined(alloc, &owner, &asked)
+}
+
+/// A test session, when it was made, and how many of its vector sets have passed.
+fn session_part(alloc: Global, row: &SessionRow, time: &str) -> Result<String, AllocError>
+    ensures { IfOk result (λ text. string_bytes text
+        ≡ codes " session " ++ decimal row.now.number ++ codes " of " ++ time.now ++ codes " "
+        ++ decimal row.now.passed ++ codes " of " ++ decimal row.now.live ++ codes " passed") }
+{
+    let SessionRow {
+        number,
+        live,
+        passed,
+        ..
+    } = *row;
+    format!(in alloc; " session {number} of {time} {passed} of {live} passed")
+}
+
+fn session_words(alloc: Global, session: Option<SessionRow>) -> Result<String, AllocError>
+    ensures { IfOk result (λ text. string_bytes text ≡ session_words session) }
+{
+    match session {
+        Some(row) => {
+            let time = moment_text(alloc, row.created)?;
+            session_part(alloc, &row, &time)
+        }
+        None => Ok(String::new(alloc)),
+    }
+}
+
+/// A text as a JSON string.
+fn json_string(alloc: Global, text: &str) -> Result<String, AllocError>
+    ensures { IfOk result (λ json. string_bytes json ≡ compact_text (string text.now)) }
+{
+    Value::try_from_str(alloc, text)?.to_string(alloc)
+}
+
+/// A text as a JSON string, without characters that act on a terminal.
+fn quoted(alloc: Global, text: &str) -> Result<String, AllocError>
+    ensures { IfOk result (λ shown. string_bytes shown ≡ escaped (compact_text (string text.now))) }
+{
+    let json = json_string(alloc, text)?;
+    escaped(alloc, &json)
+}
+
+/// What stands in place of a name of so many bytes.
+fn long_name(alloc: Global, bytes: usize) -> Result<String, AllocError>
+    ensures { IfOk result (λ text. string_bytes text
+        ≡ codes " (a name of " ++ decimal bytes ++ codes " bytes)") }
+{
+    format!(in alloc; " (a name of {bytes} bytes)")
+}
+
+/// A name as it is shown, behind a space.
+fn short_name(alloc: Global, name: &str) -> Result<String, AllocError>
+    ensures { IfOk result (λ text. string_bytes text ≡ codes " " ++ escaped (compact_text (string name.now))) }
+{
+    let shown = quoted(alloc, name)?;
+    joined(alloc, " ", &shown)
+}
+
+/// A name, if it isn't too long.
+#[tactic(auto, unfolding(crate::specs::Listed::shown_name))]
+fn shown_name(alloc: Global, name: &str) -> Result<String, AllocError>
+    ensures { IfOk result (λ text. string_bytes text ≡ shown_name name.now) }
+{
+    if name.len() <= LONGEST_NAME {
+        short_name(alloc, name)
+    } else {
+        long_name(alloc, name.len())
+    }
+}
+
+fn name_words(alloc: Global, name: &Option<String>) -> Result<String, AllocError>
+    ensures { IfOk result (λ text. string_bytes text ≡ name_words (option_map string_bytes name.now)) }
+{
+    match name {
+        Some(name) => shown_name(alloc, name),
+        None => Ok(String::new(alloc)),
+    }
+}
+
+/// What stands behind the head of the line.
+#[tactic(auto, unfolding(crate::specs::Listed::rest_words))]
+fn rest_words(
+    alloc: Global,
+    session: Option<SessionRow>,
+    name: &Option<String>,
+) -> Result<String, AllocError>
+    ensures { IfOk result (λ text. string_bytes text
+        ≡ rest_words session (option_map string_bytes name.now)) }
+{
+    let session = session_words(alloc, session)?;
+    let name = name_words(alloc, name)?;
+    joined(alloc, &session, &name)
+}
+
+/// The head of the line, and the number that an approval gave.
+#[tactic(auto, unfolding(crate::specs::Listed::decided_words))]
+fn decided_words(alloc: Global, it: &RequestRow, enabled: bool) -> Result<String, AllocError>
+    ensures { IfOk result (λ text. string_bytes text ≡ decided_words it.now enabled) }
+{
+    let head = request_head(alloc, it, enabled)?;
+    let approved = approved_words(alloc, approved_number(it.status))?;
+    joined(alloc, &head, &approved)
+}
+
+fn request_words(
+    alloc: Global,
+    it: &RequestRow,
+    enabled: bool,
+    session: Option<SessionRow>,
+    name: &Option<String>,
+) -> Result<String, AllocError>
+    ensures { IfOk result (λ text. string_bytes text
+        ≡ request_words it.now enabled session (option_map string_bytes name.now)) }
+{
+    let decided = decided_words(alloc, it, enabled)?;
+    let rest = rest_words(alloc, session, name)?;
+    joined(alloc, &decided, &rest)
+}
+
+// ---- its JSON object
+
+/// How many vector sets of a session have passed.
+fn passed_of(session: Option<SessionRow>) -> Option<u64>
+    ensures { result ≡ option_map (λ row. row.passed) session }
+{
+    match session {
+        Some(row) => Some(row.passed),
+        None => None,
+    }
+}
+
+/// How many vector sets of a session aren't cancelled.
+fn live_of(session: Option<SessionRow>) -> Option<u64>
+    ensures { result ≡ option_map (λ row. row.live) session }
+{
+    match session {
+        Some(row) => Some(row.live),
+        None => None,
+    }
+}
+
+/// A text, or null.
+fn text_value(alloc: Global, text: &Option<String>) -> Result<Value, AllocError>
+    ensures { IfOk result (λ value. view value ≡ text_or_null (option_map string_bytes text.now)) }
+{
+    match text {
+        Some(text) => Value::try_from_str(alloc, text),
+        None => Ok(Value::Null),
+    }
+}
+
+/// When a session was made, or null.
+fn created_value(alloc: Global, session: Option<SessionRow>) -> Result<Value, AllocError>
+    ensures { IfOk result (λ value.
+        view value ≡ text_or_null (option_map (λ row. moment_text row.created) session)) }
+{
+    match session {
+        Some(row) => {
+            let time = moment_text(alloc, row.created)?;
+            Value::try_from_str(alloc, &time)
+        }
+        None => Ok(Value::Null),
+    }
+}
+
+/// What is to be certified, with its test session.
+#[tactic(auto, unfolding(crate::specs::Listed::certification_data))]
+fn certification_value(
+    alloc: Global,
+    it: Certification,
+    session: Option<SessionRow>,
+) -> Result<Value, AllocError>
+    ensures { IfOk result (λ value. view value ≡ certification_data it session) }
+{
+    let created = created_value(alloc, session)?;
+    json!(in alloc; {
+        "createdOn": created,
+        "environment": it.environment,
+        "module": it.module,
+        "passed": number_or_null(passed_of(session)),
+        "session": it.session,
+        "vectorSets": number_or_null(live_of(session))
+    })
+}
+
+/// The same of a request, or null.
+#[tactic(auto, unfolding(crate::specs::Listed::certified_data))]
+fn certified_value(
+    alloc: Global,
+    body: &RequestBody,
+    session: Option<SessionRow>,
+) -> Result<Value, AllocError>
+    ensures { IfOk result (λ value. view value ≡ certified_data body.now session) }
+{
+    match body {
+        RequestBody::Registration(_) => Ok(Value::Null),
+        RequestBody::Certification(it) => certification_value(alloc, *it, session),
+    }
+}
+
+/// A request as a JSON value.
+#[tactic(auto, unfolding(crate::specs::Listed::request_data))]
+fn request_value(
+    alloc: Global,
+    it: &RequestRow,
+    enabled: bool,
+    session: Option<SessionRow>,
+    name: &Option<String>,
+) -> Result<Value, AllocError>
+    ensures { IfOk result (λ value.
+        view value ≡ request_data it.now enabled session (option_map string_bytes name.now)) }
+{
+    let certified = certified_value(alloc, &it.body, session)?;
+    let name = text_value(alloc, name)?;
+    let kind = kind_word(kind_asked(&it.body));
+    json!(in alloc; {
+        "account": it.account,
+        "approved": number_or_null(approved_number(it.status)),
+        "certification": certified,
+        "enabled": enabled,
+        "kind": kind,
+        "name": name,
+        "request": it.number,
+        "status": status_word(it.status)
+    })
+}
+
+/// A request as a JSON text.
+fn request_json(
+    alloc: Global,
+    it: &RequestRow,
+    enabled: bool,
+    session: Option<SessionRow>,
+    name: &Option<String>,
+) -> Result<String, AllocError>
+    ensures { IfOk result (λ text. string_bytes text
+        ≡ compact_text (request_data it.now enabled session (option_map string_bytes name.now))) }
+{
+    request_value(alloc, it, enabled, session, name)?.to_string(alloc)
+}
+
+/// A request as a JSON object without characters that act on a terminal.
+fn request_object(
+    alloc: Global,
+    it: &RequestRow,
+    enabled: bool,
+    session: Option<SessionRow>,
+    name: &Option<String>,
+) -> Result<String, AllocError>
+    ensures { IfOk result (λ text. string_bytes text
+        ≡ escaped (compact_text (request_data it.now enabled session (option_map string_bytes name.now)))) }
+{
+    let json = request_json(alloc, it, enabled, session, name)?;
+    escaped(alloc, &json)
+}
+
+// ---- what is shown of it
+
+fn request_parts(
+    alloc: Global,
+    form: Form,
+    it: &RequestRow,
+    enabled: bool,
+    session: Option<SessionRow>,
+    name: &Option<String>,
+) -> Result<String, AllocError>
+    ensures { IfOk result (λ text. string_bytes text
+        ≡ request_parts form it.now enabled session (option_map string_bytes name.now)) }
+{
+    match form {
+        Form::Words => request_words(alloc, it, enabled, session, name),
+        Form::Json => request_object(alloc, it, enabled, session, name),
+    }
+}
+
+/// What is shown of a request, with what the other records say of its account and of what it asks for.
+#[tactic(auto, unfolding(crate::specs::Listed::request_text))]
+fn request_text<T: Tables>(
+    alloc: Global,
+    tables: &mut T,
+    form: Form,
+    it: &RequestRow,
+) -> Result<String, StoreFault>
+    ensures found { Finds T.meaning string_bytes result tables.old tables.new (λ c. request_text form c it.now) }
+    ensures looks { Looks T.meaning result tables.old tables.new }
+{
+    let enabled = is_enabled(tables, it.account)?;
+    let session = session_asked(tables, &it.body)?;
+    let name = name_asked(alloc, tables, &it.body)?;
+    Ok(request_parts(alloc, form, it, enabled, session, &name)?)
+}
+
+/// What is shown of the request of a number, where there is one. One that was decided is shown only where `all` are.
+#[tactic(auto, unfolding(crate::specs::Listed::request_line))]
+pub fn request_line<T: WholeRequests>(
+    alloc: Global,
+    tables: &mut T,
+    form: Form,
+    number: u64,
+    all: bool,
+) -> Result<Option<String>, StoreFault>
+    ensures found { Finds T.meaning (option_map string_bytes) result tables.old tables.new
+        (request_line form all number) }
+    ensures looks { Looks T.meaning result tables.old tables.new }
+{
+    let Some(request) = tables.request_row(number)? else {
         return Ok(None);
     };
     if !all && !matches!(request.status, RequestStatus::Initial) {
         return Ok(None);
     }
-    Ok(Some(request_text(alloc, &request)?))
+    Ok(Some(request_text(alloc, tables, form, &request)?))
 }

@@ -1,34 +1,33 @@
-//! What a decision on a request needs: the request's line, and then what it asks for. Nothing is changed. Each text
-//! that a client wrote is escaped.
-ghost use Rattle.std.specs.Prelude.{◌≡◌, IfOk, IsTrue, OnOk, Some, option_map, true};
-ghost use Rattle.std.specs.List.{flat_map};
-ghost use Rattle.sqlite.specs.Held.{state};
+//! What a decision on a request needs: the request, and then what it asks for. Nothing is changed. Each text that a
+//! client wrote is escaped.
+ghost use Rattle.std.specs.Prelude.{◌≡◌, ◌++◌, IfOk, Some, codes, string_bytes};
 ghost use Rattle.acvp_desk.specs.Serves.{Looks};
+ghost use Rattle.acvp_registry.specs.Object.{object_text};
 ghost use Rattle.acvp_registry.specs.declared.kind.Kind.{Kind as KindValue};
-ghost use Rattle.acvp_store.specs.Store.{meaning_of, stands};
 ghost use Rattle.acvp_tables.specs.Calls.{Finds};
-ghost use Rattle.acvp_tables.specs.Content.{Content, request_at, request_summary};
+ghost use Rattle.acvp_tables.specs.Content.{Content, request_at};
 ghost use Rattle.acvp_tables.specs.State.{AreWellNumbered};
 ghost use Rattle.acvp_view.specs.Escaped.{HandsOnEscaped};
-ghost use Rattle.acvp_view.specs.Lines.{HandsOn, TakesAll, Tells, lines_of};
-ghost use Rattle.acvp_view.specs.Listed.{request_line};
-ghost use Rattle.acvp_view.specs.Shown.{AreRequestsOf, IsAsked, object_lines};
+ghost use Rattle.acvp_view.specs.Lines.{HandsOn};
+ghost use Rattle.acvp_view.specs.Shown.{IsAsked, registration_lines, registration_text};
 
 use crate::escape::show_text;
 use crate::fault::ViewFault;
+use crate::form::Form;
 use crate::lines::Lines;
 use crate::lists::show_numbered;
+use crate::whole::WholeRequests;
 use acvp_desk::{Desk, Keys};
 use acvp_http::{Routes, handle_bytes};
 use acvp_json::{ReplyObject, write_reply};
-use acvp_registry::{Kind, object_url};
-use acvp_store::{RangeFault, SqlTables};
+use acvp_registry::{Kind, Object, object_url};
+use acvp_store::SqlTables;
 use acvp_tables::{
     Certification, RequestBody, RequestPurpose, RequestRow, RequestSummary, SetSummary, Tables,
 };
 use acvp_token::{Claims, KeyRing, issue_ring};
 use sqlite::Alter;
-use std::alloc::Global;
+use std::alloc::{AllocError, Global};
 
 /// How many vector sets a session has at most.
 const MOST_SETS: u64 = 20;
@@ -52,6 +51,7 @@ fn body_of(reply: &[u8]) -> &str {
 struct Reader<'a> {
     alloc: Global,
     routes: &'a Routes,
+    form: Form,
     moment: u64,
     own: &'a str,
     bound: &'a str,
@@ -77,6 +77,14 @@ fn token_of(
     }
 }
 
+/// A path, and the body that a request to read it is answered.
+fn read_text(alloc: Global, form: Form, path: &str, body: &str) -> Result<String, AllocError> {
+    match form {
+        Form::Words => format!(in alloc; "{path} {body}"),
+        Form::Json => format!(in alloc; "{{\"body\":{body},\"path\":\"{path}\"}}"),
+    }
+}
+
 /// Hands on a path, and the body that a request to read it with a token is answered.
 fn show<T: Tables, L: Lines>(
     reader: &Reader<'_>,
@@ -92,8 +100,11 @@ fn show<T: Tables, L: Lines>(
         "GET {path} HTTP/1.1\r\nHost: localhost\r\nAuthorization: Bearer {token}\r\n\r\n"
     )?;
     let reply = handle_bytes(reader.routes, desk, reader.moment, request.as_bytes());
+    if reply.is_unavailable() {
+        return Err(ViewFault::Refused);
+    }
     let body = body_of(reply.bytes());
-    let line = format!(in alloc; "{path} {body}")?;
+    let line = read_text(alloc, reader.form, path, body)?;
     show_text(alloc, lines, line.as_str())
 }
 
@@ -127,23 +138,52 @@ fn show_registered<T: Tables, L: Lines>(
     }
 }
 
+/// Whether a vector set was cancelled, and its capability.
+fn capability_text(
+    alloc: Global,
+    form: Form,
+    set: &SetSummary,
+    capability: &str,
+) -> Result<String, AllocError> {
+    let number = set.number;
+    let state = if set.cancelled { "cancelled" } else { "kept" };
+    match form {
+        Form::Words => format!(in alloc; "vectorSet {number} {state} {capability}"),
+        Form::Json => format!(in alloc;
+            "{{\"capability\":{capability},\"state\":\"{state}\",\"vectorSet\":{number}}}"
+        ),
+    }
+}
+
 /// Hands on whether a vector set was cancelled, and its capability.
 fn show_capability<T: Tables, L: Lines>(
     alloc: Global,
     tables: &mut T,
     lines: &mut L,
+    form: Form,
     set: &SetSummary,
 ) -> Result<(), ViewFault>
     ensures { HandsOnEscaped L.takes lines.old lines.new }
 {
-    let number = set.number;
-    let state = if set.cancelled { "cancelled" } else { "kept" };
-    let Some(capability) = tables.capability(number)? else {
+    let Some(capability) = tables.capability(set.number)? else {
         return Ok(());
     };
     let text = capability.to_text(alloc)?;
-    let line = format!(in alloc; "vectorSet {number} {state} {text}")?;
+    let line = capability_text(alloc, form, set, text.as_str())?;
     show_text(alloc, lines, line.as_str())
+}
+
+/// What the last answers to a vector set came to.
+fn results_text(
+    alloc: Global,
+    form: Form,
+    number: u64,
+    results: &str,
+) -> Result<String, AllocError> {
+    match form {
+        Form::Words => format!(in alloc; "vectorSet {number} {results}"),
+        Form::Json => format!(in alloc; "{{\"results\":{results},\"vectorSet\":{number}}}"),
+    }
 }
 
 /// Hands on what the last answers to a vector set came to.
@@ -151,6 +191,7 @@ fn show_verdicts<T: Tables, L: Lines>(
     alloc: Global,
     tables: &mut T,
     lines: &mut L,
+    form: Form,
     set: &SetSummary,
 ) -> Result<(), ViewFault>
     ensures { HandsOnEscaped L.takes lines.old lines.new }
@@ -168,8 +209,8 @@ fn show_verdicts<T: Tables, L: Lines>(
         verdicts: &verdicts,
     };
     let body = write_reply(alloc, &results)?;
-    let text = std::str::from_utf8(&body).unwrap_or("");
-    let line = format!(in alloc; "vectorSet {number} {text}")?;
+    let text = std::str::from_utf8(&body).unwrap_or("null");
+    let line = results_text(alloc, form, number, text)?;
     show_text(alloc, lines, line.as_str())
 }
 
@@ -179,12 +220,13 @@ fn show_set<T: Tables, L: Lines>(
     alloc: Global,
     tables: &mut T,
     lines: &mut L,
+    form: Form,
     set: &SetSummary,
 ) -> Result<(), ViewFault>
     ensures { HandsOnEscaped L.takes lines.old lines.new }
 {
-    show_capability(alloc, tables, lines, set)?;
-    show_verdicts(alloc, tables, lines, set)
+    show_capability(alloc, tables, lines, form, set)?;
+    show_verdicts(alloc, tables, lines, form, set)
 }
 
 /// Hands on the vector set of a number, where there is one.
@@ -192,12 +234,13 @@ fn show_set_at<T: Tables, L: Lines>(
     alloc: Global,
     tables: &mut T,
     lines: &mut L,
+    form: Form,
     number: u64,
 ) -> Result<(), ViewFault>
     ensures { HandsOnEscaped L.takes lines.old lines.new }
 {
     match tables.set(number)? {
-        Some(set) => show_set(alloc, tables, lines, &set),
+        Some(set) => show_set(alloc, tables, lines, form, &set),
         None => Ok(()),
     }
 }
@@ -208,13 +251,14 @@ fn show_sets<T: Tables, L: Lines>(
     alloc: Global,
     tables: &mut T,
     lines: &mut L,
+    form: Form,
     session: u64,
 ) -> Result<(), ViewFault>
     ensures { HandsOnEscaped L.takes lines.old lines.new }
 {
     for place in 1..=MOST_SETS {
         let number = session.saturating_mul(100).saturating_add(place);
-        show_set_at(alloc, tables, lines, number)?;
+        show_set_at(alloc, tables, lines, form, number)?;
     }
     Ok(())
 }
@@ -319,6 +363,7 @@ fn show_read<T: Tables + Drop, L: Lines>(
     alloc: Global,
     tables: T,
     lines: &mut L,
+    form: Form,
     keys: Keys,
     moment: u64,
     account: u16,
@@ -335,6 +380,7 @@ fn show_read<T: Tables + Drop, L: Lines>(
     let reader = Reader {
         alloc,
         routes: &routes,
+        form,
         moment,
         own: own.as_str(),
         bound: bound.as_str(),
@@ -347,6 +393,7 @@ fn show_with_vendor<T: Tables + Drop, L: Lines>(
     alloc: Global,
     mut tables: T,
     lines: &mut L,
+    form: Form,
     keys: Keys,
     moment: u64,
     account: u16,
@@ -359,6 +406,7 @@ fn show_with_vendor<T: Tables + Drop, L: Lines>(
         alloc,
         tables,
         lines,
+        form,
         keys,
         moment,
         account,
@@ -373,6 +421,7 @@ fn show_certification<T: Tables + Drop, L: Lines>(
     alloc: Global,
     mut tables: T,
     lines: &mut L,
+    form: Form,
     keys: Keys,
     moment: u64,
     account: u16,
@@ -380,96 +429,83 @@ fn show_certification<T: Tables + Drop, L: Lines>(
 ) -> Result<(), ViewFault>
     ensures { HandsOnEscaped L.takes lines.old lines.new }
 {
-    show_sets(alloc, &mut tables, lines, certification.session)?;
-    show_with_vendor(alloc, tables, lines, keys, moment, account, certification)
+    show_sets(alloc, &mut tables, lines, form, certification.session)?;
+    show_with_vendor(
+        alloc,
+        tables,
+        lines,
+        form,
+        keys,
+        moment,
+        account,
+        certification,
+    )
 }
 
-/// The requests of an account.
-fn requests_of_account<S: Alter + Drop>(
-    tables: &mut SqlTables<S>,
-    account: u16,
-) -> Result<Vec<RequestRow>, ViewFault>
-    ensures rows { IsTrue (state S.Store tables.new).is_open → IfOk result (λ rows. (c : Content)
-        → stands S.Store tables.old c → AreRequestsOf S.Store c account rows.items) }
-    ensures looks { Looks (meaning_of S.Store) result tables.old tables.new }
+/// An object that has another as a member.
+fn object_member(alloc: Global, text: &str) -> Result<String, AllocError>
+    ensures { IfOk result (λ whole. string_bytes whole ≡ codes "{\"object\":" ++ text.now ++ codes "}") }
 {
-    match tables.requests_numbered(account) {
-        Ok(rows) => Ok(rows),
-        Err(RangeFault::Stray(_)) => Err(ViewFault::Refused),
-        Err(RangeFault::Store(fault)) => Err(ViewFault::from(fault)),
+    format!(in alloc; "{{\"object\":{text}}}")
+}
+
+/// The object that a request asks to register.
+fn registration_text(alloc: Global, form: Form, object: &Object) -> Result<String, AllocError>
+    ensures { IfOk result (λ text. string_bytes text ≡ registration_text form (object_text object.now)) }
+{
+    match form {
+        Form::Words => String::from_str(alloc, object.text()),
+        Form::Json => object_member(alloc, object.text()),
     }
 }
 
-/// Hands on the object that a row asks to register, where it is the request of this number and asks for that.
+/// Hands on the object that a request asks to register, where it asks for that.
 fn show_registration<L: Lines>(
     alloc: Global,
     lines: &mut L,
-    row: &RequestRow,
-    number: u64,
+    form: Form,
+    body: &RequestBody,
 ) -> Result<(), ViewFault>
-    ensures { HandsOn L.takes result (object_lines number row.now) lines.old lines.new }
+    ensures { HandsOn L.takes result (registration_lines form body.now) lines.old lines.new }
 {
-    if row.number == number {
-        match &row.body {
-            RequestBody::Registration(object) => show_text(alloc, lines, object.text()),
-            RequestBody::Certification(_) => Ok(()),
+    match body {
+        RequestBody::Registration(object) => {
+            let text = registration_text(alloc, form, object)?;
+            show_text(alloc, lines, text.as_str())
         }
-    } else {
-        Ok(())
+        RequestBody::Certification(_) => Ok(()),
     }
 }
 
-/// Hands on the object that the request of a number asks to register, which is among these rows.
-fn show_registrations<L: Lines>(
-    alloc: Global,
-    lines: &mut L,
-    rows: &[RequestRow],
-    number: u64,
-) -> Result<(), ViewFault>
-    ensures { OnOk result (TakesAll L.takes (flat_map (object_lines number) rows.now) lines.old lines.new) }
+/// The request of a number.
+fn request_there<T: WholeRequests>(tables: &mut T, number: u64) -> Result<RequestRow, ViewFault>
+    ensures found { Finds T.meaning (λ row. Some row) result tables.old tables.new
+        (λ c. request_at number c.requests) }
+    ensures looks { Looks T.meaning result tables.old tables.new }
 {
-    for row in rows {
-        show_registration(alloc, lines, row, number)?;
+    match tables.request_row(number)? {
+        Some(row) => Ok(row),
+        None => Err(ViewFault::Unknown),
     }
-    Ok(())
 }
 
-/// Hands on the line of a request, and gives the request.
-fn request_of<T: Tables, L: Lines>(
+/// Hands on the request of a number, and then the object that it asks to register, where it asks for that. Gives the
+/// request.
+pub fn show_request<T: WholeRequests, L: Lines>(
     alloc: Global,
     tables: &mut T,
     lines: &mut L,
+    form: Form,
     number: u64,
 ) -> Result<RequestSummary, ViewFault>
-    ensures found { Finds T.meaning (λ request. Some request) result tables.old tables.new
-        (λ c. option_map request_summary (request_at number c.requests)) }
-    ensures told { Tells L.takes T.meaning result tables.old tables.new lines.old lines.new
-        (λ c. lines_of (request_line true number c)) }
-    ensures looks { Looks T.meaning result tables.old tables.new }
+    ensures { T.meaning.is_open tables.new → IfOk result (λ request. (c : Content)
+        → AreWellNumbered c → T.meaning.stands tables.old c
+        → IsAsked L.takes form number c request lines.old lines.new) }
 {
-    let Some(request) = tables.request(number)? else {
-        return Err(ViewFault::Unknown);
-    };
-    show_numbered(alloc, tables, lines, number, true)?;
-    Ok(request)
-}
-
-/// Hands on the line of the request of a number, and then the object that it asks to register, where it asks for that.
-/// Gives the request.
-pub fn show_request<S: Alter + Drop, L: Lines>(
-    alloc: Global,
-    tables: &mut SqlTables<S>,
-    lines: &mut L,
-    number: u64,
-) -> Result<RequestSummary, ViewFault>
-    ensures { IsTrue (state S.Store tables.new).is_open → IfOk result (λ request. (c : Content)
-        → AreWellNumbered c → stands S.Store tables.old c
-        → IsAsked S.Store L.takes number c request lines.old lines.new) }
-{
-    let request = request_of(alloc, tables, lines, number)?;
-    let rows = requests_of_account(tables, request.account)?;
-    show_registrations(alloc, lines, &rows, request.number)?;
-    Ok(request)
+    let row = request_there(tables, number)?;
+    show_numbered(alloc, tables, lines, form, number, true)?;
+    show_registration(alloc, lines, form, &row.body)?;
+    Ok(RequestSummary::of(&row))
 }
 
 /// Hands on what a decision on a request needs beside its line, where it asks for a certification: each vector set of
@@ -479,6 +515,7 @@ pub fn show_certified<S: Alter + Drop, L: Lines>(
     alloc: Global,
     tables: SqlTables<S>,
     lines: &mut L,
+    form: Form,
     keys: Keys,
     moment: u64,
     request: RequestSummary,
@@ -493,6 +530,7 @@ pub fn show_certified<S: Alter + Drop, L: Lines>(
                 alloc,
                 tables,
                 lines,
+                form,
                 keys,
                 moment,
                 request.account,

@@ -8,7 +8,8 @@ use Rattle.acvp_view.proofs.lists.show_accounts.Goals as goal
 
 pub loop-number-preserved : goal.loop-number-preserved
 loop-number-preserved g c =
-    told_next g.L.Lines.takes g.T.Tables.meaning (λ content number. lines_of (account_line number content)) 1
+    told_next g.L.Lines.takes g.T.Tables.meaning
+    (λ content number. lines_of (account_line c.args.form number content)) 1
     (c.loop-number.number - 1) c.loop-number.number (c.loop-number.number + 1 - 1) c.in_ok-show_account.field-0
     c.args.tables.now c.loop-number.tables c.show_account.new.tables c.args.lines.now c.loop-number.lines
     c.show_account.new.lines
@@ -21,7 +22,7 @@ unfolding account_numbers
 returns-in_err-show_account-clause-told g c =
     let (fault, is, same) = err_from_is_err_and c.from_residual.result c.from_residual.ensures.1 in
     told_fault g.L.Lines.takes g.T.Tables.meaning c.from_residual.result
-    (λ content number. lines_of (account_line number content)) 1
+    (λ content number. lines_of (account_line c.args.form number content)) 1
     (c.loop-number.number - 1) c.loop-number.number 9999 c.in_err-show_account.field-0.0 fault
     c.args.tables.now c.loop-number.tables c.show_account.new.tables c.args.lines.now c.loop-number.lines
     c.show_account.new.lines
@@ -32,7 +33,8 @@ returns-in_err-show_account-clause-told g c =
 pub returns-clause-told : goal.returns-clause-told
 unfolding account_numbers
 returns-clause-told g c =
-    told_whole g.L.Lines.takes g.T.Tables.meaning (λ content number. lines_of (account_line number content)) 1
+    told_whole g.L.Lines.takes g.T.Tables.meaning
+    (λ content number. lines_of (account_line c.args.form number content)) 1
     (c.loop-number.number - 1) 9999 _ c.args.tables.now c.loop-number.tables
     c.args.lines.now c.loop-number.lines
     (omega (arith, c.loop-number.auto.number, c.loop-number.auto.number-end, c.loop-number-test.false))

@@ -6,5 +6,5 @@ use Rattle.acvp_view.proofs.lists.show_accounts.Given as goal
 
 abbrev pub invariant-loop-number : goal.invariant-loop-number
 invariant-loop-number g l =
-    IsToldTo g.L.Lines.takes g.T.Tables.meaning (λ c number. lines_of (account_line number c)) 1 (l.number - 1)
+    IsToldTo g.L.Lines.takes g.T.Tables.meaning (λ c number. lines_of (account_line l.form number c)) 1 (l.number - 1)
     l.fn.tables l.tables l.fn.lines l.lines

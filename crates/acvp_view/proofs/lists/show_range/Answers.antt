@@ -8,7 +8,7 @@ use Rattle.acvp_view.proofs.lists.show_range.Goals as goal
 pub loop-place-preserved : goal.loop-place-preserved
 loop-place-preserved g c =
     told_next g.L.Lines.takes g.T.Tables.meaning
-    (λ content number. lines_of (request_line c.args.all number content)) c.args.first c.loop-place.place
+    (λ content number. lines_of (request_line c.args.form c.args.all number content)) c.args.first c.loop-place.place
     (c.args.first + c.loop-place.place) (c.loop-place.place + 1) c.in_ok-show_numbered.field-0
     c.args.tables.now c.loop-place.tables c.show_numbered.new.tables c.args.lines.now c.loop-place.lines
     c.show_numbered.new.lines
@@ -18,7 +18,7 @@ pub returns-in_err-show_numbered-clause-told : goal.returns-in_err-show_numbered
 returns-in_err-show_numbered-clause-told g c =
     let (fault, is, same) = err_from_is_err_and c.from_residual.result c.from_residual.ensures.1 in
     told_fault g.L.Lines.takes g.T.Tables.meaning c.from_residual.result
-    (λ content number. lines_of (request_line c.args.all number content)) c.args.first c.loop-place.place
+    (λ content number. lines_of (request_line c.args.form c.args.all number content)) c.args.first c.loop-place.place
     (c.args.first + c.loop-place.place) c.args.count c.in_err-show_numbered.field-0.0 fault
     c.args.tables.now c.loop-place.tables c.show_numbered.new.tables c.args.lines.now c.loop-place.lines
     c.show_numbered.new.lines
@@ -28,7 +28,7 @@ returns-in_err-show_numbered-clause-told g c =
 pub returns-clause-told : goal.returns-clause-told
 returns-clause-told g c =
     told_whole g.L.Lines.takes g.T.Tables.meaning
-    (λ content number. lines_of (request_line c.args.all number content)) c.args.first c.loop-place.place
+    (λ content number. lines_of (request_line c.args.form c.args.all number content)) c.args.first c.loop-place.place
     c.args.count _ c.args.tables.now c.loop-place.tables
     c.args.lines.now c.loop-place.lines
     (omega (arith, c.loop-place.auto.place-end, c.loop-place-test.false)) c.loop-place.invariant

@@ -11,9 +11,9 @@ pub returns-clause-told : goal.returns-clause-told
 returns-clause-told g c =
     told_behind g.L.Lines.takes g.T.Tables.meaning c.show_range.result c.args.tables.now c.count.new.self
     c.show_range.new.tables c.args.lines.now c.show_range.new.lines
-    (λ content. flat_map (λ n. lines_of (request_line c.args.all n content))
+    (λ content. flat_map (λ n. lines_of (request_line c.args.form c.args.all n content))
     (range_with_len (c.from.result * 1000000 + 1) c.min.result))
-    (λ content. request_lines_of c.args.all content c.args.account)
+    (λ content. request_lines_of c.args.form c.args.all content c.args.account)
     (λ live content well h.
     let counted : c.in_ok-count.count ≡ length (requests_of c.args.account content.requests) =
     c.in_ok-count.ensures.found live content well h in
@@ -26,5 +26,5 @@ returns-clause-told g c =
       few_requests content c.args.account well,
       c.ranges.account.fits,
     ) in
-    rw c.from.ensures (request_numbers c.args.all content c.args.account c.min.result well few))
+    rw c.from.ensures (request_numbers c.args.form c.args.all content c.args.account c.min.result well few))
     c.in_ok-count.ensures.reads.same c.show_range.ensures.looks.was_open c.show_range.ensures.told
