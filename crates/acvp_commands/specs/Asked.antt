@@ -33,11 +33,11 @@ IsNoNumber most text = (n : ℕ) → IsNumber most text n → ⊥
 
 -- what is told of a value that its option doesn't have
 abbrev pub bad_value_text : BadValue → List ℕ
-bad_value_text bad.Account = codes "--account wants a whole number from 1 to 9999, as 7"
-bad_value_text bad.Request = codes "--request wants a whole number from 1 to 9999999999, as 7000001"
-bad_value_text bad.Port = codes "--port wants a whole number from 1 to 65535, as 8080"
-bad_value_text bad.Count = codes "--count wants a whole number from 1 to 1000000, as 1000"
-bad_value_text bad.Patience = codes "--patience wants a whole number of seconds from 1 to 3600, as 30"
+bad_value_text bad.Account = codes "--account wants a whole number from 1 to 9999, such as 7"
+bad_value_text bad.Request = codes "--request wants a whole number from 1 to 9999999999, such as 7000001"
+bad_value_text bad.Port = codes "--port wants a whole number from 1 to 65535, such as 8080"
+bad_value_text bad.Count = codes "--count wants a whole number from 1 to 1000000, such as 1000"
+bad_value_text bad.Patience = codes "--patience wants a whole number of seconds from 1 to 3600, such as 30"
 bad_value_text bad.Grades = codes "--grades is yes or no"
 bad_value_text bad.Keys =
     codes "keys wants --new FILE alone, or one of --add-token, --retire and --add-seed FILE with --to FILE"
@@ -99,20 +99,24 @@ abbrev pub RefusesGrades : Option (List ℕ) → Type 0
 RefusesGrades None = ⊥
 RefusesGrades (Some text) = (text ≢ codes "yes") × (text ≢ codes "no")
 
+-- the flag is given, or it isn't
+abbrev pub IsFlagged : List Row → List ℕ → Bool → Type 0
+IsFlagged options flag is = IsTrue is ↔ (first_of flag options ≡ Some (codes "true"))
+
 -- the subcommand of a name asks to look at it by its options, beside the database's
 abbrev pub AsksLook : List ℕ → List Row → Look → Type 0
-AsksLook name options look.Accounts = name ≡ codes "accounts"
-AsksLook name options (look.Requests all) =
-    (name ≡ codes "requests") × (IsTrue all ↔ (first_of (codes "all") options ≡ Some (codes "true")))
-AsksLook name options (look.Request keys request) =
+AsksLook name options (look.Accounts json) = (name ≡ codes "accounts") × IsFlagged options (codes "json") json
+AsksLook name options (look.Requests all json) =
+    (name ≡ codes "requests") × IsFlagged options (codes "all") all × IsFlagged options (codes "json") json
+AsksLook name options (look.Request keys request json) =
     (name ≡ codes "request-show") × (keys.now ≡ value_of options (codes "keys"))
-    × IsNumber most_request (value_of options (codes "request")) request
-AsksLook name options (look.Certificate keys request) =
+    × IsNumber most_request (value_of options (codes "request")) request × IsFlagged options (codes "json") json
+AsksLook name options (look.Certificate keys request html) =
     (name ≡ codes "certificate") × (keys.now ≡ value_of options (codes "keys"))
-    × IsNumber most_request (value_of options (codes "request")) request
-AsksLook name options (look.Check keys grades) =
+    × IsNumber most_request (value_of options (codes "request")) request × IsFlagged options (codes "html") html
+AsksLook name options (look.Check keys grades json) =
     (name ≡ codes "check") × (keys.now ≡ value_of options (codes "keys"))
-    × AsksGrades (first_of (codes "grades") options) grades
+    × AsksGrades (first_of (codes "grades") options) grades × IsFlagged options (codes "json") json
 
 -- the option wasn't given
 abbrev pub IsLeftOut : List Row → List ℕ → Type 0

@@ -1,14 +1,15 @@
 //! What a command line asks for.
-ghost use Rattle.std.specs.Prelude.{◌≡◌, ◌↔◌, codes, true, None, Some};
-ghost use Rattle.std.specs.Prelude.{IfErr, IfOk, IfSome, IsTrue, MatchOption, MatchResult};
+ghost use Rattle.std.specs.Prelude.{◌≡◌, codes, true, None, Some};
+ghost use Rattle.std.specs.Prelude.{IfErr, IfOk, IfSome, MatchOption, MatchResult};
 ghost use Rattle.clap.specs.Words.{first_of, subcommand_rows_of};
 ghost use Rattle.acvp_tables.specs.State.{is_account_number};
 ghost use Rattle.acvp_commands.specs.Numbers.{IsNumber, most_account, most_request};
 ghost use Rattle.acvp_commands.specs.Asked.{AsksCount, AsksGrades, AsksPatience, RefusesGrades, RefusesOption};
 ghost use Rattle.acvp_commands.specs.Numbers.{most_count, most_patience};
 ghost use Rattle.acvp_commands.specs.Asked.{AsksFor, AsksToServe, IsAsked, IsNoNumber, NamesAccount, RefusesToServe};
-ghost use Rattle.acvp_commands.specs.Asked.{AsksDeed, AsksLook, IsNoDeed, IsNoLook, IsNoName, IsNothingAsked};
-ghost use Rattle.acvp_commands.specs.Asked.{IsRefused, NamesAccountToDo, RefusesDeed, RefusesLook, RefusesName};
+ghost use Rattle.acvp_commands.specs.Asked.{AsksDeed, AsksLook, IsFlagged, IsNoDeed, IsNoLook, IsNoName};
+ghost use Rattle.acvp_commands.specs.Asked.{IsNothingAsked, IsRefused, NamesAccountToDo, RefusesDeed, RefusesLook};
+ghost use Rattle.acvp_commands.specs.Asked.{RefusesName};
 ghost use Rattle.acvp_commands.specs.Asked.{AsksKeys, AsksMaking, IsNoMaking, RefusesKeys, RefusesMaking};
 ghost use Rattle.acvp_commands.specs.Asked.{bad_value_text, options_of, value_of};
 
@@ -33,23 +34,41 @@ pub enum Deed<'a> {
     Serve { keys: &'a str, service: Service },
 }
 
-/// What is looked at in a database. Other files are named by their paths.
+/// What is looked at in a database. Other files are named by their paths. It is shown in words, or as a JSON text.
 #[derive(Clone, Copy)]
 pub enum Look<'a> {
     /// All accounts.
-    Accounts,
+    Accounts {
+        json: bool,
+    },
 
     /// The requests that wait for a decision, or all.
-    Requests { all: bool },
+    Requests {
+        all: bool,
+        json: bool,
+    },
 
     /// What a decision on the request of a number needs, under the keys in a file.
-    Request { keys: &'a str, request: u64 },
+    Request {
+        keys: &'a str,
+        request: u64,
+        json: bool,
+    },
 
-    /// The document of the approved certification of a request's number, under the keys in a file.
-    Certificate { keys: &'a str, request: u64 },
+    /// The document of the approved certification of a request's number, under the keys in a file: a JSON text, or a
+    /// page.
+    Certificate {
+        keys: &'a str,
+        request: u64,
+        html: bool,
+    },
 
     /// Whether the rows are records that are kept under the keys in a file, with the verdicts on answers or without.
-    Check { keys: &'a str, grades: bool },
+    Check {
+        keys: &'a str,
+        grades: bool,
+        json: bool,
+    },
 }
 
 /// A file of keys or of a secret that is made, by the path at which none may be. It never takes the place of another.
@@ -111,12 +130,13 @@ impl BadValue {
         ensures { result.now ≡ bad_value_text self }
     {
         match self {
-            BadValue::Account => "--account wants a whole number from 1 to 9999, as 7",
-            BadValue::Request => "--request wants a whole number from 1 to 9999999999, as 7000001",
-            BadValue::Port => "--port wants a whole number from 1 to 65535, as 8080",
-            BadValue::Count => "--count wants a whole number from 1 to 1000000, as 1000",
+            BadValue::Account => "--account wants a whole number from 1 to 9999, such as 7",
+            BadValue::Request =>
+                "--request wants a whole number from 1 to 9999999999, such as 7000001",
+            BadValue::Port => "--port wants a whole number from 1 to 65535, such as 8080",
+            BadValue::Count => "--count wants a whole number from 1 to 1000000, such as 1000",
             BadValue::Patience =>
-                "--patience wants a whole number of seconds from 1 to 3600, as 30",
+                "--patience wants a whole number of seconds from 1 to 3600, such as 30",
             BadValue::Grades => "--grades is yes or no",
             BadValue::Keys =>
                 "keys wants --new FILE alone, or one of --add-token, --retire and --add-seed FILE with --to FILE",
@@ -203,7 +223,7 @@ fn serve_deed<'a>(matches: &ArgMatches<'a>) -> Result<Deed<'a>, BadValue>
 
 /// Whether a flag is given.
 fn is_set(matches: &ArgMatches<'_>, flag: &str) -> bool
-    ensures { IsTrue result ↔ (first_of flag.now (options_of matches.now) ≡ Some (codes "true")) }
+    ensures { IsFlagged (options_of matches.now) flag.now result }
 {
     match optional(matches, flag) {
         Some(text) => text == "true",
@@ -260,22 +280,27 @@ fn look_by_name<'a>(name: &str, matches: &ArgMatches<'a>) -> Result<Option<Look<
     ensures refused { IfErr result (RefusesLook name.now (options_of matches.now)) }
 {
     let keys = value(matches, "keys");
+    let json = is_set(matches, "json");
     Ok(Some(match name {
-        "accounts" => Look::Accounts,
+        "accounts" => Look::Accounts { json },
         "requests" => Look::Requests {
             all: is_set(matches, "all"),
+            json,
         },
         "request-show" => Look::Request {
             keys,
             request: request(matches)?,
+            json,
         },
         "certificate" => Look::Certificate {
             keys,
             request: request(matches)?,
+            html: is_set(matches, "html"),
         },
         "check" => Look::Check {
             keys,
             grades: grades_asked(matches)?,
+            json,
         },
         _ => return Ok(None),
     }))
