@@ -1,9 +1,10 @@
 //! What an order is about to do, and whether it is wanted. An order that is given can't be taken back.
-use crate::looks::copy_of;
+use crate::copies::{Visit, in_copy};
 use acvp_commands::Deed;
-use acvp_files::FileTables;
+use acvp_store::SqlTables;
 use acvp_tables::{RequestPurpose, RequestSummary, Tables};
-use acvp_view::{Lines, ViewFault, show_account, show_request, show_session};
+use acvp_view::{Form, Lines, ViewFault, show_account, show_request, show_session};
+use sqlite::Alter;
 use std::alloc::AllocGlobal;
 use std::io::IsTerminal;
 
@@ -27,13 +28,13 @@ impl Lines for Shown<'_> {
 }
 
 /// Shows whose a request is, and of a certification how many vector sets have passed.
-fn show_behind(
+fn show_behind<S: Alter + Drop>(
     rt: &HostRuntime,
-    tables: &mut FileTables,
+    tables: &mut SqlTables<S>,
     request: &RequestSummary,
 ) -> Result<(), ViewFault> {
     let mut shown = Shown(rt);
-    show_account(rt.alloc(), tables, &mut shown, request.account)?;
+    show_account(rt.alloc(), tables, &mut shown, Form::Words, request.account)?;
     match request.purpose {
         RequestPurpose::Certification(it) => {
             show_session(rt.alloc(), tables, &mut shown, it.session)
@@ -43,30 +44,55 @@ fn show_behind(
 }
 
 /// Shows what a decision on the request of a number is about.
-fn show_asked(rt: &HostRuntime, tables: &mut FileTables, number: u64) -> Result<(), ViewFault> {
-    let request = show_request(rt.alloc(), tables, &mut Shown(rt), number)?;
+fn show_asked<S: Alter + Drop>(
+    rt: &HostRuntime,
+    tables: &mut SqlTables<S>,
+    number: u64,
+) -> Result<(), ViewFault> {
+    let request = show_request(rt.alloc(), tables, &mut Shown(rt), Form::Words, number)?;
     show_behind(rt, tables, &request)
 }
 
 /// Shows the line of an account that is there.
-fn show_there(rt: &HostRuntime, tables: &mut FileTables, account: u16) -> Result<(), ViewFault> {
+fn show_there<S: Alter + Drop>(
+    rt: &HostRuntime,
+    tables: &mut SqlTables<S>,
+    account: u16,
+) -> Result<(), ViewFault> {
     if tables.account(account)?.is_none() {
         return Err(ViewFault::Unknown);
     }
-    show_account(rt.alloc(), tables, &mut Shown(rt), account)
+    show_account(rt.alloc(), tables, &mut Shown(rt), Form::Words, account)
+}
+
+/// Shows what an order is about.
+#[derive(Clone, Copy)]
+struct Shows<'a> {
+    rt: &'a HostRuntime,
+    deed: Deed<'a>,
+}
+
+impl Visit for Shows<'_> {
+    type Told = Result<(), ViewFault>;
+
+    fn visit<S: Alter + Drop>(self, tables: SqlTables<S>) -> Result<(), ViewFault> {
+        let Shows { rt, deed } = self;
+        let mut tables = tables;
+        match deed {
+            Deed::DisableAccount { account } => show_there(rt, &mut tables, account),
+            Deed::ApproveRequest { request } | Deed::RejectRequest { request } => {
+                show_asked(rt, &mut tables, request)
+            }
+            _ => Ok(()),
+        }
+    }
 }
 
 /// Shows what an order is about, as a copy of the database tells.
 fn show_order(rt: &HostRuntime, db: &str, deed: Deed<'_>) -> Result<(), ViewFault> {
-    let Ok(mut tables) = copy_of(rt, db) else {
-        return Err(ViewFault::Refused);
-    };
-    match deed {
-        Deed::DisableAccount { account } => show_there(rt, &mut tables, account),
-        Deed::ApproveRequest { request } | Deed::RejectRequest { request } => {
-            show_asked(rt, &mut tables, request)
-        }
-        _ => Ok(()),
+    match in_copy(rt, db, Shows { rt, deed }) {
+        Ok(shown) => shown,
+        Err(_) => Err(ViewFault::Refused),
     }
 }
 

@@ -11,6 +11,9 @@ pub(crate) const YES: &str = "yes";
 /// The flag by which a line is written for each event that is served.
 pub(crate) const LOG: &str = "log";
 
+/// The forms of its lines.
+const LOG_FORMS: &[&str] = &["words", "json"];
+
 /// An option that a subcommand has.
 struct Wanted {
     /// Its name.
@@ -34,6 +37,9 @@ enum Form {
 
     /// With a value, or not at all.
     Optional,
+
+    /// With one of the log's forms, with none for words, or not at all.
+    Log,
 
     /// Without a value, or not at all.
     Flag,
@@ -64,7 +70,7 @@ const DB_OPTION: Wanted = Wanted {
 const KEYS_OPTION: Wanted = Wanted {
     name: "keys",
     value: "FILE",
-    help: "The file of the token keys and of the generator's seeds, such as keys.txt",
+    help: "The file of the token keys and of the seeds, such as keys.txt",
     form: Form::Needed,
 };
 
@@ -113,14 +119,14 @@ const PATIENCE_OPTION: Wanted = Wanted {
 const GRADES_OPTION: Wanted = Wanted {
     name: "grades",
     value: "yes|no",
-    help: "Compares each kept verdict with a new one, or not; without it, yes",
+    help: "Whether to recompute and compare each kept verdict; default yes",
     form: Form::Optional,
 };
 
 const TO_OPTION: Wanted = Wanted {
     name: "to",
     value: "FILE",
-    help: "The file that is made, such as backup.db; none may be there",
+    help: "The file that is made, such as backup.db; it mustn't exist",
     form: Form::Needed,
 };
 
@@ -134,7 +140,7 @@ const FROM_OPTION: Wanted = Wanted {
 const NEW_KEYS_OPTION: Wanted = Wanted {
     name: "new",
     value: "FILE",
-    help: "Makes a new keys file with a token key and a seed; none may be there",
+    help: "Makes a new keys file with a token key and a seed; it mustn't exist",
     form: Form::Optional,
 };
 
@@ -155,21 +161,21 @@ const RETIRE_OPTION: Wanted = Wanted {
 const ADD_SEED_OPTION: Wanted = Wanted {
     name: "add-seed",
     value: "FILE",
-    help: "Takes the lines of this keys file, and adds a seed, of which new vector sets are made",
+    help: "Takes the lines of this keys file, and adds a seed, from which new vector sets come",
     form: Form::Optional,
 };
 
 const NEW_LINES_OPTION: Wanted = Wanted {
     name: "to",
     value: "FILE",
-    help: "The keys file that is made by --add-token, --retire or --add-seed; none may be there",
+    help: "The keys file that is made by --add-token, --retire or --add-seed; it mustn't exist",
     form: Form::Optional,
 };
 
 const NEW_SECRET_OPTION: Wanted = Wanted {
     name: "new",
     value: "FILE",
-    help: "The file that is made, such as secret-7.txt; none may be there",
+    help: "The file that is made, such as secret-7.txt; it mustn't exist",
     form: Form::Needed,
 };
 
@@ -187,18 +193,32 @@ const VERBOSE_FLAG: Wanted = Wanted {
     form: Form::Flag,
 };
 
-const YES_FLAG: Wanted = Wanted {
-    name: YES,
+const JSON_FLAG: Wanted = Wanted {
+    name: "json",
     value: "",
-    help: "Gives the order without showing it and asking first, as is done on a terminal",
+    help: "Prints one JSON document, for programs",
     form: Form::Flag,
 };
 
-const LOG_FLAG: Wanted = Wanted {
-    name: LOG,
+const HTML_FLAG: Wanted = Wanted {
+    name: "html",
     value: "",
-    help: "Writes a line to standard error for each request and order, as 2026-09-21T14:13:20Z 7 ReadAccount 200 ok 2",
+    help: "Prints a page to print or file, in place of the JSON document",
     form: Form::Flag,
+};
+
+const YES_FLAG: Wanted = Wanted {
+    name: YES,
+    value: "",
+    help: "Gives the order at once; without it, on a terminal, shows it and asks",
+    form: Form::Flag,
+};
+
+const LOG_OPTION: Wanted = Wanted {
+    name: LOG,
+    value: "words|json",
+    help: "Writes a line to standard error for each request and order, in words (the default) or as a JSON object",
+    form: Form::Log,
 };
 
 /// The program's subcommands.
@@ -211,7 +231,7 @@ static SUBCOMMANDS: [Subcommand; 17] = [
     },
     Subcommand {
         name: "migrate",
-        about: "Moves the tables in a file of an earlier version to today's schema, with all records",
+        about: "Moves the tables in a file of an earlier version to the current schema, with all records",
         example: "Example: acvp_server migrate --db laboratory.db",
         options: &[DB_OPTION, VERBOSE_FLAG],
     },
@@ -237,7 +257,7 @@ static SUBCOMMANDS: [Subcommand; 17] = [
     Subcommand {
         name: "account-add",
         about: "Adds an account, whose one-time codes come from its secret",
-        example: "Example: acvp_server account-add --db laboratory.db --account 7 --secret secret.txt",
+        example: "Example: acvp_server account-add --db laboratory.db --account 7 --secret secret-7.txt",
         options: &[DB_OPTION, ACCOUNT_OPTION, SECRET_OPTION, VERBOSE_FLAG],
     },
     Subcommand {
@@ -260,37 +280,55 @@ static SUBCOMMANDS: [Subcommand; 17] = [
     },
     Subcommand {
         name: "accounts",
-        about: "Shows each account and how many rows it has, also while the records are served",
+        about: "Shows each account and how many sessions, requests and objects it has, also while served",
         example: "Example: acvp_server accounts --db laboratory.db",
-        options: &[DB_OPTION, VERBOSE_FLAG],
+        options: &[DB_OPTION, JSON_FLAG, VERBOSE_FLAG],
     },
     Subcommand {
         name: "requests",
         about: "Shows the requests that wait for a decision, also while the records are served",
         example: "Example: acvp_server requests --db laboratory.db --all",
-        options: &[DB_OPTION, ALL_FLAG, VERBOSE_FLAG],
+        options: &[DB_OPTION, ALL_FLAG, JSON_FLAG, VERBOSE_FLAG],
     },
     Subcommand {
         name: "request-show",
         about: "Shows what a decision on a request needs, also while the records are served",
         example: "Example: acvp_server request-show --db laboratory.db --keys keys.txt --request 7000001",
-        options: &[DB_OPTION, KEYS_OPTION, REQUEST_OPTION, VERBOSE_FLAG],
+        options: &[
+            DB_OPTION,
+            KEYS_OPTION,
+            REQUEST_OPTION,
+            JSON_FLAG,
+            VERBOSE_FLAG,
+        ],
     },
     Subcommand {
         name: "certificate",
         about: "Prints the document of an approved certification, also while the records are served",
         example: "Example: acvp_server certificate --db laboratory.db --keys keys.txt --request 7000004",
-        options: &[DB_OPTION, KEYS_OPTION, REQUEST_OPTION, VERBOSE_FLAG],
+        options: &[
+            DB_OPTION,
+            KEYS_OPTION,
+            REQUEST_OPTION,
+            HTML_FLAG,
+            VERBOSE_FLAG,
+        ],
     },
     Subcommand {
         name: "check",
         about: "Says whether the records are whole, or what is wrong with them, also while they are served",
         example: "Example: acvp_server check --db laboratory.db --keys keys.txt",
-        options: &[DB_OPTION, KEYS_OPTION, GRADES_OPTION, VERBOSE_FLAG],
+        options: &[
+            DB_OPTION,
+            KEYS_OPTION,
+            GRADES_OPTION,
+            JSON_FLAG,
+            VERBOSE_FLAG,
+        ],
     },
     Subcommand {
         name: "serve",
-        about: "Serves connections of this machine over the records, and carries orders out meanwhile",
+        about: "Serves clients of this machine from the records, and carries out orders meanwhile",
         example: "Example: acvp_server serve --db laboratory.db --keys keys.txt --port 8080",
         options: &[
             DB_OPTION,
@@ -298,7 +336,7 @@ static SUBCOMMANDS: [Subcommand; 17] = [
             PORT_OPTION,
             COUNT_OPTION,
             PATIENCE_OPTION,
-            LOG_FLAG,
+            LOG_OPTION,
             VERBOSE_FLAG,
         ],
     },
@@ -333,6 +371,13 @@ fn option<'a>(alloc: Global, wanted: &Wanted) -> Arg<'a> {
             .required(true)
             .action(ArgAction::Set),
         Form::Optional => option.value_name(wanted.value).action(ArgAction::Set),
+        Form::Log => option
+            .value_name(wanted.value)
+            .num_args(0..=1)
+            .default_missing_value("words")
+            .value_parser(LOG_FORMS)
+            .hide_possible_values(true)
+            .action(ArgAction::Set),
         Form::Flag => option.action(ArgAction::SetTrue),
     }
 }
@@ -348,15 +393,11 @@ fn with_options<'a>(alloc: Global, which: &Subcommand) -> Result<Command<'a>, Al
     Ok(command)
 }
 
-/// What `--version` prints behind the program's name: the schema of its tables, and the kit that proves its sources, as
-/// the last line of the README has it.
-const VERSION: &str = "of schema 3, from sources proved with rattle-kit-13f logic dac8208d650f15bf";
-
-/// The program's command line, with its subcommands.
-pub(crate) fn command<'a>(alloc: Global) -> Result<Command<'a>, AllocError> {
+/// The program's command line, with its subcommands. `--version` prints this.
+pub(crate) fn command<'a>(alloc: Global, version: &'static str) -> Result<Command<'a>, AllocError> {
     let mut command = Command::new(alloc, "acvp_server")
         .about("A validation server for SHA-2 and HMAC")
-        .version(VERSION)
+        .version(version)
         .after_help("Example: acvp_server init --db laboratory.db")
         .subcommand_required(true);
     for which in &SUBCOMMANDS {

@@ -14,10 +14,10 @@ use acvp_connections::{
     FileConnection, FileFault, Unopened, close, connect_existing, connect_new, has_no_log,
 };
 use acvp_desk::Order;
-use acvp_files::remove_empty_log;
+use acvp_files::{remove_empty_log, tell_reading};
 use acvp_port::answer_to;
 use acvp_store::SqlTables;
-use sqlite::{Connection, MemStore, Start};
+use sqlite::{Alter, Connection, MemStore, Start};
 use std::alloc::{AllocGlobal, Global};
 
 /// The fault of a database that isn't opened or copied.
@@ -57,24 +57,43 @@ pub(crate) fn named(rt: &HostRuntime, path: &str) -> Result<String, Fault> {
 
 /// Has the database know the seeds under which it is to be served, if it is, and hands it back with those that are new
 /// to it.
-fn with_its_seeds<S: Start>(
+fn with_its_seeds<S: Alter + Drop>(
     alloc: Global,
-    connection: FileConnection<S>,
+    connection: Connection<S>,
     work: &Work,
-) -> (FileConnection<S>, Result<Option<Added>, Fault>) {
+) -> (Connection<S>, Result<Option<Added>, Fault>) {
     match work {
         Work::Take(Task::Serve { keys, .. }) => with_seeds(alloc, connection, &keys.seed),
         _ => (connection, Ok(None)),
     }
 }
 
-/// Whether nothing was served, as the fault says.
-fn is_unserved(outcome: &Result<Message, Fault>) -> bool {
-    matches!(outcome, Err(Fault::Bind | Fault::Keys | Fault::Memory))
+/// Does this over a connection, and says whether that is to be closed: it is done, or clients may have been served. A
+/// start that is refused takes out again what it put in, and then it is to be closed, too.
+fn done_with_seeds<S: Alter + Drop>(
+    machine: &mut Machine<'_, HostRuntime>,
+    connection: Connection<S>,
+    work: Work,
+) -> (Connection<S>, bool, Result<Message, Fault>)
+    requires { IsWork work }
+{
+    let (connection, known) = with_its_seeds(machine.rt.alloc(), connection, &work);
+    let added = match known {
+        Ok(added) => added,
+        Err(fault) => return (connection, false, Err(fault)),
+    };
+    let (mut connection, outcome) = done_over(machine, connection, work);
+    if let Some(added) = &added
+        && !machine.has_listened
+    {
+        let _ = forget_seeds(&mut connection, added);
+    }
+    let closes = outcome.is_ok() || machine.has_listened || added.is_some();
+    (connection, closes, outcome)
 }
 
-/// Does this over a connection to the database in a file. If it is done, or was served, the connection is closed; a
-/// command that is refused leaves the file and its log as they are, and no log if there was none.
+/// Does this over a connection to the database in a file, and closes it if that is to be. A command that is refused
+/// leaves the file and its log as they are, and no log if there was none.
 fn done_and_closed<S: Start>(
     rt: &HostRuntime,
     path: &str,
@@ -89,24 +108,10 @@ fn done_and_closed<S: Start>(
         rt,
         database: path,
         flags,
+        has_listened: false,
     };
-    let serves = matches!(work, Work::Take(Task::Serve { .. }));
-    let (connection, known) = with_its_seeds(rt.alloc(), connection, &work);
-    let is_known = known.is_ok();
-    let (mut connection, added, outcome) = match known {
-        Ok(added) => {
-            let (connection, outcome) = done_over(&mut machine, connection, work);
-            (connection, added, outcome)
-        }
-        Err(fault) => (connection, None, Err(fault)),
-    };
-    if let Some(added) = added
-        && is_unserved(&outcome)
-    {
-        let _ = forget_seeds(&mut connection, &added);
-    }
-    let may_have_served = serves && is_known && !matches!(outcome, Err(Fault::Schema));
-    if outcome.is_ok() || may_have_served {
+    let (connection, closes, outcome) = done_with_seeds(&mut machine, connection, work);
+    if closes {
         close(connection);
     } else if is_new_log {
         remove_empty_log(rt, path);
@@ -150,6 +155,7 @@ pub(crate) fn done_in<S: Start>(
     requires { IsWork work }
 {
     let is_new_log = has_no_log(rt, path);
+    tell_reading(rt, path);
     let opened = match work {
         Work::Make => connect_new(rt, path, start),
         Work::Move | Work::Take(_) => connect_existing(rt, path, start),

@@ -1,4 +1,5 @@
 //! The flags of a command.
+use acvp_log::LogForm;
 
 /// The flags of a command.
 #[derive(Clone, Copy)]
@@ -10,8 +11,8 @@ pub(crate) struct Flags {
     /// yes beforehand.
     pub(crate) asks: bool,
 
-    /// Whether a line is written for each event that is served.
-    pub(crate) is_logged: bool,
+    /// In which form a line is written for each event that is served, if it is.
+    pub(crate) log: Option<LogForm>,
 
     /// Whether it warns of files that others may read, and tells errors of the network: to a terminal, and if it is
     /// verbose or writes a log. Else standard error has a fault's line alone.

@@ -8,12 +8,14 @@ use std::fs::Files;
 use std::net::Net;
 use std::time::Clock;
 
-/// The machine that the program runs on, the name of the database that is open, and the flags of the command.
+/// The machine that the program runs on, the name of the database that is open, the flags of the command, and whether
+/// it has said that it listens: from then on clients may be served.
 #[derive(Drop)]
 pub(crate) struct Machine<'a, R> {
     pub rt: &'a R,
     pub database: &'a str,
     pub flags: Flags,
+    pub has_listened: bool,
 }
 
 impl<'a, R: AllocGlobal + Clock + Eprint + Files + Net + Print> Host for Machine<'a, R> {
@@ -43,6 +45,9 @@ impl<'a, R: AllocGlobal + Clock + Eprint + Files + Net + Print> Host for Machine
     }
 
     fn print(&mut self, message: Message) -> Result<(), Fault> {
-        print_line(self.rt, message)
+        let listens = matches!(message, Message::Listening(_));
+        print_line(self.rt, message)?;
+        self.has_listened = self.has_listened || listens;
+        Ok(())
     }
 }

@@ -27,10 +27,10 @@ impl<'a, R> LineLog<'a, R> {
         database: &'a str,
         flags: Flags,
     ) -> Result<Option<LineLog<'a, R>>, Fault> {
-        if !flags.is_logged {
+        let Some(form) = flags.log else {
             return Ok(None);
-        }
-        let lines = Lines::new(alloc)?;
+        };
+        let lines = Lines::new(alloc, form)?;
         Ok(Some(LineLog {
             alloc,
             rt,

@@ -24,6 +24,14 @@ pub(crate) fn file_to_make<'a>(making: Making<'a>) -> &'a str {
     }
 }
 
+/// The option that names the file which is made.
+pub(crate) fn option_of_made(making: Making<'_>) -> &'static str {
+    match making {
+        Making::Keys { .. } | Making::Secret { .. } => "--new",
+        Making::TokenMore { .. } | Making::TokenLess { .. } | Making::SeedMore { .. } => "--to",
+    }
+}
+
 /// The path of the keys file whose lines are taken.
 pub(crate) fn keys_to_change<'a>(making: Making<'a>) -> Option<&'a str> {
     match making {

@@ -5,9 +5,11 @@ ghost use Rattle.acvp_commands.specs.Asked.{NamesAccount, NamesAccountToDo};
 
 mod asks;
 mod command;
+mod copies;
 mod database;
 mod failure;
 mod flags;
+mod full;
 mod host;
 mod log;
 mod looks;
@@ -15,10 +17,12 @@ mod made;
 mod makers;
 mod port;
 mod printing;
+mod reasons;
 mod room;
 mod script;
 mod secrets;
 mod seeds;
+mod version;
 mod why;
 
 use crate::asks::{is_there, is_wanted};
@@ -30,13 +34,16 @@ use crate::looks::shown;
 use crate::made::{file_to_make, keys_to_change, make};
 use crate::makers::{OwnFiles, own_files};
 use crate::printing::{print_line, print_restored};
+use crate::reasons::{tell_full, tell_full_database, tell_reason, tell_reason_of};
 use crate::room::tell_room;
 use crate::script::script;
 use crate::secrets::tell_same_secret;
+use crate::version::version;
 use crate::why::{tell_because, why_failed};
 use acvp_causes::{Because, Cause};
 use acvp_commands::{Deed, Fault, Invocation, Look, asked_by, exit_status, work_of};
 use acvp_files::{backup, restore, tell_open, tell_open_database, tell_without_sums};
+use acvp_log::LogForm;
 use clap::error::ErrorKind;
 use clap::{ArgMatches, Error};
 use sqlite::Wary;
@@ -57,15 +64,28 @@ fn relay(rt: &HostRuntime, line: &str) -> Result<bool, Fault> {
     }
 }
 
-/// Says why the server of a database has refused an order, if that is to be said and the word doesn't say all.
-fn tell_relayed(rt: &HostRuntime, line: &str, flags: Flags) {
-    if flags.says_why && line == "fault: unavailable" {
-        tell_because(rt, Because::of("--db", Cause::Relayed));
+/// Says why the server of a database has refused an order, if the word doesn't say all.
+fn tell_relayed(rt: &HostRuntime, db: &str, deed: Deed<'_>, line: &str) {
+    match line {
+        "fault: unavailable" => {
+            if !tell_full_database(rt, db) {
+                tell_because(rt, Because::of("--db", Cause::Relayed));
+            }
+        }
+        "fault: notInitial" => tell_reason_of(rt, db, deed, Fault::NotInitial),
+        "fault: taken" => tell_reason_of(rt, db, deed, Fault::Taken),
+        _ => {}
     }
 }
 
-/// Prints what a command says at its end, and says whether it has done what it was asked for.
-fn say(rt: &HostRuntime, said: Said, flags: Flags) -> Result<bool, Fault> {
+/// Prints what a deed says at its end, and says whether it has done what it was asked for.
+fn say(
+    rt: &HostRuntime,
+    db: &str,
+    deed: Deed<'_>,
+    said: Said,
+    flags: Flags,
+) -> Result<bool, Fault> {
     match said {
         Said::Line(message) => {
             print_line(rt, message)?;
@@ -73,7 +93,9 @@ fn say(rt: &HostRuntime, said: Said, flags: Flags) -> Result<bool, Fault> {
         }
         Said::Relayed(line) => {
             let is_done = relay(rt, line.as_str())?;
-            tell_relayed(rt, line.as_str(), flags);
+            if flags.says_why {
+                tell_relayed(rt, db, deed, line.as_str());
+            }
             Ok(is_done)
         }
     }
@@ -94,7 +116,7 @@ fn tell_open_look(rt: &HostRuntime, look: Look<'_>) {
         Look::Request { keys, .. } | Look::Certificate { keys, .. } | Look::Check { keys, .. } => {
             tell_open(rt, keys);
         }
-        Look::Accounts | Look::Requests { .. } => {}
+        Look::Accounts { .. } | Look::Requests { .. } => {}
     }
 }
 
@@ -138,7 +160,7 @@ fn run_deed(rt: &HostRuntime, db: &str, deed: Deed<'_>, flags: Flags) -> Result<
         tell_same_secret(rt, name.as_str(), &work);
     }
     let said = done_in(rt, name.as_str(), Wary, work, flags)?;
-    say(rt, said, flags)
+    say(rt, db, deed, said, flags)
 }
 
 /// Shows what is looked at in a database, and says whether it is as it must be. What a check of the rows doesn't tell
@@ -201,7 +223,7 @@ fn refused<R: Print + Eprint>(rt: &R, error: &Error) -> ExitCode {
 
 /// Refuses the command line, and says why.
 fn refused_for(rt: &HostRuntime, why: &str) -> ExitCode {
-    let Ok(mut command) = command(rt.alloc()) else {
+    let Ok(mut command) = command(rt.alloc(), version(rt, &[])) else {
         return failed(rt, Fault::Memory);
     };
     match command.error(ErrorKind::ValueValidation, why) {
@@ -225,32 +247,47 @@ fn failed(rt: &impl Eprint, fault: Fault) -> ExitCode {
     }
 }
 
+/// The form of the log that is asked for. No other than these two passes the command line's parser.
+fn log_form(options: &ArgMatches<'_>) -> Option<LogForm> {
+    match options.get_str(LOG) {
+        Some("json") => Some(LogForm::Json),
+        Some(_) => Some(LogForm::Words),
+        None => None,
+    }
+}
+
 /// The flags of the command that the command line asks for.
 fn flags_of(rt: &HostRuntime, matches: &ArgMatches<'_>) -> Flags {
-    let (is_verbose, is_logged, is_sure) = match matches.subcommand() {
+    let (is_verbose, log, is_sure) = match matches.subcommand() {
         Some((_, options)) => (
             options.get_flag(VERBOSE),
-            options.get_flag(LOG),
+            log_form(options),
             options.get_flag(YES),
         ),
-        None => (false, false, true),
+        None => (false, None, true),
     };
     let says_why = is_verbose || rt.stderr().is_terminal();
     Flags {
         says_why,
         asks: !is_sure && is_there(rt),
-        is_logged,
-        warns: says_why || is_logged,
+        log,
+        warns: says_why || log.is_some(),
     }
 }
 
 /// Tells a fault of a command, and why it failed, if that is to be said.
 fn tell_failed(rt: &HostRuntime, asked: Invocation<'_>, told: Failed, flags: Flags) {
-    let _ = failed(rt, told.fault);
-    if flags.says_why
-        && let Some(because) = why_failed(rt, asked, told)
-    {
-        tell_because(rt, because);
+    let fault = told.fault;
+    let _ = failed(rt, fault);
+    if flags.says_why {
+        match why_failed(rt, asked, told) {
+            Some(because) => {
+                if !tell_full(rt, asked, because) {
+                    tell_because(rt, because);
+                }
+            }
+            None => tell_reason(rt, asked, fault),
+        }
     }
 }
 
@@ -287,7 +324,7 @@ fn execute_words(rt: &HostRuntime, words: &[String]) -> ExitCode {
     if !has_stack(words.len()) {
         return failed(rt, Fault::Memory);
     }
-    let Ok(command) = command(rt.alloc()) else {
+    let Ok(command) = command(rt.alloc(), version(rt, words)) else {
         return failed(rt, Fault::Memory);
     };
     let matches = match command.try_get_matches_from(words) {

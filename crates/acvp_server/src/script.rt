@@ -1,7 +1,7 @@
 //! Script mode: a script on standard input, over records in memory.
 use crate::database::tables_in_memory;
 use acvp_commands::{Fault, TextFiles, desk_over, keys_in};
-use acvp_desk::Desk;
+use acvp_desk::{Desk, Keys};
 use acvp_http::{Flagged, Routes, run};
 use acvp_tables::Tables;
 use std::alloc::{AllocGlobal, Global};
@@ -21,14 +21,16 @@ fn run_over<T: Tables, R: Read + Drop, W: Write + Drop>(
     Ok(())
 }
 
-/// Runs the script on standard input at a desk, and writes its output to standard output.
-fn run_input<T: Tables, R: Input + Print + AllocGlobal>(
+/// Runs the script on standard input over tables, and writes its output to standard output.
+fn run_input<T: Tables + Drop, R: Input + Print + AllocGlobal>(
     rt: &R,
-    desk: &mut Desk<T>,
+    keys: Keys,
+    tables: T,
 ) -> Result<(), Fault> {
+    let mut desk = desk_over(rt.alloc(), keys, tables)?;
     let routes = Routes::new(rt.alloc())?;
     match BufReader::new(rt.alloc(), rt.reader()) {
-        Ok(input) => run_over(rt.alloc(), &routes, desk, input, io::writer(rt)),
+        Ok(input) => run_over(rt.alloc(), &routes, &mut desk, input, io::writer(rt)),
         Err(_) => Err(Fault::Memory),
     }
 }
@@ -41,7 +43,5 @@ pub(crate) fn script<F: TextFiles, R: Input + Print + AllocGlobal>(
     keys: &str,
 ) -> Result<(), Fault> {
     let keys = keys_in(files, keys)?;
-    let tables = tables_in_memory(rt.alloc())?;
-    let mut desk = desk_over(rt.alloc(), keys, tables)?;
-    run_input(rt, &mut desk)
+    run_input(rt, keys, tables_in_memory(rt.alloc())?)
 }

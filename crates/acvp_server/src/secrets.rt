@@ -1,32 +1,43 @@
 //! Whether another account has the secret of one that is to be added.
-use crate::looks::copy_of;
+use crate::copies::{Visit, in_copy};
 use acvp_commands::{Task, Work};
 use acvp_desk::Order;
+use acvp_store::SqlTables;
 use acvp_tables::AccountRow;
+use sqlite::Alter;
 
-/// The number of an account, other than this one, that has a secret.
-fn other_with(accounts: &[AccountRow], account: u16, secret: &[u8; 32]) -> Option<u16> {
+/// An account that is to be added with a secret.
+#[derive(Clone, Copy)]
+struct Added<'a> {
+    rt: &'a HostRuntime,
+    account: u16,
+    secret: &'a [u8; 32],
+}
+
+/// The number of an account, other than this one, that has its secret.
+fn other_with(accounts: &[AccountRow], added: Added<'_>) -> Option<u16> {
     for row in accounts {
-        if row.number != account && row.secret == *secret {
+        if row.number != added.account && row.secret == *added.secret {
             return Some(row.number);
         }
     }
     None
 }
 
-/// Warns of an account, other than this one, that has a secret in a copy of a database.
-fn tell_other(rt: &HostRuntime, db: &str, account: u16, secret: &[u8; 32]) {
-    let Ok(mut tables) = copy_of(rt, db) else {
-        return;
-    };
-    match tables.accounts_between(1, 9999) {
-        Ok(accounts) => {
-            if let Some(other) = other_with(&accounts, account, secret) {
-                let _ = eprintln!(rt; "warning: account {other} has the same secret");
+impl Visit for Added<'_> {
+    type Told = ();
+
+    fn visit<S: Alter + Drop>(self, tables: SqlTables<S>) {
+        let mut tables = tables;
+        match tables.accounts_between(1, 9999) {
+            Ok(accounts) => {
+                if let Some(other) = other_with(&accounts, self) {
+                    let _ = eprintln!(self.rt; "warning: account {other} has the same secret");
+                }
             }
-        }
-        Err(_) => {
-            let _ = eprintln!(rt; "warning: the other accounts' secrets can't be read");
+            Err(_) => {
+                let _ = eprintln!(self.rt; "warning: the other accounts' secrets can't be read");
+            }
         }
     }
 }
@@ -34,6 +45,15 @@ fn tell_other(rt: &HostRuntime, db: &str, account: u16, secret: &[u8; 32]) {
 /// Warns of another account that has the secret of an account that is to be added, since each can log in as the other.
 pub(crate) fn tell_same_secret(rt: &HostRuntime, db: &str, work: &Work) {
     if let Work::Take(Task::Order(Order::AddAccount { account, secret })) = work {
-        tell_other(rt, db, *account, secret);
+        let account = *account;
+        let _ = in_copy(
+            rt,
+            db,
+            Added {
+                rt,
+                account,
+                secret,
+            },
+        );
     }
 }

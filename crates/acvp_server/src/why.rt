@@ -1,6 +1,7 @@
 //! Why a command failed, as far as it can be seen at its files afterwards.
+use crate::copies::{Visit, in_copy};
 use crate::failure::Failed;
-use crate::made::{file_to_make, keys_to_change};
+use crate::made::{file_to_make, keys_to_change, option_of_made};
 use crate::seeds::other_seed;
 use acvp_causes::{
     Because, Cause, Place, are_there, cause_of_database, cause_of_error, cause_of_folder,
@@ -8,11 +9,13 @@ use acvp_causes::{
     name_of, secret_fault, why_unnamed,
 };
 use acvp_commands::{Deed, Fault, Invocation, Look, Making};
-use acvp_files::{Step, tables_of_copy};
+use acvp_files::Step;
 use acvp_gen::Seeds;
 use acvp_keys::{bytes_of, read_keys};
 use acvp_port::has_server;
-use std::alloc::AllocGlobal;
+use acvp_store::SqlTables;
+use sqlite::Alter;
+use std::alloc::{AllocGlobal, Global};
 use std::{fs, io};
 
 /// The name of a database, or its path where there is no name: whoever looks at the path then tells why.
@@ -93,13 +96,26 @@ fn text_again(rt: &HostRuntime, path: &str) -> Option<io::Result<Vec<u8>>> {
     }
 }
 
+/// Finds the seed that is another than the one that a database was served with.
+#[derive(Clone, Copy)]
+struct OtherSeed<'a> {
+    alloc: Global,
+    seeds: &'a Seeds,
+}
+
+impl Visit for OtherSeed<'_> {
+    type Told = Result<Option<u64>, Fault>;
+
+    fn visit<S: Alter + Drop>(self, tables: SqlTables<S>) -> Result<Option<u64>, Fault> {
+        other_seed(self.alloc, tables, self.seeds)
+    }
+}
+
 /// Why seeds were refused for a database, if it was served with another one at some place.
 fn cause_of_seeds(rt: &HostRuntime, db: &str, seeds: &Seeds) -> Option<Cause> {
-    let Ok(tables) = tables_of_copy(rt, db) else {
-        return None;
-    };
-    match other_seed(rt.alloc(), tables, seeds) {
-        Ok(Some(epoch)) => Some(Cause::Seed(epoch.saturating_add(1) as usize)),
+    let alloc = rt.alloc();
+    match in_copy(rt, db, OtherSeed { alloc, seeds }) {
+        Ok(Ok(Some(epoch))) => Some(Cause::Seed(epoch.saturating_add(1) as usize)),
         _ => None,
     }
 }
@@ -259,14 +275,6 @@ fn why_not_shown(rt: &HostRuntime, db: &str, look: Look<'_>, fault: Fault) -> Op
             None => Some(Because::of("--db", Cause::Store(""))),
         },
         _ => None,
-    }
-}
-
-/// The option that names the file which is made.
-fn option_of_made(making: Making<'_>) -> &'static str {
-    match making {
-        Making::Keys { .. } | Making::Secret { .. } => "--new",
-        Making::TokenMore { .. } | Making::TokenLess { .. } | Making::SeedMore { .. } => "--to",
     }
 }
 
