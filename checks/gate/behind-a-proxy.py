@@ -52,7 +52,7 @@ SHAPES = [
     ("GET /acvp/v1/account HTTP/1.1", ["Host: another"], 400, "badRequest"),
     (f"GET /{'a' * 20000} HTTP/1.1", [], 431, "headTooLarge"),
     ("GET /acvp/v1/account HTTP/1.1", [f"Long: {'a' * 20000}"], 431, "headTooLarge"),
-    ("GET /refused/now HTTP/1.1", [], 404, "noResource"),
+    ("GET /refused/now HTTP/1.1", [], 404, "noRoute"),
     ("GET /acvp/v1 HTTP/1.1", [], 404, "noRoute"),
     ("POST /acvp/v1 HTTP/1.1", ["Content-Length: 0"], 404, "noRoute"),
     ("FOO /acvp/v1/account HTTP/1.1", [], 405, "noMethod"),
@@ -374,7 +374,7 @@ def over_tls(lab, port):
                           capture_output=True, text=True, timeout=120)
     expect("the example's validation over TLS", (done.returncode, done.stderr), (0, ""))
     expect("its last line", done.stdout.split("\n")[-2].split()[-1], "/acvp/v1/testSessions/8000001")
-    expect("a path that is none of the server's", client.call("GET", "/other"), (404, {"error": "noResource"}))
+    expect("a path that is none of the server's", client.call("GET", "/other"), (404, {"error": "noRoute"}))
     for path, most in [("testSessions", 2097152), ("login", 4096)]:
         expect(f"too much for {path}", client.call("POST", f"/acvp/v1/{path}", body=b" " * (most + 1)), TOO_LARGE)
     for certificate, what in [(None, "no certificate"), ("a stranger/client-second", "another authority's"),
@@ -426,7 +426,7 @@ def divided(lab, labs, port):
             expect(f"{path} by a client of no laboratory", third.call("GET", path, by), NO_CLIENT)
     for path in ("/acvp/v1/login", "/acvp/v1/testSessions", "/acvp/v1/vendors", "/acvp/v1"):
         expect(f"{path} by a client of no laboratory", third.call("POST", path, tokens[0], first), NO_CLIENT)
-    expect("a path that is none of the servers'", third.call("GET", "/other"), (404, {"error": "noResource"}))
+    expect("a path that is none of the servers'", third.call("GET", "/other"), (404, {"error": "noRoute"}))
     labs[1].kill()
     expect("a laboratory that isn't there", example.call("GET", "/acvp/v1/account"), (503, {"error": "unavailable"}))
     expect("the other one", acme.must("GET", "/acvp/v1/account", tokens[0])["sessions"], 1)

@@ -1,4 +1,4 @@
-"""The requests and replies of docs/EXCHANGES.md, one of each action, as the program answers them.
+"""The requests and replies of docs/EXCHANGES.md, one of each action and a few more, as the program answers them.
 
     exchanges-of-the-page.py COMMAND..
     exchanges-of-the-page.py --write COMMAND..
@@ -6,6 +6,7 @@
 COMMAND is as in `acvp_server script --keys keys.txt`, under keys of zeros. The page must be what its events give, byte
 for byte; with --write it is written."""
 import os
+import re
 import sys
 
 from laboratory import Piped, shown
@@ -17,23 +18,26 @@ SECRET = b"12345678901234567890123456789012"
 MOMENT = 60
 HEAD = """# A request and a reply of each action
 
-Each stands here as it goes over the connection, by action number, not in the order sent. Lines of a head end with CR
-LF. A body is one line without an end; here it is broken after a comma if it is long. Account 7 has the secret of the
-examples of RFC 6238, and token key and seed are zero bytes.
+These are the bytes on the connection, sorted by action, not in the order sent. Lines of a head end with CR LF. A body
+is one line with no line end, broken here after a comma if it is long. Account 7's secret is the 32 bytes
+`12345678901234567890123456789012` of RFC 6238's examples; the keys file holds zeros alone.
+[A Monte Carlo test](#a-monte-carlo-test) and [a refusal](#a-refusal) are at the end.
 """
+# The sections after those of the 31 actions.
+PROMPT, ANSWERS, REFUSAL = 32, 33, 34
 
 
 class Exchanges:
     def __init__(self, command):
         self.server, self.told = Piped(command), {}
 
-    def asks(self, number, name, method, path, token=None, thing=None):
+    def asks(self, number, name, method, path, token=None, thing=None, status=200):
         """The second object of the reply to an action, whose exchange is kept under its number."""
         body = None if thing is None else laboratory.compact([{"acvVersion": "1.0"}, thing])
         text = laboratory.request(method, path, token, body=body)
         reply = self.server.ask_at(MOMENT, text)
-        status, there = shown(reply)
-        if status != 200:
+        came, there = shown(reply)
+        if came != status:
             raise SystemExit(f"{name} is answered {reply}")
         if number is not None:
             self.told.setdefault(number, (name, text, reply))
@@ -90,6 +94,12 @@ def run(command):
     it.asks(9, "CancelSession", "DELETE", short(made["url"]), made["accessToken"])
     it.asks(5, "ListSessions", "GET", "/testSessions?offset=0&limit=2", token)
     it.asks(2, "ReadAccount", "GET", "/account", token)
+    hash_function = {"algorithm": "SHA2-256", "messageLength": [768], "revision": "1.0"}
+    made = it.asks(None, "NewSession", "POST", "/testSessions", token, {"algorithms": [hash_function]})
+    bound, path = made["accessToken"], short(made["vectorSetUrls"][0])
+    right = answers(it.asks(PROMPT, "ReadSet", "GET", path, bound))
+    it.asks(ANSWERS, "Submit", "POST", path + "/results", bound, right)
+    it.asks(REFUSAL, "Submit", "POST", path + "/results", bound, {}, status=409)
     return it.told
 
 
@@ -97,28 +107,50 @@ def lines_of(text):
     """The lines of a request or a reply, a long body broken behind a comma."""
     head, _, body = text.decode().partition("\r\n\r\n")
     lines = head.split("\r\n") + [""]
-    while len(body) > 112 and "," in body[:112]:
-        place = body.rfind(",", 0, 112) + 1
+    while len(body) > 112 and "," in body:
+        place = (body.rfind(",", 0, 112) if "," in body[:112] else body.find(",")) + 1
         lines.append(body[:place])
         body = body[place:]
     return lines + [body] if body else lines
 
 
+def block_of(asked, reply):
+    """The lines of an exchange, as the page has them."""
+    block = lines_of(asked)
+    block += ([""] if block[-1] else []) + lines_of(reply)
+    return "\n" + "\n".join(("    " + line).rstrip() for line in block) + "\n"
+
+
+def body_of(text):
+    return text.split(b"\r\n\r\n", 1)[1]
+
+
+def in_short(text):
+    """A body with the last of its groups alone, and the first two and the last of its checkpoints."""
+    groups = b'"testGroups":['
+    body = body_of(text)
+    first, last = body.index(groups) + len(groups), body.rindex(b'{"test')
+    return re.sub(rb'("resultsArray":\[{[^}]*},{[^}]*},).*(,{[^}]*}\])', rb"\1..\2", body[:first] + b"..," + body[last:])
+
+
 def page_of(told):
     parts = [HEAD]
-    for number in sorted(told):
+    for number in range(1, 32):
         name, asked, reply = told[number]
-        block = lines_of(asked)
-        block += ([""] if block[-1] else []) + lines_of(reply)
-        parts.append(f"\n## {number} {name}\n\n" + "\n".join(("    " + line).rstrip() for line in block) + "\n")
+        parts.append(f"\n## {number} {name}\n" + block_of(asked, reply))
+    parts.append("\n## A Monte Carlo test\n\nThe last group of a vector set of SHA2-256; `..` stands for what is left out.\n")
+    for said, text in (("Prompts", told[PROMPT][2]), ("Answers", told[ANSWERS][1])):
+        lines = lines_of(b"\r\n\r\n" + in_short(text))[2:]
+        parts.append(f"\n{said}:\n\n" + "\n".join("    " + line for line in lines) + "\n")
+    parts.append("\n## A refusal\n\nA second `POST` of answers to this vector set.\n" + block_of(*told[REFUSAL][1:]))
     return "".join(parts)
 
 
 def main():
     command = [word for word in sys.argv[1:] if word != "--write"]
     told = run(command)
-    if sorted(told) != list(range(1, 32)):
-        raise SystemExit(f"the page has the actions {sorted(told)}")
+    if sorted(told) != list(range(1, REFUSAL + 1)):
+        raise SystemExit(f"the page has the sections {sorted(told)}")
     page = page_of(told)
     if len(command) < len(sys.argv) - 1:
         with open(PAGE, "w") as file:

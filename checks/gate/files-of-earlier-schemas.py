@@ -111,6 +111,9 @@ def refused_before(lab, path):
     lab.fails("unavailable", "init", *db)
     lab.fails("schema", "account-add", *db, "--account", "8", "--secret", lab.write(lab.path("secret"), "0" * 64 + "\n"))
     lab.fails("schema", "account-disable", *db, "--account", "7")
+    version = dict(rows_of(path, "meta"))["schema"]
+    expect("why it is refused", lab.run("account-disable", *db, "--account", "7", "--verbose"),
+           (1, "", f"fault: schema\nbecause: --db: it names schema {version}: run migrate\n"))
     for command in ("request-approve", "request-reject"):
         lab.fails("schema", command, *db, "--request", "7000001")
     lab.fails("schema", "serve", *db, "--keys", lab.keys, "--port", str(free_port()), "--count", "1")
@@ -202,6 +205,7 @@ def refused(lab):
         before = list(connection.iterdump())
         connection.close()
         lab.fails("schema", "migrate", "--db", path, what=statement)
+        expect("whether it says to do that again", "run migrate" in lab.run("migrate", "--db", path, "--verbose")[2], False)
         connection = opened(path)
         expect(f"the file after {statement}", list(connection.iterdump()), before)
         connection.close()

@@ -416,7 +416,7 @@ def foreign_files(lab):
 
 
 SERVED = "a server has it, and answers at its socket (-orders)"
-STORE = "the store refused a statement (a full disk, a folder that can't be written to), or met a page or a row"
+STORE = "the store refused a statement (a full disk, a folder that can't be written to), or met a damaged page or a malformed row"
 KEY = "ab" * 32
 
 
@@ -500,7 +500,7 @@ def why_a_database_is_unavailable(lab):
     because(lab, "unavailable", "--db: it has 2 names (hard links), and may have one", *disable(lab.db))
     os.remove(lab.path("name"))
     lab.write(lab.db + "-journal", "x")
-    because(lab, "unavailable", "--db: a journal is beside it (-journal), which sqlite3 has to settle", *disable(lab.db))
+    because(lab, "unavailable", "--db: a journal is beside it (-journal): another program was stopped while it wrote to it", *disable(lab.db))
     os.remove(lab.db + "-journal")
     os.link(lab.db + "-wal", lab.path("name"))
     because(lab, "unavailable", "--db, its log (-wal): it has 2 names (hard links), and may have one", *disable(lab.db))
@@ -520,19 +520,19 @@ def why_a_database_is_unavailable(lab):
     lab.write(lab.path("cut.db"), whole[:20000])
     because(lab, "unavailable", f"--from: {cut}", *restore(lab, "cut.db"))
     lab.write(lab.path("spoilt.db"), whole[:4096] + bytes(len(whole) - 4096))
-    because(lab, "unavailable", f"--db: {STORE} of account that stands for nothing", *disable(lab.path("spoilt.db")), stays=False)
+    because(lab, "unavailable", f"--db: {STORE} of account", *disable(lab.path("spoilt.db")), stays=False)
     stray = changed(lab, "stray.db", "UPDATE account SET secret = X'00'")
-    because(lab, "unavailable", f"--db: {STORE} of account that stands for nothing", *disable(stray), stays=False)
+    because(lab, "unavailable", f"--db: {STORE} of account", *disable(stray), stays=False)
     # a statement that the system refuses
     full = {"preexec_fn": lambda: resource.setrlimit(resource.RLIMIT_FSIZE, (1000, 1000)), "restore_signals": False}
-    because(lab, "unavailable", f"--db: {STORE} of account that stands for nothing", *disable(lab.db), what="on a full disk",
+    because(lab, "unavailable", f"--db: {STORE} of account", *disable(lab.db), what="on a full disk",
             stays=False, **full)
     lab.does("account 1 disabled", *disable(lab.db))
     # a server's own fault, of an order that it was given
     lab.db = stray
     lab.serve(count=None)
     told = STORE.replace("the store", "its server's store").replace(" (a full disk, a folder that can't be written to)", "")
-    because(lab, "unavailable", f"--db: {told} that stands for nothing", *disable(stray), what="by a server")
+    because(lab, "unavailable", f"--db: {told}", *disable(stray), what="by a server")
     lab.kill()
     # a log without its file
     os.rename(lab.path("backup.db"), lab.path("kept.db"))
@@ -586,10 +586,7 @@ def why_a_text_is_refused(lab):
 def what_verbose_leaves(lab):
     """A word that says all has no second line, a command that succeeds prints what it prints, and --log is for serve alone."""
     lab.add(1)
-    other = changed(lab, "other.db", "CREATE TABLE other (a)")
-    for word, command in [("schema", disable(other)), ("unknown", disable(lab.db, 2)), ("taken", backup(lab, "laboratory.db")),
-                          ("taken", ["account-add", "--db", lab.db, "--account", "1", "--secret", lab.path("secret-1")]),
-                          ("unknown", ["request-reject", "--db", lab.db, "--request", "7"]),
+    for word, command in [("unknown", disable(lab.db, 2)), ("unknown", ["request-reject", "--db", lab.db, "--request", "7"]),
                           ("syntax", ["script", "--keys", lab.keys])]:
         more = {"input": "nothing\n"} if word == "syntax" else {}
         if more:
@@ -611,6 +608,36 @@ def what_verbose_leaves(lab):
         expect(f"the help of {command}", (status, "--verbose" in output, "--log" in output, faults), (0, True, command == "serve", ""))
         if command != "serve":
             expect(f"{command} with --log", lab.run(command, "--log")[:2], (2, ""))
+
+
+def what_is_in_the_way(lab):
+    """With --verbose a refusal says what is there instead: the schema, the account, the decision or the file; also if a
+    server refuses."""
+    lab.add(1)
+    lab.serve(count=None)
+    token = lab.token(1)
+    for name in ("one", "two"):
+        lab.must("POST", "/vendors", token, {"name": name})
+    lab.does("request 1000001 approved /acvp/v1/vendors/1000001", "request-approve", "--db", lab.db, "--request", "1000001")
+    lab.does("request 1000002 rejected", "request-reject", "--db", lab.db, "--request", "1000002")
+    taken = ["account-add", "--db", lab.db, "--account", "1", "--secret", lab.path("secret-1")]
+    for is_served in (True, False):
+        because(lab, "notInitial", "--request: it was approved, as 1000001", "request-reject", "--db", lab.db, "--request", "1000001")
+        because(lab, "notInitial", "--request: it was rejected", "request-approve", "--db", lab.db, "--request", "1000002")
+        because(lab, "taken", "--account: account 1 is there, and enabled", *taken)
+        if is_served:
+            lab.kill()
+    lab.does("account 1 disabled", *disable(lab.db))
+    because(lab, "taken", "--account: account 1 is there, and disabled", *taken)
+    because(lab, "taken", "--to: it is there, or a -wal file or a journal of its name", *backup(lab, "laboratory.db"))
+    other = changed(lab, "other.db", "CREATE TABLE other (a)")
+    later = changed(lab, "later.db", "UPDATE meta SET value = 4 WHERE name = 'schema'")
+    empty = lab.write(lab.path("empty.db"), "")
+    os.chmod(empty, 0o600)
+    for path, cause in ((other, "it names schema 3, but its tables and indexes aren't exactly those"),
+                        (later, "it names schema 4, which this program doesn't know"), (empty, "it is empty: init fills it")):
+        because(lab, "schema", f"--db: {cause}", *disable(path))
+    because(lab, "schema", "--from: it names schema 4, which this program doesn't know", *restore(lab, "later.db"))
 
 
 def told_both_ways(lab, word, *args, **more):
@@ -781,6 +808,23 @@ def told_on_a_terminal(lab):
     expect("whether there was a warning and a cause", "warning: " in lab.run(*restore(lab), "--verbose")[2], True)
 
 
+def told_of_a_large_file(lab):
+    """On a terminal a command says how much of a large file is copied, and that it is read; elsewhere nothing."""
+    lab.add(1)
+    connection = page_sums.connect(lab.db)
+    with contextlib.closing(connection), connection:
+        for number in range(1000001, 1000104):
+            connection.execute("INSERT INTO object (kind, number, account, body) VALUES (1, ?, 1, ?)", (number, "a" * 1000000))
+    megabytes = os.stat(lab.db).st_size // 1000000
+    backup = ["backup", "--db", lab.db, "--to", lab.path("large.db")]
+    copied = f"\rcopied 67 of {megabytes} MB \rcopied {megabytes} of {megabytes} MB \n"
+    expect("a backup of a large file on a terminal", on_a_terminal(lab, *backup), (0, f"{copied}reading {megabytes} MB\n"))
+    os.remove(lab.path("large.db"))
+    expect("the same elsewhere", lab.run(*backup)[::2], (0, ""))
+    expect("an order on a large file on a terminal", on_a_terminal(lab, *disable(lab.db, 9), "--yes"),
+           (1, f"reading {megabytes} MB\nfault: unknown\n"))
+
+
 def asked_on_a_terminal(lab):
     """An order that can't be taken back is shown and asked for on a terminal; --yes asks nothing. What isn't wanted changes
     nothing. While it is served, the same."""
@@ -846,8 +890,9 @@ def main():
 
     killed.__name__ = "killed_restores"
     for part in (backups_while_nobody_serves, backups_while_serving, copies_apart, restores, sums_by_a_restore, wrong_sums, killed,
-                 what_others_may_read, foreign_files, why_a_database_is_unavailable, why_a_text_is_refused, what_verbose_leaves, each_fault_both_ways, told_on_a_terminal,
-                 room_of_a_restore, same_secrets, asked_on_a_terminal, little_stack):
+                 what_others_may_read, foreign_files, why_a_database_is_unavailable, why_a_text_is_refused, what_verbose_leaves,
+                 what_is_in_the_way, each_fault_both_ways, told_on_a_terminal, told_of_a_large_file, room_of_a_restore, same_secrets,
+                 asked_on_a_terminal, little_stack):
         with tempfile.TemporaryDirectory() as folder:
             lab = Laboratory(program, folder)
             lab.does("ready", "init", "--db", lab.db)

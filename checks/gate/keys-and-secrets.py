@@ -23,6 +23,7 @@ import page_sums
 NOBODY = 65534
 IS_ROOT = os.geteuid() == 0
 DIGITS = "[0-9a-f]{64}"
+THERE = "it is there, or a -wal file or a journal of its name"
 
 
 def text_of(path):
@@ -78,10 +79,10 @@ def new_files(lab):
             seen |= {digits[:32], digits[32:]}
     expect("how many of the halves of what was drawn are others", len(seen), 48)
     for args in (["keys", "--new"], ["secret", "--new"], ["keys", "--add-token", lab.path("keys-0.txt"), "--to"]):
-        refused(lab, "taken", None, *args, lab.path("keys-0.txt"))
+        refused(lab, "taken", f"{args[-1]}: {THERE}", *args, lab.path("keys-0.txt"))
     os.symlink(lab.path("nowhere.txt"), lab.path("link"))
     for name in ("link", "."):
-        refused(lab, "taken", None, "keys", "--new", lab.path(name))
+        refused(lab, "taken", f"--new: {THERE}", "keys", "--new", lab.path(name))
     missing = "it can't be opened: No such file or directory (os error 2)"
     refused(lab, "unavailable", f"--new: {missing}", "secret", "--new", lab.path("no/secret.txt"))
     refused(lab, "unavailable", f"--to: {missing}", "keys", "--add-seed", lab.path("keys-0.txt"), "--to", lab.path("no/keys.txt"))
@@ -287,6 +288,13 @@ def seeds_of_no_start(lab):
         taken.listen()
         lab.fails("bind", "serve", "--db", lab.db, "--keys", other, "--port", str(taken.getsockname()[1]), "--count", "1")
     expect("what is known behind a port that is taken", known(lab), [])
+    start = ["serve", "--db", lab.db, "--keys", other, "--port", str(free_port()), "--count", "1"]
+    for what in ("full", "closed"):
+        with open("/dev/full", "wb") as full:
+            closed = {"preexec_fn": lambda: os.close(1)} if what == "closed" else {"stdout": full}
+            done = subprocess.run([lab.program, *start], stdin=subprocess.DEVNULL, stderr=subprocess.PIPE, timeout=60, **closed)
+        expect(f"a start whose output is {what}", (done.returncode, done.stderr), (1, b"fault: write\n"))
+        expect(f"what is known behind an output that is {what}", known(lab), [])
     serves_once(lab, one)
     expect("what is known of one seed", known(lab), [("seed 1", fingerprint(first))])
     lab.add(7)
@@ -336,21 +344,44 @@ def seeds_at_once(lab):
 
 
 def full_disk(lab):
-    """Where there is no room, nothing is left of the file."""
+    """Where there is no room, nothing is left of the file, and the cause is a full disk; of a database, too, while it is
+    served and while it isn't."""
     folder = lab.path("full")
     os.mkdir(folder)
-    if not IS_ROOT or subprocess.run(["mount", "-t", "tmpfs", "-o", "size=16k", "tmpfs", folder], capture_output=True).returncode:
-        print("skipped: keys on a full disk, for which this user can't mount a file system")
+    if not IS_ROOT or subprocess.run(["mount", "-t", "tmpfs", "-o", "size=1m,mode=700", "tmpfs", folder], capture_output=True).returncode:
+        print("skipped: a full disk, for which this user can't mount a file system")
         return
+    full = Laboratory(lab.program, folder)
     try:
+        rest, secret = os.path.join(folder, "rest"), lab.path("secret-of-a-full-disk.txt")
+        made(lab, os.path.basename(secret), "secret", "--new")
+        lab.does("ready", "init", "--db", full.db)
+        full.serve(count=None)
         with contextlib.suppress(OSError):
-            with open(os.path.join(folder, "rest"), "wb", buffering=0) as rest:
+            with open(rest, "wb", buffering=0) as file:
                 while True:
-                    rest.write(bytes(4096))
-        path = os.path.join(folder, "keys.txt")
-        lab.fails("unavailable", "keys", "--new", path)
-        expect("what is left on a full disk", os.listdir(folder), ["rest"])
+                    file.write(bytes(4096))
+        orders = [["account-add", "--db", full.db, "--account", str(number), "--secret", secret] for number in range(1, 100)]
+        # the log may have some room left
+        order = next(order for order in orders if lab.run(*order)[0])
+        new, other = os.path.join(folder, "new-keys.txt"), os.path.join(folder, "other.db")
+        names = sorted(os.listdir(folder))
+        for option, command in (("--db", order), ("--new", ["keys", "--new", new]), ("--to", ["backup", "--db", lab.db, "--to", other]),
+                                ("--db", ["restore", "--from", lab.db, "--db", other])):
+            lab.fails("unavailable", *command)
+            expect(f"why {command[0]} is refused on a full disk", lab.run(*command, "--verbose"),
+                   (1, "", f"fault: unavailable\nbecause: {option}: its disk is full\n"))
+        full.kill()
+        expect("an order that nobody serves", lab.run(*order, "--verbose"),
+               (1, "", "fault: unavailable\nbecause: --db: its disk is full\n"))
+        expect("what is left on a full disk", sorted(os.listdir(folder)), names)
+        expect("a database for which there is no room", lab.run("init", "--db", other, "--verbose"),
+               (1, "", "fault: unavailable\nbecause: --db: its disk is full\n"))
+        os.remove(rest)
+        lab.does(f"account {order[4]} added", *order)
+        lab.does("ready", "init", "--db", other)
     finally:
+        full.kill()
         subprocess.run(["umount", folder], check=True)
 
 

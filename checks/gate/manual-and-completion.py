@@ -84,8 +84,8 @@ def page(helps):
         for command, said in helps.items():
             about, example = said.split("\n")[0], re.search("^Example: (.*)", said, re.MULTILINE)[1]
             expect(f"the command {command} in the page", (f" {about}. " in text, f" {example} " in text), (True, True))
-            for option, value, described in re.findall(r"^ .*?(--[a-z-]+)(?: <(.*?)>)? +(.*)", said, re.MULTILINE):
-                line = " ".join(" ".join([option, value, described]).split())
+            for option, value, described in re.findall(r"^ .*?(--[a-z-]+)(?: (\[?<.*?>\]?))? +(.*)", said, re.MULTILINE):
+                line = " ".join(" ".join([option, value.replace("<", "").replace(">", ""), described]).split())
                 expect(f"{option} of {command} in the page", f" {line}. " in text, True)
 
 
@@ -125,6 +125,8 @@ def completion(helps, commands):
         expect("a name that isn't there", completes(folder, "init", "--db", "nothing"), [])
         expect("what completing leaves", sorted(os.listdir(folder)), [*of_lab, "other.db"])
         expect("words for --grades", completes(folder, "check", "--grades", ""), ["no", "yes"])
+        expect("words for --log", completes(folder, "serve", "--log", ""), ["json", "words"])
+        expect("an option behind --log", completes(folder, "serve", "--log", "--v"), ["--verbose"])
         for option in ("--port", "--count", "--patience"):
             expect(f"a number for {option}", completes(folder, "serve", option, ""), [])
     done = subprocess.run(["bash", "--norc", "-c", 'source "$1" && complete -p acvp_server', "bash", COMPLETION],

@@ -375,9 +375,9 @@ def journals(lab):
     lab.backs_up("kept.db")
     lab.write(lab.db + "-journal", b"\xd9\xd5\x05\xf9 the rest of a journal")
     for command in commands_over(lab, lab.db) + looks_over(lab, lab.db) + [["init", "--db", lab.db], serving(lab, lab.db)]:
-        refused(lab, "--db: a journal is beside it (-journal), which sqlite3 has to settle", *command)
+        refused(lab, "--db: a journal is beside it (-journal): another program was stopped while it wrote to it", *command)
     os.rename(lab.db + "-journal", lab.path("kept.db-journal"))
-    refused(lab, "--from: a journal is beside it (-journal), which sqlite3 has to settle",
+    refused(lab, "--from: a journal is beside it (-journal): another program was stopped while it wrote to it",
             "restore", "--from", lab.path("kept.db"), "--db", lab.db)
     expect("the accounts without the journal", account_lines(lab, lab.db), ["1"])
 

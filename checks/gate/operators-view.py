@@ -8,6 +8,7 @@ own requests. Nothing is left beside the database, and nothing of it changes. Wh
 that shows it is escaped."""
 import contextlib
 import hashlib
+import html.parser
 import json
 import os
 import shutil
@@ -24,8 +25,17 @@ CAPABILITIES = [{"algorithm": "SHA2-256", "messageLength": [8], "revision": "1.0
                 {"algorithm": "HMAC-SHA2-256", "keyLen": [256], "macLen": [256], "revision": "1.0"}]
 VENDOR, MODULE, ENVIRONMENT = {"name": "Acme"}, {"name": "Hash \u00fc", "version": "2"}, {"name": "Linux"}
 BODY = b"\r\n\r\n"
-# controls, separators of lines and paragraphs, and what turns the direction of writing
-ACTING = "".join(map(chr, [*range(32), *range(0x7F, 0xA0), 0x61C, 0x200E, 0x200F, *range(0x2028, 0x202F), *range(0x2066, 0x206A)]))
+ANOTHER = '8000001 account 8 (disabled) vendor initial "Another"'
+# controls, separators of lines and paragraphs, what turns the direction of writing, and what isn't seen
+ACTING = "".join(map(chr, [*range(32), *range(0x7F, 0xA0), 0xAD, 0x61C, *range(0x200B, 0x2010), *range(0x2028, 0x202F),
+                            *range(0x2060, 0x2070), 0xFEFF, *range(0xFFF9, 0xFFFC)]))
+
+
+NO_TABLES = {"accounts": 0, "requests": 0, "sessions": 0, "sets": 0, "whole": True}
+
+
+def compact(value):
+    return json.dumps(value, ensure_ascii=False, separators=(",", ":"), sort_keys=True)
 
 
 def short(url):
@@ -42,6 +52,22 @@ def shows(lab, *args):
     return output.split("\n")[:-1]
 
 
+def document_of(lab, *args):
+    """The JSON document that a command prints: an array's items in lines, or an object in one; compact, with ascending
+    members."""
+    lines = shows(lab, *args, "--json")
+    value = json.loads("\n".join(lines))
+    expect(f"the document of {args}", "".join(lines), compact(value))
+    expect(f"the lines of {args}", len(lines), len(value) + 1 if isinstance(value, list) and value else 1)
+    return value
+
+
+def asked_for(number, kind, name, enabled=True, **more):
+    """A request as JSON: what isn't said of it is null."""
+    return {"account": number // 1000000, "approved": None, "certification": None, "enabled": enabled, "kind": kind, "name": name,
+            "request": number, "status": "initial", **more}
+
+
 def body(lab, path, token):
     """The body that an account is answered."""
     return lab.ask(request("GET", path, token)).split(BODY, 1)[1].decode()
@@ -56,10 +82,13 @@ def asked(lab, token):
         number = 7000000 + place
         shown = shows(lab, "request-show", "--db", lab.db, "--keys", lab.keys, "--request", str(number))
         kind = {"/vendors": "vendor", "/modules": "module", "/oes": "environment"}[path]
-        expect(f"the line of request {number}", shown[0], f"{number} account 7 {kind} initial")
+        line = f"{number} account 7 {kind} initial {json.dumps(thing['name'], ensure_ascii=False)}"
+        expect(f"the line of request {number}", shown[0], line)
         expect(f"the object of request {number}", [json.loads(line) for line in shown[1:]], [thing])
-        expect("the requests that wait", shows(lab, "requests", "--db", lab.db),
-               [f"{number} account 7 {kind} initial", "8000001 account 8 vendor initial"])
+        expect("the requests that wait", shows(lab, "requests", "--db", lab.db), [line, ANOTHER])
+        expect(f"request {number} as a document",
+               document_of(lab, "request-show", "--db", lab.db, "--keys", lab.keys, "--request", str(number)),
+               [asked_for(number, kind, thing["name"]), {"object": thing}])
         lab.does(f"request {number} approved /acvp/v1{path}/7000001", "request-approve", "--db", lab.db, "--request",
                  str(number))
 
@@ -78,7 +107,7 @@ def certified(lab, token):
     lab.must("PUT", session, bound, {"moduleUrl": "/acvp/v1/modules/7000001", "oeUrl": "/acvp/v1/oes/7000001"})
     paths = [(session, bound), (session + "/results", bound), ("/modules/7000001", token), ("/vendors/7000001", token),
              ("/oes/7000001", token)]
-    wanted = ["7000004 account 7 certification session 7000001 module 7000001 environment 7000001 initial",
+    wanted = [f'7000004 account 7 certification initial session 7000001 of {made["createdOn"]} 1 of 1 passed "{MODULE["name"]}"',
               ("vectorSet 700000101 kept ", CAPABILITIES[0]), f"vectorSet 700000101 {kept}",
               ("vectorSet 700000102 cancelled ", CAPABILITIES[1]), f"vectorSet 700000102 {failed}"]
     return wanted + [f"/acvp/v1{path} {body(lab, path, by)}" for path, by in paths], bound, given
@@ -93,6 +122,66 @@ def compared(what, shown, wanted):
             expect(what, {**json.loads(line[len(front):]), "revision": "1.0"}, capability)
         else:
             expect(what, line, right)
+
+
+def compared_as_document(lab, wanted):
+    """The same as a document: an object for each line."""
+    shown = document_of(lab, "request-show", "--db", lab.db, "--keys", lab.keys, "--request", "7000004")
+    for at in (1, 3):
+        front, capability = wanted[at]
+        _, number, state, _ = front.split(" ")
+        there = {**shown[at].pop("capability"), "revision": "1.0"}
+        expect(f"the capability of {number}", (there, shown[at]), (capability, {"state": state, "vectorSet": int(number)}))
+        results = json.loads(wanted[at + 1].split(" ", 2)[2])
+        expect(f"the results of {number}", shown[at + 1], {"results": results, "vectorSet": int(number)})
+    read = [line.split(" ", 1) for line in wanted[5:]]
+    expect("what the account reads", shown[5:], [{"body": json.loads(body), "path": path} for path, body in read])
+    return shown[0]
+
+
+class Page(html.parser.HTMLParser):
+    """The texts of a page's cells, whose elements are closed in their order."""
+
+    def __init__(self, text):
+        super().__init__()
+        self.open, self.rows, self.texts = [], [], []
+        self.feed(text)
+        self.close()
+        expect("the elements that are left open", self.open, [])
+
+    def handle_starttag(self, tag, attributes):
+        if tag != "meta":
+            self.open.append(tag)
+        if tag == "tr":
+            self.rows.append([])
+        if tag in ("td", "th"):
+            self.rows[-1].append("")
+
+    def handle_endtag(self, tag):
+        expect("the element that is closed", tag, self.open.pop() if self.open else None)
+
+    def handle_data(self, text):
+        if "td" in self.open or "th" in self.open:
+            self.rows[-1][-1] += text
+        elif "style" not in self.open:
+            self.texts.append(text.strip())
+
+
+def pages(lab, text):
+    """The page of a certification says what its document says, and loads nothing."""
+    lines = shows(lab, "certificate", "--db", lab.db, "--keys", lab.keys, "--request", "7000004", "--html")
+    expect("whether the page needs nothing else", [word for word in ("src", "href", "url(", "@import", "script") if word in "".join(lines)], [])
+    page, told = Page("\n".join(lines)), json.loads(text)
+    expect("the texts around its tables", [text for text in page.texts if text], ["Validation certificate"] * 2 + ["Vector sets"])
+    rows = dict(page.rows[:6])
+    session = told["testSession"]
+    expect("its first rows", (rows.pop("Request"), rows.pop("Account"), rows.pop("Test session")),
+           (told["requestUrl"], str(told["account"]), f"{session['url']} of {session['createdOn']}"))
+    expect("its objects", {label: json.loads(said) for label, said in rows.items()},
+           {"Vendor": told["vendor"], "Module": told["module"], "Operational environment": told["oe"]})
+    expect("its vector sets", [(row[0], row[1], json.loads(row[2]), row[3]) for row in page.rows[7:]],
+           [(str(one["vsId"]), one["disposition"], one["capability"], one["answersSha256"]) for one in told["vectorSets"]])
+    return lines
 
 
 def kept_answers(lab, number):
@@ -116,7 +205,7 @@ def document(lab):
     """The document of the certification, which is one line of compact JSON with ascending members."""
     shown = shows(lab, "certificate", "--db", lab.db, "--keys", lab.keys, "--request", "7000004")
     expect("the lines of the document", len(shown), 1)
-    expect("the document as compact JSON", json.dumps(json.loads(shown[0]), ensure_ascii=False, separators=(",", ":"), sort_keys=True), shown[0])
+    expect("the document as compact JSON", compact(json.loads(shown[0])), shown[0])
     return shown[0]
 
 
@@ -163,22 +252,23 @@ def certificates(lab, wanted, token, bound, given):
     """The document is the same bytes after a restart and after all that may happen later."""
     text = document(lab)
     says(lab, text, wanted, given)
+    page = pages(lab, text)
     no_documents(lab)
     lab.serve()
-    expect("the document while it is served", document(lab), text)
+    expect("the document while it is served", (document(lab), pages(lab, text)), (text, page))
     lab.must("POST", "/testSessions", token, {"algorithms": CAPABILITIES})
     lab.must("POST", "/testSessions/7000001/reviewers", bound, {"account": 9999})
     lab.must("POST", "/vendors", token, {"name": "Acme the second"})
     lab.does("request 7000005 approved /acvp/v1/vendors/7000002", "request-approve", "--db", lab.db, "--request", "7000005")
     lab.does("account 7 disabled", "account-disable", "--db", lab.db, "--account", "7")
-    expect("the document after later events", document(lab), text)
+    expect("the document after later events", (document(lab), pages(lab, text)), (text, page))
     lab.kill()
     expect("the document after a restart", document(lab), text)
 
 
-def shows_plainly(lab, *args):
+def shows_plainly(lab, *args, keys=True):
     """The lines of a command, none of which acts on a terminal."""
-    lines = shows(lab, *args, "--db", lab.db, "--keys", lab.keys)
+    lines = shows(lab, *args, "--db", lab.db, *(["--keys", lab.keys] if keys else []))
     expect(f"what acts on a terminal, of the command {args}", set(ACTING) & set("".join(lines)), set())
     return lines
 
@@ -189,23 +279,64 @@ def acting_text(lab):
     lab.add(7)
     lab.serve()
     token = lab.token(7)
-    things = [("/vendors", {"name": f"vendor \\{ACTING}\\u0085"}), ("/modules", {"name": f"module {ACTING}", "vendorUrl": "/acvp/v1/vendors/7000001"}),
+    things = [("/vendors", {"name": f"vendor <b>&amp;</td> \\{ACTING}\\u0085"}), ("/modules", {"name": f"module {ACTING}", "vendorUrl": "/acvp/v1/vendors/7000001"}),
               ("/oes", {"name": f"{ACTING} environment"})]
     for number, (path, thing) in enumerate(things, 7000001):
         lab.must("POST", path, token, thing)
         shown = shows_plainly(lab, "request-show", "--request", str(number))
         expect(f"the object of request {number} as it was sent", [json.loads(line) for line in shown[1:]], [thing])
+        expect(f"the long name of request {number}", shown[0].split(" ", 5)[5], f"(a name of {len(thing['name'].encode())} bytes)")
+        expect("the same in its list", shows_plainly(lab, "requests", keys=False)[-1], shown[0])
+        expect("the name in its document", json.loads("".join(shows_plainly(lab, "requests", "--json", keys=False)))[-1]["name"], thing["name"])
         lab.does(f"request {number} approved /acvp/v1{path}/7000001", "request-approve", "--db", lab.db, "--request", str(number))
-    made = lab.must("POST", "/testSessions", token, {"algorithms": CAPABILITIES[1:]})
-    bound, session, of_set = made["accessToken"], short(made["url"]), short(made["vectorSetUrls"][0])
-    lab.must("POST", of_set + "/results", bound, answers(lab.must("GET", of_set, bound)))
+    # as many vector sets as a session may have, of which the last is cancelled
+    made = lab.must("POST", "/testSessions", token, {"algorithms": CAPABILITIES[1:] * 20})
+    bound, session, sets = made["accessToken"], short(made["url"]), list(map(short, made["vectorSetUrls"]))
+    for of_set in sets[:-1]:
+        lab.must("POST", of_set + "/results", bound, answers(lab.must("GET", of_set, bound)))
+    lab.must("DELETE", sets[-1], bound)
     lab.must("PUT", session, bound, {"moduleUrl": "/acvp/v1/modules/7000001", "oeUrl": "/acvp/v1/oes/7000001"})
-    shown = dict(line.split(" ", 1) for line in shows_plainly(lab, "request-show", "--request", "7000004"))
+    lines = shows_plainly(lab, "request-show", "--request", "7000004")
+    states = [tuple(line.split(" ")[1:3]) for line in lines if line.split(" ")[2:3] in (["kept"], ["cancelled"])]
+    expect("which vector sets are shown", states, [(of_set[-9:], "kept") for of_set in sets[:-1]] + [(sets[-1][-9:], "cancelled")])
+    shown = dict(line.split(" ", 1) for line in lines)
     for path, thing in things:
         expect(f"{path} as it is read", json.loads(shown[f"/acvp/v1{path}/7000001"])[1], lab.must("GET", f"{path}/7000001", token))
     lab.does("request 7000004 approved /acvp/v1/testSessions/7000001", "request-approve", "--db", lab.db, "--request", "7000004")
     text, = shows_plainly(lab, "certificate", "--request", "7000004")
     expect("the names in a document", [json.loads(text)[member]["name"] for member in ("vendor", "module", "oe")], [thing["name"] for _, thing in things])
+    expect("its page", pages(lab, text), shows_plainly(lab, "certificate", "--request", "7000004", "--html"))
+    for number, name in enumerate([f"{ACTING[at:at + 24]}\"" for at in range(0, len(ACTING), 24)] + ["b" * 100, "b" * 101], 7000005):
+        lab.must("POST", "/vendors", token, {"name": name})
+        line = shows_plainly(lab, "requests", keys=False)[-1].split(" ", 5)[5]
+        if len(name.encode()) > 100:
+            expect("a name that is too long", line, "(a name of 101 bytes)")
+        else:
+            expect(f"the name of request {number}", json.loads(line), name)
+
+
+def broken_off(lab):
+    """A document that a malformed row breaks off isn't closed, and is told as a fault."""
+    whole = shows(lab, "requests", "--db", lab.db, "--all", "--json")
+    lab.backs_up()
+    stray = lab.path("backup.db")
+    connection = page_sums.connect(stray)
+    with contextlib.closing(connection), connection:
+        connection.execute("UPDATE request SET body = 'x' WHERE request = 8000001")
+    expect("a document that is broken off", lab.run("requests", "--db", stray, "--all", "--json"),
+           (1, "".join(line + "\n" for line in whole[:-2]), "fault: unavailable\n"))
+    # what the account can't read whole, since a row of it is malformed, breaks it off, too
+    connection = page_sums.connect(stray)
+    with contextlib.closing(connection):
+        connection.execute("UPDATE account SET enabled = 1")
+        connection.commit()
+        shown = {form: shows(lab, "request-show", "--db", stray, "--keys", lab.keys, "--request", "7000004", *form) for form in ((), ("--json",))}
+        connection.execute("UPDATE object SET body = 'x' WHERE kind = 3")
+        connection.commit()
+    for form, lines in shown.items():
+        before = next(at for at, line in enumerate(lines) if line.startswith("/acvp/v1/oes/") or line.endswith('"path":"/acvp/v1/oes/7000001"}'))
+        expect(f"what can't be read whole {form}", lab.run("request-show", "--db", stray, "--keys", lab.keys, "--request", "7000004", *form),
+               (1, "".join(line + "\n" for line in lines[:before]), "fault: unavailable\n"))
 
 
 def looks(lab, wanted):
@@ -214,13 +345,28 @@ def looks(lab, wanted):
            ["7 enabled sessions 1 requests 4 vendors 1 modules 1 environments 1",
             "8 disabled sessions 0 requests 1 vendors 0 modules 0 environments 0",
             "9999 enabled sessions 0 requests 0 vendors 0 modules 0 environments 0"])
-    expect("the requests that wait", shows(lab, "requests", "--db", lab.db),
-           [wanted[0], "8000001 account 8 vendor initial"])
+    expect("the requests that wait", shows(lab, "requests", "--db", lab.db), [wanted[0], ANOTHER])
     expect("all requests", shows(lab, "requests", "--db", lab.db, "--all"),
-           ["7000001 account 7 vendor approved 7000001", "7000002 account 7 module approved 7000001",
-            "7000003 account 7 environment approved 7000001", wanted[0], "8000001 account 8 vendor initial"])
+           [f'7000001 account 7 vendor approved 7000001 "{VENDOR["name"]}"', f'7000002 account 7 module approved 7000001 "{MODULE["name"]}"',
+            f'7000003 account 7 environment approved 7000001 "{ENVIRONMENT["name"]}"', wanted[0], ANOTHER])
+    counts = ("sessions", "requests", "vendors", "modules", "environments")
+    expect("the accounts as a document", document_of(lab, "accounts", "--db", lab.db),
+           [{"account": account, "enabled": enabled, **dict(zip(counts, numbers))} for account, enabled, numbers in
+            ((7, True, (1, 4, 1, 1, 1)), (8, False, (0, 1, 0, 0, 0)), (9999, True, (0, 0, 0, 0, 0)))])
+    created = wanted[0].split(" ")[8]
+    certification = {"createdOn": created, "environment": 7000001, "module": 7000001, "passed": 1, "session": 7000001, "vectorSets": 1}
+    waiting = [asked_for(7000004, "certification", MODULE["name"], certification=certification),
+               asked_for(8000001, "vendor", "Another", enabled=False)]
+    expect("the requests that wait as a document", document_of(lab, "requests", "--db", lab.db), waiting)
+    decided = {"approved": 7000001, "status": "approved"}
+    expect("all requests as a document", document_of(lab, "requests", "--db", lab.db, "--all"),
+           [asked_for(7000001, "vendor", VENDOR["name"], **decided), asked_for(7000002, "module", MODULE["name"], **decided),
+            asked_for(7000003, "environment", ENVIRONMENT["name"], **decided), *waiting])
+    expect("a check as a document", document_of(lab, "check", "--db", lab.db, "--keys", lab.keys),
+           {"accounts": 3, "requests": 5, "sessions": 1, "sets": 2, "whole": True})
     show = ["request-show", "--db", lab.db, "--keys", lab.keys, "--request"]
     compared("the certification", shows(lab, *show, "7000004"), wanted)
+    expect("the request in its document", compared_as_document(lab, wanted), waiting[0])
     question = (f"{wanted[0]}\n7 enabled sessions 1 requests 4 vendors 1 modules 1 environments 1\n"
                 "session 7000001: 1 of 1 vector sets passed\n")
     for command, verb in (("request-approve", "Approve"), ("request-reject", "Reject")):
@@ -229,7 +375,7 @@ def looks(lab, wanted):
     expect("a question about what isn't there", lab.typed(b"n\n", "request-approve", "--db", lab.db, "--request", "7000005"),
            (1, "fault: unknown\n"))
     expect("a vendor of a disabled account", shows(lab, *show, "8000001"),
-           ["8000001 account 8 vendor initial", '{"name":"Another"}'])
+           [ANOTHER, '{"name":"Another"}'])
     lab.fails("unknown", *show, "7000005")
     lab.fails("unknown", *show, "1")
     lab.fails("keys", "request-show", "--db", lab.db, "--keys", lab.path("no-keys"), "--request", "7000004")
@@ -245,6 +391,8 @@ def main():
         lab.does("ready", "init", "--db", lab.db)
         expect("no account", shows(lab, "accounts", "--db", lab.db), [])
         expect("no request", shows(lab, "requests", "--db", lab.db, "--all"), [])
+        for args, wanted in ((["accounts"], []), (["requests", "--all"], []), (["check", "--keys", lab.keys], NO_TABLES)):
+            expect(f"the document of {args} without a row", document_of(lab, *args, "--db", lab.db), wanted)
         for account in (7, 8, 9999):
             lab.add(account)
         try:
@@ -260,11 +408,12 @@ def main():
         looks(lab, wanted)
         lab.fails("unknown", "certificate", "--db", lab.db, "--keys", lab.keys, "--request", "7000004", what="before it is approved")
         lab.does("request 7000004 approved /acvp/v1/testSessions/7000001", "request-approve", "--db", lab.db, "--request", "7000004")
-        expect("no more than the other waits", shows(lab, "requests", "--db", lab.db), ["8000001 account 8 vendor initial"])
+        expect("no more than the other waits", shows(lab, "requests", "--db", lab.db), [ANOTHER])
         shown = shows(lab, "request-show", "--db", lab.db, "--keys", lab.keys, "--request", "7000004")
         expect("the line of what is approved", shown[0], wanted[0].replace("initial", "approved 7000001"))
         expect("its session", json.loads(shown[5].split(" ", 1)[1])[1]["status"], "approved")
         certificates(lab, wanted, token, bound, given)
+        broken_off(lab)
     with tempfile.TemporaryDirectory() as folder:
         lab = Laboratory(program, folder)
         lab.does("ready", "init", "--db", lab.db)

@@ -4,7 +4,8 @@ logged as unsent.
     served-in-turn.py PROGRAM
 
 While the server makes the standard answers of a vector set with a Monte Carlo test, other clients send the ends of their
-requests one after another. The lines of `serve --log` tell in which order they were served."""
+requests one after another. The lines of `serve --log`, and its objects, tell in which order they were served."""
+import json
 import os
 import random
 import socket
@@ -25,16 +26,16 @@ ACCOUNTS, TURNS = 16, 10
 
 
 class Watched:
-    """A laboratory with accounts, that is served with a log."""
+    """A laboratory with accounts, that is served with a log, in words or as JSON."""
 
-    def __init__(self, program, folder):
+    def __init__(self, program, folder, form):
         self.lab = Laboratory(program, folder)
-        self.path, self.read, self.sets = self.lab.path("log"), 0, []
+        self.path, self.read, self.sets, self.form = self.lab.path("log"), 0, [], form
         self.lab.does("ready", "init", "--db", self.lab.db)
         for account in range(1, ACCOUNTS + 1):
             self.lab.add(account)
         with open(self.path, "ab") as log:
-            self.lab.serve(count=None, more=["--log"], faults=log)
+            self.lab.serve(count=None, more=["--log", form], faults=log)
 
     def token(self, account):
         now = int(time.time())
@@ -49,11 +50,19 @@ class Watched:
                 text = file.read()
             if text.count("\n") >= count:
                 self.read += len(text)
-                found = [line.split(" ", 7) for line in text.splitlines()]
+                found = [self.words_of(line) for line in text.splitlines()]
                 expect("how many lines there are", len(found), count)
                 return [tuple(words[1:3] + words[4:6] + words[7:]) for words in found]
             time.sleep(0.01)
         raise SystemExit(f"a line is missing: {text!r}")
+
+    def words_of(self, line):
+        """The words of a line; of an object, those that it would have."""
+        if self.form == "words":
+            return line.split(" ", 7)
+        told = json.loads(line)
+        members = ("time", "account", "action", "subject", "status", "result", "milliseconds")
+        return ["-" if told[name] is None else str(told[name]) for name in members] + ([] if told["sent"] else ["unsent"])
 
     def dear(self):
         """A request that keeps the server busy: for the expected answers of a vector set that nobody has asked for."""
@@ -112,17 +121,18 @@ def unsent(it):
 
 def main():
     program = os.path.abspath(sys.argv[1])
-    with tempfile.TemporaryDirectory() as folder:
-        it = Watched(program, folder)
-        try:
-            order = random.Random(25)
-            for _ in range(TURNS):
-                in_turn(it, order)
-            for _ in range(3):
-                unsent(it)
-        finally:
-            it.lab.kill()
-    print(f"{TURNS} times {ACCOUNTS} clients in turn; {laboratory.checked} comparisons")
+    for form, turns in (("words", TURNS), ("json", 1)):
+        with tempfile.TemporaryDirectory() as folder:
+            it = Watched(program, folder, form)
+            try:
+                order = random.Random(25)
+                for _ in range(turns):
+                    in_turn(it, order)
+                for _ in range(3):
+                    unsent(it)
+            finally:
+                it.lab.kill()
+    print(f"{TURNS + 1} times {ACCOUNTS} clients in turn; {laboratory.checked} comparisons")
 
 
 main()

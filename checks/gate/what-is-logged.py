@@ -1,10 +1,11 @@
-"""The lines that serving writes where `--log` is given: one for each request and order, with what it says; nothing of what
+"""The lines that serving writes if `--log` is given, in words and as JSON: one for each request and order, with what it says; nothing of what
 came but the program's own words and numbers; and replies that are the same with and without it.
 
     what-is-logged.py PROGRAM SHIM
 
 SHIM is the library of set_clock.c, which shows the program one moment."""
 import datetime
+import json
 import os
 import re
 import socket
@@ -20,8 +21,11 @@ import page_sums
 MOMENT, END_OF_MOMENTS = 1790000000, 4102444800
 MARK = "marked-by-who-sent-it"
 LINE = re.compile(r"(\S+) (-|[1-9]\d{0,3}) (-|[A-Za-z]+|[a-z]+-[a-z]+) (-|\d+) (-|\d{3}) ([A-Za-z]+|-) (\d+)((?: unsent| because: [ -~]+)?)\n")
-STORE = ("the store refused a statement (a full disk, a folder that can't be written to), or met a page or a row that stands"
-         " for nothing")
+# What a line is expected to tell, but for the milliseconds.
+WANTED = re.compile(r"(\S+) (\S+) (\S+) (\S+) (\S+)(?: because: (.*))?")
+MEMBERS = ["account", "action", "because", "milliseconds", "result", "sent", "status", "subject", "time"]
+STORE = ("the store refused a statement (a full disk, a folder that can't be written to), or met a damaged page or a malformed"
+         " row")
 REGISTRATION = {"algorithms": [{"algorithm": "SHA2-256", "revision": "1.0", "messageLength": [8]}], "mark": MARK}
 
 
@@ -33,9 +37,9 @@ def told_as(moment):
 class Logged:
     """A laboratory that is served under a clock that is set, whose lines are read one by one."""
 
-    def __init__(self, program, shim, folder, is_logged):
+    def __init__(self, program, shim, folder, options):
         self.lab = Laboratory(program, folder)
-        self.is_logged, self.path, self.read = is_logged, self.lab.path("log"), 0
+        self.options, self.path, self.read = options, self.lab.path("log"), 0
         self.secret_texts, self.replies, self.lines = [], [], []
         self.clock = self.lab.path("clock")
         self.at(MOMENT)
@@ -48,7 +52,7 @@ class Logged:
 
     def serve(self):
         with open(self.path, "ab") as faults:
-            self.lab.serve(count=None, more=["--log"] if self.is_logged else [], faults=faults)
+            self.lab.serve(count=None, more=self.options, faults=faults)
 
     def line(self):
         """The next line. It may be written once the reply is out."""
@@ -64,15 +68,30 @@ class Logged:
 
     def tells(self, what, wanted):
         """The next line has this account, action, number, status, word, and what stands behind the milliseconds."""
-        if not self.is_logged:
+        if not self.options:
             return
         line = self.line()
         self.lines.append(line)
+        if "json" in self.options:
+            self.tells_object(what, line, wanted)
+            return
         found = LINE.fullmatch(line)
         expect(f"the form of the line {line!r} of {what}", found is not None, True)
         moment, account, action, subject, status, word, took, tail = found.groups()
         expect(f"the line of {what}", (moment, f"{account} {action} {subject} {status} {word}{tail}"), (told_as(self.moment), wanted))
         expect(f"the milliseconds of {what}", int(took) < 60000, True)
+
+    def tells_object(self, what, line, wanted):
+        """The line is an object of this, with all members, null if none or unknown."""
+        told = json.loads(line)
+        expect(f"the form of the line of {what}", (json.dumps(told, separators=(",", ":")) + "\n", list(told)), (line, MEMBERS))
+        account, action, subject, status, word, because = WANTED.fullmatch(wanted).groups()
+        known, number = lambda text: None if text == "-" else text, lambda text: None if text == "-" else int(text)
+        milliseconds = told["milliseconds"]
+        expect(f"the line of {what}", told, dict(zip(MEMBERS, (
+            number(account), known(action), because, milliseconds, known(word), word != "broken", number(status), number(subject),
+            told_as(self.moment)))))
+        expect(f"the milliseconds of {what}", type(milliseconds) is int and 0 <= milliseconds < 60000, True)
 
     def asks(self, what, text, wanted):
         """What a request is answered, whose line is this."""
@@ -219,6 +238,8 @@ def nobody_reads(program):
     with tempfile.TemporaryDirectory() as folder:
         lab = Laboratory(program, folder)
         lab.does("ready", "init", "--db", lab.db)
+        unknown = lab.run("serve", "--db", lab.db, "--keys", "none", "--port", "1", "--log", "xml")
+        expect("a log of no known form", unknown[:2], (2, ""))
         lab.serve(count=3, more=["--log"])
         try:
             lab.call("GET", "/account")
@@ -232,10 +253,10 @@ def nobody_reads(program):
             lab.process.wait()
 
 
-def run(program, shim, is_logged):
+def run(program, shim, *options):
     """The bytes of all answers, and the lines."""
     with tempfile.TemporaryDirectory() as folder:
-        it = Logged(program, shim, folder, is_logged)
+        it = Logged(program, shim, folder, list(options))
         try:
             it.serve()
             for part in (requests, orders, hostile_bytes, what_is_unavailable):
@@ -250,18 +271,19 @@ def run(program, shim, is_logged):
         expect("the bytes of the lines", [byte for byte in set(log) if byte != 10 and not 32 <= byte < 127], [])
         for text in it.secret_texts:
             expect("a token, a code, a secret or a body in the lines", text.encode() in log, False)
-        if not is_logged:
+        if not options:
             expect("what is written without --log", log, b"")
         return it.replies, it.lines
 
 
 def main():
     program, shim = os.path.abspath(sys.argv[1]), os.path.abspath(sys.argv[2])
-    with_lines, lines = run(program, shim, True)
-    without, _ = run(program, shim, False)
-    expect("how many answers there are", (len(with_lines), len(without)), (len(with_lines),) * 2)
-    for one, other in zip(with_lines, without):
-        expect("an answer with and without --log", one, other)
+    without, _ = run(program, shim)
+    for options in (["--log", "json"], ["--log"]):
+        with_lines, lines = run(program, shim, *options)
+        expect("how many answers there are", len(with_lines), len(without))
+        for one, other in zip(with_lines, without):
+            expect("an answer with and without --log", one, other)
     nobody_reads(program)
     print(f"{len(lines)} lines; {laboratory.checked} comparisons")
 

@@ -12,6 +12,7 @@ What can't be made: a row that refers to none, since no such file is opened; two
 sessions or requests of an account, which take too long."""
 import concurrent.futures
 import importlib.util
+import json
 import os
 import shutil
 import subprocess
@@ -241,6 +242,11 @@ def wrong_as(line):
     return ((1, line + "\n", "fault: rows\n"), True)
 
 
+def wrong_as_json(line):
+    row, word = line.rsplit(" ", 1)
+    return wrong_as(json.dumps({"row": row, "whole": False, "wrong": word}, separators=(",", ":")))
+
+
 def is_whole(lab, path, *more, keys=None):
     expect(f"check {path} {more}", checked(lab, path, *more, keys=keys), whole_as(path))
 
@@ -266,10 +272,11 @@ def damage(lab, whole, statements, name):
 
 def each_damage(lab, whole):
     """Each in turn, as many side by side as there are processors. All but those of verdicts are found without the
-    verdicts, too: every other one is looked at so."""
+    verdicts, too: every other one is looked at so, and every third is told as JSON."""
     connection = rows.opened(whole)
     found = [each for group in GROUPS for each in group()]
-    cases = [(statements, wrong_as(line), ("--grades", "no") if place % 2 else ()) for place, (statements, line)
+    cases = [(statements, wrong_as(line) if place % 3 else wrong_as_json(line),
+              (("--grades", "no") if place % 2 else ()) + (() if place % 3 else ("--json",))) for place, (statements, line)
              in enumerate(found)]
     for statements, line in verdicts(connection):
         cases.append((statements, wrong_as(line), ()))

@@ -172,10 +172,12 @@ class Laboratory:
         return done.returncode, done.stdout, done.stderr
 
     def typed(self, answer, *args):
-        """The status of a command on a terminal at which an answer is typed once it asks, and what the terminal shows."""
-        process, terminal = pty.fork()
-        if process == 0:
-            os.execv(self.program, [self.program, *args])
+        """The status of a command on a terminal at which an answer is typed once it asks, and what the terminal shows.
+        The terminal isn't its controlling one: when the leader of a session ends, the kernel drops what a terminal
+        hasn't shown yet."""
+        terminal, its = pty.openpty()
+        process = subprocess.Popen([self.program, *args], stdin=its, stdout=its, stderr=its)
+        os.close(its)
         said, left = b"", answer
         with contextlib.suppress(OSError):
             for part in iter(lambda: os.read(terminal, 4096), b""):
@@ -184,8 +186,7 @@ class Laboratory:
                     os.write(terminal, left)
                     left = b""
         os.close(terminal)
-        status = os.waitstatus_to_exitcode(os.waitpid(process, 0)[1])
-        return status, said.decode().replace("\r\n", "\n").replace("^D\b\b", "")
+        return process.wait(), said.decode().replace("\r\n", "\n").replace("^D\b\b", "")
 
     def does(self, wanted, *args):
         expect(f"the command {args}", self.run(*args), (0, wanted + "\n", ""))
