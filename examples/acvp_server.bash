@@ -39,6 +39,12 @@ _acvp_server() {
             _acvp_server_words "$word" "yes no"
             return
             ;;
+        --log)
+            if [[ $word != -* ]]; then
+                _acvp_server_words "$word" "words json"
+                return
+            fi
+            ;;
         --account | --request | --port | --count | --patience)
             return
             ;;
@@ -52,11 +58,11 @@ _acvp_server() {
         account-disable) options="--db --account --yes --verbose --help" ;;
         request-approve) options="--db --request --yes --verbose --help" ;;
         request-reject) options="--db --request --yes --verbose --help" ;;
-        accounts) options="--db --verbose --help" ;;
-        requests) options="--db --all --verbose --help" ;;
-        request-show) options="--db --keys --request --verbose --help" ;;
-        certificate) options="--db --keys --request --verbose --help" ;;
-        check) options="--db --keys --grades --verbose --help" ;;
+        accounts) options="--db --json --verbose --help" ;;
+        requests) options="--db --all --json --verbose --help" ;;
+        request-show) options="--db --keys --request --json --verbose --help" ;;
+        certificate) options="--db --keys --request --html --verbose --help" ;;
+        check) options="--db --keys --grades --json --verbose --help" ;;
         serve) options="--db --keys --port --count --patience --log --verbose --help" ;;
         backup) options="--db --to --verbose --help" ;;
         restore) options="--from --db --verbose --help" ;;

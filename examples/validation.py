@@ -1,26 +1,25 @@
 #!/usr/bin/env python3
-"""A client that has Python's own hashlib and hmac validated and certified, by standard Python alone.
+"""A client, in standard Python alone, that gets Python's hashlib and hmac validated and certified.
 
     examples/validation.py COMMAND..
     examples/validation.py --port P PROGRAM FILE KEYS
     examples/validation.py --url URL ACCOUNT SECRET [AUTHORITY [CERTIFICATE KEY]]
 
 COMMAND runs the server in script mode with a keys file, as in `acvp_server script --keys keys.txt`. The client hands it
-each event through a pipe, stands for the network and the clock, and reads the reply before it goes on.
+each request and order through a pipe, plays the network and the clock, and reads the reply before it goes on.
 
-With --port the client speaks to PROGRAM, as `acvp_server`, over sockets of port P. It has PROGRAM serve the records in
-FILE, which `acvp_server init` has made, under the keys in KEYS. The operator's orders are commands of PROGRAM, which it
-carries out while it serves. The account is the lowest of 7 to 9999 that isn't there.
+With --port the client speaks to PROGRAM, such as `acvp_server`, on port P. It has PROGRAM serve the records in FILE,
+which `acvp_server init` has made, under the keys in KEYS. The operator's orders are commands of PROGRAM, given while it
+serves. The account is the lowest free one from 7 to 9999.
 
-With --url the client speaks to the address of a server, or of its reverse proxy, as
-https://laboratory.example/acvp/v1, for an account whose secret is in the file SECRET. AUTHORITY is the certificate of
-who signed the proxy's, and CERTIFICATE and KEY are the client's own. It ends once its test session has passed, since
-the operator isn't there.
+With --url the client speaks to a server or its reverse proxy at URL, such as https://laboratory.example/acvp/v1, for
+an account whose secret is in the file SECRET. AUTHORITY is the certificate that signed the proxy's, and CERTIFICATE and
+KEY are the client's own. It ends once its test session has passed, since the operator isn't there.
 
-With --without-monte-carlo in front of all these the longest message has 760 bits. That is less than three digests, and
-so the vector sets have no Monte Carlo test, which takes an unproved build with its checks more than a minute.
+With --without-monte-carlo as the first argument the longest message has 760 bits, less than three digests. So there is
+no Monte Carlo test, which takes an unproved build more than a minute.
 
-It prints what happens, and stops with status 1 where anything isn't as it must be."""
+It prints what happens, and stops with status 1 at the first surprise."""
 import contextlib
 import hashlib
 import hmac
@@ -68,7 +67,7 @@ class Server:
         return line.decode().rstrip("\n")
 
     def order(self, text):
-        """Hands an order of the operator over, and gives its answer."""
+        """Hands over an operator's order, and gives its answer."""
         self.send(text.encode() + b"\n")
         return self.line()
 
@@ -128,7 +127,7 @@ class SocketServer(Server):
             self.process = None
 
     def order(self, text):
-        """Carries an order of the operator out, written as in a script, and gives the answer that it has there."""
+        """Carries out an operator's order in a script's form, and gives a script's answer."""
         word, _, number, *secret = text.split(" ")
         options = ["--account" if word.startswith("account") else "--request", number]
         with tempfile.NamedTemporaryFile("w") as file:
@@ -193,7 +192,7 @@ def monte_carlo(name, seed):
 
 
 def answer(vector_set, group, test):
-    """What the implementation under test, which is Python's, makes of a test."""
+    """The answer of the implementation under test, which is Python's."""
     name = HASHES[vector_set["algorithm"]]
     message = bytes.fromhex(test["msg"])
     if "key" in test:
@@ -211,7 +210,7 @@ def answers(vector_set):
 
 
 def judged(server, path, token, wanted):
-    """The results of a vector set, whose disposition must be this one."""
+    """The tests that a vector set, whose disposition must be this one, doesn't pass."""
     results = server.must("GET", f"{path}/results", token)
     if results["disposition"] != wanted:
         stop(f"{path} is {results['disposition']} and not {wanted}")
@@ -219,7 +218,7 @@ def judged(server, path, token, wanted):
 
 
 def validate(server, token, path):
-    """Fetches a vector set, answers it, first with one wrong digest, and reads what the answers come to."""
+    """Fetches a vector set, answers it, first with one wrong digit, and reads the results."""
     vector_set = server.must("GET", path, token)
     count = sum(len(group["tests"]) for group in vector_set["testGroups"])
     kinds = {group["testType"] for group in vector_set["testGroups"]}
@@ -246,7 +245,7 @@ def path_of(url):
 
 
 def decided(server, word, url, wanted):
-    """The operator decides on a request, which then must be so."""
+    """The operator decides on a request. That must succeed."""
     number = url.split("/")[-1]
     outcome = server.order(f"request-{word} {int(time.time())} {number}")
     if outcome != "order done":
@@ -288,7 +287,7 @@ def certify(server, token, bound, session):
 
 
 def added(server, secret):
-    """Adds an account with this secret, the lowest from 7 on that isn't there, and gives its number."""
+    """Adds an account with this secret, the lowest free one from 7 on, and gives its number."""
     for account in range(7, 10000):
         outcome = server.order(f"account-add {int(time.time())} {account} {secret.hex()}")
         if outcome == "order done":
