@@ -761,6 +761,44 @@ def left_copies(lab, slow_lock):
     expect("what is left behind a backup to another name", [name for name in copies(lab) if name not in others], [])
 
 
+def locked_while_taken_away(lab, slow_lock):
+    """Who takes a left copy away has it locked until its name is gone. So a command that has just made it, and hasn't
+    locked it yet, doesn't lock what is about to go."""
+    lab.add(1)
+    gate, copy = lab.path("gate"), lab.path("laboratory.db-part-1795862400123456789")
+
+    def makes_half():
+        lab.write(copy, "what a killed command has left")
+
+    def makes_second_name():
+        os.link(lab.db, copy)
+
+    order = ["account-disable", "--db", lab.db, "--account", "9"]
+    for make, command, end in ((makes_half, ["backup", "--db", lab.db, "--to", lab.path("beside.db")], (b"", 0)),
+                               (makes_second_name, order, (b"fault: unknown\n", 1))):
+        make()
+        taking = subprocess.Popen([lab.program, *command], stdin=subprocess.DEVNULL, stdout=subprocess.PIPE, stderr=subprocess.PIPE,
+                                  env={**os.environ, "LD_PRELOAD": slow_lock, "REMOVE_GATE": gate})
+        while not os.path.exists(gate):
+            time.sleep(0.01)
+        with open(copy, "rb") as file:
+            expect(f"{command[0]} has the copy locked that it takes away", is_locked(file), True)
+            os.remove(gate)
+            expect(f"the end of {command[0]}", (taking.communicate(timeout=60)[1], taking.returncode), end)
+            expect(f"the copies that {command[0]} leaves", copies(lab), [])
+            expect(f"nobody has what {command[0]} took away", is_locked(file), False)
+
+
+def is_locked(file):
+    """Whether somebody has an open file locked (flock(2)). A lock that is had is let go."""
+    try:
+        fcntl.flock(file, fcntl.LOCK_EX | fcntl.LOCK_NB)
+    except BlockingIOError:
+        return True
+    fcntl.flock(file, fcntl.LOCK_UN)
+    return False
+
+
 # ---- a table of locks that changes
 
 
@@ -800,7 +838,8 @@ def main():
     parts = [(links,), (hard_links,), (mounts,), (moved_while_serving,), (journals,), (restore_beside_a_start, slow_lock),
              (foreign_neighbours,), (foreign_texts,), (kept_owner,), (without_links, no_links), (left_copies, slow_lock)]
     parts += [(left_beside,), (renamed_meanwhile, slow_lock), (planted,), (without_proc,), (same_numbers,), (names_of_neighbours,),
-              (second_names,), (blamed,), (empty_files,), (other_locks,)]
+              (second_names,), (blamed,), (empty_files,), (locked_while_taken_away, slow_lock),
+              (other_locks,)]
     for part, *more in parts:
         with tempfile.TemporaryDirectory() as folder:
             lab = Laboratory(program, folder)

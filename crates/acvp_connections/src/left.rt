@@ -15,11 +15,12 @@ pub fn remove(rt: &HostRuntime, path: &str) -> io::Result<()> {
     }
 }
 
-/// Whether nobody makes a copy any more whose file is at a path.
-pub fn is_left(rt: &HostRuntime, path: &str) -> bool {
+/// The file of a copy at a path, locked, if nobody makes the copy any more. It is to be kept until the copy's names are
+/// taken away: were it let go before, the command that has just made the file could lock it, and lose it then.
+pub fn left_file(rt: &HostRuntime, path: &str) -> Option<File> {
     match File::open(rt, path) {
-        Ok(file) => file.try_lock().is_ok(),
-        Err(_) => false,
+        Ok(file) if file.try_lock().is_ok() => Some(file),
+        _ => None,
     }
 }
 
@@ -27,9 +28,10 @@ pub fn is_left(rt: &HostRuntime, path: &str) -> bool {
 fn remove_name(rt: &HostRuntime, path: &str, number: FileNumber) {
     if is_copy(path)
         && matches!(file_at(rt, path), Ok(there) if there == number)
-        && is_left(rt, path)
+        && let Some(left) = left_file(rt, path)
     {
         let _ = remove(rt, path);
+        drop(left);
     }
 }
 

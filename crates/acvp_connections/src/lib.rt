@@ -11,5 +11,5 @@ pub use connection::{
     has_no_log,
 };
 pub use fault::{FileFault, done, fault_of_cause, refused};
-pub use left::{is_left, remove, settle_names};
+pub use left::{left_file, remove, settle_names};
 pub use number::{FileNumber, file_at, number_of};

@@ -3,7 +3,7 @@
 //! Whoever makes a copy has it locked until it is taken away or has its name. So a copy that nobody has locked was
 //! left.
 use acvp_causes::{MOMENT_DIGITS, folder_of, is_copy, last_of};
-use acvp_connections::{FileFault, file_at, is_left, number_of, refused, remove};
+use acvp_connections::{FileFault, file_at, left_file, number_of, refused, remove};
 use std::alloc::{AllocError, AllocGlobal, Global};
 use std::fs::{self, File, Metadata, OpenOptions, Permissions};
 use std::io::{self, ErrorKind};
@@ -202,8 +202,9 @@ fn is_copy_of(name: &str, base: &str) -> bool {
 fn remove_unheld(rt: &HostRuntime, pair: &Pair) {
     match fs::symlink_metadata(rt, pair.file.as_str()) {
         Ok(there) if there.is_file() => {
-            if is_left(rt, pair.file.as_str()) {
+            if let Some(left) = left_file(rt, pair.file.as_str()) {
                 remove_pair(rt, pair);
+                drop(left);
             }
         }
         Err(error) if error.kind() == ErrorKind::NotFound => {
