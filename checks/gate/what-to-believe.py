@@ -15,9 +15,11 @@ import sys
 
 TOP = os.path.join(os.path.dirname(os.path.abspath(__file__)), "..", "..")
 PAGE = os.path.join(TOP, "docs", "PROOFS.md")
-PROMISES = {"crates/acvp_http/src/promise.rt": ["headline", "isolation"], "crates/acvp_policy/src/grant.rt": ["decide"],
-            "crates/acvp_answers/src/grading.rt": ["grade"], "crates/acvp_commands/src/life.rt": ["files_live_on"],
-            "crates/acvp_commands/src/done.rt": ["done_over"]}
+# headline, and the contracts that the README names
+REPLIES = {"crates/acvp_http/src/promise.rt": ["headline", "isolation"], "crates/acvp_http/src/nothing.rt": ["run_from_nothing"]}
+OTHERS = {"crates/acvp_mac/src/one_time_codes.rt": ["accepted_step"], "crates/acvp_policy/src/grant.rt": ["decide"],
+          "crates/acvp_answers/src/answering.rt": ["standard"], "crates/acvp_answers/src/grading.rt": ["grade", "disposition"],
+          "crates/acvp_commands/src/life.rt": ["files_live_on"], "crates/acvp_commands/src/done.rt": ["done_over"]}
 NAME = r"[^\s(){}\[\],;.:=]+"
 TOKEN = re.compile(r"[^\s(){}\[\],;]+")
 START = re.compile(rf"(?:abbrev |unfoldable |opaque )?(?:pub )?(?:record |data )?({NAME})(?: |$)")
@@ -139,13 +141,12 @@ def told(what, walk):
 
 def main():
     walk, lines = Walk(), []
-    for file, functions in PROMISES.items():
-        for function in functions:
-            clauses, (names, modules) = clauses_of(file, function)
-            walk.text(clauses, names, modules)
-        if not lines:
-            lines.append(told("claims 1 and 2", walk))
-    lines.append(told("all claims", walk))
+    for claims, promises in (("claims 1 and 2", REPLIES), ("all claims", OTHERS)):
+        for file, functions in promises.items():
+            for function in functions:
+                clauses, (names, modules) = clauses_of(file, function)
+                walk.text(clauses, names, modules)
+        lines.append(told(claims, walk))
     if sys.argv[1:] == ["--list"]:
         for file in sorted({file for file, _ in walk.met}):
             found = {name: count for (other, name), count in walk.met.items() if other == file}
