@@ -3,7 +3,8 @@
 take some hundred times as long where the answers are made anew as where they are found. The program keeps what it
 computed of the last 64 vector sets that were asked for, and of 1,024 with a Monte Carlo test the standard answers
 beside. So a submission that is sent again is quick, also behind 64 and more other vector sets, small ones and such with
-a Monte Carlo test of their own. Of the turns the quickest counts, since the machine may be busy with something else.
+a Monte Carlo test of their own. Only the processor's time counts, and of the turns the quickest, since the machine may
+be busy with something else.
 
 COMMAND runs the server in script mode under a token key and a seed of zeros."""
 import sys
@@ -39,11 +40,15 @@ class Account:
         self.asks("GET", f"/testSessions/{session}/vectorSets/{session}01", None, session)
 
     def submits(self, session, method="PUT"):
-        """The seconds that answers take, none of which is right."""
+        """The seconds that the server computes on answers, none of which is right."""
         wrong = {"testGroups": [], "vsId": session * 100 + 1}
-        begun = time.perf_counter()
+        begun = self.computed()
         self.asks(method, f"/testSessions/{session}/vectorSets/{session}01/results", wrong, session)
-        return time.perf_counter() - begun
+        return self.computed() - begun
+
+    def computed(self):
+        """The seconds that the server has computed so far: the processor's time of a process (clock_getcpuclockid(3))."""
+        return time.clock_gettime(~self.server.process.pid << 3 | 2)
 
 
 def main():

@@ -220,7 +220,7 @@ class File:
             with open(options[-1], "w") as file:
                 file.write(secret[0] + "\n")
         command = [self.program, word, "--db", self.db, *options]
-        done = subprocess.run(command, capture_output=True, text=True, timeout=60)
+        done = subprocess.run(command, capture_output=True, text=True, timeout=600)
         self.printed = done.stdout
         return "order done" if done.returncode == 0 else "order " + done.stderr.removeprefix("fault: ").rstrip("\n")
 
@@ -299,7 +299,7 @@ class Play:
         self.where.end()
         files = ["--db", self.where.db, "--keys", self.where.keys]
         serve = [self.where.program, "serve", *files, "--port", str(free_port())]
-        done = subprocess.run(serve, capture_output=True, text=True, timeout=60)
+        done = subprocess.run(serve, capture_output=True, text=True, timeout=600)
         expect("what serve says", (done.returncode, done.stdout, done.stderr), (1, "", f"fault: {fault}\n"))
 
     def stored(self, line):

@@ -301,7 +301,7 @@ def run(events, at, folder):
     env = {"LD_PRELOAD": SHIM, "REFUSE_AT": str(at), "REFUSED": mark}
     with open(output, "wb") as file:
         ran = subprocess.run(COMMAND, input=b"".join(e.text for e in events), stdout=file,
-                             stderr=subprocess.PIPE, env=env, timeout=60)
+                             stderr=subprocess.PIPE, env=env, timeout=600)
     written = None
     if os.path.exists(mark):
         with open(mark) as file:
@@ -417,7 +417,7 @@ class Serving(Served):
 
     def ended(self):
         """How the process has ended by itself."""
-        output, errors = self.process.communicate(timeout=60)
+        output, errors = self.process.communicate(timeout=600)
         return self.process.returncode, output, errors
 
     def asked(self, event):
@@ -477,7 +477,7 @@ def added(file, secret, at=0):
     """How the command that adds account 7 ends, with this growth refused."""
     args = [PROGRAM, "account-add", "--db", file, "--account", "7", "--secret", secret]
     env = {**refusing(at, f"{file}-refused"), "LD_PRELOAD": SHIM}
-    done = subprocess.run(args, stdin=subprocess.DEVNULL, capture_output=True, env=env, timeout=60)
+    done = subprocess.run(args, stdin=subprocess.DEVNULL, capture_output=True, env=env, timeout=600)
     return done.returncode, done.stdout, done.stderr
 
 

@@ -153,7 +153,7 @@ def copies_apart(lab):
     for number in range(10):
         running = [subprocess.Popen([lab.program, *backup(lab)], stdin=subprocess.DEVNULL, stdout=subprocess.PIPE, stderr=subprocess.PIPE)
                    for _ in range(4)]
-        ends = sorted((run.communicate(timeout=60), run.returncode) for run in running)
+        ends = sorted((run.communicate(timeout=600), run.returncode) for run in running)
         taken, made = ((b"", b"fault: taken\n"), 1), b"backed up: %d rows\n" % rows_of(lab.path("backup.db"))
         expect(f"four backups at once, {number}", ends, [taken] * 3 + [((made, b""), 0)])
         expect("the rows of the one", content(lab.path("backup.db")), content(lab.db))
@@ -701,7 +701,7 @@ def each_fault_both_ways(lab):
     for command in (["accounts", "--db", lab.db], ["requests", "--db", lab.db], ["request-show", "--db", lab.db, *keys, *one],
                     ["check", "--db", lab.db, *keys], ["migrate", "--db", lab.db],
                     ["serve", "--db", lab.db, *keys, "--port", str(free_port()), "--count", "1"]):
-        done = subprocess.run([lab.program, *command], stdin=subprocess.DEVNULL, stdout=full, stderr=subprocess.PIPE, timeout=60)
+        done = subprocess.run([lab.program, *command], stdin=subprocess.DEVNULL, stdout=full, stderr=subprocess.PIPE, timeout=600)
         expect(f"{command[0]} to a full output", (done.returncode, done.stderr), (1, b"fault: write\n"))
 
 
@@ -711,7 +711,7 @@ def each_fault_both_ways(lab):
 def on_a_terminal(lab, *args):
     """What a command says on standard error where that is a terminal."""
     ours, its = pty.openpty()
-    done = subprocess.run([lab.program, *args], stdin=subprocess.DEVNULL, stdout=subprocess.DEVNULL, stderr=its, timeout=60)
+    done = subprocess.run([lab.program, *args], stdin=subprocess.DEVNULL, stdout=subprocess.DEVNULL, stderr=its, timeout=600)
     os.close(its)
     said = b""
     with contextlib.suppress(OSError):
@@ -875,7 +875,7 @@ def little_stack(lab):
             for body in bodies:
                 expect(f"a deep body with {size} kB of stack", lab.call("POST", "/login", body=body)[0], 400)
             served.append(size)
-        output, faults = serving.communicate(timeout=60)
+        output, faults = serving.communicate(timeout=600)
         expect(f"what is told with {size} kB of stack", (output, faults), (b"served 4\n" if size in served else b"", b""))
     expect(f"the sizes that suffice, {served}", served != [] and served == list(range(served[0], 1000, 25)), True)
 

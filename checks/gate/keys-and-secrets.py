@@ -150,7 +150,7 @@ def texts_of_pipes(lab):
         running = subprocess.Popen([lab.program, *args, "--verbose"], stdin=subprocess.DEVNULL, stdout=subprocess.PIPE, stderr=subprocess.PIPE)
         with open(pipe, "w") as writing:
             writing.write("no key\n")
-        output, faults = running.communicate(timeout=60)
+        output, faults = running.communicate(timeout=600)
         told = [line for line in faults.decode().splitlines() if not line.startswith("warning: ")]
         expect(f"the command {args} over a pipe", (running.returncode, output, told), (1, b"", [f"fault: {word}"]))
 
@@ -292,7 +292,7 @@ def seeds_of_no_start(lab):
     for what in ("full", "closed"):
         with open("/dev/full", "wb") as full:
             closed = {"preexec_fn": lambda: os.close(1)} if what == "closed" else {"stdout": full}
-            done = subprocess.run([lab.program, *start], stdin=subprocess.DEVNULL, stderr=subprocess.PIPE, timeout=60, **closed)
+            done = subprocess.run([lab.program, *start], stdin=subprocess.DEVNULL, stderr=subprocess.PIPE, timeout=600, **closed)
         expect(f"a start whose output is {what}", (done.returncode, done.stderr), (1, b"fault: write\n"))
         expect(f"what is known behind an output that is {what}", known(lab), [])
     serves_once(lab, one)

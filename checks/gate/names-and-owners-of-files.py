@@ -67,7 +67,7 @@ def looks_over(lab, path):
 def elsewhere(script, lab, *args):
     """Runs the program with mounts of its own, which a script has made before."""
     ran = subprocess.run(["unshare", "--mount", "sh", "-c", f'{script} && exec "$@"', "sh", lab.program, *args],
-                         stdin=subprocess.DEVNULL, capture_output=True, text=True, timeout=60)
+                         stdin=subprocess.DEVNULL, capture_output=True, text=True, timeout=600)
     return ran.returncode, ran.stdout, ran.stderr
 
 
@@ -328,7 +328,7 @@ def second_names(lab):
         for last in "89":
             os.link(lab.path("new.db") + end, lab.path("new.db") + end + part[-25:-1] + last)
     lab.does("schema 3", "migrate", "--db", lab.path("new.db"))
-    expect("the names of a file and its log", [name for name in os.listdir(lab.folder) if name.startswith("new.db")], ["new.db", "new.db-wal"])
+    expect("the names of a file and its log", sorted(name for name in os.listdir(lab.folder) if name.startswith("new.db")), ["new.db", "new.db-wal"])
     # the name that a restore has given to what it keeps is another's: who links it to the file is refused
     keeps = lab.db + "-replaced-1795862400123456789"
     os.link(lab.db, keeps)
@@ -442,7 +442,7 @@ def renamed_meanwhile(lab, slow_lock):
     os.rename(copy, lab.path("stolen"))
     os.symlink(victim, copy)
     os.remove(gate)
-    expect("a restore whose copy was renamed", (*slow.communicate(timeout=60), slow.returncode), ("", "fault: unavailable\n", 1))
+    expect("a restore whose copy was renamed", (*slow.communicate(timeout=600), slow.returncode), ("", "fault: unavailable\n", 1))
     after = os.stat(victim)
     expect("whose the other file is", (after.st_uid, after.st_gid, after.st_mode), (before.st_uid, before.st_gid, before.st_mode))
     expect("what it holds", bytes_of(victim), b"for root alone")
@@ -465,7 +465,7 @@ def restore_beside_a_start(lab, slow_lock):
             time.sleep(0.01)
         lab.puts_back("kept.db")
         os.remove(gate)
-        expect(f"the command {command[0]} that has lost the race", (*slow.communicate(timeout=60), slow.returncode),
+        expect(f"the command {command[0]} that has lost the race", (*slow.communicate(timeout=600), slow.returncode),
                ("", "fault: unavailable\n", 1))
         expect(f"the accounts behind {command[0]}", account_lines(lab, lab.db), ["1"])
         lab.does("schema 3", "migrate", "--db", lab.db)
@@ -739,6 +739,7 @@ def left_copies(lab, slow_lock):
     making = subprocess.Popen([lab.program, "backup", "--db", lab.db, "--to", lab.path("slow.db")], stdin=subprocess.DEVNULL,
                               stdout=subprocess.PIPE, stderr=subprocess.PIPE, env={**os.environ, "LD_PRELOAD": slow_lock, "LOCK_GATE": gate})
     while not os.path.exists(gate):
+        expect("a command that waits at its gate runs", making.poll(), None)
         time.sleep(0.01)
     made = [name for name in copies(lab) if name not in others]
     expect("a copy that is being made", len(made), 2)
@@ -746,12 +747,13 @@ def left_copies(lab, slow_lock):
         expect(f"the command {command[0]} beside it", lab.run(*command)[0], 0)
         expect(f"the copy that is being made, behind {command[0]}", [name for name in copies(lab) if name not in others], made)
     os.remove(gate)
-    expect("the backup that was made beside others", (making.communicate(timeout=60)[1], making.returncode), (b"", 0))
+    expect("the backup that was made beside others", (making.communicate(timeout=600)[1], making.returncode), (b"", 0))
     expect("its rows", rows_of(lab.path("slow.db")), rows_of(lab.path("b.db")))
     # one whose maker is killed
     making = subprocess.Popen([lab.program, "backup", "--db", lab.db, "--to", lab.path("killed.db")], stdin=subprocess.DEVNULL,
                               stdout=subprocess.PIPE, stderr=subprocess.PIPE, env={**os.environ, "LD_PRELOAD": slow_lock, "LOCK_GATE": gate})
     while not os.path.exists(gate):
+        expect("a command that waits at its gate runs", making.poll(), None)
         time.sleep(0.01)
     making.send_signal(signal.SIGKILL)
     making.communicate()
@@ -780,13 +782,47 @@ def locked_while_taken_away(lab, slow_lock):
         taking = subprocess.Popen([lab.program, *command], stdin=subprocess.DEVNULL, stdout=subprocess.PIPE, stderr=subprocess.PIPE,
                                   env={**os.environ, "LD_PRELOAD": slow_lock, "REMOVE_GATE": gate})
         while not os.path.exists(gate):
+            expect("a command that waits at its gate runs", taking.poll(), None)
             time.sleep(0.01)
         with open(copy, "rb") as file:
             expect(f"{command[0]} has the copy locked that it takes away", is_locked(file), True)
             os.remove(gate)
-            expect(f"the end of {command[0]}", (taking.communicate(timeout=60)[1], taking.returncode), end)
+            expect(f"the end of {command[0]}", (taking.communicate(timeout=600)[1], taking.returncode), end)
             expect(f"the copies that {command[0]} leaves", copies(lab), [])
             expect(f"nobody has what {command[0]} took away", is_locked(file), False)
+
+
+def begun_anew(lab, slow_lock):
+    """A command whose new copy another one takes away, or has locked to take it away, makes another copy."""
+    lab.add(1)
+    making_gate, taking_gate = lab.path("making"), lab.path("taking")
+
+    def held_up(gate, variable, *command):
+        running = subprocess.Popen([lab.program, *command], stdin=subprocess.DEVNULL, stdout=subprocess.PIPE, stderr=subprocess.PIPE,
+                                   env={**os.environ, "LD_PRELOAD": slow_lock, variable: gate})
+        while not os.path.exists(gate):
+            expect("a command that waits at its gate runs", running.poll(), None)
+            time.sleep(0.01)
+        return running
+
+    def goes_on(running, gate):
+        os.remove(gate)
+        output, faults = running.communicate(timeout=600)
+        expect("the faults and the status of one that was held up", (faults, running.returncode), (b"", 0))
+
+    accounts = ["accounts", "--db", lab.db]
+    making = held_up(making_gate, "FLOCK_GATE", "backup", "--db", lab.db, "--to", lab.path("a.db"))
+    expect("a copy that isn't locked yet", len(copies(lab)), 1)
+    expect("accounts beside it", lab.run(*accounts)[0], 0)
+    expect("the copy behind accounts", copies(lab), [])
+    goes_on(making, making_gate)
+    making = held_up(making_gate, "FLOCK_GATE", "backup", "--db", lab.db, "--to", lab.path("b.db"))
+    taking = held_up(taking_gate, "REMOVE_GATE", *accounts)
+    goes_on(making, making_gate)
+    goes_on(taking, taking_gate)
+    expect("the copies that are left", copies(lab), [])
+    for name in ("a.db", "b.db"):
+        expect(f"the rows of {name}", rows_of(lab.path(name)), rows_of(lab.db))
 
 
 def is_locked(file):
@@ -838,7 +874,7 @@ def main():
     parts = [(links,), (hard_links,), (mounts,), (moved_while_serving,), (journals,), (restore_beside_a_start, slow_lock),
              (foreign_neighbours,), (foreign_texts,), (kept_owner,), (without_links, no_links), (left_copies, slow_lock)]
     parts += [(left_beside,), (renamed_meanwhile, slow_lock), (planted,), (without_proc,), (same_numbers,), (names_of_neighbours,),
-              (second_names,), (blamed,), (empty_files,), (locked_while_taken_away, slow_lock),
+              (second_names,), (blamed,), (empty_files,), (locked_while_taken_away, slow_lock), (begun_anew, slow_lock),
               (other_locks,)]
     for part, *more in parts:
         with tempfile.TemporaryDirectory() as folder:

@@ -209,7 +209,7 @@ def validates(root, words):
     secret, port = os.path.join(records, "secret-7.txt"), str(free_port())
 
     def does(wanted, *args):
-        done = subprocess.run([program, *args], stdin=subprocess.DEVNULL, capture_output=True, text=True, timeout=60,
+        done = subprocess.run([program, *args], stdin=subprocess.DEVNULL, capture_output=True, text=True, timeout=600,
                               **more)
         expect(f"the installed program's {args}: {done.stderr}", (done.returncode, done.stdout), (0, wanted + "\n"))
 

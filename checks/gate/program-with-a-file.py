@@ -228,7 +228,7 @@ def no_connection_can_be_taken(lab):
                                     "--count", "1"], stdout=subprocess.PIPE, stderr=subprocess.PIPE,
                                    preexec_fn=lambda: resource.setrlimit(resource.RLIMIT_NOFILE, (most, most)))
         if process.stdout.readline():
-            output, faults = process.communicate(timeout=60)
+            output, faults = process.communicate(timeout=600)
             expect("no connection can be taken", (process.returncode, output, faults), (1, b"", b"fault: accept\n"))
             return
         process.communicate()
@@ -244,7 +244,7 @@ def serve_with(lab, before=(), **more):
 
 
 def ends_unavailable(lab):
-    output, faults = lab.process.communicate(timeout=60)
+    output, faults = lab.process.communicate(timeout=600)
     expect("serving ends where its store is shut", (lab.process.returncode, output, faults),
            (1, b"", b"fault: unavailable\n"))
     lab.process = None
@@ -509,17 +509,17 @@ def clients_that_break_off(lab):
     waiting = lab.connect()
     waiting.sendall(whole)
     expect("a client that stays", shown(read_all(waiting)), (401, {"error": "tokenMissing"}))
-    began = time.time()
+    began = time.monotonic()
     expect("the next client", lab.call("GET", "/account"), (401, {"error": "tokenMissing"}))
-    expect("the next client within ten seconds", time.time() - began < 10, True)
+    expect("the next client within ten seconds", time.monotonic() - began < 10, True)
     waiting.close()
     # a client that sends on and on behind its body is dropped, and one that stops half way is waited for
     endless = lab.connect()
     sender = threading.Thread(target=sends_without_end, args=(endless, whole))
     sender.start()
-    began = time.time()
+    began = time.monotonic()
     expect("the client behind an endless one", lab.call("GET", "/account"), (401, {"error": "tokenMissing"}))
-    expect("that client within twenty seconds", time.time() - began < 20, True)
+    expect("that client within twenty seconds", time.monotonic() - began < 20, True)
     sender.join()
     with lab.connect() as connection:
         connection.sendall(whole[:30])
@@ -599,7 +599,7 @@ def shell(lab, lines, folder):
     """What the shell's commands print, with the program on PATH; all must succeed and print no fault."""
     path = os.path.dirname(lab.program) + os.pathsep + os.environ["PATH"]
     done = subprocess.run(["bash", "-eu", "-o", "pipefail", "-c", "\n".join(lines)], capture_output=True, text=True,
-                          cwd=folder, env={**os.environ, "PATH": path}, timeout=60)
+                          cwd=folder, env={**os.environ, "PATH": path}, timeout=600)
     expect(f"the commands {lines}", (done.returncode, done.stderr), (0, ""))
     return done.stdout
 
@@ -785,12 +785,15 @@ def kills(lab, count):
     expect("a login before the stops", status, 200)
     token = thing["accessToken"]
     now = lab.must("GET", "/account", token)
-    acknowledged = {"requests": [], "sessions": [], "cancelled": []}
+    acknowledged, longest = {"requests": [], "sessions": [], "cancelled": []}, 0.4
     try:
-        for _ in range(count):
+        for done in range(count):
             writer = Writer(lab, token)
             writer.start()
-            time.sleep(choice.uniform(0, 0.4))
+            if 2 * len(acknowledged["cancelled"]) < done:
+                # a slow disk
+                longest *= 1.5
+            time.sleep(choice.uniform(0, longest))
             lab.kill()
             writer.join()
             if writer.wrong:

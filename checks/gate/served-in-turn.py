@@ -8,6 +8,7 @@ requests one after another. The lines of `serve --log`, and its objects, tell in
 import json
 import os
 import random
+import signal
 import socket
 import struct
 import sys
@@ -83,11 +84,11 @@ def in_turn(it, order):
         text = request("GET", "/account", it.token(account))
         clients[account], rest[account] = it.lab.connect(), text[-20:]
         clients[account].sendall(text[:-20])
-    time.sleep(0.1)
+    it.lab.wait_until_read(*clients.values())
     order.shuffle(accounts)
     with it.lab.connect() as busy:
         busy.sendall(dear)
-        time.sleep(0.01)
+        it.lab.wait_until_read(busy)
         for account in accounts:
             clients[account].sendall(rest[account])
             time.sleep(0.001)
@@ -100,19 +101,36 @@ def in_turn(it, order):
     expect("who was served, in turn", lines, [(str(account), "ReadAccount", "200", "ok") for account in accounts])
 
 
-def unsent(it):
-    """A client that is gone before its reply: the line says so. One that only says no more gets its reply."""
+def gone_before_its_reply(it):
+    """A client asks for what takes long, and is gone once that is read, and nothing answered; the server is stopped
+    meanwhile. Not so if the answer was quicker: then it is taken."""
     with it.lab.connect() as client:
         client.sendall(it.dear())
-        time.sleep(0.02)
-        client.setsockopt(socket.SOL_SOCKET, socket.SO_LINGER, struct.pack("ii", 1, 0))
+        it.lab.wait_until_read(client)
+        it.lab.process.send_signal(signal.SIGSTOP)
+        expect("a stop", os.WIFSTOPPED(os.waitpid(it.lab.process.pid, os.WUNTRACED)[1]), True)
+        try:
+            is_gone = not client.recv(1, socket.MSG_PEEK | socket.MSG_DONTWAIT)
+        except BlockingIOError:
+            is_gone = True
+            client.setsockopt(socket.SOL_SOCKET, socket.SO_LINGER, struct.pack("ii", 1, 0))
+            client.close()
+        it.lab.process.send_signal(signal.SIGCONT)
+        if not is_gone:
+            expect("an answer that was quick", shown(read_all(client))[0], 200)
+            expect("its line", it.lines(1), [("1", "Expected", "200", "ok")])
+        return is_gone
+
+
+def unsent(it):
+    """A client that is gone before its reply: the line says so. One that only says no more gets its reply."""
+    expect("a client that is gone before its reply", any(gone_before_its_reply(it) for _ in range(20)), True)
     expect("the line of a reply that nobody took", it.lines(1), [("-", "Expected", "-", "-", "unsent")])
     dear, vendor = it.dear(), request("POST", "/vendors", it.token(2), {"name": "a"})
     with it.lab.connect() as busy, it.lab.connect() as client:
         busy.sendall(dear)
-        time.sleep(0.01)
+        it.lab.wait_until_read(busy)
         client.sendall(vendor)
-        time.sleep(0.01)
         client.shutdown(socket.SHUT_WR)
         expect("the answer that took long", shown(read_all(busy))[0], 200)
         expect("an answer to a client that says no more", shown(read_all(client))[0], 200)

@@ -201,7 +201,7 @@ def hostile_bytes(it):
             "- Login - 413 bodyTooLarge")
     with it.lab.connect() as broken:
         broken.sendall(b"GET /acvp")
-        time.sleep(0.2)
+        it.lab.wait_until_read(broken)
         broken.setsockopt(socket.SOL_SOCKET, socket.SO_LINGER, struct.pack("ii", 1, 0))
     it.tells("a connection that is reset", "- - - - broken")
 

@@ -184,7 +184,7 @@ def emptied_meanwhile(it):
             lab.must("GET", "/account", token)
             lab.served(2)
         os.remove(gate)
-        output, faults = backup.communicate(timeout=60)
+        output, faults = backup.communicate(timeout=600)
         expect("the backup", (backup.returncode, output.partition(":")[0], faults), (0, "backed up", ""))
         expect("the backup is whole", lab.run("check", "--db", to, "--keys", lab.keys)[::2], (0, ""))
         with contextlib.closing(sqlite3.connect(f"file:{to}?mode=ro&immutable=1", uri=True)) as connection:

@@ -367,7 +367,7 @@ def on_a_terminal(lab, whole):
     """Progress is shown on standard error, where that is a terminal, and the line as ever."""
     ours, theirs = os.openpty()
     done = subprocess.run([lab.program, "check", "--db", whole, "--keys", lab.keys], stdin=subprocess.DEVNULL,
-                          stdout=subprocess.PIPE, stderr=theirs, timeout=60)
+                          stdout=subprocess.PIPE, stderr=theirs, timeout=600)
     os.close(theirs)
     shown = b""
     try:

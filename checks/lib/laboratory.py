@@ -32,10 +32,17 @@ def expect(what, got, wanted):
     checked += 1
 
 
+def free_ports(count):
+    """So many ports that nobody has now."""
+    with contextlib.ExitStack() as opened:
+        taken = [opened.enter_context(socket.socket()) for _ in range(count)]
+        for one in taken:
+            one.bind(("127.0.0.1", 0))
+        return [one.getsockname()[1] for one in taken]
+
+
 def free_port():
-    with socket.socket() as taken:
-        taken.bind(("127.0.0.1", 0))
-        return taken.getsockname()[1]
+    return free_ports(1)[0]
 
 
 def request(method, path, token=None, thing=None, body=None):
@@ -168,7 +175,7 @@ class Laboratory:
     def run(self, *args, **more):
         """The status, the output and the faults of a command."""
         done = subprocess.run([self.program, *args], stdin=subprocess.DEVNULL, capture_output=True, text=True,
-                              timeout=60, **more)
+                              timeout=600, **more)
         return done.returncode, done.stdout, done.stderr
 
     def typed(self, answer, *args):
@@ -234,16 +241,23 @@ class Laboratory:
     def serve(self, count=1000000, keys=None, port=None, more=(), faults=subprocess.PIPE):
         """Serves so many connections, or without an end, from the moment on that the program says so. What it says on
         standard error goes to a pipe, or to a file."""
-        self.port = port or free_port()
-        args = ["serve", "--db", self.db, "--keys", keys or self.keys, "--port", str(self.port), *more]
-        args += ["--count", str(count)] if count is not None else []
-        self.process = subprocess.Popen([self.program, *args], stdin=subprocess.DEVNULL, stdout=subprocess.PIPE,
-                                        stderr=faults)
-        expect("the first line of serve", self.process.stdout.readline(), b"listening 127.0.0.1:%d\n" % self.port)
+        for _ in range(5):
+            self.port = port or free_port()
+            args = ["serve", "--db", self.db, "--keys", keys or self.keys, "--port", str(self.port), *more]
+            args += ["--count", str(count)] if count is not None else []
+            self.process = subprocess.Popen([self.program, *args], stdin=subprocess.DEVNULL, stdout=subprocess.PIPE,
+                                            stderr=faults)
+            first, told = self.process.stdout.readline(), b""
+            if not first and faults == subprocess.PIPE:
+                told = self.process.communicate()[1]
+            if port or told != b"fault: bind\n":
+                break
+            # another process has taken the port meanwhile
+        expect("the first line of serve", (first, told), (b"listening 127.0.0.1:%d\n" % self.port, b""))
 
     def served(self, count):
         """Serving has ended by itself, after so many connections."""
-        output, faults = self.process.communicate(timeout=60)
+        output, faults = self.process.communicate(timeout=600)
         expect("the end of serve", (self.process.returncode, output, faults), (0, b"served %d\n" % count, b""))
         self.process = None
 
@@ -258,6 +272,29 @@ class Laboratory:
 
     def connect(self):
         return socket.create_connection(("127.0.0.1", self.port), timeout=60)
+
+    def is_read(self, client):
+        """Whether the server has read all that a client has sent, as the system's table tells of both ends
+        (proc_net_tcp(5)): nothing waits to be sent, and nothing to be read."""
+        here, there = client.getsockname()[1], self.port
+        ends = {(here, there): 0, (there, here): 1}
+        waiting = {}
+        with open("/proc/net/tcp", encoding="ascii") as table:
+            for line in list(table)[1:]:
+                words = line.split()
+                end = tuple(int(address.split(":")[1], 16) for address in words[1:3])
+                if end in ends:
+                    waiting[end] = int(words[4].split(":")[ends[end]], 16)
+        return waiting == {end: 0 for end in ends}
+
+    def wait_until_read(self, *clients):
+        for client in clients:
+            for _ in range(60000):
+                if self.is_read(client):
+                    break
+                time.sleep(0.001)
+            else:
+                raise SystemExit("the server doesn't read what a client has sent")
 
     def ask(self, text):
         with self.connect() as connection:

@@ -1,5 +1,6 @@
 // Holds the program up before its first lock of a file, or before the one that LOCK_TURN counts: it makes the file
-// LOCK_GATE, and waits until that is taken away. With REMOVE_GATE it does so before it first takes a file away.
+// LOCK_GATE, and waits until that is taken away. With FLOCK_GATE it does so before it first locks a whole file (flock(2)), with REMOVE_GATE before it
+// first takes a file away.
 // It is preloaded into the built program, for the check names-and-owners-of-files.
 #define _GNU_SOURCE
 #include <dlfcn.h>
@@ -27,14 +28,20 @@ int fcntl(int file, int command, ...) {
     return next(file, command, argument);
 }
 
+int flock(int file, int operation) {
+    static int (*next)(int, int);
+    static int was_held_up;
+    if (next == NULL) next = (int (*)(int, int))dlsym(RTLD_NEXT, "flock");
+    const char *gate = getenv("FLOCK_GATE");
+    if (gate != NULL && !was_held_up++) wait_at(gate);
+    return next(file, operation);
+}
+
 int unlink(const char *path) {
     static int (*next)(const char *);
     static int was_held_up;
     if (next == NULL) next = (int (*)(const char *))dlsym(RTLD_NEXT, "unlink");
     const char *gate = getenv("REMOVE_GATE");
-    if (gate != NULL && !was_held_up) {
-        was_held_up = 1;
-        wait_at(gate);
-    }
+    if (gate != NULL && !was_held_up++) wait_at(gate);
     return next(path);
 }
