@@ -166,6 +166,15 @@ def killed_writes(lab):
         expect("the file that wasn't made", os.path.lexists(lab.path("new.txt")), False)
     expect("the same without a limit", len(changes(lab, "--add-seed", "old.txt", "new.txt")), 32)
     expect("what is left", sorted(name for name in os.listdir(lab.folder) if "-part-" in name), [])
+    # one that was killed between the two names of its file: the command is repeated, and the file is there
+    before, second = text_of(lab.path("new.txt")), lab.path("new.txt-part-1795862400123456789")
+    os.link(lab.path("new.txt"), second)
+    for command in (["keys", "--new"], ["secret", "--new"], ["keys", "--retire", old, "--to"]):
+        lab.fails("taken", *command, lab.path("new.txt"))
+        expect(f"the second name behind {command}", os.path.lexists(second), False)
+        expect(f"the file behind {command}", (text_of(lab.path("new.txt")), os.stat(lab.path("new.txt")).st_nlink), (before, 1))
+        os.link(lab.path("new.txt"), second)
+    lab.fails("taken", "secret", "--new", lab.path("new.txt"))
 
 
 def command_lines(lab):

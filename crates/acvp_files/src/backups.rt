@@ -42,15 +42,21 @@ fn is_taken(rt: &HostRuntime, path: &str) -> Result<bool, FileFault> {
     )
 }
 
-/// Refuses a path that a new database can't have: it is taken, or that of a file that lies beside a database, or the
-/// way to it goes by a link that isn't followed.
-pub(crate) fn may_be_made(rt: &HostRuntime, path: &str) -> Result<(), FileFault> {
+/// Refuses a path that no new file can have: it is that of a file that lies beside a database, or the way to it goes by
+/// a link that isn't followed.
+pub(crate) fn may_have_path(rt: &HostRuntime, path: &str) -> Result<(), FileFault> {
     if is_companion(path) || is_copy(path) {
         return Err(FileFault::Unavailable);
     }
-    if let Some(cause) = cause_of_folder(rt, path) {
-        return Err(fault_of_cause(cause));
+    match cause_of_folder(rt, path) {
+        Some(cause) => Err(fault_of_cause(cause)),
+        None => Ok(()),
     }
+}
+
+/// Refuses a path that a new file can't have, or that is taken.
+pub(crate) fn may_be_made(rt: &HostRuntime, path: &str) -> Result<(), FileFault> {
+    may_have_path(rt, path)?;
     if is_taken(rt, path)? {
         return Err(FileFault::Taken);
     }

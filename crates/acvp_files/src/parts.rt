@@ -215,7 +215,7 @@ fn remove_unheld(rt: &HostRuntime, pair: &Pair) {
 }
 
 /// Takes away what killed commands have left of copies beside a path.
-fn remove_left(rt: &HostRuntime, base: &str) {
+pub(crate) fn remove_left(rt: &HostRuntime, base: &str) {
     let Ok(names) = fs::read_dir(rt, folder_of(base)) else {
         return;
     };

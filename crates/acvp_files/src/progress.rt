@@ -38,3 +38,12 @@ pub fn tell_reading(rt: &HostRuntime, path: &str) {
         let _ = eprintln!(rt; "reading {megabytes} MB");
     }
 }
+
+/// Says that the records of a large database are moved to other tables: in one transaction, of which no more is seen.
+pub fn tell_moving(rt: &HostRuntime, path: &str) {
+    if let Ok(there) = fs::metadata(rt, path)
+        && is_told(rt, there.len())
+    {
+        let _ = eprintln!(rt; "moving all records in one transaction");
+    }
+}

@@ -1,6 +1,6 @@
 //! Files of text that are made beside a database, or elsewhere: of keys, or of a secret.
-use crate::backups::{may_be_made, name_new};
-use crate::parts::{Part, Use, give_up, new_copy};
+use crate::backups::{may_be_made, may_have_path, name_new};
+use crate::parts::{Part, Use, give_up, new_copy, remove_left};
 use acvp_connections::{FileFault, done};
 use std::io::{self, Write};
 
@@ -18,8 +18,11 @@ fn write_named(rt: &HostRuntime, part: &Part, path: &str, text: &[u8]) -> Result
 }
 
 /// Makes a file of a text, whole or not at all, that its owner alone may read. Another file isn't written over, and
-/// none gets the name of one that lies beside a database.
+/// none gets the name of one that lies beside a database. If a killed command has made it, its second name is taken
+/// away.
 pub fn make_file(rt: &HostRuntime, path: &str, text: &[u8]) -> Result<(), FileFault> {
+    may_have_path(rt, path)?;
+    remove_left(rt, path);
     may_be_made(rt, path)?;
     let part = new_copy(rt, path, Use::Part)?;
     let outcome = write_named(rt, &part, path, text);

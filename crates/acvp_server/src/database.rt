@@ -14,7 +14,7 @@ use acvp_connections::{
     FileConnection, FileFault, Unopened, close, connect_existing, connect_new, has_no_log,
 };
 use acvp_desk::Order;
-use acvp_files::{remove_empty_log, tell_reading};
+use acvp_files::{remove_empty_log, tell_moving, tell_reading};
 use acvp_port::answer_to;
 use acvp_store::SqlTables;
 use sqlite::{Alter, Connection, MemStore, Start};
@@ -110,6 +110,9 @@ fn done_and_closed<S: Start>(
         flags,
         has_listened: false,
     };
+    if matches!(work, Work::Move) {
+        tell_moving(rt, path);
+    }
     let (connection, closes, outcome) = done_with_seeds(&mut machine, connection, work);
     if closes {
         close(connection);
