@@ -109,14 +109,17 @@ def gone_before_its_reply(it):
         it.lab.wait_until_read(client)
         it.lab.process.send_signal(signal.SIGSTOP)
         expect("a stop", os.WIFSTOPPED(os.waitpid(it.lab.process.pid, os.WUNTRACED)[1]), True)
+        client.setblocking(False)
         try:
-            is_gone = not client.recv(1, socket.MSG_PEEK | socket.MSG_DONTWAIT)
+            client.recv(1, socket.MSG_PEEK)
+            is_gone = False
         except BlockingIOError:
             is_gone = True
             client.setsockopt(socket.SOL_SOCKET, socket.SO_LINGER, struct.pack("ii", 1, 0))
             client.close()
         it.lab.process.send_signal(signal.SIGCONT)
         if not is_gone:
+            client.settimeout(60)
             expect("an answer that was quick", shown(read_all(client))[0], 200)
             expect("its line", it.lines(1), [("1", "Expected", "200", "ok")])
         return is_gone

@@ -1,6 +1,6 @@
 // Holds the program up before its first lock of a file, or before the one that LOCK_TURN counts: it makes the file
-// LOCK_GATE, and waits until that is taken away. With FLOCK_GATE it does so before it first locks a whole file (flock(2)), with REMOVE_GATE before it
-// first takes a file away.
+// LOCK_GATE, and waits until that is taken away. With FLOCK_GATE it does so before it first locks a whole file
+// (flock(2)), with REMOVE_GATE before it first takes a file away.
 // It is preloaded into the built program, for the check names-and-owners-of-files.
 #define _GNU_SOURCE
 #include <dlfcn.h>
