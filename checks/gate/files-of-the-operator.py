@@ -618,12 +618,12 @@ def what_is_in_the_way(lab):
     token = lab.token(1)
     for name in ("one", "two"):
         lab.must("POST", "/vendors", token, {"name": name})
-    lab.does("request 1000001 approved /acvp/v1/vendors/1000001", "request-approve", "--db", lab.db, "--request", "1000001")
-    lab.does("request 1000002 rejected", "request-reject", "--db", lab.db, "--request", "1000002")
+    lab.does("request 1000001 rejected", "request-reject", "--db", lab.db, "--request", "1000001")
+    lab.does("request 1000002 approved /acvp/v1/vendors/1000001", "request-approve", "--db", lab.db, "--request", "1000002")
     taken = ["account-add", "--db", lab.db, "--account", "1", "--secret", lab.path("secret-1")]
     for is_served in (True, False):
-        because(lab, "notInitial", "--request: it was approved, as 1000001", "request-reject", "--db", lab.db, "--request", "1000001")
-        because(lab, "notInitial", "--request: it was rejected", "request-approve", "--db", lab.db, "--request", "1000002")
+        because(lab, "notInitial", "--request: it was rejected", "request-approve", "--db", lab.db, "--request", "1000001")
+        because(lab, "notInitial", "--request: it was approved, as 1000001", "request-reject", "--db", lab.db, "--request", "1000002")
         because(lab, "taken", "--account: account 1 is there, and enabled", *taken)
         if is_served:
             lab.kill()
@@ -785,13 +785,16 @@ def same_secrets(lab):
     lab.write(lab.path("secret-9"), lab.secret(9).hex() + "\n")
     for account, secret, said in ((3, "secret-9", ""), (4, "secret-1", same)):
         expect(f"account {account}", added(account, secret), (0, said))
+    lab.add(9999)
+    expect("the last account", added(8, "secret-9999"), (0, same.replace("account 1 ", "account 9999 ")))
+    expect("an account that is there", added(2, "secret-2"), (1, "fault: taken\nbecause: --account: account 2 is there, and enabled\n"))
     lab.serve(count=None)
     expect("while it is served", added(5, "secret-1"), (0, same))
     lab.kill()
     with contextlib.closing(page_sums.connect(lab.db)) as connection, connection:
         connection.execute("UPDATE account SET secret = X'00' WHERE account = 2")
     expect("beside a malformed row", added(6, "secret-1"), (0, unread))
-    expect("the accounts", [row[0] for row in content(lab.db)["account"]], [1, 2, 3, 4, 5, 6])
+    expect("the accounts", [row[0] for row in content(lab.db)["account"]], [1, 2, 3, 4, 5, 6, 8, 9999])
 
 
 def told_on_a_terminal(lab):

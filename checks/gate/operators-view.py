@@ -384,6 +384,51 @@ def looks(lab, wanted):
         lab.fails("unavailable", *command, "--db", lab.keys)
 
 
+def numbers_apart(lab):
+    """What is shown of a certification is of its own session, module, vendor and environment, where all these have other
+    numbers than one another and than the request."""
+    lab.add(7)
+    lab.serve(count=None)
+    token, requests = lab.token(7), 0
+
+    def registered(path, thing):
+        nonlocal requests
+        requests += 1
+        lab.must("POST", path, token, thing)
+        number = str(7000000 + requests)
+        return lab.run("request-approve", "--db", lab.db, "--request", number)[1].split()[-1].removeprefix("/acvp/v1")
+
+    vendors = [registered("/vendors", {"name": f"Vendor {number}"}) for number in (1, 2)]
+    module = registered("/modules", {"name": "Module", "vendorUrl": "/acvp/v1" + vendors[1], "version": "1"})
+    environments = [registered("/oes", {"name": f"Environment {number}"}) for number in (1, 2, 3)]
+    made = [lab.must("POST", "/testSessions", token, {"algorithms": [CAPABILITIES[number % 2]] * (1 + number)}) for number in range(4)]
+    session, bound = short(made[3]["url"]), made[3]["accessToken"]
+    for of_set in map(short, made[3]["vectorSetUrls"]):
+        lab.must("POST", of_set + "/results", bound, answers(lab.must("GET", of_set, bound)))
+    lab.must("PUT", session, bound, {"moduleUrl": "/acvp/v1" + module, "oeUrl": "/acvp/v1" + environments[2]})
+    request = "7000007"
+    expect("the numbers", (vendors[1], module, environments[2], session, requests),
+           ("/vendors/7000002", "/modules/7000001", "/oes/7000003", "/testSessions/7000004", 6))
+    paths = [(session, bound), (session + "/results", bound), (module, token), (vendors[1], token), (environments[2], token)]
+    read = [(path, body(lab, path, by)) for path, by in paths]
+    shown = shows(lab, "request-show", "--db", lab.db, "--keys", lab.keys, "--request", request)
+    sets = [f"70000040{number}" for number in (1, 2, 3, 4)]
+    expect("the vector sets", [line.split(" ")[1] for line in shown[1:9]], [number for number in sets for _ in (1, 2)])
+    expect("what the account reads", shown[9:], [f"/acvp/v1{path} {told}" for path, told in read])
+    items = document_of(lab, "request-show", "--db", lab.db, "--keys", lab.keys, "--request", request)
+    expect("the numbers of the document", items[0]["certification"],
+           {"createdOn": made[3]["createdOn"], "environment": 7000003, "module": 7000001, "passed": 4, "session": 7000004, "vectorSets": 4})
+    expect("what the account reads, in the document", items[9:], [{"body": json.loads(told), "path": f"/acvp/v1{path}"} for path, told in read])
+    status, terminal = lab.typed(b"y\n", "request-approve", "--db", lab.db, "--request", request)
+    expect("the question", terminal.split("\n")[2], "session 7000004: 4 of 4 vector sets passed")
+    expect("the approval", (status, terminal.split("\n")[-2]), (0, f"request {request} approved /acvp/v1{session}"))
+    expect("as what it was approved", lab.run("request-reject", "--verbose", "--db", lab.db, "--request", request)[2],
+           "fault: notInitial\nbecause: --request: it was approved, as 7000004\n")
+    document, = shows(lab, "certificate", "--db", lab.db, "--keys", lab.keys, "--request", request)
+    for path in (session, module, vendors[1], environments[2]):
+        expect(f"{path} in the document", f'"/acvp/v1{path}"' in document, True)
+
+
 def main():
     program = os.path.abspath(sys.argv[1])
     with tempfile.TemporaryDirectory() as folder:
@@ -414,13 +459,14 @@ def main():
         expect("its session", json.loads(shown[5].split(" ", 1)[1])[1]["status"], "approved")
         certificates(lab, wanted, token, bound, given)
         broken_off(lab)
-    with tempfile.TemporaryDirectory() as folder:
-        lab = Laboratory(program, folder)
-        lab.does("ready", "init", "--db", lab.db)
-        try:
-            acting_text(lab)
-        finally:
-            lab.kill()
+    for part in (acting_text, numbers_apart):
+        with tempfile.TemporaryDirectory() as folder:
+            lab = Laboratory(program, folder)
+            lab.does("ready", "init", "--db", lab.db)
+            try:
+                part(lab)
+            finally:
+                lab.kill()
     print(f"{laboratory.checked} comparisons")
 
 
