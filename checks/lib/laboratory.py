@@ -288,6 +288,8 @@ class Laboratory:
         return waiting == {end: 0 for end in ends}
 
     def wait_until_read(self, *clients):
+        # a system may tell of no queues
+        time.sleep(0.01)
         for client in clients:
             for _ in range(60000):
                 if self.is_read(client):
