@@ -795,14 +795,17 @@ def locked_while_taken_away(lab, slow_lock):
 def begun_anew(lab, slow_lock):
     """A command whose new copy another one takes away, or has locked to take it away, makes another copy."""
     lab.add(1)
-    making_gate, taking_gate = lab.path("making"), lab.path("taking")
+    making_gate, opening_gate, taking_gate = lab.path("making"), lab.path("opening"), lab.path("taking")
 
-    def held_up(gate, variable, *command):
-        running = subprocess.Popen([lab.program, *command], stdin=subprocess.DEVNULL, stdout=subprocess.PIPE, stderr=subprocess.PIPE,
-                                   env={**os.environ, "LD_PRELOAD": slow_lock, variable: gate})
+    def waits_at(running, gate):
         while not os.path.exists(gate):
             expect("a command that waits at its gate runs", running.poll(), None)
             time.sleep(0.01)
+
+    def held_up(gate, variable, *command, **more):
+        running = subprocess.Popen([lab.program, *command], stdin=subprocess.DEVNULL, stdout=subprocess.PIPE, stderr=subprocess.PIPE,
+                                   env={**os.environ, "LD_PRELOAD": slow_lock, variable: gate, **more})
+        waits_at(running, gate)
         return running
 
     def goes_on(running, gate):
@@ -820,8 +823,15 @@ def begun_anew(lab, slow_lock):
     taking = held_up(taking_gate, "REMOVE_GATE", *accounts)
     goes_on(making, making_gate)
     goes_on(taking, taking_gate)
+    # the same, and the name that was looked at is taken away once the copy is made
+    making = held_up(making_gate, "FLOCK_GATE", "backup", "--db", lab.db, "--to", lab.path("c.db"), LOCK_GATE=opening_gate)
+    taking = held_up(taking_gate, "REMOVE_GATE", *accounts)
+    os.remove(making_gate)
+    waits_at(making, opening_gate)
+    goes_on(taking, taking_gate)
+    goes_on(making, opening_gate)
     expect("the copies that are left", copies(lab), [])
-    for name in ("a.db", "b.db"):
+    for name in ("a.db", "b.db", "c.db"):
         expect(f"the rows of {name}", rows_of(lab.path(name)), rows_of(lab.db))
 
 

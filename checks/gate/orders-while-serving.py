@@ -199,8 +199,7 @@ def a_validation(lab, token):
 
 def two_hundred_clients(lab):
     """A validation beside 200 clients, of which 50 send a byte a second, 20 never send, 20 never read a large reply, 20 end
-    at once and 90 wait before they ask, takes no more than twice its time alone: one of up to ten does, since
-    the machine may be busy with something else."""
+    at once and 90 wait before they ask, takes no more than twice its time alone."""
     lab.serve(count=None, more=["--patience", "600"])
     lab.add(30)
     within_a_step(5)
@@ -237,10 +236,7 @@ def two_hundred_clients(lab):
 
     dripping = threading.Thread(target=drips)
     dripping.start()
-    for _ in range(10):
-        beside = a_validation(lab, token)
-        if beside <= 2 * alone + 0.2:
-            break
+    beside = min(a_validation(lab, token) for _ in range(2))
     expect(f"a validation beside 200 clients in {beside:.2f} s, alone in {alone:.2f} s", beside <= 2 * alone + 0.2, True)
     ended.set()
     dripping.join()
@@ -279,8 +275,8 @@ def patience(lab):
         for connection in (silent, half):
             expect("what a client is sent that is too slow", read_all(connection), b"")
             expect("after two seconds", 1.5 < time.monotonic() - began < 8, True)
-    # the last of its time goes by behind the reply; one that has more is waited for two seconds then. One of five tries
-    # has to show it, since the machine may be busy with something else
+    # the last of its time goes by behind the reply; one that has more is waited for two seconds then. None is let go
+    # too early; of five tries one has to be in time, since the machine may be busy with something else
     for before, least, most in ((1.2, 0.3, 1.9), (0, 1.8, 3.5)):
         for _ in range(5):
             with lab.connect() as late:
@@ -288,9 +284,10 @@ def patience(lab):
                 late.sendall(request("GET", "/account"))
                 expect("the reply to a late request", late.recv(65536)[:12], b"HTTP/1.1 401")
                 left = gone_after(late, time.monotonic())
-            if left is not None and least <= left <= most:
+            expect(f"{left} seconds at least behind a reply after {before}", left is not None and least <= left, True)
+            if left <= most:
                 break
-        expect(f"{left} seconds behind a reply after {before}", left is not None and least <= left <= most, True)
+        expect(f"{left} seconds at most behind a reply after {before}", left <= most, True)
     lab.kill()
     lab.serve(count=None)
     many = [lab.connect() for _ in range(256)]
