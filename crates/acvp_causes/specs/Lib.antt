@@ -4,6 +4,7 @@ pub mod Copies
 pub mod Devices
 pub mod Folders
 pub mod Marks
+pub mod Names
 pub mod Owners
 pub mod Pages
 pub mod Texts

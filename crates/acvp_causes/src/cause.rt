@@ -21,6 +21,15 @@ pub enum Cause {
     /// The file can't be made.
     Unmade,
 
+    /// The path ends with no name of a file.
+    Nameless,
+
+    /// The file's name has so many bytes, and may have so many.
+    LongName(usize, usize),
+
+    /// The path is a link that leads to nothing.
+    LeadsNowhere,
+
     /// What has the path is no file.
     NoFile,
 
@@ -102,6 +111,9 @@ pub enum Cause {
     /// The seed at this place, from 1 on, is another than the one that the database was served with.
     Seed(usize),
 
+    /// The file lacks the seed at this place, from 1 on, which the database was served with.
+    Lacks(usize),
+
     /// The keys file has as many lines of one kind as there may be.
     Full,
 
@@ -159,7 +171,21 @@ impl fmt::Display for Cause {
                     "its seed {place} is another than the one that the database was served with"
                 );
             }
+            Cause::Lacks(place) => {
+                return write!(
+                    f,
+                    "it lacks seed {place}, which the database was served with"
+                );
+            }
+            Cause::LongName(length, most) => {
+                return write!(
+                    f,
+                    "its name has {length} bytes, and may have {most}: the names of its copies are longer"
+                );
+            }
             Cause::Missing => "there is no such file",
+            Cause::Nameless => "its path ends without a file's name",
+            Cause::LeadsNowhere => "it is a link that leads to no file",
             Cause::Unmade => "it can't be made in its folder (its rights, or a full disk)",
             Cause::NoFile => "it is no regular file",
             Cause::Mounted => "it is mounted by itself: name it where its log (-wal) is beside it",

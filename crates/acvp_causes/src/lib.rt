@@ -14,8 +14,8 @@ mod texts;
 pub use begins::{is_database, is_foreign};
 pub use cause::{Because, Cause, Place};
 pub use marks::{Mark, is_whole, mark_of};
-pub use names::{MOMENT_DIGITS, is_companion, is_copy, name_of, why_unnamed};
-pub use owners::{OF_OTHERS, cause_of_maker, own_text};
+pub use names::{MOMENT_DIGITS, cause_of_path, is_companion, is_copy, name_of, why_unnamed};
+pub use owners::{OF_OTHERS, cause_of_maker, own_text, text_at};
 pub use places::{
     EMPTY_LOG, are_there, cause_of_database, cause_of_error, cause_of_files, cause_of_folder,
     cause_of_source, folder_of, has_journal, has_log, has_sums, holds_any, is_held_by_any,

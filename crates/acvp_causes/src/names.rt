@@ -5,6 +5,7 @@ ghost use Rattle.std.specs.Char.{is_ascii_digit};
 ghost use Rattle.std.specs.IoError.{error_kind};
 ghost use Rattle.acvp_causes.specs.Copies.{is_copy};
 ghost use Rattle.acvp_causes.specs.Folders.{is_companion};
+ghost use Rattle.acvp_causes.specs.Names.{cause_of_path};
 
 use crate::cause::Cause;
 use crate::owners::{cause_of_link, refusal};
@@ -18,6 +19,10 @@ const MOUNTS: &str = "/proc/self/mountinfo";
 
 /// How many digits the moment of a copy has, in billionths of a second since 1970: from 2001 to 2286.
 pub const MOMENT_DIGITS: usize = 19;
+
+/// How many bytes the name of a file may have that is copied. The system allows 255 (NAME_MAX of limits.h), and where a
+/// copy is opened, the name of a journal beside it is looked for, which has 33 more.
+const MOST_NAME: usize = 222;
 
 /// The number in the first second name that is tried, which has as many digits as that of a copy.
 const FIRST_NAME: u64 = 1000000000000000000;
@@ -44,11 +49,34 @@ pub fn name_of(rt: &HostRuntime, path: &str) -> io::Result<String> {
     Ok(String::from_str(rt.alloc(), path)?)
 }
 
+/// Whether a path is a link itself.
+fn is_link(rt: &HostRuntime, path: &str) -> bool {
+    match fs::symlink_metadata(rt, path) {
+        Ok(there) => there.is_symlink(),
+        Err(_) => false,
+    }
+}
+
 /// Why a path has no name, by the error.
 pub fn why_unnamed(rt: &HostRuntime, path: &str, error: io::Error) -> Cause {
     match cause_of_link(rt, path) {
         Some(cause) => cause,
+        None if error.kind() == ErrorKind::NotFound && is_link(rt, path) => Cause::LeadsNowhere,
         None => cause_of_error(error),
+    }
+}
+
+/// Why no file that is copied can have a path: it ends without a name, or the names of the file's copies are too long.
+pub fn cause_of_path(path: &str) -> Option<Cause>
+    ensures { result ≡ cause_of_path path.now }
+{
+    let length = last_of(path).len();
+    if length == 0 {
+        Some(Cause::Nameless)
+    } else if length > MOST_NAME {
+        Some(Cause::LongName(length, MOST_NAME))
+    } else {
+        None
     }
 }
 

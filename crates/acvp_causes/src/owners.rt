@@ -4,6 +4,7 @@ ghost use Rattle.acvp_causes.specs.Owners.{gives_more, is_of, may_own};
 
 use crate::cause::Cause;
 use crate::places::{cause_of_error, folder_of};
+use crate::texts::MOST_TEXT;
 use std::alloc::{AllocError, AllocGlobal};
 use std::fs::{self, File, Metadata};
 use std::io::{self, ErrorKind, Read};
@@ -183,6 +184,20 @@ pub fn cause_of_maker(rt: &HostRuntime, path: &str, database: Option<&str>) -> O
     }
 }
 
+/// Reads what an open file of keys or of a secret holds. Of a longer text, which is neither's, it reads so much that
+/// this can be seen, and no more: there are files that never end.
+fn read_text(rt: &HostRuntime, mut file: &File) -> io::Result<Vec<u8>> {
+    let mut text = Vec::new(rt.alloc());
+    file.take(MOST_TEXT as u64 + 1).read_to_end(&mut text)?;
+    Ok(text)
+}
+
+/// What a file of keys or of a secret holds, whosever it is.
+pub fn text_at(rt: &HostRuntime, path: &str) -> io::Result<Vec<u8>> {
+    let file = File::open(rt, path)?;
+    read_text(rt, &file)
+}
+
 /// What a file of keys or of a secret holds, for a database or for none. If it, or the link to it, belongs to another
 /// user, that is PermissionDenied. Whose it is, is asked of the open file: one that is put there meanwhile isn't read.
 pub fn own_text(rt: &HostRuntime, path: &str, database: Option<&str>) -> io::Result<Vec<u8>> {
@@ -190,13 +205,11 @@ pub fn own_text(rt: &HostRuntime, path: &str, database: Option<&str>) -> io::Res
     if let Some(cause) = cause_of_maker(rt, path, database) {
         return Err(refusal(cause));
     }
-    let mut file = File::open(rt, path)?;
+    let file = File::open(rt, path)?;
     if !is_taken(&file.metadata()?, owner_of(rt, database)) {
         return Err(ErrorKind::PermissionDenied.into());
     }
-    let mut text = Vec::new(rt.alloc());
-    file.read_to_end(&mut text)?;
-    Ok(text)
+    read_text(rt, &file)
 }
 
 /// Why what lies beside a database isn't taken: it belongs to another user.

@@ -14,9 +14,18 @@ const DIGITS: usize = 64;
 /// The most lines of keys, and of seeds.
 const MOST_LINES: usize = 16;
 
+/// No text of keys or of a secret has as many bytes.
+pub(crate) const MOST_TEXT: usize = 4096;
+
 /// What is wrong with a text.
 #[derive(Clone, Copy, Debug, PartialEq, Eq)]
 pub enum TextFault {
+    /// It has zero bytes, as no text of these has.
+    Zeros,
+
+    /// It has more bytes than any text of keys.
+    Long,
+
     /// It has carriage returns.
     CarriageReturn,
 
@@ -48,6 +57,10 @@ pub enum TextFault {
 impl fmt::Display for TextFault {
     fn fmt<W: fmt::Write>(&self, f: &mut fmt::Formatter<W>) -> fmt::Result {
         match *self {
+            TextFault::Zeros => {
+                f.write_str("it has zero bytes, as a database or a text in UTF-16 has")
+            }
+            TextFault::Long => write!(f, "it has more than {MOST_TEXT} bytes"),
             TextFault::CarriageReturn => {
                 f.write_str(
                     "it has carriage returns (CR LF), where a line ends with a line feed alone",
@@ -104,7 +117,11 @@ fn is_ended(text: &[u8]) -> bool
 fn ends_fault(text: &[u8]) -> Option<TextFault>
     ensures { result ≡ ends_fault text.now }
 {
-    if text.contains(&b'\r') {
+    if text.contains(&0) {
+        Some(TextFault::Zeros)
+    } else if text.len() > MOST_TEXT {
+        Some(TextFault::Long)
+    } else if text.contains(&b'\r') {
         Some(TextFault::CarriageReturn)
     } else if is_ended(text) {
         None
