@@ -1,34 +1,40 @@
--- How a text that a client wrote is shown: its characters that act on a terminal, or change in which order it shows
--- others, are escaped. They stand only within strings of a JSON text, which so stays the same value.
-use Rattle.std.specs.Prelude.{◌==◌, ℕ, List, ◌++◌, ◌||◌, Bool, codes, encode_utf8, if◌then◌else◌, map}
-use Rattle.std.specs.Int.{is_in_range, to_be_bytes, w16}
+-- How a text that a client wrote is shown: its characters that act on a terminal, change in which order it shows
+-- others, or aren't seen, are escaped. They stand only within strings of a JSON text, which so stays the same value.
+use Rattle.std.specs.Prelude.{ℕ, List, ◌++◌, ◌||◌, Bool, codes, encode_utf8, false, if◌then◌else◌, map, true}
+use Rattle.std.specs.Int.{to_be_bytes, w16}
 use Rattle.std.specs.List.{flat_map}
 use Rattle.std.specs.Str.{chars}
+use Rattle.std.specs.Char.Escape.{encode_utf16}
 use Rattle.hex.specs.Hex.{encode_lower}
+use Rattle.ucd_category.specs.GeneralCategory.{general_category}
+use Rattle.ucd_category.specs.declared.GeneralCategory.{GeneralCategory}
+use Rattle.ucd_category.specs.declared.GeneralCategory.TheVariants.{Control, Format, LineSeparator, ParagraphSeparator}
+use Rattle.ucd_derived.specs.Binary.{is_default_ignorable_code_point}
 use Rattle.acvp_view.specs.Lines.{TakesAll}
 
--- it deletes or controls, or separates lines or paragraphs
-abbrev pub is_control : ℕ → Bool
-is_control c = is_in_range 0x7F 0x9F c || is_in_range 0x2028 0x2029 c
+-- of these general categories are controls, marks that format or set the direction of writing, and separators
+abbrev pub is_of_acting : GeneralCategory → Bool
+is_of_acting Control = true
+is_of_acting Format = true
+is_of_acting LineSeparator = true
+is_of_acting ParagraphSeparator = true
+is_of_acting _ = false
 
--- it marks a direction of writing, or joins or parts letters unseen
-abbrev pub is_mark : ℕ → Bool
-is_mark c = c == 0x61C || is_in_range 0x200B 0x200F c
+-- it acts on what shows it
+abbrev pub is_acting : ℕ → Bool
+is_acting c = is_of_acting (general_category c)
 
--- it embeds, overrides or isolates a direction, or is an unseen operator
-abbrev pub is_embedding : ℕ → Bool
-is_embedding c = is_in_range 0x202A 0x202E c || is_in_range 0x2060 0x206F c
-
--- it isn't seen: a soft hyphen, a mark of the order of bytes, or an annotation
-abbrev pub is_unseen : ℕ → Bool
-is_unseen c = c == 0xAD || c == 0xFEFF || is_in_range 0xFFF9 0xFFFB c
-
+-- it acts, or it is one that a display leaves out if it doesn't know it (Unicode, Default_Ignorable_Code_Point)
 abbrev pub is_escaped : ℕ → Bool
-is_escaped c = is_control c || is_mark c || is_embedding c || is_unseen c
+is_escaped c = is_acting c || is_default_ignorable_code_point c
 
--- as in JSON: "\u" and the four digits of its code
+-- as in JSON: "\u" and the four digits of a unit of UTF-16
+abbrev pub escape_of_unit : ℕ → List ℕ
+escape_of_unit unit = codes "\\u" ++ encode_lower (to_be_bytes w16 unit)
+
+-- the escapes of a character's units
 abbrev pub escape_of : ℕ → List ℕ
-escape_of c = codes "\\u" ++ encode_lower (to_be_bytes w16 c)
+escape_of c = flat_map escape_of_unit (encode_utf16 c)
 
 -- a character as it is shown
 abbrev pub shown_char : ℕ → List ℕ

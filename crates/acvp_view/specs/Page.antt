@@ -69,11 +69,12 @@ unfoldable pub page_head : List ℕ
 page_head =
     codes "<!DOCTYPE html>\n"
     ++ codes "<html lang=\"en\"><head><meta charset=\"utf-8\"><title>Validation certificate</title>\n"
-    ++ codes "<style>body{font:11pt/1.4 sans-serif;margin:2cm auto;max-width:17cm}\n"
+    ++ codes "<style>body{font:10pt/1.3 sans-serif;margin:2cm auto;max-width:17cm}\n"
     ++ codes "h1{font-size:16pt} h2{font-size:13pt}\n"
     ++ codes "table{border-collapse:collapse;width:100%} tr{break-inside:avoid}\n"
     ++ codes "th,td{border:1px solid #999;padding:3pt 5pt;text-align:left;vertical-align:top}\n"
-    ++ codes "code{font-size:8pt;overflow-wrap:anywhere;white-space:pre-wrap}</style></head>\n"
+    ++ codes "code{font-size:8pt;overflow-wrap:anywhere;white-space:pre-wrap}\n"
+    ++ codes "@page{size:A4;margin:15mm} @media print{body{margin:0;max-width:none}}</style></head>\n"
     ++ codes "<body><h1>Validation certificate</h1>\n"
     ++ codes "<table>\n"
 

@@ -1,63 +1,54 @@
-//! How a text that a client wrote is shown. Some characters act on the terminal that shows them, or change in which
-//! order it shows others, so they are escaped as JSON does it.
-ghost use Rattle.std.specs.Prelude.{◌≡◌, ◌<◌, ◌^◌, ◌++◌, ◌∷◌, [], ◌||◌, IfOk, IsTrue, OnOk, string_bytes};
-ghost use Rattle.acvp_view.specs.Escaped.{HandsOnEscaped, escape_of, escaped, is_control, is_embedding, is_escaped};
-ghost use Rattle.acvp_view.specs.Escaped.{is_mark, is_unseen, shown_char};
+//! How a text that a client wrote is shown. Some characters act on the terminal that shows them, change in which order
+//! it shows others, or aren't seen, so they are escaped as JSON does it (RFC 8259, section 7).
+ghost use Rattle.std.specs.Prelude.{◌≡◌, ◌++◌, ◌∷◌, [], ◌||◌, IfOk, OnOk, string_bytes};
+ghost use Rattle.acvp_view.specs.Escaped.{HandsOnEscaped, escape_of, escape_of_unit, escaped, is_acting, is_escaped};
+ghost use Rattle.acvp_view.specs.Escaped.{shown_char};
 ghost use Rattle.acvp_view.specs.Lines.{HandsOn};
 
 use crate::fault::ViewFault;
 use crate::lines::Lines;
 use std::alloc::{AllocError, Global};
+use ucd_category::GeneralCategory;
+use ucd_derived::is_default_ignorable_code_point;
 
-/// Whether a character deletes or controls, or separates lines or paragraphs. JSON has the controls below U+0020
-/// escaped already.
-fn is_control(c: char) -> bool
-    ensures same { result ≡ is_control c }
-    ensures short { IsTrue result → c < 2 ^ 16 }
+/// Whether a character controls or formats, or separates lines or paragraphs, by its general category.
+fn is_acting(c: char) -> bool
+    ensures { result ≡ is_acting c }
 {
-    matches!(c, '\u{7f}'..='\u{9f}' | '\u{2028}'..='\u{2029}')
-}
-
-/// Whether a character marks a direction of writing, or joins or parts letters unseen.
-fn is_mark(c: char) -> bool
-    ensures same { result ≡ is_mark c }
-    ensures short { IsTrue result → c < 2 ^ 16 }
-{
-    c == '\u{61c}' || matches!(c, '\u{200b}'..='\u{200f}')
-}
-
-/// Whether a character embeds, overrides or isolates a direction of writing, or is an unseen operator.
-fn is_embedding(c: char) -> bool
-    ensures same { result ≡ is_embedding c }
-    ensures short { IsTrue result → c < 2 ^ 16 }
-{
-    matches!(c, '\u{202a}'..='\u{202e}' | '\u{2060}'..='\u{206f}')
-}
-
-/// Whether a character isn't seen: a soft hyphen, a mark of the order of bytes, or an annotation.
-fn is_unseen(c: char) -> bool
-    ensures same { result ≡ is_unseen c }
-    ensures short { IsTrue result → c < 2 ^ 16 }
-{
-    c == '\u{ad}' || c == '\u{feff}' || matches!(c, '\u{fff9}'..='\u{fffb}')
+    matches!(
+        GeneralCategory::for_char(c),
+        GeneralCategory::Control
+            | GeneralCategory::Format
+            | GeneralCategory::LineSeparator
+            | GeneralCategory::ParagraphSeparator
+    )
 }
 
 /// Whether a character is escaped.
 fn is_escaped(c: char) -> bool
-    ensures same { result ≡ is_escaped c }
-    ensures short { IsTrue result → c < 2 ^ 16 }
+    ensures { result ≡ is_escaped c }
 {
-    is_control(c) || is_mark(c) || is_embedding(c) || is_unseen(c)
+    is_acting(c) || is_default_ignorable_code_point(c)
 }
 
-/// The escape of a character.
-fn escape_of(alloc: Global, c: char) -> Result<String, AllocError>
-    requires { c < 2 ^ 16 }
-    ensures { IfOk result (λ text. string_bytes text ≡ escape_of c) }
+/// Adds the escape of one unit of UTF-16.
+fn push_unit(alloc: Global, shown: &mut String, unit: u16) -> Result<(), AllocError>
+    ensures { OnOk result (string_bytes shown.new ≡ string_bytes shown.old ++ escape_of_unit unit) }
 {
-    let code = c as u16;
-    let digits = hex::encode(alloc, code.to_be_bytes().as_slice())?;
-    format!(in alloc; "\\u{digits}")
+    let digits = hex::encode(alloc, unit.to_be_bytes().as_slice())?;
+    let escape = format!(in alloc; "\\u{digits}")?;
+    shown.push_str(&escape)
+}
+
+/// Adds the escape of a character: that of its unit, or of the two.
+fn push_escape(alloc: Global, shown: &mut String, c: char) -> Result<(), AllocError>
+    ensures { OnOk result (string_bytes shown.new ≡ string_bytes shown.old ++ escape_of c) }
+{
+    let mut room = [0; 2];
+    for unit in c.encode_utf16(&mut room).iter() {
+        push_unit(alloc, shown, *unit)?;
+    }
+    Ok(())
 }
 
 /// Adds a character as it is shown.
@@ -65,8 +56,7 @@ fn push_shown(alloc: Global, shown: &mut String, c: char) -> Result<(), AllocErr
     ensures { OnOk result (string_bytes shown.new ≡ string_bytes shown.old ++ shown_char c) }
 {
     if is_escaped(c) {
-        let escape = escape_of(alloc, c)?;
-        shown.push_str(&escape)
+        push_escape(alloc, shown, c)
     } else {
         shown.push(c)
     }

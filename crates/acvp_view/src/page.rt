@@ -201,11 +201,12 @@ pub(crate) fn page_head() -> &'static str
     "\
 <!DOCTYPE html>\n\
 <html lang=\"en\"><head><meta charset=\"utf-8\"><title>Validation certificate</title>\n\
-<style>body{font:11pt/1.4 sans-serif;margin:2cm auto;max-width:17cm}\n\
+<style>body{font:10pt/1.3 sans-serif;margin:2cm auto;max-width:17cm}\n\
 h1{font-size:16pt} h2{font-size:13pt}\n\
 table{border-collapse:collapse;width:100%} tr{break-inside:avoid}\n\
 th,td{border:1px solid #999;padding:3pt 5pt;text-align:left;vertical-align:top}\n\
-code{font-size:8pt;overflow-wrap:anywhere;white-space:pre-wrap}</style></head>\n\
+code{font-size:8pt;overflow-wrap:anywhere;white-space:pre-wrap}\n\
+@page{size:A4;margin:15mm} @media print{body{margin:0;max-width:none}}</style></head>\n\
 <body><h1>Validation certificate</h1>\n\
 <table>\n"
 }

@@ -9,7 +9,9 @@ ghost use Rattle.acvp_tables.specs.Content.{Content, request_at};
 ghost use Rattle.acvp_tables.specs.State.{AreWellNumbered};
 ghost use Rattle.acvp_view.specs.Escaped.{HandsOnEscaped};
 ghost use Rattle.acvp_view.specs.Lines.{HandsOn};
-ghost use Rattle.acvp_view.specs.Shown.{IsAsked, registration_lines, registration_text};
+ghost use Rattle.acvp_view.specs.Shown.{IsAsked, capability_object, capability_text, read_object, read_text};
+ghost use Rattle.acvp_view.specs.Shown.{registration_lines, registration_text, results_object, results_text, set_words};
+ghost use Rattle.acvp_view.specs.Shown.{spaced, state_word};
 
 use crate::escape::show_text;
 use crate::fault::ViewFault;
@@ -77,11 +79,25 @@ fn token_of(
     }
 }
 
+fn spaced(alloc: Global, first: &str, second: &str) -> Result<String, AllocError>
+    ensures { IfOk result (λ text. string_bytes text ≡ spaced first.now second.now) }
+{
+    format!(in alloc; "{first} {second}")
+}
+
+fn read_object(alloc: Global, path: &str, body: &str) -> Result<String, AllocError>
+    ensures { IfOk result (λ text. string_bytes text ≡ read_object path.now body.now) }
+{
+    format!(in alloc; "{{\"body\":{body},\"path\":\"{path}\"}}")
+}
+
 /// A path, and the body that a request to read it is answered.
-fn read_text(alloc: Global, form: Form, path: &str, body: &str) -> Result<String, AllocError> {
+fn read_text(alloc: Global, form: Form, path: &str, body: &str) -> Result<String, AllocError>
+    ensures { IfOk result (λ text. string_bytes text ≡ read_text form path.now body.now) }
+{
     match form {
-        Form::Words => format!(in alloc; "{path} {body}"),
-        Form::Json => format!(in alloc; "{{\"body\":{body},\"path\":\"{path}\"}}"),
+        Form::Words => spaced(alloc, path, body),
+        Form::Json => read_object(alloc, path, body),
     }
 }
 
@@ -138,20 +154,49 @@ fn show_registered<T: Tables, L: Lines>(
     }
 }
 
-/// Whether a vector set was cancelled, and its capability.
+/// The word of a vector set that was cancelled, or wasn't.
+fn state_word(cancelled: bool) -> &'static str
+    ensures { result.now ≡ state_word cancelled }
+{
+    if cancelled { "cancelled" } else { "kept" }
+}
+
+fn set_words(alloc: Global, number: u64, text: &str) -> Result<String, AllocError>
+    ensures { IfOk result (λ line. string_bytes line ≡ set_words number text.now) }
+{
+    format!(in alloc; "vectorSet {number} {text}")
+}
+
+fn capability_object(
+    alloc: Global,
+    number: u64,
+    state: &str,
+    capability: &str,
+) -> Result<String, AllocError>
+    ensures { IfOk result (λ text. string_bytes text ≡ capability_object number state.now capability.now) }
+{
+    format!(in alloc;
+        "{{\"capability\":{capability},\"state\":\"{state}\",\"vectorSet\":{number}}}"
+    )
+}
+
+/// The number of a vector set, whether it was cancelled, and its capability.
 fn capability_text(
     alloc: Global,
     form: Form,
-    set: &SetSummary,
+    number: u64,
+    cancelled: bool,
     capability: &str,
-) -> Result<String, AllocError> {
-    let number = set.number;
-    let state = if set.cancelled { "cancelled" } else { "kept" };
+) -> Result<String, AllocError>
+    ensures { IfOk result (λ text. string_bytes text ≡ capability_text form number cancelled capability.now) }
+{
+    let state = state_word(cancelled);
     match form {
-        Form::Words => format!(in alloc; "vectorSet {number} {state} {capability}"),
-        Form::Json => format!(in alloc;
-            "{{\"capability\":{capability},\"state\":\"{state}\",\"vectorSet\":{number}}}"
-        ),
+        Form::Words => {
+            let text = spaced(alloc, state, capability)?;
+            set_words(alloc, number, text.as_str())
+        }
+        Form::Json => capability_object(alloc, number, state, capability),
     }
 }
 
@@ -169,20 +214,23 @@ fn show_capability<T: Tables, L: Lines>(
         return Ok(());
     };
     let text = capability.to_text(alloc)?;
-    let line = capability_text(alloc, form, set, text.as_str())?;
+    let line = capability_text(alloc, form, set.number, set.cancelled, text.as_str())?;
     show_text(alloc, lines, line.as_str())
 }
 
+fn results_object(alloc: Global, number: u64, results: &str) -> Result<String, AllocError>
+    ensures { IfOk result (λ text. string_bytes text ≡ results_object number results.now) }
+{
+    format!(in alloc; "{{\"results\":{results},\"vectorSet\":{number}}}")
+}
+
 /// What the last answers to a vector set came to.
-fn results_text(
-    alloc: Global,
-    form: Form,
-    number: u64,
-    results: &str,
-) -> Result<String, AllocError> {
+fn results_text(alloc: Global, form: Form, number: u64, results: &str) -> Result<String, AllocError>
+    ensures { IfOk result (λ text. string_bytes text ≡ results_text form number results.now) }
+{
     match form {
-        Form::Words => format!(in alloc; "vectorSet {number} {results}"),
-        Form::Json => format!(in alloc; "{{\"results\":{results},\"vectorSet\":{number}}}"),
+        Form::Words => set_words(alloc, number, results),
+        Form::Json => results_object(alloc, number, results),
     }
 }
 
