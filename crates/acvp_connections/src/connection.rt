@@ -12,7 +12,8 @@ use crate::fault::{FileFault, fault_of_cause, refused};
 use crate::left::settle_names;
 use crate::number::{FileNumber, file_at};
 use acvp_causes::{
-    cause_of_files, has_log, is_companion, is_copy, is_foreign, is_left_alone, is_moved,
+    cause_of_files, cause_of_path, has_log, is_companion, is_copy, is_foreign, is_left_alone,
+    is_moved,
 };
 use sqlite::{Connection, Error, ErrorCode, FileFrom, FileStore, Files, Start};
 use sqlite_disk::Disk;
@@ -151,10 +152,14 @@ fn connect_known<S: Start>(
     connect_held(rt, path, start)
 }
 
-/// Refuses a path that a database can't be made at: it is that of a file that lies beside a database, or beside it
-/// there is a log that another has left.
+/// Refuses a path that a database can't be made at: it is that of a file that lies beside a database, it ends without a
+/// name or with one that is too long for copies, or beside it there is a log that another has left.
 fn may_be_made(rt: &HostRuntime, path: &str) -> Result<(), FileFault> {
-    if is_companion(path) || is_copy(path) || is_left_alone(rt, path)? {
+    if is_companion(path)
+        || is_copy(path)
+        || cause_of_path(path).is_some()
+        || is_left_alone(rt, path)?
+    {
         Err(FileFault::Unavailable)
     } else {
         Ok(())

@@ -5,8 +5,8 @@ use crate::parts::{Pair, Part, Use, give_up, has_name, make_new, new_copy, pair_
 use crate::rows::count_rows;
 use crate::sums::copy_with_sums;
 use acvp_causes::{
-    cause_of_folder, folder_of, has_journal, has_log, has_sums, holds_any, is_companion, is_copy,
-    is_database, is_held_by_any, last_of, name_of,
+    cause_of_folder, cause_of_path, folder_of, has_journal, has_log, has_sums, holds_any,
+    is_companion, is_copy, is_database, is_held_by_any, last_of, name_of,
 };
 use acvp_connections::{
     FileFault, FileNumber, copied, done, fault_of_cause, file_at, number_of, refused, remove,
@@ -42,12 +42,18 @@ fn is_taken(rt: &HostRuntime, path: &str) -> Result<bool, FileFault> {
     )
 }
 
-/// Refuses a path that no new file can have: it is that of a file that lies beside a database, or the way to it goes by
-/// a link that isn't followed.
-pub(crate) fn may_have_path(rt: &HostRuntime, path: &str) -> Result<(), FileFault> {
-    if is_companion(path) || is_copy(path) {
-        return Err(FileFault::Unavailable);
+/// Refuses a path that ends as that of a file beside a database, without a name, or with one too long for copies.
+fn may_be_named(path: &str) -> Result<(), FileFault> {
+    if is_companion(path) || is_copy(path) || cause_of_path(path).is_some() {
+        Err(FileFault::Unavailable)
+    } else {
+        Ok(())
     }
+}
+
+/// Refuses a path that no new file can have: by how it ends, or since the way to it goes by a link that isn't followed.
+pub(crate) fn may_have_path(rt: &HostRuntime, path: &str) -> Result<(), FileFault> {
+    may_be_named(path)?;
     match cause_of_folder(rt, path) {
         Some(cause) => Err(fault_of_cause(cause)),
         None => Ok(()),
@@ -203,6 +209,9 @@ fn backup_of(rt: &HostRuntime, database: &str, to: &str) -> Result<u64, CopyFaul
 /// isn't written over.
 pub fn backup(rt: &HostRuntime, database: &str, to: &str) -> Result<u64, CopyFault> {
     let name = at(Step::Source, done(name_of(rt, database)))?;
+    if cause_of_path(name.as_str()).is_some() {
+        return at(Step::Source, Err(FileFault::Unavailable));
+    }
     backup_of(rt, name.as_str(), to)
 }
 
@@ -409,6 +418,15 @@ fn restore_named(rt: &HostRuntime, backup: &str, database: &str) -> Result<Resto
     outcome
 }
 
+/// Refuses what is there and is no regular file, before anything is copied for its place, and before it is opened: an
+/// open of a pipe waits for its other end.
+fn is_file_or_none(rt: &HostRuntime, path: &str) -> Result<(), FileFault> {
+    match fs::symlink_metadata(rt, path) {
+        Ok(there) if !there.is_file() => Err(FileFault::Unavailable),
+        _ => Ok(()),
+    }
+}
+
 /// Puts the copy of the backup at a path in the place of the database at another, whole or not at all. Its pages have
 /// sums then, also where those of the backup have none. What was there is kept beside it.
 pub fn restore(rt: &HostRuntime, backup: &str, database: &str) -> Result<Restored, CopyFault> {
@@ -418,8 +436,7 @@ pub fn restore(rt: &HostRuntime, backup: &str, database: &str) -> Result<Restore
     if is_copy(from.as_str()) {
         return at(Step::Source, Err(FileFault::Unavailable));
     }
-    if is_companion(to.as_str()) || is_copy(to.as_str()) {
-        return at(Step::Begin, Err(FileFault::Unavailable));
-    }
+    at(Step::Begin, may_be_named(to.as_str()))?;
+    at(Step::Target, is_file_or_none(rt, to.as_str()))?;
     restore_named(rt, from.as_str(), to.as_str())
 }

@@ -217,13 +217,13 @@ fn schema_in<S: Alter + Drop>(connection: &mut Connection<S>) -> Option<i64> {
     }
 }
 
-/// The same of a copy of the database at a path.
-pub fn schema_of_copy(rt: &HostRuntime, database: &str) -> Option<i64> {
+/// The same of a copy of the database at a path. The fault is that of the copy.
+pub fn schema_of_copy(rt: &HostRuntime, database: &str) -> Result<Option<i64>, FileFault> {
     match connection_to_look_at(rt, database) {
         Ok(connection) => {
             let mut connection = connection;
-            schema_in(&mut connection)
+            Ok(schema_in(&mut connection))
         }
-        Err(_) => None,
+        Err(fault) => Err(fault),
     }
 }

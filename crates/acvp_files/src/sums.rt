@@ -2,6 +2,7 @@
 //! of one that has none are copied into a new one, each under its own number.
 use crate::copies::{connection_to_part, merge};
 use crate::parts::Part;
+use crate::progress::RowsCopied;
 use crate::rows::{count_rows, fault_of_statement};
 use acvp_causes::{has_sums, name_of};
 use acvp_connections::FileFault;
@@ -99,41 +100,42 @@ fn write_row<S: Alter + Drop>(
     }
 }
 
-/// Writes the rows that come next, about as many as one transaction is for, and says whether more may come.
+/// Writes the rows that come next, about as many as one transaction is for, and says how many, and whether more may
+/// come.
 fn write_next<S: Alter + Drop, T: Alter + Drop>(
     alloc: Global,
     rows: &mut Rows<'_, S>,
     batch: &mut Transaction<'_, T>,
     write: &str,
-) -> Result<bool, FileFault> {
+) -> Result<(u64, bool), FileFault> {
     let mut bytes: usize = 0;
-    for _ in 0..u64::MAX {
+    for count in 0..u64::MAX {
         if bytes >= BATCH_BYTES {
-            break;
+            return Ok((count, true));
         }
         match rows.next() {
             Ok(Some(row)) => bytes = bytes.saturating_add(write_row(alloc, batch, write, row)?),
-            Ok(None) => return Ok(false),
+            Ok(None) => return Ok((count, false)),
             Err(error) => return Err(fault_of_statement(error)),
         }
     }
-    Ok(true)
+    Ok((u64::MAX, true))
 }
 
-/// Writes the rows that come next in a transaction, and says whether more may come.
+/// Writes the rows that come next in a transaction, and says how many, and whether more may come.
 fn copy_next<S: Alter + Drop, T: Alter + Drop>(
     alloc: Global,
     rows: &mut Rows<'_, S>,
     to: &mut Connection<T>,
     write: &str,
-) -> Result<bool, FileFault> {
+) -> Result<(u64, bool), FileFault> {
     if !to.is_autocommit() {
         return Err(FileFault::Unavailable);
     }
     let mut batch = to.transaction();
-    let more = write_next(alloc, rows, &mut batch, write)?;
+    let written = write_next(alloc, rows, &mut batch, write)?;
     match batch.commit() {
-        Ok(()) => Ok(more),
+        Ok(()) => Ok(written),
         Err(error) => Err(fault_of_statement(error)),
     }
 }
@@ -144,13 +146,16 @@ fn copy_table<S: Alter + Drop, T: Alter + Drop>(
     from: &mut Connection<S>,
     to: &mut Connection<T>,
     table: Copied,
+    progress: &mut RowsCopied<'_>,
 ) -> Result<(), FileFault> {
     let mut rows = match from.query(table.read, &[]) {
         Ok(rows) => rows,
         Err(error) => return Err(fault_of_statement(error)),
     };
     for _ in 0..u64::MAX {
-        if !copy_next(alloc, &mut rows, to, table.write)? {
+        let (count, more) = copy_next(alloc, &mut rows, to, table.write)?;
+        progress.add(count);
+        if !more {
             break;
         }
     }
@@ -181,23 +186,27 @@ fn copy_tables<S: Alter + Drop, T: Alter + Drop>(
     alloc: Global,
     from: &mut Connection<S>,
     to: &mut Connection<T>,
+    progress: &mut RowsCopied<'_>,
 ) -> Result<(), FileFault> {
     for table in &TABLES {
-        copy_table(alloc, from, to, *table)?;
+        copy_table(alloc, from, to, *table, progress)?;
     }
     Ok(())
 }
 
 /// Copies the rows of a database, so many, into tables of this version that have none.
 fn fill_tables<S: Alter + Drop, T: Alter + Drop>(
-    alloc: Global,
+    rt: &HostRuntime,
     from: &mut Connection<S>,
     to: &mut Connection<T>,
     rows: u64,
 ) -> Result<(), FileFault> {
     take_version_out(to)?;
-    copy_tables(alloc, from, to)?;
-    if count_rows(alloc, to)? == rows {
+    let mut progress = RowsCopied::of(rt, rows);
+    let outcome = copy_tables(rt.alloc(), from, to, &mut progress);
+    progress.end();
+    outcome?;
+    if count_rows(rt.alloc(), to)? == rows {
         Ok(())
     } else {
         Err(FileFault::Unavailable)
@@ -206,13 +215,13 @@ fn fill_tables<S: Alter + Drop, T: Alter + Drop>(
 
 /// Makes the tables of this version in a database that has none, and copies the rows of another into them, so many.
 fn filled<S: Alter + Drop, T: Alter + Drop>(
-    alloc: Global,
+    rt: &HostRuntime,
     from: &mut Connection<S>,
     to: Connection<T>,
     rows: u64,
 ) -> Result<Connection<T>, FileFault> {
-    let mut made = with_new_tables(alloc, to)?;
-    match fill_tables(alloc, from, &mut made, rows) {
+    let mut made = with_new_tables(rt.alloc(), to)?;
+    match fill_tables(rt, from, &mut made, rows) {
         Ok(()) => Ok(made),
         Err(fault) => Err(fault),
     }
@@ -226,7 +235,7 @@ fn fill<S: Alter + Drop, D: Disk + Drop>(
     part: &Part,
     rows: u64,
 ) -> Result<(), FileFault> {
-    match filled(rt.alloc(), &mut from, to, rows) {
+    match filled(rt, &mut from, to, rows) {
         Ok(made) => merge(rt, part, made),
         Err(fault) => Err(fault),
     }
