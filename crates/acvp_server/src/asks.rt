@@ -1,6 +1,12 @@
 //! What an order is about to do, and whether it is wanted. An order that is given can't be taken back.
 use crate::copies::{Visit, in_copy};
-use acvp_commands::Deed;
+use crate::database::fault_of_files;
+use crate::looks::fault_of_view;
+use crate::reasons::is_empty;
+use crate::why::why_uncopied;
+use acvp_causes::{has_log, name_of};
+use acvp_commands::{Deed, Fault};
+use acvp_files::schema_of_copy;
 use acvp_store::SqlTables;
 use acvp_tables::{RequestPurpose, RequestSummary, Tables};
 use acvp_view::{Form, Lines, ViewFault, show_account, show_request, show_session};
@@ -89,16 +95,57 @@ impl Visit for Shows<'_> {
 }
 
 /// Shows what an order is about, as a copy of the database tells.
-fn show_order(rt: &HostRuntime, db: &str, deed: Deed<'_>) -> Result<(), ViewFault> {
-    match in_copy(rt, db, Shows { rt, deed }) {
-        Ok(shown) => shown,
-        Err(_) => Err(ViewFault::Refused),
+fn show_order(rt: &HostRuntime, db: &str, deed: Deed<'_>) -> Result<(), Fault> {
+    match in_copy(rt, db, Shows { rt, deed })? {
+        Ok(()) => Ok(()),
+        Err(fault) => Err(fault_of_view(fault)),
     }
 }
 
-/// What a question asks, of an order that can't be taken back.
+/// Shows of which schema the tables are that are to be moved, and says whether there are any: those of this version, or
+/// of a later one, stay as they are.
+fn show_schema(rt: &HostRuntime, db: &str) -> Result<bool, Fault> {
+    match schema_of_copy(rt, db) {
+        Ok(Some(number)) if number == 1 || number == 2 => {
+            match eprintln!(rt; "{db}: tables of schema {number}, of an earlier version") {
+                Ok(()) => Ok(true),
+                Err(_) => Err(Fault::Write),
+            }
+        }
+        Ok(Some(_)) => Ok(false),
+        Ok(None) => Err(Fault::Schema),
+        Err(fault) => Err(fault_of_files(fault)),
+    }
+}
+
+/// Whether there is a file at a path that holds nothing, and no log that could fill it.
+fn is_blank(rt: &HostRuntime, db: &str) -> bool {
+    match name_of(rt, db) {
+        Ok(name) => is_empty(rt, name.as_str()) && !has_log(rt, name.as_str()),
+        Err(_) => false,
+    }
+}
+
+/// Shows what is to be changed, and says whether there is anything to ask for.
+fn show_deed(rt: &HostRuntime, db: &str, deed: Deed<'_>) -> Result<bool, Fault> {
+    if is_blank(rt, db) {
+        return Err(Fault::Schema);
+    }
+    match deed {
+        Deed::Migrate => show_schema(rt, db),
+        _ => {
+            show_order(rt, db, deed)?;
+            Ok(true)
+        }
+    }
+}
+
+/// What a question asks, of what can't be taken back.
 fn question_of(deed: Deed<'_>) -> Option<&'static str> {
     match deed {
+        Deed::Migrate => {
+            Some("Move all records to schema 3, which an earlier version can't read?")
+        }
         Deed::DisableAccount { .. } => Some("Disable this account for good?"),
         Deed::ApproveRequest { .. } => Some("Approve this request?"),
         Deed::RejectRequest { .. } => Some("Reject this request?"),
@@ -123,23 +170,38 @@ fn is_answered(rt: &HostRuntime, question: &str) -> bool {
     }
 }
 
-/// Whether somebody is there to answer: standard input and standard error are terminals.
+/// Whether somebody is there to answer: standard input is a terminal.
 pub(crate) fn is_there(rt: &HostRuntime) -> bool {
-    rt.stdin().is_terminal() && rt.stderr().is_terminal()
+    rt.stdin().is_terminal()
 }
 
-/// Whether what is to be done is wanted: an order that can't be taken back is shown, and asked for. One about what
-/// isn't there is refused without a question.
-pub(crate) fn is_wanted(rt: &HostRuntime, db: &str, deed: Deed<'_>) -> bool {
+/// Whether a question would be asked where nobody sees it: standard error is no terminal.
+pub(crate) fn is_unseen(rt: &HostRuntime, deed: Deed<'_>) -> bool {
+    question_of(deed).is_some() && !rt.stderr().is_terminal()
+}
+
+/// Says how an order is given that can't be shown, if nothing else can be seen that stands in the way.
+fn tell_unshown(rt: &HostRuntime, db: &str, fault: Fault) {
+    if matches!(fault, Fault::Unavailable | Fault::Memory)
+        && why_uncopied(rt, "--db", db).is_none()
+    {
+        let _ = eprintln!(rt;
+            "what is to be changed can't be shown: with --yes it is changed all the same"
+        );
+    }
+}
+
+/// Whether what is to be done is wanted: what can't be taken back is shown, and asked for. What isn't there, or can't be
+/// shown, is refused: it may be there once the question were answered.
+pub(crate) fn is_wanted(rt: &HostRuntime, db: &str, deed: Deed<'_>) -> Result<bool, Fault> {
     let Some(question) = question_of(deed) else {
-        return true;
+        return Ok(true);
     };
-    match show_order(rt, db, deed) {
-        Ok(()) => {}
-        Err(ViewFault::Unknown) => return true,
-        Err(_) => {
-            let _ = eprintln!(rt; "what it is about can't be shown");
+    match show_deed(rt, db, deed) {
+        Ok(asks) => Ok(!asks || is_answered(rt, question)),
+        Err(fault) => {
+            tell_unshown(rt, db, fault);
+            Err(fault)
         }
     }
-    is_answered(rt, question)
 }

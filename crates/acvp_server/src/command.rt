@@ -56,7 +56,7 @@ struct Subcommand {
     /// An example of it.
     example: &'static str,
 
-    /// The options that it has.
+    /// The options that it has, beside the flag that all have.
     options: &'static [Wanted],
 }
 
@@ -210,7 +210,7 @@ const HTML_FLAG: Wanted = Wanted {
 const YES_FLAG: Wanted = Wanted {
     name: YES,
     value: "",
-    help: "Gives the order at once; without it, on a terminal, shows it and asks",
+    help: "Doesn't ask; without it, on a terminal, shows what is to be changed and asks",
     form: Form::Flag,
 };
 
@@ -227,13 +227,13 @@ static SUBCOMMANDS: [Subcommand; 17] = [
         name: "init",
         about: "Makes an empty laboratory in a new or empty file",
         example: "Example: acvp_server init --db laboratory.db",
-        options: &[DB_OPTION, VERBOSE_FLAG],
+        options: &[DB_OPTION],
     },
     Subcommand {
         name: "migrate",
         about: "Moves the tables in a file of an earlier version to the current schema, with all records",
         example: "Example: acvp_server migrate --db laboratory.db",
-        options: &[DB_OPTION, VERBOSE_FLAG],
+        options: &[DB_OPTION, YES_FLAG],
     },
     Subcommand {
         name: "keys",
@@ -245,86 +245,67 @@ static SUBCOMMANDS: [Subcommand; 17] = [
             RETIRE_OPTION,
             ADD_SEED_OPTION,
             NEW_LINES_OPTION,
-            VERBOSE_FLAG,
         ],
     },
     Subcommand {
         name: "secret",
         about: "Makes the file of an account's secret",
         example: "Example: acvp_server secret --new secret-7.txt",
-        options: &[NEW_SECRET_OPTION, VERBOSE_FLAG],
+        options: &[NEW_SECRET_OPTION],
     },
     Subcommand {
         name: "account-add",
         about: "Adds an account, whose one-time codes come from its secret",
         example: "Example: acvp_server account-add --db laboratory.db --account 7 --secret secret-7.txt",
-        options: &[DB_OPTION, ACCOUNT_OPTION, SECRET_OPTION, VERBOSE_FLAG],
+        options: &[DB_OPTION, ACCOUNT_OPTION, SECRET_OPTION],
     },
     Subcommand {
         name: "account-disable",
         about: "Disables an account for good: its logins and its tokens are refused",
         example: "Example: acvp_server account-disable --db laboratory.db --account 7",
-        options: &[DB_OPTION, ACCOUNT_OPTION, YES_FLAG, VERBOSE_FLAG],
+        options: &[DB_OPTION, ACCOUNT_OPTION, YES_FLAG],
     },
     Subcommand {
         name: "request-approve",
         about: "Approves a request, and prints the URL of what it asked for",
         example: "Example: acvp_server request-approve --db laboratory.db --request 7000001",
-        options: &[DB_OPTION, REQUEST_OPTION, YES_FLAG, VERBOSE_FLAG],
+        options: &[DB_OPTION, REQUEST_OPTION, YES_FLAG],
     },
     Subcommand {
         name: "request-reject",
         about: "Rejects a request",
         example: "Example: acvp_server request-reject --db laboratory.db --request 7000001",
-        options: &[DB_OPTION, REQUEST_OPTION, YES_FLAG, VERBOSE_FLAG],
+        options: &[DB_OPTION, REQUEST_OPTION, YES_FLAG],
     },
     Subcommand {
         name: "accounts",
         about: "Shows each account and how many sessions, requests and objects it has, also while served",
         example: "Example: acvp_server accounts --db laboratory.db",
-        options: &[DB_OPTION, JSON_FLAG, VERBOSE_FLAG],
+        options: &[DB_OPTION, JSON_FLAG],
     },
     Subcommand {
         name: "requests",
         about: "Shows the requests that wait for a decision, also while the records are served",
         example: "Example: acvp_server requests --db laboratory.db --all",
-        options: &[DB_OPTION, ALL_FLAG, JSON_FLAG, VERBOSE_FLAG],
+        options: &[DB_OPTION, ALL_FLAG, JSON_FLAG],
     },
     Subcommand {
         name: "request-show",
         about: "Shows what a decision on a request needs, also while the records are served",
         example: "Example: acvp_server request-show --db laboratory.db --keys keys.txt --request 7000001",
-        options: &[
-            DB_OPTION,
-            KEYS_OPTION,
-            REQUEST_OPTION,
-            JSON_FLAG,
-            VERBOSE_FLAG,
-        ],
+        options: &[DB_OPTION, KEYS_OPTION, REQUEST_OPTION, JSON_FLAG],
     },
     Subcommand {
         name: "certificate",
         about: "Prints the document of an approved certification, also while the records are served",
         example: "Example: acvp_server certificate --db laboratory.db --keys keys.txt --request 7000004",
-        options: &[
-            DB_OPTION,
-            KEYS_OPTION,
-            REQUEST_OPTION,
-            HTML_FLAG,
-            VERBOSE_FLAG,
-        ],
+        options: &[DB_OPTION, KEYS_OPTION, REQUEST_OPTION, HTML_FLAG],
     },
     Subcommand {
         name: "check",
         about: "Says whether the records are whole, or what is wrong with them, also while they are served",
         example: "Example: acvp_server check --db laboratory.db --keys keys.txt",
-        options: &[
-            DB_OPTION,
-            KEYS_OPTION,
-            GRADES_OPTION,
-            JSON_FLAG,
-            VERBOSE_FLAG,
-        ],
+        options: &[DB_OPTION, KEYS_OPTION, GRADES_OPTION, JSON_FLAG],
     },
     Subcommand {
         name: "serve",
@@ -337,26 +318,25 @@ static SUBCOMMANDS: [Subcommand; 17] = [
             COUNT_OPTION,
             PATIENCE_OPTION,
             LOG_OPTION,
-            VERBOSE_FLAG,
         ],
     },
     Subcommand {
         name: "backup",
         about: "Copies the records to a new file, whole, also while they are served",
         example: "Example: acvp_server backup --db laboratory.db --to backup.db",
-        options: &[DB_OPTION, TO_OPTION, VERBOSE_FLAG],
+        options: &[DB_OPTION, TO_OPTION],
     },
     Subcommand {
         name: "restore",
         about: "Puts a backup in the place of the records, whole or not at all, while nobody serves them",
         example: "Example: acvp_server restore --from backup.db --db laboratory.db",
-        options: &[FROM_OPTION, DB_OPTION, VERBOSE_FLAG],
+        options: &[FROM_OPTION, DB_OPTION],
     },
     Subcommand {
         name: "script",
         about: "Runs a script from standard input over records in memory",
         example: "Example: acvp_server script --keys keys.txt < events",
-        options: &[KEYS_OPTION, VERBOSE_FLAG],
+        options: &[KEYS_OPTION],
     },
 ];
 
@@ -382,7 +362,7 @@ fn option<'a>(alloc: Global, wanted: &Wanted) -> Arg<'a> {
     }
 }
 
-/// A subcommand of the command line, with its options.
+/// A subcommand of the command line, with its options, and last the flag that all have.
 fn with_options<'a>(alloc: Global, which: &Subcommand) -> Result<Command<'a>, AllocError> {
     let mut command = Command::new(alloc, which.name)
         .about(which.about)
@@ -390,7 +370,7 @@ fn with_options<'a>(alloc: Global, which: &Subcommand) -> Result<Command<'a>, Al
     for wanted in which.options {
         command = command.arg(option(alloc, wanted))?;
     }
-    Ok(command)
+    command.arg(option(alloc, &VERBOSE_FLAG))
 }
 
 /// The program's command line, with its subcommands. `--version` prints this.

@@ -19,7 +19,7 @@ use std::alloc::AllocGlobal;
 use std::io::IsTerminal;
 
 /// The fault of what isn't shown.
-fn fault_of_view(fault: ViewFault) -> Fault
+pub(crate) fn fault_of_view(fault: ViewFault) -> Fault
     ensures { result ≡ fault_of_view fault }
 {
     match fault {
@@ -192,11 +192,39 @@ struct Progress<'a> {
     is_shown: bool,
 }
 
+impl Progress<'_> {
+    /// Ends the line that says how far a check has come.
+    fn end(&self) {
+        if self.is_shown {
+            let _ = eprintln!(self.rt; "");
+        }
+    }
+}
+
 impl Watch for Progress<'_> {
     fn looked_at(&self, account: u16) {
         if self.is_shown && account % 100 == 0 {
             let _ = eprint!(self.rt; "\r{account} of 9999 accounts ");
         }
+    }
+}
+
+/// The standard output, below a line that says how far a check has come.
+#[derive(Drop)]
+struct Below<'a> {
+    progress: Progress<'a>,
+    printed: Printed<'a, HostRuntime>,
+}
+
+impl Lines for Below<'_> {
+    ghost use Rattle.std.specs.Prelude.{⊤};
+
+    // No contract can say what is printed.
+    ghost takes = { λ _ _ _. ⊤ };
+
+    fn take(&mut self, line: &str) -> Result<(), ViewFault> {
+        self.progress.end();
+        self.printed.take(line)
     }
 }
 
@@ -228,21 +256,24 @@ impl Visit for Check<'_> {
         let mut tables = tables_under(rt.alloc(), tables, &keys.seed)?;
         let is_shown = rt.stderr().is_terminal();
         let progress = Progress { rt, is_shown };
+        let printed = Printed(rt);
         let outcome = show_check(
             rt.alloc(),
             &mut tables,
-            &mut Printed(rt),
+            &mut Below { progress, printed },
             form_of(json),
             &keys.seed,
             grades,
             &progress,
         );
-        if is_shown {
-            let _ = eprintln!(rt; "");
-        }
         match outcome {
             Ok(whole) => Ok(whole || tell_damaged(rt)),
-            Err(fault) => Err(fault_of_view(fault)),
+            // The line was ended before the result was to be written.
+            Err(ViewFault::Write) => Err(Fault::Write),
+            Err(fault) => {
+                progress.end();
+                Err(fault_of_view(fault))
+            }
         }
     }
 }

@@ -25,7 +25,7 @@ mod seeds;
 mod version;
 mod why;
 
-use crate::asks::{is_there, is_wanted};
+use crate::asks::{is_there, is_unseen, is_wanted};
 use crate::command::{LOG, VERBOSE, YES, command};
 use crate::database::{Said, done_in, named};
 use crate::failure::Failed;
@@ -150,7 +150,7 @@ fn tell_open_files(rt: &HostRuntime, asked: Invocation<'_>) {
 fn run_deed(rt: &HostRuntime, db: &str, deed: Deed<'_>, flags: Flags) -> Result<bool, Fault>
     requires { NamesAccountToDo deed }
 {
-    if flags.asks && !is_wanted(rt, db, deed) {
+    if flags.asks && !is_wanted(rt, db, deed)? {
         let _ = eprintln!(rt; "nothing is changed");
         return Ok(false);
     }
@@ -291,10 +291,25 @@ fn tell_failed(rt: &HostRuntime, asked: Invocation<'_>, told: Failed, flags: Fla
     }
 }
 
+/// Why a command is refused that would ask where nobody sees it.
+const UNSEEN: &str =
+    "standard error is no terminal, so nobody would see the question: add --yes to go on without it";
+
+/// Whether a command would ask where nobody sees it.
+fn is_asked_unseen(rt: &HostRuntime, asked: Invocation<'_>, flags: Flags) -> bool {
+    match asked {
+        Invocation::On(_, deed) => flags.asks && is_unseen(rt, deed),
+        _ => false,
+    }
+}
+
 /// Carries out what the command line asks for, and gives the exit status.
 fn execute_asked(rt: &HostRuntime, asked: Invocation<'_>, flags: Flags) -> ExitCode
     requires { NamesAccount asked }
 {
+    if is_asked_unseen(rt, asked, flags) {
+        return refused_for(rt, UNSEEN);
+    }
     if flags.warns {
         tell_open_files(rt, asked);
     }

@@ -47,24 +47,24 @@ impl Visit for Enabled {
 /// Tells which schema a file names, and what to do about it.
 fn tell_schema(rt: &HostRuntime, option: &str, path: &str, advice: &str) {
     let _ = match schema_of_copy(rt, path) {
-        Some(number) if number == 1 || number == 2 => {
+        Ok(Some(number)) if number == 1 || number == 2 => {
             eprintln!(rt; "because: {option}: it names schema {number}{advice}")
         }
-        Some(3) => eprintln!(rt;
+        Ok(Some(3)) => eprintln!(rt;
             "because: {option}: it names schema 3, but its tables and indexes aren't exactly those"
         ),
-        Some(number) => eprintln!(rt;
+        Ok(Some(number)) => eprintln!(rt;
             "because: {option}: it names schema {number}, which this program doesn't know"
         ),
-        None if is_empty(rt, path) => {
+        Ok(None) | Err(_) if is_empty(rt, path) => {
             eprintln!(rt; "because: {option}: it is empty: init fills it")
         }
-        None => Ok(()),
+        Ok(None) | Err(_) => Ok(()),
     };
 }
 
 /// Whether a file is there, and empty.
-fn is_empty(rt: &HostRuntime, path: &str) -> bool {
+pub(crate) fn is_empty(rt: &HostRuntime, path: &str) -> bool {
     match fs::metadata(rt, path) {
         Ok(there) => there.len() == 0,
         Err(_) => false,

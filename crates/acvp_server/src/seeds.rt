@@ -4,6 +4,7 @@
 ghost use Rattle.std.specs.Prelude.{◌≡◌};
 ghost use Rattle.acvp_server.specs.Fingerprints.{fingerprint_of};
 
+use acvp_causes::Cause;
 use acvp_commands::Fault;
 use acvp_gen::Seeds;
 use acvp_mac::{HashName, hash_pieces};
@@ -25,9 +26,17 @@ fn fingerprint_of(seed: &[u8; 32]) -> u32
     u32::from_be_bytes(front)
 }
 
-/// The name of the row of an epoch's seed: by its place in the keys file, from 1 on.
+/// The greatest epoch: a keys file has 16 seeds at most, and the first is of epoch 0.
+const MOST_EPOCH: u64 = 15;
+
+/// The place of an epoch's seed in the keys file, from 1 on.
+fn place_of(epoch: u64) -> u64 {
+    epoch.saturating_add(1)
+}
+
+/// The name of the row of an epoch's seed.
 fn row_name(alloc: Global, epoch: u64) -> Result<String, AllocError> {
-    let place = epoch.saturating_add(1);
+    let place = place_of(epoch);
     format!(in alloc; "seed {place}")
 }
 
@@ -82,13 +91,45 @@ fn other_in<S: Alter + Drop>(
     Ok(None)
 }
 
-/// The epoch of the first seed that is another than the one that these tables were served with.
-pub(crate) fn other_seed<S: Alter + Drop>(
+/// The epoch of the first seed behind these that the database knows: new vector sets were made from it, and would be
+/// made from an older one.
+fn lacked_in<S: Alter + Drop>(
+    alloc: Global,
+    connection: &mut Connection<S>,
+    seeds: &Seeds,
+) -> Result<Option<u64>, Fault> {
+    for newest in seeds.newest()..MOST_EPOCH {
+        let epoch = newest.saturating_add(1);
+        let name = row_name(alloc, epoch)?;
+        if known_under(connection, name.as_str())?.is_some() {
+            return Ok(Some(epoch));
+        }
+    }
+    Ok(None)
+}
+
+/// What is wrong with seeds for the database of a connection, by what it knows.
+fn cause_in<S: Alter + Drop>(
+    alloc: Global,
+    connection: &mut Connection<S>,
+    seeds: &Seeds,
+) -> Result<Option<Cause>, Fault> {
+    if let Some(epoch) = other_in(alloc, connection, seeds)? {
+        return Ok(Some(Cause::Seed(place_of(epoch) as usize)));
+    }
+    match lacked_in(alloc, connection, seeds)? {
+        Some(epoch) => Ok(Some(Cause::Lacks(place_of(epoch) as usize))),
+        None => Ok(None),
+    }
+}
+
+/// What is wrong with seeds for these tables, by what they know of those that they were served with.
+pub(crate) fn cause_of_seeds<S: Alter + Drop>(
     alloc: Global,
     tables: SqlTables<S>,
     seeds: &Seeds,
-) -> Result<Option<u64>, Fault> {
-    other_in(alloc, &mut tables.into_connection(), seeds)
+) -> Result<Option<Cause>, Fault> {
+    cause_in(alloc, &mut tables.into_connection(), seeds)
 }
 
 /// These tables, if they weren't served with another seed than one of these.
@@ -162,13 +203,14 @@ fn put_all<S: Alter + Drop>(connection: &mut Connection<S>, rows: &[NewRow]) -> 
     tx.commit().map_err(fault_of_statement)
 }
 
-/// Has a database know these seeds, and gives the rows that it got. If it knows another one, nothing is written.
+/// Has a database know these seeds, and gives the rows that it got. If it knows another one, or one more, nothing is
+/// written.
 fn keep_seeds<S: Alter + Drop>(
     alloc: Global,
     connection: &mut Connection<S>,
     seeds: &Seeds,
 ) -> Result<Option<Added>, Fault> {
-    if other_in(alloc, connection, seeds)?.is_some() {
+    if cause_in(alloc, connection, seeds)?.is_some() {
         return Err(Fault::Keys);
     }
     let rows = unknown_rows(alloc, connection, seeds)?;
@@ -180,7 +222,7 @@ fn keep_seeds<S: Alter + Drop>(
 }
 
 /// Has a database know the seeds that it is to be served with, and hands it back with those that are new to it. One
-/// that can't be taken over, or knows another seed, is handed back as it is.
+/// that can't be taken over, or knows another seed or one more, is handed back as it is.
 pub(crate) fn with_seeds<S: Alter + Drop>(
     alloc: Global,
     connection: Connection<S>,

@@ -2,11 +2,11 @@
 use crate::copies::{Visit, in_copy};
 use crate::failure::Failed;
 use crate::made::{file_to_make, keys_to_change, option_of_made};
-use crate::seeds::other_seed;
+use crate::seeds;
 use acvp_causes::{
     Because, Cause, Place, are_there, cause_of_database, cause_of_error, cause_of_folder,
-    cause_of_maker, cause_of_source, is_companion, is_copy, is_left_alone, is_moved, keys_fault,
-    name_of, secret_fault, why_unnamed,
+    cause_of_maker, cause_of_path, cause_of_source, is_companion, is_copy, is_left_alone, is_moved,
+    keys_fault, name_of, secret_fault, text_at, why_unnamed,
 };
 use acvp_commands::{Deed, Fault, Invocation, Look, Making};
 use acvp_files::Step;
@@ -66,11 +66,19 @@ fn tables_of(deed: Deed<'_>) -> &'static str {
     }
 }
 
+/// Why a path can't be that of a new file: this, if nothing else can be seen.
+fn cause_at(rt: &HostRuntime, path: &str, cause: Cause) -> Cause {
+    match cause_of_folder(rt, path) {
+        Some(cause) => cause,
+        None => cause_of_path(path).unwrap_or(cause),
+    }
+}
+
 /// Why a database can't be made where there is no file.
 fn why_unmade(rt: &HostRuntime, db: &str) -> Cause {
     match is_left_alone(rt, db) {
         Ok(true) => Cause::LogAlone,
-        Ok(false) => cause_of_folder(rt, db).unwrap_or(Cause::Unmade),
+        Ok(false) => cause_at(rt, db, Cause::Unmade),
         Err(_) => Cause::Memory,
     }
 }
@@ -92,30 +100,30 @@ fn why_unavailable(rt: &HostRuntime, db: &str, deed: Deed<'_>) -> Because {
 fn text_again(rt: &HostRuntime, path: &str) -> Option<io::Result<Vec<u8>>> {
     match fs::metadata(rt, path) {
         Ok(there) if !there.is_file() && !there.is_dir() => None,
-        _ => Some(fs::read(rt, path)),
+        _ => Some(text_at(rt, path)),
     }
 }
 
-/// Finds the seed that is another than the one that a database was served with.
+/// Finds the seed that is another than the one that a database was served with, or that is lacking.
 #[derive(Clone, Copy)]
-struct OtherSeed<'a> {
+struct WrongSeed<'a> {
     alloc: Global,
     seeds: &'a Seeds,
 }
 
-impl Visit for OtherSeed<'_> {
-    type Told = Result<Option<u64>, Fault>;
+impl Visit for WrongSeed<'_> {
+    type Told = Result<Option<Cause>, Fault>;
 
-    fn visit<S: Alter + Drop>(self, tables: SqlTables<S>) -> Result<Option<u64>, Fault> {
-        other_seed(self.alloc, tables, self.seeds)
+    fn visit<S: Alter + Drop>(self, tables: SqlTables<S>) -> Result<Option<Cause>, Fault> {
+        seeds::cause_of_seeds(self.alloc, tables, self.seeds)
     }
 }
 
-/// Why seeds were refused for a database, if it was served with another one at some place.
+/// Why seeds were refused for a database, if it was served with another one at some place, or with one more.
 fn cause_of_seeds(rt: &HostRuntime, db: &str, seeds: &Seeds) -> Option<Cause> {
     let alloc = rt.alloc();
-    match in_copy(rt, db, OtherSeed { alloc, seeds }) {
-        Ok(Ok(Some(epoch))) => Some(Cause::Seed(epoch.saturating_add(1) as usize)),
+    match in_copy(rt, db, WrongSeed { alloc, seeds }) {
+        Ok(Ok(cause)) => cause,
         _ => None,
     }
 }
@@ -184,7 +192,7 @@ fn why_failed_on(rt: &HostRuntime, name: &str, deed: Deed<'_>, fault: Fault) -> 
 }
 
 /// Why the database that an option names can't be copied, where that can be seen.
-fn why_uncopied(rt: &HostRuntime, option: &'static str, path: &str) -> Option<Because> {
+pub(crate) fn why_uncopied(rt: &HostRuntime, option: &'static str, path: &str) -> Option<Because> {
     let name = match name_of(rt, path) {
         Ok(name) => name,
         Err(error) => return Some(Because::of(option, why_unnamed(rt, path, error))),
@@ -194,6 +202,9 @@ fn why_uncopied(rt: &HostRuntime, option: &'static str, path: &str) -> Option<Be
     }
     if let Some(because) = cause_of_source(rt, option, name.as_str()) {
         return Some(because);
+    }
+    if let Some(cause) = cause_of_path(name.as_str()) {
+        return Some(Because::of(option, cause));
     }
     match format!(in rt.alloc(); "{}-wal", name.as_str()) {
         Ok(log) => match is_moved(rt, name.as_str(), log.as_str()) {
@@ -211,7 +222,7 @@ fn why_unplaced(rt: &HostRuntime, option: &'static str, path: &str, cause: Cause
     } else if is_copy(path) {
         Cause::Left
     } else {
-        cause_of_folder(rt, path).unwrap_or(cause)
+        cause_at(rt, path, cause)
     };
     Because::of(option, cause)
 }
