@@ -106,9 +106,7 @@ def gone_before_its_reply(it):
     meanwhile. Not so if the answer was quicker: then it is taken."""
     with it.lab.connect() as client:
         client.sendall(it.dear())
-        it.lab.wait_until_read(client)
-        it.lab.process.send_signal(signal.SIGSTOP)
-        expect("a stop", os.WIFSTOPPED(os.waitpid(it.lab.process.pid, os.WUNTRACED)[1]), True)
+        it.lab.stop_once_read(client)
         client.setblocking(False)
         try:
             client.recv(1, socket.MSG_PEEK)

@@ -9,6 +9,7 @@ import os
 import pty
 import re
 import shutil
+import signal
 import socket
 import sqlite3
 import stat
@@ -297,6 +298,20 @@ class Laboratory:
                 time.sleep(0.001)
             else:
                 raise SystemExit("the server doesn't read what a client has sent")
+
+    def stop_once_read(self, client):
+        """Stops serving, by the system's SIGSTOP, soon after it has read all that a client has sent. Serving stands
+        still while the system's table is read: that takes long if many connections have ended lately."""
+        # a system may tell of no queues
+        time.sleep(0.01)
+        for _ in range(60000):
+            self.process.send_signal(signal.SIGSTOP)
+            expect("a stop", os.WIFSTOPPED(os.waitpid(self.process.pid, os.WUNTRACED)[1]), True)
+            if self.is_read(client):
+                return
+            self.process.send_signal(signal.SIGCONT)
+            time.sleep(0.001)
+        raise SystemExit("the server doesn't read what a client has sent")
 
     def ask(self, text):
         with self.connect() as connection:
