@@ -139,6 +139,29 @@ def moved(lab):
         remove(path)
 
 
+def asked(lab):
+    """On a terminal a migration says of which schema the tables are, and asks; --yes asks nothing. What isn't wanted changes
+    nothing, and of tables that aren't to be moved nothing is asked."""
+    question = "Move all records to schema 3, which an earlier version can't read? [y/N] "
+    for form, (version, _) in FORMS.items():
+        path = older_file(lab.path("older.db"), form)
+        about = f"{path}: tables of schema {version}, of an earlier version\n{question}"
+        before = seen(path, form)
+        for answer, echo in ((b"n\n", "n\n"), (b"\x04", "")):
+            expect(f"what {answer} changes", lab.typed(answer, "migrate", "--db", path), (1, f"{about}{echo}nothing is changed\n"))
+            expect(f"the rows of {form} that isn't to be moved", seen(path, form), before)
+        wanted = {**before, "version": [("schema", 3)]}
+        if form == "schema 1":
+            expect("with --yes", lab.typed(b"", "migrate", "--db", path, "--yes"), (0, "schema 3\n"))
+        else:
+            expect("yes", lab.typed(b"y\n", "migrate", "--db", path), (0, f"{about}y\nschema 3\n"))
+        expect(f"the rows of {form} after it", seen(path, form), wanted)
+        expect("another time", lab.typed(b"", "migrate", "--db", path), (0, "schema 3\n"))
+        remove(path)
+    absent = lab.path("absent.db")
+    expect("of no file", lab.typed(b"y\n", "migrate", "--db", absent), (1, "fault: unavailable\nbecause: --db: there is no such file\n"))
+
+
 def remove(path):
     for end in ("", "-wal", "-shm", "-journal"):
         if os.path.exists(path + end):
@@ -243,7 +266,7 @@ def main():
     with tempfile.TemporaryDirectory() as folder:
         lab = Laboratory(os.path.abspath(sys.argv[1]), folder)
         try:
-            for part in (moved, refused, killed, served, kept):
+            for part in (moved, asked, refused, killed, served, kept):
                 part(lab)
         finally:
             lab.kill()

@@ -466,7 +466,37 @@ def why_a_database_is_unavailable(lab):
     because(lab, "unavailable", f"--db: {missing}", "init", "--db", lab.path("nowhere/a.db"))
     because(lab, "unavailable", f"--to: {missing}", *backup(lab, "nowhere/b.db"))
     os.mkdir(lab.path("folder"))
-    because(lab, "unavailable", "--db: it is no regular file", *disable(lab.path("folder")))
+    os.mkfifo(lab.path("pipe"))
+    for name in ("folder", "pipe"):
+        for command in (disable(lab.path(name)), restore(lab, db=lab.path(name)), backup(lab, "b.db", lab.path(name))):
+            because(lab, "unavailable", "--db: it is no regular file", *command)
+        because(lab, "unavailable", "--from: it is no regular file", *restore(lab, name))
+    # what its path is
+    os.symlink(lab.path("nothing.db"), lab.path("astray"))
+    os.symlink(lab.path("loop"), lab.path("loop"))
+    for name, cause in (("astray", "it is a link that leads to no file"), ("loop", "it can't be opened: Too many levels of symbolic links (os error 40)")):
+        for command in (["init", "--db", lab.path(name)], disable(lab.path(name)), restore(lab, db=lab.path(name))):
+            because(lab, "unavailable", f"--db: {cause}", *command)
+    because(lab, "unavailable", "--db: its path ends without a file's name", "init", "--db", "")
+    because(lab, "unavailable", "--to: its path ends without a file's name", *backup(lab, "new/")[:-1], "")
+    because(lab, "unavailable", "--new: its path ends without a file's name", "secret", "--new", "")
+    long = lab.path("n" * 223)
+    told = "its name has 223 bytes, and may have 222: the names of its copies are longer"
+    for option, command in (("--new", ["secret", "--new", long]), ("--db", ["init", "--db", long]), ("--to", backup(lab, long))):
+        because(lab, "unavailable", f"{option}: {told}", *command)
+    shutil.copy(lab.path("backup.db"), long)
+    because(lab, "unavailable", f"--db: {told}", *backup(lab, "b.db", long))
+    because(lab, "unavailable", f"--db: {told}", *restore(lab, db=long))
+    os.remove(long)
+    shutil.copy(lab.path("backup.db"), long[:-1])
+    lab.does("account 1 disabled", *disable(long[:-1]))
+    lab.does("1 enabled sessions 0 requests 0 vendors 0 modules 0 environments 0", "accounts", "--db", lab.path("backup.db"))
+    status, output, faults = lab.run("accounts", "--db", long[:-1])
+    expect("a database of the longest name that is copied", (status, output.split(" sessions")[0], faults), (0, "1 disabled", ""))
+    lab.backs_up("longest.db", long[:-1])
+    lab.backs_up("m" * 222)
+    lab.restores("m" * 222, long[:-1])
+    os.remove(long[:-1])
     # who has it
     with open(lab.db, "r+b") as file:
         # a lock of this open of the file, which the close of another leaves
@@ -547,6 +577,7 @@ def why_a_database_is_unavailable(lab):
 
 def why_a_text_is_refused(lab):
     """Each fault of keys and of a secret by itself. Of the text nothing is told but numbers."""
+    zeros = "it has zero bytes, as a database or a text in UTF-16 has"
     line, token, seed = KEY + "\n", f"token {KEY}\n", f"seed {KEY}\n"
     plain = [("it has carriage returns (CR LF), where a line ends with a line feed alone", "\r\n"),
              ("its last line ends without a line feed", "")]
@@ -567,8 +598,21 @@ def why_a_text_is_refused(lab):
     because(lab, "keys", "--keys: it can't be opened: Is a directory (os error 21)", "script", "--keys", lab.folder)
     of_secret = ["account-add", "--db", lab.db, "--account", "1", "--secret", lab.path("some-secret")]
     because(lab, "secret", "--secret: there is no such file", *of_secret)
+    # what never ends
+    lab.fails("secret", *of_secret[:-1], "/dev/zero")
+    lab.fails("keys", "script", "--keys", "/dev/zero")
+    # a file larger than any memory, of which a part alone is read, also for the cause
+    with tempfile.TemporaryDirectory() as folder:
+        large = lab.write(os.path.join(folder, "large"), "")
+        os.truncate(large, 1 << 36)
+        because(lab, "keys", f"--keys: {zeros}", "script", "--keys", large)
+        because(lab, "secret", f"--secret: {zeros}", *of_secret[:-1], large)
     texts = [(cause, KEY + end) for cause, end in plain] + [(f"it has {count} lines, and is to have 1", line * count) for count in (0, 2)]
     texts += [("line 1 has 63 digits, and is to have 64", KEY[1:] + "\n"), ("line 1 has something else than hex digits", "-" + KEY[1:] + "\n")]
+    for text in (KEY.encode("utf-16-le"), bytes_of(lab.db)):
+        lab.write(lab.path("some-keys"), text)
+        because(lab, "keys", f"--keys: {zeros}", "script", "--keys", lab.path("some-keys"), what="with zero bytes")
+    texts += [("it has more than 4096 bytes", line * 64), (zeros, KEY.encode("utf-16-le"))]
     for cause, text in texts:
         lab.write(lab.path("some-secret"), text)
         because(lab, "secret", f"--secret: {cause}", *of_secret, what=f"with the text {text!r}")
@@ -580,7 +624,11 @@ def why_a_text_is_refused(lab):
     within_a_step(5)
     lab.must("POST", "/testSessions", lab.token(1), {"algorithms": [{"algorithm": "SHA2-256", "revision": "1.0", "messageLength": [8]}]})
     lab.kill()
-    because(lab, "keys", "--keys: a vector set names a seed that isn't in it", *serving(lab, lab.db, lab.path("one-seed")), stays=False)
+    because(lab, "keys", "--keys: it lacks seed 2, which the database was served with", *serving(lab, lab.db, lab.path("one-seed")))
+    lab.backs_up("forgets.db")
+    with contextlib.closing(page_sums.connect(lab.path("forgets.db"))) as connection, connection:
+        connection.execute("DELETE FROM meta WHERE name LIKE 'seed %'")
+    because(lab, "keys", "--keys: a vector set names a seed that isn't in it", *serving(lab, lab.path("forgets.db"), lab.path("one-seed")), stays=False)
 
 
 def what_verbose_leaves(lab):
@@ -811,6 +859,35 @@ def told_on_a_terminal(lab):
     expect("whether there was a warning and a cause", "warning: " in lab.run(*restore(lab), "--verbose")[2], True)
 
 
+def how_far_a_check_is(lab):
+    """On a terminal a check says how far it has come, and its result stands in a line of its own."""
+    lab.add(1)
+    order = ["check", "--db", lab.db, "--keys", lab.keys]
+    far = "".join(f"\r{account} of 9999 accounts " for account in range(100, 10000, 100))
+    expect("a check on a terminal", lab.typed(b"", *order), (0, f"{far}\nwhole: accounts 1 sessions 0 sets 0 requests 0\n"))
+    stray = changed(lab, "stray.db", "UPDATE account SET secret = X'00'")
+    status, said = lab.typed(b"", "check", "--db", stray, "--keys", lab.keys)
+    expect("a check of a damaged row on a terminal", (status, said.split("\n")[1:3]), (1, ["account 1 stray", "fault: rows"]))
+
+
+def rows_of_a_restore(lab):
+    """On a terminal a restore that gives a file of many rows checksums says how many it has copied; elsewhere nothing."""
+    lab.add(1)
+    numbers = "WITH RECURSIVE n (i) AS (SELECT 1 UNION ALL SELECT i + 1 FROM n WHERE i < 100000)"
+    many = changed(lab, "many.db", f"INSERT INTO object {numbers} SELECT 1, i, 1, '{{}}' FROM n")
+    page_sums.copy_without(many, lab.path("plain.db"))
+    order = restore(lab, "plain.db", lab.path("restored.db"))
+    status, said = on_a_terminal(lab, *order)
+    told = [list(map(int, pair)) for pair in re.findall(r"\rcopied (\d+) of (\d+) rows ", said)]
+    room, rest = said.split("\n", 1)
+    expect("a restore of many rows on a terminal", (status, room.startswith("room: up to "), rest),
+           (0, True, "".join(f"\rcopied {copied} of {rows} rows " for copied, rows in told) + "\n"))
+    copied, rows = zip(*told)
+    expect("how many rows it has copied", (list(copied), set(rows), copied[-1]), (sorted(copied), {100002}, 100002))
+    expect("whether it says so on the way", any(0 < count < 100000 for count in copied), True)
+    expect("the same elsewhere", lab.run(*order)[::2], (0, ""))
+
+
 def told_of_a_large_file(lab):
     """On a terminal a command says how much of a large file is copied, and that it is read; elsewhere nothing."""
     lab.add(1)
@@ -857,8 +934,32 @@ def asked_on_a_terminal(lab):
         order = [command, "--db", lab.db, "--request", number]
         expect(f"{command} that isn't wanted", lab.typed(b"no\n", *order), (1, f"{about}no\n{unchanged}"))
         expect(f"{command} that is wanted", lab.typed(b"yes\n", *order), (0, f"{about}yes\nrequest {number} {done}\n"))
+    # what isn't there, or can't be shown, isn't asked for
+    none = lab.path("none.db")
+    expect("an order on no database", lab.typed(b"y\n", *disable(none)), (1, "fault: unavailable\nbecause: --db: there is no such file\n"))
+    expect("an order on no account", lab.typed(b"y\n", *disable(lab.db, 9)), (1, "fault: unknown\n"))
+    stray = changed(lab, "stray.db", "UPDATE account SET secret = X'00' WHERE account = 4")
+    unshown = "what is to be changed can't be shown: with --yes it is changed all the same\n"
+    expect("an order on a malformed row", lab.typed(b"y\n", *disable(stray, 4)),
+           (1, f"{unshown}fault: unavailable\nbecause: --db: {STORE} of account\n"))
+    empty = lab.write(lab.path("empty.db"), "")
+    expect("an order on an empty file", lab.typed(b"y\n", *disable(empty)), (1, "fault: schema\nbecause: --db: it is empty: init fills it\n"))
+    text = lab.write(lab.path("text"), "this is no database\n" * 10)
+    expect("an order on a text", lab.typed(b"y\n", *disable(text)), (1, "fault: unavailable\nbecause: --db: it is no database\n"))
+    # a question that nobody sees isn't asked
+    order, before = ["account-disable", "--db", lab.db, "--account", "4"], held(lab)
+    request = ["--db", lab.db, "--request", asked[0]]
+    for args, status in ((order, 2), (["request-approve", *request], 2), (["request-reject", *request], 2), (["migrate", "--db", lab.db], 2),
+                         ([*order, "--yes"], 0)):
+        terminal, its = pty.openpty()
+        seen = subprocess.run([lab.program, *args], stdin=its, stdout=its, stderr=subprocess.PIPE, text=True, timeout=600)
+        os.close(its)
+        os.close(terminal)
+        expect(f"the command {args} whose faults go elsewhere", (seen.returncode, held(lab) != before), (status, status == 0))
+        expect("whether it names the flag", "--yes" in seen.stderr, status == 2)
     # without a terminal nothing is asked
-    lab.does("account 4 disabled", "account-disable", "--db", lab.db, "--account", "4")
+    lab.add(5)
+    lab.does("account 5 disabled", "account-disable", "--db", lab.db, "--account", "5")
 
 
 def little_stack(lab):
@@ -894,7 +995,7 @@ def main():
     killed.__name__ = "killed_restores"
     for part in (backups_while_nobody_serves, backups_while_serving, copies_apart, restores, sums_by_a_restore, wrong_sums, killed,
                  what_others_may_read, foreign_files, why_a_database_is_unavailable, why_a_text_is_refused, what_verbose_leaves,
-                 what_is_in_the_way, each_fault_both_ways, told_on_a_terminal, told_of_a_large_file, room_of_a_restore, same_secrets,
+                 what_is_in_the_way, each_fault_both_ways, told_on_a_terminal, how_far_a_check_is, rows_of_a_restore, told_of_a_large_file, room_of_a_restore, same_secrets,
                  asked_on_a_terminal, little_stack):
         with tempfile.TemporaryDirectory() as folder:
             lab = Laboratory(program, folder)

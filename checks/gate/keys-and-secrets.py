@@ -245,6 +245,16 @@ def serves_once(lab, keys):
     lab.served(1)
 
 
+def older_is_refused(lab, keys, lacked):
+    """A keys file that lacks a seed with which the database was served isn't served again, since new vector sets would come
+    from an older seed. What is shown under it is shown."""
+    before = content(lab)
+    refused(lab, "keys", f"--keys: it lacks seed {lacked}, which the database was served with", "serve", "--db", lab.db, "--keys", keys,
+            "--port", str(free_port()), "--count", "1")
+    expect("the database behind it", content(lab), before)
+    lab.does("whole: accounts 1 sessions 0 sets 0 requests 0", "check", "--db", lab.db, "--keys", keys)
+
+
 def seeds_of_another(lab):
     """A database knows the seeds that it was served with, and refuses others at their places, with nothing changed."""
     first, second, third = (bytes([number] * 32) for number in (1, 2, 3))
@@ -257,8 +267,7 @@ def seeds_of_another(lab):
     expect("what is known of one seed", known(lab), rows[:1])
     serves_once(lab, two)
     expect("what is known of two", known(lab), rows)
-    serves_once(lab, one)
-    expect("what is known of both, served with one", known(lab), rows)
+    older_is_refused(lab, one, 2)
     wrong += [(keys_of(lab, "later.txt", first, third), 2), (keys_of(lab, "more.txt", first, third, second), 2)]
     lab.backs_up()
     for restored in (False, True):
@@ -272,6 +281,7 @@ def seeds_of_another(lab):
                 refused(lab, "keys", cause, args[0], "--db", lab.db, "--keys", keys, *args[1:])
                 expect(f"the database behind {args[0]}", content(lab), before)
         lab.does("whole: accounts 1 sessions 0 sets 0 requests 0", "check", "--db", lab.db, "--keys", two)
+        older_is_refused(lab, one, 2)
         serves_once(lab, two)
     # a file that knows none is served, and knows them from then on
     with contextlib.closing(page_sums.connect(lab.db)) as connection:
@@ -286,6 +296,18 @@ def seeds_of_another(lab):
     page_sums.renew(lab.db)
     serves_once(lab, two)
     expect("what is known at last", known(lab), rows)
+    # as many seeds as there may be
+    seeds = [first, second, *(bytes([number] * 32) for number in range(3, 17))]
+    serves_once(lab, keys_of(lab, "sixteen.txt", *seeds))
+    for count in (15, 1):
+        older_is_refused(lab, keys_of(lab, f"{count}.txt", *seeds[:count]), count + 1)
+    # of one that it lacks further behind, and of none that no file can have
+    with contextlib.closing(page_sums.connect(lab.db)) as connection, connection:
+        connection.execute("DELETE FROM meta WHERE name IN ('seed 2', 'seed 3', 'seed 15', 'seed 16')")
+        connection.execute("INSERT INTO meta VALUES ('seed 17', 5)")
+    older_is_refused(lab, lab.path("1.txt"), 4)
+    serves_once(lab, keys_of(lab, "14.txt", *seeds[:14]))
+    serves_once(lab, lab.path("sixteen.txt"))
 
 
 def seeds_of_no_start(lab):

@@ -123,9 +123,8 @@ def links(lab):
     # a link that leads nowhere
     nowhere = lab.path("nowhere.db")
     os.symlink("not-there.db", nowhere)
-    for command in commands_over(lab, nowhere) + looks_over(lab, nowhere) + [serving(lab, nowhere)]:
-        refused(lab, "--db: there is no such file", *command)
-    refused(lab, "--db: it can't be made in its folder (its rights, or a full disk)", "init", "--db", nowhere)
+    for command in [*commands_over(lab, nowhere), *looks_over(lab, nowhere), serving(lab, nowhere), ["init", "--db", nowhere]]:
+        refused(lab, "--db: it is a link that leads to no file", *command)
     expect("what a link that leads nowhere leads to", os.path.lexists(lab.path("not-there.db")), False)
 
 

@@ -26,9 +26,11 @@ CAPABILITIES = [{"algorithm": "SHA2-256", "messageLength": [8], "revision": "1.0
 VENDOR, MODULE, ENVIRONMENT = {"name": "Acme"}, {"name": "Hash \u00fc", "version": "2"}, {"name": "Linux"}
 BODY = b"\r\n\r\n"
 ANOTHER = '8000001 account 8 (disabled) vendor initial "Another"'
-# controls, separators of lines and paragraphs, what turns the direction of writing, and what isn't seen
+# Controls, separators of lines and paragraphs, what turns the direction of writing, and what isn't seen: all of some, and a
+# few of each other range of the general categories Cc, Cf, Zl and Zp, and of what is ignorable by default.
 ACTING = "".join(map(chr, [*range(32), *range(0x7F, 0xA0), 0xAD, 0x61C, *range(0x200B, 0x2010), *range(0x2028, 0x202F),
-                            *range(0x2060, 0x2070), 0xFEFF, *range(0xFFF9, 0xFFFC)]))
+                            *range(0x2060, 0x2070), 0xFEFF, *range(0xFFF9, 0xFFFC), 0x34F, 0x600, 0x6DD, 0x115F, 0x1160, 0x17B4,
+                            0x180B, 0x180E, 0x3164, 0xFE00, 0xFE0F, 0xFFA0, 0x1D173, 0xE0001, 0xE0020, 0xE0041, 0xE007F, 0xE0100]))
 
 
 NO_TABLES = {"accounts": 0, "requests": 0, "sessions": 0, "sets": 0, "whole": True}

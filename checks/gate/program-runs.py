@@ -128,6 +128,28 @@ def version():
         told = run([word])
         expect(f"the line {word}", (told.returncode, told.stdout, told.stderr),
                (0, f"acvp_server of schema 3, from sources proved with {kit}\n".encode(), b""))
+    told_builds(kit)
+
+
+def told_builds(kit):
+    """Of a process as large as one of `rt try`, which no proof precedes, --version says so; without /proc it says that it can't
+    be told."""
+    untold = f"for {kit}: without /proc it can't be told whether its sources are proved"
+    sizes = [("268435455 1 1 1 0 1 0\n", f"from sources proved with {kit}"), ("268435456 1 1 1 0 1 0\n", f"not proved, for {kit}"),
+             ("", untold), ("x\n", untold), (None, untold)]
+    shows = 'mount --bind "$1" /proc && exec "$2" --version'
+    for size, told in sizes:
+        with tempfile.TemporaryDirectory() as folder:
+            os.mkdir(os.path.join(folder, "self"))
+            if size is not None:
+                with open(os.path.join(folder, "self", "statm"), "w") as file:
+                    file.write(size)
+            done = subprocess.run(["unshare", "--mount", "sh", "-c", shows, "sh", folder, os.path.abspath(PROGRAM)], capture_output=True)
+        if b"unshare: " in done.stderr or b"mount: " in done.stderr:
+            print("skipped: how --version tells an unproved build, for which this user can't mount a folder")
+            return
+        expect(f"the version where the size is told as {size!r}", (done.returncode, done.stdout, done.stderr),
+               (0, f"acvp_server of schema 3, {told}\n".encode(), b""))
 
 
 def command_lines(keys, folder):
