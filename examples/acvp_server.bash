@@ -51,7 +51,7 @@ _acvp_server() {
     esac
     case ${COMP_WORDS[1]} in
         init) options="--db --verbose --help" ;;
-        migrate) options="--db --verbose --help" ;;
+        migrate) options="--db --yes --verbose --help" ;;
         keys) options="--new --add-token --retire --add-seed --to --verbose --help" ;;
         secret) options="--new --verbose --help" ;;
         account-add) options="--db --account --secret --verbose --help" ;;
