@@ -4,6 +4,9 @@ use Rattle.std.specs.declared.io.ErrorKind.TheVariants as kind
 use Rattle.sqlite.specs.declared.error.Error.{Error}
 use Rattle.sqlite.specs.declared.error.Error.TheVariants.{SqliteFailure}
 use Rattle.sqlite.specs.declared.error.ErrorCode.TheVariants.{DatabaseBusy, OutOfMemory}
+use Rattle.sqlite_std_file.specs.declared.pair.OpenError.{OpenError}
+use Rattle.sqlite_std_file.specs.declared.pair.OpenError.TheVariants as files
+use Rattle.std.specs.IoError.{error_kind}
 use Rattle.acvp_store.specs.declared.fault.AdoptFault.{AdoptFault}
 use Rattle.acvp_store.specs.declared.fault.AdoptFault.TheVariants as adopted
 use Rattle.acvp_tables.specs.declared.tables.StoreFault.{StoreFault}
@@ -45,3 +48,10 @@ fault_of_kind _ = Unavailable
 abbrev pub fault_of_cause : Cause → FileFault
 fault_of_cause cause.Memory = Memory
 fault_of_cause _ = Unavailable
+
+-- files that another process has are taken; else the system refuses one, or a journal is left beside them
+abbrev pub why_unfound : OpenError → Unopened
+why_unfound files.Busy = Taken
+why_unfound files.OutOfMemory = Failed Memory
+why_unfound (files.Io error) = Failed (fault_of_kind (error_kind error))
+why_unfound files.HotJournal = Failed Unavailable

@@ -1,29 +1,34 @@
 //! Connections to the database in a file.
-ghost use Rattle.std.specs.Prelude.{◌≡◌, IfNone, IfOk, IfSome, IsErr, codes};
+ghost use Rattle.std.specs.Prelude.{◌≡◌, IfNone, IfOk, IfSome, IsErr, IsTrue, codes, false, true};
 ghost use Rattle.std.specs.Result.{result_ok};
 ghost use Rattle.sqlite.specs.Closing.{IsCopied};
 ghost use Rattle.sqlite.specs.Files.{IsClosed};
+ghost use Rattle.sqlite_std_file.specs.File.{IsFresh, file_is_usable};
 ghost use Rattle.sqlite_wal.specs.Files.{image_at};
 ghost use Rattle.sqlite_wal.specs.Reads.{AreClean};
 ghost use Rattle.acvp_connections.specs.Connections.{IsConnected};
-ghost use Rattle.acvp_connections.specs.Faults.{fault_of_open, why_unopened};
+ghost use Rattle.acvp_connections.specs.Faults.{fault_of_open, why_unfound, why_unopened};
 
 use crate::fault::{FileFault, fault_of_cause, refused};
 use crate::left::settle_names;
 use crate::number::{FileNumber, file_at};
+use crate::watch::Watch;
+use crate::watched::Watched;
 use acvp_causes::{
     cause_of_files, cause_of_path, has_log, is_companion, is_copy, is_foreign, is_left_alone,
     is_moved,
 };
-use sqlite::{Connection, Error, ErrorCode, FileFrom, FileStore, Files, Start};
+use sqlite::{Connection, Error, ErrorCode, FileFrom, FileStore, Files, Options, Start};
 use sqlite_disk::Disk;
+use sqlite_std_file::OpenError;
 use std::alloc::AllocGlobal;
 use std::fs::{self, OpenOptions};
+use std::hash::{BuildHasher, RandomState};
 use std::io::ErrorKind;
 use std::os::unix::fs::OpenOptionsExt;
 
-/// A connection to the database in a file.
-pub type FileConnection<S> = Connection<FileStore<FileFrom<S>>>;
+/// A connection to the database in a file, whose reads and writes are counted.
+pub type FileConnection<S> = Connection<FileStore<Watched<FileFrom<S>>>>;
 
 /// The fault of a database that can't be opened.
 fn fault_of_database(error: Error) -> FileFault
@@ -55,13 +60,69 @@ fn why_unopened(error: Error) -> Unopened
     Unopened::Failed(fault_of_database(error))
 }
 
+/// Why the files of a database can't be opened.
+fn why_unfound(error: OpenError) -> Unopened
+    ensures { result ≡ why_unfound error }
+{
+    match error {
+        OpenError::Busy => Unopened::Taken,
+        OpenError::OutOfMemory => Unopened::Failed(FileFault::Memory),
+        OpenError::Io(error) => Unopened::Failed(refused(&error)),
+        OpenError::HotJournal => Unopened::Failed(FileFault::Unavailable),
+    }
+}
+
+/// The file at a path and its log, which are made where there are none. What SQLite takes for a path of its own is none.
+fn files_at<S: Start>(
+    rt: &HostRuntime,
+    path: &str,
+    start: S,
+) -> Result<Files<FileFrom<S>>, Unopened>
+    ensures memory { path.now ≡ codes ":memory:" → IsErr result }
+    ensures usable { IfOk result (λ files. IsTrue (file_is_usable S.Start files.log) × IsTrue (file_is_usable S.Start files.db)) }
+    ensures fresh { IfOk result (λ files. IsFresh true files.log × IsFresh false files.db) }
+{
+    if path == ":memory:" || path.starts_with("file:") {
+        return Err(Unopened::Failed(FileFault::Unavailable));
+    }
+    match sqlite_std_file::open(rt, path, start) {
+        Ok(files) => Ok(files),
+        Err(error) => Err(why_unfound(error)),
+    }
+}
+
+/// How a database is opened: the header of its log gets a random number.
+fn options(rt: &HostRuntime) -> Result<Options, Unopened> {
+    match RandomState::new(rt) {
+        Ok(state) => Ok(Options::new(state.hash_one(&0u8))),
+        Err(_) => Err(Unopened::Failed(FileFault::Unavailable)),
+    }
+}
+
 /// A connection to the database in a file, which is made where there is none. The pages of a new one have sums.
-fn connect<S: Start>(rt: &HostRuntime, path: &str, start: S) -> Result<FileConnection<S>, Unopened>
+fn connect<S: Start>(
+    rt: &HostRuntime,
+    path: &str,
+    start: S,
+    watch: &Watch,
+) -> Result<FileConnection<S>, Unopened>
     ensures memory { path.now ≡ codes ":memory:" → IsErr result }
     ensures connected { IfOk result (IsConnected (image_at S.Start)) }
 {
-    match Connection::open_from(rt, path, true, start) {
-        Ok(connection) => Ok(connection),
+    let files = files_at(rt, path, start)?;
+    let options = options(rt)?;
+    let watched = Files {
+        log: Watched::new(files.log, Watch::nobody()),
+        db: Watched::new(files.db, watch.shared()),
+    };
+    watch.begin_open();
+    let opened = Connection::open_files_with(rt.alloc(), watched, options, true);
+    watch.end();
+    match opened {
+        Ok(mut connection) => {
+            connection.set_clock(rt);
+            Ok(connection)
+        }
         Err((error, _)) => Err(why_unopened(error)),
     }
 }
@@ -106,6 +167,7 @@ fn connect_held<S: Start>(
     rt: &HostRuntime,
     path: &str,
     start: S,
+    watch: &Watch,
 ) -> Result<FileConnection<S>, Unopened>
     ensures memory { path.now ≡ codes ":memory:" → IsErr result }
     ensures connected { IfOk result (IsConnected (image_at S.Start)) }
@@ -114,7 +176,7 @@ fn connect_held<S: Start>(
         Ok(file) => file,
         Err(error) => return Err(Unopened::Failed(refused(&error))),
     };
-    let connection = connect(rt, path, start)?;
+    let connection = connect(rt, path, start, watch)?;
     match are_still(rt, path, file) {
         Ok(()) => Ok(connection),
         Err(fault) => Err(Unopened::Failed(fault)),
@@ -138,6 +200,7 @@ fn connect_known<S: Start>(
     rt: &HostRuntime,
     path: &str,
     start: S,
+    watch: &Watch,
 ) -> Result<FileConnection<S>, Unopened>
     ensures memory { path.now ≡ codes ":memory:" → IsErr result }
     ensures connected { IfOk result (IsConnected (image_at S.Start)) }
@@ -149,7 +212,7 @@ fn connect_known<S: Start>(
     if has_no_log(rt, path) && is_foreign(rt, path) {
         return Err(Unopened::Failed(FileFault::Unavailable));
     }
-    connect_held(rt, path, start)
+    connect_held(rt, path, start, watch)
 }
 
 /// Refuses a path that a database can't be made at: it is that of a file that lies beside a database, it ends without a
@@ -182,6 +245,7 @@ pub fn connect_new<S: Start>(
     rt: &HostRuntime,
     path: &str,
     start: S,
+    watch: &Watch,
 ) -> Result<FileConnection<S>, Unopened>
     ensures memory { path.now ≡ codes ":memory:" → IsErr result }
     ensures connected { IfOk result (IsConnected (image_at S.Start)) }
@@ -192,7 +256,7 @@ pub fn connect_new<S: Start>(
     if path != ":memory:" {
         make_private(rt, path);
     }
-    connect_known(rt, path, start)
+    connect_known(rt, path, start, watch)
 }
 
 /// A connection to the database in a file that is there, or to an empty file.
@@ -200,12 +264,13 @@ pub fn connect_there<S: Start>(
     rt: &HostRuntime,
     path: &str,
     start: S,
+    watch: &Watch,
 ) -> Result<FileConnection<S>, Unopened>
     ensures memory { path.now ≡ codes ":memory:" → IsErr result }
     ensures connected { IfOk result (IsConnected (image_at S.Start)) }
 {
     match fs::exists(rt, path) {
-        Ok(true) => connect_known(rt, path, start),
+        Ok(true) => connect_known(rt, path, start, watch),
         Ok(false) => Err(Unopened::Failed(FileFault::Unavailable)),
         Err(error) => Err(Unopened::Failed(refused(&error))),
     }
@@ -221,6 +286,7 @@ pub fn connect_existing<S: Start>(
     rt: &HostRuntime,
     path: &str,
     start: S,
+    watch: &Watch,
 ) -> Result<FileConnection<S>, Unopened>
     ensures memory { path.now ≡ codes ":memory:" → IsErr result }
     ensures connected { IfOk result (IsConnected (image_at S.Start)) }
@@ -232,7 +298,7 @@ pub fn connect_existing<S: Start>(
     if is_blank(rt, path) {
         return Err(Unopened::Failed(FileFault::Schema));
     }
-    connect_there(rt, path, start)
+    connect_there(rt, path, start, watch)
 }
 
 /// The files that a close has handed back. None where it failed: its store is given up.

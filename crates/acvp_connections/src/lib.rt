@@ -5,6 +5,8 @@ mod connection;
 mod fault;
 mod left;
 mod number;
+mod watch;
+mod watched;
 
 pub use connection::{
     FileConnection, Unopened, close, connect_existing, connect_new, connect_there, copied,
@@ -13,3 +15,5 @@ pub use connection::{
 pub use fault::{FileFault, done, fault_of_cause, refused};
 pub use left::{left_file, remove, settle_names};
 pub use number::{FileNumber, file_at, number_of};
+pub use watch::{MEGABYTE, Watch, is_told};
+pub use watched::Watched;
