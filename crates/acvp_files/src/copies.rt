@@ -5,11 +5,11 @@
 //! the log is that of whoever has the file.
 use crate::fault::{CopyFault, Step, at};
 use crate::parts::{Pair, Part, Use, give_up, new_copy, pair_at};
-use crate::progress::{tell_copied, tell_copied_whole, tell_reading};
+use crate::progress::{tell_copied, tell_copied_whole};
 use acvp_causes::{Mark, cause_of_source, is_database, is_moved, is_whole, mark_of, name_of};
 use acvp_connections::{
-    FileConnection, FileFault, FileNumber, Unopened, connect_there, copied, done, fault_of_cause,
-    file_at, remove, settle_names,
+    FileConnection, FileFault, FileNumber, Unopened, Watch, Watched, connect_there, copied, done,
+    fault_of_cause, file_at, remove, settle_names,
 };
 use acvp_store::{SqlTables, adopt};
 use sqlite::{Alter, Connection, FileFrom, FileStore, Wary};
@@ -117,8 +117,7 @@ pub(crate) fn connection_to(
     rt: &HostRuntime,
     path: &str,
 ) -> Result<FileConnection<Wary>, FileFault> {
-    tell_reading(rt, path);
-    match connect_there(rt, path, Wary) {
+    match connect_there(rt, path, Wary, &Watch::of(rt, path)) {
         Ok(connection) => Ok(connection),
         Err(Unopened::Taken) => Err(FileFault::Unavailable),
         Err(Unopened::Failed(fault)) => Err(fault),
@@ -169,7 +168,7 @@ pub(crate) fn connection_to_part(
 }
 
 /// The tables in a file.
-pub type FileTables = SqlTables<FileStore<FileFrom<Wary>>>;
+pub type FileTables = SqlTables<FileStore<Watched<FileFrom<Wary>>>>;
 
 /// Copies the database of a name, and opens the copy.
 fn connection_to_copy(

@@ -15,6 +15,5 @@ pub use backups::{Restored, backup, restore};
 pub use copies::{FileTables, schema_of_copy, tables_of_copy};
 pub use fault::{CopyFault, Step};
 pub use privacy::{remove_empty_log, tell_open, tell_open_database};
-pub use progress::{tell_moving, tell_reading};
 pub use sums::tell_without_sums;
 pub use written::make_file;

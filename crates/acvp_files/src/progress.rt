@@ -1,20 +1,9 @@
-//! How far a command has come with a large file, as it is told on a terminal.
-use std::fs;
+//! How much of a large file a command has copied, as it is told on a terminal.
+use acvp_connections::{MEGABYTE, is_told};
 use std::io::IsTerminal;
-
-/// The bytes of a megabyte.
-const MEGABYTE: u64 = 1000000;
-
-/// The bytes from which on a file takes long.
-const LARGE: u64 = 100 * MEGABYTE;
 
 /// The rows from which on a database takes long.
 const MANY: u64 = 100000;
-
-/// Whether something is told of a file of so many bytes: it takes long, and somebody may look on.
-fn is_told(rt: &HostRuntime, bytes: u64) -> bool {
-    bytes >= LARGE && rt.stderr().is_terminal()
-}
 
 /// Says how many bytes of a large file are copied, in a line that is written over.
 pub(crate) fn tell_copied(rt: &HostRuntime, copied: u64, all: u64) {
@@ -66,24 +55,5 @@ impl RowsCopied<'_> {
         if self.is_told {
             let _ = eprintln!(self.rt; "");
         }
-    }
-}
-
-/// Says that a large database is read, before it is opened: an open reads it whole.
-pub fn tell_reading(rt: &HostRuntime, path: &str) {
-    if let Ok(there) = fs::metadata(rt, path)
-        && is_told(rt, there.len())
-    {
-        let megabytes = there.len() / MEGABYTE;
-        let _ = eprintln!(rt; "reading {megabytes} MB");
-    }
-}
-
-/// Says that the records of a large database are moved to other tables: in one transaction, of which no more is seen.
-pub fn tell_moving(rt: &HostRuntime, path: &str) {
-    if let Ok(there) = fs::metadata(rt, path)
-        && is_told(rt, there.len())
-    {
-        let _ = eprintln!(rt; "moving all records in one transaction");
     }
 }

@@ -11,10 +11,10 @@ use crate::seeds::{Added, forget_seeds, with_seeds};
 use acvp_causes::name_of;
 use acvp_commands::{Fault, Message, Task, Work, done_over, make_tables, moment_of, order_line};
 use acvp_connections::{
-    FileConnection, FileFault, Unopened, close, connect_existing, connect_new, has_no_log,
+    FileConnection, FileFault, Unopened, Watch, close, connect_existing, connect_new, has_no_log,
 };
 use acvp_desk::Order;
-use acvp_files::{remove_empty_log, tell_moving, tell_reading};
+use acvp_files::remove_empty_log;
 use acvp_port::answer_to;
 use acvp_store::SqlTables;
 use sqlite::{Alter, Connection, MemStore, Start};
@@ -95,31 +95,25 @@ fn done_with_seeds<S: Alter + Drop>(
 /// Does this over a connection to the database in a file, and closes it if that is to be. A command that is refused
 /// leaves the file and its log as they are, and no log if there was none.
 fn done_and_closed<S: Start>(
-    rt: &HostRuntime,
-    path: &str,
+    mut machine: Machine<'_, HostRuntime>,
     connection: FileConnection<S>,
     work: Work,
     is_new_log: bool,
-    flags: Flags,
+    watch: &Watch,
 ) -> Result<Said, Fault>
     requires { IsWork work }
 {
-    let mut machine = Machine {
-        rt,
-        database: path,
-        flags,
-        has_listened: false,
-    };
     if matches!(work, Work::Move) {
-        tell_moving(rt, path);
+        watch.begin_move();
     }
     let (connection, closes, outcome) = done_with_seeds(&mut machine, connection, work);
     if closes {
         close(connection);
     } else if is_new_log {
-        remove_empty_log(rt, path);
+        remove_empty_log(machine.rt, machine.database);
         drop(connection);
     }
+    watch.end();
     Ok(Said::Line(outcome?))
 }
 
@@ -157,14 +151,20 @@ pub(crate) fn done_in<S: Start>(
 ) -> Result<Said, Fault>
     requires { IsWork work }
 {
+    let machine = Machine {
+        rt,
+        database: path,
+        flags,
+        has_listened: false,
+    };
     let is_new_log = has_no_log(rt, path);
-    tell_reading(rt, path);
+    let watch = Watch::of(rt, path);
     let opened = match work {
-        Work::Make => connect_new(rt, path, start),
-        Work::Move | Work::Take(_) => connect_existing(rt, path, start),
+        Work::Make => connect_new(rt, path, start, &watch),
+        Work::Move | Work::Take(_) => connect_existing(rt, path, start, &watch),
     };
     match opened {
-        Ok(connection) => done_and_closed(rt, path, connection, work, is_new_log, flags),
+        Ok(connection) => done_and_closed(machine, connection, work, is_new_log, &watch),
         Err(Unopened::Taken) => done_by_server(rt, path, &work),
         Err(Unopened::Failed(fault)) => Err(fault_of_files(fault)),
     }
