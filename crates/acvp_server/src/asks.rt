@@ -191,8 +191,8 @@ fn tell_unshown(rt: &HostRuntime, db: &str, fault: Fault) {
     }
 }
 
-/// Whether what is to be done is wanted: what can't be taken back is shown, and asked for. What isn't there, or can't be
-/// shown, is refused: it may be there once the question were answered.
+/// Whether what is to be done is wanted: what can't be taken back is shown, and asked for. What isn't there, or can't
+/// be shown, is refused: it may be there once the question were answered.
 pub(crate) fn is_wanted(rt: &HostRuntime, db: &str, deed: Deed<'_>) -> Result<bool, Fault> {
     let Some(question) = question_of(deed) else {
         return Ok(true);

@@ -31,14 +31,19 @@ fn copies_of(rt: &HostRuntime, backup: &str) -> u64 {
     }
 }
 
+/// Whether something has a path that no database is put in the place of.
+fn is_no_file(rt: &HostRuntime, path: &str) -> bool {
+    matches!(fs::metadata(rt, path), Ok(there) if !there.is_file())
+}
+
 /// Says how much room a restore may take: that of copies of the backup, and of a copy of what is there. A backup that
-/// isn't there needs none.
+/// isn't there needs none, nor does a restore that is refused at once.
 pub(crate) fn tell_room(rt: &HostRuntime, from: &str, db: &str) {
     let (Ok(backup), Ok(database)) = (named(rt, from), named(rt, db)) else {
         return;
     };
     let bytes = lengths_of(rt, backup.as_str());
-    if bytes > 0 {
+    if bytes > 0 && !is_no_file(rt, database.as_str()) {
         let copies = bytes.saturating_mul(copies_of(rt, backup.as_str()));
         let room = copies.saturating_add(lengths_of(rt, database.as_str()));
         let _ = eprintln!(rt; "room: up to {room} bytes beside {db}");

@@ -11,7 +11,7 @@ const UNPROVED: &str = "of schema 3, not proved, for rattle-kit-13f logic dac820
 
 /// Of one of which that can't be seen.
 const UNTOLD: &str =
-    "of schema 3, for rattle-kit-13f logic dac8208d650f15bf: without /proc it can't be told whether its sources are proved";
+    "of schema 3, for rattle-kit-13f logic dac8208d650f15bf: without /proc it can't be told if its sources are proved";
 
 /// The size of this process in pages (proc_pid_statm(5)).
 const SIZE: &str = "/proc/self/statm";
