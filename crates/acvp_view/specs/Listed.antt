@@ -1,8 +1,9 @@
 -- What the operator is shown of accounts and of requests, each as a line of words or as a JSON object, whose members
 -- ascend.
-use Rattle.std.specs.Prelude.{ℕ, List, [], ◌++◌, codes, decimal, Bool, true, false, ◌||◌, if◌then◌else◌, nat_le, nat_lt, length}
+use Rattle.std.specs.Prelude.{ℕ, List, [], ◌++◌, ◌==◌, codes, decimal, Bool, true, false, ◌||◌, if◌then◌else◌, nat_le}
+use Rattle.std.specs.Prelude.{nat_lt, length}
 use Rattle.std.specs.Prelude.{Option, Some, None, option_and_then, option_map}
-use Rattle.std.specs.List.{flat_map}
+use Rattle.std.specs.List.{before_first, flat_map}
 use Rattle.serde_json.specs.Data as json
 use Rattle.serde_json.specs.Data.{Data, object, member, no_members, string, boolean, null, unsigned}
 use Rattle.serde_json.specs.Written.{compact_text}
@@ -139,11 +140,15 @@ request_head it enabled =
     (decimal it.number ++ codes " account " ++ decimal it.account ++ disabled_words enabled)
     ++ codes " " ++ kind_word (kind_asked it.body) ++ codes " " ++ status_word it.status
 
--- the test session, when it was made, and how many of its vector sets have passed
+-- what stands before a capital T, or all if there is none
+abbrev pub day_in : List ℕ → List ℕ
+day_in = before_first (λ b. b == 84)
+
+-- the test session, the day when it was made, and how many of its vector sets have passed
 abbrev pub session_words : Option SessionRow → List ℕ
 session_words None = []
 session_words (Some row) =
-    codes " session " ++ decimal row.number ++ codes " of " ++ moment_text row.created ++ codes " "
+    codes " session " ++ decimal row.number ++ codes " of " ++ day_in (moment_text row.created) ++ codes " "
     ++ decimal row.passed ++ codes " of " ++ decimal row.live ++ codes " passed"
 
 -- a name stands last, as a JSON string without characters that act on a terminal; a long one isn't shown

@@ -11,7 +11,7 @@ ghost use Rattle.acvp_registry.specs.declared.kind.Kind.TheVariants.{Module};
 ghost use Rattle.acvp_tables.specs.Content.{object_at};
 ghost use Rattle.acvp_view.specs.Escaped.{escaped};
 ghost use Rattle.acvp_view.specs.Listed.{account_data, account_line, account_text, account_words, approved_number};
-ghost use Rattle.acvp_view.specs.Listed.{approved_words, certification_data, certified_data, counts_text};
+ghost use Rattle.acvp_view.specs.Listed.{approved_words, certification_data, certified_data, counts_text, day_in};
 ghost use Rattle.acvp_view.specs.Listed.{decided_words, disabled_words, enabled_word, is_enabled, kind_asked};
 ghost use Rattle.acvp_view.specs.Listed.{kind_word, moment_text, name_asked, name_words, request_data, request_head};
 ghost use Rattle.acvp_view.specs.Listed.{request_line, request_parts, request_text, request_words, rest_words};
@@ -335,10 +335,20 @@ fn request_head(alloc: Global, it: &RequestRow, enabled: bool) -> Result<String,
     joined(alloc, &owner, &asked)
 }
 
-/// A test session, when it was made, and how many of its vector sets have passed.
-fn session_part(alloc: Global, row: &SessionRow, time: &str) -> Result<String, AllocError>
+/// The day of a time.
+fn day_in(time: &str) -> &str
+    ensures { result.now ≡ day_in time.now }
+{
+    match time.split_once('T') {
+        Some((day, _)) => day,
+        None => time,
+    }
+}
+
+/// A test session, the day when it was made, and how many of its vector sets have passed.
+fn session_part(alloc: Global, row: &SessionRow, day: &str) -> Result<String, AllocError>
     ensures { IfOk result (λ text. string_bytes text
-        ≡ codes " session " ++ decimal row.now.number ++ codes " of " ++ time.now ++ codes " "
+        ≡ codes " session " ++ decimal row.now.number ++ codes " of " ++ day.now ++ codes " "
         ++ decimal row.now.passed ++ codes " of " ++ decimal row.now.live ++ codes " passed") }
 {
     let SessionRow {
@@ -347,7 +357,7 @@ fn session_part(alloc: Global, row: &SessionRow, time: &str) -> Result<String, A
         passed,
         ..
     } = *row;
-    format!(in alloc; " session {number} of {time} {passed} of {live} passed")
+    format!(in alloc; " session {number} of {day} {passed} of {live} passed")
 }
 
 fn session_words(alloc: Global, session: Option<SessionRow>) -> Result<String, AllocError>
@@ -356,7 +366,7 @@ fn session_words(alloc: Global, session: Option<SessionRow>) -> Result<String, A
     match session {
         Some(row) => {
             let time = moment_text(alloc, row.created)?;
-            session_part(alloc, &row, &time)
+            session_part(alloc, &row, day_in(&time))
         }
         None => Ok(String::new(alloc)),
     }
