@@ -13,7 +13,7 @@ import tempfile
 import time
 
 import laboratory
-from laboratory import SEED, Laboratory, compact, expect, fingerprint, free_port, signed
+from laboratory import SEED, Laboratory, compact, expect, fingerprint, free_port, how_far, signed
 from validation import answers
 
 META = "CREATE TABLE meta (name TEXT PRIMARY KEY NOT NULL, value INTEGER NOT NULL) STRICT"
@@ -237,6 +237,21 @@ def refused(lab):
     expect("a file that a migration made", os.path.exists(lab.path("absent.db")), False)
 
 
+def told(lab):
+    """On a terminal a migration of a large file says how far its open has come, and the move of all records."""
+    path = older_file(lab.path("older.db"), "schema 1")
+    connection = opened(path)
+    connection.execute("WITH RECURSIVE n (i) AS (SELECT 1 UNION ALL SELECT i + 1 FROM n WHERE i < 3000) INSERT INTO vset "
+                       "SELECT 700100000 + i, session, capability, 0, hex(zeroblob(18000)), NULL, NULL FROM n, vset WHERE vs = 700000101")
+    connection.close()
+    before, length = seen(path, "schema 1"), os.stat(path).st_size
+    status, said = lab.typed(b"", "migrate", "--db", path, "--yes")
+    rest = how_far("the open", said, "read", 3 * length // 1000000)
+    expect("the migration", (status, how_far("the move", rest, "moved", 6 * length // 1000000)), (0, "schema 3\n"))
+    expect("the rows after it", seen(path, "schema 1"), {**before, "version": [("schema", 3)]})
+    remove(path)
+
+
 def killed(lab):
     """Wherever the program is killed, the rows are those of the earlier schema or of schema 3, and nothing between."""
     whole = older_file(lab.path("whole.db"), "schema 1")
@@ -266,7 +281,7 @@ def main():
     with tempfile.TemporaryDirectory() as folder:
         lab = Laboratory(os.path.abspath(sys.argv[1]), folder)
         try:
-            for part in (moved, asked, refused, killed, served, kept):
+            for part in (moved, asked, refused, told, killed, served, kept):
                 part(lab)
         finally:
             lab.kill()

@@ -23,7 +23,7 @@ import tempfile
 import threading
 import time
 
-from laboratory import Laboratory, expect, free_port, rows_of, within_a_step
+from laboratory import Laboratory, expect, free_port, how_far, rows_of, within_a_step
 import laboratory
 import page_sums
 
@@ -796,8 +796,8 @@ def most_beside(folder, run):
 
 
 def room_of_a_restore(lab):
-    """On a terminal a restore says how much room it may take, and takes no more. Of a backup that isn't there it says
-    nothing."""
+    """On a terminal a restore says how much room it may take, and takes no more. Of a backup that isn't there, or
+    over what is no file, it says nothing."""
     for number in range(1, 4):
         lab.add(number)
     numbers = "WITH RECURSIVE n (i) AS (SELECT 1 UNION ALL SELECT i + 1 FROM n WHERE i < 20000)"
@@ -817,6 +817,7 @@ def room_of_a_restore(lab):
             expect(f"whether {room} bytes suffice for it, of which {most} were seen", size <= most <= room, True)
     for path in (lab.path("none.db"), lab.folder):
         expect(f"a restore of {path}", "room" in on_a_terminal(lab, "restore", "--from", path, "--db", lab.db)[1], False)
+    expect("a restore over a folder", "room" in on_a_terminal(lab, *restore(lab, "backup.db", lab.folder))[1], False)
 
 
 def same_secrets(lab):
@@ -889,20 +890,24 @@ def rows_of_a_restore(lab):
 
 
 def told_of_a_large_file(lab):
-    """On a terminal a command says how much of a large file is copied, and that it is read; elsewhere nothing."""
+    """On a terminal a command says how much of a large file is copied, and how far its open has come; elsewhere nothing."""
     lab.add(1)
     connection = page_sums.connect(lab.db)
     with contextlib.closing(connection), connection:
         for number in range(1000001, 1000104):
             connection.execute("INSERT INTO object (kind, number, account, body) VALUES (1, ?, 1, ?)", (number, "a" * 1000000))
-    megabytes = os.stat(lab.db).st_size // 1000000
+    length = os.stat(lab.db).st_size
+    megabytes, thrice = length // 1000000, 3 * length // 1000000
     backup = ["backup", "--db", lab.db, "--to", lab.path("large.db")]
     copied = f"\rcopied 67 of {megabytes} MB \rcopied {megabytes} of {megabytes} MB \n"
-    expect("a backup of a large file on a terminal", on_a_terminal(lab, *backup), (0, f"{copied}reading {megabytes} MB\n"))
+    status, said = on_a_terminal(lab, *backup)
+    expect("a backup of a large file on a terminal", (status, said[:len(copied)]), (0, copied))
+    expect("what else it says", how_far("the open of its copy", said[len(copied):], "read", thrice), "")
     os.remove(lab.path("large.db"))
     expect("the same elsewhere", lab.run(*backup)[::2], (0, ""))
-    expect("an order on a large file on a terminal", on_a_terminal(lab, *disable(lab.db, 9), "--yes"),
-           (1, f"reading {megabytes} MB\nfault: unknown\n"))
+    status, said = on_a_terminal(lab, *disable(lab.db, 9), "--yes")
+    expect("an order on a large file on a terminal", (status, how_far("its open", said, "read", thrice)), (1, "fault: unknown\n"))
+    expect("the same elsewhere", lab.run(*disable(lab.db, 9)), (1, "", "fault: unknown\n"))
 
 
 def asked_on_a_terminal(lab):

@@ -109,7 +109,7 @@ def certified(lab, token):
     lab.must("PUT", session, bound, {"moduleUrl": "/acvp/v1/modules/7000001", "oeUrl": "/acvp/v1/oes/7000001"})
     paths = [(session, bound), (session + "/results", bound), ("/modules/7000001", token), ("/vendors/7000001", token),
              ("/oes/7000001", token)]
-    wanted = [f'7000004 account 7 certification initial session 7000001 of {made["createdOn"]} 1 of 1 passed "{MODULE["name"]}"',
+    wanted = [f'7000004 account 7 certification initial session 7000001 of {made["createdOn"][:10]} 1 of 1 passed "{MODULE["name"]}"',
               ("vectorSet 700000101 kept ", CAPABILITIES[0]), f"vectorSet 700000101 {kept}",
               ("vectorSet 700000102 cancelled ", CAPABILITIES[1]), f"vectorSet 700000102 {failed}"]
     return wanted + [f"/acvp/v1{path} {body(lab, path, by)}" for path, by in paths], bound, given
@@ -355,7 +355,7 @@ def looks(lab, wanted):
     expect("the accounts as a document", document_of(lab, "accounts", "--db", lab.db),
            [{"account": account, "enabled": enabled, **dict(zip(counts, numbers))} for account, enabled, numbers in
             ((7, True, (1, 4, 1, 1, 1)), (8, False, (0, 1, 0, 0, 0)), (9999, True, (0, 0, 0, 0, 0)))])
-    created = wanted[0].split(" ")[8]
+    created = json.loads(wanted[5].split(" ", 1)[1])[1]["createdOn"]
     certification = {"createdOn": created, "environment": 7000001, "module": 7000001, "passed": 1, "session": 7000001, "vectorSets": 1}
     waiting = [asked_for(7000004, "certification", MODULE["name"], certification=certification),
                asked_for(8000001, "vendor", "Another", enabled=False)]

@@ -134,7 +134,7 @@ def version():
 def told_builds(kit):
     """Of a process as large as one of `rt try`, which no proof precedes, --version says so; without /proc it says that it can't
     be told."""
-    untold = f"for {kit}: without /proc it can't be told whether its sources are proved"
+    untold = f"for {kit}: without /proc it can't be told if its sources are proved"
     sizes = [("268435455 1 1 1 0 1 0\n", f"from sources proved with {kit}"), ("268435456 1 1 1 0 1 0\n", f"not proved, for {kit}"),
              ("", untold), ("x\n", untold), (None, untold)]
     shows = 'mount --bind "$1" /proc && exec "$2" --version'

@@ -339,6 +339,16 @@ class Laboratory:
         return thing["accessToken"]
 
 
+def how_far(what, said, word, megabytes):
+    """Takes the line that says how far a command has come, of about so many megabytes, and that is written over, from the
+    front of what it says, and gives the rest. The command comes to four fifths at least."""
+    done, rest = 0, said
+    while rest.startswith(step := f"\r{word} {done + 16} of about {megabytes} MB "):
+        done, rest = done + 16, rest[len(step):]
+    expect(f"{what}: whether {done} MB are about {megabytes}", (0.8 * megabytes < done <= megabytes, rest[:1]), (True, "\n"))
+    return rest[1:]
+
+
 def within_a_step(seconds):
     """Waits until so many seconds are left of the step of one-time codes."""
     left = STEP - time.time() % STEP
