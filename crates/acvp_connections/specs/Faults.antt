@@ -3,7 +3,7 @@ use Rattle.std.specs.declared.io.ErrorKind.{ErrorKind}
 use Rattle.std.specs.declared.io.ErrorKind.TheVariants as kind
 use Rattle.sqlite.specs.declared.error.Error.{Error}
 use Rattle.sqlite.specs.declared.error.Error.TheVariants.{SqliteFailure}
-use Rattle.sqlite.specs.declared.error.ErrorCode.TheVariants.{DatabaseBusy, OutOfMemory}
+use Rattle.sqlite.specs.declared.error.ErrorCode.TheVariants.{OutOfMemory}
 use Rattle.sqlite_std_file.specs.declared.pair.OpenError.{OpenError}
 use Rattle.sqlite_std_file.specs.declared.pair.OpenError.TheVariants as files
 use Rattle.std.specs.IoError.{error_kind}
@@ -22,11 +22,6 @@ use Rattle.acvp_connections.specs.declared.fault.FileFault.TheVariants.{Memory, 
 abbrev pub fault_of_open : Error → FileFault
 fault_of_open (SqliteFailure OutOfMemory) = Memory
 fault_of_open _ = Unavailable
-
--- a database that is busy is another process's
-abbrev pub why_unopened : Error → Unopened
-why_unopened (SqliteFailure DatabaseBusy) = Taken
-why_unopened error = Failed (fault_of_open error)
 
 -- only tables that are others are a fault of the schema
 abbrev pub fault_of_adopt : AdoptFault → FileFault

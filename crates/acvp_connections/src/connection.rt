@@ -7,7 +7,7 @@ ghost use Rattle.sqlite_std_file.specs.File.{IsFresh, file_is_usable};
 ghost use Rattle.sqlite_wal.specs.Files.{image_at};
 ghost use Rattle.sqlite_wal.specs.Reads.{AreClean};
 ghost use Rattle.acvp_connections.specs.Connections.{IsConnected};
-ghost use Rattle.acvp_connections.specs.Faults.{fault_of_open, why_unfound, why_unopened};
+ghost use Rattle.acvp_connections.specs.Faults.{fault_of_open, why_unfound};
 
 use crate::fault::{FileFault, fault_of_cause, refused};
 use crate::left::settle_names;
@@ -48,16 +48,6 @@ pub enum Unopened {
 
     /// It can't be opened.
     Failed(FileFault),
-}
-
-/// Why a database can't be opened.
-fn why_unopened(error: Error) -> Unopened
-    ensures { result ≡ why_unopened error }
-{
-    if matches!(error, Error::SqliteFailure(ErrorCode::DatabaseBusy)) {
-        return Unopened::Taken;
-    }
-    Unopened::Failed(fault_of_database(error))
 }
 
 /// Why the files of a database can't be opened.
@@ -123,7 +113,7 @@ fn connect<S: Start>(
             connection.set_clock(rt);
             Ok(connection)
         }
-        Err((error, _)) => Err(why_unopened(error)),
+        Err((error, _)) => Err(Unopened::Failed(fault_of_database(error))),
     }
 }
 

@@ -14,11 +14,11 @@ const LARGE: u64 = 100 * MEGABYTE;
 /// After how many bytes it is told again how far a command has come.
 const STEP: u64 = 16 * MEGABYTE;
 
-/// How often an open reads each page of the file.
+/// How often an open reads each page of the file at most. A page that is free is read once.
 const OFTEN_OPENED: u64 = 3;
 
-/// How often each page of the file is read or written, if all records are moved: four reads, and two writes of the
-/// checkpoint, for the rows at both places.
+/// How often each page of the file is read or written at most, if all records are moved: four reads, and up to two
+/// writes of the checkpoint.
 const OFTEN_MOVED: u64 = 6;
 
 /// Whether something is told of a file of so many bytes: it takes long, and somebody may look on.
@@ -26,7 +26,7 @@ pub fn is_told(rt: &HostRuntime, bytes: u64) -> bool {
     bytes >= LARGE && rt.stderr().is_terminal()
 }
 
-/// How many bytes of a file a command has read and written, and of about how many.
+/// How many bytes of a file a command has read and written, and of up to how many.
 #[derive(Drop)]
 struct Counter {
     stderr: Stderr,
@@ -43,7 +43,7 @@ impl Counter {
         let (done, all) = (done / MEGABYTE, all / MEGABYTE);
         let _ = self
             .stderr
-            .eprint(format_args!("\r{word} {done} of about {all} MB "));
+            .eprint(format_args!("\r{word} {done} of up to {all} MB "));
     }
 
     /// So many bytes more. If they are more than was reckoned, all of these are done.
