@@ -5,7 +5,7 @@
 //! the log is that of whoever has the file.
 use crate::fault::{CopyFault, Step, at};
 use crate::parts::{Pair, Part, Use, give_up, new_copy, pair_at};
-use crate::progress::{tell_copied, tell_copied_whole};
+use crate::progress::{end_copied, tell_copied, tell_copied_whole};
 use acvp_causes::{Mark, cause_of_source, is_database, is_moved, is_whole, mark_of, name_of};
 use acvp_connections::{
     FileConnection, FileFault, FileNumber, Unopened, Watch, Watched, connect_there, copied, done,
@@ -51,17 +51,27 @@ fn looked_at(rt: &HostRuntime, pair: &Pair) -> io::Result<Seen> {
     })
 }
 
-/// Copies what is left of a file behind what another one holds, and says on a terminal how much of it is copied.
-fn copy_pieces(rt: &HostRuntime, mut from: &File, mut to: &File) -> io::Result<()> {
-    let all = from.metadata()?.len();
+/// Copies what is left of a file behind what another one holds.
+fn copy_all_pieces(rt: &HostRuntime, mut from: &File, mut to: &File, all: u64) -> io::Result<()> {
+    tell_copied(rt, 0, all);
     for piece in 0..all / PIECE {
         io::copy(&mut from.take(PIECE), &mut to)?;
         tell_copied(rt, piece.saturating_add(1).saturating_mul(PIECE), all);
     }
     // The last piece; and what was added to the file meanwhile.
     io::copy(&mut from, &mut to)?;
-    tell_copied_whole(rt, all);
     Ok(())
+}
+
+/// The same, and says on a terminal how much of it is copied.
+fn copy_pieces(rt: &HostRuntime, from: &File, to: &File) -> io::Result<()> {
+    let all = from.metadata()?.len();
+    let outcome = copy_all_pieces(rt, from, to, all);
+    match &outcome {
+        Ok(()) => tell_copied_whole(rt, all),
+        Err(_) => end_copied(rt, all),
+    }
+    outcome
 }
 
 /// Copies a file into an open one, in the place of all that this holds. One that isn't there has an empty copy.

@@ -13,6 +13,13 @@ pub(crate) fn tell_copied(rt: &HostRuntime, copied: u64, all: u64) {
     }
 }
 
+/// Ends the line that says how many bytes of a large file are copied, if they aren't all.
+pub(crate) fn end_copied(rt: &HostRuntime, all: u64) {
+    if is_told(rt, all) {
+        let _ = eprintln!(rt; "");
+    }
+}
+
 /// Ends the line that says how many bytes of a large file are copied.
 pub(crate) fn tell_copied_whole(rt: &HostRuntime, all: u64) {
     if is_told(rt, all) {
