@@ -1,6 +1,6 @@
 //! How much room a restore may take.
 use crate::database::named;
-use acvp_causes::has_sums;
+use acvp_causes::{cause_of_path, has_sums};
 use std::alloc::AllocGlobal;
 use std::fs;
 
@@ -37,13 +37,13 @@ fn is_no_file(rt: &HostRuntime, path: &str) -> bool {
 }
 
 /// Says how much room a restore may take: that of copies of the backup, and of a copy of what is there. A backup that
-/// isn't there needs none, nor does a restore that is refused at once.
+/// isn't there needs none, nor does a restore to a path that no database can have.
 pub(crate) fn tell_room(rt: &HostRuntime, from: &str, db: &str) {
     let (Ok(backup), Ok(database)) = (named(rt, from), named(rt, db)) else {
         return;
     };
     let bytes = lengths_of(rt, backup.as_str());
-    if bytes > 0 && !is_no_file(rt, database.as_str()) {
+    if bytes > 0 && cause_of_path(db).is_none() && !is_no_file(rt, database.as_str()) {
         let copies = bytes.saturating_mul(copies_of(rt, backup.as_str()));
         let room = copies.saturating_add(lengths_of(rt, database.as_str()));
         let _ = eprintln!(rt; "room: up to {room} bytes beside {db}");
