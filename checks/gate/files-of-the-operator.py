@@ -817,7 +817,8 @@ def room_of_a_restore(lab):
             expect(f"whether {room} bytes suffice for it, of which {most} were seen", size <= most <= room, True)
     for path in (lab.path("none.db"), lab.folder):
         expect(f"a restore of {path}", "room" in on_a_terminal(lab, "restore", "--from", path, "--db", lab.db)[1], False)
-    expect("a restore over a folder", "room" in on_a_terminal(lab, *restore(lab, "backup.db", lab.folder))[1], False)
+    for path in (lab.folder, ""):
+        expect(f"a restore over the path {path}", "room" in on_a_terminal(lab, "restore", "--from", backup, "--db", path)[1], False)
 
 
 def same_secrets(lab):
@@ -899,7 +900,7 @@ def told_of_a_large_file(lab):
     length = os.stat(lab.db).st_size
     megabytes, thrice = length // 1000000, 3 * length // 1000000
     backup = ["backup", "--db", lab.db, "--to", lab.path("large.db")]
-    copied = f"\rcopied 67 of {megabytes} MB \rcopied {megabytes} of {megabytes} MB \n"
+    copied = "".join(f"\rcopied {done} of {megabytes} MB " for done in (0, 67, megabytes)) + "\n"
     status, said = on_a_terminal(lab, *backup)
     expect("a backup of a large file on a terminal", (status, said[:len(copied)]), (0, copied))
     expect("what else it says", how_far("the open of its copy", said[len(copied):], "read", thrice), "")

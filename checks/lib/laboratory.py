@@ -340,12 +340,12 @@ class Laboratory:
 
 
 def how_far(what, said, word, megabytes):
-    """Takes the line that says how far a command has come, of about so many megabytes, and that is written over, from the
-    front of what it says, and gives the rest. The command comes to four fifths at least."""
+    """Takes the line that says how far a command has come, of up to so many megabytes, and that is written over, from the
+    front of what it says, and gives the rest. The command comes to three quarters at least."""
     done, rest = 0, said
-    while rest.startswith(step := f"\r{word} {done + 16} of about {megabytes} MB "):
+    while rest.startswith(step := f"\r{word} {done + 16} of up to {megabytes} MB "):
         done, rest = done + 16, rest[len(step):]
-    expect(f"{what}: whether {done} MB are about {megabytes}", (0.8 * megabytes < done <= megabytes, rest[:1]), (True, "\n"))
+    expect(f"{what}: whether {done} MB are most of {megabytes}", (0.75 * megabytes < done <= megabytes, rest[:1]), (True, "\n"))
     return rest[1:]
 
 
