@@ -1,3 +1,2 @@
 pub mod Connections
 pub mod Faults
-pub mod Watched

@@ -12,6 +12,7 @@ ghost use Rattle.acvp_connections.specs.Faults.{fault_of_open, why_unfound};
 use crate::fault::{FileFault, fault_of_cause, refused};
 use crate::left::settle_names;
 use crate::number::{FileNumber, file_at};
+use crate::passing::Passing;
 use crate::watch::Watch;
 use crate::watched::Watched;
 use acvp_causes::{
@@ -62,14 +63,16 @@ fn why_unfound(error: OpenError) -> Unopened
     }
 }
 
-/// The file at a path and its log, which are made where there are none. What SQLite takes for a path of its own is none.
+/// The file at a path and its log, which are made where there are none. What SQLite takes for a path of its own is
+/// none.
 fn files_at<S: Start>(
     rt: &HostRuntime,
     path: &str,
     start: S,
 ) -> Result<Files<FileFrom<S>>, Unopened>
     ensures memory { path.now ≡ codes ":memory:" → IsErr result }
-    ensures usable { IfOk result (λ files. IsTrue (file_is_usable S.Start files.log) × IsTrue (file_is_usable S.Start files.db)) }
+    ensures usable { IfOk result (λ files.
+        IsTrue (file_is_usable S.Start files.log) × IsTrue (file_is_usable S.Start files.db)) }
     ensures fresh { IfOk result (λ files. IsFresh true files.log × IsFresh false files.db) }
 {
     if path == ":memory:" || path.starts_with("file:") {
@@ -102,8 +105,8 @@ fn connect<S: Start>(
     let files = files_at(rt, path, start)?;
     let options = options(rt)?;
     let watched = Files {
-        log: Watched::new(files.log, Watch::nobody()),
-        db: Watched::new(files.db, watch.shared()),
+        log: Watched::of(files.log, Watch::nobody()),
+        db: Watched::of(files.db, watch.shared()),
     };
     watch.begin_open();
     let opened = Connection::open_files_with(rt.alloc(), watched, options, true);

@@ -5,6 +5,7 @@ mod connection;
 mod fault;
 mod left;
 mod number;
+mod passing;
 mod watch;
 mod watched;
 

@@ -1,6 +1,5 @@
 //! A file of a database whose reads and writes are counted.
-ghost use Rattle.std.specs.Prelude.{◌≡◌};
-
+use crate::passing::Passing;
 use crate::watch::Watch;
 use sqlite_disk::{Disk, Tally};
 use std::io;
@@ -12,14 +11,13 @@ pub struct Watched<D: Disk> {
     watch: Watch,
 }
 
-impl<D: Disk> Watched<D> {
-    ghost use Rattle.acvp_connections.specs.Watched.{inner_of};
+impl<D: Disk> Passing for Watched<D> {
+    type Inner = D;
 
-    /// A file, and who looks on.
-    pub fn new(inner: D, watch: Watch) -> Watched<D>
-        ensures { inner_of result ≡ inner }
-    {
-        Watched { inner, watch }
+    ghost inner = { λ f. f.inner };
+
+    fn of(file: D, watch: Watch) -> Watched<D> {
+        Watched { inner: file, watch }
     }
 }
 

@@ -24,8 +24,8 @@ pub returns-in-Ok-clause-connected : goal.returns-in-Ok-clause-connected
 returns-in-Ok-clause-connected g c = rw c.set_clock.ensures
     (let (log, db) = c.in_ok-files.ensures.fresh in
     let start = g.S.Start in
-    let log_same = ap (seen start) c.new.ensures ∙ ap₂ (shown start.log start.db) log.0 log.1 in
-    let db_same = ap (seen start) c.new-2.ensures ∙ ap₂ (shown start.log start.db) db.0 db.1 in
+    let log_same = ap (seen start) c.of.ensures.inner ∙ ap₂ (shown start.log start.db) log.0 log.1 in
+    let db_same = ap (seen start) c.of-2.ensures.inner ∙ ap₂ (shown start.log start.db) db.0 db.1 in
     let same = ap₂ image log_same db_same in
     let told = c.in-Ok.ensures in (
       told.fresh,
