@@ -11,6 +11,7 @@ import hashlib
 import html.parser
 import json
 import os
+import re
 import shutil
 import sqlite3
 import sys
@@ -25,7 +26,7 @@ CAPABILITIES = [{"algorithm": "SHA2-256", "messageLength": [8], "revision": "1.0
                 {"algorithm": "HMAC-SHA2-256", "keyLen": [256], "macLen": [256], "revision": "1.0"}]
 VENDOR, MODULE, ENVIRONMENT = {"name": "Acme"}, {"name": "Hash \u00fc", "version": "2"}, {"name": "Linux"}
 BODY = b"\r\n\r\n"
-ANOTHER = '8000001 account 8 (disabled) vendor initial "Another"'
+ANOTHER = '8000001 account 8 (disabled) vendor initial\n    "Another"'
 # Controls, separators of lines and paragraphs, what turns the direction of writing, and what isn't seen: all of some, and a
 # few of each other range of the general categories Cc, Cf, Zl and Zp, and of what is ignorable by default.
 ACTING = "".join(map(chr, [*range(32), *range(0x7F, 0xA0), 0xAD, 0x61C, *range(0x200B, 0x2010), *range(0x2028, 0x202F),
@@ -45,13 +46,13 @@ def short(url):
 
 
 def shows(lab, *args):
-    """The lines that a command prints, which nothing is left of."""
+    """The lines that a command prints, which nothing is left of. Indented ones belong to the line before them."""
     before = {name: os.stat(lab.path(name)).st_mtime_ns for name in os.listdir(lab.folder)}
     status, output, faults = lab.run(*args)
     expect(f"the command {args}", (status, faults), (0, ""))
     after = {name: os.stat(lab.path(name)).st_mtime_ns for name in os.listdir(lab.folder)}
     expect(f"the files behind {args}", after, before)
-    return output.split("\n")[:-1]
+    return re.split(r"\n(?!    )", output)[:-1]
 
 
 def document_of(lab, *args):
@@ -84,7 +85,7 @@ def asked(lab, token):
         number = 7000000 + place
         shown = shows(lab, "request-show", "--db", lab.db, "--keys", lab.keys, "--request", str(number))
         kind = {"/vendors": "vendor", "/modules": "module", "/oes": "environment"}[path]
-        line = f"{number} account 7 {kind} initial {json.dumps(thing['name'], ensure_ascii=False)}"
+        line = f"{number} account 7 {kind} initial\n    {json.dumps(thing['name'], ensure_ascii=False)}"
         expect(f"the line of request {number}", shown[0], line)
         expect(f"the object of request {number}", [json.loads(line) for line in shown[1:]], [thing])
         expect("the requests that wait", shows(lab, "requests", "--db", lab.db), [line, ANOTHER])
@@ -109,7 +110,7 @@ def certified(lab, token):
     lab.must("PUT", session, bound, {"moduleUrl": "/acvp/v1/modules/7000001", "oeUrl": "/acvp/v1/oes/7000001"})
     paths = [(session, bound), (session + "/results", bound), ("/modules/7000001", token), ("/vendors/7000001", token),
              ("/oes/7000001", token)]
-    wanted = [f'7000004 account 7 certification initial session 7000001 of {made["createdOn"][:10]} 1 of 1 passed "{MODULE["name"]}"',
+    wanted = [f'7000004 account 7 certification initial\n    session 7000001 of {made["createdOn"][:10]} 1 of 1 passed\n    "{MODULE["name"]}"',
               ("vectorSet 700000101 kept ", CAPABILITIES[0]), f"vectorSet 700000101 {kept}",
               ("vectorSet 700000102 cancelled ", CAPABILITIES[1]), f"vectorSet 700000102 {failed}"]
     return wanted + [f"/acvp/v1{path} {body(lab, path, by)}" for path, by in paths], bound, given
@@ -271,7 +272,7 @@ def certificates(lab, wanted, token, bound, given):
 def shows_plainly(lab, *args, keys=True):
     """The lines of a command, none of which acts on a terminal."""
     lines = shows(lab, *args, "--db", lab.db, *(["--keys", lab.keys] if keys else []))
-    expect(f"what acts on a terminal, of the command {args}", set(ACTING) & set("".join(lines)), set())
+    expect(f"what acts on a terminal, of the command {args}", set(ACTING) & set("".join(lines).replace("\n    ", "")), set())
     return lines
 
 
@@ -287,7 +288,7 @@ def acting_text(lab):
         lab.must("POST", path, token, thing)
         shown = shows_plainly(lab, "request-show", "--request", str(number))
         expect(f"the object of request {number} as it was sent", [json.loads(line) for line in shown[1:]], [thing])
-        expect(f"the long name of request {number}", shown[0].split(" ", 5)[5], f"(a name of {len(thing['name'].encode())} bytes)")
+        expect(f"the long name of request {number}", shown[0].split("\n    ")[1:], [f"(a name of {len(thing['name'].encode())} bytes)"])
         expect("the same in its list", shows_plainly(lab, "requests", keys=False)[-1], shown[0])
         expect("the name in its document", json.loads("".join(shows_plainly(lab, "requests", "--json", keys=False)))[-1]["name"], thing["name"])
         lab.does(f"request {number} approved /acvp/v1{path}/7000001", "request-approve", "--db", lab.db, "--request", str(number))
@@ -308,13 +309,20 @@ def acting_text(lab):
     text, = shows_plainly(lab, "certificate", "--request", "7000004")
     expect("the names in a document", [json.loads(text)[member]["name"] for member in ("vendor", "module", "oe")], [thing["name"] for _, thing in things])
     expect("its page", pages(lab, text), shows_plainly(lab, "certificate", "--request", "7000004", "--html"))
-    for number, name in enumerate([f"{ACTING[at:at + 24]}\"" for at in range(0, len(ACTING), 24)] + ["b" * 100, "b" * 101], 7000005):
+    short = [f"{ACTING[at:at + 24]}\"" for at in range(0, len(ACTING), 24)] + ["b" * 74, "b" * 100, "\u00fc" * 50]
+    long = ["b" * 101, "\u00fc" * 50 + "b"]
+    for number, name in enumerate(short + long, 7000005):
         lab.must("POST", "/vendors", token, {"name": name})
-        line = shows_plainly(lab, "requests", keys=False)[-1].split(" ", 5)[5]
-        if len(name.encode()) > 100:
-            expect("a name that is too long", line, "(a name of 101 bytes)")
+        _, line = shows_plainly(lab, "requests", keys=False)[-1].split("\n    ")
+        if name in long:
+            expect("a name that is too long", line, f"(a name of {len(name.encode())} bytes)")
         else:
             expect(f"the name of request {number}", json.loads(line), name)
+    # all lines but those of long names have room in 80 columns
+    lines = [request.split("\n") for request in shows_plainly(lab, "requests", "--all", keys=False)]
+    expect("requests", [len(request) for request in lines], [2] * 3 + [3] + [2] * len(short + long))
+    expect("a name of 74 bytes in 80 columns", f'    "{"b" * 74}"' in lines[4 + len(short) - 3], True)
+    expect("wide lines", [line for request in lines for line in request[:-1] if len(line) > 80], [])
 
 
 def broken_off(lab):
@@ -349,8 +357,8 @@ def looks(lab, wanted):
             "9999 enabled sessions 0 requests 0 vendors 0 modules 0 environments 0"])
     expect("the requests that wait", shows(lab, "requests", "--db", lab.db), [wanted[0], ANOTHER])
     expect("all requests", shows(lab, "requests", "--db", lab.db, "--all"),
-           [f'7000001 account 7 vendor approved 7000001 "{VENDOR["name"]}"', f'7000002 account 7 module approved 7000001 "{MODULE["name"]}"',
-            f'7000003 account 7 environment approved 7000001 "{ENVIRONMENT["name"]}"', wanted[0], ANOTHER])
+           [f'7000001 account 7 vendor approved 7000001\n    "{VENDOR["name"]}"', f'7000002 account 7 module approved 7000001\n    "{MODULE["name"]}"',
+            f'7000003 account 7 environment approved 7000001\n    "{ENVIRONMENT["name"]}"', wanted[0], ANOTHER])
     counts = ("sessions", "requests", "vendors", "modules", "environments")
     expect("the accounts as a document", document_of(lab, "accounts", "--db", lab.db),
            [{"account": account, "enabled": enabled, **dict(zip(counts, numbers))} for account, enabled, numbers in
@@ -422,7 +430,7 @@ def numbers_apart(lab):
            {"createdOn": made[3]["createdOn"], "environment": 7000003, "module": 7000001, "passed": 4, "session": 7000004, "vectorSets": 4})
     expect("what the account reads, in the document", items[9:], [{"body": json.loads(told), "path": f"/acvp/v1{path}"} for path, told in read])
     status, terminal = lab.typed(b"y\n", "request-approve", "--db", lab.db, "--request", request)
-    expect("the question", terminal.split("\n")[2], "session 7000004: 4 of 4 vector sets passed")
+    expect("the question", terminal.split("\n")[4], "session 7000004: 4 of 4 vector sets passed")
     expect("the approval", (status, terminal.split("\n")[-2]), (0, f"request {request} approved /acvp/v1{session}"))
     expect("as what it was approved", lab.run("request-reject", "--verbose", "--db", lab.db, "--request", request)[2],
            "fault: notInitial\nbecause: --request: it was approved, as 7000004\n")

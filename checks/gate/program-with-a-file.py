@@ -676,8 +676,8 @@ def documents(lab):
     other.kill()
     rest = [line for line in lines[place:] if "account-disable" not in line]
     output = shell(other, rest, folder)
-    wanted = ["7 enabled sessions 0 requests 2 ", '7000002 account 7 vendor initial "Vendor two"\n',
-              '7000001 account 7 vendor initial "Vendor one"\n{"name":"Vendor one"}\n', "request 7000001 approved /acvp/v1/vendors/7000001\n", "request 7000002 rejected\n", f"backed up: {rows_of(os.path.join(folder, 'backup.db'))} rows\n", "restored\n", "whole: accounts 1 sessions 0 sets 0 requests 2\n", "schema 3\n"]
+    wanted = ["7 enabled sessions 0 requests 2 ", '7000002 account 7 vendor initial\n    "Vendor two"\n',
+              '7000001 account 7 vendor initial\n    "Vendor one"\n{"name":"Vendor one"}\n', "request 7000001 approved /acvp/v1/vendors/7000001\n", "request 7000002 rejected\n", f"backed up: {rows_of(os.path.join(folder, 'backup.db'))} rows\n", "restored\n", "whole: accounts 1 sessions 0 sets 0 requests 2\n", "schema 3\n"]
     for part in wanted:
         expect(f"{part!r} in what the operator's commands print: {output}", part in output, True)
     with contextlib.closing(sqlite3.connect(f"file:{os.path.join(folder, 'backup.db')}?mode=ro&immutable=1", uri=True)) as backup:

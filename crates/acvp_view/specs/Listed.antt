@@ -1,5 +1,5 @@
--- What the operator is shown of accounts and of requests, each as a line of words or as a JSON object, whose members
--- ascend.
+-- What the operator is shown of accounts and of requests: of each account a line of words, of each request up to three,
+-- or a JSON object, whose members ascend.
 use Rattle.std.specs.Prelude.{ℕ, List, [], ◌++◌, ◌==◌, codes, decimal, Bool, true, false, ◌||◌, if◌then◌else◌, nat_le}
 use Rattle.std.specs.Prelude.{nat_lt, length}
 use Rattle.std.specs.Prelude.{Option, Some, None, option_and_then, option_map}
@@ -124,7 +124,7 @@ approved_number status.Rejected = None
 abbrev pub moment_text : ℕ → List ℕ
 moment_text moment = if nat_lt moment 253402300800 then time_of moment else decimal moment
 
--- ---- its line of words
+-- ---- its lines of words: each that stands behind the first is indented
 
 abbrev pub disabled_words : Bool → List ℕ
 disabled_words true = []
@@ -144,18 +144,22 @@ request_head it enabled =
 abbrev pub day_in : List ℕ → List ℕ
 day_in = before_first (λ b. b == 84)
 
+-- how a line begins that stands behind the first
+abbrev pub next_line : List ℕ
+next_line = codes "\n    "
+
 -- the test session, the day when it was made, and how many of its vector sets have passed
 abbrev pub session_words : Option SessionRow → List ℕ
 session_words None = []
 session_words (Some row) =
-    codes " session " ++ decimal row.number ++ codes " of " ++ day_in (moment_text row.created) ++ codes " "
+    next_line ++ codes "session " ++ decimal row.number ++ codes " of " ++ day_in (moment_text row.created) ++ codes " "
     ++ decimal row.passed ++ codes " of " ++ decimal row.live ++ codes " passed"
 
 -- a name stands last, as a JSON string without characters that act on a terminal; a long one isn't shown
 unfoldable pub shown_name : List ℕ → List ℕ
 shown_name name =
-    if nat_le (length name) 100 then codes " " ++ escaped (compact_text (string name))
-    else codes " (a name of " ++ decimal (length name) ++ codes " bytes)"
+    if nat_le (length name) 100 then next_line ++ escaped (compact_text (string name))
+    else next_line ++ codes "(a name of " ++ decimal (length name) ++ codes " bytes)"
 
 abbrev pub name_words : Option (List ℕ) → List ℕ
 name_words None = []

@@ -1,4 +1,5 @@
-//! What the operator is shown of accounts and of requests, each as a line of words or as a JSON object.
+//! What the operator is shown of accounts and of requests: of each account a line of words, of each request up to three,
+//! or a JSON object.
 ghost use Rattle.std.specs.Prelude.{◌≡◌, ◌++◌, IfOk, codes, decimal, option_map, string_bytes};
 ghost use Rattle.serde_json.specs.Data.{string};
 ghost use Rattle.serde_json.specs.View.{view};
@@ -13,10 +14,10 @@ ghost use Rattle.acvp_view.specs.Escaped.{escaped};
 ghost use Rattle.acvp_view.specs.Listed.{account_data, account_line, account_text, account_words, approved_number};
 ghost use Rattle.acvp_view.specs.Listed.{approved_words, certification_data, certified_data, counts_text, day_in};
 ghost use Rattle.acvp_view.specs.Listed.{decided_words, disabled_words, enabled_word, is_enabled, kind_asked};
-ghost use Rattle.acvp_view.specs.Listed.{kind_word, moment_text, name_asked, name_words, request_data, request_head};
-ghost use Rattle.acvp_view.specs.Listed.{request_line, request_parts, request_text, request_words, rest_words};
-ghost use Rattle.acvp_view.specs.Listed.{session_asked, session_line, session_text, session_words, shown_name};
-ghost use Rattle.acvp_view.specs.Listed.{status_word};
+ghost use Rattle.acvp_view.specs.Listed.{kind_word, moment_text, name_asked, name_words, next_line};
+ghost use Rattle.acvp_view.specs.Listed.{request_data, request_head, request_line, request_parts, request_text};
+ghost use Rattle.acvp_view.specs.Listed.{request_words, rest_words, session_asked, session_line, session_text};
+ghost use Rattle.acvp_view.specs.Listed.{session_words, shown_name, status_word};
 
 use crate::escape::escaped;
 use crate::form::Form;
@@ -30,7 +31,7 @@ use acvp_tables::{
 use serde_json::{Value, json};
 use std::alloc::{AllocError, Global};
 
-/// How many bytes a name has at most that stands in a line of words.
+/// How many bytes a name has at most that is shown in words.
 const LONGEST_NAME: usize = 100;
 
 /// The first moment whose year has five digits.
@@ -291,7 +292,7 @@ fn session_asked<T: Tables>(
     }
 }
 
-// ---- its line of words
+// ---- its lines of words
 
 fn disabled_words(enabled: bool) -> &'static str
     ensures { result.now ≡ disabled_words enabled }
@@ -345,10 +346,10 @@ fn day_in(time: &str) -> &str
     }
 }
 
-/// A test session, the day when it was made, and how many of its vector sets have passed.
+/// A test session, the day when it was made, and how many of its vector sets have passed, in a line of its own.
 fn session_part(alloc: Global, row: &SessionRow, day: &str) -> Result<String, AllocError>
     ensures { IfOk result (λ text. string_bytes text
-        ≡ codes " session " ++ decimal row.now.number ++ codes " of " ++ day.now ++ codes " "
+        ≡ next_line ++ codes "session " ++ decimal row.now.number ++ codes " of " ++ day.now ++ codes " "
         ++ decimal row.now.passed ++ codes " of " ++ decimal row.now.live ++ codes " passed") }
 {
     let SessionRow {
@@ -357,7 +358,7 @@ fn session_part(alloc: Global, row: &SessionRow, day: &str) -> Result<String, Al
         passed,
         ..
     } = *row;
-    format!(in alloc; " session {number} of {day} {passed} of {live} passed")
+    format!(in alloc; "\n    session {number} of {day} {passed} of {live} passed")
 }
 
 fn session_words(alloc: Global, session: Option<SessionRow>) -> Result<String, AllocError>
@@ -390,17 +391,17 @@ fn quoted(alloc: Global, text: &str) -> Result<String, AllocError>
 /// What stands in place of a name of so many bytes.
 fn long_name(alloc: Global, bytes: usize) -> Result<String, AllocError>
     ensures { IfOk result (λ text. string_bytes text
-        ≡ codes " (a name of " ++ decimal bytes ++ codes " bytes)") }
+        ≡ next_line ++ codes "(a name of " ++ decimal bytes ++ codes " bytes)") }
 {
-    format!(in alloc; " (a name of {bytes} bytes)")
+    format!(in alloc; "\n    (a name of {bytes} bytes)")
 }
 
-/// A name as it is shown, behind a space.
+/// A name as it is shown, in a line of its own.
 fn short_name(alloc: Global, name: &str) -> Result<String, AllocError>
-    ensures { IfOk result (λ text. string_bytes text ≡ codes " " ++ escaped (compact_text (string name.now))) }
+    ensures { IfOk result (λ text. string_bytes text ≡ next_line ++ escaped (compact_text (string name.now))) }
 {
     let shown = quoted(alloc, name)?;
-    joined(alloc, " ", &shown)
+    joined(alloc, "\n    ", &shown)
 }
 
 /// A name, if it isn't too long.
@@ -424,7 +425,7 @@ fn name_words(alloc: Global, name: &Option<String>) -> Result<String, AllocError
     }
 }
 
-/// What stands behind the head of the line.
+/// What stands in the lines behind the first.
 #[tactic(auto, unfolding(crate::specs::Listed::rest_words))]
 fn rest_words(
     alloc: Global,
@@ -439,7 +440,7 @@ fn rest_words(
     joined(alloc, &session, &name)
 }
 
-/// The head of the line, and the number that an approval gave.
+/// The first line: whose it is, what it asks for, what was decided, and the number that an approval gave.
 #[tactic(auto, unfolding(crate::specs::Listed::decided_words))]
 fn decided_words(alloc: Global, it: &RequestRow, enabled: bool) -> Result<String, AllocError>
     ensures { IfOk result (λ text. string_bytes text ≡ decided_words it.now enabled) }
