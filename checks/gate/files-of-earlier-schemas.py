@@ -249,7 +249,20 @@ def told(lab):
     rest = how_far("the open", said, "read", 3 * length // 1000000)
     expect("the migration", (status, how_far("the move", rest, "moved", 6 * length // 1000000)), (0, "schema 3\n"))
     expect("the rows after it", seen(path, "schema 1"), {**before, "version": [("schema", 3)]})
+    # tables of today's schema aren't moved, however long the log that is copied into the file
+    again, connection = lab.path("again.db"), opened(path)
+    expect("its journal", connection.execute("PRAGMA journal_mode = WAL").fetchone(), ("wal",))
+    connection.execute("PRAGMA wal_autocheckpoint = 0")
+    connection.execute("UPDATE vset2 SET answers = hex(randomblob(18000)) WHERE vs > 700100000")
+    for end in ("", "-wal"):
+        shutil.copy(path + end, again + end)
+    connection.close()
+    expect("whether its log is long", os.stat(again + "-wal").st_size > 100000000, True)
+    status, said = lab.typed(b"", "migrate", "--db", again, "--yes")
+    expect("a migration of what is migrated", (status, said.split("\n")[-2], "moved" in said), (0, "schema 3", False))
+    expect("what is left of its log", os.stat(again + "-wal").st_size < 1000, True)
     remove(path)
+    remove(again)
 
 
 def killed(lab):

@@ -216,7 +216,7 @@ pub fn tables_of_copy(rt: &HostRuntime, database: &str) -> Result<FileTables, Fi
 }
 
 /// The number of the schema that a database names, if it names one.
-fn schema_in<S: Alter + Drop>(connection: &mut Connection<S>) -> Option<i64> {
+pub fn schema_in<S: Alter + Drop>(connection: &mut Connection<S>) -> Option<i64> {
     let Ok(rows) = connection.query_all("SELECT value FROM meta WHERE name = 'schema'", &[]) else {
         return None;
     };

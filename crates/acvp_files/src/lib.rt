@@ -12,7 +12,7 @@ mod sums;
 mod written;
 
 pub use backups::{Restored, backup, restore};
-pub use copies::{FileTables, schema_of_copy, tables_of_copy};
+pub use copies::{FileTables, schema_in, schema_of_copy, tables_of_copy};
 pub use fault::{CopyFault, Step};
 pub use privacy::{remove_empty_log, tell_open, tell_open_database};
 pub use sums::tell_without_sums;

@@ -14,7 +14,7 @@ use acvp_connections::{
     FileConnection, FileFault, Unopened, Watch, close, connect_existing, connect_new, has_no_log,
 };
 use acvp_desk::Order;
-use acvp_files::remove_empty_log;
+use acvp_files::{remove_empty_log, schema_in};
 use acvp_port::answer_to;
 use acvp_store::SqlTables;
 use sqlite::{Alter, Connection, MemStore, Start};
@@ -92,18 +92,23 @@ fn done_with_seeds<S: Alter + Drop>(
     (connection, closes, outcome)
 }
 
+/// Whether a database names a schema before today's.
+fn is_earlier<S: Alter + Drop>(connection: &mut Connection<S>) -> bool {
+    matches!(schema_in(connection), Some(1 | 2))
+}
+
 /// Does this over a connection to the database in a file, and closes it if that is to be. A command that is refused
 /// leaves the file and its log as they are, and no log if there was none.
 fn done_and_closed<S: Start>(
     mut machine: Machine<'_, HostRuntime>,
-    connection: FileConnection<S>,
+    mut connection: FileConnection<S>,
     work: Work,
     is_new_log: bool,
     watch: &Watch,
 ) -> Result<Said, Fault>
     requires { IsWork work }
 {
-    if matches!(work, Work::Move) {
+    if matches!(work, Work::Move) && is_earlier(&mut connection) {
         watch.begin_move();
     }
     let (connection, closes, outcome) = done_with_seeds(&mut machine, connection, work);
