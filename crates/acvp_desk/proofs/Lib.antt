@@ -10,6 +10,8 @@ pub mod ServeExits
 pub mod OrderExits
 pub mod DecidedRequest
 pub mod KeptRecords
+pub mod CertifiedRows
+pub mod CertifiedRecords
 pub mod ErrorBodies
 pub mod PassedSession
 pub mod FoundRows

@@ -8,6 +8,7 @@ ghost use Rattle.acvp_tables.specs.declared.change.Change.TheVariants as change;
 ghost use Rattle.acvp_tables.specs.declared.rows.ReviewerRow.{ReviewerRow};
 ghost use Rattle.acvp_desk.specs.Answer.{answer, effect, content_effect};
 ghost use Rattle.acvp_desk.specs.Errors.{error_body};
+ghost use Rattle.acvp_desk.specs.Certifications.{IsLeft};
 ghost use Rattle.acvp_desk.specs.Kept.{IsKept};
 ghost use Rattle.acvp_desk.specs.Reviewers.{with_account, without_account};
 ghost use Rattle.acvp_desk.specs.Orders.{IsOrder, HasSecret, order_effect, content_order_effect};
@@ -50,6 +51,19 @@ pub fn records_are_kept()
     selections_follow();
     numbers_name();
     counts_differ_by_one();
+}
+
+/// What runs leave of the records, whatever is asked and ordered, holds without a row, after a request, and after an
+/// order.
+pub fn left_records_are_left()
+    ensures start { (seeds : List (List ℕ)) → IsLeft seeds no_rows }
+    ensures request { (keys : Keys) (moment : ℕ) (r : RequestValue) (c : Content) → IsLeft keys.seed c
+        → IsLeft keys.seed (content_effect keys moment r c) }
+    ensures order { (seeds : List (List ℕ)) (it : Order) (c : Content) → IsOrder it → HasSecret it → IsLeft seeds c
+        → IsLeft seeds (content_order_effect it c) }
+{
+    records_are_kept();
+    selections_follow();
 }
 
 /// The reply to a request that is accepted shows an object, where what is kept is right and there is a seed.

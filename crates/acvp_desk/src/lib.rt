@@ -14,8 +14,8 @@ pub use isolation::{
 pub use keys::Keys;
 pub use later_keys::records_outlast_keys;
 pub use laws::{
-    accepted_requests_are_told, effects_follow, errors_are_named, no_answer_is_unavailable,
-    records_are_kept, reviewers_are_told,
+    accepted_requests_are_told, effects_follow, errors_are_named, left_records_are_left,
+    no_answer_is_unavailable, records_are_kept, reviewers_are_told,
 };
 pub use order::{Order, OrderReply, order_on};
 pub use page::page_of;
