@@ -1,38 +1,45 @@
 -- What was read of the rows with an account's numbers: whose it is, its order, and any content that the rows stand for.
-use Rattle.std.proofs.Common.{◌≡◌, ℕ, ◌/◌, Bool, true, false, List, [], ◌∷◌, ◌++◌, None, refl, sym, ap, ap₂, subst, ◌∙◌}
+use Rattle.std.proofs.Common.{◌≡◌, ℕ, ◌/◌, Bool, true, false, List, [], ◌∷◌, ◌++◌, None, Some, refl, sym, ap, ap₂, subst, ◌∙◌}
 use Rattle.std.proofs.Common.{inl, inr, arith}
 use Rattle.std.specs.Prelude.{filter, ◌&&◌, ◌||◌, ◌==◌}
 use Rattle.std.specs.List.{list_all, AllByRecursion}
 use Rattle.std.specs.List.Sorted.{IsPermutation}
 use Rattle.std.proofs.lemmas.Bool.{cases_Bool}
 use Rattle.std.proofs.lemmas.Bool.Decides.{nat_tests}
+use Rattle.std.proofs.lemmas.List.Elements.{All-filter}
 use Rattle.std.proofs.lemmas.List.Sorted.{IsPermutation-sym}
 use Rattle.sqlite_trees.proofs.ListLemmas.{all_weaker, all-append}
 use Rattle.sqlite_trees.specs.Tree.{Trees}
 use Rattle.sqlite_value.specs.Order.{Row}
-use Rattle.acvp_desk.specs.Kept.{IsKept}
+use Rattle.acvp_desk.specs.Certifications.{IsLeft}
+use Rattle.acvp_desk.specs.Kept.{IsGraded, IsGradedSet, IsKept}
+use Rattle.acvp_desk.proofs.FirstBroken.{front_held}
 use Rattle.acvp_mac.specs.Conditions.{Condition, first_broken}
 use Rattle.acvp_tables.specs.Content.{Content, no_rows}
-use Rattle.acvp_tables.specs.State.{state_of, owner_of, is_account_number}
+use Rattle.acvp_tables.specs.Counted.{is_counted, IsCounted}
+use Rattle.acvp_tables.specs.State.{state_of, own, owner_of, is_account_number, IsWellNumbered, IsWellNumberedFor}
 use Rattle.acvp_tables.specs.declared.rows.AccountRow.{AccountRow}
 use Rattle.acvp_tables.specs.declared.rows.SessionRow.{SessionRow}
 use Rattle.acvp_tables.specs.declared.rows.SetRow.{SetRow}
 use Rattle.acvp_tables.specs.declared.rows.ObjectRow.{ObjectRow}
 use Rattle.acvp_tables.specs.declared.rows.RequestRow.{RequestRow}
 use Rattle.acvp_tables.specs.declared.rows.ReviewerRow.{ReviewerRow}
+use Rattle.acvp_tables.proofs.Empty.{none_sound}
 use Rattle.acvp_tables.proofs.KeptLemmas.{list_all_weaker, list_all-filter}
 use Rattle.acvp_check.specs.Conditions.{all_conditions, account_conditions, own_row_conditions, session_conditions}
 use Rattle.acvp_check.specs.Conditions.{set_conditions, request_conditions, object_conditions, all_kinds_conditions}
-use Rattle.acvp_check.specs.Conditions.{reviewer_conditions, verdict_conditions}
+use Rattle.acvp_check.specs.Conditions.{reviewer_conditions, certification_conditions, is_of_certification}
+use Rattle.acvp_check.specs.Conditions.{verdict_conditions}
 use Rattle.acvp_check.specs.Order.{HaveSameRows, AreInOrder}
 use Rattle.acvp_check.specs.Owners.{is_of, is_in, owner_conditions, session_owners, registry_owners}
-use Rattle.acvp_check.specs.Rows.{AreNumbered, rows_numbered}
+use Rattle.acvp_check.specs.Rows.{AreNumbered, rows_numbered, rows_of}
 use Rattle.acvp_check.proofs.AccountLemmas.{join, split}
 use Rattle.acvp_check.proofs.Holds.{none_broken, all_held}
 use Rattle.acvp_check.proofs.Joins.{apart}
-use Rattle.acvp_check.proofs.NumberedRows.{account_unbroken, numbered_whole, part_unbroken}
-use Rattle.acvp_check.proofs.OrderedRows.{kept_in_order}
-use Rattle.acvp_check.proofs.WholeLemmas.{kept_owned, kept}
+use Rattle.acvp_check.proofs.NumberedRows.{account_unbroken, numbered_whole, part_tells, part_unbroken}
+use Rattle.acvp_check.proofs.OrderedRows.{kept_in_order, left_in_order}
+use Rattle.acvp_check.proofs.WholeLemmas.{counted_for, kept_owned, left, numbers_select, owners_unbroken, rows_state}
+use Rattle.acvp_check.proofs.WholeLemmas.{well_for}
 use Rattle.acvp_store.specs.Ranges.{is_between, is_number_between, is_object_between, is_column_between, KeepsObjects}
 use Rattle.acvp_store.specs.Ranges.{IsRegisteredWithin, first_number, last_number, first_set, last_set}
 use Rattle.acvp_store.specs.Rows.{account_key, HoldsAccounts, session_key, HoldsSessions}
@@ -284,7 +291,7 @@ module _ (u : ℕ) (c : Content) where
 
   none_wrong : (seeds : List (List ℕ)) (v : ℕ) → first_broken (all_conditions true seeds v no_rows) ≡ None
   unfolding account_conditions own_row_conditions session_conditions set_conditions request_conditions object_conditions
-      all_kinds_conditions reviewer_conditions verdict_conditions state_of
+      all_kinds_conditions reviewer_conditions certification_conditions verdict_conditions state_of
   none_wrong seeds v = refl
 
   numbered : (seeds : List (List ℕ)) → IsKept seeds c → AreNumbered (rows_numbered u c)
@@ -318,9 +325,9 @@ module _ (u : ℕ) (c : Content) where
             (λ row. owner_of row.session == u) c.reviewers owned.reviewers;
       }
 
-  pub part_kept : (seeds : List (List ℕ)) → IsKept seeds c → IsKept seeds (rows_numbered u c)
-  part_kept seeds is = kept seeds (rows_numbered u c)
-      (numbered_whole (rows_numbered u c) (numbered seeds is) owners true seeds others)
+  pub part_left : (seeds : List (List ℕ)) → IsLeft seeds c → IsLeft seeds (rows_numbered u c)
+  part_left seeds is = left seeds (rows_numbered u c)
+      (numbered_whole (rows_numbered u c) (numbered seeds is.kept) owners true seeds others)
     where
       owners : (v : ℕ) → is_account_number v ≡ true
           → first_broken (owner_conditions (rows_numbered v (rows_numbered u c))) ≡ None
@@ -329,7 +336,7 @@ module _ (u : ℕ) (c : Content) where
             let at : u ≡ v = grind (arith, nat_tests, same) in
             subst (λ k. first_broken (owner_conditions (rows_numbered k (rows_numbered u c)))
             ≡ None) at (subst (λ d. first_broken (owner_conditions d) ≡ None) (sym own_again)
-            (part_unbroken seeds c is u))
+            (part_unbroken seeds c is.kept u))
         | inr other ↦ subst (λ d. first_broken (owner_conditions d) ≡ None) (sym (no_others v other)) none_owned
       ]
 
@@ -345,6 +352,43 @@ module _ (u : ℕ) (c : Content) where
             (none_wrong seeds v)
       ]
 
+  none_well : (v : ℕ) → IsWellNumberedFor v (state_of no_rows)
+  unfolding IsWellNumbered own state_of
+  none_well v = none_sound v
+
+  part_graded : (seeds : List (List ℕ)) → IsKept seeds c → IsGraded seeds (rows_numbered u c)
+  unfolding rows_numbered
+  part_graded seeds is = All-filter (λ (row : SetRow). owner_of (row.number / 100) == u) (IsGradedSet seeds) c.sets
+      is.graded
+
+  part_sound : (seeds : List (List ℕ)) → IsKept seeds c → (v : ℕ)
+      → IsWellNumberedFor v (own v (state_of (rows_numbered u c)))
+  part_sound seeds is v = subst (IsWellNumberedFor v) (rows_state v part) (elim (cases_Bool (v == u)) [
+    | inl same ↦
+        let at : u ≡ v = grind (arith, nat_tests, same) in
+        subst (λ k. IsWellNumberedFor k (state_of (rows_of k part))) at
+        (subst (λ d. IsWellNumberedFor u (state_of d)) (sym (sym (select u) ∙ own_again
+        ∙ numbers_select u c (owners_unbroken seeds c is))) (well_for seeds c is u))
+    | inr other ↦ subst (λ d. IsWellNumberedFor v (state_of d)) (sym (sym (select v) ∙ no_others v other))
+        (none_well v)
+  ])
+    where
+      part : Content
+      part = rows_numbered u c
+
+      select : (v : ℕ) → rows_numbered v part ≡ rows_of v part
+      select v = numbers_select v part (part_unbroken seeds c is u)
+
+  -- kept records are kept among an account's rows
+  pub part_kept : (seeds : List (List ℕ)) → IsKept seeds c → IsKept seeds (rows_numbered u c)
+  unfolding IsWellNumbered
+  part_kept seeds is = record {
+    sound = part_sound seeds is;
+    counted = subst (λ d. list_all (is_counted d.sets) d.sessions ≡ true)
+        (sym (numbers_select u c (owners_unbroken seeds c is))) (counted_for seeds c is u);
+    graded = part_graded seeds is;
+  }
+
 -- of conditions of which none is broken, none is in either part
 pub none_of_both : (front rest : List (Condition Finding)) → first_broken (front ++ rest) ≡ None
     → (first_broken front ≡ None) × (first_broken rest ≡ None)
@@ -352,15 +396,25 @@ none_of_both front rest none =
     let two = split front rest (none_broken (front ++ rest) none) in
     (all_held front two.0, all_held rest two.1)
 
--- ---- what is found tells that no content is kept
+-- ---- what is found tells that no run leaves the content
 
 module _ (grades : Bool) (seeds : List (List ℕ)) (u : ℕ) (c mine : Content)
     (same : HaveSameRows (rows_numbered u c) mine) (up : AreInOrder mine) (own : rows_numbered u mine ≡ mine)
     (found : Finding) (broken : IsBroken grades seeds u mine found) where
-  pub not_kept : ¬ IsKept seeds c
-  not_kept is =
+  pub not_kept : is_of_certification found.wrong ≡ false → ¬ IsKept seeds c
+  not_kept other is =
       let part = kept_in_order seeds (rows_numbered u c) mine same up (part_kept u c seeds is) in
       let owners = subst (λ d. first_broken (owner_conditions d) ≡ None) own (part_unbroken seeds mine part u) in
+      let others = sym (front_held (owner_conditions mine) (all_conditions grades seeds u mine) owners) ∙ broken in
+      let tells = part_tells seeds mine part grades u found
+      (subst (λ d. first_broken (all_conditions grades seeds u d) ≡ Some found) (sym own) others) in
+      let both_ways : true ≡ false = sym tells ∙ other in
+      absurd (cc (both_ways))
+
+  pub not_left : ¬ IsLeft seeds c
+  not_left is =
+      let part = left_in_order seeds (rows_numbered u c) mine same up (part_left u c seeds is) in
+      let owners = subst (λ d. first_broken (owner_conditions d) ≡ None) own (part_unbroken seeds mine part.kept u) in
       let others = subst (λ d. first_broken (all_conditions grades seeds u d) ≡ None) own
       (account_unbroken seeds mine part grades u) in
       let none = all_held (owner_conditions mine ++ all_conditions grades seeds u mine)

@@ -1,4 +1,4 @@
--- What is wrong with rows tells that no content that they stand for is kept.
+-- What is wrong with rows tells that no run leaves a content that they stand for.
 use Rattle.std.proofs.Common.{ℕ, ℤ, Bool, List}
 use Rattle.sqlite_trees.specs.Tree.{Trees}
 use Rattle.sqlite_trees.proofs.ListLemmas.{all-slice_get}
@@ -23,7 +23,7 @@ use Rattle.acvp_audit.specs.declared.damage.Damage.{Damage}
 use Rattle.acvp_audit.specs.declared.damage.Damage.TheVariants as damage
 use Rattle.acvp_audit.proofs.Kept.{kept_are_within, are_registrable, fit_accounts, fit_sessions, fit_sets, fit_objects}
 use Rattle.acvp_audit.proofs.Kept.{fit_requests, fit_reviewers}
-use Rattle.acvp_audit.proofs.Mine.{selects, ordered, same_rows, not_kept}
+use Rattle.acvp_audit.proofs.Mine.{selects, ordered, same_rows, not_kept, not_left}
 
 -- where a row is outside, not all are inside
 not_within : (layout : Layout) (trees : Trees) (t : Table) (number : ℤ) → HasOutside t number layout trees
@@ -74,13 +74,17 @@ pub refuted_by : (grades : Bool) (seeds : List (List ℕ)) (layout : Layout) (tr
 refuted_by grades seeds layout trees (damage.Outside t number) is = record {
   so = is;
   told = λ c stand texts registrable. is (in_trees layout trees c stand);
-  refuted = λ c stand texts kept. not_within layout trees t number (is (in_trees layout trees c stand))
+  refuted = λ c stand texts left. not_within layout trees t number (is (in_trees layout trees c stand))
+      (kept_are_within seeds c left.kept layout trees stand t);
+  unkept = λ other c stand texts kept. not_within layout trees t number (is (in_trees layout trees c stand))
       (kept_are_within seeds c kept layout trees stand t);
 }
 refuted_by grades seeds layout trees (damage.Stray u t number) is = record {
   so = is;
   told = λ c stand texts registrable. is (in_trees layout trees c stand);
-  refuted = λ c stand texts kept. no_stray layout trees c stand seeds texts kept t u number
+  refuted = λ c stand texts left. no_stray layout trees c stand seeds texts left.kept t u number
+      (is (in_trees layout trees c stand));
+  unkept = λ other c stand texts kept. no_stray layout trees c stand seeds texts kept t u number
       (is (in_trees layout trees c stand));
 }
 refuted_by grades seeds layout trees (damage.Broken u found) is = record {
@@ -94,12 +98,20 @@ refuted_by grades seeds layout trees (damage.Broken u found) is = record {
         ordered layout trees inside it.0 u mine it.1.1,
         it.1.2,
       );
-  refuted = λ c stand texts kept.
+  refuted = λ c stand texts left.
+      let inside = in_trees layout trees c stand in
+      let it = is inside in
+      let mine = it.1.0 in
+      not_left grades seeds u c mine
+      (same_rows layout trees inside it.0 u mine it.1.1 c stand (are_registrable seeds c left.kept))
+      (ordered layout trees inside it.0 u mine it.1.1)
+      (selects layout trees inside it.0 u mine it.1.1) found it.1.2 left;
+  unkept = λ other c stand texts kept.
       let inside = in_trees layout trees c stand in
       let it = is inside in
       let mine = it.1.0 in
       not_kept grades seeds u c mine
       (same_rows layout trees inside it.0 u mine it.1.1 c stand (are_registrable seeds c kept))
       (ordered layout trees inside it.0 u mine it.1.1)
-      (selects layout trees inside it.0 u mine it.1.1) found it.1.2 kept;
+      (selects layout trees inside it.0 u mine it.1.1) found it.1.2 other kept;
 }

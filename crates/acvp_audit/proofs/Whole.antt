@@ -20,16 +20,17 @@ use Rattle.acvp_tables.specs.declared.rows.SetRow.{SetRow}
 use Rattle.acvp_tables.specs.declared.rows.ObjectRow.{ObjectRow}
 use Rattle.acvp_tables.specs.declared.rows.RequestRow.{RequestRow}
 use Rattle.acvp_tables.specs.declared.rows.ReviewerRow.{ReviewerRow}
-use Rattle.acvp_check.specs.Conditions.{account_conditions, all_conditions, is_disposed, set_row_conditions}
+use Rattle.acvp_check.specs.Conditions.{account_conditions, all_conditions, certification_conditions, is_disposed}
+use Rattle.acvp_check.specs.Conditions.{kept_conditions, set_row_conditions}
 use Rattle.acvp_check.specs.Owners.{owner_conditions}
 use Rattle.acvp_check.specs.Rows.{AreNumbered, rows_numbered}
 use Rattle.acvp_check.specs.Whole.{IsWhole}
 use Rattle.acvp_tables.specs.State.{of_all}
 use Rattle.acvp_tables.proofs.KeptLemmas.{list_all_weaker}
-use Rattle.acvp_check.proofs.AccountLemmas.{parts, sets_hold, set_holds}
+use Rattle.acvp_check.proofs.AccountLemmas.{parts, sets_hold, set_holds, split}
 use Rattle.acvp_check.proofs.Holds.{all_both, holds, joint, none_broken}
 use Rattle.acvp_check.proofs.NumberedRows.{numbered_whole}
-use Rattle.acvp_check.proofs.WholeLemmas.{kept, whole_sound, whole_counted}
+use Rattle.acvp_check.proofs.WholeLemmas.{left, whole_sound, whole_counted, whole_certified}
 use Rattle.acvp_store.specs.Adopted.{IsOurs}
 use Rattle.acvp_store.specs.Ranges.{is_column_between, IsRegisteredWithin, first_number, last_number, joined}
 use Rattle.acvp_store.specs.Rows.{account_key, account_row, HoldsAccounts}
@@ -41,7 +42,7 @@ use Rattle.acvp_store.proofs.RangeJoins.{joined_whole, kept_nothing, kept_both, 
 use Rattle.acvp_store.proofs.RequestRanges.{requests_whole}
 use Rattle.acvp_store.proofs.ReviewerRanges.{reviewers_joined}
 use Rattle.acvp_store.proofs.SetRanges.{sets_joined}
-use Rattle.acvp_audit.specs.Checked.{totals_of, plus, totals_to, IsFine, AreKeptAs, IsWholeAs, is_seeded}
+use Rattle.acvp_audit.specs.Checked.{totals_of, plus, totals_to, IsFine, AreLeftAs, IsWholeAs, is_seeded}
 use Rattle.acvp_audit.specs.Wrong.{AreWithin}
 use Rattle.acvp_audit.specs.Read.{AreInTrees, AreRowsOf}
 use Rattle.acvp_audit.specs.Private.Looks.{AreFineTo}
@@ -126,8 +127,11 @@ module _ (grades : Bool) (seeds : List (List ℕ)) (layout : Layout) (trees : Tr
 module _ (seeds : List (List ℕ)) where
   seeded_sets : (u : ℕ) (mine : Content) → first_broken (account_conditions seeds u mine) ≡ None
       → list_all (is_seeded seeds) mine.sets ≡ true
+  unfolding account_conditions
   seeded_sets u mine none =
-      let rows = sets_hold seeds mine (parts seeds u mine (none_broken (account_conditions seeds u mine) none)).sets in
+      let kept = (split (kept_conditions seeds u mine) (certification_conditions mine)
+      (none_broken (account_conditions seeds u mine) none)).0 in
+      let rows = sets_hold seeds mine (parts seeds u mine kept).sets in
       let seeded = list_all_weaker (λ r. holds (set_row_conditions seeds mine r))
       (λ (r : SetRow). is_some (slice_get seeds r.epoch)) (λ r h. (set_holds seeds mine r h).seed) mine.sets rows in
       let disposed = list_all_weaker (λ r. holds (set_row_conditions seeds mine r))
@@ -281,10 +285,11 @@ module _ (grades : Bool) (seeds : List (List ℕ)) (db : Database) (ours : IsOur
       (λ u there low. subst (λ g. first_broken (all_conditions g seeds u (list u)) ≡ None) off
       (all.fine u there low).others)
 
-kept_as : (grades : Bool) (seeds : List (List ℕ)) (c : Content) → IsWhole grades seeds c
-    → (grades ≡ false → list_all (is_seeded seeds) c.sets ≡ true) → AreKeptAs grades seeds c
-kept_as true seeds c is more = kept seeds c is
-kept_as false seeds c is more = (whole_sound false seeds c is, whole_counted false seeds c is, more refl)
+left_as : (grades : Bool) (seeds : List (List ℕ)) (c : Content) → IsWhole grades seeds c
+    → (grades ≡ false → list_all (is_seeded seeds) c.sets ≡ true) → AreLeftAs grades seeds c
+left_as true seeds c is more = left seeds c is
+left_as false seeds c is more =
+    (whole_sound false seeds c is, whole_counted false seeds c is, more refl, whole_certified false seeds c is)
 
 pub is_whole : (grades : Bool) (seeds : List (List ℕ)) (db : Database) (ours : IsOurs db)
     → AreInTrees ours.layout db.trees → AreWithin ours.layout db.trees → (totals : Totals)
@@ -292,7 +297,7 @@ pub is_whole : (grades : Bool) (seeds : List (List ℕ)) (db : Database) (ours :
 is_whole grades seeds db ours inside within totals all = record {
   records = records grades seeds db ours inside within totals all;
   stand = stand grades seeds db ours inside within totals all;
-  kept = kept_as grades seeds _ (whole grades seeds db ours inside within totals all)
+  left = left_as grades seeds _ (whole grades seeds db ours inside within totals all)
       (seeded grades seeds db ours inside within totals all);
   counted = counted grades seeds db ours inside within totals all;
 }

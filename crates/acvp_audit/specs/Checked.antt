@@ -5,10 +5,11 @@ use Rattle.std.specs.List.{AllByRecursion, list_all}
 use Rattle.sqlite.specs.State.{State, HasCleanDisk}
 use Rattle.sqlite_trees.specs.Tree.{Trees}
 use Rattle.acvp_mac.specs.Conditions.{first_broken}
-use Rattle.acvp_check.specs.Conditions.{all_conditions, is_disposed}
+use Rattle.acvp_check.specs.Conditions.{all_conditions, is_disposed, is_of_certification}
 use Rattle.acvp_check.specs.Order.{HaveSameRows, AreInOrder}
 use Rattle.acvp_check.specs.Owners.{owner_conditions}
 use Rattle.acvp_check.specs.Rows.{rows_numbered}
+use Rattle.acvp_desk.specs.Certifications.{AreCertified, IsLeft}
 use Rattle.acvp_desk.specs.Kept.{IsKept}
 use Rattle.acvp_tables.specs.Content.{Content}
 use Rattle.acvp_tables.specs.Counted.{IsCounted}
@@ -74,18 +75,19 @@ totals_to lists (suc u) = plus (totals_to lists u) (totals_of (lists (suc u)))
 abbrev pub is_seeded : List (List ℕ) → SetRow → Bool
 is_seeded seeds row = is_some (slice_get seeds row.epoch) && of_all is_disposed row.graded
 
--- The records are kept. Without the verdicts on the answers they are well numbered and counted, and what else is asked
--- of vector sets is so.
-abbrev pub AreKeptAs : Bool → List (List ℕ) → Content → Type 0
-AreKeptAs true seeds c = IsKept seeds c
-AreKeptAs false seeds c = AreWellNumbered c × IsCounted c × (list_all (is_seeded seeds) c.sets ≡ true)
+-- The records have what every run keeps. Without the verdicts on the answers they are well numbered, counted and
+-- certified so, and what else is asked of vector sets is so.
+abbrev pub AreLeftAs : Bool → List (List ℕ) → Content → Type 0
+AreLeftAs true seeds c = IsLeft seeds c
+AreLeftAs false seeds c =
+    AreWellNumbered c × IsCounted c × (list_all (is_seeded seeds) c.sets ≡ true) × AreCertified c
 
--- The rows stand for records that are kept, so many in all.
+-- The rows stand for records that have what every run keeps, so many in all.
 pub record IsWholeAs (grades : Bool) (seeds : List (List ℕ)) (layout : Layout) (trees : Trees) (totals : Totals)
     : Type 0 where
   pub records : Content
   pub stand : Stands layout trees records
-  pub kept : AreKeptAs grades seeds records
+  pub left : AreLeftAs grades seeds records
   pub counted : totals ≡ totals_of records
 
 -- What is told of a content that the rows stand for. A row with the number that is told lies outside the numbers of
@@ -98,15 +100,24 @@ IsTold grades seeds layout trees c (damage.Stray u t number) = HasStray t u numb
 IsTold grades seeds layout trees c (damage.Broken u found) =
     (mine : Content) × HaveSameRows (rows_numbered u c) mine × AreInOrder mine × IsBroken grades seeds u mine found
 
--- What is told is so of the rows. Whatever content they stand for, with texts of capabilities in UTF-8, it isn't kept.
--- And what is told is so of the content, where each registration that was asked for is of one of the three kinds.
+-- what is wrong is with a certification alone
+abbrev pub is_uncertified : Damage → Bool
+is_uncertified (damage.Outside t number) = false
+is_uncertified (damage.Stray u t number) = false
+is_uncertified (damage.Broken u found) = is_of_certification found.wrong
+
+-- What is told is so of the rows. Whatever content they stand for, with texts of capabilities in UTF-8, no run leaves
+-- it; and unless what is wrong is with a certification alone, it isn't kept. And what is told is so of the content,
+-- where each registration that was asked for is of one of the three kinds.
 pub record IsRefuted (grades : Bool) (seeds : List (List ℕ)) (layout : Layout) (trees : Trees) (found : Damage)
     : Type 0 where
   pub so : AreInTrees layout trees → IsDamagedIn grades seeds layout trees found
   pub told : (c : Content) → Stands layout trees c → KeepsSets (trees (set_tree layout)) c.sets
       → AllByRecursion (λ (row : RequestRow). IsRegistrable row.body) c.requests
       → IsTold grades seeds layout trees c found
-  pub refuted : (c : Content) → Stands layout trees c → KeepsSets (trees (set_tree layout)) c.sets → ¬ IsKept seeds c
+  pub refuted : (c : Content) → Stands layout trees c → KeepsSets (trees (set_tree layout)) c.sets → ¬ IsLeft seeds c
+  pub unkept : is_uncertified found ≡ false → (c : Content) → Stands layout trees c
+      → KeepsSets (trees (set_tree layout)) c.sets → ¬ IsKept seeds c
 
 -- the place of a table among those in which rows outside are looked for
 abbrev pub position : Table → ℕ

@@ -188,11 +188,11 @@ fn confirmed<S: Alter>(tables: &mut SqlTables<S>, found: Damage) -> AuditFault
     }
 }
 
-/// Whether the rows of a database stand for records that are kept under these seeds, and how many rows there are. What
-/// is looked at comes in this order: that no row of accounts, sessions, vector sets, objects, requests and reviewers
-/// has a number outside those of the accounts 1 to 9999; and then, for one account after another, that each of the rows
-/// with its numbers stands for something, whose it is, and the conditions of `judge_account`, with the verdicts or
-/// without. The rows of one account are in memory at a time.
+/// Whether the rows of a database stand for records that have what every run keeps under these seeds, and how many rows
+/// there are. What is looked at comes in this order: that no row of accounts, sessions, vector sets, objects, requests
+/// and reviewers has a number outside those of the accounts 1 to 9999; and then, for one account after another, that
+/// each of the rows with its numbers stands for something, whose it is, and the conditions of `judge_account`, with the
+/// verdicts or without. The rows of one account are in memory at a time.
 pub fn check<S: Alter, W: Watch>(
     alloc: Global,
     tables: &mut SqlTables<S>,

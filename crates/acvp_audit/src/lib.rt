@@ -1,4 +1,4 @@
-//! Whether the rows of a database stand for records that are kept.
+//! Whether the rows of a database stand for records that have what every run keeps.
 #![tactic(auto)]
 
 mod checking;

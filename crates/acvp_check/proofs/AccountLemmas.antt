@@ -30,7 +30,7 @@ use Rattle.acvp_check.specs.Conditions.{is_disposed, set_row_conditions, set_con
 use Rattle.acvp_check.specs.Conditions.{request_conditions, object_row_conditions, object_key, kind_conditions}
 use Rattle.acvp_check.specs.Conditions.{all_kinds_conditions, object_conditions}
 use Rattle.acvp_check.specs.Conditions.{reviewers_in, reviewers_at, reviewer_own_conditions, reviewer_count_conditions}
-use Rattle.acvp_check.specs.Conditions.{reviewer_row_conditions, reviewer_conditions, account_conditions}
+use Rattle.acvp_check.specs.Conditions.{reviewer_row_conditions, reviewer_conditions, kept_conditions}
 use Rattle.acvp_check.proofs.Joins.{found_any, session_there}
 use Rattle.acvp_check.proofs.Holds.{holds, both, joint, holds-joined, holds-each, numbers_rise, numbered_records}
 use Rattle.acvp_check.proofs.Holds.{at_passing, none_passing, none_without, then_holds, holds_then}
@@ -82,9 +82,8 @@ pub record Parts (seeds : List (List ℕ)) (u : ℕ) (mine : Content) : Type 0 w
   pub objects : holds (object_conditions u mine) ≡ true
   pub reviewers : holds (reviewer_conditions mine) ≡ true
 
-pub parts : (seeds : List (List ℕ)) (u : ℕ) (mine : Content) → holds (account_conditions seeds u mine) ≡ true
+pub parts : (seeds : List (List ℕ)) (u : ℕ) (mine : Content) → holds (kept_conditions seeds u mine) ≡ true
     → Parts seeds u mine
-unfolding account_conditions
 parts seeds u mine e =
     let two = own_row_conditions u mine ++ session_conditions u mine in
     let three = two ++ set_conditions seeds mine in
@@ -98,8 +97,7 @@ parts seeds u mine e =
     record { own = h.0; sessions = h.1; sets = f.1; requests = d.1; objects = b.1; reviewers = a.1 }
 
 pub whole : (seeds : List (List ℕ)) (u : ℕ) (mine : Content) → Parts seeds u mine
-    → holds (account_conditions seeds u mine) ≡ true
-unfolding account_conditions
+    → holds (kept_conditions seeds u mine) ≡ true
 whole seeds u mine p =
     let two = own_row_conditions u mine ++ session_conditions u mine in
     let three = two ++ set_conditions seeds mine in
@@ -381,7 +379,7 @@ once_at mine all s a = elim (cases_Bool (list_any (λ row. (row.session == s) &&
         let of : row.account ≡ a = grind (arith, nat_tests, e) in
         rw (at, of) refl
 
-pub well : (seeds : List (List ℕ)) (u : ℕ) (mine : Content) → holds (account_conditions seeds u mine) ≡ true
+pub well : (seeds : List (List ℕ)) (u : ℕ) (mine : Content) → holds (kept_conditions seeds u mine) ≡ true
     → IsWellNumberedFor u (state_of mine)
 unfolding state_of
 well seeds u mine e =
@@ -452,7 +450,7 @@ well seeds u mine e =
       pairs_once = once_at mine reviewers.once;
     }
 
-pub counted : (seeds : List (List ℕ)) (u : ℕ) (mine : Content) → holds (account_conditions seeds u mine) ≡ true
+pub counted : (seeds : List (List ℕ)) (u : ℕ) (mine : Content) → holds (kept_conditions seeds u mine) ≡ true
     → list_all (is_counted mine.sets) mine.sessions ≡ true
 counted seeds u mine e =
     list_all_weaker (λ r. holds (session_row_conditions mine r)) (is_counted mine.sets)

@@ -24,7 +24,7 @@ use Rattle.acvp_check.specs.Conditions.{is_disposed, set_row_conditions, set_con
 use Rattle.acvp_check.specs.Conditions.{request_conditions, object_row_conditions, object_key, kind_conditions}
 use Rattle.acvp_check.specs.Conditions.{all_kinds_conditions, object_conditions}
 use Rattle.acvp_check.specs.Conditions.{reviewers_in, reviewers_at, reviewer_own_conditions, reviewer_count_conditions}
-use Rattle.acvp_check.specs.Conditions.{reviewer_row_conditions, reviewer_conditions, account_conditions}
+use Rattle.acvp_check.specs.Conditions.{reviewer_row_conditions, reviewer_conditions, kept_conditions}
 use Rattle.acvp_check.proofs.Joins.{session_there}
 use Rattle.acvp_check.proofs.Holds.{holds, joint, all_both, rising_numbers, numbered_rows, each_passes}
 use Rattle.acvp_check.proofs.AccountLemmas.{join, to_each, rows_all, records_any, set_records, is_within, whole}
@@ -192,7 +192,7 @@ pub held : (seeds : List (List ℕ)) (u : ℕ) (mine : Content) → IsWellNumber
     → list_all (is_counted mine.sets) mine.sessions ≡ true
     → list_all (λ row. is_some (slice_get seeds row.epoch)) mine.sets ≡ true
     → list_all (λ row. of_all is_disposed row.graded) mine.sets ≡ true
-    → holds (account_conditions seeds u mine) ≡ true
+    → holds (kept_conditions seeds u mine) ≡ true
 held seeds u mine well counted seeded disposed = whole seeds u mine (record {
   own = holds_own_row u mine well;
   sessions = holds_sessions u mine well counted;

@@ -3,6 +3,7 @@ pub mod Holds
 pub mod AccountLemmas
 pub mod GradedLemmas
 pub mod HeldLemmas
+pub mod CertificationLemmas
 pub mod WholeLemmas
 pub mod NumberedRows
 pub mod OrderLemmas

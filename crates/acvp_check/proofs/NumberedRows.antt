@@ -1,8 +1,9 @@
 -- What the conditions on the rows with each account's numbers tell of all rows.
-use Rattle.std.proofs.Common.{◌≡◌, ℕ, ◌/◌, Bool, true, List, None, refl, sym, subst, inl, inr}
+use Rattle.std.proofs.Common.{◌≡◌, ℕ, ◌/◌, Bool, true, List, None, Some, refl, sym, subst, inl, inr}
 use Rattle.std.specs.Prelude.{filter, ◌==◌}
 use Rattle.std.specs.List.{list_all}
 use Rattle.std.proofs.lemmas.Bool.{cases_Bool}
+use Rattle.acvp_desk.specs.Certifications.{IsLeft}
 use Rattle.acvp_desk.specs.Kept.{IsKept}
 use Rattle.acvp_mac.specs.Conditions.{first_broken}
 use Rattle.acvp_tables.specs.Content.{Content}
@@ -15,13 +16,14 @@ use Rattle.acvp_tables.specs.declared.rows.RequestRow.{RequestRow}
 use Rattle.acvp_tables.specs.declared.rows.ReviewerRow.{ReviewerRow}
 use Rattle.acvp_tables.proofs.KeptLemmas.{list_all-filter}
 use Rattle.acvp_tables.proofs.Numbers.{by_class, eqb_same}
-use Rattle.acvp_check.specs.Conditions.{all_conditions}
+use Rattle.acvp_check.specs.Conditions.{all_conditions, is_of_certification}
+use Rattle.acvp_check.specs.declared.finding.Finding.{Finding}
 use Rattle.acvp_check.specs.Owners.{is_of, is_in, owner_conditions}
 use Rattle.acvp_check.specs.Rows.{AreNumbered, rows_numbered}
 use Rattle.acvp_check.specs.Whole.{IsWhole}
 use Rattle.acvp_check.proofs.Holds.{all_held, none_broken, none_without}
 use Rattle.acvp_check.proofs.WholeLemmas.{Owned, kept_owned, not_at, numbers_select, owned, owners_hold}
-use Rattle.acvp_check.proofs.WholeLemmas.{owners_unbroken, unbroken}
+use Rattle.acvp_check.proofs.WholeLemmas.{kept_tells, owners_unbroken, unbroken}
 
 -- what holds of the rows of each account holds of all, where each is of one
 of_accounts : {R : Type 0} (class : R → ℕ) (p : R → Bool) (rows : List R)
@@ -89,8 +91,15 @@ module _ (seeds : List (List ℕ)) (c : Content) (is : IsKept seeds c) where
   pub part_unbroken : (u : ℕ) → first_broken (owner_conditions (rows_numbered u c)) ≡ None
   part_unbroken u = all_held (owner_conditions (rows_numbered u c)) (owners_hold (rows_numbered u c) (kept_part u))
 
-  pub account_unbroken : (grades : Bool) (u : ℕ) → first_broken (all_conditions grades seeds u (rows_numbered u c))
-      ≡ None
-  account_unbroken grades u =
-      subst (λ mine. first_broken (all_conditions grades seeds u mine) ≡ None)
-      (sym (numbers_select u c (owners_unbroken seeds c is))) (unbroken seeds c is grades u)
+pub part_tells : (seeds : List (List ℕ)) (c : Content) → IsKept seeds c → (grades : Bool) (u : ℕ) (found : Finding)
+    → first_broken (all_conditions grades seeds u (rows_numbered u c)) ≡ Some found
+    → is_of_certification found.wrong ≡ true
+part_tells seeds c is grades u found broken = kept_tells seeds c is grades u found
+    (subst (λ mine. first_broken (all_conditions grades seeds u mine) ≡ Some found)
+    (numbers_select u c (owners_unbroken seeds c is)) broken)
+
+pub account_unbroken : (seeds : List (List ℕ)) (c : Content) → IsLeft seeds c → (grades : Bool) (u : ℕ)
+    → first_broken (all_conditions grades seeds u (rows_numbered u c)) ≡ None
+account_unbroken seeds c is grades u =
+    subst (λ mine. first_broken (all_conditions grades seeds u mine) ≡ None)
+    (sym (numbers_select u c (owners_unbroken seeds c is.kept))) (unbroken seeds c is grades u)

@@ -3,6 +3,7 @@ use Rattle.std.proofs.Common.{◌≡◌, ℕ, ◌≤◌, Bool, true, List, lengt
 use Rattle.std.specs.Prelude.{filter, not, ◌&&◌, ◌==◌, nat_lt, is_some}
 use Rattle.std.specs.List.{list_all, list_any}
 use Rattle.std.proofs.lemmas.List.Sorted.{All-permutation}
+use Rattle.acvp_desk.specs.Certifications.{IsLeft}
 use Rattle.acvp_desk.specs.Kept.{IsGradedSet, IsKept}
 use Rattle.acvp_registry.specs.Object.{KeptObject, object_fault, object_vendor}
 use Rattle.acvp_registry.specs.declared.kind.Kind.{Kind}
@@ -24,6 +25,8 @@ use Rattle.acvp_tables.specs.declared.rows.RequestBody.TheVariants as body
 use Rattle.acvp_tables.specs.declared.rows.ReviewerRow.{ReviewerRow}
 use Rattle.acvp_tables.proofs.KeptLemmas.{list_all_weaker}
 use Rattle.acvp_check.specs.Order.{HaveSameRows, AreInOrder, rises}
+use Rattle.acvp_check.proofs.CertificationLemmas.{certified_in_order}
+use Rattle.acvp_check.proofs.WholeLemmas.{well_for}
 use Rattle.acvp_check.proofs.OrderLemmas.{Alike, permuted, alike_all, alike_any, alike_found, alike_length}
 use Rattle.acvp_check.proofs.OrderLemmas.{alike_filter, alike_map, rises_filter, rises_map, filter_swap, in_order}
 
@@ -210,4 +213,10 @@ module _ (seeds : List (List ℕ)) (c d : Content) (same : HaveSameRows c d) (up
     counted = all_same (is_counted c.sets) (is_counted d.sets) counted_alike d.sessions
         (alike_all (is_counted c.sets) c.sessions d.sessions (permuted c.sessions d.sessions same.sessions) is.counted);
     graded = All-permutation (IsGradedSet seeds) c.sets d.sets same.sets is.graded;
+  }
+
+  pub left_in_order : IsLeft seeds c → IsLeft seeds d
+  left_in_order is = record {
+    kept = kept_in_order is.kept;
+    certified = certified_in_order c d is.kept.sound same (well_for seeds c is.kept) is.certified;
   }

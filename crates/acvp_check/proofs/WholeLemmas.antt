@@ -1,11 +1,12 @@
 -- The conditions on all accounts' rows hold exactly where the records are kept.
-use Rattle.std.proofs.Common.{◌≡◌, ℕ, ◌+◌, ◌/◌, ◌≤◌, Bool, true, false, List, [], ◌∷◌, ◌++◌, length, map, get_or, None}
+use Rattle.std.proofs.Common.{◌≡◌, ℕ, ◌+◌, ◌/◌, ◌≤◌, Bool, true, false, List, [], ◌∷◌, ◌++◌, length, map, get_or, None, Some}
 use Rattle.std.proofs.Common.{refl, sym, ap, subst, ◌∙◌, inl, inr, arith}
 use Rattle.std.specs.Prelude.{filter, not, ◌&&◌, ◌==◌, nat_lt, find, is_some, slice_get}
 use Rattle.std.specs.List.{flat_map, list_all}
 use Rattle.std.proofs.lemmas.Bool.{cases_Bool}
 use Rattle.std.proofs.lemmas.Bool.Decides.{nat_tests}
 use Rattle.std.proofs.lemmas.List.Sums.{AllPass-from_list_all, list_all-from_AllPass}
+use Rattle.acvp_desk.specs.Certifications.{AreCertified, IsLeft}
 use Rattle.acvp_desk.specs.Kept.{IsGradedSet, IsGraded, IsKept}
 use Rattle.acvp_mac.specs.Conditions.{first_broken}
 use Rattle.acvp_tables.specs.Content.{Content, no_rows, is_live_in}
@@ -21,19 +22,24 @@ use Rattle.acvp_tables.specs.declared.rows.RequestRow.{RequestRow}
 use Rattle.acvp_tables.specs.declared.rows.ReviewerRow.{ReviewerRow}
 use Rattle.acvp_tables.proofs.KeptLemmas.{list_all_weaker, list_all-filter}
 use Rattle.acvp_tables.proofs.Numbers.{by_class, eqb_same, filter-within, keyed, sessions_keyed}
-use Rattle.acvp_check.specs.Conditions.{is_disposed, is_right, account_conditions, own_row_conditions}
+use Rattle.acvp_check.specs.Conditions.{is_disposed, is_right, account_conditions, kept_conditions, own_row_conditions}
 use Rattle.acvp_check.specs.Conditions.{session_conditions, set_row_conditions, set_conditions, request_conditions}
 use Rattle.acvp_check.specs.Conditions.{object_conditions, all_kinds_conditions}
-use Rattle.acvp_check.specs.Conditions.{reviewer_conditions, verdict_row_conditions, verdict_conditions, all_conditions}
+use Rattle.acvp_check.specs.Conditions.{reviewer_conditions, certification_conditions, is_of_certification}
+use Rattle.acvp_check.specs.Conditions.{verdict_row_conditions}
+use Rattle.acvp_check.specs.Conditions.{verdict_conditions, all_conditions}
 use Rattle.acvp_check.specs.Owners.{is_of, is_in, account_owner, session_owner, set_owner, object_owner, request_owner}
 use Rattle.acvp_check.specs.Owners.{reviewer_owner, session_owners, registry_owners, owner_conditions}
 use Rattle.acvp_check.specs.Rows.{rows_of, rows_numbered}
 use Rattle.acvp_check.specs.Whole.{IsWhole}
 use Rattle.acvp_check.proofs.Holds.{holds, none_broken, all_held, both, joint, all_both, at_passing, each_passes}
 use Rattle.acvp_check.proofs.Holds.{none_without}
-use Rattle.acvp_check.proofs.Joins.{found_any}
+use Rattle.acvp_check.proofs.Joins.{apart, found_any}
 use Rattle.acvp_check.proofs.AccountLemmas.{split, join, of_each, to_each, rows_all, well, counted, parts, sets_hold}
 use Rattle.acvp_check.proofs.AccountLemmas.{set_holds}
+use Rattle.acvp_check.specs.declared.finding.Finding.{Finding}
+use Rattle.acvp_desk.proofs.FirstBroken.{front_held}
+use Rattle.acvp_check.proofs.CertificationLemmas.{all_certified, certification_found, certifications_hold, either_broken}
 use Rattle.acvp_check.proofs.GradedLemmas.{graded_set, set_graded}
 use Rattle.acvp_check.proofs.HeldLemmas.{held, last_holds}
 
@@ -169,7 +175,7 @@ numbers_select u c none =
 
 none_wrong : (grades : Bool) (seeds : List (List ℕ)) (u : ℕ) → holds (all_conditions grades seeds u no_rows) ≡ true
 unfolding account_conditions own_row_conditions session_conditions set_conditions request_conditions object_conditions
-    all_kinds_conditions reviewer_conditions verdict_conditions state_of
+    all_kinds_conditions reviewer_conditions certification_conditions verdict_conditions state_of
 none_wrong true seeds u = refl
 none_wrong false seeds u = refl
 
@@ -193,9 +199,18 @@ module _ (grades : Bool) (seeds : List (List ℕ)) (c : Content) (is : IsWhole g
   account_holds : (u : ℕ) → holds (account_conditions seeds u (rows_of u c)) ≡ true
   account_holds u = plain grades seeds u (rows_of u c) (all_hold grades seeds c is u)
 
+  two_hold : (u : ℕ) → (holds (kept_conditions seeds u (rows_of u c)) ≡ true)
+      × (holds (certification_conditions (rows_of u c)) ≡ true)
+  unfolding account_conditions
+  two_hold u = split (kept_conditions seeds u (rows_of u c)) (certification_conditions (rows_of u c)) (account_holds u)
+
   pub whole_sound : AreWellNumbered c
   unfolding IsWellNumbered
-  whole_sound = λ u. subst (IsWellNumberedFor u) (rows_state u c) (well seeds u (rows_of u c) (account_holds u))
+  whole_sound = λ u. subst (IsWellNumberedFor u) (rows_state u c) (well seeds u (rows_of u c) (two_hold u).0)
+
+  pub whole_certified : AreCertified c
+  whole_certified = all_certified c whole_sound
+      (λ u. (two_hold u).1)
 
   pub whole_counted : IsCounted c
   unfolding rows_of
@@ -204,7 +219,7 @@ module _ (grades : Bool) (seeds : List (List ℕ)) (c : Content) (is : IsWhole g
       is_counted (filter (λ s. owner_of s.session == row.account) c.sets) row) c.sessions ≡ true =
       by_class (λ a b. a == b) (λ (row : SessionRow). row.account)
       (λ u row. is_counted (filter (λ s. owner_of s.session == u) c.sets) row) eqb_same c.sessions
-      (λ u. counted seeds u (rows_of u c) (account_holds u)) in
+      (λ u. counted seeds u (rows_of u c) (two_hold u).0) in
       list_all_weaker (λ (row : SessionRow). is_of row.account row.number && is_counted
       (filter (λ s. owner_of s.session == row.account) c.sets) row) (is_counted c.sets)
       (λ row e.
@@ -231,7 +246,7 @@ module _ (seeds : List (List ℕ)) (c : Content) (is : IsWhole true seeds c) whe
   unfolding rows_of verdict_conditions set_bool
   sets_graded u =
       let mine = rows_of u c in
-      let rows = sets_hold seeds mine (parts seeds u mine (account_holds true seeds c is u)).sets in
+      let rows = sets_hold seeds mine (parts seeds u mine (two_hold true seeds c is u).0).sets in
       let seeded = list_all_weaker (λ r. holds (set_row_conditions seeds mine r))
       (λ (r : SetRow). is_some (slice_get seeds r.epoch)) (λ r h. (set_holds seeds mine r h).seed) mine.sets rows in
       let disposed = list_all_weaker (λ r. holds (set_row_conditions seeds mine r))
@@ -258,19 +273,26 @@ module _ (seeds : List (List ℕ)) (c : Content) (is : IsWhole true seeds c) whe
   pub kept : IsKept seeds c
   kept = record { sound = whole_sound true seeds c is; counted = whole_counted true seeds c is; graded = whole_graded }
 
--- ---- kept records break no condition
+  pub left : IsLeft seeds c
+  left = record { kept = kept; certified = whole_certified true seeds c is }
+
+-- ---- kept records meet the conditions but those on certifications
+
+pub well_for : (seeds : List (List ℕ)) (c : Content) → IsKept seeds c → (u : ℕ)
+    → IsWellNumberedFor u (state_of (rows_of u c))
+unfolding IsWellNumbered
+well_for seeds c is u = subst (IsWellNumberedFor u) (sym (rows_state u c)) (is.sound u)
 
 module _ (seeds : List (List ℕ)) (c : Content) (is : IsKept seeds c) where
-  well_for : (u : ℕ) → IsWellNumberedFor u (state_of (rows_of u c))
-  unfolding IsWellNumbered
-  well_for u = subst (IsWellNumberedFor u) (sym (rows_state u c)) (is.sound u)
+  wells : (u : ℕ) → IsWellNumberedFor u (state_of (rows_of u c))
+  wells = well_for seeds c is
 
   keyed_for : (u : ℕ) → list_all (λ (row : SessionRow). owner_of row.number == u) (rows_of u c).sessions ≡ true
   unfolding state_of
   keyed_for u = rows_all session_record (λ row. owner_of row.number == u) (rows_of u c).sessions
-      (sessions_keyed u (state_of (rows_of u c)) (well_for u))
+      (sessions_keyed u (state_of (rows_of u c)) (wells u))
 
-  counted_for : (u : ℕ) → list_all (is_counted (rows_of u c).sets) (rows_of u c).sessions ≡ true
+  pub counted_for : (u : ℕ) → list_all (is_counted (rows_of u c).sets) (rows_of u c).sessions ≡ true
   unfolding rows_of
   counted_for u =
       list_all_weaker (λ (row : SessionRow). (owner_of row.number == u) && is_counted c.sets row)
@@ -306,13 +328,46 @@ module _ (seeds : List (List ℕ)) (c : Content) (is : IsKept seeds c) where
       (list_all-from_AllPass (is_right seeds) c.sets
       (λ k d l. (set_graded seeds (get_or c.sets k d) (is.graded k d l)).right))))
 
+  kept_for : (u : ℕ) → holds (kept_conditions seeds u (rows_of u c)) ≡ true
+  kept_for u = held seeds u (rows_of u c) (wells u) (counted_for u) (seeded_for u) (disposed_for u)
+
+  -- so what is wrong is with a certification
+  pub kept_tells : (grades : Bool) (u : ℕ) (found : Finding)
+      → first_broken (all_conditions grades seeds u (rows_of u c)) ≡ Some found
+      → is_of_certification found.wrong ≡ true
+  unfolding account_conditions
+  kept_tells grades u found broken = go grades broken
+    where
+      mine : Content
+      mine = rows_of u c
+
+      plainly : first_broken (account_conditions seeds u mine) ≡ Some found → is_of_certification found.wrong ≡ true
+      plainly broken = certification_found mine found
+          (sym (front_held (kept_conditions seeds u mine) (certification_conditions mine)
+          (all_held (kept_conditions seeds u mine) (kept_for u))) ∙ broken)
+
+      go : (grades : Bool) → first_broken (all_conditions grades seeds u mine) ≡ Some found
+          → is_of_certification found.wrong ≡ true
+      go false broken = plainly broken
+      go true broken = elim (either_broken (account_conditions seeds u mine) (verdict_conditions seeds mine) found
+          broken) [
+            | inl first ↦ plainly first
+            | inr last ↦ absurd (apart _ found last (all_held (verdict_conditions seeds mine) (right_for u)))
+          ]
+
+-- ---- records that are left break no condition
+
+module _ (seeds : List (List ℕ)) (c : Content) (left : IsLeft seeds c) where
   account_for : (u : ℕ) → holds (account_conditions seeds u (rows_of u c)) ≡ true
-  account_for u = held seeds u (rows_of u c) (well_for u) (counted_for u) (seeded_for u) (disposed_for u)
+  unfolding account_conditions
+  account_for u = join (kept_conditions seeds u (rows_of u c)) (certification_conditions (rows_of u c))
+      (kept_for seeds c left.kept u)
+      (certifications_hold c left.kept.sound (well_for seeds c left.kept) left.certified u)
 
   pub unbroken : (grades : Bool) (u : ℕ) → first_broken (all_conditions grades seeds u (rows_of u c)) ≡ None
   unbroken true u = all_held (all_conditions true seeds u (rows_of u c))
       (join (account_conditions seeds u (rows_of u c)) (verdict_conditions seeds (rows_of u c)) (account_for u)
-      (right_for u))
+      (right_for seeds c left.kept u))
   unbroken false u = all_held (all_conditions false seeds u (rows_of u c)) (account_for u)
 
 -- ---- whose the rows of kept records are

@@ -11,6 +11,7 @@ use Rattle.acvp_answers.specs.declared.verdict.Disposition.{Disposition}
 use Rattle.acvp_answers.specs.declared.verdict.Disposition.TheVariants as disposition
 use Rattle.acvp_answers.specs.declared.verdict.Verdict.{Verdict}
 use Rattle.acvp_answers.specs.declared.verdict.Verdict.TheVariants as verdict
+use Rattle.acvp_desk.specs.Certifications.{is_certifiable, is_last}
 use Rattle.acvp_gen.specs.Prompts.{prompts_of}
 use Rattle.acvp_registry.specs.declared.kind.Kind.{Kind}
 use Rattle.acvp_registry.specs.declared.kind.Kind.TheVariants.{Vendor, Module, Environment, Certification}
@@ -197,13 +198,39 @@ reviewer_row_conditions mine row = reviewer_own_conditions mine row ++ reviewer_
 unfoldable pub reviewer_conditions : Content → List (Condition Finding)
 reviewer_conditions mine = flat_map (reviewer_row_conditions mine) mine.reviewers
 
+-- ---- certifications
+
+-- what is wrong is with a certification, and nothing that kept records meet
+abbrev pub is_of_certification : Wrong → Bool
+is_of_certification wrong.NotCertifiable = true
+is_of_certification wrong.NotLast = true
+is_of_certification _ = false
+
+abbrev pub certifiable_conditions : List RequestRow → SessionRow → List (Condition Finding)
+certifiable_conditions requests row =
+    (is_certifiable requests row, finding (key.Session row.number) wrong.NotCertifiable) ∷ []
+
+abbrev pub last_conditions : List SessionRow → RequestRow → List (Condition Finding)
+last_conditions sessions row = (is_last sessions row, finding (key.Request row.number) wrong.NotLast) ∷ []
+
+-- the request that a session names is rejected, or the session may be certified; and each certification is rejected, or
+-- the one that its session names
+unfoldable pub certification_conditions : Content → List (Condition Finding)
+certification_conditions mine =
+    flat_map (certifiable_conditions mine.requests) mine.sessions
+    ++ flat_map (last_conditions mine.sessions) mine.requests
+
 -- ---- the whole
+
+-- the conditions that kept records meet, but that the verdicts are those on the answers
+abbrev pub kept_conditions : List (List ℕ) → ℕ → Content → List (Condition Finding)
+kept_conditions seeds u mine =
+    own_row_conditions u mine ++ session_conditions u mine ++ set_conditions seeds mine ++ request_conditions u mine
+    ++ object_conditions u mine ++ reviewer_conditions mine
 
 -- all conditions on an account's rows, but that the verdicts are those on the answers
 unfoldable pub account_conditions : List (List ℕ) → ℕ → Content → List (Condition Finding)
-account_conditions seeds u mine =
-    own_row_conditions u mine ++ session_conditions u mine ++ set_conditions seeds mine ++ request_conditions u mine
-    ++ object_conditions u mine ++ reviewer_conditions mine
+account_conditions seeds u mine = kept_conditions seeds u mine ++ certification_conditions mine
 
 -- ---- the verdicts
 

@@ -5,6 +5,7 @@ ghost use Rattle.acvp_tables.specs.State.{has_rows, is_account_there, state_of};
 ghost use Rattle.acvp_check.specs.Conditions.{account_conditions, account_row_conditions, all_conditions};
 ghost use Rattle.acvp_check.specs.Conditions.{own_row_conditions};
 
+use crate::certifications::certifications_wrong;
 use crate::finding::{Finding, RowKey, Wrong};
 use crate::numbers::is_account_number;
 use crate::objects::objects_wrong;
@@ -91,7 +92,8 @@ fn account_wrong(account: u16, mine: &Rows, seeds: &Seeds) -> Result<(), Finding
     sets_wrong(mine, seeds)?;
     requests_wrong(account, mine)?;
     objects_wrong(account, mine)?;
-    reviewers_wrong(mine)
+    reviewers_wrong(mine)?;
+    certifications_wrong(mine)
 }
 
 /// The first condition that is broken, of those on all rows of an account: none where all hold. Where `grades` is set,

@@ -57,6 +57,11 @@ pub enum Wrong {
     NotAskedFor,
     /// The object isn't one that is kept, or its vendor isn't there.
     Object,
+    /// The session may not be certified, and the request that it names isn't rejected: it hasn't passed, is a sample or
+    /// is cancelled.
+    NotCertifiable,
+    /// The certification isn't rejected, and its session names another, or none.
+    NotLast,
     /// Its session has more than 16 reviewers.
     ManyReviewers,
     /// The number of its reviewer is none of an account.

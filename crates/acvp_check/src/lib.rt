@@ -1,7 +1,8 @@
-//! Whether the rows of a file are records that are kept: the conditions on one account's rows.
+//! Whether the rows of a file have what every run keeps: the conditions on one account's rows.
 #![tactic(auto)]
 
 mod account;
+mod certifications;
 mod finding;
 mod laws;
 mod numbers;
@@ -18,8 +19,8 @@ mod walks;
 pub use account::judge_account;
 pub use finding::{Finding, RowKey, Wrong};
 pub use laws::{
-    numbered_rows_tell, numbers_select, ordered_records_are_kept, whole_records_are_kept,
-    wrong_records_are_not_kept,
+    numbered_rows_tell, numbers_select, ordered_records_are_left, whole_records_are_left,
+    wrong_records_are_not_left,
 };
 pub use owners::owners_wrong;
 pub use rows::Rows;

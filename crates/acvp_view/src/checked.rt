@@ -1,4 +1,4 @@
-//! Whether the rows of a database are records that are kept.
+//! Whether the rows of a database are records that have what every run keeps.
 ghost use Rattle.std.specs.Prelude.{◌≡◌, ℕ, List, true, false, IfOk, IsTrue, string_bytes};
 ghost use Rattle.sqlite.specs.Held.{state};
 ghost use Rattle.acvp_store.specs.Adopted.{IsOurs};

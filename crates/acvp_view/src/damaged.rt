@@ -128,6 +128,8 @@ fn wrong_word(wrong: Wrong) -> &'static str
         Wrong::NotGiven => "notGiven",
         Wrong::NotAskedFor => "notAskedFor",
         Wrong::Object => "object",
+        Wrong::NotCertifiable => "notCertifiable",
+        Wrong::NotLast => "notLast",
         Wrong::ManyReviewers => "manyReviewers",
         Wrong::NoAccountNumber => "noAccountNumber",
     }
