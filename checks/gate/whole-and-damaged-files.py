@@ -175,6 +175,27 @@ def reviewers():
     yield [insert("reviewer", OPEN, account) for account in range(100, 115)], f"reviewer {OPEN} 9 manyReviewers"
 
 
+def certifications():
+    """Certifications that aren't rejected, of sessions of which they aren't the last request, or that may not be certified."""
+    for session, request in ((CERTIFIED, 7000005), (WAITING, 7000007)):
+        yield [update("session", "certify", None, session=session)], f"request {request} notLast"
+        for column in ("cancelled", "sample"):
+            yield [update("session", column, 1, session=session)], f"session {session} notCertifiable"
+        yield ([update("vset2", "cancelled", 1, session=session), update("session", "live", 0, session=session),
+                update("session", "passed", 0, session=session)], f"session {session} notCertifiable")
+    yield [update("session", "certify", 7000006, session=WAITING)], "request 7000007 notLast"
+    yield [update("request", "status", 0, request=7000006)], "request 7000006 notLast"
+    yield ([update("request", "status", 1, request=7000006), update("request", "approved", WAITING, request=7000006)],
+           "request 7000006 notLast")
+    unanswered = [update("vset2", column, None, vs=CERTIFIED * 100 + 2) for column in ("answers", "verdicts", "disposition")]
+    yield [*unanswered, update("session", "passed", 1, session=CERTIFIED)], f"session {CERTIFIED} notCertifiable"
+    body = f'{{"moduleUrl":"/acvp/v1/modules/7000001","oeUrl":"/acvp/v1/oes/7000001","session":{SAMPLE}}}'
+    for status, approved in ((0, None), (1, SAMPLE)):
+        asked = insert("request", 7000012, 7, rows.CERTIFICATION, body, status, approved)
+        yield [asked], "request 7000012 notLast"
+        yield [asked, update("session", "certify", 7000012, session=SAMPLE)], f"session {SAMPLE} notCertifiable"
+
+
 def pairs():
     """Two damages, of which the one that is looked for first is told."""
     counter = update("session", "live", 0, session=OPEN)
@@ -187,7 +208,7 @@ def pairs():
            f"set {READY * 100 + 1} noSeed")
 
 
-GROUPS = (outside, stray, owners, sessions, sets, requests, objects, reviewers, pairs)
+GROUPS = (outside, stray, owners, sessions, sets, requests, objects, reviewers, certifications, pairs)
 
 
 def verdicts(connection):
