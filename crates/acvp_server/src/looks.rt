@@ -228,7 +228,7 @@ impl Lines for Below<'_> {
     }
 }
 
-/// Says that the rows aren't those of records that are kept.
+/// Says that the rows aren't those that a run leaves.
 fn tell_damaged(rt: &HostRuntime) -> bool {
     let _ = eprintln!(rt; "fault: rows");
     false
