@@ -16,7 +16,7 @@ use Rattle.acvp_desk.specs.Kept.{IsGraded, IsGradedSet, IsKept}
 use Rattle.acvp_desk.proofs.FirstBroken.{front_held}
 use Rattle.acvp_mac.specs.Conditions.{Condition, first_broken}
 use Rattle.acvp_tables.specs.Content.{Content, no_rows}
-use Rattle.acvp_tables.specs.Counted.{is_counted, IsCounted}
+use Rattle.acvp_tables.specs.Counted.{is_counted}
 use Rattle.acvp_tables.specs.State.{state_of, own, owner_of, is_account_number, IsWellNumbered, IsWellNumberedFor}
 use Rattle.acvp_tables.specs.declared.rows.AccountRow.{AccountRow}
 use Rattle.acvp_tables.specs.declared.rows.SessionRow.{SessionRow}

@@ -1,6 +1,6 @@
 -- Certifications among the rows of an account, and among all.
-use Rattle.std.proofs.Common.{◌≡◌, ℕ, ◌+◌, ◌≤◌, Bool, true, false, List, [], ◌∷◌, ◌++◌, length, map, Option, None, Some}
-use Rattle.std.proofs.Common.{◌⊎◌, inl, inr, refl, sym, ap, subst, ◌∙◌, arith}
+use Rattle.std.proofs.Common.{◌≡◌, ℕ, ◌+◌, ◌≤◌, Bool, true, false, List, [], ◌∷◌, ◌++◌, length, Option, None, Some}
+use Rattle.std.proofs.Common.{◌⊎◌, inl, inr, refl, ap, subst, ◌∙◌, arith}
 use Rattle.std.specs.Prelude.{filter, find, option_map, is_some, ◌&&◌, ◌||◌, ◌==◌, if◌then◌else◌}
 use Rattle.std.specs.List.{All, flat_map, list_all}
 use Rattle.std.specs.List.Sorted.{IsPermutation}
@@ -16,7 +16,7 @@ use Rattle.acvp_desk.proofs.CertifiedRows.{found_is}
 use Rattle.acvp_desk.proofs.DecidedRequest.{found_passes}
 use Rattle.acvp_registry.specs.declared.kind.Kind.TheVariants.{Module, Environment}
 use Rattle.acvp_tables.specs.Content.{Content, object_at, request_at, session_at}
-use Rattle.acvp_tables.specs.State.{IsNumbered, IsWellNumbered, IsWellNumberedFor, SessionRecord, first_of_account}
+use Rattle.acvp_tables.specs.State.{IsNumbered, IsWellNumbered, IsWellNumberedFor, first_of_account}
 use Rattle.acvp_tables.specs.State.{is_sound_body, of_all, owner_of, session_record, session_record_at, state_of}
 use Rattle.acvp_tables.specs.declared.rows.RequestBody.{RequestBody}
 use Rattle.acvp_tables.specs.declared.rows.RequestBody.TheVariants as body

@@ -1,7 +1,7 @@
 -- What every run leaves of certifications is so after a request and after an order.
 use Rattle.std.proofs.Common.{◌≡◌, ℕ, List, [], ◌∷◌, Bool, true, false, Option, None, Some, Result, Ok, Err, OnOk, refl}
-use Rattle.std.proofs.Common.{sym, ap, subst, ◌∙◌, map}
-use Rattle.std.specs.Prelude.{find, is_some, not, option_map, option_and_then, nat_le, nat_lt, ◌==◌, ◌&&◌, ◌++◌}
+use Rattle.std.proofs.Common.{ap, subst, ◌∙◌, map}
+use Rattle.std.specs.Prelude.{is_some, not, option_map, option_and_then, nat_lt}
 use Rattle.std.specs.Prelude.{if◌then◌else◌}
 use Rattle.acvp_answers.specs.declared.verdict.Verdict.{Verdict}
 use Rattle.acvp_gen.specs.Prompt.{PromptsValue}
@@ -9,7 +9,7 @@ use Rattle.acvp_json.specs.Data.{Data}
 use Rattle.acvp_json.specs.declared.certify_body.CertifyBody.{CertifyBody}
 use Rattle.acvp_mac.specs.Conditions.{first_broken}
 use Rattle.acvp_policy.specs.Conditions.{has_passed, is_frozen, is_no_sample, is_some_and, session_lasts, session_live}
-use Rattle.acvp_policy.specs.Conditions.{session_of, session_of_set, session_thawed, set_found, session_found}
+use Rattle.acvp_policy.specs.Conditions.{session_of, session_of_set, session_thawed}
 use Rattle.acvp_policy.specs.Conditions.{claims_of, session_there, set_live, set_lasts, set_there, is_answered}
 use Rattle.acvp_policy.specs.Conditions.{is_unanswered}
 use Rattle.acvp_policy.specs.Decision.{account_of_claims}
@@ -26,7 +26,6 @@ use Rattle.acvp_tables.specs.Content.{Content, account_at, live_sets, request_at
 use Rattle.acvp_tables.specs.Graded.{GradedValue}
 use Rattle.acvp_tables.specs.State.{State, SetRecord, live_records, session_record, session_record_at, set_record}
 use Rattle.acvp_tables.specs.State.{record_counts, state_of}
-use Rattle.acvp_tables.specs.declared.change.Change.{Change}
 use Rattle.acvp_tables.specs.declared.change.Change.TheVariants as change
 use Rattle.acvp_tables.specs.declared.change.NewSession.{NewSession as NewSessionValue}
 use Rattle.acvp_tables.specs.declared.change.OrderChange.TheVariants as order_change
@@ -35,7 +34,6 @@ use Rattle.acvp_tables.specs.declared.rows.RequestRow.{RequestRow}
 use Rattle.acvp_tables.specs.declared.rows.RequestStatus.{RequestStatus}
 use Rattle.acvp_tables.specs.declared.rows.RequestStatus.TheVariants as status
 use Rattle.acvp_tables.specs.declared.rows.SessionRow.{SessionRow}
-use Rattle.acvp_token.specs.declared.Claims.{Claims}
 use Rattle.acvp_desk.specs.Answer.{accepted_change, answer, asker_of, change_by, change_on, content_after}
 use Rattle.acvp_desk.specs.Answer.{content_effect, end_of_moments, facts_in, found_of, later_of, own_conditions}
 use Rattle.acvp_desk.specs.Answer.{policy_conditions}
@@ -45,8 +43,8 @@ use Rattle.acvp_desk.specs.Certifications.{AreCertified, IsLeft, is_rejected, ma
 use Rattle.acvp_desk.specs.Kept.{IsKept}
 use Rattle.acvp_desk.specs.Login.{login_step}
 use Rattle.acvp_desk.specs.NewSessions.{new_session_in}
-use Rattle.acvp_desk.specs.Orders.{IsOrder, HasSecret, approval, content_after_order, content_order_effect, has_account}
-use Rattle.acvp_desk.specs.Orders.{approved_number, if_initial, is_initial, order_change as change_for, waiting_request}
+use Rattle.acvp_desk.specs.Orders.{approval, content_after_order, content_order_effect, has_account}
+use Rattle.acvp_desk.specs.Orders.{approved_number, is_initial, order_change as change_for, waiting_request}
 use Rattle.acvp_desk.specs.Place.{certification_of, facts_of_session, place_of, session_facts, session_passes}
 use Rattle.acvp_desk.specs.Place.{registry_place, session_place, set_outcomes, subject_at}
 use Rattle.acvp_desk.specs.Registries.{kind_of}
@@ -76,7 +74,7 @@ use Rattle.acvp_desk.specs.declared.wish.Wish.{Wish}
 use Rattle.acvp_desk.specs.declared.wish.Wish.TheVariants as wish
 use Rattle.acvp_desk.proofs.Allowed.{on_resource}
 use Rattle.acvp_desk.proofs.AnswerParts.{holds}
-use Rattle.acvp_desk.proofs.CertifiedRows.{Certifiable, IsThawed, Last, certifiable_once_asked}
+use Rattle.acvp_desk.proofs.CertifiedRows.{IsThawed, certifiable_once_asked}
 use Rattle.acvp_desk.proofs.CertifiedRows.{certifiable_once_decided, certifiable_stays, certifiable_with_request}
 use Rattle.acvp_desk.proofs.CertifiedRows.{certifiable_with_session, last_once_asked, last_once_decided, last_stays}
 use Rattle.acvp_desk.proofs.CertifiedRows.{last_with_request, last_with_session}

@@ -1,5 +1,5 @@
 -- What every run leaves of certifications, among rows that change.
-use Rattle.std.proofs.Common.{◌≡◌, ℕ, List, [], ◌∷◌, ◌++◌, Bool, true, false, Option, None, Some, refl, sym, ap, ◌∙◌}
+use Rattle.std.proofs.Common.{◌≡◌, ℕ, List, [], ◌∷◌, ◌++◌, Bool, true, false, Option, None, Some, refl, ap, ◌∙◌}
 use Rattle.std.proofs.Common.{arith}
 use Rattle.std.specs.Prelude.{find, option_map, is_some, ◌==◌, ◌||◌, if◌then◌else◌}
 use Rattle.std.specs.Option.{option_or}
@@ -10,8 +10,6 @@ use Rattle.acvp_tables.specs.Changes.{changed, is_request, is_session, new_certi
 use Rattle.acvp_tables.specs.Content.{request_at, session_at}
 use Rattle.acvp_tables.specs.State.{of_all}
 use Rattle.acvp_tables.specs.declared.change.NewCertification.{NewCertification}
-use Rattle.acvp_tables.specs.declared.rows.RequestBody.{RequestBody}
-use Rattle.acvp_tables.specs.declared.rows.RequestBody.TheVariants as body
 use Rattle.acvp_tables.specs.declared.rows.RequestRow.{RequestRow}
 use Rattle.acvp_tables.specs.declared.rows.RequestStatus.{RequestStatus}
 use Rattle.acvp_tables.specs.declared.rows.RequestStatus.TheVariants as status
