@@ -309,19 +309,19 @@ def acting_text(lab):
     text, = shows_plainly(lab, "certificate", "--request", "7000004")
     expect("the names in a document", [json.loads(text)[member]["name"] for member in ("vendor", "module", "oe")], [thing["name"] for _, thing in things])
     expect("its page", pages(lab, text), shows_plainly(lab, "certificate", "--request", "7000004", "--html"))
-    short = [f"{ACTING[at:at + 24]}\"" for at in range(0, len(ACTING), 24)] + ["b" * 74, "b" * 100, "\u00fc" * 50]
-    long = ["b" * 101, "\u00fc" * 50 + "b"]
-    for number, name in enumerate(short + long, 7000005):
+    named = [f"{ACTING[at:at + 24]}\"" for at in range(0, len(ACTING), 24)] + ["b" * 74, "b" * 100, "\u00fc" * 50]
+    unnamed = ["b" * 101, "\u00fc" * 50 + "b"]
+    for number, name in enumerate(named + unnamed, 7000005):
         lab.must("POST", "/vendors", token, {"name": name})
         _, line = shows_plainly(lab, "requests", keys=False)[-1].split("\n    ")
-        if name in long:
+        if name in unnamed:
             expect("a name that is too long", line, f"(a name of {len(name.encode())} bytes)")
         else:
             expect(f"the name of request {number}", json.loads(line), name)
     # all lines but those of long names have room in 80 columns
     lines = [request.split("\n") for request in shows_plainly(lab, "requests", "--all", keys=False)]
-    expect("requests", [len(request) for request in lines], [2] * 3 + [3] + [2] * len(short + long))
-    expect("a name of 74 bytes in 80 columns", f'    "{"b" * 74}"' in lines[4 + len(short) - 3], True)
+    expect("requests", [len(request) for request in lines], [2] * 3 + [3] + [2] * len(named + unnamed))
+    expect("a name of 74 bytes in 80 columns", f'    "{"b" * 74}"' in lines[4 + len(named) - 3], True)
     expect("wide lines", [line for request in lines for line in request[:-1] if len(line) > 80], [])
 
 
