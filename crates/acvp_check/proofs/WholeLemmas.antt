@@ -1,5 +1,6 @@
 -- The conditions on all accounts' rows hold exactly where the records are kept.
-use Rattle.std.proofs.Common.{◌≡◌, ℕ, ◌+◌, ◌/◌, ◌≤◌, Bool, true, false, List, [], ◌∷◌, ◌++◌, length, map, get_or, None, Some}
+use Rattle.std.proofs.Common.{◌≡◌, ℕ, ◌+◌, ◌/◌, ◌≤◌, Bool, true, false, List, [], ◌∷◌, ◌++◌, length, map, get_or}
+use Rattle.std.proofs.Common.{None, Some}
 use Rattle.std.proofs.Common.{refl, sym, ap, subst, ◌∙◌, inl, inr, arith}
 use Rattle.std.specs.Prelude.{filter, not, ◌&&◌, ◌==◌, nat_lt, find, is_some, slice_get}
 use Rattle.std.specs.List.{flat_map, list_all}
@@ -39,7 +40,8 @@ use Rattle.acvp_check.proofs.AccountLemmas.{split, join, of_each, to_each, rows_
 use Rattle.acvp_check.proofs.AccountLemmas.{set_holds}
 use Rattle.acvp_check.specs.declared.finding.Finding.{Finding}
 use Rattle.acvp_desk.proofs.FirstBroken.{front_held}
-use Rattle.acvp_check.proofs.CertificationLemmas.{all_certified, certification_found, certifications_hold, either_broken}
+use Rattle.acvp_check.proofs.CertificationLemmas.{all_certified, certification_found}
+use Rattle.acvp_check.proofs.CertificationLemmas.{certifications_hold, either_broken}
 use Rattle.acvp_check.proofs.GradedLemmas.{graded_set, set_graded}
 use Rattle.acvp_check.proofs.HeldLemmas.{held, last_holds}
 

@@ -6,7 +6,8 @@ use Rattle.std.specs.Option.{option_or}
 use Rattle.std.proofs.lemmas.Bool.Decides.{nat_tests}
 use Rattle.std.proofs.lemmas.List.Folds.{find-append}
 use Rattle.acvp_policy.specs.Conditions.{is_frozen, is_some_and}
-use Rattle.acvp_tables.specs.Changes.{changed, is_request, is_session, new_certification, with_last_request, with_status}
+use Rattle.acvp_tables.specs.Changes.{changed, is_request, is_session, new_certification}
+use Rattle.acvp_tables.specs.Changes.{with_last_request, with_status}
 use Rattle.acvp_tables.specs.Content.{request_at, session_at}
 use Rattle.acvp_tables.specs.State.{of_all}
 use Rattle.acvp_tables.specs.declared.change.NewCertification.{NewCertification}

@@ -1,5 +1,5 @@
-//! What the operator is shown of accounts and of requests: of each account a line of words, of each request up to three,
-//! or a JSON object.
+//! What the operator is shown of accounts and of requests: of each account a line of words, of each request up to
+//! three, or a JSON object.
 ghost use Rattle.std.specs.Prelude.{◌≡◌, ◌++◌, IfOk, codes, decimal, option_map, string_bytes};
 ghost use Rattle.serde_json.specs.Data.{string};
 ghost use Rattle.serde_json.specs.View.{view};
