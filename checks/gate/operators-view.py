@@ -45,14 +45,22 @@ def short(url):
     return url[len("/acvp/v1"):]
 
 
+def unfolded(text):
+    """A text whose lines all have room in 80 columns, without the ends of lines that go on, indented by eight."""
+    expect("lines of more than 80 bytes", [line for line in text.split("\n") if len(line.encode()) > 80], [])
+    return text.replace("\n        ", "")
+
+
 def shows(lab, *args):
-    """The lines that a command prints, which nothing is left of. Indented ones belong to the line before them."""
+    """The lines that a command prints, which nothing is left of. Indented ones belong to the line before them, and words
+    have room in 80 columns."""
     before = {name: os.stat(lab.path(name)).st_mtime_ns for name in os.listdir(lab.folder)}
     status, output, faults = lab.run(*args)
     expect(f"the command {args}", (status, faults), (0, ""))
     after = {name: os.stat(lab.path(name)).st_mtime_ns for name in os.listdir(lab.folder)}
     expect(f"the files behind {args}", after, before)
-    return re.split(r"\n(?!    )", output)[:-1]
+    words = args[0] in ("accounts", "requests", "request-show") and "--json" not in args
+    return re.split(r"\n(?!    )", unfolded(output) if words else output)[:-1]
 
 
 def document_of(lab, *args):
@@ -288,7 +296,7 @@ def acting_text(lab):
         lab.must("POST", path, token, thing)
         shown = shows_plainly(lab, "request-show", "--request", str(number))
         expect(f"the object of request {number} as it was sent", [json.loads(line) for line in shown[1:]], [thing])
-        expect(f"the long name of request {number}", shown[0].split("\n    ")[1:], [f"(a name of {len(thing['name'].encode())} bytes)"])
+        expect(f"the name of request {number}", [json.loads(line) for line in shown[0].split("\n    ")[1:]], [thing["name"]])
         expect("the same in its list", shows_plainly(lab, "requests", keys=False)[-1], shown[0])
         expect("the name in its document", json.loads("".join(shows_plainly(lab, "requests", "--json", keys=False)))[-1]["name"], thing["name"])
         lab.does(f"request {number} approved /acvp/v1{path}/7000001", "request-approve", "--db", lab.db, "--request", str(number))
@@ -309,20 +317,42 @@ def acting_text(lab):
     text, = shows_plainly(lab, "certificate", "--request", "7000004")
     expect("the names in a document", [json.loads(text)[member]["name"] for member in ("vendor", "module", "oe")], [thing["name"] for _, thing in things])
     expect("its page", pages(lab, text), shows_plainly(lab, "certificate", "--request", "7000004", "--html"))
-    named = [f"{ACTING[at:at + 24]}\"" for at in range(0, len(ACTING), 24)] + ["b" * 74, "b" * 100, "\u00fc" * 50]
-    unnamed = ["b" * 101, "\u00fc" * 50 + "b"]
-    for number, name in enumerate(named + unnamed, 7000005):
+    named = [f"{ACTING[at:at + 24]}\"" for at in range(0, len(ACTING), 24)] + ["\u00fc" * 2000, "\U0001f600" * 100]
+    # a name, and the lines in which it stands: 80 bytes each at most, no character of which is cut
+    in_lines = {"b" * 74: ['    "' + "b" * 74 + '"'], "b" * 75: ['    "' + "b" * 75, '        "'],
+                "b" * 147: ['    "' + "b" * 75, "        " + "b" * 72, '        "'],
+                "\u00fc" * 38: ['    "' + "\u00fc" * 37, "        " + '\u00fc"'],
+                "\u6f22" * 30: ['    "' + "\u6f22" * 25, "        " + "\u6f22" * 5 + '"'],
+                "a" + "\U0001f600" * 19: ['    "a' + "\U0001f600" * 18, "        " + '\U0001f600"']}
+    for number, name in enumerate([*named, *in_lines], 7000005):
         lab.must("POST", "/vendors", token, {"name": name})
         _, line = shows_plainly(lab, "requests", keys=False)[-1].split("\n    ")
-        if name in unnamed:
-            expect("a name that is too long", line, f"(a name of {len(name.encode())} bytes)")
-        else:
-            expect(f"the name of request {number}", json.loads(line), name)
-    # all lines but those of long names have room in 80 columns
-    lines = [request.split("\n") for request in shows_plainly(lab, "requests", "--all", keys=False)]
-    expect("requests", [len(request) for request in lines], [2] * 3 + [3] + [2] * len(named + unnamed))
-    expect("a name of 74 bytes in 80 columns", f'    "{"b" * 74}"' in lines[4 + len(named) - 3], True)
-    expect("wide lines", [line for request in lines for line in request[:-1] if len(line) > 80], [])
+        expect(f"the name of request {number}", json.loads(line), name)
+    output = lab.run("requests", "--db", lab.db)[1]
+    for name, lines in in_lines.items():
+        expect("how a name stands in lines", "initial\n" + "\n".join(lines) + "\n" in output, True)
+    expect("requests", [len(request.split("\n")) for request in shows_plainly(lab, "requests", "--all", keys=False)],
+           [2] * 3 + [3] + [2] * len([*named, *in_lines]))
+    _, asked_of = lab.typed(b"n\n", "request-reject", "--db", lab.db, "--request", "7000005")
+    expect("a name in a question", json.loads(unfolded(asked_of).split("\n")[1]), named[0])
+
+
+def many_rows(lab):
+    """An account of so many rows that what is said of it takes two lines."""
+    lab.backs_up("crowd.db")
+    crowd = lab.path("crowd.db")
+    connection = page_sums.connect(crowd)
+    with contextlib.closing(connection), connection:
+        connection.execute("DELETE FROM account WHERE account <> 9999")
+        for table, key, kinds in (("session", "session", [0]), ("request", "request", [0]), ("object", "number", [1, 2, 3])):
+            columns = [column for _, column, *_ in connection.execute(f"PRAGMA table_info({table})")]
+            for kind in kinds:
+                values = {key: "9999000000 + n", "account": "9999", "kind": str(max(kind, 1)), "body": "'{}'"}
+                connection.execute(f"WITH RECURSIVE numbers(n) AS (SELECT 1 UNION ALL SELECT n + 1 FROM numbers WHERE n < 9999) "
+                                   f"INSERT INTO {table} SELECT {', '.join(values.get(column, '0') for column in columns)} FROM numbers")
+    expect("an account of many rows", lab.run("accounts", "--db", crowd),
+           (0, "9999 enabled sessions 9999 requests 9999\n    vendors 9999 modules 9999 environments 9999\n", ""))
+    os.remove(crowd)
 
 
 def broken_off(lab):
@@ -345,7 +375,8 @@ def broken_off(lab):
         connection.commit()
     for form, lines in shown.items():
         before = next(at for at, line in enumerate(lines) if line.startswith("/acvp/v1/oes/") or line.endswith('"path":"/acvp/v1/oes/7000001"}'))
-        expect(f"what can't be read whole {form}", lab.run("request-show", "--db", stray, "--keys", lab.keys, "--request", "7000004", *form),
+        status, output, faults = lab.run("request-show", "--db", stray, "--keys", lab.keys, "--request", "7000004", *form)
+        expect(f"what can't be read whole {form}", (status, output if form else unfolded(output), faults),
                (1, "".join(line + "\n" for line in lines[:before]), "fault: unavailable\n"))
 
 
@@ -377,8 +408,7 @@ def looks(lab, wanted):
     show = ["request-show", "--db", lab.db, "--keys", lab.keys, "--request"]
     compared("the certification", shows(lab, *show, "7000004"), wanted)
     expect("the request in its document", compared_as_document(lab, wanted), waiting[0])
-    question = (f"{wanted[0]}\n7 enabled sessions 1 requests 4 vendors 1 modules 1 environments 1\n"
-                "session 7000001: 1 of 1 vector sets passed\n")
+    question = f"{wanted[0]}\n7 enabled sessions 1 requests 4 vendors 1 modules 1 environments 1\n"
     for command, verb in (("request-approve", "Approve"), ("request-reject", "Reject")):
         expect(f"what {command} asks", lab.typed(b"n\n", command, "--db", lab.db, "--request", "7000004"),
                (1, f"{question}{verb} this request? [y/N] n\nnothing is changed\n"))
@@ -430,7 +460,7 @@ def numbers_apart(lab):
            {"createdOn": made[3]["createdOn"], "environment": 7000003, "module": 7000001, "passed": 4, "session": 7000004, "vectorSets": 4})
     expect("what the account reads, in the document", items[9:], [{"body": json.loads(told), "path": f"/acvp/v1{path}"} for path, told in read])
     status, terminal = lab.typed(b"y\n", "request-approve", "--db", lab.db, "--request", request)
-    expect("the question", terminal.split("\n")[4], "session 7000004: 4 of 4 vector sets passed")
+    expect("the question", terminal.split("\n")[1], f"    session 7000004 of {made[3]['createdOn'][:10]} 4 of 4 passed")
     expect("the approval", (status, terminal.split("\n")[-2]), (0, f"request {request} approved /acvp/v1{session}"))
     expect("as what it was approved", lab.run("request-reject", "--verbose", "--db", lab.db, "--request", request)[2],
            "fault: notInitial\nbecause: --request: it was approved, as 7000004\n")
@@ -469,6 +499,7 @@ def main():
         expect("its session", json.loads(shown[5].split(" ", 1)[1])[1]["status"], "approved")
         certificates(lab, wanted, token, bound, given)
         broken_off(lab)
+        many_rows(lab)
     for part in (acting_text, numbers_apart):
         with tempfile.TemporaryDirectory() as folder:
             lab = Laboratory(program, folder)

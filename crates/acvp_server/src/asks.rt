@@ -8,8 +8,8 @@ use acvp_causes::{has_log, name_of};
 use acvp_commands::{Deed, Fault};
 use acvp_files::schema_of_copy;
 use acvp_store::SqlTables;
-use acvp_tables::{RequestPurpose, RequestSummary, Tables};
-use acvp_view::{Form, Lines, ViewFault, show_account, show_request, show_session};
+use acvp_tables::Tables;
+use acvp_view::{Form, Lines, ViewFault, show_account, show_request};
 use sqlite::Alter;
 use std::alloc::AllocGlobal;
 use std::io::IsTerminal;
@@ -33,30 +33,15 @@ impl Lines for Shown<'_> {
     }
 }
 
-/// Shows whose a request is, and of a certification how many vector sets have passed.
-fn show_behind<S: Alter + Drop>(
-    rt: &HostRuntime,
-    tables: &mut SqlTables<S>,
-    request: &RequestSummary,
-) -> Result<(), ViewFault> {
-    let mut shown = Shown(rt);
-    show_account(rt.alloc(), tables, &mut shown, Form::Words, request.account)?;
-    match request.purpose {
-        RequestPurpose::Certification(it) => {
-            show_session(rt.alloc(), tables, &mut shown, it.session)
-        }
-        RequestPurpose::Registration(_) => Ok(()),
-    }
-}
-
-/// Shows what a decision on the request of a number is about.
+/// Shows what a decision on the request of a number is about, and whose the request is.
 fn show_asked<S: Alter + Drop>(
     rt: &HostRuntime,
     tables: &mut SqlTables<S>,
     number: u64,
 ) -> Result<(), ViewFault> {
-    let request = show_request(rt.alloc(), tables, &mut Shown(rt), Form::Words, number)?;
-    show_behind(rt, tables, &request)
+    let mut shown = Shown(rt);
+    let request = show_request(rt.alloc(), tables, &mut shown, Form::Words, number)?;
+    show_account(rt.alloc(), tables, &mut shown, Form::Words, request.account)
 }
 
 /// Shows the line of an account that is there.

@@ -2,6 +2,7 @@ pub mod CertificateLemmas
 pub mod CertifiedLemmas
 pub mod DataLemmas
 pub mod EscapeLemmas
+pub mod FoldLemmas
 pub mod ItemLemmas
 pub mod LineLemmas
 pub mod ReadLemmas

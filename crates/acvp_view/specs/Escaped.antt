@@ -10,7 +10,10 @@ use Rattle.ucd_category.specs.GeneralCategory.{general_category}
 use Rattle.ucd_category.specs.declared.GeneralCategory.{GeneralCategory}
 use Rattle.ucd_category.specs.declared.GeneralCategory.TheVariants.{Control, Format, LineSeparator, ParagraphSeparator}
 use Rattle.ucd_derived.specs.Binary.{is_default_ignorable_code_point}
+use Rattle.acvp_view.specs.Folded.{folded}
 use Rattle.acvp_view.specs.Lines.{TakesAll}
+use Rattle.acvp_view.specs.declared.form.Form.{Form}
+use Rattle.acvp_view.specs.declared.form.Form.TheVariants.{Words, Json}
 
 -- of these general categories are controls, marks that format or set the direction of writing, and separators
 abbrev pub is_of_acting : GeneralCategory → Bool
@@ -44,7 +47,12 @@ shown_char c = if is_escaped c then escape_of c else encode_utf8 c
 unfoldable pub escaped : List ℕ → List ℕ
 escaped text = flat_map shown_char (chars text)
 
--- what was handed on are texts, each of them escaped
-pub record HandsOnEscaped {L : Type 0} (takes : L → List ℕ → L → Type 0) (before after : L) : Type 0 where
+-- a text as it is shown in a form: words stand in lines that fit a terminal
+abbrev pub shown_in : Form → List ℕ → List ℕ
+shown_in Words text = folded (escaped text)
+shown_in Json text = escaped text
+
+-- what was handed on are texts, each as it is shown in a form
+pub record HandsOnShown {L : Type 0} (form : Form) (takes : L → List ℕ → L → Type 0) (before after : L) : Type 0 where
   pub texts : List (List ℕ)
-  pub taken : TakesAll takes (map escaped texts) before after
+  pub taken : TakesAll takes (map (shown_in form) texts) before after

@@ -2,6 +2,7 @@ pub mod Page
 pub mod Certificate
 pub mod Certified
 pub mod Escaped
+pub mod Folded
 pub mod Faults
 pub mod Lines
 pub mod Items

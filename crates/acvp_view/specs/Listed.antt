@@ -1,7 +1,7 @@
--- What the operator is shown of accounts and of requests: of each account a line of words, of each request up to three,
--- or a JSON object, whose members ascend.
-use Rattle.std.specs.Prelude.{ℕ, List, [], ◌++◌, ◌==◌, codes, decimal, Bool, true, false, ◌||◌, if◌then◌else◌, nat_le}
-use Rattle.std.specs.Prelude.{nat_lt, length}
+-- What the operator is shown of accounts and of requests: of each a few lines of words that fit a terminal, or a JSON
+-- object, whose members ascend.
+use Rattle.std.specs.Prelude.{ℕ, List, [], ◌++◌, ◌==◌, codes, decimal, Bool, true, false, ◌||◌, if◌then◌else◌}
+use Rattle.std.specs.Prelude.{◌+◌, nat_lt, length}
 use Rattle.std.specs.Prelude.{Option, Some, None, option_and_then, option_map}
 use Rattle.std.specs.List.{before_first, flat_map}
 use Rattle.serde_json.specs.Data as json
@@ -25,6 +25,7 @@ use Rattle.acvp_tables.specs.declared.rows.RequestStatus.TheVariants as status
 use Rattle.acvp_tables.specs.declared.rows.SessionRow.{SessionRow}
 use Rattle.acvp_desk.specs.Orders.{is_initial}
 use Rattle.acvp_view.specs.Escaped.{escaped}
+use Rattle.acvp_view.specs.Folded.{folded}
 use Rattle.acvp_view.specs.Lines.{lines_of}
 use Rattle.acvp_view.specs.declared.form.Form.{Form}
 use Rattle.acvp_view.specs.declared.form.Form.TheVariants.{Words, Json}
@@ -35,14 +36,28 @@ abbrev pub enabled_word : Bool → List ℕ
 enabled_word true = codes "enabled"
 enabled_word false = codes "disabled"
 
--- how many rows it has of each kind
-abbrev pub counts_text : Counts → List ℕ
-counts_text n =
-    codes " sessions " ++ decimal n.sessions ++ codes " requests " ++ decimal n.requests ++ codes " vendors "
-    ++ decimal n.vendors ++ codes " modules " ++ decimal n.modules ++ codes " environments " ++ decimal n.environments
+-- how many test sessions and requests it has
+abbrev pub uses_text : Counts → List ℕ
+uses_text n = codes " sessions " ++ decimal n.sessions ++ codes " requests " ++ decimal n.requests
+
+-- how many registered objects it has of each kind
+abbrev pub objects_text : Counts → List ℕ
+objects_text n =
+    codes "vendors " ++ decimal n.vendors ++ codes " modules " ++ decimal n.modules ++ codes " environments "
+    ++ decimal n.environments
+
+-- how a line begins that stands behind the first
+abbrev pub next_line : List ℕ
+next_line = codes "\n    "
+
+-- one line of two parts if they fit in it, or else a line for each
+abbrev pub in_lines : List ℕ → List ℕ → List ℕ
+in_lines front behind =
+    if nat_lt (length front + length behind) 80 then front ++ codes " " ++ behind else front ++ next_line ++ behind
 
 abbrev pub account_words : AccountRow → Counts → List ℕ
-account_words row n = (decimal row.number ++ codes " " ++ enabled_word row.enabled) ++ counts_text n
+account_words row n =
+    in_lines ((decimal row.number ++ codes " " ++ enabled_word row.enabled) ++ uses_text n) (objects_text n)
 
 abbrev pub account_data : AccountRow → Counts → Data
 account_data row n =
@@ -55,25 +70,13 @@ account_data row n =
     (member (codes "vendors") (json.number (unsigned n.vendors)) no_members)))))))
 
 abbrev pub account_text : Form → AccountRow → Counts → List ℕ
-account_text Words row n = account_words row n
+account_text Words row n = folded (account_words row n)
 account_text Json row n = compact_text (account_data row n)
 
 -- what is shown of the account of a number, where there is one
 unfoldable pub account_line : Form → ℕ → Content → Option (List ℕ)
 account_line form number c =
     option_map (λ row. account_text form row (counts_of number c)) (account_at number c.accounts)
-
--- ---- a test session
-
--- how many of its vector sets that aren't cancelled have passed
-abbrev pub session_text : SessionRow → List ℕ
-session_text row =
-    codes "session " ++ decimal row.number ++ codes ": " ++ decimal row.passed ++ codes " of " ++ decimal row.live
-    ++ codes " vector sets passed"
-
--- the line of the test session of a number, where there is one
-unfoldable pub session_line : ℕ → Content → Option (List ℕ)
-session_line number c = option_map session_text (session_at number c.sessions)
 
 -- ---- what belongs to a request, of the other records
 
@@ -144,10 +147,6 @@ request_head it enabled =
 abbrev pub day_in : List ℕ → List ℕ
 day_in = before_first (λ b. b == 84)
 
--- how a line begins that stands behind the first
-abbrev pub next_line : List ℕ
-next_line = codes "\n    "
-
 -- the test session, the day when it was made, and how many of its vector sets have passed
 abbrev pub session_words : Option SessionRow → List ℕ
 session_words None = []
@@ -155,15 +154,10 @@ session_words (Some row) =
     next_line ++ codes "session " ++ decimal row.number ++ codes " of " ++ day_in (moment_text row.created) ++ codes " "
     ++ decimal row.passed ++ codes " of " ++ decimal row.live ++ codes " passed"
 
--- a name stands last, as a JSON string without characters that act on a terminal; a long one isn't shown
-unfoldable pub shown_name : List ℕ → List ℕ
-shown_name name =
-    if nat_le (length name) 100 then next_line ++ escaped (compact_text (string name))
-    else next_line ++ codes "(a name of " ++ decimal (length name) ++ codes " bytes)"
-
+-- a name stands last, as a JSON string without characters that act on a terminal
 abbrev pub name_words : Option (List ℕ) → List ℕ
 name_words None = []
-name_words (Some name) = shown_name name
+name_words (Some name) = next_line ++ escaped (compact_text (string name))
 
 unfoldable pub decided_words : RequestRow → Bool → List ℕ
 decided_words it enabled = request_head it enabled ++ approved_words (approved_number it.status)
@@ -204,7 +198,7 @@ request_data it enabled session name =
 -- ---- what is shown of it
 
 abbrev pub request_parts : Form → RequestRow → Bool → Option SessionRow → Option (List ℕ) → List ℕ
-request_parts Words it enabled session name = request_words it enabled session name
+request_parts Words it enabled session name = folded (request_words it enabled session name)
 request_parts Json it enabled session name = escaped (compact_text (request_data it enabled session name))
 
 -- with what the other records say of its account and of what it asks for

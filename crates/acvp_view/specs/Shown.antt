@@ -6,7 +6,7 @@ use Rattle.acvp_tables.specs.declared.rows.RequestBody.{RequestBody}
 use Rattle.acvp_tables.specs.declared.rows.RequestBody.TheVariants as body
 use Rattle.acvp_tables.specs.declared.rows.RequestRow.{RequestRow}
 use Rattle.acvp_tables.specs.declared.summary.RequestSummary.{RequestSummary}
-use Rattle.acvp_view.specs.Escaped.{escaped}
+use Rattle.acvp_view.specs.Escaped.{shown_in}
 use Rattle.acvp_view.specs.Lines.{TakesAll, lines_of}
 use Rattle.acvp_view.specs.Listed.{request_line}
 use Rattle.acvp_view.specs.declared.form.Form.{Form}
@@ -54,9 +54,9 @@ abbrev pub registration_text : Form → List ℕ → List ℕ
 registration_text Words text = text
 registration_text Json text = codes "{\"object\":" ++ text ++ codes "}"
 
--- the object that a request asks to register, escaped, where it asks for that
+-- the object that a request asks to register, as it is shown, where it asks for that
 abbrev pub registration_lines : Form → RequestBody → List (List ℕ)
-registration_lines form (body.Registration object) = escaped (registration_text form (object_text object)) ∷ []
+registration_lines form (body.Registration object) = shown_in form (registration_text form (object_text object)) ∷ []
 registration_lines form (body.Certification c) = []
 
 -- The request of a number is there, and it was handed on, and then what it asks to register.

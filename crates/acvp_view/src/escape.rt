@@ -1,11 +1,13 @@
 //! How a text that a client wrote is shown. Some characters act on the terminal that shows them, change in which order
 //! it shows others, or aren't seen, so they are escaped as JSON does it (RFC 8259, section 7).
 ghost use Rattle.std.specs.Prelude.{◌≡◌, ◌++◌, ◌∷◌, [], ◌||◌, IfOk, OnOk, string_bytes};
-ghost use Rattle.acvp_view.specs.Escaped.{HandsOnEscaped, escape_of, escape_of_unit, escaped, is_acting, is_escaped};
-ghost use Rattle.acvp_view.specs.Escaped.{shown_char};
+ghost use Rattle.acvp_view.specs.Escaped.{HandsOnShown, escape_of, escape_of_unit, escaped, is_acting, is_escaped};
+ghost use Rattle.acvp_view.specs.Escaped.{shown_char, shown_in};
 ghost use Rattle.acvp_view.specs.Lines.{HandsOn};
 
 use crate::fault::ViewFault;
+use crate::folded::folded;
+use crate::form::Form;
 use crate::lines::Lines;
 use std::alloc::{AllocError, Global};
 use ucd_category::GeneralCategory;
@@ -74,11 +76,27 @@ pub(crate) fn escaped(alloc: Global, text: &str) -> Result<String, AllocError>
     Ok(shown)
 }
 
-/// Hands on a text, as it is shown.
-pub(crate) fn show_text<L: Lines>(alloc: Global, lines: &mut L, text: &str) -> Result<(), ViewFault>
-    ensures handed { HandsOn L.takes result (escaped text.now ∷ []) lines.old lines.new }
-    ensures escaped { HandsOnEscaped L.takes lines.old lines.new }
+/// A text, as it is shown in a form.
+fn shown_in(alloc: Global, form: Form, text: &str) -> Result<String, AllocError>
+    ensures { IfOk result (λ shown. string_bytes shown ≡ shown_in form text.now) }
 {
-    let line = escaped(alloc, text)?;
+    let shown = escaped(alloc, text)?;
+    match form {
+        Form::Words => folded(alloc, shown.as_str()),
+        Form::Json => Ok(shown),
+    }
+}
+
+/// Hands on a text, as it is shown in a form.
+pub(crate) fn show_text<L: Lines>(
+    alloc: Global,
+    lines: &mut L,
+    form: Form,
+    text: &str,
+) -> Result<(), ViewFault>
+    ensures handed { HandsOn L.takes result (shown_in form text.now ∷ []) lines.old lines.new }
+    ensures shown { HandsOnShown form L.takes lines.old lines.new }
+{
+    let line = shown_in(alloc, form, text)?;
     lines.take(line.as_str())
 }

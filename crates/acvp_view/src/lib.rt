@@ -8,6 +8,7 @@ mod checked;
 mod damaged;
 mod escape;
 mod fault;
+mod folded;
 mod form;
 mod items;
 mod lines;
@@ -28,7 +29,6 @@ pub use lines::{Lines, MarkedLines, Printed};
 pub use listed::{account_line, request_line};
 pub use lists::{
     show_account, show_account_array, show_accounts, show_request_array, show_requests,
-    show_session,
 };
 pub use shown::{show_certified, show_request};
 pub use whole::WholeRequests;

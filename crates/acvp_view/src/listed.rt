@@ -1,5 +1,5 @@
-//! What the operator is shown of accounts and of requests: of each account a line of words, of each request up to
-//! three, or a JSON object.
+//! What the operator is shown of accounts and of requests: of each a few lines of words that fit a terminal, or a JSON
+//! object.
 ghost use Rattle.std.specs.Prelude.{◌≡◌, ◌++◌, IfOk, codes, decimal, option_map, string_bytes};
 ghost use Rattle.serde_json.specs.Data.{string};
 ghost use Rattle.serde_json.specs.View.{view};
@@ -11,15 +11,17 @@ ghost use Rattle.acvp_registry.specs.Object.{object_name};
 ghost use Rattle.acvp_registry.specs.declared.kind.Kind.TheVariants.{Module};
 ghost use Rattle.acvp_tables.specs.Content.{object_at};
 ghost use Rattle.acvp_view.specs.Escaped.{escaped};
+ghost use Rattle.acvp_view.specs.Folded.{folded};
 ghost use Rattle.acvp_view.specs.Listed.{account_data, account_line, account_text, account_words, approved_number};
-ghost use Rattle.acvp_view.specs.Listed.{approved_words, certification_data, certified_data, counts_text, day_in};
-ghost use Rattle.acvp_view.specs.Listed.{decided_words, disabled_words, enabled_word, is_enabled, kind_asked};
-ghost use Rattle.acvp_view.specs.Listed.{kind_word, moment_text, name_asked, name_words, next_line};
+ghost use Rattle.acvp_view.specs.Listed.{approved_words, certification_data, certified_data, day_in};
+ghost use Rattle.acvp_view.specs.Listed.{decided_words, disabled_words, enabled_word, in_lines, is_enabled, kind_asked};
+ghost use Rattle.acvp_view.specs.Listed.{kind_word, moment_text, name_asked, name_words, next_line, objects_text};
 ghost use Rattle.acvp_view.specs.Listed.{request_data, request_head, request_line, request_parts, request_text};
-ghost use Rattle.acvp_view.specs.Listed.{request_words, rest_words, session_asked, session_line, session_text};
-ghost use Rattle.acvp_view.specs.Listed.{session_words, shown_name, status_word};
+ghost use Rattle.acvp_view.specs.Listed.{request_words, rest_words, session_asked};
+ghost use Rattle.acvp_view.specs.Listed.{session_words, status_word, uses_text};
 
 use crate::escape::escaped;
+use crate::folded::{WIDTH, folded};
 use crate::form::Form;
 use crate::whole::WholeRequests;
 use acvp_json::{number_or_null, time_text};
@@ -30,9 +32,6 @@ use acvp_tables::{
 };
 use serde_json::{Value, json};
 use std::alloc::{AllocError, Global};
-
-/// How many bytes a name has at most that is shown in words.
-const LONGEST_NAME: usize = 100;
 
 /// The first moment whose year has five digits.
 pub(crate) const END_OF_YEARS: u64 = 253402300800;
@@ -50,20 +49,52 @@ fn enabled_word(enabled: bool) -> &'static str
     if enabled { "enabled" } else { "disabled" }
 }
 
-/// How many rows an account has of each kind.
-fn counts_text(alloc: Global, counts: Counts) -> Result<String, AllocError>
-    ensures { IfOk result (λ text. string_bytes text ≡ counts_text counts) }
+/// How many test sessions and requests an account has.
+fn uses_text(alloc: Global, counts: Counts) -> Result<String, AllocError>
+    ensures { IfOk result (λ text. string_bytes text ≡ uses_text counts) }
 {
     let Counts {
         sessions,
+        requests,
+        ..
+    } = counts;
+    format!(in alloc; " sessions {sessions} requests {requests}")
+}
+
+/// How many registered objects an account has of each kind.
+fn objects_text(alloc: Global, counts: Counts) -> Result<String, AllocError>
+    ensures { IfOk result (λ text. string_bytes text ≡ objects_text counts) }
+{
+    let Counts {
         vendors,
         modules,
         environments,
-        requests,
+        ..
     } = counts;
-    format!(in alloc;
-        " sessions {sessions} requests {requests} vendors {vendors} modules {modules} environments {environments}"
-    )
+    format!(in alloc; "vendors {vendors} modules {modules} environments {environments}")
+}
+
+fn in_one_line(alloc: Global, front: &str, behind: &str) -> Result<String, AllocError>
+    ensures { IfOk result (λ text. string_bytes text ≡ front.now ++ codes " " ++ behind.now) }
+{
+    format!(in alloc; "{front} {behind}")
+}
+
+fn in_two_lines(alloc: Global, front: &str, behind: &str) -> Result<String, AllocError>
+    ensures { IfOk result (λ text. string_bytes text ≡ front.now ++ next_line ++ behind.now) }
+{
+    format!(in alloc; "{front}\n    {behind}")
+}
+
+/// One line of two parts if they fit in it, or else a line for each.
+fn in_lines(alloc: Global, front: &str, behind: &str) -> Result<String, AllocError>
+    ensures { IfOk result (λ text. string_bytes text ≡ in_lines front.now behind.now) }
+{
+    if front.len() + behind.len() < WIDTH {
+        in_one_line(alloc, front, behind)
+    } else {
+        in_two_lines(alloc, front, behind)
+    }
 }
 
 /// What stands before the counts in the line of an account.
@@ -73,13 +104,23 @@ fn account_head(alloc: Global, number: u16, word: &str) -> Result<String, AllocE
     format!(in alloc; "{number} {word}")
 }
 
-/// The line of an account.
+/// The account's number and whether it is enabled, and what it uses.
+fn account_front(alloc: Global, row: &AccountRow, counts: Counts) -> Result<String, AllocError>
+    ensures { IfOk result (λ text. string_bytes text
+        ≡ (decimal row.now.number ++ codes " " ++ enabled_word row.now.enabled) ++ uses_text counts) }
+{
+    let head = account_head(alloc, row.number, enabled_word(row.enabled))?;
+    let rest = uses_text(alloc, counts)?;
+    joined(alloc, &head, &rest)
+}
+
+/// The line of an account, or its two lines.
 fn account_words(alloc: Global, row: &AccountRow, counts: Counts) -> Result<String, AllocError>
     ensures { IfOk result (λ text. string_bytes text ≡ account_words row.now counts) }
 {
-    let head = account_head(alloc, row.number, enabled_word(row.enabled))?;
-    let rest = counts_text(alloc, counts)?;
-    joined(alloc, &head, &rest)
+    let front = account_front(alloc, row, counts)?;
+    let objects = objects_text(alloc, counts)?;
+    in_lines(alloc, &front, &objects)
 }
 
 /// An account as a JSON value.
@@ -121,7 +162,10 @@ fn account_text(
     ensures { IfOk result (λ text. string_bytes text ≡ account_text form row.now counts) }
 {
     match form {
-        Form::Words => account_words(alloc, row, counts),
+        Form::Words => {
+            let words = account_words(alloc, row, counts)?;
+            folded(alloc, &words)
+        }
         Form::Json => account_object(alloc, row, counts),
     }
 }
@@ -143,35 +187,6 @@ pub fn account_line<T: Tables>(
     };
     let counts = tables.counts(number)?;
     Ok(Some(account_text(alloc, form, &row, counts)?))
-}
-
-/// The line of a test session.
-fn session_text(alloc: Global, row: &SessionRow) -> Result<String, AllocError>
-    ensures { IfOk result (λ text. string_bytes text ≡ session_text row.now) }
-{
-    let SessionRow {
-        number,
-        live,
-        passed,
-        ..
-    } = *row;
-    format!(in alloc; "session {number}: {passed} of {live} vector sets passed")
-}
-
-/// The line of the test session of a number, where there is one: how many of its vector sets have passed.
-#[tactic(auto, unfolding(crate::specs::Listed::session_line))]
-pub(crate) fn session_line<T: Tables>(
-    alloc: Global,
-    tables: &mut T,
-    number: u64,
-) -> Result<Option<String>, StoreFault>
-    ensures found { Finds T.meaning (option_map string_bytes) result tables.old tables.new (session_line number) }
-    ensures looks { Looks T.meaning result tables.old tables.new }
-{
-    let Some(row) = tables.session(number)? else {
-        return Ok(None);
-    };
-    Ok(Some(session_text(alloc, &row)?))
 }
 
 pub(crate) fn kind_word(kind: Kind) -> &'static str
@@ -388,32 +403,12 @@ fn quoted(alloc: Global, text: &str) -> Result<String, AllocError>
     escaped(alloc, &json)
 }
 
-/// What stands in place of a name of so many bytes.
-fn long_name(alloc: Global, bytes: usize) -> Result<String, AllocError>
-    ensures { IfOk result (λ text. string_bytes text
-        ≡ next_line ++ codes "(a name of " ++ decimal bytes ++ codes " bytes)") }
-{
-    format!(in alloc; "\n    (a name of {bytes} bytes)")
-}
-
 /// A name as it is shown, in a line of its own.
-fn short_name(alloc: Global, name: &str) -> Result<String, AllocError>
+fn shown_name(alloc: Global, name: &str) -> Result<String, AllocError>
     ensures { IfOk result (λ text. string_bytes text ≡ next_line ++ escaped (compact_text (string name.now))) }
 {
     let shown = quoted(alloc, name)?;
     joined(alloc, "\n    ", &shown)
-}
-
-/// A name, if it isn't too long.
-#[tactic(auto, unfolding(crate::specs::Listed::shown_name))]
-fn shown_name(alloc: Global, name: &str) -> Result<String, AllocError>
-    ensures { IfOk result (λ text. string_bytes text ≡ shown_name name.now) }
-{
-    if name.len() <= LONGEST_NAME {
-        short_name(alloc, name)
-    } else {
-        long_name(alloc, name.len())
-    }
 }
 
 fn name_words(alloc: Global, name: &Option<String>) -> Result<String, AllocError>
@@ -616,7 +611,10 @@ fn request_parts(
         ≡ request_parts form it.now enabled session (option_map string_bytes name.now)) }
 {
     match form {
-        Form::Words => request_words(alloc, it, enabled, session, name),
+        Form::Words => {
+            let words = request_words(alloc, it, enabled, session, name)?;
+            folded(alloc, &words)
+        }
         Form::Json => request_object(alloc, it, enabled, session, name),
     }
 }

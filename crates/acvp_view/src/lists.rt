@@ -1,5 +1,4 @@
-//! All accounts, and the requests that wait for a decision, or all: a line each, or a JSON array. Also one account or
-//! test session.
+//! All accounts, and the requests that wait for a decision, or all: as words, or a JSON array. Also one account.
 ghost use Rattle.std.specs.Prelude.{◌+◌, ◌<◌, ◌^◌, IfOk};
 ghost use Rattle.std.specs.List.{flat_map, range_with_len};
 ghost use Rattle.acvp_desk.specs.Serves.{Looks};
@@ -7,7 +6,6 @@ ghost use Rattle.acvp_tables.specs.Content.{Content};
 ghost use Rattle.acvp_tables.specs.State.{AreWellNumbered};
 ghost use Rattle.acvp_view.specs.Items.{array_lines};
 ghost use Rattle.acvp_view.specs.Listed.{account_line, account_lines, request_line, request_lines, request_lines_of};
-ghost use Rattle.acvp_view.specs.Listed.{session_line};
 ghost use Rattle.acvp_view.specs.Lines.{TakesAll, Tells, lines_of};
 ghost use Rattle.acvp_view.specs.declared.form.Form.TheVariants.{Json};
 
@@ -15,7 +13,7 @@ use crate::fault::ViewFault;
 use crate::form::Form;
 use crate::items::Items;
 use crate::lines::{Lines, MarkedLines, hand_on};
-use crate::listed::{account_line, request_line, session_line};
+use crate::listed::{account_line, request_line};
 use crate::whole::WholeRequests;
 use acvp_tables::{Counted, Tables};
 use std::alloc::Global;
@@ -39,21 +37,6 @@ pub fn show_account<T: Tables, L: Lines>(
     ensures looks { Looks T.meaning result tables.old tables.new }
 {
     let line = account_line(alloc, tables, form, number)?;
-    hand_on(lines, line)
-}
-
-/// Hands on the line of the test session of a number, where there is one: how many of its vector sets have passed.
-pub fn show_session<T: Tables, L: Lines>(
-    alloc: Global,
-    tables: &mut T,
-    lines: &mut L,
-    number: u64,
-) -> Result<(), ViewFault>
-    ensures told { Tells L.takes T.meaning result tables.old tables.new lines.old lines.new
-        (λ c. lines_of (session_line number c)) }
-    ensures looks { Looks T.meaning result tables.old tables.new }
-{
-    let line = session_line(alloc, tables, number)?;
     hand_on(lines, line)
 }
 

@@ -7,7 +7,7 @@ ghost use Rattle.acvp_registry.specs.declared.kind.Kind.{Kind as KindValue};
 ghost use Rattle.acvp_tables.specs.Calls.{Finds};
 ghost use Rattle.acvp_tables.specs.Content.{Content, request_at};
 ghost use Rattle.acvp_tables.specs.State.{AreWellNumbered};
-ghost use Rattle.acvp_view.specs.Escaped.{HandsOnEscaped};
+ghost use Rattle.acvp_view.specs.Escaped.{HandsOnShown};
 ghost use Rattle.acvp_view.specs.Lines.{HandsOn};
 ghost use Rattle.acvp_view.specs.Shown.{IsAsked, capability_object, capability_text, read_object, read_text};
 ghost use Rattle.acvp_view.specs.Shown.{registration_lines, registration_text, results_object, results_text, set_words};
@@ -109,7 +109,7 @@ fn show<T: Tables, L: Lines>(
     path: &str,
     token: &str,
 ) -> Result<(), ViewFault>
-    ensures { HandsOnEscaped L.takes lines.old lines.new }
+    ensures { HandsOnShown reader.now.form L.takes lines.old lines.new }
 {
     let alloc = reader.alloc;
     let request = format!(in alloc;
@@ -121,7 +121,7 @@ fn show<T: Tables, L: Lines>(
     }
     let body = body_of(reply.bytes());
     let line = read_text(alloc, reader.form, path, body)?;
-    show_text(alloc, lines, line.as_str())
+    show_text(alloc, lines, reader.form, line.as_str())
 }
 
 /// Hands on a test session as `show` does, or what lies below it.
@@ -132,7 +132,7 @@ fn show_session<T: Tables, L: Lines>(
     session: u64,
     below: &str,
 ) -> Result<(), ViewFault>
-    ensures { HandsOnEscaped L.takes lines.old lines.new }
+    ensures { HandsOnShown reader.now.form L.takes lines.old lines.new }
 {
     let path = format!(in reader.alloc; "/acvp/v1/testSessions/{session}{below}")?;
     show(reader, desk, lines, path.as_str(), reader.bound)
@@ -146,7 +146,7 @@ fn show_registered<T: Tables, L: Lines>(
     kind: Kind,
     number: u64,
 ) -> Result<(), ViewFault>
-    ensures { HandsOnEscaped L.takes lines.old lines.new }
+    ensures { HandsOnShown reader.now.form L.takes lines.old lines.new }
 {
     match object_url(reader.alloc, kind, number)? {
         Some(path) => show(reader, desk, lines, path.as_str(), reader.own),
@@ -208,14 +208,14 @@ fn show_capability<T: Tables, L: Lines>(
     form: Form,
     set: &SetSummary,
 ) -> Result<(), ViewFault>
-    ensures { HandsOnEscaped L.takes lines.old lines.new }
+    ensures { HandsOnShown form L.takes lines.old lines.new }
 {
     let Some(capability) = tables.capability(set.number)? else {
         return Ok(());
     };
     let text = capability.to_text(alloc)?;
     let line = capability_text(alloc, form, set.number, set.cancelled, text.as_str())?;
-    show_text(alloc, lines, line.as_str())
+    show_text(alloc, lines, form, line.as_str())
 }
 
 fn results_object(alloc: Global, number: u64, results: &str) -> Result<String, AllocError>
@@ -242,7 +242,7 @@ fn show_verdicts<T: Tables, L: Lines>(
     form: Form,
     set: &SetSummary,
 ) -> Result<(), ViewFault>
-    ensures { HandsOnEscaped L.takes lines.old lines.new }
+    ensures { HandsOnShown form L.takes lines.old lines.new }
 {
     let number = set.number;
     let Some(disposition) = set.disposition else {
@@ -259,11 +259,11 @@ fn show_verdicts<T: Tables, L: Lines>(
     let body = write_reply(alloc, &results)?;
     let text = std::str::from_utf8(&body).unwrap_or("null");
     let line = results_text(alloc, form, number, text)?;
-    show_text(alloc, lines, line.as_str())
+    show_text(alloc, lines, form, line.as_str())
 }
 
 /// Hands on a vector set: whether it was cancelled, its capability, and what its last answers came to.
-#[tactic(auto, using(crate::proofs::EscapeLemmas::escaped_both))]
+#[tactic(auto, using(crate::proofs::EscapeLemmas::shown_both))]
 fn show_set<T: Tables, L: Lines>(
     alloc: Global,
     tables: &mut T,
@@ -271,7 +271,7 @@ fn show_set<T: Tables, L: Lines>(
     form: Form,
     set: &SetSummary,
 ) -> Result<(), ViewFault>
-    ensures { HandsOnEscaped L.takes lines.old lines.new }
+    ensures { HandsOnShown form L.takes lines.old lines.new }
 {
     show_capability(alloc, tables, lines, form, set)?;
     show_verdicts(alloc, tables, lines, form, set)
@@ -285,7 +285,7 @@ fn show_set_at<T: Tables, L: Lines>(
     form: Form,
     number: u64,
 ) -> Result<(), ViewFault>
-    ensures { HandsOnEscaped L.takes lines.old lines.new }
+    ensures { HandsOnShown form L.takes lines.old lines.new }
 {
     match tables.set(number)? {
         Some(set) => show_set(alloc, tables, lines, form, &set),
@@ -294,7 +294,7 @@ fn show_set_at<T: Tables, L: Lines>(
 }
 
 /// Hands on each vector set of a test session, the cancelled ones too.
-#[tactic(auto, using(crate::proofs::EscapeLemmas::escaped_both))]
+#[tactic(auto, using(crate::proofs::EscapeLemmas::shown_both))]
 fn show_sets<T: Tables, L: Lines>(
     alloc: Global,
     tables: &mut T,
@@ -302,7 +302,7 @@ fn show_sets<T: Tables, L: Lines>(
     form: Form,
     session: u64,
 ) -> Result<(), ViewFault>
-    ensures { HandsOnEscaped L.takes lines.old lines.new }
+    ensures { HandsOnShown form L.takes lines.old lines.new }
 {
     for place in 1..=MOST_SETS {
         let number = session.saturating_mul(100).saturating_add(place);
@@ -318,7 +318,7 @@ fn show_vendor<T: Tables, L: Lines>(
     lines: &mut L,
     vendor: Option<u64>,
 ) -> Result<(), ViewFault>
-    ensures { HandsOnEscaped L.takes lines.old lines.new }
+    ensures { HandsOnShown reader.now.form L.takes lines.old lines.new }
 {
     match vendor {
         Some(vendor) => show_registered(reader, desk, lines, Kind::Vendor, vendor),
@@ -327,21 +327,21 @@ fn show_vendor<T: Tables, L: Lines>(
 }
 
 /// Hands on a test session and its results, as `show` does.
-#[tactic(auto, using(crate::proofs::EscapeLemmas::escaped_both))]
+#[tactic(auto, using(crate::proofs::EscapeLemmas::shown_both))]
 fn show_whole_session<T: Tables, L: Lines>(
     reader: &Reader<'_>,
     desk: &mut Desk<T>,
     lines: &mut L,
     session: u64,
 ) -> Result<(), ViewFault>
-    ensures { HandsOnEscaped L.takes lines.old lines.new }
+    ensures { HandsOnShown reader.now.form L.takes lines.old lines.new }
 {
     show_session(reader, desk, lines, session, "")?;
     show_session(reader, desk, lines, session, "/results")
 }
 
 /// Hands on the vendor of a number, where there is one, and an operational environment, as `show` does.
-#[tactic(auto, using(crate::proofs::EscapeLemmas::escaped_both))]
+#[tactic(auto, using(crate::proofs::EscapeLemmas::shown_both))]
 fn show_vendor_and_environment<T: Tables, L: Lines>(
     reader: &Reader<'_>,
     desk: &mut Desk<T>,
@@ -349,14 +349,14 @@ fn show_vendor_and_environment<T: Tables, L: Lines>(
     vendor: Option<u64>,
     environment: u64,
 ) -> Result<(), ViewFault>
-    ensures { HandsOnEscaped L.takes lines.old lines.new }
+    ensures { HandsOnShown reader.now.form L.takes lines.old lines.new }
 {
     show_vendor(reader, desk, lines, vendor)?;
     show_registered(reader, desk, lines, Kind::Environment, environment)
 }
 
 /// Hands on the module, the vendor and the environment that a certification names, as `show` does.
-#[tactic(auto, using(crate::proofs::EscapeLemmas::escaped_both))]
+#[tactic(auto, using(crate::proofs::EscapeLemmas::shown_both))]
 fn show_objects<T: Tables, L: Lines>(
     reader: &Reader<'_>,
     desk: &mut Desk<T>,
@@ -364,7 +364,7 @@ fn show_objects<T: Tables, L: Lines>(
     certification: Certification,
     vendor: Option<u64>,
 ) -> Result<(), ViewFault>
-    ensures { HandsOnEscaped L.takes lines.old lines.new }
+    ensures { HandsOnShown reader.now.form L.takes lines.old lines.new }
 {
     let Certification {
         module,
@@ -376,7 +376,7 @@ fn show_objects<T: Tables, L: Lines>(
 }
 
 /// Hands on what a certification names, as the account that asks for it reads it.
-#[tactic(auto, using(crate::proofs::EscapeLemmas::escaped_both))]
+#[tactic(auto, using(crate::proofs::EscapeLemmas::shown_both))]
 fn show_named<T: Tables, L: Lines>(
     reader: &Reader<'_>,
     desk: &mut Desk<T>,
@@ -384,7 +384,7 @@ fn show_named<T: Tables, L: Lines>(
     certification: Certification,
     vendor: Option<u64>,
 ) -> Result<(), ViewFault>
-    ensures { HandsOnEscaped L.takes lines.old lines.new }
+    ensures { HandsOnShown reader.now.form L.takes lines.old lines.new }
 {
     show_whole_session(reader, desk, lines, certification.session)?;
     show_objects(reader, desk, lines, certification, vendor)
@@ -418,7 +418,7 @@ fn show_read<T: Tables + Drop, L: Lines>(
     certification: Certification,
     vendor: Option<u64>,
 ) -> Result<(), ViewFault>
-    ensures { HandsOnEscaped L.takes lines.old lines.new }
+    ensures { HandsOnShown form L.takes lines.old lines.new }
 {
     let own = token_of(alloc, &keys.token, account, None, moment)?;
     let session = Some(certification.session);
@@ -447,7 +447,7 @@ fn show_with_vendor<T: Tables + Drop, L: Lines>(
     account: u16,
     certification: Certification,
 ) -> Result<(), ViewFault>
-    ensures { HandsOnEscaped L.takes lines.old lines.new }
+    ensures { HandsOnShown form L.takes lines.old lines.new }
 {
     let vendor = vendor_of(&mut tables, certification.module)?;
     show_read(
@@ -464,7 +464,7 @@ fn show_with_vendor<T: Tables + Drop, L: Lines>(
 }
 
 /// Hands on what a decision on a certification needs.
-#[tactic(auto, using(crate::proofs::EscapeLemmas::escaped_both))]
+#[tactic(auto, using(crate::proofs::EscapeLemmas::shown_both))]
 fn show_certification<T: Tables + Drop, L: Lines>(
     alloc: Global,
     mut tables: T,
@@ -475,7 +475,7 @@ fn show_certification<T: Tables + Drop, L: Lines>(
     account: u16,
     certification: Certification,
 ) -> Result<(), ViewFault>
-    ensures { HandsOnEscaped L.takes lines.old lines.new }
+    ensures { HandsOnShown form L.takes lines.old lines.new }
 {
     show_sets(alloc, &mut tables, lines, form, certification.session)?;
     show_with_vendor(
@@ -519,7 +519,7 @@ fn show_registration<L: Lines>(
     match body {
         RequestBody::Registration(object) => {
             let text = registration_text(alloc, form, object)?;
-            show_text(alloc, lines, text.as_str())
+            show_text(alloc, lines, form, text.as_str())
         }
         RequestBody::Certification(_) => Ok(()),
     }
@@ -569,7 +569,7 @@ pub fn show_certified<S: Alter + Drop, L: Lines>(
     request: RequestSummary,
 ) -> Result<(), ViewFault>
     ensures none { (kind : KindValue) → request.purpose ≡ RequestPurpose.Registration kind → lines.new ≡ lines.old }
-    ensures escaped { HandsOnEscaped L.takes lines.old lines.new }
+    ensures shown { HandsOnShown form L.takes lines.old lines.new }
 {
     match request.purpose {
         RequestPurpose::Registration(_) => Ok(()),

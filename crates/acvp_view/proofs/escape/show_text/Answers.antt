@@ -1,5 +1,5 @@
 use Rattle.std.proofs.Common.{◌∙◌, subst}
-use Rattle.acvp_view.proofs.EscapeLemmas.{escaped_one}
+use Rattle.acvp_view.proofs.EscapeLemmas.{shown_one}
 use Rattle.acvp_view.proofs.LineLemmas.{handed_one}
 use Rattle.acvp_view.proofs.escape.show_text.Goals as goal
 
@@ -9,8 +9,8 @@ returns-clause-handed g c =
     (subst (λ line. g.L.Lines.takes c.args.lines.now line c.take.new.self)
     (c.as_str.ensures.value ∙ c.in_ok-line.ensures) c.take.ensures)
 
-pub returns-clause-escaped : goal.returns-clause-escaped
-returns-clause-escaped g c =
-    escaped_one g.L.Lines.takes c.args.text.now c.args.lines.now c.take.new.self
+pub returns-clause-shown : goal.returns-clause-shown
+returns-clause-shown g c =
+    shown_one c.args.form g.L.Lines.takes c.args.text.now c.args.lines.now c.take.new.self
     (subst (λ line. g.L.Lines.takes c.args.lines.now line c.take.new.self)
     (c.as_str.ensures.value ∙ c.in_ok-line.ensures) c.take.ensures)

@@ -1,0 +1,5 @@
+use Rattle.std.proofs.Common.{rules, append_assoc}
+use Rattle.acvp_view.proofs.listed.in_one_line.Goals as goal
+
+pub returns : goal.returns
+returns c = let said = c.format.ensures.ok in search (rules, append_assoc)
