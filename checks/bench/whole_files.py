@@ -1,5 +1,5 @@
 #!/usr/bin/env python3
-"""Times `check` over files with 20000 test sessions, half of them answered, and measures its memory.
+"""Times `check` over files with 20000 and 200000 test sessions, half of them answered, and measures its memory.
 
     ./bench --whole-files
     whole_files.py PROGRAM
@@ -16,7 +16,7 @@ import time
 import page_sums
 from laboratory import Laboratory, expect
 
-SESSIONS = 20000
+FILES = ((20000, 20), (20000, 1), (200000, 1))
 CAPABILITY = {"algorithm": "SHA2-256", "messageLength": [8], "revision": "1.0"}
 
 
@@ -36,11 +36,11 @@ def graded(lab):
     return capability, answered
 
 
-def file_of(lab, accounts, capability, answered):
-    """A file with the sessions of so many accounts."""
-    path = lab.path(f"of-{accounts}.db")
+def file_of(lab, sessions, accounts, capability, answered):
+    """A file with so many sessions of so many accounts."""
+    path = lab.path(f"{sessions}-of-{accounts}.db")
     lab.does("ready", "init", "--db", path)
-    moment, each = int(time.time()) - 60, SESSIONS // accounts
+    moment, each = int(time.time()) - 60, sessions // accounts
     connection = page_sums.connect(path)
     for account in range(1, accounts + 1):
         connection.execute("INSERT INTO account VALUES (?, ?, 1, NULL)", (account, os.urandom(32)))
@@ -60,9 +60,9 @@ def main():
         lab = Laboratory(os.path.abspath(sys.argv[1]), folder)
         try:
             capability, answered = graded(lab)
-            for accounts in (20, 1):
-                path = file_of(lab, accounts, capability, answered)
-                line = f"whole: accounts {accounts} sessions {SESSIONS} sets {SESSIONS} requests 0\n"
+            for sessions, accounts in FILES:
+                path = file_of(lab, sessions, accounts, capability, answered)
+                line = f"whole: accounts {accounts} sessions {sessions} sets {sessions} requests 0\n"
                 for grades in ("no", "yes"):
                     began = time.time()
                     args = [lab.program, "check", "--db", path, "--keys", lab.keys, "--grades", grades]
@@ -72,7 +72,7 @@ def main():
                         process.returncode = os.waitstatus_to_exitcode(status)
                     expect("what check tells", told, line)
                     spent, size = time.time() - began, os.path.getsize(path) / 1e6
-                    print(f"{SESSIONS} sessions of {accounts} accounts, {size:.0f} MB, grades {grades}: {spent:.1f} s, "
+                    print(f"{sessions} sessions of {accounts} accounts, {size:.0f} MB, grades {grades}: {spent:.1f} s, "
                           f"{used.ru_maxrss / 1000:.0f} MB of memory", flush=True)
         finally:
             lab.kill()

@@ -1,5 +1,5 @@
 -- Conditions after one another.
-use Rattle.std.proofs.Common.{◌≡◌, ℕ, ◌+◌, ◌<◌, Bool, true, false, List, [], ◌∷◌, ◌++◌, length, map, drop, get_or}
+use Rattle.std.proofs.Common.{◌≡◌, ℕ, zero, suc, ◌+◌, ◌<◌, Bool, true, false, List, [], ◌∷◌, ◌++◌, length, map, drop, get_or}
 use Rattle.std.proofs.Common.{Option, None, Some, refl, ap, sym, ◌∙◌, arith}
 use Rattle.std.specs.Prelude.{Result, Ok, Err, filter, find, is_some}
 use Rattle.std.specs.List.{flat_map, list_any}
@@ -34,6 +34,12 @@ is_held [] done e = refl
 is_held ((true, f) ∷ conditions) done e = is_held conditions done e
 is_held ((false, f) ∷ conditions) done e = absurd (cc)
 
+-- the row at a place of the list is the same, whatever stands behind its end
+pub same_at : {R : Type 0} (rows : List R) (i : ℕ) (d e : R) → i < length rows → get_or rows i d ≡ get_or rows i e
+same_at [] i d e low = absurd (omega (arith, low))
+same_at (r ∷ rows) zero d e low = refl
+same_at (r ∷ rows) (suc i) d e low = same_at rows i d e (omega (arith, low))
+
 module _ {R F : Type 0} (conditions : R → List (Condition F)) where
   abbrev pub of_rest : List R → ℕ → Result (Unit {0}) F
   of_rest rows i = judged (flat_map conditions (drop i rows)) (tt {0})
@@ -43,6 +49,23 @@ module _ {R F : Type 0} (conditions : R → List (Condition F)) where
       → of_rest rows i ≡ then (judged (conditions row) (tt {0})) (of_rest rows (i + 1))
   row_first rows i row low is = rw (drop_more rows i row low)
       (rw (← is) (judged_joined (conditions row) (flat_map conditions (drop (i + 1) rows))))
+
+  row_at : (rows : List R) (i : ℕ) (d : R) → i < length rows
+      → of_rest rows i ≡ then (judged (conditions (get_or rows i d)) (tt {0})) (of_rest rows (i + 1))
+  row_at rows i d low = row_first rows i (get_or rows i d) low (same_at rows i d (get_or rows i d) low)
+
+  -- a row on which all holds, and one on which something is broken
+  pub row_passed : (rows : List R) (i : ℕ) (d : R) (result whole : Result (Unit {0}) F) (done : Unit {0})
+      → i < length rows → result ≡ judged (conditions (get_or rows i d)) (tt {0}) → result ≡ Ok done
+      → of_rest rows i ≡ whole → of_rest rows (i + 1) ≡ whole
+  row_passed rows i d result whole done low judges is so_far =
+      sym (row_at rows i d low ∙ ap (λ r. then r (of_rest rows (i + 1))) (sym judges ∙ is)) ∙ so_far
+
+  pub row_broken : (rows : List R) (i : ℕ) (d : R) (result whole : Result (Unit {0}) F) (fault : F)
+      → i < length rows → result ≡ judged (conditions (get_or rows i d)) (tt {0}) → result ≡ Err fault
+      → of_rest rows i ≡ whole → Err fault ≡ whole
+  row_broken rows i d result whole fault low judges is so_far =
+      sym (row_at rows i d low ∙ ap (λ r. then r (of_rest rows (i + 1))) (sym judges ∙ is)) ∙ so_far
 
 -- what is found is there
 pub found_any : {R : Type 0} (p : R → Bool) (rows : List R) → is_some (find p rows) ≡ list_any p rows

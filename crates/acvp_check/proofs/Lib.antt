@@ -1,4 +1,5 @@
 pub mod Joins
+pub mod NearLemmas
 pub mod Holds
 pub mod AccountLemmas
 pub mod GradedLemmas

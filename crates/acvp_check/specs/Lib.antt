@@ -1,4 +1,5 @@
 pub mod Conditions
+pub mod Near
 pub mod Order
 pub mod Owners
 pub mod Rows

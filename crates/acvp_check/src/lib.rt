@@ -5,6 +5,7 @@ mod account;
 mod certifications;
 mod finding;
 mod laws;
+mod near;
 mod numbers;
 mod objects;
 mod owners;

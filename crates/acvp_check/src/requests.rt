@@ -8,11 +8,11 @@ ghost use Rattle.acvp_check.specs.declared.finding.RowKey.TheVariants as key_val
 ghost use Rattle.acvp_tables.specs.declared.rows.RequestBody.TheVariants as body_value;
 
 use crate::finding::{Finding, RowKey, Wrong};
+use crate::near::has_session;
 use crate::numbers::first_of_account;
 use crate::objects::{has_object, is_sound_object};
 use crate::rows::Rows;
-use crate::sets::SessionIs;
-use crate::walks::{Judge, Numbers, check, each, found, rise};
+use crate::walks::{Judge, Numbers, check, each, rise};
 use acvp_registry::Kind;
 use acvp_tables::{Certification, ObjectRow, RequestBody, RequestRow, RequestStatus};
 
@@ -61,7 +61,7 @@ fn names_rows(mine: &Rows, it: &Certification) -> bool
 {
     has_object(&mine.objects, Kind::Module, it.module)
         && has_object(&mine.objects, Kind::Environment, it.environment)
-        && found(&mine.sessions, &SessionIs { number: it.session })
+        && has_session(&mine.sessions, it.session)
 }
 
 /// Whether what an approval gave under a number is there.

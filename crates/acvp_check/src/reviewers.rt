@@ -6,10 +6,10 @@ ghost use Rattle.acvp_check.specs.Conditions.{reviewer_own_conditions, reviewer_
 ghost use Rattle.acvp_check.specs.Conditions.{reviewers_at, reviewers_in};
 
 use crate::finding::{Finding, RowKey, Wrong};
+use crate::near::has_session;
 use crate::numbers::is_account_number;
 use crate::rows::Rows;
-use crate::sets::SessionIs;
-use crate::walks::{Judge, Predicate, check, count, each, found};
+use crate::walks::{Judge, Predicate, check, count, each};
 use acvp_tables::ReviewerRow;
 
 /// The most reviewers of a session.
@@ -50,10 +50,8 @@ fn reviewer_own_wrong(mine: &Rows, row: ReviewerRow) -> Result<(), Finding>
     ensures { result ≡ judged (reviewer_own_conditions mine.now row) tt }
 {
     let key = RowKey::Reviewer(row.session, row.account);
-    let session = SessionIs {
-        number: row.session,
-    };
-    check(found(&mine.sessions, &session), key, Wrong::NoSession)?;
+    let has_session = has_session(&mine.sessions, row.session);
+    check(has_session, key, Wrong::NoSession)?;
     check(is_account_number(row.account), key, Wrong::NoAccountNumber)
 }
 

@@ -1,6 +1,6 @@
 //! The conditions on sessions.
 ghost use Rattle.std.specs.Prelude.{◌≡◌, ◌==◌, ◌&&◌, length, nat_le, true};
-ghost use Rattle.std.specs.List.{list_any};
+ghost use Rattle.std.specs.List.{flat_map, list_any};
 ghost use Rattle.acvp_mac.specs.Conditions.{judged};
 ghost use Rattle.acvp_tables.specs.Counted.{answers_passed, is_counted, is_passed_in};
 ghost use Rattle.acvp_tables.specs.Content.{is_live_in};
@@ -8,13 +8,15 @@ ghost use Rattle.acvp_tables.specs.State.{certifies};
 ghost use Rattle.acvp_check.specs.Conditions.{is_certified, session_conditions, session_count_conditions};
 ghost use Rattle.acvp_check.specs.Conditions.{session_counter_conditions, session_own_conditions};
 ghost use Rattle.acvp_check.specs.Conditions.{session_row_conditions, sets_of};
-ghost use Rattle.acvp_check.specs.Conditions.{session_numbers};
+ghost use Rattle.acvp_check.specs.Conditions.{session_numbers, set_numbers};
+ghost use Rattle.acvp_check.specs.Near.{AreItsSets, Ascend};
 ghost use Rattle.acvp_check.specs.declared.finding.RowKey.TheVariants as key_value;
 
 use crate::finding::{Finding, RowKey, Wrong};
+use crate::near::{ascend, at_its_place, sets_near};
 use crate::numbers::{first_of_account, first_of_session};
 use crate::rows::Rows;
-use crate::walks::{Judge, Numbers, Predicate, any, check, count, each, rise};
+use crate::walks::{Numbers, Predicate, any, check, count, rise};
 use acvp_answers::Disposition;
 use acvp_desk::END_OF_MOMENTS;
 use acvp_tables::{Graded, RequestBody, RequestRow, SessionRow, SetRow};
@@ -157,19 +159,32 @@ fn is_counted(sets: &[SetRow], row: &SessionRow) -> bool
     row.live == count(sets, &LiveIn { session }) && row.passed == count(sets, &PassedIn { session })
 }
 
+/// Whether the request of a number is at its place, and for a session's certification.
+fn is_certified_at_its_place(requests: &[RequestRow], session: u64, request: u64) -> bool
+    ensures { result ≡ true
+        → list_any (λ row. (row.number == request) && certifies session row.body) requests.now ≡ true }
+{
+    match at_its_place(requests, request) {
+        Some(row) => certifies(session, &row.body),
+        None => false,
+    }
+}
+
+/// Whether the request of a number is there, and for a session's certification.
+fn is_certified_by(requests: &[RequestRow], session: u64, request: u64) -> bool
+    ensures { result ≡ list_any (λ row. (row.number == request) && certifies session row.body) requests.now }
+{
+    is_certified_at_its_place(requests, session, request)
+        || any(requests, &CertifiedBy { session, request })
+}
+
 /// Whether a session's last request is there, and for its certification.
 fn is_certified(requests: &[RequestRow], row: &SessionRow) -> bool
     ensures { result ≡ is_certified requests.now row.now }
 {
     match row.last_request {
         None => true,
-        Some(request) => any(
-            requests,
-            &CertifiedBy {
-                session: row.number,
-                request,
-            },
-        ),
+        Some(request) => is_certified_by(requests, row.number, request),
     }
 }
 
@@ -199,43 +214,63 @@ fn are_few(sets: &[SetRow], session: u64) -> bool
 
 /// What is wrong with the number of a session's vector sets.
 #[tactic(auto, unfolding(crate::specs::Conditions::session_count_conditions))]
-fn session_count_wrong(mine: &Rows, row: &SessionRow) -> Result<(), Finding>
+fn session_count_wrong(mine: &Rows, sets: &[SetRow], row: &SessionRow) -> Result<(), Finding>
+    requires { AreItsSets row.now mine.now.sets sets.now }
     ensures { result ≡ judged (session_count_conditions mine.now row.now) tt }
 {
     let key = RowKey::Session(row.number);
-    check(has_sets(&mine.sets, row.number), key, Wrong::NoSet)?;
-    check(are_few(&mine.sets, row.number), key, Wrong::ManySets)
+    check(has_sets(sets, row.number), key, Wrong::NoSet)?;
+    check(are_few(sets, row.number), key, Wrong::ManySets)
 }
 
 /// What is wrong with a session's counters.
 #[tactic(auto, unfolding(crate::specs::Conditions::session_counter_conditions))]
-fn session_counter_wrong(mine: &Rows, row: &SessionRow) -> Result<(), Finding>
+fn session_counter_wrong(mine: &Rows, sets: &[SetRow], row: &SessionRow) -> Result<(), Finding>
+    requires { AreItsSets row.now mine.now.sets sets.now }
     ensures { result ≡ judged (session_counter_conditions mine.now row.now) tt }
 {
-    let is_counted = is_counted(&mine.sets, row);
+    let is_counted = is_counted(sets, row);
     check(is_counted, RowKey::Session(row.number), Wrong::Counter)
 }
 
-/// The conditions on a session, among an account's rows.
-#[derive(Clone, Copy)]
-struct InAccount<'a> {
-    mine: &'a Rows,
+/// The first of a session's vector sets that hasn't the next number.
+fn set_numbers_wrong(mine: &Rows, sets: &[SetRow], row: &SessionRow) -> Result<(), Finding>
+    requires { AreItsSets row.now mine.now.sets sets.now }
+    ensures { result ≡ judged (set_numbers row.now.number mine.now.sets) tt }
+{
+    let session = row.number;
+    rise(sets, &SetsOf { session }, first_of_session(session))
 }
 
-impl Judge<SessionRow> for InAccount<'_> {
-    ghost conditions = { λ t row. session_row_conditions t.mine.now row };
+/// What is wrong with a session, all of whose vector sets are among these.
+#[tactic(auto, using(crate::proofs::Joins::judged_joined))]
+fn session_row_wrong(mine: &Rows, sets: &[SetRow], row: &SessionRow) -> Result<(), Finding>
+    requires { AreItsSets row.now mine.now.sets sets.now }
+    ensures { result ≡ judged (session_row_conditions mine.now row.now) tt }
+{
+    session_own_wrong(mine, row)?;
+    session_count_wrong(mine, sets, row)?;
+    session_counter_wrong(mine, sets, row)?;
+    set_numbers_wrong(mine, sets, row)
+}
 
-    #[tactic(auto, using(crate::proofs::Joins::judged_joined))]
-    fn judge(&self, row: &SessionRow) -> Result<(), Finding> {
-        let mine = self.mine;
-        session_own_wrong(mine, row)?;
-        session_count_wrong(mine, row)?;
-        session_counter_wrong(mine, row)?;
-        let sets = SetsOf {
-            session: row.number,
-        };
-        rise(&mine.sets, &sets, first_of_session(row.number))
+/// What is wrong with a session, where vector sets ascend by their sessions or don't.
+fn session_wrong(mine: &Rows, ascending: bool, row: &SessionRow) -> Result<(), Finding>
+    requires { ascending ≡ true → Ascend mine.now.sets }
+    ensures { result ≡ judged (session_row_conditions mine.now row.now) tt }
+{
+    session_row_wrong(mine, sets_near(&mine.sets, ascending, row), row)
+}
+
+/// What is wrong with the first of these sessions that isn't right.
+fn session_rows_wrong(mine: &Rows, rows: &[SessionRow]) -> Result<(), Finding>
+    ensures { result ≡ judged (flat_map (session_row_conditions mine.now) rows.now) tt }
+{
+    let ascending = ascend(&mine.sets);
+    for row in rows {
+        session_wrong(mine, ascending, row)?;
     }
+    Ok(())
 }
 
 /// The first session of an account that hasn't the next number.
@@ -257,5 +292,5 @@ pub(crate) fn sessions_wrong(account: u16, mine: &Rows) -> Result<(), Finding>
         Wrong::ManySessions,
     )?;
     session_numbers_wrong(account, &mine.sessions)?;
-    each(&mine.sessions, &InAccount { mine })
+    session_rows_wrong(mine, &mine.sessions)
 }

@@ -5,8 +5,9 @@ ghost use Rattle.acvp_tables.specs.State.{of_all};
 ghost use Rattle.acvp_check.specs.Conditions.{is_disposed, set_conditions, set_row_conditions};
 
 use crate::finding::{Finding, RowKey, Wrong};
+use crate::near::has_session;
 use crate::rows::Rows;
-use crate::walks::{Judge, Predicate, check, each, found};
+use crate::walks::{Judge, Predicate, check, each};
 use acvp_answers::disposition;
 use acvp_gen::Seeds;
 use acvp_tables::{Graded, SessionRow, SetRow};
@@ -48,10 +49,8 @@ impl Judge<SetRow> for UnderSeeds<'_> {
     fn judge(&self, row: &SetRow) -> Result<(), Finding> {
         let mine = self.mine;
         let key = RowKey::Set(row.number);
-        let session = SessionIs {
-            number: row.session,
-        };
-        check(found(&mine.sessions, &session), key, Wrong::NoSession)?;
+        let has_session = has_session(&mine.sessions, row.session);
+        check(has_session, key, Wrong::NoSession)?;
         check(self.seeds.get(row.epoch).is_some(), key, Wrong::NoSeed)?;
         check(is_disposed(&row.graded), key, Wrong::Disposition)
     }
