@@ -39,7 +39,7 @@ use Rattle.acvp_desk.specs.Answer.{content_effect, end_of_moments, facts_in, fou
 use Rattle.acvp_desk.specs.Answer.{policy_conditions}
 use Rattle.acvp_desk.specs.Asked.{certification_change, certified_in, certification_grounds, object_change, object_in}
 use Rattle.acvp_desk.specs.Asked.{certification_made, object_grounds, request_made}
-use Rattle.acvp_desk.specs.Certifications.{AreCertified, IsLeft, is_rejected, may_be_certified}
+use Rattle.acvp_desk.specs.Certifications.{AreCertified, is_rejected, may_be_certified}
 use Rattle.acvp_desk.specs.Kept.{IsKept}
 use Rattle.acvp_desk.specs.Login.{login_step}
 use Rattle.acvp_desk.specs.NewSessions.{new_session_in}
@@ -375,14 +375,12 @@ module _ (session_follows : (n : ℕ) (c : Content)
       used None = certified
       used (Some row) = stepped row (login_step m login row)
 
-  pub request_left : (keys : Keys) (m : ℕ) (r : RequestValue) (c : Content)
-      → IsKept keys.seed (content_effect keys m r c) → IsLeft keys.seed c → IsLeft keys.seed (content_effect keys m r c)
+  pub request_certified : (keys : Keys) (m : ℕ) (r : RequestValue) (c : Content) → IsKept keys.seed c → AreCertified c
+      → AreCertified (content_effect keys m r c)
   unfolding accepted_change
-  request_left keys m r c kept left = record {
-    kept = kept;
-    certified = by_answer keys m r c (answer keys m r (state_of c)) (asker_of keys m r) (holds keys m r (state_of c))
-        left.kept left.certified;
-  }
+  request_certified keys m r c kept certified =
+      by_answer keys m r c (answer keys m r (state_of c)) (asker_of keys m r) (holds keys m r (state_of c)) kept
+      certified
 
 -- ---- orders
 
@@ -406,7 +404,7 @@ decided_certified n decided c d sessions requests stands certified = record {
       (certifiable_once_decided n decided c.sessions c.requests stands certified.certifiable);
 }
 
-order_certified : (it : Order) (c : Content) → AreCertified c → AreCertified (content_order_effect it c)
+pub order_certified : (it : Order) (c : Content) → AreCertified c → AreCertified (content_order_effect it c)
 unfolding change_for after_order state_of
 order_certified (order.AddAccount a secret) c certified = go (has_account a (state_of c))
   where
@@ -436,7 +434,3 @@ order_certified (order.RejectRequest n) c certified = go (waiting_request n (sta
     go None = certified
     go (Some row) = decided_certified n status.Rejected c (after_order (order_change.Reject n) c) refl refl
         (λ r found stands. absurd (cc)) certified
-
-pub order_left : (seeds : List (List ℕ)) (it : Order) (c : Content) → IsKept seeds (content_order_effect it c)
-    → IsLeft seeds c → IsLeft seeds (content_order_effect it c)
-order_left seeds it c kept left = record { kept = kept; certified = order_certified it c left.certified }

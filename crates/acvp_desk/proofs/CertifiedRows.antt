@@ -150,11 +150,11 @@ module _ (n : ℕ) (f : SessionRow → SessionRow) (same : (row : SessionRow) �
 
 -- ---- rows that are added
 
-appended : {R : Type 0} (p : R → Bool) (rows more : List R) (x : R) → find p rows ≡ Some x → find p (rows ++ more)
+pub appended : {R : Type 0} (p : R → Bool) (rows more : List R) (x : R) → find p rows ≡ Some x → find p (rows ++ more)
     ≡ Some x
 appended p rows more x is = find-append p rows more ∙ ap (λ found. option_or found (find p more)) is
 
-behind : {R : Type 0} (p : R → Bool) (rows more : List R) → find p rows ≡ None → find p (rows ++ more) ≡ find p more
+pub behind : {R : Type 0} (p : R → Bool) (rows more : List R) → find p rows ≡ None → find p (rows ++ more) ≡ find p more
 behind p rows more none = find-append p rows more ∙ ap (λ found. option_or found (find p more)) none
 
 -- a session that was there is found as before

@@ -90,11 +90,11 @@ module _ (requests : (u n : ℕ) (state : State) → IsWellNumbered state
     → objects_in kind (own u state).objects ≡ objects_of kind u state.objects)
     (state : State) (well : IsWellNumbered state) (n : ℕ) (row : RequestRow)
     (found : waiting_request n state ≡ Some row) where
-  record IsThere : Type 0 where
+  pub record IsThere : Type 0 where
     pub there : request_at n state.requests ≡ Some row
     pub initial : row.status ≡ status.Initial
 
-  is_there : IsThere
+  pub is_there : IsThere
   is_there = go (request_at n state.requests) refl found
     where
       at : (r : RequestRow) (b : Bool) → is_initial r.status ≡ b → request_at n state.requests ≡ Some r
@@ -128,7 +128,7 @@ module _ (requests : (u n : ℕ) (state : State) → IsWellNumbered state
           (own (owner_of n) state).requests ≡ true
       asked_of well = (well (owner_of n)).asked
 
-  number_next : IsNextApproved (owner_of n) (own (owner_of n) state) row.body (approved_number state row)
+  pub number_next : IsNextApproved (owner_of n) (own (owner_of n) state) row.body (approved_number state row)
   number_next = rw (names n state row well is_there.there) (go row.body sound)
     where
       go : (b : RequestBody) → is_sound_body (own (owner_of n) state) b ≡ true

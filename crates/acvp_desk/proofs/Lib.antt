@@ -12,6 +12,8 @@ pub mod DecidedRequest
 pub mod KeptRecords
 pub mod CertifiedRows
 pub mod CertifiedRecords
+pub mod RegisteredRows
+pub mod RegisteredRecords
 pub mod ErrorBodies
 pub mod PassedSession
 pub mod FoundRows

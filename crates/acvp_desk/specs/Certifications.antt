@@ -10,6 +10,7 @@ use Rattle.acvp_tables.specs.declared.rows.RequestStatus.{RequestStatus}
 use Rattle.acvp_tables.specs.declared.rows.RequestStatus.TheVariants as status
 use Rattle.acvp_tables.specs.declared.rows.SessionRow.{SessionRow}
 use Rattle.acvp_desk.specs.Kept.{IsKept}
+use Rattle.acvp_desk.specs.Registrations.{AreRegistered}
 
 abbrev pub is_rejected : RequestStatus → Bool
 is_rejected status.Initial = false
@@ -45,8 +46,9 @@ pub record AreCertified (c : Content) : Type 0 where
   pub last : (n : ℕ) → of_all (is_last c.sessions) (request_at n c.requests) ≡ true
   pub certifiable : (n : ℕ) → of_all (is_certifiable c.requests) (session_at n c.sessions) ≡ true
 
--- the records have what every run keeps: they are consistent, and each certification that isn't rejected is of a
--- session that has passed
+-- the records have what every run keeps: they are consistent, each certification that isn't rejected is of a session
+-- that has passed, and each approved registration has its object as it was asked for, under a number of its own
 pub record IsLeft (seeds : List (List ℕ)) (c : Content) : Type 0 where
   pub kept : IsKept seeds c
   pub certified : AreCertified c
+  pub registered : AreRegistered c

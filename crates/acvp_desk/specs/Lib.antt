@@ -13,6 +13,7 @@ pub mod Replies
 pub mod OwnConditions
 pub mod Answer
 pub mod Kept
+pub mod Registrations
 pub mod Certifications
 pub mod Serves
 pub mod Desk

@@ -20,8 +20,9 @@ ghost use Rattle.acvp_desk.specs.declared.order.Order.{Order};
 ghost use Rattle.acvp_desk.specs.Request.{RequestValue};
 
 use acvp_tables::{
-    counts_are_kept, counts_differ_by_one, numbers_are_kept, numbers_count, numbers_name,
-    numbers_tell, records_begin_well, selections_follow, sets_are_there_once, state_follows,
+    approvals_name_the_account, counts_are_kept, counts_differ_by_one, numbers_are_kept,
+    numbers_count, numbers_name, numbers_tell, records_begin_well, selections_follow,
+    sets_are_there_once, state_follows,
 };
 
 /// What a request or an order makes of what is kept is what it makes of the records of it.
@@ -64,6 +65,10 @@ pub fn left_records_are_left()
 {
     records_are_kept();
     selections_follow();
+    numbers_name();
+    numbers_tell();
+    numbers_count();
+    approvals_name_the_account();
 }
 
 /// The reply to a request that is accepted shows an object, where what is kept is right and there is a seed.

@@ -1,5 +1,6 @@
 use Rattle.std.proofs.Common.{refl}
-use Rattle.acvp_desk.proofs.CertifiedRecords.{request_left, order_left}
+use Rattle.acvp_desk.proofs.CertifiedRecords.{request_certified, order_certified}
+use Rattle.acvp_desk.proofs.RegisteredRecords.{request_registered, order_registered}
 use Rattle.acvp_desk.proofs.laws.left_records_are_left.Goals as goal
 
 pub returns : goal.returns
@@ -7,10 +8,19 @@ returns c = record {
   start = λ seeds. record {
     kept = c.records_are_kept.ensures.start seeds;
     certified = record { last = λ n. refl; certifiable = λ n. refl };
+    registered = record { asked = λ n. refl; once = λ n. refl };
   };
-  request = λ keys m r it left.
-      request_left c.selections_follow.ensures.session c.selections_follow.ensures.live_sets keys m r it
-      (c.records_are_kept.ensures.request keys m r it left.kept) left;
-  order = λ seeds it of is has left.
-      order_left seeds it of (c.records_are_kept.ensures.order seeds it of is has left.kept) left;
+  request = λ keys m r it left. record {
+    kept = c.records_are_kept.ensures.request keys m r it left.kept;
+    certified = request_certified c.selections_follow.ensures.session c.selections_follow.ensures.live_sets keys m r it
+        left.kept left.certified;
+    registered = request_registered keys m r it left.registered;
+  };
+  order = λ seeds it of is has left. record {
+    kept = c.records_are_kept.ensures.order seeds it of is has left.kept;
+    certified = order_certified it of left.certified;
+    registered = order_registered c.numbers_tell.ensures.request c.numbers_tell.ensures.object
+        c.numbers_name.ensures.request c.numbers_count.ensures.objects c.approvals_name_the_account.ensures it of
+        left.kept.sound left.registered;
+  };
 }
