@@ -196,6 +196,22 @@ def certifications():
         yield [asked, update("session", "certify", 7000012, session=SAMPLE)], f"session {SAMPLE} notCertifiable"
 
 
+def registrations():
+    """Approvals of objects that aren't those which were asked for, and two approvals with the number of one object."""
+    one, two, module = '{"name":"One"}', '{"name":"Two"}', '{"name":"Module","vendorUrl":"/acvp/v1/vendors/700000%d"}'
+    for kind, body, request in ((VENDOR, two, 7000001), (ENVIRONMENT, NAMED, 7000003), (MODULE, module % 2, 7000004)):
+        yield [update("object", "body", body, kind=kind, number=7000001)], f"request {request} notAsAsked"
+        yield [update("request", "body", body, request=request)], f"request {request} notAsAsked"
+    yield ([update("request", "approved", 7000002, request=7000001),
+            update("request", "approved", 7000001, request=7000002)], "request 7000001 notAsAsked")
+    for body, word in ((one, "givenTwice"), (two, "notAsAsked")):
+        yield [insert("request", 7000012, 7, VENDOR, body, 1, 7000001)], f"request 7000012 {word}"
+    # the module was asked for three times, with one text
+    for request in (7000009, 7000010):
+        yield ([update("request", "status", 1, request=request),
+                update("request", "approved", 7000001, request=request)], f"request {request} givenTwice")
+
+
 def pairs():
     """Two damages, of which the one that is looked for first is told."""
     counter = update("session", "live", 0, session=OPEN)
@@ -206,9 +222,11 @@ def pairs():
     yield [counter, update("vset2", "epoch", 1, vs=OPEN * 100 + 1)], f"session {OPEN} counter"
     yield ([update("vset2", "epoch", 1, vs=READY * 100 + 1), delete("request", request=7000010)],
            f"set {READY * 100 + 1} noSeed")
+    yield ([update("request", "body", NAMED, request=7000001), update("session", "certify", None, session=CERTIFIED)],
+           "request 7000005 notLast")
 
 
-GROUPS = (outside, stray, owners, sessions, sets, requests, objects, reviewers, certifications, pairs)
+GROUPS = (outside, stray, owners, sessions, sets, requests, objects, reviewers, certifications, registrations, pairs)
 
 
 def verdicts(connection):

@@ -29,8 +29,8 @@ use Rattle.acvp_tables.proofs.Empty.{none_sound}
 use Rattle.acvp_tables.proofs.KeptLemmas.{list_all_weaker, list_all-filter}
 use Rattle.acvp_check.specs.Conditions.{all_conditions, account_conditions, own_row_conditions, session_conditions}
 use Rattle.acvp_check.specs.Conditions.{set_conditions, request_conditions, object_conditions, all_kinds_conditions}
-use Rattle.acvp_check.specs.Conditions.{reviewer_conditions, certification_conditions, is_of_certification}
-use Rattle.acvp_check.specs.Conditions.{verdict_conditions}
+use Rattle.acvp_check.specs.Conditions.{reviewer_conditions, certification_conditions, is_beyond_kept}
+use Rattle.acvp_check.specs.Conditions.{registration_conditions, verdict_conditions}
 use Rattle.acvp_check.specs.Order.{HaveSameRows, AreInOrder}
 use Rattle.acvp_check.specs.Owners.{is_of, is_in, owner_conditions, session_owners, registry_owners}
 use Rattle.acvp_check.specs.Rows.{AreNumbered, rows_numbered, rows_of}
@@ -292,7 +292,8 @@ module _ (u : ℕ) (c : Content) where
 
   none_wrong : (seeds : List (List ℕ)) (v : ℕ) → first_broken (all_conditions true seeds v no_rows) ≡ None
   unfolding account_conditions own_row_conditions session_conditions set_conditions request_conditions object_conditions
-      all_kinds_conditions reviewer_conditions certification_conditions verdict_conditions state_of
+      all_kinds_conditions reviewer_conditions certification_conditions registration_conditions verdict_conditions
+      state_of
   none_wrong seeds v = refl
 
   numbered : (seeds : List (List ℕ)) → IsKept seeds c → AreNumbered (rows_numbered u c)
@@ -402,7 +403,7 @@ none_of_both front rest none =
 module _ (grades : Bool) (seeds : List (List ℕ)) (u : ℕ) (c mine : Content)
     (same : HaveSameRows (rows_numbered u c) mine) (up : AreInOrder mine) (own : rows_numbered u mine ≡ mine)
     (found : Finding) (broken : IsBroken grades seeds u mine found) where
-  pub not_kept : is_of_certification found.wrong ≡ false → ¬ IsKept seeds c
+  pub not_kept : is_beyond_kept found.wrong ≡ false → ¬ IsKept seeds c
   not_kept other is =
       let part = kept_in_order seeds (rows_numbered u c) mine same up (part_kept u c seeds is) in
       let owners = subst (λ d. first_broken (owner_conditions d) ≡ None) own (part_unbroken seeds mine part u) in

@@ -14,6 +14,8 @@ use Rattle.acvp_desk.specs.Certifications.{AreCertified, certified_session, is_c
 use Rattle.acvp_desk.specs.Certifications.{is_rejected, may_be_certified}
 use Rattle.acvp_desk.proofs.CertifiedRows.{found_is}
 use Rattle.acvp_desk.proofs.DecidedRequest.{found_passes}
+use Rattle.acvp_desk.proofs.RegisteredRecords.{requests_once}
+use Rattle.acvp_desk.proofs.RegisteredRows.{filtered_own}
 use Rattle.acvp_registry.specs.declared.kind.Kind.TheVariants.{Module, Environment}
 use Rattle.acvp_tables.specs.Content.{Content, object_at, request_at, session_at}
 use Rattle.acvp_tables.specs.State.{IsNumbered, IsWellNumbered, IsWellNumberedFor, first_of_account}
@@ -23,10 +25,10 @@ use Rattle.acvp_tables.specs.declared.rows.RequestBody.TheVariants as body
 use Rattle.acvp_tables.specs.declared.rows.RequestRow.{RequestRow}
 use Rattle.acvp_tables.specs.declared.rows.SessionRow.{SessionRow}
 use Rattle.acvp_tables.proofs.CertifiedSession.{certification_names}
-use Rattle.acvp_tables.proofs.KeptLemmas.{of_all_weaker}
+use Rattle.acvp_tables.proofs.KeptLemmas.{list_all_weaker, of_all_weaker}
 use Rattle.acvp_tables.proofs.Numbers.{eqb_same, keyed, once_numbered}
 use Rattle.acvp_tables.proofs.Selections.{session_follows}
-use Rattle.acvp_check.specs.Conditions.{certifiable_conditions, certification_conditions, finding, is_of_certification}
+use Rattle.acvp_check.specs.Conditions.{certifiable_conditions, certification_conditions, finding, is_beyond_kept}
 use Rattle.acvp_check.specs.Conditions.{last_conditions}
 use Rattle.acvp_check.specs.declared.finding.Finding.{Finding}
 use Rattle.acvp_check.specs.declared.finding.RowKey.TheVariants as key
@@ -54,38 +56,29 @@ by_last n (Some row) = refl
 
 -- ---- rows that are found by their numbers
 
--- among the rows of an account the same row is found, or none
-among_own : {R : Type 0} (number class : R → ℕ) (u n : ℕ) (rows : List R)
+-- where a test tells whose a row is, it finds the same among the rows of an account, or none
+pub among_own : {R : Type 0} (test such : R → Bool) (class : R → ℕ) (u : ℕ) (b : Bool)
+    → ((r : R) → such r ≡ true → test r ≡ true → (class r == u) ≡ b) → (rows : List R) → list_all such rows ≡ true
+    → find test (filter (λ r. class r == u) rows) ≡ (if b then find test rows else None)
+among_own test such class u true tells [] all = refl
+among_own test such class u false tells [] all = refl
+among_own test such class u b tells (r ∷ rows) all =
+    grind (arith, nat_tests, tells r, among_own test such class u b tells rows)
+
+-- as its number does
+numbered_own : {R : Type 0} (number class : R → ℕ) (u n : ℕ) (rows : List R)
     → list_all (λ r. owner_of (number r) == class r) rows ≡ true
     → find (λ r. number r == n) (filter (λ r. class r == u) rows)
     ≡ (if owner_of n == u then find (λ r. number r == n) rows else None)
-among_own {R = R} number class u n rows all = go (owner_of n == u) refl rows all
+numbered_own {R = R} number class u n rows all =
+    among_own (λ r. number r == n) (λ r. owner_of (number r) == class r) class u (owner_of n == u) tells rows all
   where
-    tells : (b : Bool) → (owner_of n == u) ≡ b → (r : R) → (owner_of (number r) == class r) ≡ true
-        → (number r == n) ≡ true → (class r == u) ≡ b
-    tells b is r keyed at = grind (arith, nat_tests, is, keyed, at)
-
-    go : (b : Bool) → (owner_of n == u) ≡ b → (rows : List R)
-        → list_all (λ r. owner_of (number r) == class r) rows ≡ true
-        → find (λ r. number r == n) (filter (λ r. class r == u) rows)
-        ≡ (if b then find (λ r. number r == n) rows else None)
-    go true is [] all = refl
-    go false is [] all = refl
-    go b is (r ∷ rows) all = grind (arith, nat_tests, tells b is r, go b is rows)
-
--- and all that are
-filtered_own : {R : Type 0} (number class : R → ℕ) (n : ℕ) (rows : List R)
-    → list_all (λ r. owner_of (number r) == class r) rows ≡ true
-    → filter (λ r. number r == n) (filter (λ r. class r == owner_of n) rows) ≡ filter (λ r. number r == n) rows
-filtered_own number class n [] all = refl
-filtered_own {R = R} number class n (r ∷ rows) all =
-    grind (arith, nat_tests, tells, filtered_own number class n rows)
-  where
-    tells : (owner_of (number r) == class r) ≡ true → (number r == n) ≡ true → (class r == owner_of n) ≡ true
-    tells keyed at = grind (arith, nat_tests, keyed, at)
+    tells : (r : R) → (owner_of (number r) == class r) ≡ true → (number r == n) ≡ true
+        → (class r == u) ≡ (owner_of n == u)
+    tells r keyed at = grind (arith, nat_tests, keyed, at)
 
 -- what holds of each that is found holds of all
-all_found : {R : Type 0} (number : R → ℕ) (q : R → Bool) (i : ℕ) (rows : List R) → IsNumbered number i rows
+pub all_found : {R : Type 0} (number : R → ℕ) (q : R → Bool) (i : ℕ) (rows : List R) → IsNumbered number i rows
     → ((n : ℕ) → i ≤ n → of_all q (find (λ r. number r == n) rows) ≡ true) → list_all q rows ≡ true
 all_found number q i [] e is = refl
 all_found number q i (r ∷ rows) e is =
@@ -106,12 +99,17 @@ all_found number q i (r ∷ rows) e is =
         rw off at found
 
 -- and what holds of all holds of the one that is found
-of_found : {R : Type 0} (p q : R → Bool) (rows : List R) → list_all q rows ≡ true → of_all q (find p rows) ≡ true
+pub of_found : {R : Type 0} (p q : R → Bool) (rows : List R) → list_all q rows ≡ true → of_all q (find p rows) ≡ true
 of_found {R = R} p q rows all = go (find p rows) refl
   where
     go : (found : Option R) → find p rows ≡ found → of_all q found ≡ true
     go None is = refl
     go (Some x) is = found_passes p q rows x is all
+
+-- of one condition a row
+pub one : {R : Type 0} (p : R → Bool) (rows : List R) → list_all (λ r. p r && true) rows ≡ true
+    → list_all p rows ≡ true
+one p rows e = list_all_weaker (λ r. p r && true) p (λ r h. (both (p r) true h).0) rows e
 
 -- ---- an account's rows, and all
 
@@ -119,14 +117,14 @@ module _ (c : Content) (sound : IsWellNumbered (state_of c)) where
   sessions_own : (u n : ℕ) → session_at n (rows_of u c).sessions
       ≡ (if owner_of n == u then session_at n c.sessions else None)
   unfolding rows_of state_of
-  sessions_own u n = among_own (λ (row : SessionRow). row.number) (λ row. row.account) u n c.sessions
+  sessions_own u n = numbered_own (λ (row : SessionRow). row.number) (λ row. row.account) u n c.sessions
       (rows_all session_record (λ row. owner_of row.number == row.account) c.sessions
       (keyed (state_of c) sound).sessions)
 
-  requests_own : (u n : ℕ) → request_at n (rows_of u c).requests
+  pub requests_own : (u n : ℕ) → request_at n (rows_of u c).requests
       ≡ (if owner_of n == u then request_at n c.requests else None)
   unfolding rows_of state_of
-  requests_own u n = among_own (λ (row : RequestRow). row.number) (λ row. row.account) u n c.requests
+  requests_own u n = numbered_own (λ (row : RequestRow). row.number) (λ row. row.account) u n c.requests
       (keyed (state_of c) sound).requests
 
   -- ---- where the conditions hold
@@ -169,12 +167,6 @@ module _ (c : Content) (sound : IsWellNumbered (state_of c)) where
   unfolding certification_conditions
   all_certified is = record { last = last; certifiable = certifiable }
     where
-      one : {R : Type 0} (p : R → Bool) (rows : List R) → list_all (λ r. p r && true) rows ≡ true
-          → list_all p rows ≡ true
-      one p [] e = refl
-      one p (r ∷ rows) e = let two = both (p r && true) (list_all (λ r. p r && true) rows) e in
-          joint (p r) (list_all p rows) (both (p r) true two.0).0 (one p rows two.1)
-
       parts : (u : ℕ) → (list_all (is_certifiable (rows_of u c).requests) (rows_of u c).sessions ≡ true)
           × (list_all (is_last (rows_of u c).sessions) (rows_of u c).requests ≡ true)
       parts u =
@@ -336,8 +328,8 @@ abbrev told : {R : Type 0} → (R → Bool) → (R → Finding) → R → List (
 told passes tells r = (passes r, tells r) ∷ []
 
 of_kind : {R : Type 0} (passes : R → Bool) (tells : R → Finding) (rows : List R)
-    → ((r : R) → is_of_certification (tells r).wrong ≡ true) → (found : Finding)
-    → first_broken (flat_map (told passes tells) rows) ≡ Some found → is_of_certification found.wrong ≡ true
+    → ((r : R) → is_beyond_kept (tells r).wrong ≡ true) → (found : Finding)
+    → first_broken (flat_map (told passes tells) rows) ≡ Some found → is_beyond_kept found.wrong ≡ true
 of_kind passes tells [] kind found is = absurd (cc)
 of_kind {R = R} passes tells (r ∷ rows) kind found is =
     go (passes r)
@@ -345,13 +337,13 @@ of_kind {R = R} passes tells (r ∷ rows) kind found is =
     (of_kind passes tells rows kind found)
   where
     go : (b : Bool) → first_broken ((b, tells r) ∷ flat_map (told passes tells) rows) ≡ Some found
-        → (first_broken (flat_map (told passes tells) rows) ≡ Some found → is_of_certification found.wrong ≡ true)
-        → is_of_certification found.wrong ≡ true
+        → (first_broken (flat_map (told passes tells) rows) ≡ Some found → is_beyond_kept found.wrong ≡ true)
+        → is_beyond_kept found.wrong ≡ true
     go true is later = later is
     go false is later = let same : tells r ≡ found = cc in rw (← same) (kind r)
 
 pub certification_found : (mine : Content) (found : Finding)
-    → first_broken (certification_conditions mine) ≡ Some found → is_of_certification found.wrong ≡ true
+    → first_broken (certification_conditions mine) ≡ Some found → is_beyond_kept found.wrong ≡ true
 unfolding certification_conditions
 certification_found mine found is =
     elim (either_broken (flat_map (certifiable_conditions mine.requests) mine.sessions)
@@ -401,7 +393,7 @@ found_among {R = R} p P (r ∷ rows) y found all =
     go true is found head later tail = let same : r ≡ y = cc in subst P same head
     go false is found head later tail = later found tail
 
-same_found : {R : Type 0} (p : R → Bool) (xs ys : List R) → IsPermutation xs ys → length (filter p xs) ≤ 1
+pub same_found : {R : Type 0} (p : R → Bool) (xs ys : List R) → IsPermutation xs ys → length (filter p xs) ≤ 1
     → find p ys ≡ find p xs
 same_found {R = R} p xs ys same once =
     go (find p xs) refl (find p ys) refl (alike_found p xs ys (permuted xs ys same))
@@ -427,20 +419,12 @@ module _ (c d : Content) (sound : IsWellNumbered (state_of c)) (same : HaveSameR
       (numbered_rows session_record (λ row. row.number) (first_of_account (owner_of n)) (rows_of (owner_of n) c).sessions
       (wells (owner_of n)).sessions))
 
-  requests_once : (n : ℕ) → length (filter (λ (row : RequestRow). row.number == n) c.requests) ≤ 1
-  unfolding rows_of state_of
-  requests_once n =
-      subst (λ rows. length rows ≤ 1)
-      (filtered_own (λ (row : RequestRow). row.number) (λ row. row.account) n c.requests
-      (keyed (state_of c) sound).requests)
-      (once_numbered (λ (row : RequestRow). row.number) n (first_of_account (owner_of n)) (rows_of (owner_of n) c).requests
-      (wells (owner_of n)).requests)
-
   session_same : (n : ℕ) → session_at n d.sessions ≡ session_at n c.sessions
   session_same n = same_found (λ (row : SessionRow). row.number == n) c.sessions d.sessions same.sessions (sessions_once n)
 
-  request_same : (n : ℕ) → request_at n d.requests ≡ request_at n c.requests
-  request_same n = same_found (λ (row : RequestRow). row.number == n) c.requests d.requests same.requests (requests_once n)
+  pub request_same : (n : ℕ) → request_at n d.requests ≡ request_at n c.requests
+  request_same n = same_found (λ (row : RequestRow). row.number == n) c.requests d.requests same.requests
+      (requests_once c sound n)
 
   pub certified_in_order : AreCertified c → AreCertified d
   certified_in_order certified = record {

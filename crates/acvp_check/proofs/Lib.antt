@@ -5,6 +5,7 @@ pub mod AccountLemmas
 pub mod GradedLemmas
 pub mod HeldLemmas
 pub mod CertificationLemmas
+pub mod RegistrationLemmas
 pub mod WholeLemmas
 pub mod NumberedRows
 pub mod OrderLemmas

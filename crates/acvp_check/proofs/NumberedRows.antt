@@ -16,7 +16,7 @@ use Rattle.acvp_tables.specs.declared.rows.RequestRow.{RequestRow}
 use Rattle.acvp_tables.specs.declared.rows.ReviewerRow.{ReviewerRow}
 use Rattle.acvp_tables.proofs.KeptLemmas.{list_all-filter}
 use Rattle.acvp_tables.proofs.Numbers.{by_class, eqb_same}
-use Rattle.acvp_check.specs.Conditions.{all_conditions, is_of_certification}
+use Rattle.acvp_check.specs.Conditions.{all_conditions, is_beyond_kept}
 use Rattle.acvp_check.specs.declared.finding.Finding.{Finding}
 use Rattle.acvp_check.specs.Owners.{is_of, is_in, owner_conditions}
 use Rattle.acvp_check.specs.Rows.{AreNumbered, rows_numbered}
@@ -93,7 +93,7 @@ module _ (seeds : List (List ℕ)) (c : Content) (is : IsKept seeds c) where
 
 pub part_tells : (seeds : List (List ℕ)) (c : Content) → IsKept seeds c → (grades : Bool) (u : ℕ) (found : Finding)
     → first_broken (all_conditions grades seeds u (rows_numbered u c)) ≡ Some found
-    → is_of_certification found.wrong ≡ true
+    → is_beyond_kept found.wrong ≡ true
 part_tells seeds c is grades u found broken = kept_tells seeds c is grades u found
     (subst (λ mine. first_broken (all_conditions grades seeds u mine) ≡ Some found)
     (numbers_select u c (owners_unbroken seeds c is)) broken)

@@ -28,6 +28,7 @@ use Rattle.acvp_check.specs.Order.{HaveSameRows, AreInOrder, rises}
 use Rattle.acvp_check.proofs.CertificationLemmas.{certified_in_order}
 use Rattle.acvp_check.proofs.WholeLemmas.{well_for}
 use Rattle.acvp_check.proofs.OrderLemmas.{Alike, permuted, alike_all, alike_any, alike_found, alike_length}
+use Rattle.acvp_check.proofs.RegistrationLemmas.{registered_in_order}
 use Rattle.acvp_check.proofs.OrderLemmas.{alike_filter, alike_map, rises_filter, rises_map, filter_swap, in_order}
 
 pub record StatesAlike (m n : State) : Type 0 where
@@ -219,4 +220,5 @@ module _ (seeds : List (List ℕ)) (c d : Content) (same : HaveSameRows c d) (up
   left_in_order is = record {
     kept = kept_in_order is.kept;
     certified = certified_in_order c d is.kept.sound same (well_for seeds c is.kept) is.certified;
+    registered = registered_in_order c d is.kept.sound same (well_for seeds c is.kept) is.registered;
   }

@@ -8,6 +8,7 @@ use Rattle.std.proofs.lemmas.Bool.{cases_Bool}
 use Rattle.std.proofs.lemmas.Bool.Decides.{nat_tests}
 use Rattle.std.proofs.lemmas.List.Sums.{AllPass-from_list_all, list_all-from_AllPass}
 use Rattle.acvp_desk.specs.Certifications.{AreCertified, IsLeft}
+use Rattle.acvp_desk.specs.Registrations.{AreRegistered}
 use Rattle.acvp_desk.specs.Kept.{IsGradedSet, IsGraded, IsKept}
 use Rattle.acvp_mac.specs.Conditions.{first_broken}
 use Rattle.acvp_tables.specs.Content.{Content, no_rows, is_live_in}
@@ -26,8 +27,8 @@ use Rattle.acvp_tables.proofs.Numbers.{by_class, eqb_same, filter-within, keyed,
 use Rattle.acvp_check.specs.Conditions.{is_disposed, is_right, account_conditions, kept_conditions, own_row_conditions}
 use Rattle.acvp_check.specs.Conditions.{session_conditions, set_row_conditions, set_conditions, request_conditions}
 use Rattle.acvp_check.specs.Conditions.{object_conditions, all_kinds_conditions}
-use Rattle.acvp_check.specs.Conditions.{reviewer_conditions, certification_conditions, is_of_certification}
-use Rattle.acvp_check.specs.Conditions.{verdict_row_conditions}
+use Rattle.acvp_check.specs.Conditions.{reviewer_conditions, certification_conditions, is_beyond_kept}
+use Rattle.acvp_check.specs.Conditions.{registration_conditions, verdict_row_conditions}
 use Rattle.acvp_check.specs.Conditions.{verdict_conditions, all_conditions}
 use Rattle.acvp_check.specs.Owners.{is_of, is_in, account_owner, session_owner, set_owner, object_owner, request_owner}
 use Rattle.acvp_check.specs.Owners.{reviewer_owner, session_owners, registry_owners, owner_conditions}
@@ -41,7 +42,8 @@ use Rattle.acvp_check.proofs.AccountLemmas.{set_holds}
 use Rattle.acvp_check.specs.declared.finding.Finding.{Finding}
 use Rattle.acvp_desk.proofs.FirstBroken.{front_held}
 use Rattle.acvp_check.proofs.CertificationLemmas.{all_certified, certification_found}
-use Rattle.acvp_check.proofs.CertificationLemmas.{certifications_hold, either_broken}
+use Rattle.acvp_check.proofs.CertificationLemmas.{certifications_hold, either_broken, one}
+use Rattle.acvp_check.proofs.RegistrationLemmas.{all_registered, registration_found, registrations_hold}
 use Rattle.acvp_check.proofs.GradedLemmas.{graded_set, set_graded}
 use Rattle.acvp_check.proofs.HeldLemmas.{held, last_holds}
 
@@ -89,10 +91,6 @@ pub record Owned (c : Content) : Type 0 where
   pub objects : list_all (λ row. is_of row.account row.number) c.objects ≡ true
   pub requests : list_all (λ row. is_of row.account row.number) c.requests ≡ true
   pub reviewers : list_all (λ row. is_account_number (owner_of row.session)) c.reviewers ≡ true
-
--- of one condition a row
-one : {R : Type 0} (p : R → Bool) (rows : List R) → list_all (λ r. p r && true) rows ≡ true → list_all p rows ≡ true
-one p rows e = list_all_weaker (λ r. p r && true) p (λ r h. (both (p r) true h).0) rows e
 
 pub owned : (c : Content) → holds (owner_conditions c) ≡ true → Owned c
 unfolding owner_conditions session_owners registry_owners
@@ -177,7 +175,8 @@ numbers_select u c none =
 
 none_wrong : (grades : Bool) (seeds : List (List ℕ)) (u : ℕ) → holds (all_conditions grades seeds u no_rows) ≡ true
 unfolding account_conditions own_row_conditions session_conditions set_conditions request_conditions object_conditions
-    all_kinds_conditions reviewer_conditions certification_conditions verdict_conditions state_of
+    all_kinds_conditions reviewer_conditions certification_conditions registration_conditions verdict_conditions
+    state_of
 none_wrong true seeds u = refl
 none_wrong false seeds u = refl
 
@@ -197,22 +196,37 @@ plain : (grades : Bool) (seeds : List (List ℕ)) (u : ℕ) (mine : Content)
 plain true seeds u mine e = (split (account_conditions seeds u mine) (verdict_conditions seeds mine) e).0
 plain false seeds u mine e = e
 
+-- what kept records meet, and what is asked besides of certifications and of registrations
+record Three (seeds : List (List ℕ)) (u : ℕ) (mine : Content) : Type 0 where
+  kept : holds (kept_conditions seeds u mine) ≡ true
+  certified : holds (certification_conditions mine) ≡ true
+  registered : holds (registration_conditions mine) ≡ true
+
+three : (seeds : List (List ℕ)) (u : ℕ) (mine : Content) → holds (account_conditions seeds u mine) ≡ true
+    → Three seeds u mine
+unfolding account_conditions
+three seeds u mine e =
+    let last = split (kept_conditions seeds u mine ++ certification_conditions mine) (registration_conditions mine) e in
+    let first = split (kept_conditions seeds u mine) (certification_conditions mine) last.0 in
+    record { kept = first.0; certified = first.1; registered = last.1 }
+
 module _ (grades : Bool) (seeds : List (List ℕ)) (c : Content) (is : IsWhole grades seeds c) where
   account_holds : (u : ℕ) → holds (account_conditions seeds u (rows_of u c)) ≡ true
   account_holds u = plain grades seeds u (rows_of u c) (all_hold grades seeds c is u)
 
-  two_hold : (u : ℕ) → (holds (kept_conditions seeds u (rows_of u c)) ≡ true)
-      × (holds (certification_conditions (rows_of u c)) ≡ true)
-  unfolding account_conditions
-  two_hold u = split (kept_conditions seeds u (rows_of u c)) (certification_conditions (rows_of u c)) (account_holds u)
+  part_hold : (u : ℕ) → Three seeds u (rows_of u c)
+  part_hold u = three seeds u (rows_of u c) (account_holds u)
 
   pub whole_sound : AreWellNumbered c
   unfolding IsWellNumbered
-  whole_sound = λ u. subst (IsWellNumberedFor u) (rows_state u c) (well seeds u (rows_of u c) (two_hold u).0)
+  whole_sound = λ u. subst (IsWellNumberedFor u) (rows_state u c) (well seeds u (rows_of u c) (part_hold u).kept)
 
   pub whole_certified : AreCertified c
-  whole_certified = all_certified c whole_sound
-      (λ u. (two_hold u).1)
+  whole_certified = all_certified c whole_sound (λ u. (part_hold u).certified)
+
+  pub whole_registered : AreRegistered c
+  whole_registered = all_registered c whole_sound (λ u. well seeds u (rows_of u c) (part_hold u).kept)
+      (λ u. (part_hold u).registered)
 
   pub whole_counted : IsCounted c
   unfolding rows_of
@@ -221,7 +235,7 @@ module _ (grades : Bool) (seeds : List (List ℕ)) (c : Content) (is : IsWhole g
       is_counted (filter (λ s. owner_of s.session == row.account) c.sets) row) c.sessions ≡ true =
       by_class (λ a b. a == b) (λ (row : SessionRow). row.account)
       (λ u row. is_counted (filter (λ s. owner_of s.session == u) c.sets) row) eqb_same c.sessions
-      (λ u. counted seeds u (rows_of u c) (two_hold u).0) in
+      (λ u. counted seeds u (rows_of u c) (part_hold u).kept) in
       list_all_weaker (λ (row : SessionRow). is_of row.account row.number && is_counted
       (filter (λ s. owner_of s.session == row.account) c.sets) row) (is_counted c.sets)
       (λ row e.
@@ -248,7 +262,7 @@ module _ (seeds : List (List ℕ)) (c : Content) (is : IsWhole true seeds c) whe
   unfolding rows_of verdict_conditions set_bool
   sets_graded u =
       let mine = rows_of u c in
-      let rows = sets_hold seeds mine (parts seeds u mine (two_hold true seeds c is u).0).sets in
+      let rows = sets_hold seeds mine (parts seeds u mine (part_hold true seeds c is u).kept).sets in
       let seeded = list_all_weaker (λ r. holds (set_row_conditions seeds mine r))
       (λ (r : SetRow). is_some (slice_get seeds r.epoch)) (λ r h. (set_holds seeds mine r h).seed) mine.sets rows in
       let disposed = list_all_weaker (λ r. holds (set_row_conditions seeds mine r))
@@ -276,9 +290,13 @@ module _ (seeds : List (List ℕ)) (c : Content) (is : IsWhole true seeds c) whe
   kept = record { sound = whole_sound true seeds c is; counted = whole_counted true seeds c is; graded = whole_graded }
 
   pub left : IsLeft seeds c
-  left = record { kept = kept; certified = whole_certified true seeds c is }
+  left = record {
+    kept = kept;
+    certified = whole_certified true seeds c is;
+    registered = whole_registered true seeds c is;
+  }
 
--- ---- kept records meet the conditions but those on certifications
+-- ---- kept records meet the conditions but those on certifications and registrations
 
 pub well_for : (seeds : List (List ℕ)) (c : Content) → IsKept seeds c → (u : ℕ)
     → IsWellNumberedFor u (state_of (rows_of u c))
@@ -333,23 +351,31 @@ module _ (seeds : List (List ℕ)) (c : Content) (is : IsKept seeds c) where
   kept_for : (u : ℕ) → holds (kept_conditions seeds u (rows_of u c)) ≡ true
   kept_for u = held seeds u (rows_of u c) (wells u) (counted_for u) (seeded_for u) (disposed_for u)
 
-  -- so what is wrong is with a certification
+  -- so what is wrong is with a certification or a registration
   pub kept_tells : (grades : Bool) (u : ℕ) (found : Finding)
       → first_broken (all_conditions grades seeds u (rows_of u c)) ≡ Some found
-      → is_of_certification found.wrong ≡ true
+      → is_beyond_kept found.wrong ≡ true
   unfolding account_conditions
   kept_tells grades u found broken = go grades broken
     where
       mine : Content
       mine = rows_of u c
 
-      plainly : first_broken (account_conditions seeds u mine) ≡ Some found → is_of_certification found.wrong ≡ true
-      plainly broken = certification_found mine found
+      certified : first_broken (kept_conditions seeds u mine ++ certification_conditions mine) ≡ Some found
+          → is_beyond_kept found.wrong ≡ true
+      certified broken = certification_found mine found
           (sym (front_held (kept_conditions seeds u mine) (certification_conditions mine)
           (all_held (kept_conditions seeds u mine) (kept_for u))) ∙ broken)
 
+      plainly : first_broken (account_conditions seeds u mine) ≡ Some found → is_beyond_kept found.wrong ≡ true
+      plainly broken = elim (either_broken (kept_conditions seeds u mine ++ certification_conditions mine)
+          (registration_conditions mine) found broken) [
+            | inl first ↦ certified first
+            | inr last ↦ registration_found mine found last
+          ]
+
       go : (grades : Bool) → first_broken (all_conditions grades seeds u mine) ≡ Some found
-          → is_of_certification found.wrong ≡ true
+          → is_beyond_kept found.wrong ≡ true
       go false broken = plainly broken
       go true broken = elim (either_broken (account_conditions seeds u mine) (verdict_conditions seeds mine) found
           broken) [
@@ -362,9 +388,12 @@ module _ (seeds : List (List ℕ)) (c : Content) (is : IsKept seeds c) where
 module _ (seeds : List (List ℕ)) (c : Content) (left : IsLeft seeds c) where
   account_for : (u : ℕ) → holds (account_conditions seeds u (rows_of u c)) ≡ true
   unfolding account_conditions
-  account_for u = join (kept_conditions seeds u (rows_of u c)) (certification_conditions (rows_of u c))
-      (kept_for seeds c left.kept u)
-      (certifications_hold c left.kept.sound (well_for seeds c left.kept) left.certified u)
+  account_for u =
+      let mine = rows_of u c in
+      join (kept_conditions seeds u mine ++ certification_conditions mine) (registration_conditions mine)
+      (join (kept_conditions seeds u mine) (certification_conditions mine) (kept_for seeds c left.kept u)
+      (certifications_hold c left.kept.sound (well_for seeds c left.kept) left.certified u))
+      (registrations_hold c left.kept.sound (well_for seeds c left.kept) left.registered u)
 
   pub unbroken : (grades : Bool) (u : ℕ) → first_broken (all_conditions grades seeds u (rows_of u c)) ≡ None
   unbroken true u = all_held (all_conditions true seeds u (rows_of u c))

@@ -12,6 +12,7 @@ use Rattle.acvp_answers.specs.declared.verdict.Disposition.TheVariants as dispos
 use Rattle.acvp_answers.specs.declared.verdict.Verdict.{Verdict}
 use Rattle.acvp_answers.specs.declared.verdict.Verdict.TheVariants as verdict
 use Rattle.acvp_desk.specs.Certifications.{is_certifiable, is_last}
+use Rattle.acvp_desk.specs.Registrations.{is_as_asked, is_given_once}
 use Rattle.acvp_gen.specs.Prompts.{prompts_of}
 use Rattle.acvp_registry.specs.declared.kind.Kind.{Kind}
 use Rattle.acvp_registry.specs.declared.kind.Kind.TheVariants.{Vendor, Module, Environment, Certification}
@@ -200,12 +201,6 @@ reviewer_conditions mine = flat_map (reviewer_row_conditions mine) mine.reviewer
 
 -- ---- certifications
 
--- what is wrong is with a certification, and nothing that kept records meet
-abbrev pub is_of_certification : Wrong → Bool
-is_of_certification wrong.NotCertifiable = true
-is_of_certification wrong.NotLast = true
-is_of_certification _ = false
-
 abbrev pub certifiable_conditions : List RequestRow → SessionRow → List (Condition Finding)
 certifiable_conditions requests row =
     (is_certifiable requests row, finding (key.Session row.number) wrong.NotCertifiable) ∷ []
@@ -220,7 +215,26 @@ certification_conditions mine =
     flat_map (certifiable_conditions mine.requests) mine.sessions
     ++ flat_map (last_conditions mine.sessions) mine.requests
 
+-- ---- registrations
+
+-- where it is approved, its object is as it was asked for, and no earlier request gave its number
+abbrev pub registration_row_conditions : Content → RequestRow → List (Condition Finding)
+registration_row_conditions mine row =
+    (is_as_asked mine.objects row, finding (key.Request row.number) wrong.NotAsAsked)
+    ∷ (is_given_once mine.requests row, finding (key.Request row.number) wrong.GivenTwice) ∷ []
+
+unfoldable pub registration_conditions : Content → List (Condition Finding)
+registration_conditions mine = flat_map (registration_row_conditions mine) mine.requests
+
 -- ---- the whole
+
+-- what is wrong is with a certification or a registration, and nothing that kept records meet
+abbrev pub is_beyond_kept : Wrong → Bool
+is_beyond_kept wrong.NotCertifiable = true
+is_beyond_kept wrong.NotLast = true
+is_beyond_kept wrong.NotAsAsked = true
+is_beyond_kept wrong.GivenTwice = true
+is_beyond_kept _ = false
 
 -- the conditions that kept records meet, but that the verdicts are those on the answers
 abbrev pub kept_conditions : List (List ℕ) → ℕ → Content → List (Condition Finding)
@@ -230,7 +244,8 @@ kept_conditions seeds u mine =
 
 -- all conditions on an account's rows, but that the verdicts are those on the answers
 unfoldable pub account_conditions : List (List ℕ) → ℕ → Content → List (Condition Finding)
-account_conditions seeds u mine = kept_conditions seeds u mine ++ certification_conditions mine
+account_conditions seeds u mine =
+    kept_conditions seeds u mine ++ certification_conditions mine ++ registration_conditions mine
 
 -- ---- the verdicts
 

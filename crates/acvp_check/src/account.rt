@@ -9,6 +9,7 @@ use crate::certifications::certifications_wrong;
 use crate::finding::{Finding, RowKey, Wrong};
 use crate::numbers::is_account_number;
 use crate::objects::objects_wrong;
+use crate::registrations::registrations_wrong;
 use crate::requests::requests_wrong;
 use crate::reviewers::reviewers_wrong;
 use crate::rows::Rows;
@@ -93,7 +94,8 @@ fn account_wrong(account: u16, mine: &Rows, seeds: &Seeds) -> Result<(), Finding
     requests_wrong(account, mine)?;
     objects_wrong(account, mine)?;
     reviewers_wrong(mine)?;
-    certifications_wrong(mine)
+    certifications_wrong(mine)?;
+    registrations_wrong(mine)
 }
 
 /// The first condition that is broken, of those on all rows of an account: none where all hold. Where `grades` is set,

@@ -62,6 +62,10 @@ pub enum Wrong {
     NotCertifiable,
     /// The certification isn't rejected, and its session names another, or none.
     NotLast,
+    /// The object that its approval registered isn't the one that it asks for.
+    NotAsAsked,
+    /// An earlier request was approved with the number of the same object.
+    GivenTwice,
     /// Its session has more than 16 reviewers.
     ManyReviewers,
     /// The number of its reviewer is none of an account.

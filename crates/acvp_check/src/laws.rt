@@ -2,11 +2,12 @@
 ghost use Rattle.std.specs.Prelude.{◌≡◌, ℕ, List, Bool, None, Some, false, true};
 ghost use Rattle.acvp_desk.specs.Certifications.{AreCertified, IsLeft};
 ghost use Rattle.acvp_desk.specs.Kept.{IsKept};
+ghost use Rattle.acvp_desk.specs.Registrations.{AreRegistered};
 ghost use Rattle.acvp_mac.specs.Conditions.{first_broken};
 ghost use Rattle.acvp_tables.specs.Content.{Content};
 ghost use Rattle.acvp_tables.specs.Counted.{IsCounted};
 ghost use Rattle.acvp_tables.specs.State.{AreWellNumbered, is_account_number};
-ghost use Rattle.acvp_check.specs.Conditions.{all_conditions, is_of_certification};
+ghost use Rattle.acvp_check.specs.Conditions.{all_conditions, is_beyond_kept};
 ghost use Rattle.acvp_check.specs.Order.{AreInOrder, HaveSameRows};
 ghost use Rattle.acvp_check.specs.Owners.{owner_conditions};
 ghost use Rattle.acvp_check.specs.Rows.{AreNumbered, rows_numbered, rows_of};
@@ -14,7 +15,7 @@ ghost use Rattle.acvp_check.specs.Whole.{IsWhole};
 ghost use Rattle.acvp_check.specs.declared.finding.Finding.{Finding as FindingValue};
 
 /// Records have what every run keeps where each row is of the account that its number names, and no condition on an
-/// account's rows is broken. Without the verdicts they are well numbered, counted and certified so.
+/// account's rows is broken. Without the verdicts they are well numbered, counted, certified and registered so.
 pub fn whole_records_are_left()
     ensures left { (seeds : List (List ℕ)) (c : Content) → IsWhole true seeds c → IsLeft seeds c }
     ensures numbered { (grades : Bool) (seeds : List (List ℕ)) (c : Content)
@@ -22,10 +23,12 @@ pub fn whole_records_are_left()
     ensures counted { (grades : Bool) (seeds : List (List ℕ)) (c : Content) → IsWhole grades seeds c → IsCounted c }
     ensures certified { (grades : Bool) (seeds : List (List ℕ)) (c : Content)
         → IsWhole grades seeds c → AreCertified c }
+    ensures registered { (grades : Bool) (seeds : List (List ℕ)) (c : Content)
+        → IsWhole grades seeds c → AreRegistered c }
 {}
 
 /// No run leaves records where a condition is broken: one on whose a row is, or one on an account's rows. Unless it is
-/// one on certifications, such records aren't kept either.
+/// one on certifications or registrations, such records aren't kept either.
 pub fn wrong_records_are_not_left()
     ensures owner { (seeds : List (List ℕ)) (c : Content) (found : FindingValue)
         → first_broken (owner_conditions c) ≡ Some found → ¬ IsKept seeds c }
@@ -33,7 +36,7 @@ pub fn wrong_records_are_not_left()
         → first_broken (all_conditions grades seeds u (rows_of u c)) ≡ Some found → ¬ IsLeft seeds c }
     ensures kept { (grades : Bool) (seeds : List (List ℕ)) (u : ℕ) (c : Content) (found : FindingValue)
         → first_broken (all_conditions grades seeds u (rows_of u c)) ≡ Some found
-        → is_of_certification found.wrong ≡ false → ¬ IsKept seeds c }
+        → is_beyond_kept found.wrong ≡ false → ¬ IsKept seeds c }
 {}
 
 /// Where records have what every run keeps, so have the same rows in the order of their tables' keys. So a condition
@@ -52,8 +55,8 @@ pub fn numbers_select()
 
 /// Rows can be judged account by account, those with its numbers, in one pass: where each row has a number of an
 /// account and no condition on any account's is broken, the records are whole; and a condition that is broken on the
-/// rows with an account's numbers tells that no run leaves the records, and unless it is one on certifications, that
-/// they aren't kept.
+/// rows with an account's numbers tells that no run leaves the records, and unless it is one on certifications or
+/// registrations, that they aren't kept.
 pub fn numbered_rows_tell()
     ensures whole { (grades : Bool) (seeds : List (List ℕ)) (c : Content) → AreNumbered c
         → ((u : ℕ) → is_account_number u ≡ true → first_broken (owner_conditions (rows_numbered u c)) ≡ None)
@@ -65,5 +68,5 @@ pub fn numbered_rows_tell()
         → first_broken (all_conditions grades seeds u (rows_numbered u c)) ≡ Some found → ¬ IsLeft seeds c }
     ensures kept { (grades : Bool) (seeds : List (List ℕ)) (u : ℕ) (c : Content) (found : FindingValue)
         → first_broken (all_conditions grades seeds u (rows_numbered u c)) ≡ Some found
-        → is_of_certification found.wrong ≡ false → ¬ IsKept seeds c }
+        → is_beyond_kept found.wrong ≡ false → ¬ IsKept seeds c }
 {}

@@ -9,6 +9,7 @@ mod near;
 mod numbers;
 mod objects;
 mod owners;
+mod registrations;
 mod requests;
 mod reviewers;
 mod rows;

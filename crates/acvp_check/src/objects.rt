@@ -15,7 +15,7 @@ use acvp_registry::{Kind, Object};
 use acvp_tables::{ObjectRow, RequestBody, RequestRow, RequestStatus};
 
 /// Whether two kinds are the same.
-fn is_kind(kind: Kind, other: Kind) -> bool
+pub(crate) fn is_kind(kind: Kind, other: Kind) -> bool
     ensures { result ≡ is_kind kind other }
 {
     match kind {
@@ -101,7 +101,7 @@ impl Predicate<ObjectRow> for ObjectsIn {
 }
 
 /// Whether a request's body is for the registration of an object of a kind.
-fn is_registration_of(kind: Kind, body: &RequestBody) -> bool
+pub(crate) fn is_registration_of(kind: Kind, body: &RequestBody) -> bool
     ensures { result ≡ is_registration_of kind body.now }
 {
     match body {

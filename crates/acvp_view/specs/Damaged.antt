@@ -77,6 +77,8 @@ wrong_word wrong.NotAskedFor = codes "notAskedFor"
 wrong_word wrong.Object = codes "object"
 wrong_word wrong.NotCertifiable = codes "notCertifiable"
 wrong_word wrong.NotLast = codes "notLast"
+wrong_word wrong.NotAsAsked = codes "notAsAsked"
+wrong_word wrong.GivenTwice = codes "givenTwice"
 wrong_word wrong.ManyReviewers = codes "manyReviewers"
 wrong_word wrong.NoAccountNumber = codes "noAccountNumber"
 

@@ -130,6 +130,8 @@ fn wrong_word(wrong: Wrong) -> &'static str
         Wrong::Object => "object",
         Wrong::NotCertifiable => "notCertifiable",
         Wrong::NotLast => "notLast",
+        Wrong::NotAsAsked => "notAsAsked",
+        Wrong::GivenTwice => "givenTwice",
         Wrong::ManyReviewers => "manyReviewers",
         Wrong::NoAccountNumber => "noAccountNumber",
     }

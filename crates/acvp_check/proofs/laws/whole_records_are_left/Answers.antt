@@ -1,4 +1,4 @@
-use Rattle.acvp_check.proofs.WholeLemmas.{left, whole_sound, whole_counted, whole_certified}
+use Rattle.acvp_check.proofs.WholeLemmas.{left, whole_sound, whole_counted, whole_certified, whole_registered}
 use Rattle.acvp_check.proofs.laws.whole_records_are_left.Goals as goal
 
 pub returns-clause-left : goal.returns-clause-left
@@ -12,3 +12,6 @@ returns-clause-counted c = λ grades seeds content is. whole_counted grades seed
 
 pub returns-clause-certified : goal.returns-clause-certified
 returns-clause-certified c = λ grades seeds content is. whole_certified grades seeds content is
+
+pub returns-clause-registered : goal.returns-clause-registered
+returns-clause-registered c = λ grades seeds content is. whole_registered grades seeds content is
