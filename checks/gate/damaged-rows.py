@@ -3,6 +3,8 @@
 and each order that rests on the row is unavailable and writes nothing, and each other one is answered, byte for byte,
 and leaves the rows as over the file without the damage, where what is unavailable isn't asked. The damage itself stays.
 A row under another key is another row, so no key is damaged but a reviewer's account, which lists of reviewers read.
+What a waiting certification names, and its session and vector set, are also changed to what no run leaves: then its
+approval is unavailable.
 
 The file has a validation of each of two accounts, made by the program: vendors, a module and an environment; sessions
 that are certified, wait for it, are open, a sample, cancelled, and ready to be certified; vector sets that passed,
@@ -94,6 +96,12 @@ def of_sets(session):
     return rests
 
 
+def of_judged_sets(session):
+    """A session's vector sets that a certification rests on: each that isn't cancelled is read whole."""
+    return of_sets(session).union(*[of_set(number) | of_capability(number) for number, _, state in sets_of(session)
+                                    if state != "cancelled"])
+
+
 def of_owner(kind, number):
     return columns("object", (kind, number), "account")
 
@@ -157,8 +165,9 @@ class Account:
     def parts(self):
         return {"moduleUrl": self.url(MODULE, 1), "oeUrl": self.url(ENVIRONMENT, 1)}
 
-    def owners_of_parts(self):
-        return of_owner(MODULE, self.first + 1) | of_owner(ENVIRONMENT, self.first + 1)
+    def of_certified(self, session):
+        """What a certification of a session rests on, beside the session's own row."""
+        return of_judged_sets(session) | of_owner(MODULE, self.first + 1) | of_owner(ENVIRONMENT, self.first + 1)
 
     # ---- what changes nothing
 
@@ -255,7 +264,8 @@ class Account:
             self.asks(of_open | of_first, "GET", f"{at}/{first}/expected", None, number, 403),
             self.asks(of_session(sample) | of_sample, "GET", f"/testSessions/{sample}/vectorSets/{sample}01/expected",
                       None, sample),
-            self.asks(of_frozen | self.owners_of_parts(), "PUT", f"/testSessions/{frozen}", self.parts(), frozen, 409),
+            self.asks(of_frozen | self.of_certified(frozen), "PUT", f"/testSessions/{frozen}", self.parts(), frozen,
+                      409),
             self.asks(of_frozen, "DELETE", f"/testSessions/{frozen}", None, frozen, 409),
             self.asks(of_frozen | of_set(frozen * 100 + 1) | of_sets(frozen), "DELETE",
                       f"/testSessions/{frozen}/vectorSets/{frozen}01", None, frozen, 409),
@@ -281,7 +291,8 @@ class Account:
             self.asks(set(), "POST", "/vendors", {"name": "More"}),
             self.asks(of_owner(VENDOR, self.first + 1), "POST", "/modules",
                       {"name": "More", "vendorUrl": self.url(VENDOR, 1)}),
-            self.asks(of_session(ready) | self.owners_of_parts(), "PUT", f"/testSessions/{ready}", self.parts(), ready),
+            self.asks(of_session(ready) | self.of_certified(ready), "PUT", f"/testSessions/{ready}", self.parts(),
+                      ready),
             self.asks(of_open | of_set(unanswered) | of_capability(unanswered), "POST",
                       f"{path}/vectorSets/{unanswered}/results", self.right[unanswered], number),
             self.asks(of_open | of_set(failed) | of_capability(failed), "PUT", f"{path}/vectorSets/{failed}/results",
@@ -294,10 +305,16 @@ class Account:
 
     # ---- what the operator orders
 
-    def order(self, word, number, comes_to=""):
+    def order(self, word, number, comes_to="", rests=frozenset()):
         number += self.first
         return Event(f"request-{word} {number}", (f"request-{word}", "--request", str(number)),
-                     of_request(number) if number - self.first in REQUESTS else set(), comes_to)
+                     rests | (of_request(number) if number - self.first in REQUESTS else set()), comes_to)
+
+    def approves_certification(self):
+        """The approval of a certification, which isn't given unless the records are as a run leaves them for it."""
+        session, number = self.first + WAITING, LAST_CERTIFICATION[WAITING]
+        named = {("request", self.first + number, "body: what it names")}
+        return self.order("approve", number, rests=of_session(session) | self.of_certified(session) | named)
 
     def account_order(self, word, comes_to="", *more):
         return Event(f"account-{word} {self.number}", (f"account-{word}", "--account", str(self.number), *more),
@@ -306,9 +323,9 @@ class Account:
     def orders(self):
         secret = self.lab.path(f"secret-{self.number}")
         return [self.order("approve", 8), self.order("reject", 10), self.order("approve", 11),
-                self.order("approve", 7), self.order("approve", 1, "notInitial"), self.order("reject", 6, "notInitial"),
-                self.order("reject", 999, "unknown"), self.account_order("add", "taken", "--secret", secret),
-                self.account_order("disable")]
+                self.approves_certification(), self.order("approve", 1, "notInitial"),
+                self.order("reject", 6, "notInitial"), self.order("reject", 999, "unknown"),
+                self.account_order("add", "taken", "--secret", secret), self.account_order("disable")]
 
 
 # ---- the file without damage
@@ -475,7 +492,8 @@ def of_sessions():
     return [*damaged("session", number, account=[-1, 65536], sample=[-1, 2, 3], cancelled=[-1, 2, 3], certify=[-1],
                      created=[-1, -2**63], live=[-1], passed=[-1]),
             *damaged("session", 7000000 + CERTIFIED, account=[65536], certify=[-1]),
-            *damaged("session", 7000000 + WAITING, created=[-1]), *damaged("session", 7000000 + SAMPLE, sample=[2]),
+            *damaged("session", 7000000 + WAITING, account=[65536], created=[-1], passed=[-1]),
+            *damaged("session", 7000000 + SAMPLE, sample=[2]),
             *damaged("session", 7000000 + CANCELLED, cancelled=[2], live=[-1]),
             *damaged("session", 7000000 + READY, passed=[-1]),
             *read_as("created: served", damaged("session", number, created=[END_OF_MOMENTS, 2**63 - 1]))]
@@ -494,7 +512,8 @@ def of_how_sets_stand():
             *damaged("vset2", SETS_OF_SEVEN + CERTIFIED * 100 + 2, disposition=[99], epoch=[-1]),
             *damaged("vset2", SETS_OF_SEVEN + CERTIFIED * 100 + 3, disposition=[99], cancelled=[3]),
             *damaged("vset2", SETS_OF_SEVEN + CANCELLED * 100 + 1, disposition=[99]),
-            *damaged("vset2", SETS_OF_SEVEN + READY * 100 + 1, verdicts=["x"], disposition=[0])]
+            *[damage for place in (WAITING, READY) for damage in damaged(
+                "vset2", SETS_OF_SEVEN + place * 100 + 1, answers=[None], verdicts=["x"], disposition=[0, 7])]]
 
 
 def of_texts_of_sets():
@@ -507,6 +526,9 @@ def of_texts_of_sets():
             *[damage for number in (failed, missing, unanswered, cancelled, SETS_OF_SEVEN + CANCELLED * 100 + 1)
               for damage in damaged("vset2", number, capability=["{}"])],
             *read_as("answers: text", damaged("vset2", passed, answers=NO_ANSWERS)),
+            *[damage for place in (CERTIFIED, WAITING, READY) for damage in [
+                *damaged("vset2", SETS_OF_SEVEN + place * 100 + 1, capability=["{}"]),
+                *read_as("answers: text", damaged("vset2", SETS_OF_SEVEN + place * 100 + 1, answers=["["]))]],
             *read_as("answers: text", [*damaged("vset2", failed, answers=["no answers"]),
                                        *damaged("vset2", SETS_OF_SEVEN + SAMPLE * 100 + 1, answers=["["]),
                                        *damaged("vset2", cancelled, answers=["[]]"])])]
@@ -526,6 +548,11 @@ def of_requests():
     vendor, certified, rejected_before, waits, vendor_waits, rejected, module_waits, environment_waits = \
         (7000000 + number for number in (1, 5, 6, 7, 8, 9, 10, 11))
     parts = {"moduleUrl": "/acvp/v1/modules/7000001", "oeUrl": "/acvp/v1/oes/7000001", "session": 7000001}
+    # those of a certification that waits, where one isn't the account's, isn't there or may not be certified
+    others_parts = [compact({**parts, "session": 7000000 + WAITING, name: value}).decode() for name, value in
+                    [("moduleUrl", "/acvp/v1/modules/8000001"), ("oeUrl", "/acvp/v1/oes/8000001"),
+                     ("oeUrl", "/acvp/v1/oes/7000099"), ("session", 8000000 + WAITING), ("session", 7000000 + OPEN),
+                     ("session", 7000000 + READY), ("session", 7000099)]]
     no_parts = [compact({**parts, name: value}).decode() for name, value in
                 [("moduleUrl", "/acvp/v1/vendors/7000001"), ("oeUrl", 3), ("session", -1), ("session", "7000001")]]
     return [*damaged("request", vendor, account=[-1, 65536], kind=[-1, 0, 99, CERTIFICATION], status=[-1, 0, 2, 3, 99],
@@ -539,6 +566,7 @@ def of_requests():
             *damaged("request", rejected, approved=[7000001], body=['{"name":"V"}']),
             *damaged("request", module_waits, status=[2**31], body=['{"name":"V"}', '{"name":"M","vendorUrl":"V"}']),
             *damaged("request", environment_waits, account=[65536], body=["["]),
+            *read_as("body: what it names", damaged("request", waits, body=others_parts)),
             *read_as("kind: of the body", damaged("request", waits, kind=[VENDOR])),
             *read_as("kind: of the body", damaged("request", vendor_waits, kind=[MODULE]))]
 
@@ -666,6 +694,27 @@ def groups_hold(runs):
         print(f"{name}: {len(counts)} damages, each with {min(counts)} to {max(counts)} events unavailable", flush=True)
 
 
+def none_is_certified_unlike_runs(runs):
+    """Over rows that stand for something, but that no run leaves where a certification waits, its approval is
+    unavailable and changes nothing."""
+    lab, session, vector_set = runs.lab, 7000000 + WAITING, SETS_OF_SEVEN + WAITING * 100 + 1
+    unlike = [damaged("session", session, live=[0]), damaged("session", session, passed=[0]),
+              damaged("session", session, live=[2], passed=[2]), damaged("session", session, sample=[1]),
+              damaged("session", session, cancelled=[1]), damaged("session", session, account=[8]),
+              damaged("session", session, certify=[None]), damaged("session", session, certify=[7000006]),
+              damaged("vset2", vector_set, cancelled=[1]),
+              damaged("vset2", vector_set, verdicts=["f"], disposition=[0])]
+    for damages in unlike:
+        runs.fresh()
+        for damage in damages:
+            do_damage(lab.db, damage)
+        before = rows_of(lab.db)
+        lab.fails("unavailable", "request-approve", "--db", lab.db, "--request",
+                  str(7000000 + LAST_CERTIFICATION[WAITING]), what=damages)
+        expect(f"the rows after {damages}", rows_of(lab.db), before)
+    print(f"what no run leaves of a certification that waits: {len(unlike)} changes, each with fault: unavailable")
+
+
 def no_command_begins(runs):
     """A file whose version isn't told is none of this schema, and one with a column that refers to no row is none at
     all, to each command; where the seed of a vector set isn't there, serving finds the keys at fault."""
@@ -711,7 +760,8 @@ def main():
         os.environ.update({"LD_PRELOAD": shim, "CLOCK": lab.write(lab.path("clock"), f"{MOMENT}\n")})
         try:
             runs = Runs(lab, whole_file(lab))
-            for part in (as_it_is, groups_hold, no_command_begins, another_expectation_fails):
+            for part in (as_it_is, groups_hold, none_is_certified_unlike_runs, no_command_begins,
+                         another_expectation_fails):
                 part(runs)
         finally:
             lab.kill()

@@ -107,7 +107,7 @@ module _ {D H P I O A : Type 0} {g : Ghosts D} (hosting : Hosting H P) (listenin
     task_runs keys moment closed it first last connection back outcome can (inr (fault, refused, is, same)) clean =
         inl (fault, is, inl refused)
     task_runs keys moment closed (task.Order it) first last connection back outcome can
-        (inl (tables, taken, ((reply, done, told), same))) clean =
+        (inl (tables, taken, ((reply, done, sound, told), same))) clean =
         let (unavailable, handled) = as_turns keys moment it reply tables back can done in
         let turn : Turn = record { event = order moment it; unavailable = unavailable } in
         let run : Run = record { keys = keys; turns = turn ∷ []; answers = ordered reply ∷ []; closed = closed } in

@@ -4,16 +4,19 @@ use Rattle.acvp_tables.specs.Meaning.{Meaning}
 use Rattle.acvp_desk.specs.declared.order.Order.{Order}
 use Rattle.acvp_desk.specs.declared.order.Order.TheVariants.{AddAccount, DisableAccount, ApproveRequest, RejectRequest}
 use Rattle.acvp_desk.specs.declared.order.OrderReply.{OrderReply}
+use Rattle.acvp_desk.specs.Approvals.{IsSoundApproval}
 use Rattle.acvp_desk.specs.Orders.{Orders}
 use Rattle.acvp_http.specs.Script.{IsNumber}
 use Rattle.acvp_commands.specs.declared.fault.Fault.{Fault}
 use Rattle.acvp_commands.specs.declared.lines.Message.{Message}
 use Rattle.acvp_commands.specs.Lines.{outcome_of}
 
--- the order was answered as the desk answers it, and the line or the fault is that reply's
+-- the order was answered as the desk answers it, a certification approved only if the tables were as every run leaves
+-- them for it, and the line or the fault is that reply's
 abbrev pub IsCarriedOut : {T : Type 0} → Meaning T → Result Message Fault → T → T → Order → Type 0
 IsCarriedOut meaning result old new order =
-    (reply : OrderReply) × Orders meaning reply old new order × (result ≡ outcome_of order reply)
+    (reply : OrderReply) × Orders meaning reply old new order × IsSoundApproval meaning reply old new order
+    × (result ≡ outcome_of order reply)
 
 -- its numbers are such as a script has
 abbrev pub HasShortNumbers : ℕ → Order → Type 0

@@ -16,7 +16,7 @@ none_elsewhere key wanted named None names apart = refl
 none_elsewhere key wanted named (Some row) names apart = let is : key row ≡ named = names row refl in
     rw (is, apart) refl
 
-found_there : {Row : Type 0} → (key : Row → ℕ) (wanted named : ℕ) (found : Option Row)
+pub found_there : {Row : Type 0} → (key : Row → ℕ) (wanted named : ℕ) (found : Option Row)
     → ((row : Row) → found ≡ Some row → key row ≡ named)
     → (named == wanted) ≡ true → option_and_then (λ row. if key row == wanted then Some row else None) found ≡ found
 found_there key wanted named None names same = refl

@@ -9,6 +9,8 @@ pub mod AnswerParts
 pub mod ServeExits
 pub mod OrderExits
 pub mod DecidedRequest
+pub mod ApprovedRequest
+pub mod LeftApprovals
 pub mod KeptRecords
 pub mod CertifiedRows
 pub mod CertifiedRecords

@@ -1,6 +1,6 @@
 -- The exits of an order, each once for all orders.
 use Rattle.std.proofs.Common.{◌≡◌, ℕ, List, Bool, true, false, Option, None, Some, Ok, Err, refl, sym, ap, ◌∙◌, subst}
-use Rattle.std.specs.Prelude.{not, option_map, if◌then◌else◌}
+use Rattle.std.specs.Prelude.{Result, not, option_map, if◌then◌else◌}
 use Rattle.acvp_registry.specs.declared.kind.Kind.{Kind}
 use Rattle.acvp_tables.specs.Calls.{Reads, Changes}
 use Rattle.acvp_tables.specs.Changes.{after_order}
@@ -17,6 +17,8 @@ use Rattle.acvp_desk.specs.Private.Waiting.{waiting_in}
 use Rattle.acvp_desk.specs.declared.order.Waiting.{Waiting}
 use Rattle.acvp_desk.specs.Orders.{is_initial, order_reply, order_change, content_after_order, content_order_effect}
 use Rattle.acvp_desk.specs.Orders.{Orders}
+use Rattle.acvp_desk.specs.Registries.{kind_asked}
+use Rattle.acvp_desk.specs.Serves.{Looks}
 use Rattle.acvp_desk.specs.declared.order.Order.{Order}
 use Rattle.acvp_desk.specs.declared.order.Order.TheVariants as order
 use Rattle.acvp_desk.specs.declared.order.OrderReply.{OrderReply}
@@ -87,21 +89,21 @@ decided_before n w c is late = go (request_at n c.requests) refl is
 
 pub approved : (n : ℕ) (w : Waiting) (c : Content)
     → Some w ≡ option_map (waiting_in (state_of c)) (request_at n c.requests) → w.initial ≡ true
-    → IsDecided (order.ApproveRequest n) (Done (Some (w.kind, w.approved)))
+    → IsDecided (order.ApproveRequest n) (Done (Some (kind_asked w.purpose, w.approved)))
     (Some (change.Approve (record { request = n; approved = w.approved }))) c
 unfolding order_reply order_change state_of
 approved n w c is waits = go (request_at n c.requests) refl is
   where
     at : (row : RequestRow) (b : Bool) → is_initial row.status ≡ b → request_at n c.requests ≡ Some row → b ≡ true
         → w ≡ waiting_in (state_of c) row
-        → IsDecided (order.ApproveRequest n) (Done (Some (w.kind, w.approved)))
+        → IsDecided (order.ApproveRequest n) (Done (Some (kind_asked w.purpose, w.approved)))
         (Some (change.Approve (record { request = n; approved = w.approved }))) c
     at row true i e waits same = rw same (record { reply_is = rw (e, i) refl; change_is = rw (e, i) refl })
     at row false i e waits same = absurd (cc)
 
     go : (found : Option RequestRow) → request_at n c.requests ≡ found
         → Some w ≡ option_map (waiting_in (state_of c)) found
-        → IsDecided (order.ApproveRequest n) (Done (Some (w.kind, w.approved)))
+        → IsDecided (order.ApproveRequest n) (Done (Some (kind_asked w.purpose, w.approved)))
         (Some (change.Approve (record { request = n; approved = w.approved }))) c
     go None e is = absurd (cc)
     go (Some row) e is =
@@ -165,6 +167,37 @@ module _ {T : Type 0} (faults : StoreFault → Type 0) (meaning : Meaning T) (it
     λ clean live c d sound h. let decided = decides (reads.stays_open clean).1 c sound h in
         subst (λ e. leaves new e d) (sym (becomes None told c decided)) (reads.left clean live c d h),
   )
+
+  -- a read and a look are one read
+  pub read_further : {X Y : Type 0} (x : X) (y : Y) (old mid new : T) → Reads faults meaning {X = X} (Ok x) old mid
+      → Looks meaning {X = Y} {E = StoreFault} (Ok y) mid new → Reads faults meaning {X = Y} (Ok y) old new
+  read_further x y old mid new reads looks = record {
+    fault = tt;
+    was_open = λ live. reads.was_open (looks.was_open live);
+    was_clean = λ clean. reads.was_clean (looks.was_clean clean);
+    stays_open = λ clean. let read = reads.stays_open (looks.was_clean clean) in
+        (read.0, looks.stays_open clean read.1);
+    same = λ live c h. looks.same live c (reads.same (looks.was_open live) c h);
+    left = λ clean live c d h. let up = (reads.stays_open (looks.was_clean clean)).1 in
+        looks.left clean up c d (reads.same up c h);
+    kept = λ clean c d left. looks.kept clean c d (reads.kept (looks.was_clean clean) c d left);
+  }
+
+  -- what was read in vain
+  pub unavailable_after : {X Y : Type 0} (x : X) (found : Result Y StoreFault) (old mid new : T)
+      → Reads faults meaning {X = X} (Ok x) old mid → Looks meaning {X = Y} {E = StoreFault} found mid new
+      → Orders meaning Unavailable old new it
+  unavailable_after x found old mid new reads looks = record {
+    was_open = λ live. reads.was_open (looks.was_open live);
+    was_clean = λ clean. reads.was_clean (looks.was_clean clean);
+    answered = tt;
+    same = λ live c h. looks.same live c (reads.same (looks.was_open live) c h);
+    stays_open = tt;
+    kept = tt;
+    settled = λ clean live c sound h. let up = (reads.stays_open (looks.was_clean clean)).1 in
+        looks.left clean up c (content_order_effect it c) (reads.same up c h);
+    shut = λ clean off. absurd (off (reads.stays_open (looks.was_clean clean)).0);
+  }
 
   module _ {X Y : Type 0} (x : X) (old mid new : T) (ch : OrderChange)
       (reads : Reads faults meaning {X = X} (Ok x) old mid)

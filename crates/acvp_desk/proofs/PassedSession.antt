@@ -80,7 +80,7 @@ any_length : {A B : Type 0} (f : A → B) (xs : List A) → nat_le 1 (length xs)
 any_length f [] = refl
 any_length f (x ∷ xs) = grind (arith, nat_tests)
 
-fewer_passed : (m : ℕ) (sets : List SetRow) → passed_count m sets ≤ live_count m sets
+pub fewer_passed : (m : ℕ) (sets : List SetRow) → passed_count m sets ≤ live_count m sets
 fewer_passed m [] = omega (arith)
 fewer_passed m (row ∷ sets) = go (is_live_in m row) (answers_passed row.graded) refl refl (fewer_passed m sets)
   where
@@ -91,10 +91,10 @@ fewer_passed m (row ∷ sets) = go (is_live_in m row) (answers_passed row.graded
     go true false live pass later = rw (live, pass) (omega (arith, later))
     go false pass live is later = rw live later
 
-both_more : (p l : ℕ) → (suc p == suc l) ≡ (p == l)
+pub both_more : (p l : ℕ) → (suc p == suc l) ≡ (p == l)
 both_more p l = grind (arith, nat_tests)
 
-not_one_more : (p l : ℕ) → p ≤ l → (p == suc l) ≡ false
+pub not_one_more : (p l : ℕ) → p ≤ l → (p == suc l) ≡ false
 not_one_more p l fewer = grind (arith, nat_tests, fewer)
 
 -- all have passed where as many have passed as there are

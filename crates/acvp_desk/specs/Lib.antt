@@ -18,6 +18,7 @@ pub mod Certifications
 pub mod Serves
 pub mod Desk
 pub mod Orders
+pub mod Approvals
 pub mod Isolation
 pub mod Private
 pub mod Errors

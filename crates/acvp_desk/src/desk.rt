@@ -3,6 +3,7 @@
 ghost use Rattle.std.specs.Prelude.{◌≡◌, ◌+◌, ◌≤◌, false, length, IfOk, IfErr};
 ghost use Rattle.acvp_tables.specs.Content.{Content, greatest_epoch_of};
 ghost use Rattle.acvp_tables.specs.State.{AreWellNumbered};
+ghost use Rattle.acvp_desk.specs.Approvals.{IsExcused, IsSoundApproval};
 ghost use Rattle.acvp_desk.specs.Request.{request_value};
 ghost use Rattle.acvp_desk.specs.Desk.{HasSeeds, tables_of};
 ghost use Rattle.acvp_desk.specs.Isolation.{IsOrderedApart, IsServedApart, IsToldBySeen};
@@ -113,11 +114,14 @@ impl<T: Tables> Desk<T> {
     }
 
     /// Carries an operator's order out. What it leaves of an account's rows depends on the order and on these rows
-    /// alone. The moment isn't used.
+    /// alone. A certification is approved only if the records are as every run leaves them for it. The moment isn't
+    /// used.
     pub fn order(&mut self, moment: u64, order: &Order) -> OrderReply
         requires { IsOrder order.now }
         ensures keys { self.new.keys ≡ self.old.keys }
         ensures answered { Orders T.meaning result self.old.tables self.new.tables order.now }
+        ensures sound { IsSoundApproval T.meaning result self.old.tables self.new.tables order.now }
+        ensures excused { IsExcused T.meaning T.faults result self.old.tables self.new.tables order.now }
         ensures apart { IsOrderedApart T.meaning result self.old.tables self.new.tables order.now }
         ensures cached { self.new.cached ≡ self.old.cached }
     {

@@ -30,6 +30,7 @@ use crate::found::{
     SessionsPage, SetNumbers, SetOutcome, SetOutcomes, SetPlace, SetSource, SetVerdicts,
     Submission,
 };
+use crate::judged::judge_own_sets;
 use crate::own_rows::{certification_grounds, registry_place};
 use crate::submit::one_if_passed;
 use crate::wish::{AccountWish, SessionWish, SetWish, Wish};
@@ -633,6 +634,7 @@ fn look_at<T: Tables>(
         }
         Wish::Certify(session) => {
             let found = session_facts(tables, session)?;
+            judge_own_sets(tables, account, session)?;
             let parts = certify_read(alloc, body)?;
             let grounds = certification_grounds(tables, account, &parts)?;
             Ok(Place::Certify(session, found, parts, grounds))

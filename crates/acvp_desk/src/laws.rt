@@ -1,17 +1,19 @@
 //! What holds of the records after requests and orders, whoever keeps them.
 
-ghost use Rattle.std.specs.Prelude.{◌≡◌, ◌++◌, ◌≤◌, ℕ, Err, IfOk, List, codes, is_some, length, true};
+ghost use Rattle.std.specs.Prelude.{◌≡◌, ◌++◌, ◌≤◌, ℕ, Err, IfOk, List, Some, codes, is_some, length, true};
 ghost use Rattle.acvp_tables.specs.Changes.{reviewers_after};
-ghost use Rattle.acvp_tables.specs.Content.{Content, no_rows, reviewers_of};
+ghost use Rattle.acvp_tables.specs.Content.{Content, no_rows, request_at, reviewers_of};
 ghost use Rattle.acvp_tables.specs.State.{State, is_account_number, state_of};
 ghost use Rattle.acvp_tables.specs.declared.change.Change.TheVariants as change;
+ghost use Rattle.acvp_tables.specs.declared.rows.RequestRow.{RequestRow};
 ghost use Rattle.acvp_tables.specs.declared.rows.ReviewerRow.{ReviewerRow};
 ghost use Rattle.acvp_desk.specs.Answer.{answer, effect, content_effect};
+ghost use Rattle.acvp_desk.specs.Approvals.{may_approve};
 ghost use Rattle.acvp_desk.specs.Errors.{error_body};
 ghost use Rattle.acvp_desk.specs.Certifications.{IsLeft};
 ghost use Rattle.acvp_desk.specs.Kept.{IsKept};
 ghost use Rattle.acvp_desk.specs.Reviewers.{with_account, without_account};
-ghost use Rattle.acvp_desk.specs.Orders.{IsOrder, HasSecret, order_effect, content_order_effect};
+ghost use Rattle.acvp_desk.specs.Orders.{IsOrder, HasSecret, is_initial, order_effect, content_order_effect};
 ghost use Rattle.acvp_policy.specs.Rule.{rule_word};
 ghost use Rattle.acvp_policy.specs.declared.rule.Rule.{Rule};
 ghost use Rattle.acvp_policy.specs.declared.rule.Rule.TheVariants as rule;
@@ -69,6 +71,16 @@ pub fn left_records_are_left()
     numbers_tell();
     numbers_count();
     approvals_name_the_account();
+}
+
+/// In records as every run leaves them, each request that waits may be approved.
+pub fn left_requests_may_be_approved()
+    ensures { (seeds : List (List ℕ)) (c : Content) (n : ℕ) (row : RequestRow) → IsLeft seeds c
+        → request_at n c.requests ≡ Some row → is_initial row.status ≡ true → may_approve n c row ≡ true }
+{
+    selections_follow();
+    numbers_name();
+    numbers_tell();
 }
 
 /// The reply to a request that is accepted shows an object, where what is kept is right and there is a seed.

@@ -15,7 +15,7 @@ pub use keys::Keys;
 pub use later_keys::records_outlast_keys;
 pub use laws::{
     accepted_requests_are_told, effects_follow, errors_are_named, left_records_are_left,
-    no_answer_is_unavailable, records_are_kept, reviewers_are_told,
+    left_requests_may_be_approved, no_answer_is_unavailable, records_are_kept, reviewers_are_told,
 };
 pub use order::{Order, OrderReply, order_on};
 pub use page::page_of;
@@ -24,6 +24,7 @@ pub use wish::{AccountWish, Registry, RegistryWish, SessionWish, SetWish, Wish};
 pub use without_rows::nobody_is_accepted_without_rows;
 
 mod algorithm;
+mod approval;
 mod ask;
 mod body;
 mod cache;
@@ -35,6 +36,7 @@ mod facts;
 mod find;
 mod found;
 mod isolation;
+mod judged;
 mod keys;
 mod later_keys;
 mod laws;

@@ -5,10 +5,12 @@ ghost use Rattle.acvp_tables.specs.Calls.{Reads};
 ghost use Rattle.acvp_tables.specs.Content.{Content, request_at};
 ghost use Rattle.acvp_tables.specs.State.{first_of_account, state_of, AreWellNumbered};
 ghost use Rattle.acvp_tables.specs.declared.summary.RequestPurpose.TheVariants as asks;
+ghost use Rattle.acvp_desk.specs.Approvals.{IsExcused, IsSoundApproval};
 ghost use Rattle.acvp_desk.specs.Orders.{approved_as, is_initial, IsOrder, Orders};
 ghost use Rattle.acvp_desk.specs.Private.Waiting.{waiting_in};
 ghost use Rattle.acvp_desk.specs.declared.order.Order.TheVariants as order;
 
+use crate::approval::may_be_approved;
 use crate::numbers::NUMBERS_OF_ACCOUNT;
 use crate::registry::kind_asked;
 use acvp_registry::Kind;
@@ -41,14 +43,16 @@ pub enum OrderReply {
     /// The request was decided before.
     NotInitial,
 
-    /// Memory or a statement was refused, or a row stands for nothing. Nothing has changed.
+    /// Memory or a statement was refused, a row stands for nothing, or the records aren't as every run leaves them for
+    /// the certification that is to be approved. Nothing has changed.
     Unavailable,
 }
 
 /// Adds an account that isn't there.
 #[tactic(auto, unfolding(crate::specs::Orders::order_reply, crate::specs::Orders::order_change))]
 fn add<T: Tables>(tables: &mut T, account: u16, secret: [u8; 32]) -> OrderReply
-    ensures { Orders T.meaning result tables.old tables.new (order.AddAccount account secret) }
+    ensures answered { Orders T.meaning result tables.old tables.new (order.AddAccount account secret) }
+    ensures excused { IsExcused T.meaning T.faults result tables.old tables.new (order.AddAccount account secret) }
 {
     match tables.account(account) {
         Err(_) => OrderReply::Unavailable,
@@ -66,7 +70,8 @@ fn add<T: Tables>(tables: &mut T, account: u16, secret: [u8; 32]) -> OrderReply
 /// Disables an account that is there.
 #[tactic(auto, unfolding(crate::specs::Orders::order_reply, crate::specs::Orders::order_change))]
 fn disable<T: Tables>(tables: &mut T, account: u16) -> OrderReply
-    ensures { Orders T.meaning result tables.old tables.new (order.DisableAccount account) }
+    ensures answered { Orders T.meaning result tables.old tables.new (order.DisableAccount account) }
+    ensures excused { IsExcused T.meaning T.faults result tables.old tables.new (order.DisableAccount account) }
 {
     match tables.account(account) {
         Err(_) => OrderReply::Unavailable,
@@ -93,7 +98,8 @@ fn is_initial(status: RequestStatus) -> bool
 struct Waiting {
     /// Whether the request waits for the decision.
     initial: bool,
-    kind: Kind,
+    account: u16,
+    purpose: RequestPurpose,
 
     /// The number that an approval gives.
     approved: u64,
@@ -147,14 +153,17 @@ fn find_waiting<T: Tables>(tables: &mut T, number: u64) -> Result<Option<Waiting
     };
     Ok(Some(Waiting {
         initial: is_initial(request.status),
-        kind: kind_asked(request.purpose),
+        account: request.account,
+        purpose: request.purpose,
         approved,
     }))
 }
 
-/// Approves a request that waits.
+/// Approves a request that waits; one for a certification only if the records are as every run leaves them for it.
 fn approve<T: Tables>(tables: &mut T, number: u64) -> OrderReply
-    ensures { Orders T.meaning result tables.old tables.new (order.ApproveRequest number) }
+    ensures answered { Orders T.meaning result tables.old tables.new (order.ApproveRequest number) }
+    ensures sound { IsSoundApproval T.meaning result tables.old tables.new (order.ApproveRequest number) }
+    ensures excused { IsExcused T.meaning T.faults result tables.old tables.new (order.ApproveRequest number) }
 {
     let waiting = match find_waiting(tables, number) {
         Err(_) => return OrderReply::Unavailable,
@@ -164,19 +173,26 @@ fn approve<T: Tables>(tables: &mut T, number: u64) -> OrderReply
     if !waiting.initial {
         return OrderReply::NotInitial;
     }
+    let Ok(sound) = may_be_approved(tables, number, waiting.account, waiting.purpose) else {
+        return OrderReply::Unavailable;
+    };
+    if !sound {
+        return OrderReply::Unavailable;
+    }
     let approval = Approval {
         request: number,
         approved: waiting.approved,
     };
     match tables.order(&OrderChange::Approve(approval)) {
-        Ok(()) => OrderReply::Done(Some((waiting.kind, waiting.approved))),
+        Ok(()) => OrderReply::Done(Some((kind_asked(waiting.purpose), waiting.approved))),
         Err(_) => OrderReply::Unavailable,
     }
 }
 
 /// Rejects a request that waits.
 fn reject<T: Tables>(tables: &mut T, number: u64) -> OrderReply
-    ensures { Orders T.meaning result tables.old tables.new (order.RejectRequest number) }
+    ensures answered { Orders T.meaning result tables.old tables.new (order.RejectRequest number) }
+    ensures excused { IsExcused T.meaning T.faults result tables.old tables.new (order.RejectRequest number) }
 {
     let request = match tables.request(number) {
         Err(_) => return OrderReply::Unavailable,
@@ -192,11 +208,14 @@ fn reject<T: Tables>(tables: &mut T, number: u64) -> OrderReply
     }
 }
 
-/// Carries an operator's order out.
+/// Carries an operator's order out. A certification is approved only if the records are as every run leaves them for
+/// it.
 #[tactic(auto, unfolding(crate::specs::Orders::order_reply, crate::specs::Orders::order_change))]
 pub fn order_on<T: Tables>(tables: &mut T, order: &Order) -> OrderReply
     requires { IsOrder order.now }
-    ensures { Orders T.meaning result tables.old tables.new order.now }
+    ensures answered { Orders T.meaning result tables.old tables.new order.now }
+    ensures sound { IsSoundApproval T.meaning result tables.old tables.new order.now }
+    ensures excused { IsExcused T.meaning T.faults result tables.old tables.new order.now }
 {
     match *order {
         Order::AddAccount { account, secret } => add(tables, account, secret),

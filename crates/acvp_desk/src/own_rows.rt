@@ -1,6 +1,7 @@
 //! What an account owns is looked up: the objects of its registries, and its requests.
 
-ghost use Rattle.std.specs.Prelude.{true, ◌≡◌, is_some, IfOk, option_map};
+ghost use Rattle.std.specs.Prelude.{true, ◌≡◌, is_some, IfErr, IfOk, option_map};
+ghost use Rattle.acvp_tables.specs.Calls.{Finds};
 ghost use Rattle.acvp_tables.specs.Content.{request_summary};
 ghost use Rattle.acvp_tables.specs.State.{state_of};
 ghost use Rattle.acvp_desk.specs.Asked.{is_named, certification_grounds, has_own_parts, has_own_vendor};
@@ -22,7 +23,25 @@ use std::alloc::Global;
 
 // ---- an account's rows by their numbers
 
-/// Whether an account has the object of a kind and number.
+/// Whether the object of a kind and number is there, and an account's.
+pub(crate) fn owns<T: Tables>(
+    tables: &mut T,
+    kind: Kind,
+    account: u16,
+    number: u64,
+) -> Result<bool, StoreFault>
+    ensures found { Finds T.meaning (λ x. x) result tables.old tables.new
+        (λ c. is_some (own_object kind account number c.objects)) }
+    ensures looks { Looks T.meaning result tables.old tables.new }
+    ensures fault { IfErr result T.faults }
+{
+    match tables.owner(kind, number)? {
+        Some(owner) => Ok(owner == account),
+        None => Ok(false),
+    }
+}
+
+/// Whether an account has the object of a kind and number. A row of another account is never read for it.
 #[tactic(auto, unfolding(acvp_tables::specs::State::state_of))]
 fn has_object<T: Tables>(
     tables: &mut T,
@@ -38,10 +57,7 @@ fn has_object<T: Tables>(
     if !is_of_account(number, account) {
         return Ok(false);
     }
-    match tables.owner(kind, number)? {
-        Some(owner) => Ok(owner == account),
-        None => Ok(false),
-    }
+    owns(tables, kind, account, number)
 }
 
 /// The object of a kind and number, where it is an account's.

@@ -29,13 +29,15 @@ returns-in_ok-registry_place-in-Registry-clause-found g c =
 
 pub returns-in_ok-grounds-in-Certify-clause-found : goal.returns-in_ok-grounds-in-Certify-clause-found
 returns-in_ok-grounds-in-Certify-clause-found g c =
-    λ live seeds content kept h. let up = c.in_ok-grounds-in-Certify.ensures.looks.was_open live in
+    λ live seeds content kept h. let late = c.in_ok-grounds-in-Certify.ensures.looks.was_open live in
+    let judged = c.in_ok-judge_own_sets-in-Certify.ensures.looks in
+    let up = judged.was_open late in
+    let there = judged.same late content (c.in_ok-found-in-Certify.ensures.looks.same up content h) in
     rw (
       c.in-Certify.is,
       ← c.in_ok-parts-in-Certify.ensures,
       c.in_ok-found-in-Certify.ensures.found up seeds content kept h,
-      c.in_ok-grounds-in-Certify.ensures.found live seeds content kept
-          (c.in_ok-found-in-Certify.ensures.looks.same up content h),
+      c.in_ok-grounds-in-Certify.ensures.found live seeds content kept there,
     ) refl
 
 pub returns-in_ok-accounts-in-Reviewer-clause-found : goal.returns-in_ok-accounts-in-Reviewer-clause-found

@@ -5,8 +5,8 @@ use Rattle.acvp_desk.specs.declared.order.OrderReply.TheVariants.{Taken}
 use Rattle.acvp_desk.proofs.OrderExits.{taken, added, left_alone, carried_out, failed}
 use Rattle.acvp_desk.proofs.order.add.Goals as goal
 
-pub returns-in-Ok-Some : goal.returns-in-Ok-Some
-returns-in-Ok-Some g c =
+pub returns-in-Ok-Some-clause-answered : goal.returns-in-Ok-Some-clause-answered
+returns-in-Ok-Some-clause-answered g c =
     let alone = left_alone g.T.Tables.faults g.T.Tables.meaning
     (order.AddAccount c.args.account c.args.secret) c.in-Ok-Some.field-0 c.args.tables.now c.account.new.self Taken
     c.in-Ok-Some.ensures.reads
@@ -25,8 +25,8 @@ returns-in-Ok-Some g c =
       shut = λ clean off. reads.kept clean;
     }
 
-pub returns-in-Ok : goal.returns-in-Ok
-returns-in-Ok g c =
+pub returns-in-Ok-clause-answered : goal.returns-in-Ok-clause-answered
+returns-in-Ok-clause-answered g c =
     carried_out g.T.Tables.faults g.T.Tables.meaning
     (order.AddAccount c.args.account c.args.secret) c.in-Ok-None.field-0 c.args.tables.now c.account.new.self
     c.order.new.self
@@ -34,8 +34,8 @@ returns-in-Ok g c =
     (λ live content sound h. added c.args.account c.args.secret content
     (sym c.in-Ok-None.field-0-is ∙ c.in-Ok-None.ensures.found live content sound h)) _ c.in-Ok.ensures
 
-pub returns-in-Err-order : goal.returns-in-Err-order
-returns-in-Err-order g c =
+pub returns-in-Err-order-clause-answered : goal.returns-in-Err-order-clause-answered
+returns-in-Err-order-clause-answered g c =
     failed g.T.Tables.faults g.T.Tables.meaning
     (order.AddAccount c.args.account c.args.secret) c.in-Ok-None.field-0 c.args.tables.now c.account.new.self
     c.order.new.self

@@ -5,8 +5,8 @@ use Rattle.acvp_desk.specs.declared.order.OrderReply.TheVariants.{Unknown, NotIn
 use Rattle.acvp_desk.proofs.OrderExits.{none_rejected, rejected_by, left_alone, carried_out, failed}
 use Rattle.acvp_desk.proofs.order.reject.Goals as goal
 
-pub returns-in-Ok-None : goal.returns-in-Ok-None
-returns-in-Ok-None g c =
+pub returns-in-Ok-None-clause-answered : goal.returns-in-Ok-None-clause-answered
+returns-in-Ok-None-clause-answered g c =
     let reads = c.in-Ok-None.ensures.reads in
     let alone = left_alone g.T.Tables.faults g.T.Tables.meaning
     (order.RejectRequest c.args.number) c.in-Ok-None.field-0 c.args.tables.now c.request.new.self Unknown reads
@@ -24,8 +24,8 @@ returns-in-Ok-None g c =
       shut = λ clean off. reads.kept clean;
     }
 
-pub returns-then-not-is_initial : goal.returns-then-not-is_initial
-returns-then-not-is_initial g c =
+pub returns-then-not-is_initial-clause-answered : goal.returns-then-not-is_initial-clause-answered
+returns-then-not-is_initial-clause-answered g c =
     let reads = c.in-Ok-Some.ensures.reads in
     let alone = left_alone g.T.Tables.faults g.T.Tables.meaning
     (order.RejectRequest c.args.number) c.in-Ok-Some.field-0 c.args.tables.now c.request.new.self NotInitial reads
@@ -44,8 +44,8 @@ returns-then-not-is_initial g c =
       shut = λ clean off. reads.kept clean;
     }
 
-pub returns-in-Ok : goal.returns-in-Ok
-returns-in-Ok g c =
+pub returns-in-Ok-clause-answered : goal.returns-in-Ok-clause-answered
+returns-in-Ok-clause-answered g c =
     carried_out g.T.Tables.faults g.T.Tables.meaning
     (order.RejectRequest c.args.number) c.in-Ok-Some.field-0 c.args.tables.now c.request.new.self c.order.new.self
     (Reject c.args.number) c.in-Ok-Some.ensures.reads None
@@ -53,8 +53,8 @@ returns-in-Ok g c =
     (sym c.in-Ok-Some.field-0-is ∙ c.in-Ok-Some.ensures.found live content sound h) (sym c.if-not-is_initial.ensures)) _
     c.in-Ok.ensures
 
-pub returns-in-Err-order : goal.returns-in-Err-order
-returns-in-Err-order g c =
+pub returns-in-Err-order-clause-answered : goal.returns-in-Err-order-clause-answered
+returns-in-Err-order-clause-answered g c =
     failed g.T.Tables.faults g.T.Tables.meaning
     (order.RejectRequest c.args.number) c.in-Ok-Some.field-0 c.args.tables.now c.request.new.self c.order.new.self
     (Reject c.args.number) c.in-Ok-Some.ensures.reads None
