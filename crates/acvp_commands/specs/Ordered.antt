@@ -11,8 +11,8 @@ use Rattle.acvp_commands.specs.declared.fault.Fault.{Fault}
 use Rattle.acvp_commands.specs.declared.lines.Message.{Message}
 use Rattle.acvp_commands.specs.Lines.{outcome_of}
 
--- the order was answered as the desk answers it, a certification approved only if the tables were as every run leaves
--- them for it, and the line or the fault is that reply's
+-- the order was answered as the desk answers it, a certification approved only if it may be, and the line or the fault
+-- is that reply's
 abbrev pub IsCarriedOut : {T : Type 0} → Meaning T → Result Message Fault → T → T → Order → Type 0
 IsCarriedOut meaning result old new order =
     (reply : OrderReply) × Orders meaning reply old new order × IsSoundApproval meaning reply old new order

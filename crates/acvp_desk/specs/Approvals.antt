@@ -1,5 +1,5 @@
--- What an approval rests on. A certification is approved if the records are as every run leaves them while its request
--- waits.
+-- What an approval rests on. A certification may be approved if its session, its vector sets and its parts stand as
+-- every run leaves them while its request waits.
 use Rattle.std.specs.Prelude.{◌≡◌, ◌⊎◌, ℕ, List, length, Bool, true, false, ◌==◌, ◌&&◌, Some, is_some, ⊤}
 use Rattle.std.specs.List.{list_all}
 use Rattle.acvp_policy.specs.Conditions.{is_some_and}

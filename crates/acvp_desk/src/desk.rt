@@ -114,8 +114,7 @@ impl<T: Tables> Desk<T> {
     }
 
     /// Carries an operator's order out. What it leaves of an account's rows depends on the order and on these rows
-    /// alone. A certification is approved only if the records are as every run leaves them for it. The moment isn't
-    /// used.
+    /// alone. A certification is approved only if it may be approved, as after every run. The moment isn't used.
     pub fn order(&mut self, moment: u64, order: &Order) -> OrderReply
         requires { IsOrder order.now }
         ensures keys { self.new.keys ≡ self.old.keys }

@@ -1,4 +1,5 @@
-//! What a certification rests on is read whole, so that none is asked for or given over a row that stands for nothing.
+//! The vector sets that a certification rests on are read whole: those of its session that aren't cancelled. So none is
+//! asked for or given over one that stands for nothing.
 
 ghost use Rattle.std.specs.Prelude.{IfErr, map};
 ghost use Rattle.acvp_tables.specs.Calls.{Finds};

@@ -43,8 +43,8 @@ pub enum OrderReply {
     /// The request was decided before.
     NotInitial,
 
-    /// Memory or a statement was refused, a row stands for nothing, or the records aren't as every run leaves them for
-    /// the certification that is to be approved. Nothing has changed.
+    /// Memory or a statement was refused, a row stands for nothing, or the certification that is to be approved may not
+    /// be. Nothing has changed.
     Unavailable,
 }
 
@@ -159,7 +159,7 @@ fn find_waiting<T: Tables>(tables: &mut T, number: u64) -> Result<Option<Waiting
     }))
 }
 
-/// Approves a request that waits; one for a certification only if the records are as every run leaves them for it.
+/// Approves a request that waits; one for a certification only if it may be approved, as after every run.
 fn approve<T: Tables>(tables: &mut T, number: u64) -> OrderReply
     ensures answered { Orders T.meaning result tables.old tables.new (order.ApproveRequest number) }
     ensures sound { IsSoundApproval T.meaning result tables.old tables.new (order.ApproveRequest number) }
@@ -208,8 +208,7 @@ fn reject<T: Tables>(tables: &mut T, number: u64) -> OrderReply
     }
 }
 
-/// Carries an operator's order out. A certification is approved only if the records are as every run leaves them for
-/// it.
+/// Carries an operator's order out. A certification is approved only if it may be approved, as after every run.
 #[tactic(auto, unfolding(crate::specs::Orders::order_reply, crate::specs::Orders::order_change))]
 pub fn order_on<T: Tables>(tables: &mut T, order: &Order) -> OrderReply
     requires { IsOrder order.now }
