@@ -16,6 +16,8 @@ pub mod CertifiedRows
 pub mod CertifiedRecords
 pub mod RegisteredRows
 pub mod RegisteredRecords
+pub mod EpochRows
+pub mod EpochRecords
 pub mod ErrorBodies
 pub mod PassedSession
 pub mod FoundRows

@@ -9,6 +9,7 @@ use Rattle.acvp_tables.specs.declared.rows.RequestRow.{RequestRow}
 use Rattle.acvp_tables.specs.declared.rows.RequestStatus.{RequestStatus}
 use Rattle.acvp_tables.specs.declared.rows.RequestStatus.TheVariants as status
 use Rattle.acvp_tables.specs.declared.rows.SessionRow.{SessionRow}
+use Rattle.acvp_desk.specs.Epochs.{AreInEpochs}
 use Rattle.acvp_desk.specs.Kept.{IsKept}
 use Rattle.acvp_desk.specs.Registrations.{AreRegistered}
 
@@ -47,8 +48,10 @@ pub record AreCertified (c : Content) : Type 0 where
   pub certifiable : (n : ℕ) → of_all (is_certifiable c.requests) (session_at n c.sessions) ≡ true
 
 -- the records have what every run keeps: they are consistent, each certification that isn't rejected is of a session
--- that has passed, and each approved registration has its object as it was asked for, under a number of its own
+-- that has passed, each approved registration has its object as it was asked for, under a number of its own, and of an
+-- account's test sessions no later one was made under an earlier epoch
 pub record IsLeft (seeds : List (List ℕ)) (c : Content) : Type 0 where
   pub kept : IsKept seeds c
   pub certified : AreCertified c
   pub registered : AreRegistered c
+  pub epochs : AreInEpochs c

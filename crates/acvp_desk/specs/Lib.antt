@@ -14,6 +14,7 @@ pub mod OwnConditions
 pub mod Answer
 pub mod Kept
 pub mod Registrations
+pub mod Epochs
 pub mod Certifications
 pub mod Serves
 pub mod Desk
