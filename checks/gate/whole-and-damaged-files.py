@@ -212,6 +212,30 @@ def registrations():
                 update("request", "approved", 7000001, request=request)], f"request {request} givenTwice")
 
 
+def epochs():
+    """Epochs of account 7 that no run leaves, where there are two seeds: the set that is told is the first which has an
+    earlier one than it may have."""
+    for number, told in ((OPEN * 100 + 1, OPEN * 100 + 2), (OPEN * 100 + 3, OPEN * 100 + 1),
+                         (OPEN * 100 + 5, OPEN * 100 + 1), (CERTIFIED * 100 + 3, CERTIFIED * 100 + 1)):
+        yield [update("vset2", "epoch", 1, vs=number)], f"set {told} epoch"
+    for session in (CERTIFIED, WAITING, OPEN, SAMPLE, CANCELLED):
+        yield [update("vset2", "epoch", 1, session=session)], f"set {(session + 1) * 100 + 1} epoch"
+    later = [update("vset2", "epoch", 1, session=session) for session in (CERTIFIED, OPEN, SAMPLE, CANCELLED, READY)]
+    yield later, f"set {WAITING * 100 + 1} epoch"
+    # what is looked for before
+    one = update("vset2", "epoch", 1, vs=OPEN * 100 + 1)
+    yield [one, update("vset2", "epoch", 2, vs=READY * 100 + 1)], f"set {READY * 100 + 1} noSeed"
+    yield [one, update("request", "body", NAMED, request=7000001)], "request 7000001 notAsAsked"
+
+
+def epochs_that_rise():
+    """What is whole without the verdicts, where there are two seeds: the later sessions have the later one. Each account's
+    epochs are its own."""
+    for first in (READY, CANCELLED, OPEN, WAITING, CERTIFIED):
+        yield [update("vset2", "epoch", 1, session=session) for session in range(first, READY + 1)]
+    yield [("UPDATE vset2 SET epoch = 1", ())]
+
+
 def pairs():
     """Two damages, of which the one that is looked for first is told."""
     counter = update("session", "live", 0, session=OPEN)
@@ -336,6 +360,29 @@ def each_damage(lab, whole):
     print(f"{len(found)} damages of rows, {len(cases) - len(found)} looks at verdicts")
 
 
+def two_seeds(lab):
+    """A keys file with one seed more than the file was served with."""
+    lines = bytes_of(lab.keys).decode().split()
+    return lab.write(lab.path("added.txt"), f"token {lines[0]}\nseed {lines[1]}\nseed {'5' * 64}\n")
+
+
+def under_two_seeds(lab, whole):
+    """Damaged epochs are told before verdicts, which are those under the seed of the epoch. A vector set under the seed
+    that was added is whole with the verdicts, too: it has no answers."""
+    keys = two_seeds(lab)
+    is_whole(lab, whole, keys=keys)
+    for place, (statements, line) in enumerate(epochs()):
+        path = damage(lab, whole, statements, f"epoch-{place}")
+        is_wrong(lab, path, line, keys=keys)
+        is_wrong(lab, path, line, "--grades", "no", keys=keys)
+    for place, statements in enumerate(epochs_that_rise()):
+        path = damage(lab, whole, statements, f"rising-{place}")
+        is_whole(lab, path, "--grades", "no", keys=keys)
+    last = [update("vset2", column, None, session=READY) for column in ("answers", "verdicts", "disposition")]
+    last += [update("vset2", "epoch", 1, session=READY), update("session", "passed", 0, session=READY)]
+    is_whole(lab, damage(lab, whole, last, "added"), keys=keys)
+
+
 def other_keys(lab, whole):
     """Under another seed the first answered set has other standard answers, where the file doesn't know its seeds; without
     a seed it has none."""
@@ -345,8 +392,6 @@ def other_keys(lab, whole):
     unknowing = damage(lab, whole, [delete("meta", name="seed 1")], "unknowing")
     is_wrong(lab, unknowing, f"set {CERTIFIED * 100 + 1} verdicts", keys=other)
     is_whole(lab, unknowing, "--grades", "no", keys=other)
-    added = lab.write(lab.path("added.txt"), f"token {lines[0]}\nseed {lines[1]}\nseed {'5' * 64}\n")
-    is_whole(lab, whole, keys=added)
 
 
 def faults(lab, whole):
@@ -437,7 +482,7 @@ def main():
             os.chmod(whole, 0o600)
             is_whole(lab, whole)
             is_whole(lab, whole, "--grades", "no")
-            for part in (each_damage, other_keys, faults, after_migrate, while_served, on_a_terminal):
+            for part in (each_damage, under_two_seeds, other_keys, faults, after_migrate, while_served, on_a_terminal):
                 part(lab, whole)
         finally:
             lab.kill()

@@ -30,7 +30,7 @@ use Rattle.acvp_tables.proofs.KeptLemmas.{list_all_weaker, list_all-filter}
 use Rattle.acvp_check.specs.Conditions.{all_conditions, account_conditions, own_row_conditions, session_conditions}
 use Rattle.acvp_check.specs.Conditions.{set_conditions, request_conditions, object_conditions, all_kinds_conditions}
 use Rattle.acvp_check.specs.Conditions.{reviewer_conditions, certification_conditions, is_beyond_kept}
-use Rattle.acvp_check.specs.Conditions.{registration_conditions, verdict_conditions}
+use Rattle.acvp_check.specs.Conditions.{epoch_conditions, registration_conditions, verdict_conditions}
 use Rattle.acvp_check.specs.Order.{HaveSameRows, AreInOrder}
 use Rattle.acvp_check.specs.Owners.{is_of, is_in, owner_conditions, session_owners, registry_owners}
 use Rattle.acvp_check.specs.Rows.{AreNumbered, rows_numbered, rows_of}
@@ -292,8 +292,8 @@ module _ (u : ℕ) (c : Content) where
 
   none_wrong : (seeds : List (List ℕ)) (v : ℕ) → first_broken (all_conditions true seeds v no_rows) ≡ None
   unfolding account_conditions own_row_conditions session_conditions set_conditions request_conditions object_conditions
-      all_kinds_conditions reviewer_conditions certification_conditions registration_conditions verdict_conditions
-      state_of
+      all_kinds_conditions reviewer_conditions certification_conditions registration_conditions epoch_conditions
+      verdict_conditions state_of
   none_wrong seeds v = refl
 
   numbered : (seeds : List (List ℕ)) → IsKept seeds c → AreNumbered (rows_numbered u c)

@@ -21,7 +21,7 @@ use Rattle.acvp_tables.specs.declared.rows.ObjectRow.{ObjectRow}
 use Rattle.acvp_tables.specs.declared.rows.RequestRow.{RequestRow}
 use Rattle.acvp_tables.specs.declared.rows.ReviewerRow.{ReviewerRow}
 use Rattle.acvp_check.specs.Conditions.{account_conditions, all_conditions, certification_conditions, is_disposed}
-use Rattle.acvp_check.specs.Conditions.{kept_conditions, registration_conditions, set_row_conditions}
+use Rattle.acvp_check.specs.Conditions.{epoch_conditions, kept_conditions, registration_conditions, set_row_conditions}
 use Rattle.acvp_check.specs.Owners.{owner_conditions}
 use Rattle.acvp_check.specs.Rows.{AreNumbered, rows_numbered}
 use Rattle.acvp_check.specs.Whole.{IsWhole}
@@ -30,7 +30,8 @@ use Rattle.acvp_tables.proofs.KeptLemmas.{list_all_weaker}
 use Rattle.acvp_check.proofs.AccountLemmas.{parts, sets_hold, set_holds, split}
 use Rattle.acvp_check.proofs.Holds.{all_both, holds, joint, none_broken}
 use Rattle.acvp_check.proofs.NumberedRows.{numbered_whole}
-use Rattle.acvp_check.proofs.WholeLemmas.{left, whole_sound, whole_counted, whole_certified, whole_registered}
+use Rattle.acvp_check.proofs.WholeLemmas.{left, whole_sound, whole_counted, whole_certified, whole_in_epochs}
+use Rattle.acvp_check.proofs.WholeLemmas.{whole_registered}
 use Rattle.acvp_store.specs.Adopted.{IsOurs}
 use Rattle.acvp_store.specs.Ranges.{is_column_between, IsRegisteredWithin, first_number, last_number, joined}
 use Rattle.acvp_store.specs.Rows.{account_key, account_row, HoldsAccounts}
@@ -129,8 +130,10 @@ module _ (seeds : List (List ℕ)) where
       → list_all (is_seeded seeds) mine.sets ≡ true
   unfolding account_conditions
   seeded_sets u mine none =
-      let left = (split (kept_conditions seeds u mine ++ certification_conditions mine) (registration_conditions mine)
+      let two = kept_conditions seeds u mine ++ certification_conditions mine in
+      let three = (split (two ++ registration_conditions mine) (epoch_conditions mine)
       (none_broken (account_conditions seeds u mine) none)).0 in
+      let left = (split two (registration_conditions mine) three).0 in
       let kept = (split (kept_conditions seeds u mine) (certification_conditions mine) left).0 in
       let rows = sets_hold seeds mine (parts seeds u mine kept).sets in
       let seeded = list_all_weaker (λ r. holds (set_row_conditions seeds mine r))
@@ -295,6 +298,7 @@ left_as false seeds c is more = (
   more refl,
   whole_certified false seeds c is,
   whole_registered false seeds c is,
+  whole_in_epochs false seeds c is,
 )
 
 pub is_whole : (grades : Bool) (seeds : List (List ℕ)) (db : Database) (ours : IsOurs db)

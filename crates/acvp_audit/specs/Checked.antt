@@ -10,6 +10,7 @@ use Rattle.acvp_check.specs.Order.{HaveSameRows, AreInOrder}
 use Rattle.acvp_check.specs.Owners.{owner_conditions}
 use Rattle.acvp_check.specs.Rows.{rows_numbered}
 use Rattle.acvp_desk.specs.Certifications.{AreCertified, IsLeft}
+use Rattle.acvp_desk.specs.Epochs.{AreInEpochs}
 use Rattle.acvp_desk.specs.Kept.{IsKept}
 use Rattle.acvp_desk.specs.Registrations.{AreRegistered}
 use Rattle.acvp_tables.specs.Content.{Content}
@@ -76,12 +77,13 @@ totals_to lists (suc u) = plus (totals_to lists u) (totals_of (lists (suc u)))
 abbrev pub is_seeded : List (List ℕ) → SetRow → Bool
 is_seeded seeds row = is_some (slice_get seeds row.epoch) && of_all is_disposed row.graded
 
--- The records have what every run keeps. Without the verdicts on the answers they are well numbered, counted, certified
--- and registered so, and what else is asked of vector sets is so.
+-- The records have what every run keeps. Without the verdicts on the answers they are well numbered, counted,
+-- certified, registered and in epochs so, and what else is asked of vector sets is so.
 abbrev pub AreLeftAs : Bool → List (List ℕ) → Content → Type 0
 AreLeftAs true seeds c = IsLeft seeds c
 AreLeftAs false seeds c =
     AreWellNumbered c × IsCounted c × (list_all (is_seeded seeds) c.sets ≡ true) × AreCertified c × AreRegistered c
+    × AreInEpochs c
 
 -- The rows stand for records that have what every run keeps, so many in all.
 pub record IsWholeAs (grades : Bool) (seeds : List (List ℕ)) (layout : Layout) (trees : Trees) (totals : Totals)
@@ -101,15 +103,15 @@ IsTold grades seeds layout trees c (damage.Stray u t number) = HasStray t u numb
 IsTold grades seeds layout trees c (damage.Broken u found) =
     (mine : Content) × HaveSameRows (rows_numbered u c) mine × AreInOrder mine × IsBroken grades seeds u mine found
 
--- what is wrong is with a certification or a registration, and nothing that kept records meet
+-- what is wrong is with a certification, a registration or an epoch, and nothing that kept records meet
 abbrev pub is_damage_beyond_kept : Damage → Bool
 is_damage_beyond_kept (damage.Outside t number) = false
 is_damage_beyond_kept (damage.Stray u t number) = false
 is_damage_beyond_kept (damage.Broken u found) = is_beyond_kept found.wrong
 
 -- What is told is so of the rows. Whatever content they stand for, with texts of capabilities in UTF-8, no run leaves
--- it; and unless what is wrong is with a certification or a registration alone, it isn't kept. And what is told is so
--- of the content, where each registration that was asked for is of one of the three kinds.
+-- it; and unless what is wrong is with a certification, a registration or an epoch alone, it isn't kept. And what is
+-- told is so of the content, where each registration that was asked for is of one of the three kinds.
 pub record IsRefuted (grades : Bool) (seeds : List (List ℕ)) (layout : Layout) (trees : Trees) (found : Damage)
     : Type 0 where
   pub so : AreInTrees layout trees → IsDamagedIn grades seeds layout trees found

@@ -324,10 +324,10 @@ either_broken ((true, f) ∷ front) rest found is = either_broken front rest fou
 either_broken ((false, f) ∷ front) rest found is = inl is
 
 -- of conditions on rows that all tell the same kind of wrong
-abbrev told : {R : Type 0} → (R → Bool) → (R → Finding) → R → List (Condition Finding)
+abbrev pub told : {R : Type 0} → (R → Bool) → (R → Finding) → R → List (Condition Finding)
 told passes tells r = (passes r, tells r) ∷ []
 
-of_kind : {R : Type 0} (passes : R → Bool) (tells : R → Finding) (rows : List R)
+pub of_kind : {R : Type 0} (passes : R → Bool) (tells : R → Finding) (rows : List R)
     → ((r : R) → is_beyond_kept (tells r).wrong ≡ true) → (found : Finding)
     → first_broken (flat_map (told passes tells) rows) ≡ Some found → is_beyond_kept found.wrong ≡ true
 of_kind passes tells [] kind found is = absurd (cc)

@@ -6,6 +6,7 @@ pub mod GradedLemmas
 pub mod HeldLemmas
 pub mod CertificationLemmas
 pub mod RegistrationLemmas
+pub mod EpochLemmas
 pub mod WholeLemmas
 pub mod NumberedRows
 pub mod OrderLemmas

@@ -8,6 +8,7 @@ use Rattle.std.proofs.lemmas.Bool.{cases_Bool}
 use Rattle.std.proofs.lemmas.Bool.Decides.{nat_tests}
 use Rattle.std.proofs.lemmas.List.Sums.{AllPass-from_list_all, list_all-from_AllPass}
 use Rattle.acvp_desk.specs.Certifications.{AreCertified, IsLeft}
+use Rattle.acvp_desk.specs.Epochs.{AreInEpochs}
 use Rattle.acvp_desk.specs.Registrations.{AreRegistered}
 use Rattle.acvp_desk.specs.Kept.{IsGradedSet, IsGraded, IsKept}
 use Rattle.acvp_mac.specs.Conditions.{first_broken}
@@ -28,7 +29,7 @@ use Rattle.acvp_check.specs.Conditions.{is_disposed, is_right, account_condition
 use Rattle.acvp_check.specs.Conditions.{session_conditions, set_row_conditions, set_conditions, request_conditions}
 use Rattle.acvp_check.specs.Conditions.{object_conditions, all_kinds_conditions}
 use Rattle.acvp_check.specs.Conditions.{reviewer_conditions, certification_conditions, is_beyond_kept}
-use Rattle.acvp_check.specs.Conditions.{registration_conditions, verdict_row_conditions}
+use Rattle.acvp_check.specs.Conditions.{epoch_conditions, registration_conditions, verdict_row_conditions}
 use Rattle.acvp_check.specs.Conditions.{verdict_conditions, all_conditions}
 use Rattle.acvp_check.specs.Owners.{is_of, is_in, account_owner, session_owner, set_owner, object_owner, request_owner}
 use Rattle.acvp_check.specs.Owners.{reviewer_owner, session_owners, registry_owners, owner_conditions}
@@ -43,6 +44,7 @@ use Rattle.acvp_check.specs.declared.finding.Finding.{Finding}
 use Rattle.acvp_desk.proofs.FirstBroken.{front_held}
 use Rattle.acvp_check.proofs.CertificationLemmas.{all_certified, certification_found}
 use Rattle.acvp_check.proofs.CertificationLemmas.{certifications_hold, either_broken, one}
+use Rattle.acvp_check.proofs.EpochLemmas.{all_in_epochs, epoch_found, epochs_hold}
 use Rattle.acvp_check.proofs.RegistrationLemmas.{all_registered, registration_found, registrations_hold}
 use Rattle.acvp_check.proofs.GradedLemmas.{graded_set, set_graded}
 use Rattle.acvp_check.proofs.HeldLemmas.{held, last_holds}
@@ -175,8 +177,8 @@ numbers_select u c none =
 
 none_wrong : (grades : Bool) (seeds : List (List ℕ)) (u : ℕ) → holds (all_conditions grades seeds u no_rows) ≡ true
 unfolding account_conditions own_row_conditions session_conditions set_conditions request_conditions object_conditions
-    all_kinds_conditions reviewer_conditions certification_conditions registration_conditions verdict_conditions
-    state_of
+    all_kinds_conditions reviewer_conditions certification_conditions registration_conditions epoch_conditions
+    verdict_conditions state_of
 none_wrong true seeds u = refl
 none_wrong false seeds u = refl
 
@@ -196,26 +198,29 @@ plain : (grades : Bool) (seeds : List (List ℕ)) (u : ℕ) (mine : Content)
 plain true seeds u mine e = (split (account_conditions seeds u mine) (verdict_conditions seeds mine) e).0
 plain false seeds u mine e = e
 
--- what kept records meet, and what is asked besides of certifications and of registrations
-record Three (seeds : List (List ℕ)) (u : ℕ) (mine : Content) : Type 0 where
+-- what kept records meet, and what is asked besides of certifications, of registrations and of epochs
+record Four (seeds : List (List ℕ)) (u : ℕ) (mine : Content) : Type 0 where
   kept : holds (kept_conditions seeds u mine) ≡ true
   certified : holds (certification_conditions mine) ≡ true
   registered : holds (registration_conditions mine) ≡ true
+  epochs : holds (epoch_conditions mine) ≡ true
 
-three : (seeds : List (List ℕ)) (u : ℕ) (mine : Content) → holds (account_conditions seeds u mine) ≡ true
-    → Three seeds u mine
+four : (seeds : List (List ℕ)) (u : ℕ) (mine : Content) → holds (account_conditions seeds u mine) ≡ true
+    → Four seeds u mine
 unfolding account_conditions
-three seeds u mine e =
-    let last = split (kept_conditions seeds u mine ++ certification_conditions mine) (registration_conditions mine) e in
-    let first = split (kept_conditions seeds u mine) (certification_conditions mine) last.0 in
-    record { kept = first.0; certified = first.1; registered = last.1 }
+four seeds u mine e =
+    let two = kept_conditions seeds u mine ++ certification_conditions mine in
+    let last = split (two ++ registration_conditions mine) (epoch_conditions mine) e in
+    let next = split two (registration_conditions mine) last.0 in
+    let first = split (kept_conditions seeds u mine) (certification_conditions mine) next.0 in
+    record { kept = first.0; certified = first.1; registered = next.1; epochs = last.1 }
 
 module _ (grades : Bool) (seeds : List (List ℕ)) (c : Content) (is : IsWhole grades seeds c) where
   account_holds : (u : ℕ) → holds (account_conditions seeds u (rows_of u c)) ≡ true
   account_holds u = plain grades seeds u (rows_of u c) (all_hold grades seeds c is u)
 
-  part_hold : (u : ℕ) → Three seeds u (rows_of u c)
-  part_hold u = three seeds u (rows_of u c) (account_holds u)
+  part_hold : (u : ℕ) → Four seeds u (rows_of u c)
+  part_hold u = four seeds u (rows_of u c) (account_holds u)
 
   pub whole_sound : AreWellNumbered c
   unfolding IsWellNumbered
@@ -227,6 +232,9 @@ module _ (grades : Bool) (seeds : List (List ℕ)) (c : Content) (is : IsWhole g
   pub whole_registered : AreRegistered c
   whole_registered = all_registered c whole_sound (λ u. well seeds u (rows_of u c) (part_hold u).kept)
       (λ u. (part_hold u).registered)
+
+  pub whole_in_epochs : AreInEpochs c
+  whole_in_epochs = all_in_epochs c (λ u. (part_hold u).epochs)
 
   pub whole_counted : IsCounted c
   unfolding rows_of
@@ -294,9 +302,10 @@ module _ (seeds : List (List ℕ)) (c : Content) (is : IsWhole true seeds c) whe
     kept = kept;
     certified = whole_certified true seeds c is;
     registered = whole_registered true seeds c is;
+    epochs = whole_in_epochs true seeds c is;
   }
 
--- ---- kept records meet the conditions but those on certifications and registrations
+-- ---- kept records meet the conditions but those on certifications, registrations and epochs
 
 pub well_for : (seeds : List (List ℕ)) (c : Content) → IsKept seeds c → (u : ℕ)
     → IsWellNumberedFor u (state_of (rows_of u c))
@@ -351,7 +360,7 @@ module _ (seeds : List (List ℕ)) (c : Content) (is : IsKept seeds c) where
   kept_for : (u : ℕ) → holds (kept_conditions seeds u (rows_of u c)) ≡ true
   kept_for u = held seeds u (rows_of u c) (wells u) (counted_for u) (seeded_for u) (disposed_for u)
 
-  -- so what is wrong is with a certification or a registration
+  -- so what is wrong is with a certification, a registration or an epoch
   pub kept_tells : (grades : Bool) (u : ℕ) (found : Finding)
       → first_broken (all_conditions grades seeds u (rows_of u c)) ≡ Some found
       → is_beyond_kept found.wrong ≡ true
@@ -367,11 +376,19 @@ module _ (seeds : List (List ℕ)) (c : Content) (is : IsKept seeds c) where
           (sym (front_held (kept_conditions seeds u mine) (certification_conditions mine)
           (all_held (kept_conditions seeds u mine) (kept_for u))) ∙ broken)
 
-      plainly : first_broken (account_conditions seeds u mine) ≡ Some found → is_beyond_kept found.wrong ≡ true
-      plainly broken = elim (either_broken (kept_conditions seeds u mine ++ certification_conditions mine)
+      registered : first_broken (kept_conditions seeds u mine ++ certification_conditions mine
+          ++ registration_conditions mine) ≡ Some found → is_beyond_kept found.wrong ≡ true
+      registered broken = elim (either_broken (kept_conditions seeds u mine ++ certification_conditions mine)
           (registration_conditions mine) found broken) [
             | inl first ↦ certified first
             | inr last ↦ registration_found mine found last
+          ]
+
+      plainly : first_broken (account_conditions seeds u mine) ≡ Some found → is_beyond_kept found.wrong ≡ true
+      plainly broken = elim (either_broken (kept_conditions seeds u mine ++ certification_conditions mine
+          ++ registration_conditions mine) (epoch_conditions mine) found broken) [
+            | inl first ↦ registered first
+            | inr last ↦ epoch_found mine found last
           ]
 
       go : (grades : Bool) → first_broken (all_conditions grades seeds u mine) ≡ Some found
@@ -390,10 +407,13 @@ module _ (seeds : List (List ℕ)) (c : Content) (left : IsLeft seeds c) where
   unfolding account_conditions
   account_for u =
       let mine = rows_of u c in
-      join (kept_conditions seeds u mine ++ certification_conditions mine) (registration_conditions mine)
+      let two = kept_conditions seeds u mine ++ certification_conditions mine in
+      join (two ++ registration_conditions mine) (epoch_conditions mine)
+      (join two (registration_conditions mine)
       (join (kept_conditions seeds u mine) (certification_conditions mine) (kept_for seeds c left.kept u)
       (certifications_hold c left.kept.sound (well_for seeds c left.kept) left.certified u))
-      (registrations_hold c left.kept.sound (well_for seeds c left.kept) left.registered u)
+      (registrations_hold c left.kept.sound (well_for seeds c left.kept) left.registered u))
+      (epochs_hold c left.epochs u)
 
   pub unbroken : (grades : Bool) (u : ℕ) → first_broken (all_conditions grades seeds u (rows_of u c)) ≡ None
   unbroken true u = all_held (all_conditions true seeds u (rows_of u c))

@@ -12,6 +12,7 @@ use Rattle.acvp_answers.specs.declared.verdict.Disposition.TheVariants as dispos
 use Rattle.acvp_answers.specs.declared.verdict.Verdict.{Verdict}
 use Rattle.acvp_answers.specs.declared.verdict.Verdict.TheVariants as verdict
 use Rattle.acvp_desk.specs.Certifications.{is_certifiable, is_last}
+use Rattle.acvp_desk.specs.Epochs.{is_in_its_epoch}
 use Rattle.acvp_desk.specs.Registrations.{is_as_asked, is_given_once}
 use Rattle.acvp_gen.specs.Prompts.{prompts_of}
 use Rattle.acvp_registry.specs.declared.kind.Kind.{Kind}
@@ -226,14 +227,24 @@ registration_row_conditions mine row =
 unfoldable pub registration_conditions : Content → List (Condition Finding)
 registration_conditions mine = flat_map (registration_row_conditions mine) mine.requests
 
+-- ---- epochs
+
+-- its epoch is no earlier than that of any of its session or of an earlier one
+abbrev pub epoch_row_conditions : Content → SetRow → List (Condition Finding)
+epoch_row_conditions mine row = (is_in_its_epoch mine.sets row, finding (key.Set row.number) wrong.Epoch) ∷ []
+
+unfoldable pub epoch_conditions : Content → List (Condition Finding)
+epoch_conditions mine = flat_map (epoch_row_conditions mine) mine.sets
+
 -- ---- the whole
 
--- what is wrong is with a certification or a registration, and nothing that kept records meet
+-- what is wrong is with a certification, a registration or an epoch, and nothing that kept records meet
 abbrev pub is_beyond_kept : Wrong → Bool
 is_beyond_kept wrong.NotCertifiable = true
 is_beyond_kept wrong.NotLast = true
 is_beyond_kept wrong.NotAsAsked = true
 is_beyond_kept wrong.GivenTwice = true
+is_beyond_kept wrong.Epoch = true
 is_beyond_kept _ = false
 
 -- the conditions that kept records meet, but that the verdicts are those on the answers
@@ -246,6 +257,7 @@ kept_conditions seeds u mine =
 unfoldable pub account_conditions : List (List ℕ) → ℕ → Content → List (Condition Finding)
 account_conditions seeds u mine =
     kept_conditions seeds u mine ++ certification_conditions mine ++ registration_conditions mine
+    ++ epoch_conditions mine
 
 -- ---- the verdicts
 

@@ -6,6 +6,7 @@ ghost use Rattle.acvp_check.specs.Conditions.{account_conditions, account_row_co
 ghost use Rattle.acvp_check.specs.Conditions.{own_row_conditions};
 
 use crate::certifications::certifications_wrong;
+use crate::epochs::epochs_wrong;
 use crate::finding::{Finding, RowKey, Wrong};
 use crate::numbers::is_account_number;
 use crate::objects::objects_wrong;
@@ -95,7 +96,8 @@ fn account_wrong(account: u16, mine: &Rows, seeds: &Seeds) -> Result<(), Finding
     objects_wrong(account, mine)?;
     reviewers_wrong(mine)?;
     certifications_wrong(mine)?;
-    registrations_wrong(mine)
+    registrations_wrong(mine)?;
+    epochs_wrong(mine)
 }
 
 /// The first condition that is broken, of those on all rows of an account: none where all hold. Where `grades` is set,

@@ -66,6 +66,8 @@ pub enum Wrong {
     NotAsAsked,
     /// An earlier request was approved with the number of the same object.
     GivenTwice,
+    /// A vector set of its session, or of an earlier one of its account, has a later epoch.
+    Epoch,
     /// Its session has more than 16 reviewers.
     ManyReviewers,
     /// The number of its reviewer is none of an account.

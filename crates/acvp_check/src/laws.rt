@@ -1,6 +1,7 @@
 //! What the conditions come to: whether records have what every run keeps.
 ghost use Rattle.std.specs.Prelude.{◌≡◌, ℕ, List, Bool, None, Some, false, true};
 ghost use Rattle.acvp_desk.specs.Certifications.{AreCertified, IsLeft};
+ghost use Rattle.acvp_desk.specs.Epochs.{AreInEpochs};
 ghost use Rattle.acvp_desk.specs.Kept.{IsKept};
 ghost use Rattle.acvp_desk.specs.Registrations.{AreRegistered};
 ghost use Rattle.acvp_mac.specs.Conditions.{first_broken};
@@ -15,7 +16,8 @@ ghost use Rattle.acvp_check.specs.Whole.{IsWhole};
 ghost use Rattle.acvp_check.specs.declared.finding.Finding.{Finding as FindingValue};
 
 /// Records have what every run keeps where each row is of the account that its number names, and no condition on an
-/// account's rows is broken. Without the verdicts they are well numbered, counted, certified and registered so.
+/// account's rows is broken. Without the verdicts they are well numbered, counted, certified, registered and in epochs
+/// so.
 pub fn whole_records_are_left()
     ensures left { (seeds : List (List ℕ)) (c : Content) → IsWhole true seeds c → IsLeft seeds c }
     ensures numbered { (grades : Bool) (seeds : List (List ℕ)) (c : Content)
@@ -25,10 +27,11 @@ pub fn whole_records_are_left()
         → IsWhole grades seeds c → AreCertified c }
     ensures registered { (grades : Bool) (seeds : List (List ℕ)) (c : Content)
         → IsWhole grades seeds c → AreRegistered c }
+    ensures epochs { (grades : Bool) (seeds : List (List ℕ)) (c : Content) → IsWhole grades seeds c → AreInEpochs c }
 {}
 
 /// No run leaves records where a condition is broken: one on whose a row is, or one on an account's rows. Unless it is
-/// one on certifications or registrations, such records aren't kept either.
+/// one on certifications, registrations or epochs, such records aren't kept either.
 pub fn wrong_records_are_not_left()
     ensures owner { (seeds : List (List ℕ)) (c : Content) (found : FindingValue)
         → first_broken (owner_conditions c) ≡ Some found → ¬ IsKept seeds c }
@@ -55,8 +58,8 @@ pub fn numbers_select()
 
 /// Rows can be judged account by account, those with its numbers, in one pass: where each row has a number of an
 /// account and no condition on any account's is broken, the records are whole; and a condition that is broken on the
-/// rows with an account's numbers tells that no run leaves the records, and unless it is one on certifications or
-/// registrations, that they aren't kept.
+/// rows with an account's numbers tells that no run leaves the records, and unless it is one on certifications,
+/// registrations or epochs, that they aren't kept.
 pub fn numbered_rows_tell()
     ensures whole { (grades : Bool) (seeds : List (List ℕ)) (c : Content) → AreNumbered c
         → ((u : ℕ) → is_account_number u ≡ true → first_broken (owner_conditions (rows_numbered u c)) ≡ None)

@@ -3,6 +3,7 @@
 
 mod account;
 mod certifications;
+mod epochs;
 mod finding;
 mod laws;
 mod near;

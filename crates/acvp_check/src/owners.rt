@@ -13,7 +13,7 @@ use crate::walks::{Judge, check, each};
 use acvp_tables::{AccountRow, ObjectRow, RequestRow, ReviewerRow, SessionRow, SetRow};
 
 /// How many numbers an account has.
-const NUMBERS_OF_AN_ACCOUNT: u64 = 1_000_000;
+pub(crate) const NUMBERS_OF_AN_ACCOUNT: u64 = 1_000_000;
 
 /// How many numbers a session has.
 const NUMBERS_OF_A_SESSION: u64 = 100;

@@ -79,6 +79,7 @@ wrong_word wrong.NotCertifiable = codes "notCertifiable"
 wrong_word wrong.NotLast = codes "notLast"
 wrong_word wrong.NotAsAsked = codes "notAsAsked"
 wrong_word wrong.GivenTwice = codes "givenTwice"
+wrong_word wrong.Epoch = codes "epoch"
 wrong_word wrong.ManyReviewers = codes "manyReviewers"
 wrong_word wrong.NoAccountNumber = codes "noAccountNumber"
 

@@ -132,6 +132,7 @@ fn wrong_word(wrong: Wrong) -> &'static str
         Wrong::NotLast => "notLast",
         Wrong::NotAsAsked => "notAsAsked",
         Wrong::GivenTwice => "givenTwice",
+        Wrong::Epoch => "epoch",
         Wrong::ManyReviewers => "manyReviewers",
         Wrong::NoAccountNumber => "noAccountNumber",
     }

@@ -1,4 +1,5 @@
-use Rattle.acvp_check.proofs.WholeLemmas.{left, whole_sound, whole_counted, whole_certified, whole_registered}
+use Rattle.acvp_check.proofs.WholeLemmas.{left, whole_sound, whole_counted, whole_certified, whole_in_epochs}
+use Rattle.acvp_check.proofs.WholeLemmas.{whole_registered}
 use Rattle.acvp_check.proofs.laws.whole_records_are_left.Goals as goal
 
 pub returns-clause-left : goal.returns-clause-left
@@ -15,3 +16,6 @@ returns-clause-certified c = λ grades seeds content is. whole_certified grades 
 
 pub returns-clause-registered : goal.returns-clause-registered
 returns-clause-registered c = λ grades seeds content is. whole_registered grades seeds content is
+
+pub returns-clause-epochs : goal.returns-clause-epochs
+returns-clause-epochs c = λ grades seeds content is. whole_in_epochs grades seeds content is
