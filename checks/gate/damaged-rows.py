@@ -167,7 +167,7 @@ class Account:
 
     def of_certified(self, session):
         """What a certification of a session rests on, beside the session's own row."""
-        return of_judged_sets(session) | of_owner(MODULE, self.first + 1) | of_owner(ENVIRONMENT, self.first + 1)
+        return of_judged_sets(session) | of_object(MODULE, self.first + 1) | of_object(ENVIRONMENT, self.first + 1)
 
     # ---- what changes nothing
 

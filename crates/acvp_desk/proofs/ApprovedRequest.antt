@@ -1,5 +1,5 @@
 -- What the approval of a certification rests on, by what is read of the records.
-use Rattle.std.proofs.Common.{◌≡◌, ℕ, List, [], ◌∷◌, map, true, ◌&&◌, ◌==◌, Option, None, Some, refl}
+use Rattle.std.proofs.Common.{◌≡◌, ℕ, List, [], ◌∷◌, map, true, false, ◌&&◌, ◌==◌, Option, None, Some, refl}
 use Rattle.std.proofs.lemmas.List.{length-map}
 use Rattle.std.specs.Prelude.{option_map}
 use Rattle.std.specs.List.{list_all}
@@ -11,7 +11,7 @@ use Rattle.acvp_tables.specs.declared.rows.RequestRow.{RequestRow}
 use Rattle.acvp_tables.specs.declared.rows.SessionRow.{SessionRow}
 use Rattle.acvp_tables.specs.declared.rows.SetRow.{SetRow}
 use Rattle.acvp_tables.specs.declared.summary.SetSummary.{SetSummary}
-use Rattle.acvp_desk.specs.Approvals.{have_passed, is_ready, may_approve, may_be_approved}
+use Rattle.acvp_desk.specs.Approvals.{have_passed, is_ready, may_approve, may_be_approved, waits_in_vain}
 use Rattle.acvp_desk.specs.Certifications.{is_last_of, may_be_certified}
 use Rattle.acvp_desk.specs.Private.Summaries.{summaries_passed}
 use Rattle.acvp_desk.specs.Private.Waiting.{waiting_in}
@@ -45,3 +45,17 @@ rests n w c is may = go (request_at n c.requests) is
         → of_all (may_approve n c) found ≡ true
     go None is = refl
     go (Some row) is = let same : w ≡ waiting_in (state_of c) row = cc in rw same at may
+
+-- and it waits in vain where what waits of it may not be
+pub refused : (n : ℕ) (w : Waiting) (c : Content)
+    → Some w ≡ option_map (waiting_in (state_of c)) (request_at n c.requests) → w.initial ≡ true
+    → may_be_approved n w.account w.purpose c ≡ false
+    → is_some_and (request_at n c.requests) (waits_in_vain n c) ≡ true
+refused n w c is waits may_not = go (request_at n c.requests) is
+  where
+    go : (found : Option RequestRow) → Some w ≡ option_map (waiting_in (state_of c)) found
+        → is_some_and found (waits_in_vain n c) ≡ true
+    go None is = absurd (cc)
+    go (Some row) is =
+        let same : w ≡ waiting_in (state_of c) row = cc in
+        rw (rw same at waits, rw same at may_not) refl

@@ -1,6 +1,6 @@
 -- What an approval rests on. A certification may be approved if its session, its vector sets and its parts stand as
 -- every run leaves them while its request waits.
-use Rattle.std.specs.Prelude.{◌≡◌, ◌⊎◌, ℕ, List, length, Bool, true, false, ◌==◌, ◌&&◌, Some, is_some, ⊤}
+use Rattle.std.specs.Prelude.{◌≡◌, ◌⊎◌, ℕ, List, length, Bool, true, not, ◌==◌, ◌&&◌, Some, is_some, ⊤}
 use Rattle.std.specs.List.{list_all}
 use Rattle.acvp_policy.specs.Conditions.{is_some_and}
 use Rattle.acvp_registry.specs.declared.kind.Kind.TheVariants.{Module, Environment}
@@ -17,7 +17,7 @@ use Rattle.acvp_tables.specs.declared.summary.RequestPurpose.{RequestPurpose}
 use Rattle.acvp_tables.specs.declared.summary.RequestPurpose.TheVariants as asks
 use Rattle.acvp_tables.specs.declared.tables.StoreFault.{StoreFault}
 use Rattle.acvp_desk.specs.Certifications.{is_last_of, may_be_certified}
-use Rattle.acvp_desk.specs.Orders.{ByReply}
+use Rattle.acvp_desk.specs.Orders.{ByReply, is_initial}
 use Rattle.acvp_desk.specs.Registries.{own_object}
 use Rattle.acvp_desk.specs.declared.order.Order.{Order}
 use Rattle.acvp_desk.specs.declared.order.Order.TheVariants as order
@@ -51,6 +51,10 @@ may_be_approved n u (asks.Certification it) c =
 abbrev pub may_approve : ℕ → Content → RequestRow → Bool
 may_approve n c row = may_be_approved n row.account (purpose_of row.body) c
 
+-- a request waits, and may not be approved
+abbrev pub waits_in_vain : ℕ → Content → RequestRow → Bool
+waits_in_vain n c row = is_initial row.status && not (may_approve n c row)
+
 module _ {T : Type 0} (meaning : Meaning T) where
   open meaning use {stands, is_open}
 
@@ -60,7 +64,7 @@ module _ {T : Type 0} (meaning : Meaning T) where
 
   abbrev pub IsRefused : T → T → ℕ → Type 0
   IsRefused old new n = is_open new → (c : Content) → AreWellNumbered c → stands old c
-      → of_all (may_approve n c) (request_at n c.requests) ≡ false
+      → is_some_and (request_at n c.requests) (waits_in_vain n c) ≡ true
 
   -- if an order approves a request, it might be approved by what the tables stood for
   abbrev pub IsSoundApproval : OrderReply → T → T → Order → Type 0
@@ -75,7 +79,7 @@ module _ {T : Type 0} (meaning : Meaning T) where
   RefusesApproval old new (order.DisableAccount account) = ⊥
   RefusesApproval old new (order.RejectRequest n) = ⊥
 
-  -- an order is unavailable only if a call of the tables failed, or if it asks to approve what may not be approved
+  -- an order is unavailable only if a call of the tables failed, or if it is to approve a request that waits in vain
   abbrev pub IsExcused : (StoreFault → Type 0) → OrderReply → T → T → Order → Type 0
   IsExcused faults reply old new it =
       ByReply reply ⊤ ⊤ (((fault : StoreFault) × faults fault) ⊎ RefusesApproval old new it)

@@ -5,13 +5,15 @@ ghost use Rattle.std.specs.List.{list_all};
 ghost use Rattle.acvp_policy.specs.Conditions.{is_some_and};
 ghost use Rattle.acvp_tables.specs.Calls.{Finds};
 ghost use Rattle.acvp_tables.specs.Counted.{is_passed};
-ghost use Rattle.acvp_desk.specs.Approvals.{has_certified_parts, has_ready_session, may_be_approved};
+ghost use Rattle.acvp_tables.specs.Content.{request_at};
+ghost use Rattle.acvp_tables.specs.State.{of_all};
+ghost use Rattle.acvp_desk.specs.Approvals.{has_certified_parts, has_ready_session, may_approve, may_be_approved};
 ghost use Rattle.acvp_desk.specs.Certifications.{is_last_of, may_be_certified};
 ghost use Rattle.acvp_desk.specs.Private.Summaries.{summaries_passed};
 ghost use Rattle.acvp_desk.specs.Serves.{Looks};
 
 use crate::judged::judged_sets;
-use crate::own_rows::owns;
+use crate::own_rows::has_whole_object;
 use acvp_answers::Disposition;
 use acvp_registry::Kind;
 use acvp_tables::{Certification, RequestPurpose, SessionRow, SetSummary, StoreFault, Tables};
@@ -74,7 +76,7 @@ fn has_ready_session<T: Tables>(
     Ok(is_ready(&row, &sets, number, account))
 }
 
-/// Whether the module and the environment that a certification names are an account's.
+/// Whether the module and the environment that a certification names are an account's, by their whole rows.
 fn has_certified_parts<T: Tables>(
     tables: &mut T,
     account: u16,
@@ -85,8 +87,8 @@ fn has_certified_parts<T: Tables>(
     ensures looks { Looks T.meaning result tables.old tables.new }
     ensures fault { IfErr result T.faults }
 {
-    let has_module = owns(tables, Kind::Module, account, certification.module)?;
-    let has_environment = owns(
+    let has_module = has_whole_object(tables, Kind::Module, account, certification.module)?;
+    let has_environment = has_whole_object(
         tables,
         Kind::Environment,
         account,
@@ -113,5 +115,17 @@ pub(crate) fn may_be_approved<T: Tables>(
             let has_parts = has_certified_parts(tables, account, certification)?;
             Ok(is_ready && has_parts)
         }
+    }
+}
+
+/// Whether the request of a number may be approved, where there is one.
+pub fn may_approve<T: Tables>(tables: &mut T, number: u64) -> Result<bool, StoreFault>
+    ensures found { Finds T.meaning (λ x. x) result tables.old tables.new
+        (λ c. of_all (may_approve number c) (request_at number c.requests)) }
+    ensures looks { Looks T.meaning result tables.old tables.new }
+{
+    match tables.request(number)? {
+        Some(request) => may_be_approved(tables, number, request.account, request.purpose),
+        None => Ok(true),
     }
 }

@@ -4,6 +4,7 @@
 pub use acvp_gen::Seeds;
 pub use acvp_registry::{Kind, digits_number, plain_number};
 pub use acvp_token::KeyRing;
+pub use approval::may_approve;
 pub use ask::END_OF_MOMENTS;
 pub use desk::{Desk, DeskReply, NewFault, Outcome};
 pub use draft::SPARE_BYTES;

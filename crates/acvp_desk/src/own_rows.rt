@@ -24,7 +24,7 @@ use std::alloc::Global;
 // ---- an account's rows by their numbers
 
 /// Whether the object of a kind and number is there, and an account's.
-pub(crate) fn owns<T: Tables>(
+fn owns<T: Tables>(
     tables: &mut T,
     kind: Kind,
     account: u16,
@@ -58,6 +58,29 @@ fn has_object<T: Tables>(
         return Ok(false);
     }
     owns(tables, kind, account, number)
+}
+
+/// Whether it has, by the object's whole row: one that stands for nothing is a fault.
+#[tactic(auto, unfolding(acvp_tables::specs::State::state_of))]
+pub(crate) fn has_whole_object<T: Tables>(
+    tables: &mut T,
+    kind: Kind,
+    account: u16,
+    number: u64,
+) -> Result<bool, StoreFault>
+    ensures found { Finds T.meaning (λ x. x) result tables.old tables.new
+        (λ c. is_some (own_object kind account number c.objects)) }
+    ensures looks { Looks T.meaning result tables.old tables.new }
+    ensures fault { IfErr result T.faults }
+{
+    numbers_name();
+    if !is_of_account(number, account) {
+        return Ok(false);
+    }
+    match tables.object(kind, number)? {
+        Some(row) => Ok(row.account == account),
+        None => Ok(false),
+    }
 }
 
 /// The object of a kind and number, where it is an account's.
@@ -170,7 +193,7 @@ fn has_own_vendor<T: Tables>(
     }
 }
 
-/// Whether the module and the environment are an account's.
+/// Whether the module and the environment are an account's, by their whole rows.
 fn has_own_parts<T: Tables>(
     tables: &mut T,
     account: u16,
@@ -179,8 +202,8 @@ fn has_own_parts<T: Tables>(
     ensures found { Sees T.meaning result tables.old tables.new (λ seeds c. has_own_parts account c.objects body) }
     ensures looks { Looks T.meaning result tables.old tables.new }
 {
-    let has_module = has_object(tables, Kind::Module, account, body.module)?;
-    let has_environment = has_object(tables, Kind::Environment, account, body.environment)?;
+    let has_module = has_whole_object(tables, Kind::Module, account, body.module)?;
+    let has_environment = has_whole_object(tables, Kind::Environment, account, body.environment)?;
     Ok(has_module && has_environment)
 }
 

@@ -1,11 +1,11 @@
-use Rattle.std.proofs.Common.{Some, sym, ◌∙◌}
+use Rattle.std.proofs.Common.{Some, inr, sym, ◌∙◌}
 use Rattle.acvp_tables.specs.declared.change.OrderChange.TheVariants.{Approve}
 use Rattle.acvp_desk.specs.Registries.{kind_asked}
 use Rattle.acvp_desk.specs.declared.order.Order.TheVariants as order
 use Rattle.acvp_desk.specs.declared.order.OrderReply.TheVariants.{Unknown, NotInitial}
 use Rattle.acvp_desk.proofs.OrderExits.{not_true, not_false, no_request, decided_before, approved, left_alone}
 use Rattle.acvp_desk.proofs.OrderExits.{carried_out, failed, read_further, unavailable_after}
-use Rattle.acvp_desk.proofs.ApprovedRequest.{rests}
+use Rattle.acvp_desk.proofs.ApprovedRequest.{refused, rests}
 use Rattle.acvp_desk.proofs.order.approve.Goals as goal
 
 pub returns-in-Ok-None-clause-answered : goal.returns-in-Ok-None-clause-answered
@@ -59,6 +59,15 @@ returns-then-not-sound-clause-answered g c =
     unavailable_after g.T.Tables.faults g.T.Tables.meaning (order.ApproveRequest c.args.number) c.in-Ok-Some.field-0
     c.may_be_approved.result c.args.tables.now c.find_waiting.new.tables c.may_be_approved.new.tables
     c.in-Ok-Some.ensures.reads c.may_be_approved.ensures.looks
+
+pub returns-then-not-sound-clause-excused : goal.returns-then-not-sound-clause-excused
+returns-then-not-sound-clause-excused g c =
+    inr (λ live content sound h. let up = c.in-Ok.ensures.looks.was_open live in
+    refused c.args.number c.in-Ok-Some.waiting content
+    (sym c.in-Ok-Some.field-0-is ∙ c.in-Ok-Some.ensures.found up content sound h)
+    (not_false c.in-Ok-Some.waiting.initial c.if-not-waiting.false)
+    (sym (c.in-Ok.ensures.found live content sound (c.in-Ok-Some.ensures.reads.same up content h))
+    ∙ c.if-not-sound.true))
 
 pub returns-in-Ok-order-clause-answered : goal.returns-in-Ok-order-clause-answered
 returns-in-Ok-order-clause-answered g c =
