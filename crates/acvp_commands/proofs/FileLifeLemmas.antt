@@ -24,6 +24,7 @@ use Rattle.acvp_http.specs.Event.{CanHappen, Event, EventAnswer, Turn, order, re
 use Rattle.acvp_http.specs.Left.{LeavesOneMore, LeavesRun}
 use Rattle.acvp_http.specs.Life.{AddsSeeds, GoesOver, Life, Passes, Run}
 use Rattle.acvp_http.specs.Serve.{GoesThrough, HasEffect}
+use Rattle.acvp_http.proofs.LeftRuns.{of_one}
 use Rattle.acvp_commands.specs.FileLife.{GoesOverFile, HasLived, Resumes}
 use Rattle.acvp_commands.specs.Reopened.{FindsClosed, ShowsLeft}
 use Rattle.acvp_commands.proofs.ClosedFiles.{shows_committed, was_open}
@@ -35,11 +36,6 @@ longer [] run first c next start same goes passes =
     (next, start, subst (λ (x : Content). GoesOver run x next) same goes, passes, refl)
 longer (earlier ∷ runs) run first c next start (mid, begun, went, passed, more) goes passes =
     (mid, begun, went, passed, longer runs run begun c next start more goes passes)
-
--- what holds of all holds of one among them
-of_one : {X : Type 0} (P : X → Type 0) (earlier later : List X) (x : X) → AllByRecursion P (earlier ++ x ∷ later) → P x
-of_one P [] later x all = all.0
-of_one P (y ∷ earlier) later x all = of_one P earlier later x all.1
 
 module _ (request_kept : (keys : Keys) (m : ℕ) (r : RequestValue) (c : Content) → IsKept keys.seed c
     → IsKept keys.seed (content_effect keys m r c))

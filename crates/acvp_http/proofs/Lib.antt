@@ -17,6 +17,7 @@ pub mod RequestLemmas
 pub mod LineLemmas
 pub mod KnownLemmas
 pub mod LeftLemmas
+pub mod LeftRuns
 pub mod ReadLineLemmas
 pub mod EventLemmas
 pub mod GrammarLemmas

@@ -44,3 +44,8 @@ abbrev pub Life : List Run → Content → Content → Type 0
 Life [] old new = new ≡ old
 Life (run ∷ runs) old new =
     (next : Content) × (start : Content) × GoesOver run old next × Passes run next start × Life runs start new
+
+-- the seeds of the last of the runs, or these where there is none
+abbrev pub last_seeds : List (List ℕ) → List Run → List (List ℕ)
+last_seeds seeds [] = seeds
+last_seeds seeds (run ∷ runs) = last_seeds run.keys.seed runs
