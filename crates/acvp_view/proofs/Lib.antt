@@ -1,6 +1,7 @@
 pub mod CertificateLemmas
 pub mod CertifiedLemmas
 pub mod DataLemmas
+pub mod DecisionLemmas
 pub mod EscapeLemmas
 pub mod FoldLemmas
 pub mod ItemLemmas

@@ -1,7 +1,7 @@
 -- Lemmas on what is handed on, a line at a time.
 use Rattle.std.proofs.Common.{◌≡◌, ℕ, zero, suc, ◌+◌, ◌-◌, ◌≤◌, ◌<◌, List, [], ◌∷◌, ◌++◌, length, get_or, Result, Ok}
 use Rattle.std.proofs.Common.{Err, refl, sym, ap, ◌∙◌, subst, arith}
-use Rattle.std.specs.Prelude.{OnOk, take}
+use Rattle.std.specs.Prelude.{IfOk, OnOk, take}
 use Rattle.std.specs.List.{flat_map, range_with_len}
 use Rattle.std.proofs.lemmas.List.{append-nil, append_assoc}
 use Rattle.std.proofs.lemmas.Grind.{flat_map-append}
@@ -18,6 +18,17 @@ use Rattle.acvp_view.specs.declared.fault.ViewFault.{ViewFault}
 pub on_ok : {X E : Type 0} (result : Result X E) (P : Type 0) → P → OnOk result P
 on_ok (Ok x) P it = it
 on_ok (Err e) P it = tt
+
+-- what holds where it succeeds, and what follows
+pub ok_then : {X E P Q : Type 0} (result : Result X E) → OnOk result P → (P → Q) → OnOk result Q
+ok_then (Ok x) holds follows = follows holds
+ok_then (Err e) holds follows = tt
+
+-- what two things that hold of a value tell, holds of it
+pub ok_both : {X E : Type 0} {P Q R : X → Type 0} (result : Result X E) → IfOk result P → IfOk result Q
+    → ((x : X) → P x → Q x → R x) → IfOk result R
+ok_both (Ok x) first second follows = follows x first second
+ok_both (Err e) first second follows = tt
 
 -- ---- numbers in a row
 

@@ -52,7 +52,11 @@ abbrev pub shown_in : Form → List ℕ → List ℕ
 shown_in Words text = folded (escaped text)
 shown_in Json text = escaped text
 
+-- these texts were handed on, each as it is shown in a form
+abbrev pub TakesShown : {L : Type 0} → Form → (L → List ℕ → L → Type 0) → List (List ℕ) → L → L → Type 0
+TakesShown form takes texts before after = TakesAll takes (map (shown_in form) texts) before after
+
 -- what was handed on are texts, each as it is shown in a form
 pub record HandsOnShown {L : Type 0} (form : Form) (takes : L → List ℕ → L → Type 0) (before after : L) : Type 0 where
   pub texts : List (List ℕ)
-  pub taken : TakesAll takes (map (shown_in form) texts) before after
+  pub taken : TakesShown form takes texts before after

@@ -10,3 +10,4 @@ pub mod Listed
 pub mod Damaged
 pub mod Checked
 pub mod Shown
+pub mod Decision

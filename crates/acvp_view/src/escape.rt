@@ -1,8 +1,8 @@
 //! How a text that a client wrote is shown. Some characters act on the terminal that shows them, change in which order
 //! it shows others, or aren't seen, so they are escaped as JSON does it (RFC 8259, section 7).
 ghost use Rattle.std.specs.Prelude.{◌≡◌, ◌++◌, ◌∷◌, [], ◌||◌, IfOk, OnOk, string_bytes};
-ghost use Rattle.acvp_view.specs.Escaped.{HandsOnShown, escape_of, escape_of_unit, escaped, is_acting, is_escaped};
-ghost use Rattle.acvp_view.specs.Escaped.{shown_char, shown_in};
+ghost use Rattle.acvp_view.specs.Escaped.{HandsOnShown, TakesShown, escape_of, escape_of_unit, escaped, is_acting};
+ghost use Rattle.acvp_view.specs.Escaped.{is_escaped, shown_char, shown_in};
 ghost use Rattle.acvp_view.specs.Lines.{HandsOn};
 
 use crate::fault::ViewFault;
@@ -95,6 +95,7 @@ pub(crate) fn show_text<L: Lines>(
     text: &str,
 ) -> Result<(), ViewFault>
     ensures handed { HandsOn L.takes result (shown_in form text.now ∷ []) lines.old lines.new }
+    ensures taken { OnOk result (TakesShown form L.takes (text.now ∷ []) lines.old lines.new) }
     ensures shown { HandsOnShown form L.takes lines.old lines.new }
 {
     let line = shown_in(alloc, form, text)?;

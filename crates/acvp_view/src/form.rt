@@ -3,7 +3,7 @@
 /// In which form something is shown.
 #[derive(Clone, Copy, Debug, PartialEq, Eq)]
 pub enum Form {
-    /// A line of words, for people.
+    /// Lines of words, for people.
     Words,
 
     /// A JSON object, for programs.

@@ -5,8 +5,8 @@ use Rattle.acvp_view.specs.Shown.{registration_lines}
 use Rattle.acvp_view.proofs.LineLemmas.{handed_whole, takes_both}
 use Rattle.acvp_view.proofs.shown.show_request.Goals as goal
 
-pub returns : goal.returns
-returns g c = λ live content well h.
+pub returns-clause-asked : goal.returns-clause-asked
+returns-clause-asked g c = λ live content well h.
     let up = c.in_ok-show_numbered.ensures.looks.was_open live in
     let h1 = c.in_ok-row.ensures.looks.same up content h in
     let line = lines_of (request_line c.args.form true c.args.number content) in

@@ -1,5 +1,5 @@
 use Rattle.std.proofs.Common.{rules, append_assoc}
-use Rattle.acvp_view.proofs.shown.set_words.Goals as goal
+use Rattle.acvp_view.proofs.reads.read_object.Goals as goal
 
 pub returns : goal.returns
 returns c = let said = c.format.ensures.ok in search (rules, append_assoc)
