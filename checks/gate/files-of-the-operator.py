@@ -926,7 +926,7 @@ def asked_on_a_terminal(lab):
 
     before = line_of(2)
     order = ["account-disable", "--db", lab.db, "--account", "2"]
-    question, unchanged = "Disable this account for good? [y/N] ", "nothing is changed\n"
+    question, unchanged = "Disable account 2 for good? [y/N] ", "nothing is changed\n"
     for answer, echo in ((b"n\n", "n\n"), (b"\n", "\n"), (b"yess\n", "yess\n"), (b"\x04", "")):
         expect(f"what {answer} changes", lab.typed(answer, *order), (1, f"{before}\n{question}{echo}{unchanged}"))
         expect("the account", line_of(2), before)
@@ -936,20 +936,26 @@ def asked_on_a_terminal(lab):
     orders = [("request-approve", "Approve", "approved /acvp/v1/vendors/1000001"), ("request-reject", "Reject", "rejected")]
     for number, (command, verb, done) in zip(asked, orders):
         shown = lab.run("request-show", "--db", lab.db, "--keys", lab.keys, "--request", number)[1]
-        about = f"{shown}{line_of(1)}\n{verb} this request? [y/N] "
+        about = f"{shown}{line_of(1)}\n{verb} request {number}? [y/N] "
         order = [command, "--db", lab.db, "--request", number]
         expect(f"{command} that isn't wanted", lab.typed(b"no\n", *order), (1, f"{about}no\n{unchanged}"))
         expect(f"{command} that is wanted", lab.typed(b"yes\n", *order), (0, f"{about}yes\nrequest {number} {done}\n"))
-    # what isn't there, or can't be shown, isn't asked for
+    # what is so already, isn't there, or can't be shown, isn't asked for
+    decided = "fault: notInitial\nbecause: --request: it was approved, as 1000001\n"
+    for command in ("request-approve", "request-reject"):
+        expect(f"{command} of what was decided", lab.typed(b"y\n", command, "--db", lab.db, "--request", asked[0]), (1, decided))
+    expect("an order on a disabled account", lab.typed(b"n\n", *disable(lab.db, 2)), (0, "account 2 disabled\n"))
     none = lab.path("none.db")
     expect("an order on no database", lab.typed(b"y\n", *disable(none)), (1, "fault: unavailable\nbecause: --db: there is no such file\n"))
     expect("an order on no account", lab.typed(b"y\n", *disable(lab.db, 9)), (1, "fault: unknown\n"))
     stray = changed(lab, "stray.db", "UPDATE account SET secret = X'00' WHERE account = 4")
-    unshown = "what is to be changed can't be shown: with --yes it is changed all the same\n"
+    unshown = "what is to be changed can't be shown: with --yes it is tried all the same\n"
     expect("an order on a malformed row", lab.typed(b"y\n", *disable(stray, 4)),
            (1, f"{unshown}fault: unavailable\nbecause: --db: {STORE} of account\n"))
     empty = lab.write(lab.path("empty.db"), "")
     expect("an order on an empty file", lab.typed(b"y\n", *disable(empty)), (1, "fault: schema\nbecause: --db: it is empty: init fills it\n"))
+    expect("an order on a device", lab.typed(b"y\n", *disable("/dev/null")),
+           (1, "warning: others than its owner may read /dev/null\nfault: unavailable\nbecause: --db: it is no regular file\n"))
     text = lab.write(lab.path("text"), "this is no database\n" * 10)
     expect("an order on a text", lab.typed(b"y\n", *disable(text)), (1, "fault: unavailable\nbecause: --db: it is no database\n"))
     # a question that nobody sees isn't asked

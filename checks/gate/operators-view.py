@@ -412,7 +412,7 @@ def looks(lab, wanted):
     question = f"{wanted[0]}\n7 enabled sessions 1 requests 4 vendors 1 modules 1 environments 1\n"
     for command, verb in (("request-approve", "Approve"), ("request-reject", "Reject")):
         expect(f"what {command} asks", lab.typed(b"n\n", command, "--db", lab.db, "--request", "7000004"),
-               (1, f"{question}{verb} this request? [y/N] n\nnothing is changed\n"))
+               (1, f"{question}{verb} request 7000004? [y/N] n\nnothing is changed\n"))
     expect("a question about what isn't there", lab.typed(b"n\n", "request-approve", "--db", lab.db, "--request", "7000005"),
            (1, "fault: unknown\n"))
     expect("a vendor of a disabled account", shows(lab, *show, "8000001"),
@@ -460,6 +460,15 @@ def numbers_apart(lab):
     expect("the numbers of the document", items[0]["certification"],
            {"createdOn": made[3]["createdOn"], "environment": 7000003, "module": 7000001, "passed": 4, "session": 7000004, "vectorSets": 4})
     expect("what the account reads, in the document", items[9:], [{"body": json.loads(told), "path": f"/acvp/v1{path}"} for path, told in read])
+    # an approval that rests on changed rows says so
+    for place, statement in enumerate(("UPDATE session SET passed = 3 WHERE session = 7000004",
+                                       "UPDATE object SET body = '{}' WHERE kind = 2 AND number = 7000001")):
+        damaged = lab.path(f"damaged-{place}.db")
+        expect("a backup", lab.run("backup", "--db", lab.db, "--to", damaged)[0], 0)
+        with contextlib.closing(page_sums.connect(damaged)) as connection, connection:
+            connection.execute(statement)
+        expect(f"an approval after {statement}", lab.run("request-approve", "--verbose", "--db", damaged, "--request", request),
+               (1, "", "fault: unavailable\nbecause: --request: a row that it rests on is wrong: run check\n"))
     status, terminal = lab.typed(b"y\n", "request-approve", "--db", lab.db, "--request", request)
     expect("the question", terminal.split("\n")[1], f"    session 7000004 of {made[3]['createdOn'][:10]} 4 of 4 passed")
     expect("the approval", (status, terminal.split("\n")[-2]), (0, f"request {request} approved /acvp/v1{session}"))

@@ -8,11 +8,11 @@ use acvp_causes::{has_log, name_of};
 use acvp_commands::{Deed, Fault};
 use acvp_files::schema_of_copy;
 use acvp_store::SqlTables;
-use acvp_tables::Tables;
+use acvp_tables::{RequestStatus, Tables};
 use acvp_view::{Form, Lines, ViewFault, show_account, show_request};
 use sqlite::Alter;
 use std::alloc::AllocGlobal;
-use std::io::IsTerminal;
+use std::io::{self, IsTerminal};
 
 /// Standard error, where a question stands, since standard output has what was done alone.
 #[derive(Drop)]
@@ -44,19 +44,39 @@ fn show_asked<S: Alter + Drop>(
     show_account(rt.alloc(), tables, &mut shown, Form::Words, request.account)
 }
 
-/// Shows the line of an account that is there.
-fn show_there<S: Alter + Drop>(
+/// Shows the same of a request that waits, and says whether it does: one that was decided stays so, whatever is asked.
+fn show_waiting<S: Alter + Drop>(
+    rt: &HostRuntime,
+    tables: &mut SqlTables<S>,
+    number: u64,
+) -> Result<bool, ViewFault> {
+    match tables.request_status(number)? {
+        Some(RequestStatus::Initial) => {
+            show_asked(rt, tables, number)?;
+            Ok(true)
+        }
+        Some(_) => Ok(false),
+        None => Err(ViewFault::Unknown),
+    }
+}
+
+/// Shows the line of an account that is enabled, and says whether it is: one that is disabled stays so.
+fn show_enabled<S: Alter + Drop>(
     rt: &HostRuntime,
     tables: &mut SqlTables<S>,
     account: u16,
-) -> Result<(), ViewFault> {
-    if tables.account(account)?.is_none() {
-        return Err(ViewFault::Unknown);
+) -> Result<bool, ViewFault> {
+    match tables.account(account)? {
+        Some(row) if row.enabled => {
+            show_account(rt.alloc(), tables, &mut Shown(rt), Form::Words, account)?;
+            Ok(true)
+        }
+        Some(_) => Ok(false),
+        None => Err(ViewFault::Unknown),
     }
-    show_account(rt.alloc(), tables, &mut Shown(rt), Form::Words, account)
 }
 
-/// Shows what an order is about.
+/// Shows what an order is about, and says whether there is anything to ask for.
 #[derive(Clone, Copy)]
 struct Shows<'a> {
     rt: &'a HostRuntime,
@@ -64,25 +84,25 @@ struct Shows<'a> {
 }
 
 impl Visit for Shows<'_> {
-    type Told = Result<(), ViewFault>;
+    type Told = Result<bool, ViewFault>;
 
-    fn visit<S: Alter + Drop>(self, tables: SqlTables<S>) -> Result<(), ViewFault> {
+    fn visit<S: Alter + Drop>(self, tables: SqlTables<S>) -> Result<bool, ViewFault> {
         let Shows { rt, deed } = self;
         let mut tables = tables;
         match deed {
-            Deed::DisableAccount { account } => show_there(rt, &mut tables, account),
+            Deed::DisableAccount { account } => show_enabled(rt, &mut tables, account),
             Deed::ApproveRequest { request } | Deed::RejectRequest { request } => {
-                show_asked(rt, &mut tables, request)
+                show_waiting(rt, &mut tables, request)
             }
-            _ => Ok(()),
+            _ => Ok(true),
         }
     }
 }
 
-/// Shows what an order is about, as a copy of the database tells.
-fn show_order(rt: &HostRuntime, db: &str, deed: Deed<'_>) -> Result<(), Fault> {
+/// Shows what an order is about, as a copy of the database tells, and says whether there is anything to ask for.
+fn show_order(rt: &HostRuntime, db: &str, deed: Deed<'_>) -> Result<bool, Fault> {
     match in_copy(rt, db, Shows { rt, deed })? {
-        Ok(()) => Ok(()),
+        Ok(asks) => Ok(asks),
         Err(fault) => Err(fault_of_view(fault)),
     }
 }
@@ -118,23 +138,33 @@ fn show_deed(rt: &HostRuntime, db: &str, deed: Deed<'_>) -> Result<bool, Fault> 
     }
     match deed {
         Deed::Migrate => show_schema(rt, db),
-        _ => {
-            show_order(rt, db, deed)?;
-            Ok(true)
-        }
+        _ => show_order(rt, db, deed),
     }
 }
 
-/// What a question asks, of what can't be taken back.
-fn question_of(deed: Deed<'_>) -> Option<&'static str> {
+/// Whether a deed is asked for, since it can't be taken back.
+fn is_asked_for(deed: Deed<'_>) -> bool {
+    matches!(
+        deed,
+        Deed::Migrate
+            | Deed::DisableAccount { .. }
+            | Deed::ApproveRequest { .. }
+            | Deed::RejectRequest { .. }
+    )
+}
+
+/// Asks for a deed that can't be taken back. The number stands here too, since what is shown above it may be long.
+fn ask(rt: &HostRuntime, deed: Deed<'_>) -> io::Result<()> {
     match deed {
-        Deed::Migrate => {
-            Some("Move all records to schema 3, which an earlier version can't read?")
+        Deed::Migrate => eprint!(rt;
+            "Move all records to schema 3, which an earlier version can't read? [y/N] "
+        ),
+        Deed::DisableAccount { account } => {
+            eprint!(rt; "Disable account {account} for good? [y/N] ")
         }
-        Deed::DisableAccount { .. } => Some("Disable this account for good?"),
-        Deed::ApproveRequest { .. } => Some("Approve this request?"),
-        Deed::RejectRequest { .. } => Some("Reject this request?"),
-        _ => None,
+        Deed::ApproveRequest { request } => eprint!(rt; "Approve request {request}? [y/N] "),
+        Deed::RejectRequest { request } => eprint!(rt; "Reject request {request}? [y/N] "),
+        _ => Ok(()),
     }
 }
 
@@ -143,10 +173,10 @@ fn is_yes(line: &str) -> bool {
     matches!(line, "y\n" | "Y\n" | "yes\n" | "Yes\n" | "YES\n")
 }
 
-/// Whether what is typed at a question says yes. Nothing, as at the end of the input, says no.
-fn is_answered(rt: &HostRuntime, question: &str) -> bool {
+/// Whether what is typed at the question of a deed says yes. Nothing, as at the end of the input, says no.
+fn is_answered(rt: &HostRuntime, deed: Deed<'_>) -> bool {
     let mut line = String::new(rt.alloc());
-    if eprint!(rt; "{question} [y/N] ").is_err() {
+    if ask(rt, deed).is_err() {
         return false;
     }
     match rt.read_line(&mut line) {
@@ -162,7 +192,7 @@ pub(crate) fn is_there(rt: &HostRuntime) -> bool {
 
 /// Whether a question would be asked where nobody sees it: standard error is no terminal.
 pub(crate) fn is_unseen(rt: &HostRuntime, deed: Deed<'_>) -> bool {
-    question_of(deed).is_some() && !rt.stderr().is_terminal()
+    is_asked_for(deed) && !rt.stderr().is_terminal()
 }
 
 /// Says how an order is given that can't be shown, if nothing else can be seen that stands in the way.
@@ -171,7 +201,7 @@ fn tell_unshown(rt: &HostRuntime, db: &str, fault: Fault) {
         && why_uncopied(rt, "--db", db).is_none()
     {
         let _ = eprintln!(rt;
-            "what is to be changed can't be shown: with --yes it is changed all the same"
+            "what is to be changed can't be shown: with --yes it is tried all the same"
         );
     }
 }
@@ -179,11 +209,11 @@ fn tell_unshown(rt: &HostRuntime, db: &str, fault: Fault) {
 /// Whether what is to be done is wanted: what can't be taken back is shown, and asked for. What isn't there, or can't
 /// be shown, is refused: it may be there once the question were answered.
 pub(crate) fn is_wanted(rt: &HostRuntime, db: &str, deed: Deed<'_>) -> Result<bool, Fault> {
-    let Some(question) = question_of(deed) else {
+    if !is_asked_for(deed) {
         return Ok(true);
-    };
+    }
     match show_deed(rt, db, deed) {
-        Ok(asks) => Ok(!asks || is_answered(rt, question)),
+        Ok(asks) => Ok(!asks || is_answered(rt, deed)),
         Err(fault) => {
             tell_unshown(rt, db, fault);
             Err(fault)

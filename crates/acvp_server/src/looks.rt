@@ -113,7 +113,7 @@ fn show_needed<S: Alter + Drop, L: Lines>(
 ) -> Result<(), ViewFault> {
     let mut tables = tables;
     let request = show_request(rt.alloc(), &mut tables, lines, form, number)?;
-    show_certified(
+    let _ = show_certified(
         rt.alloc(),
         tables,
         lines,
@@ -121,7 +121,8 @@ fn show_needed<S: Alter + Drop, L: Lines>(
         keys,
         moment_of(rt),
         request,
-    )
+    )?;
+    Ok(())
 }
 
 /// Prints the same as a JSON array.

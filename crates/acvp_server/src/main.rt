@@ -34,7 +34,7 @@ use crate::looks::shown;
 use crate::made::{file_to_make, keys_to_change, make};
 use crate::makers::{OwnFiles, own_files};
 use crate::printing::{print_line, print_restored};
-use crate::reasons::{tell_full, tell_full_database, tell_reason, tell_reason_of};
+use crate::reasons::{tell_full, tell_full_database, tell_reason, tell_reason_of, tell_unsound};
 use crate::room::tell_room;
 use crate::script::script;
 use crate::secrets::tell_same_secret;
@@ -68,7 +68,7 @@ fn relay(rt: &HostRuntime, line: &str) -> Result<bool, Fault> {
 fn tell_relayed(rt: &HostRuntime, db: &str, deed: Deed<'_>, line: &str) {
     match line {
         "fault: unavailable" => {
-            if !tell_full_database(rt, db) {
+            if !tell_unsound(rt, db, deed) && !tell_full_database(rt, db) {
                 tell_because(rt, Because::of("--db", Cause::Relayed));
             }
         }
@@ -275,19 +275,31 @@ fn flags_of(rt: &HostRuntime, matches: &ArgMatches<'_>) -> Flags {
     }
 }
 
+/// Tells why a command failed, where that can be seen.
+fn tell_why(rt: &HostRuntime, asked: Invocation<'_>, told: Failed) {
+    match why_failed(rt, asked, told) {
+        Some(because) => {
+            if !tell_full(rt, asked, because) {
+                tell_because(rt, because);
+            }
+        }
+        None => tell_reason(rt, asked, told.fault),
+    }
+}
+
+/// Whether an order is refused since a row that it rests on isn't as a run leaves it: then that is told.
+fn is_unsound(rt: &HostRuntime, asked: Invocation<'_>, fault: Fault) -> bool {
+    match (asked, fault) {
+        (Invocation::On(db, deed), Fault::Unavailable) => tell_unsound(rt, db, deed),
+        _ => false,
+    }
+}
+
 /// Tells a fault of a command, and why it failed, if that is to be said.
 fn tell_failed(rt: &HostRuntime, asked: Invocation<'_>, told: Failed, flags: Flags) {
-    let fault = told.fault;
-    let _ = failed(rt, fault);
-    if flags.says_why {
-        match why_failed(rt, asked, told) {
-            Some(because) => {
-                if !tell_full(rt, asked, because) {
-                    tell_because(rt, because);
-                }
-            }
-            None => tell_reason(rt, asked, fault),
-        }
+    let _ = failed(rt, told.fault);
+    if flags.says_why && !is_unsound(rt, asked, told.fault) {
+        tell_why(rt, asked, told);
     }
 }
 

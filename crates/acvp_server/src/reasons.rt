@@ -4,6 +4,7 @@ use crate::full::is_disk_full;
 use crate::made::{file_to_make, option_of_made};
 use acvp_causes::{Because, Cause, name_of};
 use acvp_commands::{Deed, Fault, Invocation};
+use acvp_desk::may_approve;
 use acvp_files::schema_of_copy;
 use acvp_store::SqlTables;
 use acvp_tables::{RequestStatus, StoreFault, Tables};
@@ -44,6 +45,20 @@ impl Visit for Enabled {
     }
 }
 
+/// Looks up whether the request of a number may be approved.
+#[derive(Clone, Copy)]
+struct Approvable(u64);
+
+impl Visit for Approvable {
+    type Told = Result<bool, StoreFault>;
+
+    fn visit<S: Alter + Drop>(self, tables: SqlTables<S>) -> Self::Told {
+        let Approvable(number) = self;
+        let mut tables = tables;
+        may_approve(&mut tables, number)
+    }
+}
+
 /// Tells which schema a file names, and what to do about it.
 fn tell_schema(rt: &HostRuntime, option: &str, path: &str, advice: &str) {
     let _ = match schema_of_copy(rt, path) {
@@ -66,7 +81,7 @@ fn tell_schema(rt: &HostRuntime, option: &str, path: &str, advice: &str) {
 /// Whether a file is there, and empty.
 pub(crate) fn is_empty(rt: &HostRuntime, path: &str) -> bool {
     match fs::metadata(rt, path) {
-        Ok(there) => there.len() == 0,
+        Ok(there) => there.is_file() && there.len() == 0,
         Err(_) => false,
     }
 }
@@ -100,6 +115,21 @@ fn tell_account(rt: &HostRuntime, db: &str, account: u16) {
     };
     let word = if enabled { "enabled" } else { "disabled" };
     let _ = eprintln!(rt; "because: --account: account {account} is there, and {word}");
+}
+
+/// Tells of an approval that a row that it rests on isn't as a run leaves it, if that is seen.
+pub(crate) fn tell_unsound(rt: &HostRuntime, db: &str, deed: Deed<'_>) -> bool {
+    let Deed::ApproveRequest { request } = deed else {
+        return false;
+    };
+    let is_unsound = matches!(
+        in_copy(rt, db, Approvable(request)),
+        Ok(Ok(false) | Err(StoreFault::Refused))
+    );
+    if is_unsound {
+        let _ = eprintln!(rt; "because: --request: a row that it rests on is wrong: run check");
+    }
+    is_unsound
 }
 
 /// Tells what is in the way of a deed, if its fault is one of these.

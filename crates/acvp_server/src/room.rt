@@ -1,6 +1,6 @@
 //! How much room a restore may take.
 use crate::database::named;
-use acvp_causes::{cause_of_path, has_sums};
+use acvp_causes::{cause_of_folder, cause_of_path, has_sums};
 use std::alloc::AllocGlobal;
 use std::fs;
 
@@ -36,6 +36,11 @@ fn is_no_file(rt: &HostRuntime, path: &str) -> bool {
     matches!(fs::metadata(rt, path), Ok(there) if !there.is_file())
 }
 
+/// Whether a database can have a path, by its last name and its folder.
+fn may_have(rt: &HostRuntime, path: &str) -> bool {
+    cause_of_path(path).is_none() && cause_of_folder(rt, path).is_none()
+}
+
 /// Says how much room a restore may take: that of copies of the backup, and of a copy of what is there. A backup that
 /// isn't there needs none, nor does a restore to a path that no database can have.
 pub(crate) fn tell_room(rt: &HostRuntime, from: &str, db: &str) {
@@ -43,7 +48,7 @@ pub(crate) fn tell_room(rt: &HostRuntime, from: &str, db: &str) {
         return;
     };
     let bytes = lengths_of(rt, backup.as_str());
-    if bytes > 0 && cause_of_path(db).is_none() && !is_no_file(rt, database.as_str()) {
+    if bytes > 0 && may_have(rt, db) && !is_no_file(rt, database.as_str()) {
         let copies = bytes.saturating_mul(copies_of(rt, backup.as_str()));
         let room = copies.saturating_add(lengths_of(rt, database.as_str()));
         let _ = eprintln!(rt; "room: up to {room} bytes beside {db}");
