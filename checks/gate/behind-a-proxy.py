@@ -340,7 +340,8 @@ def rates(lab, port):
     expect("a stranger's requests", [stranger.call("GET", of_set) for _ in range(140)], [NO_CLIENT] * 140)
     few = second.until_refused("GET", of_set)
     expect(f"{few} costly requests at once, where 120 may be", few >= 120, True)
-    for method, path in [("GET", of_set + "/expected"), ("POST", of_set + "/results"), ("PUT", of_set + "/results")]:
+    for method, path in [("GET", of_set + "/expected"), ("POST", of_set + "/results"), ("PUT", of_set + "/results"),
+                         ("PUT", "/acvp/v1/testSessions/7000001")]:
         few = second.until_refused(method, path)
         expect(f"{few} of {method} {path} behind them", few < 60, True)
     expect("what costs less beside them", second.call("GET", of_set + "/results"), NO_TOKEN)
