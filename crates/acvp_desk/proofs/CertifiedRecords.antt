@@ -1,8 +1,8 @@
 -- What every run leaves of certifications is so after a request and after an order.
 use Rattle.std.proofs.Common.{◌≡◌, ℕ, List, [], ◌∷◌, Bool, true, false, Option, None, Some, Result, Ok, Err, OnOk, refl}
-use Rattle.std.proofs.Common.{ap, subst, ◌∙◌, map}
-use Rattle.std.specs.Prelude.{is_some, not, option_map, option_and_then, nat_lt}
-use Rattle.std.specs.Prelude.{if◌then◌else◌}
+use Rattle.std.proofs.Common.{ap, arith, length, map, subst, sym, ◌+◌, ◌∙◌}
+use Rattle.std.specs.Prelude.{◌==◌, ◌&&◌, is_some, not, option_map, option_and_then, nat_lt, if◌then◌else◌}
+use Rattle.std.proofs.lemmas.Bool.Decides.{nat_tests}
 use Rattle.acvp_answers.specs.declared.verdict.Verdict.{Verdict}
 use Rattle.acvp_gen.specs.Prompt.{PromptsValue}
 use Rattle.acvp_json.specs.Data.{Data}
@@ -14,22 +14,27 @@ use Rattle.acvp_policy.specs.Conditions.{claims_of, session_there, set_live, set
 use Rattle.acvp_policy.specs.Conditions.{is_unanswered}
 use Rattle.acvp_policy.specs.Decision.{account_of_claims}
 use Rattle.acvp_policy.specs.Policy.{policy}
+use Rattle.acvp_policy.specs.Resource.{resource_of}
 use Rattle.acvp_policy.specs.declared.action.Action.TheVariants as action
 use Rattle.acvp_policy.specs.declared.facts.Facts.{Facts}
 use Rattle.acvp_policy.specs.declared.facts.SessionFacts.{SessionFacts}
 use Rattle.acvp_policy.specs.declared.rule.Rule.{Rule}
 use Rattle.acvp_policy.specs.declared.rule.Rule.TheVariants as rule
 use Rattle.acvp_registry.specs.Object.{KeptObject}
+use Rattle.acvp_registry.specs.declared.kind.Kind.TheVariants.{Module, Environment}
 use Rattle.acvp_tables.specs.Changes.{after, after_order, cancelled_session, changed, is_request, is_session}
 use Rattle.acvp_tables.specs.Changes.{new_request, new_session, with_counts, with_passed, with_status}
-use Rattle.acvp_tables.specs.Content.{Content, account_at, live_sets, request_at, session_at}
+use Rattle.acvp_tables.specs.Content.{Content, account_at, live_sets, object_at, request_at, requests_of, session_at}
 use Rattle.acvp_tables.specs.Graded.{GradedValue}
 use Rattle.acvp_tables.specs.State.{State, SetRecord, live_records, session_record, session_record_at, set_record}
+use Rattle.acvp_tables.specs.State.{AreWellNumbered, IsWellNumbered, first_of_account, is_sound_body, own, owner_of}
 use Rattle.acvp_tables.specs.State.{record_counts, state_of}
 use Rattle.acvp_tables.specs.declared.change.Change.TheVariants as change
 use Rattle.acvp_tables.specs.declared.change.NewSession.{NewSession as NewSessionValue}
 use Rattle.acvp_tables.specs.declared.change.OrderChange.TheVariants as order_change
 use Rattle.acvp_tables.specs.declared.rows.AccountRow.{AccountRow}
+use Rattle.acvp_tables.specs.declared.rows.RequestBody.{RequestBody}
+use Rattle.acvp_tables.specs.declared.rows.RequestBody.TheVariants as body
 use Rattle.acvp_tables.specs.declared.rows.RequestRow.{RequestRow}
 use Rattle.acvp_tables.specs.declared.rows.RequestStatus.{RequestStatus}
 use Rattle.acvp_tables.specs.declared.rows.RequestStatus.TheVariants as status
@@ -38,8 +43,8 @@ use Rattle.acvp_desk.specs.Answer.{accepted_change, answer, asker_of, change_by,
 use Rattle.acvp_desk.specs.Answer.{content_effect, end_of_moments, facts_in, found_of, later_of, own_conditions}
 use Rattle.acvp_desk.specs.Answer.{policy_conditions}
 use Rattle.acvp_desk.specs.Asked.{certification_change, certified_in, certification_grounds, object_change, object_in}
-use Rattle.acvp_desk.specs.Asked.{certification_made, object_grounds, request_made}
-use Rattle.acvp_desk.specs.Certifications.{AreCertified, is_rejected, may_be_certified}
+use Rattle.acvp_desk.specs.Asked.{certification_made, next_request, object_grounds, request_made}
+use Rattle.acvp_desk.specs.Certifications.{AreCertified, certified_session, is_rejected, may_be_certified}
 use Rattle.acvp_desk.specs.Kept.{IsKept}
 use Rattle.acvp_desk.specs.Login.{login_step}
 use Rattle.acvp_desk.specs.NewSessions.{new_session_in}
@@ -72,13 +77,16 @@ use Rattle.acvp_desk.specs.declared.wish.SetWish.{SetWish}
 use Rattle.acvp_desk.specs.declared.wish.SetWish.TheVariants as on_set
 use Rattle.acvp_desk.specs.declared.wish.Wish.{Wish}
 use Rattle.acvp_desk.specs.declared.wish.Wish.TheVariants as wish
-use Rattle.acvp_desk.proofs.Allowed.{on_resource}
+use Rattle.acvp_desk.proofs.Allowed.{certification_owned, on_resource}
 use Rattle.acvp_desk.proofs.AnswerParts.{holds}
-use Rattle.acvp_desk.proofs.CertifiedRows.{IsThawed, certifiable_once_asked}
+use Rattle.acvp_desk.proofs.CertifiedRows.{AreBefore, IsThawed, Stands, certifiable_once_asked}
 use Rattle.acvp_desk.proofs.CertifiedRows.{certifiable_once_decided, certifiable_stays, certifiable_with_request}
 use Rattle.acvp_desk.proofs.CertifiedRows.{certifiable_with_session, last_once_asked, last_once_decided, last_stays}
 use Rattle.acvp_desk.proofs.CertifiedRows.{last_with_request, last_with_session}
+use Rattle.acvp_desk.proofs.DecidedRequest.{own_request, sound_request}
+use Rattle.acvp_desk.proofs.EpochRows.{below_next}
 use Rattle.acvp_desk.proofs.FirstBroken.{back_held, first_held, whole_held}
+use Rattle.acvp_desk.proofs.NextSession.{right_true}
 use Rattle.acvp_desk.proofs.PassedSession.{counters_tell}
 use Rattle.acvp_desk.proofs.Wishes.{wish_asked}
 
@@ -144,11 +152,54 @@ opened : (b : Bool) → not b ≡ true → b ≡ false
 opened true is = absurd (cc)
 opened false is = refl
 
+-- ---- the requests for certifications of a session
+
+-- the session that a sound one names is there
+named_there : (mine : State) (n : ℕ) (b : RequestBody) → certified_session b ≡ Some n → is_sound_body mine b ≡ true
+    → is_some (session_record_at n mine.sessions) ≡ true
+named_there mine n (body.Registration object) asks sound = absurd (cc)
+named_there mine n (body.Certification it) asks sound =
+    let same : it.session ≡ n = cc in
+    rw same at (right_true (is_some (object_at Module it.«module» mine.objects)
+    && is_some (object_at Environment it.environment mine.objects))
+    (is_some (session_record_at it.session mine.sessions)) sound)
+
+module _ (session_told : (u n : ℕ) (state : State) → IsWellNumbered state → session_record_at n (own u state).sessions
+    ≡ (if owner_of n == u then session_record_at n state.sessions else None))
+    (request_told : (u n : ℕ) (state : State) → IsWellNumbered state → request_at n (own u state).requests
+    ≡ (if owner_of n == u then request_at n state.requests else None)) where
+  -- they are before the next request of the account that the session is of
+  all_before : (state : State) → IsWellNumbered state → (u n : ℕ) → owner_of n ≡ u
+      → AreBefore (first_of_account u + length (requests_of u state.requests)) n state.requests
+  unfolding IsWellNumbered own
+  all_before state well u n owned r found asks =
+      below_next (λ (row : RequestRow). row.number) r.number (first_of_account u) (own u state).requests
+      (well u).requests (rw owner at there)
+    where
+      sound : is_some (session_record_at n (own (owner_of r.number) state).sessions) ≡ true
+      sound = named_there (own (owner_of r.number) state) n r.body asks
+          (sound_request request_told state well r.number r found)
+
+      of : (b : Bool) → (owner_of n == owner_of r.number) ≡ b
+          → is_some (if b then session_record_at n state.sessions else None) ≡ true → owner_of r.number ≡ u
+      of true same is = grind (arith, nat_tests, same, owned)
+      of false same is = absurd (cc)
+
+      owner : owner_of r.number ≡ u
+      owner = of (owner_of n == owner_of r.number) refl (rw (session_told (owner_of r.number) n state well) at sound)
+
+      there : is_some (request_at r.number (own (owner_of r.number) state).requests) ≡ true
+      there = rw (own_request request_told state well r.number r found) refl
+
 -- ---- requests
 
 module _ (session_follows : (n : ℕ) (c : Content)
     → session_record_at n (state_of c).sessions ≡ option_map session_record (session_at n c.sessions))
-    (live : (s : ℕ) (c : Content) → live_records s (state_of c).sets ≡ map set_record (live_sets s c.sets)) where
+    (live : (s : ℕ) (c : Content) → live_records s (state_of c).sets ≡ map set_record (live_sets s c.sets))
+    (session_told : (u n : ℕ) (state : State) → IsWellNumbered state → session_record_at n (own u state).sessions
+    ≡ (if owner_of n == u then session_record_at n state.sessions else None))
+    (request_told : (u n : ℕ) (state : State) → IsWellNumbered state → request_at n (own u state).requests
+    ≡ (if owner_of n == u then request_at n state.requests else None)) where
   -- what the facts say of a session's row
   thawed_row : (seeds : List (List ℕ)) (n : ℕ) (c : Content) → Thawed (session_facts seeds (state_of c) n)
       → IsThawed n c.sessions c.requests
@@ -295,17 +346,26 @@ module _ (session_follows : (n : ℕ) (c : Content)
         certifiable = certifiable_with_request c.sessions c.requests (new ∷ []) certified.certifiable;
       }
 
+  -- the requests for certifications of an account's session are before the account's next
+  before_next : (u n : ℕ) (asked : Grounds) (c : Content) → AreWellNumbered c → owner_of n ≡ u
+      → asked.requests ≡ length (requests_of u (state_of c).requests)
+      → AreBefore (next_request u asked) n c.requests
+  unfolding state_of
+  before_next u n asked c sound owned many r found asks =
+      rw many (all_before session_told request_told (state_of c) sound u n owned r found asks)
+
   -- where a session is asked to be certified
   asked_certified : (seeds : List (List ℕ)) (u n : ℕ) (parts : Result CertifyBody Rule) (asked : Grounds) (c : Content)
-      → IsKept seeds c → IsAskable (session_facts seeds (state_of c) n) → AreCertified c
+      → IsKept seeds c → owner_of n ≡ u → asked.requests ≡ length (requests_of u (state_of c).requests)
+      → IsAskable (session_facts seeds (state_of c) n) → AreCertified c
       → AreCertified (content_after (certification_change u n parts asked) c)
   unfolding after
-  asked_certified seeds u n (Err broken) asked c kept is certified = certified
-  asked_certified seeds u n (Ok parts) asked c kept is certified =
+  asked_certified seeds u n (Err broken) asked c kept owned many is certified = certified
+  asked_certified seeds u n (Ok parts) asked c kept owned many is certified =
       let it = certification_made u n asked parts in
       record {
         last = last_once_asked it c.sessions c.requests (thawed_row seeds n c is.thawed)
-            (askable_there seeds n c is.thawed) certified.last;
+            (askable_there seeds n c is.thawed) (before_next u n asked c kept.sound owned many) certified.last;
         certifiable = certifiable_once_asked it c.sessions c.requests (askable_row seeds n c kept is)
             certified.certifiable;
       }
@@ -318,30 +378,31 @@ module _ (session_follows : (n : ℕ) (c : Content)
   registry_certified u body _ c certified = certified
 
   wish_certified : (keys : Keys) (m u : ℕ) (body : List ℕ) (f : Facts) (it : Wish) (c : Content)
-      → f.subject ≡ subject_at (place_of keys.seed u body (state_of c) it)
+      → f.subject ≡ subject_at (place_of keys.seed u body (state_of c) it) → u ≡ account_of_claims (claims_of f.token)
       → first_broken (policy (action_of_wish it) f) ≡ None → IsKept keys.seed c → AreCertified c
       → AreCertified (content_after (place_change keys.seed m u body (place_of keys.seed u body (state_of c) it)) c)
   unfolding after
-  wish_certified keys m u body f (wish.Account on_account.Read) c names allowed kept certified = certified
-  wish_certified keys m u body f (wish.Session n it) c names allowed kept certified =
+  wish_certified keys m u body f (wish.Account on_account.Read) c names acts allowed kept certified = certified
+  wish_certified keys m u body f (wish.Session n it) c names acts allowed kept certified =
       session_certified keys.seed n body f it c (ap session_of names) allowed certified
-  wish_certified keys m u body f (wish.Reviewer n a) c names allowed kept certified =
+  wish_certified keys m u body f (wish.Reviewer n a) c names acts allowed kept certified =
       same_certified c (after (change.RemoveReviewer (record { session = n; account = a })) c) refl refl certified
-  wish_certified keys m u body f (wish.Set session n it) c names allowed kept certified =
+  wish_certified keys m u body f (wish.Set session n it) c names acts allowed kept certified =
       set_certified keys.seed session n body f it c (ap session_of names) allowed certified
-  wish_certified keys m u body f wish.NewSession c names allowed kept certified =
+  wish_certified keys m u body f wish.NewSession c names acts allowed kept certified =
       new_certified (new_session_in keys.seed m u (record_counts u (state_of c)).sessions body) c certified
-  wish_certified keys m u body f (wish.CancelSet session n) c names allowed kept certified =
+  wish_certified keys m u body f (wish.CancelSet session n) c names acts allowed kept certified =
       left_certified keys.seed session n c
       (of_set (session_facts keys.seed (state_of c) session) session n (state_of c).sets
       (rw (ap session_of names) at (set_cancel_thawed f allowed))) certified
-  wish_certified keys m u body f (wish.Certify n) c names allowed kept certified =
+  wish_certified keys m u body f (wish.Certify n) c names acts allowed kept certified =
       asked_certified keys.seed u n (certified_in body)
       (certification_grounds u (certified_in body) (state_of c)) c kept
+      (certification_owned f n (ap resource_of names) allowed ∙ sym acts) refl
       (subst IsAskable (ap session_of names) (askable f allowed)) certified
-  wish_certified keys m u body f (wish.Registry it) c names allowed kept certified =
+  wish_certified keys m u body f (wish.Registry it) c names acts allowed kept certified =
       registry_certified u body it c certified
-  wish_certified keys m u body f _ c names allowed kept certified = certified
+  wish_certified keys m u body f _ c names acts allowed kept certified = certified
 
   -- whatever is answered
   by_answer : (keys : Keys) (m : ℕ) (r : RequestValue) (c : Content) (a : Result (Option Data) Rule) (it : Option Asker)
@@ -356,7 +417,7 @@ module _ (session_follows : (n : ℕ) (c : Content)
       let found = found_of keys.seed r.body (Caller caller) (state_of c) in
       let front = policy_conditions m found in
       let rest = own_conditions keys.seed r.body found in
-      wish_certified keys m u r.body (facts_in m found) caller.wish c refl
+      wish_certified keys m u r.body (facts_in m found) caller.wish c refl refl
       (rw (wish_asked keys.seed u r.body (state_of c) caller.wish) at (whole_held front rest held.1)) kept certified
   by_answer keys m r c (Ok reply) (Some (Login login)) held kept certified =
       used (option_and_then (λ n. account_at n (state_of c).accounts) login.user)
@@ -395,9 +456,7 @@ waiting_is_open n state row waits r found = by r.status (rw found at waits)
 
 decided_certified : (n : ℕ) (decided : RequestStatus) (c d : Content) → d.sessions ≡ c.sessions
     → d.requests ≡ changed (is_request n) (with_status decided) c.requests
-    → ((r : RequestRow) → request_at n c.requests ≡ Some r → is_rejected decided ≡ false
-    → is_rejected r.status ≡ false)
-    → AreCertified c → AreCertified d
+    → Stands n c.requests → AreCertified c → AreCertified d
 decided_certified n decided c d sessions requests stands certified = record {
   last = rw (sessions, requests) (last_once_decided n decided c.sessions c.requests stands certified.last);
   certifiable = rw (sessions, requests)
@@ -425,12 +484,11 @@ order_certified (order.ApproveRequest n) c certified = go (waiting_request n (st
     go None e = certified
     go (Some row) e =
         decided_certified n (status.Approved (approved_number (state_of c) row)) c
-        (after_order (approval (state_of c) n row) c) refl refl
-        (λ r found stands. waiting_is_open n (state_of c) row e r found) certified
-order_certified (order.RejectRequest n) c certified = go (waiting_request n (state_of c))
+        (after_order (approval (state_of c) n row) c) refl refl (waiting_is_open n (state_of c) row e) certified
+order_certified (order.RejectRequest n) c certified = go (waiting_request n (state_of c)) refl
   where
-    go : (found : Option RequestRow)
+    go : (found : Option RequestRow) → waiting_request n (state_of c) ≡ found
         → AreCertified (content_after_order (option_map (λ row. order_change.Reject n) found) c)
-    go None = certified
-    go (Some row) = decided_certified n status.Rejected c (after_order (order_change.Reject n) c) refl refl
-        (λ r found stands. absurd (cc)) certified
+    go None e = certified
+    go (Some row) e = decided_certified n status.Rejected c (after_order (order_change.Reject n) c) refl refl
+        (waiting_is_open n (state_of c) row e) certified

@@ -1,7 +1,7 @@
 -- What every run leaves of certifications, among rows that change.
 use Rattle.std.proofs.Common.{◌≡◌, ℕ, List, [], ◌∷◌, ◌++◌, Bool, true, false, Option, None, Some, refl, ap, ◌∙◌}
 use Rattle.std.proofs.Common.{arith}
-use Rattle.std.specs.Prelude.{find, option_map, is_some, ◌==◌, ◌||◌, if◌then◌else◌}
+use Rattle.std.specs.Prelude.{find, nat_lt, option_map, is_some, ◌==◌, ◌&&◌, ◌||◌, if◌then◌else◌}
 use Rattle.std.specs.Option.{option_or}
 use Rattle.std.proofs.lemmas.Bool.Decides.{nat_tests}
 use Rattle.std.proofs.lemmas.List.Folds.{find-append}
@@ -16,8 +16,9 @@ use Rattle.acvp_tables.specs.declared.rows.RequestStatus.{RequestStatus}
 use Rattle.acvp_tables.specs.declared.rows.RequestStatus.TheVariants as status
 use Rattle.acvp_tables.specs.declared.rows.SessionRow.{SessionRow}
 use Rattle.acvp_desk.specs.Certifications.{certified_session, is_certifiable, is_last, is_last_of, is_rejected}
-use Rattle.acvp_desk.specs.Certifications.{may_be_certified}
+use Rattle.acvp_desk.specs.Certifications.{may_be_certified, names_it}
 use Rattle.acvp_desk.specs.Place.{certification_of, certification_status}
+use Rattle.acvp_desk.proofs.NextSession.{left_true}
 
 -- ---- rows that are found
 
@@ -74,17 +75,61 @@ abbrev pub IsThawed : ℕ → List SessionRow → List RequestRow → Type 0
 IsThawed n sessions requests = (row : SessionRow) → session_at n sessions ≡ Some row
     → is_frozen (certification_of row.last_request requests) ≡ false
 
+-- the requests for certifications of a session have lower numbers than this
+abbrev pub AreBefore : ℕ → ℕ → List RequestRow → Type 0
+AreBefore next session requests = (r : RequestRow) → request_at r.number requests ≡ Some r
+    → certified_session r.body ≡ Some session → nat_lt r.number next ≡ true
+
+-- the request of a number isn't rejected
+abbrev pub Stands : ℕ → List RequestRow → Type 0
+Stands n requests = (r : RequestRow) → request_at n requests ≡ Some r → is_rejected r.status ≡ false
+
+-- a request for a certification that freezes no session is rejected
+thawed_rejected : (s : RequestStatus) → is_frozen (Some (certification_status s)) ≡ false → is_rejected s ≡ true
+thawed_rejected status.Initial thawed = absurd (cc)
+thawed_rejected (status.Approved k) thawed = absurd (cc)
+thawed_rejected status.Rejected thawed = refl
+
+-- ---- the request that a session names
+
+-- one that isn't rejected is the last
+pub standing_last : (r : RequestRow) (found : Option SessionRow) → is_rejected r.status ≡ false
+    → names_it r found ≡ true → is_last_of r.number found ≡ true
+standing_last r None stands is = absurd (cc)
+standing_last r (Some row) stands is = go row.last_request is
+  where
+    at : (same rejected later : Bool) → rejected ≡ false → (same || (rejected && later)) ≡ true → same ≡ true
+    at true rejected later stands is = refl
+    at false true later stands is = absurd (cc)
+    at false false later stands is = absurd (cc)
+
+    go : (last : Option ℕ)
+        → is_some_and last (λ m. (m == r.number) || (is_rejected r.status && nat_lt r.number m)) ≡ true
+        → is_some_and last (λ m. m == r.number) ≡ true
+    go None is = absurd (cc)
+    go (Some m) is = at (m == r.number) (is_rejected r.status) (nat_lt r.number m) stands is
+
+-- and the last is named
+last_named : (r : RequestRow) (found : Option SessionRow) → is_last_of r.number found ≡ true
+    → names_it r found ≡ true
+last_named r None is = absurd (cc)
+last_named r (Some row) is = go row.last_request is
+  where
+    go : (last : Option ℕ) → is_some_and last (λ m. m == r.number) ≡ true
+        → is_some_and last (λ m. (m == r.number) || (is_rejected r.status && nat_lt r.number m)) ≡ true
+    go None is = absurd (cc)
+    go (Some m) is = rw is refl
+
 -- ---- sessions that change, and keep their last request
 
 module _ (n : ℕ) (f : SessionRow → SessionRow) (same : (row : SessionRow) → (f row).number ≡ row.number)
     (keeps : (row : SessionRow) → (f row).last_request ≡ row.last_request) where
-  last_same : (m : ℕ) (found : Option SessionRow)
-      → is_last_of m (option_map (λ row. if is_session n row then f row else row) found) ≡ is_last_of m found
-  last_same m None = refl
-  last_same m (Some row) = go (is_session n row)
+  last_same : (r : RequestRow) (found : Option SessionRow)
+      → names_it r (option_map (λ row. if is_session n row then f row else row) found) ≡ names_it r found
+  last_same r None = refl
+  last_same r (Some row) = go (is_session n row)
     where
-      go : (b : Bool) → is_some_and (if b then f row else row).last_request (λ k. k == m)
-          ≡ is_some_and row.last_request (λ k. k == m)
+      go : (b : Bool) → names_it r (Some (if b then f row else row)) ≡ names_it r (Some row)
       go true = rw (keeps row) refl
       go false = refl
 
@@ -93,10 +138,10 @@ module _ (n : ℕ) (f : SessionRow → SessionRow) (same : (row : SessionRow) �
   last_stays sessions requests last m = go (request_at m requests) (last m)
     where
       at : (r : RequestRow) (asked : Option ℕ)
-          → of_all (λ s. is_last_of r.number (session_at s (changed (is_session n) f sessions))) asked
-          ≡ of_all (λ s. is_last_of r.number (session_at s sessions)) asked
+          → of_all (λ s. names_it r (session_at s (changed (is_session n) f sessions))) asked
+          ≡ of_all (λ s. names_it r (session_at s sessions)) asked
       at r None = refl
-      at r (Some s) = rw (session_changed n f same s sessions) (last_same r.number (session_at s sessions))
+      at r (Some s) = rw (session_changed n f same s sessions) (last_same r (session_at s sessions))
 
       go : (found : Option RequestRow) → of_all (is_last sessions) found ≡ true
           → of_all (is_last (changed (is_session n) f sessions)) found ≡ true
@@ -109,17 +154,12 @@ module _ (n : ℕ) (f : SessionRow → SessionRow) (same : (row : SessionRow) �
       → is_certifiable requests (f row) ≡ true
   thawed_stays requests row thawed is = rw (keeps row) (go row.last_request thawed is)
     where
-      rejected : (s : RequestStatus) → is_frozen (Some (certification_status s)) ≡ false → is_rejected s ≡ true
-      rejected status.Initial thawed = absurd (cc)
-      rejected (status.Approved k) thawed = absurd (cc)
-      rejected status.Rejected thawed = refl
-
       found : (r : Option RequestRow)
           → is_frozen (option_map (λ (r : RequestRow). certification_status r.status) r) ≡ false
           → is_some_and r (λ r. is_rejected r.status || may_be_certified row) ≡ true
           → is_some_and r (λ r. is_rejected r.status || may_be_certified (f row)) ≡ true
       found None thawed is = is
-      found (Some r) thawed is = rw (rejected r.status thawed) refl
+      found (Some r) thawed is = rw (thawed_rejected r.status thawed) refl
 
       go : (last : Option ℕ) → is_frozen (certification_of last requests) ≡ false
           → of_all (λ n. is_some_and (request_at n requests) (λ r. is_rejected r.status || may_be_certified row)) last
@@ -158,25 +198,23 @@ pub behind : {R : Type 0} (p : R → Bool) (rows more : List R) → find p rows 
 behind p rows more none = find-append p rows more ∙ ap (λ found. option_or found (find p more)) none
 
 -- a session that was there is found as before
-last_of_more : (m s : ℕ) (sessions more : List SessionRow) → is_last_of m (session_at s sessions) ≡ true
-    → is_last_of m (session_at s (sessions ++ more)) ≡ true
-last_of_more m s sessions more is = go (session_at s sessions) refl is
+named_with_more : (r : RequestRow) (s : ℕ) (sessions more : List SessionRow)
+    → names_it r (session_at s sessions) ≡ true → names_it r (session_at s (sessions ++ more)) ≡ true
+named_with_more r s sessions more is = go (session_at s sessions) refl is
   where
-    go : (found : Option SessionRow) → session_at s sessions ≡ found → is_last_of m found ≡ true
-        → is_last_of m (session_at s (sessions ++ more)) ≡ true
+    go : (found : Option SessionRow) → session_at s sessions ≡ found → names_it r found ≡ true
+        → names_it r (session_at s (sessions ++ more)) ≡ true
     go None found is = absurd (cc)
     go (Some row) found is = rw (appended (λ row. row.number == s) sessions more row found) is
 
 is_last_with_more : (sessions more : List SessionRow) (r : RequestRow) → is_last sessions r ≡ true
     → is_last (sessions ++ more) r ≡ true
-is_last_with_more sessions more r is = go (is_rejected r.status) (certified_session r.body) is
+is_last_with_more sessions more r is = go (certified_session r.body) is
   where
-    go : (rejected : Bool) (asked : Option ℕ)
-        → (rejected || of_all (λ s. is_last_of r.number (session_at s sessions)) asked) ≡ true
-        → (rejected || of_all (λ s. is_last_of r.number (session_at s (sessions ++ more))) asked) ≡ true
-    go true asked is = refl
-    go false None is = refl
-    go false (Some s) is = last_of_more r.number s sessions more is
+    go : (asked : Option ℕ) → of_all (λ s. names_it r (session_at s sessions)) asked ≡ true
+        → of_all (λ s. names_it r (session_at s (sessions ++ more))) asked ≡ true
+    go None is = refl
+    go (Some s) is = named_with_more r s sessions more is
 
 -- where sessions come that nobody has asked to certify
 pub last_with_session : (sessions : List SessionRow) (new : SessionRow) (requests : List RequestRow)
@@ -235,14 +273,8 @@ pub last_with_request : (sessions : List SessionRow) (requests : List RequestRow
     → certified_session new.body ≡ None → Last sessions requests → Last sessions (requests ++ new ∷ [])
 last_with_request sessions requests new none last m = go (request_at m requests) refl (last m)
   where
-    new_last : (rejected : Bool) (asked : Option ℕ) → asked ≡ None
-        → (rejected || of_all (λ s. is_last_of new.number (session_at s sessions)) asked) ≡ true
-    new_last true asked none = refl
-    new_last false None none = refl
-    new_last false (Some s) none = absurd (cc)
-
     added : (b : Bool) → of_all (is_last sessions) (if b then Some new else None) ≡ true
-    added true = new_last (is_rejected new.status) (certified_session new.body) none
+    added true = rw none refl
     added false = refl
 
     go : (found : Option RequestRow) → request_at m requests ≡ found → of_all (is_last sessions) found ≡ true
@@ -262,59 +294,66 @@ module _ (it : NewCertification) (sessions : List SessionRow) (requests : List R
   abbrev asked_requests : List RequestRow
   asked_requests = requests ++ new_certification it ∷ []
 
-  -- nobody asks any more for a certification of a session that isn't frozen
-  none_asks : IsThawed n sessions requests → (r : RequestRow) → request_at r.number requests ≡ Some r
-      → is_rejected r.status ≡ false → is_last_of r.number (session_at n sessions) ≡ true → ⊥
-  none_asks thawed r found stands is = at (session_at n sessions) refl is
+  -- each request for a certification of a session that isn't frozen is rejected
+  all_rejected : IsThawed n sessions requests → (r : RequestRow) → request_at r.number requests ≡ Some r
+      → names_it r (session_at n sessions) ≡ true → is_rejected r.status ≡ true
+  all_rejected thawed r found is = at (session_at n sessions) refl is
     where
-      frozen : (s : RequestStatus) → is_rejected s ≡ false → is_frozen (Some (certification_status s)) ≡ false → ⊥
-      frozen status.Initial stands thawed = absurd (cc)
-      frozen (status.Approved k) stands thawed = absurd (cc)
-      frozen status.Rejected stands thawed = absurd (cc)
+      by : (row : SessionRow) (k : ℕ) → row.last_request ≡ Some k → session_at n sessions ≡ Some row
+          → (b : Bool) → (k == r.number) ≡ b → (b || (is_rejected r.status && nat_lt r.number k)) ≡ true
+          → is_rejected r.status ≡ true
+      by row k named there true e is =
+          let equal : k ≡ r.number = grind (arith, nat_tests, e) in
+          thawed_rejected r.status (rw (named, equal, found) at (thawed row there))
+      by row k named there false e is = left_true (is_rejected r.status) (nat_lt r.number k) is
 
-      by : (row : SessionRow) (last : Option ℕ) → row.last_request ≡ last
-          → session_at n sessions ≡ Some row → is_some_and last (λ k. k == r.number) ≡ true → ⊥
-      by row None named there is = absurd (cc)
-      by row (Some k) named there is =
-          let equal : k ≡ r.number = grind (arith, nat_tests, is) in
-          let thaw = rw (named, equal, found) at (thawed row there) in
-          frozen r.status stands thaw
+      last : (row : SessionRow) (asked : Option ℕ) → row.last_request ≡ asked → session_at n sessions ≡ Some row
+          → is_some_and asked (λ k. (k == r.number) || (is_rejected r.status && nat_lt r.number k)) ≡ true
+          → is_rejected r.status ≡ true
+      last row None named there is = absurd (cc)
+      last row (Some k) named there is = by row k named there (k == r.number) refl is
 
-      at : (row : Option SessionRow) → session_at n sessions ≡ row → is_last_of r.number row ≡ true → ⊥
+      at : (row : Option SessionRow) → session_at n sessions ≡ row → names_it r row ≡ true
+          → is_rejected r.status ≡ true
       at None there is = absurd (cc)
-      at (Some row) there is = by row row.last_request refl there is
+      at (Some row) there is = last row row.last_request refl there is
 
-  asked_last : IsThawed n sessions requests → (r : RequestRow) → request_at r.number requests ≡ Some r
-      → is_last sessions r ≡ true → is_last asked_sessions r ≡ true
-  asked_last thawed r found is = go (is_rejected r.status) refl (certified_session r.body) is
+  asked_last : IsThawed n sessions requests → AreBefore it.number n requests → (r : RequestRow)
+      → request_at r.number requests ≡ Some r → is_last sessions r ≡ true → is_last asked_sessions r ≡ true
+  asked_last thawed before r found is = go (certified_session r.body) refl is
     where
-      at : (s : ℕ) (row : Option SessionRow) → session_at s sessions ≡ row → is_rejected r.status ≡ false
-          → is_last_of r.number row ≡ true
-          → is_last_of r.number
-          (option_map (λ row. if is_session n row then with_last_request it.number row else row) row) ≡ true
-      at s None there stands is = is
-      at s (Some row) there stands is = by (row.number == n) refl
+      later : (same : Bool) → is_rejected r.status ≡ true → nat_lt r.number it.number ≡ true
+          → (same || (is_rejected r.status && nat_lt r.number it.number)) ≡ true
+      later true rejected low = refl
+      later false rejected low = rw (rejected, low) refl
+
+      at : (s : ℕ) (row : Option SessionRow) → session_at s sessions ≡ row → certified_session r.body ≡ Some s
+          → names_it r row ≡ true
+          → names_it r (option_map (λ row. if is_session n row then with_last_request it.number row else row) row)
+          ≡ true
+      at s None there asks is = is
+      at s (Some row) there asks is = by (row.number == n) refl
         where
           by : (b : Bool) → (row.number == n) ≡ b
-              → is_last_of r.number (Some (if b then with_last_request it.number row else row)) ≡ true
+              → names_it r (Some (if b then with_last_request it.number row else row)) ≡ true
           by false e = is
           by true e =
               let its : (row.number == s) ≡ true = found_is (λ row. row.number == s) sessions row there in
               let equal : s ≡ n = grind (arith, nat_tests, its, e) in
-              absurd (none_asks thawed r found stands (rw (← equal, there) is))
+              later (it.number == r.number) (all_rejected thawed r found (rw (← equal, there) is))
+              (before r found (rw equal at asks))
 
-      go : (rejected : Bool) → is_rejected r.status ≡ rejected → (asked : Option ℕ)
-          → (rejected || of_all (λ s. is_last_of r.number (session_at s sessions)) asked) ≡ true
-          → (rejected || of_all (λ s. is_last_of r.number (session_at s asked_sessions)) asked) ≡ true
-      go true e asked is = refl
-      go false e None is = refl
-      go false e (Some s) is =
+      go : (asked : Option ℕ) → certified_session r.body ≡ asked
+          → of_all (λ s. names_it r (session_at s sessions)) asked ≡ true
+          → of_all (λ s. names_it r (session_at s asked_sessions)) asked ≡ true
+      go None e is = refl
+      go (Some s) e is =
           rw (session_changed n (with_last_request it.number) (λ row. refl) s sessions)
           (at s (session_at s sessions) refl e is)
 
   pub last_once_asked : IsThawed n sessions requests → is_some (session_at n sessions) ≡ true
-      → Last sessions requests → Last asked_sessions asked_requests
-  last_once_asked thawed there last m = go (request_at m requests) refl (last m)
+      → AreBefore it.number n requests → Last sessions requests → Last asked_sessions asked_requests
+  last_once_asked thawed there before last m = go (request_at m requests) refl (last m)
     where
       same : (row : SessionRow) → session_at n sessions ≡ Some row
           → is_last_of it.number (session_at n asked_sessions) ≡ true
@@ -326,7 +365,8 @@ module _ (it : NewCertification) (sessions : List SessionRow) (requests : List R
       new_last : (row : Option SessionRow) → session_at n sessions ≡ row → is_some row ≡ true
           → is_last asked_sessions (new_certification it) ≡ true
       new_last None found there = absurd (cc)
-      new_last (Some row) found there = same row found
+      new_last (Some row) found there =
+          last_named (new_certification it) (session_at n asked_sessions) (same row found)
 
       added : (b : Bool) → of_all (is_last asked_sessions) (if b then Some (new_certification it) else None) ≡ true
       added true = new_last (session_at n sessions) refl there
@@ -340,7 +380,7 @@ module _ (it : NewCertification) (sessions : List SessionRow) (requests : List R
           let its : (r.number == m) ≡ true = found_is (λ r. r.number == m) requests r found in
           let equal : m ≡ r.number = grind (arith, nat_tests, its) in
           rw (appended (λ r. r.number == m) requests (new_certification it ∷ []) r found)
-          (asked_last thawed r (rw equal at found) is)
+          (asked_last thawed before r (rw equal at found) is)
 
   pub certifiable_once_asked : ((row : SessionRow) → session_at n sessions ≡ Some row → may_be_certified row ≡ true)
       → Certifiable sessions requests → Certifiable asked_sessions asked_requests
@@ -385,26 +425,30 @@ module _ (n : ℕ) (decided : RequestStatus) (sessions : List SessionRow) (reque
   abbrev decided_requests : List RequestRow
   decided_requests = changed (is_request n) (with_status decided) requests
 
-  pub last_once_decided : ((r : RequestRow) → request_at n requests ≡ Some r → is_rejected decided ≡ false
-      → is_rejected r.status ≡ false)
-      → Last sessions requests → Last sessions decided_requests
+  pub last_once_decided : Stands n requests → Last sessions requests → Last sessions decided_requests
   last_once_decided stands last m =
       rw (request_changed n (with_status decided) (λ r. refl) m requests) (go (request_at m requests) refl (last m))
     where
+      still : (r : RequestRow) → is_rejected r.status ≡ false → (asked : Option ℕ)
+          → of_all (λ s. names_it r (session_at s sessions)) asked ≡ true
+          → of_all (λ s. names_it (with_status decided r) (session_at s sessions)) asked ≡ true
+      still r before None is = refl
+      still r before (Some s) is =
+          last_named (with_status decided r) (session_at s sessions)
+          (standing_last r (session_at s sessions) before is)
+
       by : (r : RequestRow) → request_at m requests ≡ Some r → (r.number == n) ≡ true
-          → is_last sessions r ≡ true → (rejected : Bool) → is_rejected decided ≡ rejected
-          → is_last sessions (with_status decided r) ≡ true
-      by r found e is true f = rw f refl
-      by r found e is false f =
+          → is_last sessions r ≡ true → is_last sessions (with_status decided r) ≡ true
+      by r found e is =
           let its : (r.number == m) ≡ true = found_is (λ r. r.number == m) requests r found in
           let equal : m ≡ n = grind (arith, nat_tests, its, e) in
-          rw f (rw (stands r (rw equal at found) f) at is)
+          still r (stands r (rw equal at found)) (certified_session r.body) is
 
       at : (r : RequestRow) → request_at m requests ≡ Some r → is_last sessions r ≡ true
           → (b : Bool) → (r.number == n) ≡ b
           → is_last sessions (if b then with_status decided r else r) ≡ true
       at r found is false e = is
-      at r found is true e = by r found e is (is_rejected decided) refl
+      at r found is true e = by r found e is
 
       go : (found : Option RequestRow) → request_at m requests ≡ found → of_all (is_last sessions) found ≡ true
           → of_all (is_last sessions) (option_map (λ r. if is_request n r then with_status decided r else r) found)
@@ -412,16 +456,15 @@ module _ (n : ℕ) (decided : RequestStatus) (sessions : List SessionRow) (reque
       go None found is = refl
       go (Some r) found is = at r found is (r.number == n) refl
 
-  pub certifiable_once_decided : ((r : RequestRow) → request_at n requests ≡ Some r → is_rejected decided ≡ false
-      → is_rejected r.status ≡ false)
-      → Certifiable sessions requests → Certifiable sessions decided_requests
+  pub certifiable_once_decided : Stands n requests → Certifiable sessions requests
+      → Certifiable sessions decided_requests
   certifiable_once_decided stands all m = go (session_at m sessions) (all m)
     where
       rejected : (row : SessionRow) (r : RequestRow) → request_at n requests ≡ Some r
           → (is_rejected r.status || may_be_certified row) ≡ true
           → (b : Bool) → is_rejected decided ≡ b → (b || may_be_certified row) ≡ true
       rejected row r found is true f = refl
-      rejected row r found is false f = rw (stands r found f) at is
+      rejected row r found is false f = rw (stands r found) at is
 
       by : (row : SessionRow) (k : ℕ) (r : RequestRow) → request_at k requests ≡ Some r
           → (is_rejected r.status || may_be_certified row) ≡ true

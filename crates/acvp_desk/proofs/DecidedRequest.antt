@@ -82,6 +82,26 @@ status_is status.Initial e = refl
 status_is (status.Approved n) e = absurd (cc)
 status_is status.Rejected e = absurd (cc)
 
+-- a request that is there is among its account's, and what it names is there
+module _ (requests : (u n : ℕ) (state : State) → IsWellNumbered state
+    → request_at n (own u state).requests ≡ (if owner_of n == u then request_at n state.requests else None))
+    (state : State) (well : IsWellNumbered state) (n : ℕ) (row : RequestRow)
+    (there : request_at n state.requests ≡ Some row) where
+  pub own_request : request_at n (own (owner_of n) state).requests ≡ Some row
+  own_request = let same : (owner_of n == owner_of n) ≡ true = grind (arith, nat_tests) in
+      rw (requests (owner_of n) n state well, same) there
+
+  pub sound_request : is_sound_body (own (owner_of n) state) row.body ≡ true
+  unfolding IsWellNumbered
+  sound_request = found_passes (λ (r : RequestRow). r.number == n)
+      (λ (r : RequestRow). is_sound_body (own (owner_of n) state) r.body)
+      (own (owner_of n) state).requests row own_request (asked_of well)
+    where
+      asked_of : IsWellNumbered state
+          → list_all (λ (r : RequestRow). is_sound_body (own (owner_of n) state) r.body)
+          (own (owner_of n) state).requests ≡ true
+      asked_of well = (well (owner_of n)).asked
+
 module _ (requests : (u n : ℕ) (state : State) → IsWellNumbered state
     → request_at n (own u state).requests ≡ (if owner_of n == u then request_at n state.requests else None))
     (names : (n : ℕ) (state : State) (row : RequestRow) → IsWellNumbered state → request_at n state.requests ≡ Some row
@@ -107,29 +127,19 @@ module _ (requests : (u n : ℕ) (state : State) → IsWellNumbered state
       go None e is = absurd (cc)
       go (Some r) e is = at r (is_initial r.status) refl e is
 
-  own_request : request_at n (own (owner_of n) state).requests ≡ Some row
-  own_request = let same : (owner_of n == owner_of n) ≡ true = grind (arith, nat_tests) in
-      rw (requests (owner_of n) n state well, same) is_there.there
-
   waits : IsWaiting n (own (owner_of n) state)
-  waits = record { row = row; there = own_request; initial = is_there.initial }
+  waits = record {
+    row = row;
+    there = own_request requests state well n row is_there.there;
+    initial = is_there.initial;
+  }
 
   pub rejected_next : IsNextOrderFor (own (owner_of n) state) (order_change.Reject n)
   rejected_next = waits
 
-  sound : is_sound_body (own (owner_of n) state) row.body ≡ true
-  unfolding IsWellNumbered
-  sound = found_passes (λ (r : RequestRow). r.number == n)
-      (λ (r : RequestRow). is_sound_body (own (owner_of n) state) r.body)
-      (own (owner_of n) state).requests row own_request (asked_of well)
-    where
-      asked_of : IsWellNumbered state
-          → list_all (λ (r : RequestRow). is_sound_body (own (owner_of n) state) r.body)
-          (own (owner_of n) state).requests ≡ true
-      asked_of well = (well (owner_of n)).asked
-
   pub number_next : IsNextApproved (owner_of n) (own (owner_of n) state) row.body (approved_number state row)
-  number_next = rw (names n state row well is_there.there) (go row.body sound)
+  number_next =
+      rw (names n state row well is_there.there) (go row.body (sound_request requests state well n row is_there.there))
     where
       go : (b : RequestBody) → is_sound_body (own (owner_of n) state) b ≡ true
           → IsNextApproved (owner_of n) (own (owner_of n) state) b (approved_as state (owner_of n) (purpose_of b))
@@ -140,7 +150,8 @@ module _ (requests : (u n : ℕ) (state : State) → IsWellNumbered state
 
   pub approved_next : IsNextOrderFor (own (owner_of n) state)
       (order_change.Approve (record { request = n; approved = approved_number state row }))
-  approved_next = (record { row = row; there = own_request; initial = is_there.initial }, number_next)
+  unfolding waits
+  approved_next = (waits, number_next)
 
 -- how many of a kind are registered, by the count of its objects
 pub registered_as : (kind : Kind) (u : ℕ) (c : Content) (count registered : ℕ)

@@ -5,7 +5,7 @@ use Rattle.std.proofs.lemmas.Bool.Decides.{nat_tests}
 use Rattle.std.proofs.lemmas.List.Elements.{All-head, All-tail}
 use Rattle.std.proofs.lemmas.List.Folds.{list_all-append}
 use Rattle.std.proofs.lemmas.Option.{slice_get_within}
-use Rattle.std.specs.Prelude.{All, filter, is_some, nat_le, nat_lt, not, ◌==◌, ◌&&◌, ◌||◌, if◌then◌else◌}
+use Rattle.std.specs.Prelude.{All, filter, find, is_some, nat_le, nat_lt, not, ◌==◌, ◌&&◌, ◌||◌, if◌then◌else◌}
 use Rattle.std.specs.List.{list_all}
 use Rattle.acvp_caps.specs.Capability.{CapabilityValue}
 use Rattle.acvp_tables.specs.Changes.{changed, new_sets}
@@ -157,15 +157,15 @@ none_later (seed ∷ seeds) epoch sets newest graded = go sets graded
         rw (here, go sets (All-tail (IsGradedSet (seed ∷ seeds)) set sets graded)) refl
 
 -- among numbers without gaps, one that is there is before the next
-below_next : (n i : ℕ) (sessions : List SessionRecord) → IsNumbered (λ row. row.number) i sessions
-    → is_some (session_record_at n sessions) ≡ true → nat_lt n (i + length sessions) ≡ true
-below_next n i sessions numbered there = go (nat_lt n (i + length sessions)) refl
+pub below_next : {R : Type 0} (number : R → ℕ) (n i : ℕ) (rows : List R) → IsNumbered number i rows
+    → is_some (find (λ row. number row == n) rows) ≡ true → nat_lt n (i + length rows) ≡ true
+below_next number n i rows numbered there = go (nat_lt n (i + length rows)) refl
   where
-    go : (b : Bool) → nat_lt n (i + length sessions) ≡ b → b ≡ true
+    go : (b : Bool) → nat_lt n (i + length rows) ≡ b → b ≡ true
     go true e = refl
     go false e =
-        let past : i + length sessions ≤ n = grind (arith, nat_tests, e) in
-        absurd (let none = past_last (λ (row : SessionRecord). row.number) n i sessions numbered past in cc)
+        let past : i + length rows ≤ n = grind (arith, nat_tests, e) in
+        absurd (let none = past_last number n i rows numbered past in cc)
 
 -- the session of each vector set is before its account's next one
 module _ (u n : ℕ) (owned : owner_of n ≡ u) (sessions : List SessionRecord)
@@ -190,7 +190,7 @@ module _ (u n : ℕ) (owned : owner_of n ≡ u) (sessions : List SessionRecord)
       go true e there later =
           let all = rw e at there in
           let rest = list_all is_there (filter is_own (map set_record sets)) in
-          let low = below_next set.session (first_of_account u) sessions numbered
+          let low = below_next (λ (row : SessionRecord). row.number) set.session (first_of_account u) sessions numbered
           (left_true (is_there (set_record set)) rest all) in
           let here : nat_lt set.session n ≡ true = rw next low in
           rw (owned, e, here) (later (right_true (is_there (set_record set)) rest all))

@@ -98,7 +98,7 @@ none_changed P t f (r ∷ rows) none all = go (t r) refl (none_changed P t f row
         (All-cons P r (changed t f rows) (All-head P r rows all) (later (rw e at none) (All-tail P r rows all)))
 
 -- the one row that is changed has what each has
-one_changed : {R : Type 0} (P : R → Type 0) (t : R → Bool) (f : R → R) (rows : List R) (x : R) → few t rows
+pub one_changed : {R : Type 0} (P : R → Type 0) (t : R → Bool) (f : R → R) (rows : List R) (x : R) → few t rows
     → find t rows ≡ Some x → P (f x)
     → All P rows → All P (changed t f rows)
 one_changed P t f [] x once found has all = all
@@ -258,6 +258,30 @@ rightly_graded seeds n row prompts answers named right made =
     let is : prompts_of right.0 n row.capability ≡ prompts = cc in
     (right.0, right.1, record { verdicts = rw named (rw (← is) refl); disposition = refl })
 
+-- a set that answers are submitted to has a row
+module _ (follows : (n : ℕ) (c : Content)
+    → set_record_at n (state_of c).sets ≡ option_map set_record (set_at n c.sets))
+    (seeds : List (List ℕ)) (session n : ℕ) (c : Content) where
+  pub submitted_row : (s : Submission) → submission_for seeds session n (state_of c).sets ≡ Some s
+      → (row : SetRow) × (set_at n c.sets ≡ Some row) × (is_live_in session row ≡ true)
+      × (s ≡ submission_to seeds session n (state_of c).sets (set_record row))
+  unfolding submission_for
+  submitted_row s is = go (set_at n c.sets) refl (rw (follows n c) at is)
+    where
+      go : (row : Option SetRow) → set_at n c.sets ≡ row
+          → option_map (submission_to seeds session n (state_of c).sets)
+          (option_and_then (if_live_in session) (option_map set_record row)) ≡ Some s
+          → (row : SetRow) × (set_at n c.sets ≡ Some row) × (is_live_in session row ≡ true)
+          × (s ≡ submission_to seeds session n (state_of c).sets (set_record row))
+      go None at e = absurd (cc)
+      go (Some row) at e = on (is_live_in session row) refl
+        where
+          on : (live : Bool) → is_live_in session row ≡ live
+              → (row : SetRow) × (set_at n c.sets ≡ Some row) × (is_live_in session row ≡ true)
+              × (s ≡ submission_to seeds session n (state_of c).sets (set_record row))
+          on true live = let e = rw live at e in (row, at, live, cc)
+          on false live = absurd (let e = rw live at e in cc)
+
 module _ (once : (n : ℕ) (c : Content) → AreWellNumbered c → length (filter (is_set n) c.sets) ≤ 1)
     (sets : (s : ℕ) (c : Content) → live_records s (state_of c).sets ≡ map set_record (live_sets s c.sets))
     (follows : (n : ℕ) (c : Content) → set_record_at n (state_of c).sets ≡ option_map set_record (set_at n c.sets))
@@ -333,27 +357,6 @@ module _ (once : (n : ℕ) (c : Content) → AreWellNumbered c → length (filte
       go None at e = absurd (cc)
       go (Some row) at e = (row, at)
 
-  -- and so has the set
-  set_row : (s : Submission) → submission_for seeds session n (state_of c).sets ≡ Some s
-      → (row : SetRow) × (set_at n c.sets ≡ Some row) × (is_live_in session row ≡ true)
-      × (s ≡ submission_to seeds session n (state_of c).sets (set_record row))
-  unfolding submission_for
-  set_row s is = go (set_at n c.sets) refl (rw (follows n c) at is)
-    where
-      go : (row : Option SetRow) → set_at n c.sets ≡ row
-          → option_map (submission_to seeds session n (state_of c).sets)
-          (option_and_then (if_live_in session) (option_map set_record row)) ≡ Some s
-          → (row : SetRow) × (set_at n c.sets ≡ Some row) × (is_live_in session row ≡ true)
-          × (s ≡ submission_to seeds session n (state_of c).sets (set_record row))
-      go None at e = absurd (cc)
-      go (Some row) at e = on (is_live_in session row) refl
-        where
-          on : (live : Bool) → is_live_in session row ≡ live
-              → (row : SetRow) × (set_at n c.sets ≡ Some row) × (is_live_in session row ≡ true)
-              × (s ≡ submission_to seeds session n (state_of c).sets (set_record row))
-          on true live = let e = rw live at e in (row, at, live, cc)
-          on false live = absurd (let e = rw live at e in cc)
-
   pub submitted_kept : (body : List ℕ)
       → is_some (set_facts (session_facts seeds (state_of c) session) session n (state_of c).sets) ≡ true
       → IsKept seeds (content_after
@@ -371,7 +374,7 @@ module _ (once : (n : ℕ) (c : Content) → AreWellNumbered c → length (filte
 
           set_is_there : (row : SetRow) × (set_at n c.sets ≡ Some row) × (is_live_in session row ≡ true)
               × (s ≡ submission_to seeds session n (state_of c).sets (set_record row))
-          set_is_there = set_row s e
+          set_is_there = submitted_row follows seeds session n c s e
 
           both : AreThere session n c
           both = record {

@@ -21,11 +21,11 @@ use Rattle.acvp_tables.specs.declared.rows.RequestStatus.TheVariants as status
 use Rattle.acvp_tables.specs.declared.rows.SessionRow.{SessionRow}
 use Rattle.acvp_tables.specs.declared.rows.SetRow.{SetRow}
 use Rattle.acvp_desk.specs.Approvals.{has_ready_session, have_passed, is_ready, may_approve, may_be_approved}
-use Rattle.acvp_desk.specs.Certifications.{IsLeft, is_last_of, is_rejected, may_be_certified}
+use Rattle.acvp_desk.specs.Certifications.{IsLeft, is_last_of, is_rejected, may_be_certified, names_it}
 use Rattle.acvp_desk.specs.Orders.{is_initial}
 use Rattle.acvp_desk.specs.Registries.{own_object}
-use Rattle.acvp_desk.proofs.CertifiedRows.{found_is}
-use Rattle.acvp_desk.proofs.DecidedRequest.{found_passes}
+use Rattle.acvp_desk.proofs.CertifiedRows.{found_is, standing_last}
+use Rattle.acvp_desk.proofs.DecidedRequest.{sound_request}
 use Rattle.acvp_desk.proofs.Elsewhere.{found_there}
 use Rattle.acvp_desk.proofs.PassedSession.{both_more, fewer_passed, found_holds, not_one_more}
 
@@ -86,21 +86,6 @@ module _ (follows : (n : ℕ) (c : Content)
   unfolding state_of
   in_state = there
 
-  own_request : request_at n (own (owner_of n) (state_of c)).requests ≡ Some row
-  own_request = let same : (owner_of n == owner_of n) ≡ true = grind (arith, nat_tests) in
-      rw (request_told (owner_of n) n (state_of c) left.kept.sound, same) in_state
-
-  sound : is_sound_body (own (owner_of n) (state_of c)) row.body ≡ true
-  unfolding IsWellNumbered
-  sound = found_passes (λ (r : RequestRow). r.number == n)
-      (λ (r : RequestRow). is_sound_body (own (owner_of n) (state_of c)) r.body)
-      (own (owner_of n) (state_of c)).requests row own_request (asked_of left.kept.sound)
-    where
-      asked_of : IsWellNumbered (state_of c)
-          → list_all (λ (r : RequestRow). is_sound_body (own (owner_of n) (state_of c)) r.body)
-          (own (owner_of n) (state_of c)).requests ≡ true
-      asked_of well = (well (owner_of n)).asked
-
   part_there : (kind : Kind) (m : ℕ) → is_some (object_at kind m (own (owner_of n) (state_of c)).objects) ≡ true
       → is_some (own_object kind (owner_of n) m c.objects) ≡ true
   unfolding state_of
@@ -130,9 +115,10 @@ module _ (follows : (n : ℕ) (c : Content)
   last : (it : Certification) → row.body ≡ body.Certification it
       → is_last_of n (session_at it.session c.sessions) ≡ true
   last it is =
-      let named = found_is (λ (r : RequestRow). r.number == n) c.requests row there in
-      let number : row.number ≡ n = grind (arith, nat_tests, named) in
-      rw (there, not_rejected row.status waits, is, number) at (left.certified.last n)
+      let its = found_is (λ (r : RequestRow). r.number == n) c.requests row there in
+      let number : row.number ≡ n = grind (arith, nat_tests, its) in
+      let named : names_it row (session_at it.session c.sessions) ≡ true = rw (there, is) at (left.certified.last n) in
+      rw number at (standing_last row (session_at it.session c.sessions) (not_rejected row.status waits) named)
 
   may : (k : ℕ) (s : SessionRow) → session_at k c.sessions ≡ Some s → is_last_of n (Some s) ≡ true
       → may_be_certified s ≡ true
@@ -176,7 +162,7 @@ module _ (follows : (n : ℕ) (c : Content)
   -- ---- all of it
 
   pub approvable : may_approve n c row ≡ true
-  approvable = go row.body refl sound
+  approvable = go row.body refl (sound_request request_told (state_of c) left.kept.sound n row in_state)
     where
       go : (b : RequestBody) → row.body ≡ b → is_sound_body (own (owner_of n) (state_of c)) b ≡ true
           → may_be_approved n row.account (purpose_of b) c ≡ true

@@ -16,8 +16,11 @@ pub mod CertifiedRows
 pub mod CertifiedRecords
 pub mod RegisteredRows
 pub mod RegisteredRecords
+pub mod AnsweredRows
+pub mod MadeChanges
 pub mod EpochRows
 pub mod EpochRecords
+pub mod AnsweredRecords
 pub mod ErrorBodies
 pub mod PassedSession
 pub mod FoundRows
@@ -39,6 +42,7 @@ pub mod Alike
 pub mod OwnAnswer
 pub mod ChangesOwn
 pub mod SeenAnswer
+pub mod DeniedAlike
 pub mod Objects
 pub mod AddedReviewer
 pub mod ServedApart

@@ -15,12 +15,14 @@ pub mod Answer
 pub mod Kept
 pub mod Registrations
 pub mod Epochs
+pub mod Answered
 pub mod Certifications
 pub mod Serves
 pub mod Desk
 pub mod Orders
 pub mod Approvals
 pub mod Isolation
+pub mod Denials
 pub mod Private
 pub mod Errors
 pub mod Cached

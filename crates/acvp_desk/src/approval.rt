@@ -13,7 +13,7 @@ ghost use Rattle.acvp_desk.specs.Private.Summaries.{summaries_passed};
 ghost use Rattle.acvp_desk.specs.Serves.{Looks};
 
 use crate::judged::judged_sets;
-use crate::own_rows::has_whole_object;
+use crate::own_rows::own_object;
 use acvp_answers::Disposition;
 use acvp_registry::Kind;
 use acvp_tables::{Certification, RequestPurpose, SessionRow, SetSummary, StoreFault, Tables};
@@ -40,7 +40,7 @@ fn have_passed(sets: &[SetSummary], live: u64) -> bool
 }
 
 /// Whether a session may be certified, by its row.
-fn may_be_certified(row: &SessionRow) -> bool
+pub fn may_be_certified(row: &SessionRow) -> bool
     ensures { result ≡ may_be_certified row.now }
 {
     !row.sample && !row.cancelled && row.live >= 1 && row.passed == row.live
@@ -87,14 +87,14 @@ fn has_certified_parts<T: Tables>(
     ensures looks { Looks T.meaning result tables.old tables.new }
     ensures fault { IfErr result T.faults }
 {
-    let has_module = has_whole_object(tables, Kind::Module, account, certification.module)?;
-    let has_environment = has_whole_object(
+    let module_row = own_object(tables, Kind::Module, account, certification.module)?;
+    let environment_row = own_object(
         tables,
         Kind::Environment,
         account,
         certification.environment,
     )?;
-    Ok(has_module && has_environment)
+    Ok(module_row.is_some() && environment_row.is_some())
 }
 
 /// Whether what an account's request of a number asks for may be approved.

@@ -6,6 +6,8 @@ ghost use Rattle.acvp_tables.specs.State.{State, own, seen, IsWellNumbered};
 ghost use Rattle.acvp_tables.specs.declared.change.Change.{Change};
 ghost use Rattle.acvp_tables.specs.declared.change.Change.TheVariants as change;
 ghost use Rattle.acvp_desk.specs.Answer.{accepted_change, answer, effect, who_of};
+ghost use Rattle.acvp_policy.specs.declared.rule.Rule.{Rule};
+ghost use Rattle.acvp_desk.specs.Denials.{HaveSameCallers, IsDeniedFirst};
 ghost use Rattle.acvp_desk.specs.Isolation.{own_after_order, own_after_request, reviewer_asked, SeesTheSame};
 ghost use Rattle.acvp_desk.specs.Orders.{order_effect};
 ghost use Rattle.acvp_desk.specs.Request.{RequestValue};
@@ -66,6 +68,17 @@ pub fn changes_are_of_who_asks()
     grants_name_the_account();
     numbers_tell();
     numbers_name();
+}
+
+/// A request that is denied by a rule on its caller is denied by the same rule over all records with the same accounts
+/// and reviewers. So such a denial doesn't tell whether a session, a vector set or anything else is there, nor whose it
+/// is.
+pub fn callers_are_denied_alike()
+    ensures { (keys : Keys) (moment : ℕ) (r : RequestValue) (broken : Rule) (one other : State)
+        → HaveSameCallers one other → IsDeniedFirst keys moment r one broken
+        → IsDeniedFirst keys moment r other broken }
+{
+    caller_rules_agree();
 }
 
 /// An account is answered alike in all records in which it sees the same. It sees the same where the rows are the same

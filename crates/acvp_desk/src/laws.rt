@@ -66,6 +66,7 @@ pub fn left_records_are_left()
         → IsLeft seeds (content_order_effect it c) }
 {
     records_are_kept();
+    sets_are_there_once();
     selections_follow();
     numbers_name();
     numbers_tell();

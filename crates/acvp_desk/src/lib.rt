@@ -4,13 +4,13 @@
 pub use acvp_gen::Seeds;
 pub use acvp_registry::{Kind, digits_number, plain_number};
 pub use acvp_token::KeyRing;
-pub use approval::may_approve;
+pub use approval::{may_approve, may_be_certified};
 pub use ask::END_OF_MOMENTS;
 pub use desk::{Desk, DeskReply, NewFault, Outcome};
 pub use draft::SPARE_BYTES;
 pub use isolation::{
-    changes_are_of_who_asks, nobody_is_answered_alike, orders_are_apart, requests_are_apart,
-    seen_rows_answer,
+    callers_are_denied_alike, changes_are_of_who_asks, nobody_is_answered_alike, orders_are_apart,
+    requests_are_apart, seen_rows_answer,
 };
 pub use keys::Keys;
 pub use later_keys::records_outlast_keys;

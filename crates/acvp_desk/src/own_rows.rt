@@ -60,39 +60,19 @@ fn has_object<T: Tables>(
     owns(tables, kind, account, number)
 }
 
-/// Whether it has, by the object's whole row: one that stands for nothing is a fault.
+/// The object of a kind and number, where it is an account's. Its whole row is read: one that stands for nothing is a
+/// fault.
 #[tactic(auto, unfolding(acvp_tables::specs::State::state_of))]
-pub(crate) fn has_whole_object<T: Tables>(
-    tables: &mut T,
-    kind: Kind,
-    account: u16,
-    number: u64,
-) -> Result<bool, StoreFault>
-    ensures found { Finds T.meaning (λ x. x) result tables.old tables.new
-        (λ c. is_some (own_object kind account number c.objects)) }
-    ensures looks { Looks T.meaning result tables.old tables.new }
-    ensures fault { IfErr result T.faults }
-{
-    numbers_name();
-    if !is_of_account(number, account) {
-        return Ok(false);
-    }
-    match tables.object(kind, number)? {
-        Some(row) => Ok(row.account == account),
-        None => Ok(false),
-    }
-}
-
-/// The object of a kind and number, where it is an account's.
-#[tactic(auto, unfolding(acvp_tables::specs::State::state_of))]
-fn own_object<T: Tables>(
+pub(crate) fn own_object<T: Tables>(
     tables: &mut T,
     kind: Kind,
     account: u16,
     number: u64,
 ) -> Result<Option<ObjectRow>, StoreFault>
-    ensures found { Sees T.meaning result tables.old tables.new (λ seeds c. own_object kind account number c.objects) }
+    ensures found { Finds T.meaning (λ x. x) result tables.old tables.new
+        (λ c. own_object kind account number c.objects) }
     ensures looks { Looks T.meaning result tables.old tables.new }
+    ensures fault { IfErr result T.faults }
 {
     numbers_name();
     if !is_of_account(number, account) {
@@ -202,9 +182,9 @@ fn has_own_parts<T: Tables>(
     ensures found { Sees T.meaning result tables.old tables.new (λ seeds c. has_own_parts account c.objects body) }
     ensures looks { Looks T.meaning result tables.old tables.new }
 {
-    let has_module = has_whole_object(tables, Kind::Module, account, body.module)?;
-    let has_environment = has_whole_object(tables, Kind::Environment, account, body.environment)?;
-    Ok(has_module && has_environment)
+    let module_row = own_object(tables, Kind::Module, account, body.module)?;
+    let environment_row = own_object(tables, Kind::Environment, account, body.environment)?;
+    Ok(module_row.is_some() && environment_row.is_some())
 }
 
 /// Whether what is read of the body of a registration names what is an account's.

@@ -1,4 +1,4 @@
-use Rattle.acvp_desk.proofs.LaterSeeds.{kept_more, seeded_more}
+use Rattle.acvp_desk.proofs.LaterSeeds.{answered_more, kept_more, seeded_more}
 use Rattle.acvp_desk.proofs.later_keys.records_outlast_keys.Goals as goal
 
 pub returns : goal.returns
@@ -9,6 +9,7 @@ returns c = record {
     certified = left.certified;
     registered = left.registered;
     epochs = left.epochs;
+    answered = answered_more seeds more it left.kept left.answered;
   };
   seeded = seeded_more;
 }

@@ -9,7 +9,7 @@ unfolding state_of
 returns-in_ok-row-in-Read-clause-found g c =
     λ live seeds content kept h.
     rw (c.in-Read.is, ← c.kind.ensures)
-    (ap (Object c.in-Read.registry c.in-Read.number) (c.in_ok-row-in-Read.ensures.found live seeds content kept h))
+    (ap (Object c.in-Read.registry c.in-Read.number) (c.in_ok-row-in-Read.ensures.found live content kept.sound h))
 
 pub returns-in_ok-grounds-in-New-clause-found : goal.returns-in_ok-grounds-in-New-clause-found
 returns-in_ok-grounds-in-New-clause-found g c =
