@@ -28,7 +28,7 @@ use Rattle.acvp_desk.specs.declared.keys.Keys.{Keys}
 use Rattle.acvp_desk.specs.declared.order.Order.{Order}
 use Rattle.acvp_http.specs.Asks.{ParsedRequest, refused, wrong_method, typed, Asks}
 use Rattle.acvp_http.specs.Event.{Event, request, order, EventAnswer, replied, ordered, Turn}
-use Rattle.acvp_http.specs.Isolation.{is_theirs, is_told, whose, AsksWithin, IsOf, IsToldAlone, Isolation}
+use Rattle.acvp_http.specs.Isolation.{AreTheirs, is_theirs, is_told, whose, AsksWithin, IsOf, IsToldAlone, Isolation}
 use Rattle.acvp_http.specs.Isolation.{IsolationAlone, LetsSee, Only, Told}
 use Rattle.acvp_http.specs.Event.{CanHappen}
 use Rattle.acvp_http.specs.Reply.{framed, refusal, IsDateOf}
@@ -554,23 +554,22 @@ module _ (keys : Keys) (u : ℕ) (these : ℕ → Bool) (itself : these u ≡ tr
       answered_alike changes adds reviewers accepted_told seeded m bytes
       one other next told (asked refl) alike serves
 
-  pub isolated : (turns : List Turn) (old new : Content) (answers : List EventAnswer) → IsKept keys.seed old
+  pub isolated : (turns : List Turn) (old new begun : Content) (answers : List EventAnswer) → IsKept keys.seed old
       → All (λ turn. CanHappen turn.event) turns
-      → LetsSee keys u these (state_of old) turns → Runs keys turns old new answers
-      → IsToldAlone keys u these turns old answers
-  isolated turns old new answers kept can lets runs =
+      → LetsSee keys u these (state_of old) turns → AreTheirs keys u these old begun → Runs keys turns old new answers
+      → IsToldAlone keys u these turns begun answers
+  isolated turns old new begun answers kept can lets theirs runs =
       let (chosen, left, others, told, only, runs_alone, here, heard) =
       alone keys u these (Alike keys u these itself)
       (λ turn one other next told can_now asked alike takes.
       turned turn.event turn.unavailable one other next told can_now asked alike takes)
-      turns old old new answers can lets.asked
+      turns old begun new answers can lets.asked
       (record {
         kept_one = kept;
-        kept_other = kept;
-        owned = λ w ours. refl;
-        reviewed_one =
-            lets.reviewed;
-        reviewed_other = lets.reviewed;
+        kept_other = theirs.kept;
+        owned = theirs.owned;
+        reviewed_one = lets.reviewed;
+        reviewed_other = theirs.reviewed;
       }) runs in
       record {
         chosen = chosen;
@@ -581,10 +580,10 @@ module _ (keys : Keys) (u : ℕ) (these : ℕ → Bool) (itself : these u ≡ tr
         runs = runs_alone;
         here = here;
         alone = heard;
-        every = λ theirs after said hears only_theirs runs_theirs told_theirs.
-            let same : theirs ≡ chosen = only_one keys these turns theirs chosen only_theirs only in
-            let ran = run_one keys chosen old after left said others
-            (subst (λ (ts : List Turn). Runs keys ts old after said) same runs_theirs) runs_alone in
+        every = λ chosen_too after said hears only_theirs runs_theirs told_theirs.
+            let same : chosen_too ≡ chosen = only_one keys these turns chosen_too chosen only_theirs only in
+            let ran = run_one keys chosen begun after left said others
+            (subst (λ (ts : List Turn). Runs keys ts begun after said) same runs_theirs) runs_alone in
             let hears_here : Told keys u chosen others hears =
             subst (λ (answers : List EventAnswer). Told keys u chosen answers hears) ran.1
             (subst (λ (ts : List Turn). Told keys u ts said hears) same told_theirs) in
@@ -594,11 +593,10 @@ module _ (keys : Keys) (u : ℕ) (these : ℕ → Bool) (itself : these u ≡ tr
 
 -- where nobody else lets it see anything
 pub alone_unnamed : Isolation → IsolationAlone
-alone_unnamed isolation keys u turns old new answers seeded kept can unnamed runs =
-    isolation keys u (λ w. w == u) turns old new answers seeded kept can
+alone_unnamed isolation keys u turns old new begun answers seeded kept can unnamed theirs runs =
+    isolation keys u (λ w. w == u) turns old new begun answers seeded kept can
     (record {
       itself = same_number u;
       reviewed = λ s is. rw (unnamed.reviewed s is) (same_number u);
-      asked =
-          unnamed.asked;
-    }) runs
+      asked = unnamed.asked;
+    }) theirs runs

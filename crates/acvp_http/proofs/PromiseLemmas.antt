@@ -1,14 +1,15 @@
 -- What a run is promised, and a script's turns, for any tables.
-use Rattle.std.proofs.Common.{ℕ, ◌≤◌, List, [], ◌∷◌, length, subst}
+use Rattle.std.proofs.Common.{ℕ, ◌≤◌, Bool, List, [], ◌∷◌, length, refl, subst}
 use Rattle.std.specs.List.{All}
 use Rattle.std.proofs.lemmas.List.Elements.{All-nil, All-cons}
 use Rattle.acvp_tables.specs.Content.{Content}
 use Rattle.acvp_tables.specs.Meaning.{Meaning}
+use Rattle.acvp_tables.specs.State.{state_of}
 use Rattle.acvp_desk.specs.Kept.{IsKept}
 use Rattle.acvp_desk.specs.declared.keys.Keys.{Keys}
 use Rattle.acvp_http.specs.Event.{EventAnswer, Turn}
 use Rattle.acvp_http.specs.Headline.{Headline, HeadlineLeft}
-use Rattle.acvp_http.specs.Isolation.{Isolation}
+use Rattle.acvp_http.specs.Isolation.{AreTheirs, Isolation, LetsSee}
 use Rattle.acvp_http.specs.Event.{CanHappen}
 use Rattle.acvp_http.specs.Left.{LeavesRun}
 use Rattle.acvp_http.specs.Promise.{GoesAsPromised, IsPromised}
@@ -28,6 +29,15 @@ all_can (turn ∷ turns) text (front, rest, is, written, script) =
     All-cons (λ (turn : Turn). CanHappen turn.event) turn turns (can_happen turn.event front written)
     (all_can turns rest script)
 
+-- the records of a run are such from which the run of these accounts alone may begin
+their_own : (keys : Keys) (u : ℕ) (these : ℕ → Bool) (turns : List Turn) (c : Content) → IsKept keys.seed c
+    → LetsSee keys u these (state_of c) turns → AreTheirs keys u these c c
+their_own keys u these turns c kept lets = record {
+  kept = kept;
+  owned = λ w ours. refl;
+  reviewed = lets.reviewed;
+}
+
 -- what is promised of a run over records that are kept under its seeds
 pub is_promised : Headline → HeadlineLeft → Isolation
     → (keys : Keys) (turns : List Turn) (answers : List EventAnswer) (c next : Content)
@@ -39,7 +49,10 @@ is_promised headline left isolation keys turns answers c next seeded kept can ru
   told = λ earlier later turn is. headline keys earlier later turn c next answers
       (subst (λ (ts : List Turn). Runs keys ts c next answers) is runs);
   left = left keys turns c next answers runs;
-  isolated = λ u these lets. isolation keys u these turns c next answers seeded kept can lets runs;
+  isolated = λ u these lets.
+      isolation keys u these turns c next c answers seeded kept can lets (their_own keys u these turns c kept lets) runs;
+  elsewhere = λ u these begun lets theirs.
+      isolation keys u these turns c next begun answers seeded kept can lets theirs runs;
 }
 
 module _ {T : Type 0} (meaning : Meaning T) where

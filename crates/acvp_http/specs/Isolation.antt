@@ -2,15 +2,18 @@
 use Rattle.std.specs.Prelude.{◌≡◌, ◌⊎◌, ℕ, ◌≤◌, ◌==◌, List, [], ◌∷◌, Bool, true, false, not, ◌&&◌, ◌||◌, nat_lt}
 use Rattle.std.specs.Prelude.{MatchBool, length, Option, Some, None, ⊤}
 use Rattle.std.specs.List.{All}
+use Rattle.acvp_policy.specs.declared.rule.Rule.{Rule}
 use Rattle.acvp_tables.specs.Content.{Content, is_reviewer}
 use Rattle.acvp_tables.specs.State.{State, own, owner_of, state_of, AreWellNumbered}
 use Rattle.acvp_desk.specs.Answer.{end_of_moments, who_of}
+use Rattle.acvp_desk.specs.Denials.{HaveSameCallers, IsDeniedFirst}
 use Rattle.acvp_desk.specs.Isolation.{is_who, reviewer_asked, SeesAlike}
 use Rattle.acvp_desk.specs.Kept.{IsKept}
 use Rattle.acvp_desk.specs.Request.{RequestValue}
 use Rattle.acvp_desk.specs.declared.keys.Keys.{Keys}
 use Rattle.acvp_http.specs.Asks.{ParsedRequest, refused, wrong_method, typed, Asks}
 use Rattle.acvp_http.specs.Event.{Event, request, order, EventAnswer, CanHappen, Turn}
+use Rattle.acvp_http.specs.Reply.{IsDateOf, refusal}
 use Rattle.acvp_http.specs.Serve.{AsksTheDesk, IsUnavailableRequest, Runs, ServesRequest}
 
 -- ---- whose an event is
@@ -57,6 +60,20 @@ abbrev pub IsTakenApart : Keys → ℕ → List ℕ → Content → Content → 
 IsTakenApart keys moment bytes old new reply =
     ((new ≡ old) × IsUnavailableRequest moment bytes reply)
     ⊎ (ServesRequest keys moment bytes old new reply × IsAnsweredApart keys moment bytes old new reply)
+
+-- ---- denials
+
+-- The bytes of a request are denied over these records by a rule on their caller, and this is the reply.
+abbrev pub IsDeniedToCaller : Keys → ℕ → List ℕ → State → List ℕ → Type 0
+IsDeniedToCaller keys moment bytes state reply =
+    (r : RequestValue) × (broken : Rule) × (date : List ℕ) × AsksTheDesk moment bytes r
+    × IsDeniedFirst keys moment r state broken × IsDateOf moment date × (reply ≡ refusal (Some date) broken)
+
+-- They are denied so, byte for byte, over all records with the same accounts and reviewers, whatever else these hold;
+-- or over none of them.
+abbrev pub DeniedAlike : Type 0
+DeniedAlike = (keys : Keys) (moment : ℕ) (bytes reply : List ℕ) (one other : State) → HaveSameCallers one other
+    → IsDeniedToCaller keys moment bytes one reply → IsDeniedToCaller keys moment bytes other reply
 
 -- ---- the turns of some accounts alone
 
@@ -112,29 +129,37 @@ pub record LetsSee (keys : Keys) (u : ℕ) (these : ℕ → Bool) (state : State
   pub reviewed : (s : ℕ) → is_reviewer s u state.reviewers ≡ true → these (owner_of s) ≡ true
   pub asked : All (λ turn. turn.unavailable ≡ false → AsksWithin keys u these turn.event) turns
 
--- u is told in the run what it is told in the run of the operator's and these accounts' turns alone, from the same
--- records: there is such a run, and in each that is one it is told the same
-pub record IsToldAlone (keys : Keys) (u : ℕ) (these : ℕ → Bool) (turns : List Turn) (old : Content)
+-- Records from which a run of these accounts alone may begin: kept, with the same rows of each of these accounts as the
+-- others, and no other account has u as a reviewer there. So are the same records, without what others left in them, too.
+pub record AreTheirs (keys : Keys) (u : ℕ) (these : ℕ → Bool) (old begun : Content) : Type 0 where
+  pub kept : IsKept keys.seed begun
+  pub owned : (w : ℕ) → these w ≡ true → own w (state_of old) ≡ own w (state_of begun)
+  pub reviewed : (s : ℕ) → is_reviewer s u (state_of begun).reviewers ≡ true → these (owner_of s) ≡ true
+
+-- u is told in the run what it is told in the run of the operator's and these accounts' turns alone, which begins from
+-- these records: there is such a run, and in each that is one it is told the same
+pub record IsToldAlone (keys : Keys) (u : ℕ) (these : ℕ → Bool) (turns : List Turn) (begun : Content)
     (answers : List EventAnswer) : Type 0 where
   pub chosen : List Turn
   pub left : Content
   pub others : List EventAnswer
   pub told : List EventAnswer
   pub only : Only keys these turns chosen
-  pub runs : Runs keys chosen old left others
+  pub runs : Runs keys chosen begun left others
   pub here : Told keys u turns answers told
   pub alone : Told keys u chosen others told
   pub every : (only_theirs : List Turn) (after : Content) (said heard : List EventAnswer)
-      → Only keys these turns only_theirs → Runs keys only_theirs old after said
+      → Only keys these turns only_theirs → Runs keys only_theirs begun after said
       → Told keys u only_theirs said heard → Told keys u turns answers heard
 
--- What an account is told in a run is what it is told where only those act that let it see something.
+-- What an account is told in a run is what it is told where only those act that let it see something, from whatever
+-- records in which these have the same.
 abbrev pub Isolation : Type 0
-Isolation = (keys : Keys) (u : ℕ) (these : ℕ → Bool) (turns : List Turn) (old new : Content)
+Isolation = (keys : Keys) (u : ℕ) (these : ℕ → Bool) (turns : List Turn) (old new begun : Content)
     (answers : List EventAnswer)
     → 1 ≤ length keys.seed → IsKept keys.seed old → All (λ turn. CanHappen turn.event) turns
-    → LetsSee keys u these (state_of old) turns
-    → Runs keys turns old new answers → IsToldAlone keys u these turns old answers
+    → LetsSee keys u these (state_of old) turns → AreTheirs keys u these old begun
+    → Runs keys turns old new answers → IsToldAlone keys u these turns begun answers
 
 -- no other account has u as a reviewer, and none asks in a turn to add it as one
 pub record IsUnnamed (keys : Keys) (u : ℕ) (state : State) (turns : List Turn) : Type 0 where
@@ -143,7 +168,7 @@ pub record IsUnnamed (keys : Keys) (u : ℕ) (state : State) (turns : List Turn)
 
 -- So an account that no other names a reviewer is told what it is told where the operator and it alone act.
 abbrev pub IsolationAlone : Type 0
-IsolationAlone = (keys : Keys) (u : ℕ) (turns : List Turn) (old new : Content) (answers : List EventAnswer)
+IsolationAlone = (keys : Keys) (u : ℕ) (turns : List Turn) (old new begun : Content) (answers : List EventAnswer)
     → 1 ≤ length keys.seed → IsKept keys.seed old → All (λ turn. CanHappen turn.event) turns
-    → IsUnnamed keys u (state_of old) turns
-    → Runs keys turns old new answers → IsToldAlone keys u (λ w. w == u) turns old answers
+    → IsUnnamed keys u (state_of old) turns → AreTheirs keys u (λ w. w == u) old begun
+    → Runs keys turns old new answers → IsToldAlone keys u (λ w. w == u) turns begun answers

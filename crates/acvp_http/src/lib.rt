@@ -29,7 +29,7 @@ pub use head::HEAD_BYTES;
 pub use life::{lives_leave_records, orders_are_turns, runs_are_promised};
 pub use needed::needed_bytes;
 pub use nothing::run_from_nothing;
-pub use promise::{headline, isolation, request_isolation};
+pub use promise::{denials_are_alike, headline, isolation, request_isolation};
 pub use reply::Reply;
 pub use request::asks_one_thing;
 pub use routes::{Routes, finds_one_thing};
