@@ -103,7 +103,7 @@ IsTold grades seeds layout trees c (damage.Stray u t number) = HasStray t u numb
 IsTold grades seeds layout trees c (damage.Broken u found) =
     (mine : Content) × HaveSameRows (rows_numbered u c) mine × AreInOrder mine × IsBroken grades seeds u mine found
 
--- what is wrong is with a certification, a registration or an epoch, and nothing that kept records meet
+-- what is wrong is with a certification, a registration, an epoch or an answer, and nothing that kept records meet
 abbrev pub is_damage_beyond_kept : Damage → Bool
 is_damage_beyond_kept (damage.Outside t number) = false
 is_damage_beyond_kept (damage.Stray u t number) = false

@@ -1,7 +1,7 @@
 -- Certifications among the rows of an account, and among all.
 use Rattle.std.proofs.Common.{◌≡◌, ℕ, ◌+◌, ◌≤◌, Bool, true, false, List, [], ◌∷◌, ◌++◌, length, Option, None, Some}
 use Rattle.std.proofs.Common.{◌⊎◌, inl, inr, refl, ap, subst, ◌∙◌, arith}
-use Rattle.std.specs.Prelude.{filter, find, option_map, is_some, ◌&&◌, ◌||◌, ◌==◌, if◌then◌else◌}
+use Rattle.std.specs.Prelude.{filter, find, option_map, is_some, ◌&&◌, ◌||◌, ◌==◌, if◌then◌else◌, nat_lt}
 use Rattle.std.specs.List.{All, flat_map, list_all}
 use Rattle.std.specs.List.Sorted.{IsPermutation}
 use Rattle.std.proofs.lemmas.Bool.Decides.{nat_tests}
@@ -10,8 +10,8 @@ use Rattle.std.proofs.lemmas.List.Elements.{All-nil, All-cons, All-head, All-tai
 use Rattle.std.proofs.lemmas.List.Sorted.{All-permutation}
 use Rattle.acvp_mac.specs.Conditions.{Condition, first_broken}
 use Rattle.acvp_policy.specs.Conditions.{is_some_and}
-use Rattle.acvp_desk.specs.Certifications.{AreCertified, certified_session, is_certifiable, is_last, is_last_of}
-use Rattle.acvp_desk.specs.Certifications.{is_rejected, may_be_certified}
+use Rattle.acvp_desk.specs.Certifications.{AreCertified, certified_session, is_certifiable, is_last, is_rejected}
+use Rattle.acvp_desk.specs.Certifications.{may_be_certified, names_it}
 use Rattle.acvp_desk.proofs.CertifiedRows.{found_is}
 use Rattle.acvp_desk.proofs.DecidedRequest.{found_passes}
 use Rattle.acvp_desk.proofs.RegisteredRecords.{requests_once}
@@ -48,11 +48,11 @@ pub by_status : (may : Bool) (found : Option RequestRow)
 by_status may None = refl
 by_status may (Some r) = refl
 
-pub by_last : (n : ℕ) (found : Option SessionRow)
-    → is_last_of n found
-    ≡ is_some_and (option_map (λ (row : SessionRow). row.last_request) found) (λ last. is_some_and last (λ m. m == n))
-by_last n None = refl
-by_last n (Some row) = refl
+pub by_last : (r : RequestRow) (found : Option SessionRow)
+    → names_it r found ≡ is_some_and (option_map (λ (row : SessionRow). row.last_request) found)
+    (λ last. is_some_and last (λ m. (m == r.number) || (is_rejected r.status && nat_lt r.number m)))
+by_last r None = refl
+by_last r (Some row) = refl
 
 -- ---- rows that are found by their numbers
 
@@ -130,19 +130,17 @@ module _ (c : Content) (sound : IsWellNumbered (state_of c)) where
   -- ---- where the conditions hold
 
   last_of_all : (u : ℕ) (r : RequestRow) → is_last (rows_of u c).sessions r ≡ true → is_last c.sessions r ≡ true
-  last_of_all u r is = go (is_rejected r.status) (certified_session r.body) is
+  last_of_all u r is = go (certified_session r.body) is
     where
-      at : (s : ℕ) (b : Bool) → is_last_of r.number (if b then session_at s c.sessions else None) ≡ true
-          → is_last_of r.number (session_at s c.sessions) ≡ true
+      at : (s : ℕ) (b : Bool) → names_it r (if b then session_at s c.sessions else None) ≡ true
+          → names_it r (session_at s c.sessions) ≡ true
       at s true is = is
       at s false is = absurd (cc)
 
-      go : (rejected : Bool) (asked : Option ℕ)
-          → (rejected || of_all (λ s. is_last_of r.number (session_at s (rows_of u c).sessions)) asked) ≡ true
-          → (rejected || of_all (λ s. is_last_of r.number (session_at s c.sessions)) asked) ≡ true
-      go true asked is = refl
-      go false None is = refl
-      go false (Some s) is = at s (owner_of s == u) (rw (sessions_own u s) at is)
+      go : (asked : Option ℕ) → of_all (λ s. names_it r (session_at s (rows_of u c).sessions)) asked ≡ true
+          → of_all (λ s. names_it r (session_at s c.sessions)) asked ≡ true
+      go None is = refl
+      go (Some s) is = at s (owner_of s == u) (rw (sessions_own u s) at is)
 
   certifiable_of_all : (u : ℕ) (row : SessionRow) → is_certifiable (rows_of u c).requests row ≡ true
       → is_certifiable c.requests row ≡ true
@@ -244,14 +242,13 @@ module _ (c : Content) (sound : IsWellNumbered (state_of c)) where
 
     request_holds : (r : RequestRow) → is_sound_body (state_of mine) r.body ≡ true
         → is_last c.sessions r ≡ true → is_last mine.sessions r ≡ true
-    request_holds r there is = go (is_rejected r.status) (certified_session r.body) refl is
+    request_holds r there is = go (certified_session r.body) refl is
       where
-        go : (rejected : Bool) (asked : Option ℕ) → certified_session r.body ≡ asked
-            → (rejected || of_all (λ s. is_last_of r.number (session_at s c.sessions)) asked) ≡ true
-            → (rejected || of_all (λ s. is_last_of r.number (session_at s mine.sessions)) asked) ≡ true
-        go true asked asks is = refl
-        go false None asks is = refl
-        go false (Some s) asks is = rw (sessions_own u s, session_of_own r.body s asks there) is
+        go : (asked : Option ℕ) → certified_session r.body ≡ asked
+            → of_all (λ s. names_it r (session_at s c.sessions)) asked ≡ true
+            → of_all (λ s. names_it r (session_at s mine.sessions)) asked ≡ true
+        go None asks is = refl
+        go (Some s) asks is = rw (sessions_own u s, session_of_own r.body s asks there) is
 
     numbered_sessions : IsNumbered (λ (row : SessionRow). row.number) (first_of_account u) mine.sessions
     unfolding state_of
@@ -436,14 +433,12 @@ module _ (c d : Content) (sound : IsWellNumbered (state_of c)) (same : HaveSameR
   }
     where
       last_same : (r : RequestRow) → is_last c.sessions r ≡ true → is_last d.sessions r ≡ true
-      last_same r is = go (is_rejected r.status) (certified_session r.body) is
+      last_same r is = go (certified_session r.body) is
         where
-          go : (rejected : Bool) (asked : Option ℕ)
-              → (rejected || of_all (λ s. is_last_of r.number (session_at s c.sessions)) asked) ≡ true
-              → (rejected || of_all (λ s. is_last_of r.number (session_at s d.sessions)) asked) ≡ true
-          go true asked is = refl
-          go false None is = refl
-          go false (Some s) is = rw (session_same s) is
+          go : (asked : Option ℕ) → of_all (λ s. names_it r (session_at s c.sessions)) asked ≡ true
+              → of_all (λ s. names_it r (session_at s d.sessions)) asked ≡ true
+          go None is = refl
+          go (Some s) is = rw (session_same s) is
 
       certifiable_same : (row : SessionRow) → is_certifiable c.requests row ≡ true
           → is_certifiable d.requests row ≡ true

@@ -7,6 +7,7 @@ pub mod HeldLemmas
 pub mod CertificationLemmas
 pub mod RegistrationLemmas
 pub mod EpochLemmas
+pub mod AnsweredLemmas
 pub mod WholeLemmas
 pub mod NumberedRows
 pub mod OrderLemmas

@@ -1,4 +1,4 @@
--- A session's vector sets are those at their place, where all ascend by their sessions.
+-- A session's rows are those at their place, where all ascend by their sessions.
 use Rattle.std.proofs.Common.{◌≡◌, ℕ, zero, suc, ◌+◌, ◌≤◌, ◌<◌, List, [], ◌∷◌, ◌++◌, Bool, true, false, refl, sym, ap, ◌∙◌}
 use Rattle.std.proofs.Common.{length, arith}
 use Rattle.std.specs.Prelude.{None, Some, drop, filter, find, is_some, nat_le, nat_lt, take, ◌==◌, ◌&&◌, ◌||◌}
@@ -10,10 +10,12 @@ use Rattle.std.proofs.lemmas.List.Elements.{filter-append}
 use Rattle.std.proofs.lemmas.List.Folds.{list_any-append}
 use Rattle.acvp_tables.specs.Content.{is_live_in, session_at}
 use Rattle.acvp_tables.specs.Counted.{is_passed_in, live_count, passed_count}
+use Rattle.acvp_tables.specs.declared.rows.ReviewerRow.{ReviewerRow}
 use Rattle.acvp_tables.specs.declared.rows.SessionRow.{SessionRow}
 use Rattle.acvp_tables.specs.declared.rows.SetRow.{SetRow}
 use Rattle.acvp_check.proofs.Joins.{same_at}
-use Rattle.acvp_check.specs.Near.{AreItsSets, Ascend, Rise}
+use Rattle.acvp_check.specs.Conditions.{reviewers_at, reviewers_in}
+use Rattle.acvp_check.specs.Near.{AreItsRows, AreItsSets, Ascend, Rise}
 
 -- what no row passes is passed nowhere
 abbrev None-pass : {R : Type 0} → (R → Bool) → List R → Type 0
@@ -65,65 +67,80 @@ module _ {R : Type 0} (q : R → Bool) (rows : List R) (m n : ℕ) (before : Non
       or_false true = refl
       or_false false = refl
 
-module _ (row : SessionRow) (sets : List SetRow) (lo m n : ℕ) (low : m ≤ lo) (in_front : m ≤ n)
-    (bound : n ≤ length sets)
-    (before : (k : ℕ) (d : SetRow) → k < lo → (slice_index_or sets k d).session < row.number)
-    (behind : (k : ℕ) (d : SetRow) → n ≤ k → k < length sets → row.number < (slice_index_or sets k d).session) where
-  none_before : (q : SetRow → Bool) → ((set : SetRow) → (set.session == row.number) ≡ false → q set ≡ false)
-      → None-pass q (take m (take n sets))
+module _ {R : Type 0} (session : R → ℕ) (number : ℕ) (rows : List R) (lo m n : ℕ) (low : m ≤ lo) (in_front : m ≤ n)
+    (bound : n ≤ length rows)
+    (before : (k : ℕ) (d : R) → k < lo → session (slice_index_or rows k d) < number)
+    (behind : (k : ℕ) (d : R) → n ≤ k → k < length rows → number < session (slice_index_or rows k d)) where
+  none_before : (q : R → Bool) → ((r : R) → (session r == number) ≡ false → q r ≡ false)
+      → None-pass q (take m (take n rows))
   none_before q its k d few =
-      let place : k < m = omega (arith, few, length-take m (take n sets)) in
-      let same : slice_index_or (take m (take n sets)) k d ≡ slice_index_or sets k d =
-      get_or-take m (take n sets) k d place ∙ get_or-take n sets k d (omega (arith, place, in_front)) in
-      let low_one : (slice_index_or sets k d).session < row.number = before k d (omega (arith, place, low)) in
-      let apart : ((slice_index_or sets k d).session == row.number) ≡ false = grind (arith, nat_tests, low_one) in
-      rw same (its (slice_index_or sets k d) apart)
+      let place : k < m = omega (arith, few, length-take m (take n rows)) in
+      let same : slice_index_or (take m (take n rows)) k d ≡ slice_index_or rows k d =
+      get_or-take m (take n rows) k d place ∙ get_or-take n rows k d (omega (arith, place, in_front)) in
+      let low_one : session (slice_index_or rows k d) < number = before k d (omega (arith, place, low)) in
+      let apart : (session (slice_index_or rows k d) == number) ≡ false = grind (arith, nat_tests, low_one) in
+      rw same (its (slice_index_or rows k d) apart)
 
-  none_behind : (q : SetRow → Bool) → ((set : SetRow) → (set.session == row.number) ≡ false → q set ≡ false)
-      → None-pass q (drop n sets)
+  none_behind : (q : R → Bool) → ((r : R) → (session r == number) ≡ false → q r ≡ false) → None-pass q (drop n rows)
   none_behind q its k d few =
-      let same : slice_index_or (drop n sets) k d ≡ slice_index_or sets (n + k) d = get_or-drop n sets k d in
-      let place : n + k < length sets = omega (arith, few, length-drop n sets) in
-      let high_one : row.number < (slice_index_or sets (n + k) d).session = behind (n + k) d (omega arith) place in
-      let apart : ((slice_index_or sets (n + k) d).session == row.number) ≡ false = grind (arith, nat_tests, high_one) in
-      rw same (its (slice_index_or sets (n + k) d) apart)
+      let same : slice_index_or (drop n rows) k d ≡ slice_index_or rows (n + k) d = get_or-drop n rows k d in
+      let place : n + k < length rows = omega (arith, few, length-drop n rows) in
+      let high_one : number < session (slice_index_or rows (n + k) d) = behind (n + k) d (omega arith) place in
+      let apart : (session (slice_index_or rows (n + k) d) == number) ≡ false =
+      grind (arith, nat_tests, high_one) in
+      rw same (its (slice_index_or rows (n + k) d) apart)
 
-  pub its_sets : AreItsSets row sets (drop m (take n sets))
-  its_sets = record {
-    any = any_between (λ set. set.session == row.number) sets m n
-        (none_before (λ set. set.session == row.number) (λ set apart. apart))
-        (none_behind (λ set. set.session == row.number) (λ set apart. apart));
-    sets = left_between (λ set. set.session == row.number) sets m n
-        (none_before (λ set. set.session == row.number) (λ set apart. apart))
-        (none_behind (λ set. set.session == row.number) (λ set apart. apart));
-    counted = ap (λ live. (row.live == length live) && (row.passed == passed_count row.number sets)) live
-        ∙ ap (λ passed. (row.live == live_count row.number some) && (row.passed == length passed)) passed;
+  pub its_rows : AreItsRows session number rows (drop m (take n rows))
+  its_rows = record {
+    any = λ q its. any_between q rows m n (none_before q its) (none_behind q its);
+    left = λ q its. left_between q rows m n (none_before q its) (none_behind q its);
   }
-    where
-      some : List SetRow
-      some = drop m (take n sets)
 
-      live : filter (is_live_in row.number) sets ≡ filter (is_live_in row.number) some
-      live = left_between (is_live_in row.number) sets m n
-          (none_before (is_live_in row.number) (λ set apart. rw apart refl))
-          (none_behind (is_live_in row.number) (λ set apart. rw apart refl))
+-- all rows are some of them
+pub all_rows : {R : Type 0} (session : R → ℕ) (number : ℕ) (rows : List R) → AreItsRows session number rows rows
+all_rows session number rows = record {
+  any = λ q its. refl;
+  left = λ q its. refl;
+}
 
-      passed : filter (is_passed_in row.number) sets ≡ filter (is_passed_in row.number) some
-      passed = left_between (is_passed_in row.number) sets m n
-          (none_before (is_passed_in row.number) (λ set apart. rw apart refl))
-          (none_behind (is_passed_in row.number) (λ set apart. rw apart refl))
+-- what is asked of a session's vector sets
+pub its_sets : (row : SessionRow) (all some : List SetRow)
+    → AreItsRows (λ set. set.session) row.number all some → AreItsSets row all some
+its_sets row all some its = record {
+  any = its.any (λ set. set.session == row.number) (λ set apart. apart);
+  sets = its.left (λ set. set.session == row.number) (λ set apart. apart);
+  counted = ap (λ live. (row.live == length live) && (row.passed == passed_count row.number all)) live
+      ∙ ap (λ passed. (row.live == live_count row.number some) && (row.passed == length passed)) passed;
+}
+  where
+    live : filter (is_live_in row.number) all ≡ filter (is_live_in row.number) some
+    live = its.left (is_live_in row.number) (λ set apart. rw apart refl)
 
--- ---- the places of vector sets that ascend
+    passed : filter (is_passed_in row.number) all ≡ filter (is_passed_in row.number) some
+    passed = its.left (is_passed_in row.number) (λ set apart. rw apart refl)
 
-pub parted_before : (sets : List SetRow) (session : ℕ) → Ascend sets
-    → IsPartitionedBy (λ set. nat_lt set.session session) sets
-parted_before sets session ascends i j d behind few below =
-    grind (arith, nat_tests, ascends i j d behind few, below)
+-- and of its reviewers
+pub its_reviewers : (n : ℕ) (all some : List ReviewerRow) → AreItsRows (λ row. row.session) n all some
+    → reviewers_in n all ≡ reviewers_in n some
+its_reviewers n all some its = its.left (λ row. row.session == n) (λ row apart. apart)
 
-pub parted_through : (sets : List SetRow) (session : ℕ) → Ascend sets
-    → IsPartitionedBy (λ set. nat_le set.session session) sets
-parted_through sets session ascends i j d behind few below =
-    grind (arith, nat_tests, ascends i j d behind few, below)
+pub its_reviewer : (n account : ℕ) (all some : List ReviewerRow) → AreItsRows (λ row. row.session) n all some
+    → reviewers_at n account all ≡ reviewers_at n account some
+its_reviewer n account all some its =
+    its.left (λ row. (row.session == n) && (row.account == account)) (λ row apart. rw apart refl)
+
+-- ---- the places of rows that ascend
+
+module _ {R : Type 0} (of : R → ℕ) where
+  pub parted_before : (rows : List R) (session : ℕ) → Ascend of rows
+      → IsPartitionedBy (λ row. nat_lt (of row) session) rows
+  parted_before rows session ascends i j d behind few below =
+      grind (arith, nat_tests, ascends i j d behind few, below)
+
+  pub parted_through : (rows : List R) (session : ℕ) → Ascend of rows
+      → IsPartitionedBy (λ row. nat_le (of row) session) rows
+  parted_through rows session ascends i j d behind few below =
+      grind (arith, nat_tests, ascends i j d behind few, below)
 
 pub is_below : (a b : ℕ) → nat_lt a b ≡ true → a < b
 is_below a b tested = grind (arith, nat_tests, tested)
@@ -134,17 +151,17 @@ is_above a b tested = grind (arith, nat_tests, tested)
 pub is_at_least : (a b : ℕ) → nat_lt a b ≡ false → b ≤ a
 is_at_least a b tested = grind (arith, nat_tests, tested)
 
--- one set more ascends, too
-pub ascends_more : (sets : List SetRow) (i last : ℕ)
-    → ((k : ℕ) (d : SetRow) → k < i → (slice_index_or sets k d).session ≤ last)
-    → ((a b : ℕ) (d : SetRow) → a ≤ b → b < i → (slice_index_or sets a d).session ≤ (slice_index_or sets b d).session)
-    → ((d : SetRow) → last ≤ (slice_index_or sets i d).session)
-    → (a b : ℕ) (d : SetRow) → a ≤ b → b < i + 1
-    → (slice_index_or sets a d).session ≤ (slice_index_or sets b d).session
-ascends_more sets i last most ascends next a b d behind few = by_place (nat_lt b i) refl (nat_lt a i) refl
+-- one row more ascends, too
+pub ascends_more : {R : Type 0} (of : R → ℕ) (rows : List R) (i last : ℕ)
+    → ((k : ℕ) (d : R) → k < i → of (slice_index_or rows k d) ≤ last)
+    → ((a b : ℕ) (d : R) → a ≤ b → b < i → of (slice_index_or rows a d) ≤ of (slice_index_or rows b d))
+    → ((d : R) → last ≤ of (slice_index_or rows i d))
+    → (a b : ℕ) (d : R) → a ≤ b → b < i + 1
+    → of (slice_index_or rows a d) ≤ of (slice_index_or rows b d)
+ascends_more {R} of rows i last most ascends next a b d behind few = by_place (nat_lt b i) refl (nat_lt a i) refl
   where
     by_place : (within : Bool) → nat_lt b i ≡ within → (before : Bool) → nat_lt a i ≡ before
-        → (slice_index_or sets a d).session ≤ (slice_index_or sets b d).session
+        → of (slice_index_or rows a d) ≤ of (slice_index_or rows b d)
     by_place true is before front = ascends a b d behind (is_below b i is)
     by_place false is true front =
         let same : b ≡ i = grind (arith, nat_tests, is, few) in

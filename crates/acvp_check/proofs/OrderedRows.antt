@@ -26,6 +26,7 @@ use Rattle.acvp_tables.specs.declared.rows.ReviewerRow.{ReviewerRow}
 use Rattle.acvp_tables.proofs.KeptLemmas.{list_all_weaker}
 use Rattle.acvp_check.specs.Order.{HaveSameRows, AreInOrder, rises}
 use Rattle.acvp_check.proofs.CertificationLemmas.{certified_in_order}
+use Rattle.acvp_check.proofs.AnsweredLemmas.{answered_in_order}
 use Rattle.acvp_check.proofs.EpochLemmas.{epochs_in_order}
 use Rattle.acvp_check.proofs.WholeLemmas.{well_for}
 use Rattle.acvp_check.proofs.OrderLemmas.{Alike, permuted, alike_all, alike_any, alike_found, alike_length}
@@ -223,4 +224,5 @@ module _ (seeds : List (List ℕ)) (c d : Content) (same : HaveSameRows c d) (up
     certified = certified_in_order c d is.kept.sound same (well_for seeds c is.kept) is.certified;
     registered = registered_in_order c d is.kept.sound same (well_for seeds c is.kept) is.registered;
     epochs = epochs_in_order c d same is.epochs;
+    answered = answered_in_order seeds c d same is.answered;
   }

@@ -29,7 +29,7 @@ use Rattle.acvp_check.specs.Conditions.{is_disposed, is_right, account_condition
 use Rattle.acvp_check.specs.Conditions.{session_conditions, set_row_conditions, set_conditions, request_conditions}
 use Rattle.acvp_check.specs.Conditions.{object_conditions, all_kinds_conditions}
 use Rattle.acvp_check.specs.Conditions.{reviewer_conditions, certification_conditions, is_beyond_kept}
-use Rattle.acvp_check.specs.Conditions.{epoch_conditions, registration_conditions, verdict_row_conditions}
+use Rattle.acvp_check.specs.Conditions.{epoch_conditions, registration_conditions}
 use Rattle.acvp_check.specs.Conditions.{verdict_conditions, all_conditions}
 use Rattle.acvp_check.specs.Owners.{is_of, is_in, account_owner, session_owner, set_owner, object_owner, request_owner}
 use Rattle.acvp_check.specs.Owners.{reviewer_owner, session_owners, registry_owners, owner_conditions}
@@ -37,13 +37,14 @@ use Rattle.acvp_check.specs.Rows.{rows_of, rows_numbered}
 use Rattle.acvp_check.specs.Whole.{IsWhole}
 use Rattle.acvp_check.proofs.Holds.{holds, none_broken, all_held, both, joint, all_both, at_passing, each_passes}
 use Rattle.acvp_check.proofs.Holds.{none_without}
-use Rattle.acvp_check.proofs.Joins.{apart, found_any}
+use Rattle.acvp_check.proofs.Joins.{found_any}
 use Rattle.acvp_check.proofs.AccountLemmas.{split, join, of_each, to_each, rows_all, well, counted, parts, sets_hold}
 use Rattle.acvp_check.proofs.AccountLemmas.{set_holds}
 use Rattle.acvp_check.specs.declared.finding.Finding.{Finding}
 use Rattle.acvp_desk.proofs.FirstBroken.{front_held}
 use Rattle.acvp_check.proofs.CertificationLemmas.{all_certified, certification_found}
 use Rattle.acvp_check.proofs.CertificationLemmas.{certifications_hold, either_broken, one}
+use Rattle.acvp_check.proofs.AnsweredLemmas.{all_answered, answer_found, answered_for, both_hold, each_right}
 use Rattle.acvp_check.proofs.EpochLemmas.{all_in_epochs, epoch_found, epochs_hold}
 use Rattle.acvp_check.proofs.RegistrationLemmas.{all_registered, registration_found, registrations_hold}
 use Rattle.acvp_check.proofs.GradedLemmas.{graded_set, set_graded}
@@ -275,7 +276,7 @@ module _ (seeds : List (List ℕ)) (c : Content) (is : IsWhole true seeds c) whe
       (λ (r : SetRow). is_some (slice_get seeds r.epoch)) (λ r h. (set_holds seeds mine r h).seed) mine.sets rows in
       let disposed = list_all_weaker (λ r. holds (set_row_conditions seeds mine r))
       (λ (r : SetRow). of_all is_disposed r.graded) (λ r h. (set_holds seeds mine r h).disposed) mine.sets rows in
-      let right = one (is_right seeds) mine.sets (of_each (verdict_row_conditions seeds) mine.sets (verdicts_hold u)) in
+      let right = each_right seeds mine (verdicts_hold u) in
       all_both (λ (r : SetRow). is_some (slice_get seeds r.epoch))
       (λ r. of_all is_disposed r.graded && is_right seeds r) mine.sets seeded
       (all_both (λ (r : SetRow). of_all is_disposed r.graded) (is_right seeds) mine.sets disposed right)
@@ -303,9 +304,10 @@ module _ (seeds : List (List ℕ)) (c : Content) (is : IsWhole true seeds c) whe
     certified = whole_certified true seeds c is;
     registered = whole_registered true seeds c is;
     epochs = whole_in_epochs true seeds c is;
+    answered = all_answered seeds c verdicts_hold;
   }
 
--- ---- kept records meet the conditions but those on certifications, registrations and epochs
+-- ---- kept records meet the conditions but those on certifications, registrations, epochs and answers
 
 pub well_for : (seeds : List (List ℕ)) (c : Content) → IsKept seeds c → (u : ℕ)
     → IsWellNumberedFor u (state_of (rows_of u c))
@@ -349,18 +351,16 @@ module _ (seeds : List (List ℕ)) (c : Content) (is : IsKept seeds c) where
       (list_all-from_AllPass (λ (row : SetRow). of_all is_disposed row.graded) c.sets
       (λ k d l. (set_graded seeds (get_or c.sets k d) (is.graded k d l)).disposed))
 
-  right_for : (u : ℕ) → holds (verdict_conditions seeds (rows_of u c)) ≡ true
-  unfolding rows_of verdict_conditions
-  right_for u = to_each (verdict_row_conditions seeds) (filter (λ row. owner_of row.session == u) c.sets)
-      (last_holds (is_right seeds) (filter (λ row. owner_of row.session == u) c.sets)
-      (list_all-filter (is_right seeds) (λ row. owner_of row.session == u) c.sets
+  right_for : (u : ℕ) → list_all (is_right seeds) (rows_of u c).sets ≡ true
+  unfolding rows_of
+  right_for u = list_all-filter (is_right seeds) (λ row. owner_of row.session == u) c.sets
       (list_all-from_AllPass (is_right seeds) c.sets
-      (λ k d l. (set_graded seeds (get_or c.sets k d) (is.graded k d l)).right))))
+      (λ k d l. (set_graded seeds (get_or c.sets k d) (is.graded k d l)).right))
 
   kept_for : (u : ℕ) → holds (kept_conditions seeds u (rows_of u c)) ≡ true
   kept_for u = held seeds u (rows_of u c) (wells u) (counted_for u) (seeded_for u) (disposed_for u)
 
-  -- so what is wrong is with a certification, a registration or an epoch
+  -- so what is wrong is with a certification, a registration, an epoch or an answer
   pub kept_tells : (grades : Bool) (u : ℕ) (found : Finding)
       → first_broken (all_conditions grades seeds u (rows_of u c)) ≡ Some found
       → is_beyond_kept found.wrong ≡ true
@@ -397,7 +397,7 @@ module _ (seeds : List (List ℕ)) (c : Content) (is : IsKept seeds c) where
       go true broken = elim (either_broken (account_conditions seeds u mine) (verdict_conditions seeds mine) found
           broken) [
             | inl first ↦ plainly first
-            | inr last ↦ absurd (apart _ found last (all_held (verdict_conditions seeds mine) (right_for u)))
+            | inr last ↦ answer_found seeds mine found (right_for u) last
           ]
 
 -- ---- records that are left break no condition
@@ -418,7 +418,7 @@ module _ (seeds : List (List ℕ)) (c : Content) (left : IsLeft seeds c) where
   pub unbroken : (grades : Bool) (u : ℕ) → first_broken (all_conditions grades seeds u (rows_of u c)) ≡ None
   unbroken true u = all_held (all_conditions true seeds u (rows_of u c))
       (join (account_conditions seeds u (rows_of u c)) (verdict_conditions seeds (rows_of u c)) (account_for u)
-      (right_for seeds c left.kept u))
+      (both_hold seeds (rows_of u c) (right_for seeds c left.kept u) (answered_for seeds c left.answered u)))
   unbroken false u = all_held (all_conditions false seeds u (rows_of u c)) (account_for u)
 
 -- ---- whose the rows of kept records are

@@ -11,6 +11,7 @@ use Rattle.acvp_answers.specs.declared.verdict.Disposition.{Disposition}
 use Rattle.acvp_answers.specs.declared.verdict.Disposition.TheVariants as disposition
 use Rattle.acvp_answers.specs.declared.verdict.Verdict.{Verdict}
 use Rattle.acvp_answers.specs.declared.verdict.Verdict.TheVariants as verdict
+use Rattle.acvp_desk.specs.Answered.{has_own_answers}
 use Rattle.acvp_desk.specs.Certifications.{is_certifiable, is_last}
 use Rattle.acvp_desk.specs.Epochs.{is_in_its_epoch}
 use Rattle.acvp_desk.specs.Registrations.{is_as_asked, is_given_once}
@@ -209,8 +210,8 @@ certifiable_conditions requests row =
 abbrev pub last_conditions : List SessionRow → RequestRow → List (Condition Finding)
 last_conditions sessions row = (is_last sessions row, finding (key.Request row.number) wrong.NotLast) ∷ []
 
--- the request that a session names is rejected, or the session may be certified; and each certification is rejected, or
--- the one that its session names
+-- the request that a session names is rejected, or the session may be certified; and each certification is the one that
+-- its session names, or, rejected, an earlier one
 unfoldable pub certification_conditions : Content → List (Condition Finding)
 certification_conditions mine =
     flat_map (certifiable_conditions mine.requests) mine.sessions
@@ -238,13 +239,14 @@ epoch_conditions mine = flat_map (epoch_row_conditions mine) mine.sets
 
 -- ---- the whole
 
--- what is wrong is with a certification, a registration or an epoch, and nothing that kept records meet
+-- what is wrong is with a certification, a registration, an epoch or an answer, and nothing that kept records meet
 abbrev pub is_beyond_kept : Wrong → Bool
 is_beyond_kept wrong.NotCertifiable = true
 is_beyond_kept wrong.NotLast = true
 is_beyond_kept wrong.NotAsAsked = true
 is_beyond_kept wrong.GivenTwice = true
 is_beyond_kept wrong.Epoch = true
+is_beyond_kept wrong.Answers = true
 is_beyond_kept _ = false
 
 -- the conditions that kept records meet, but that the verdicts are those on the answers
@@ -278,13 +280,16 @@ is_right_under row graded seed = pointwise is_verdict graded.verdicts
 abbrev pub is_right : List (List ℕ) → SetRow → Bool
 is_right seeds row = of_all (λ graded. of_all (is_right_under row graded) (slice_get seeds row.epoch)) row.graded
 
+-- and each answer is to a test of the vector set
 abbrev pub verdict_row_conditions : List (List ℕ) → SetRow → List (Condition Finding)
-verdict_row_conditions seeds row = (is_right seeds row, finding (key.Set row.number) wrong.Verdicts) ∷ []
+verdict_row_conditions seeds row =
+    (is_right seeds row, finding (key.Set row.number) wrong.Verdicts)
+    ∷ (has_own_answers seeds row, finding (key.Set row.number) wrong.Answers) ∷ []
 
 unfoldable pub verdict_conditions : List (List ℕ) → Content → List (Condition Finding)
 verdict_conditions seeds mine = flat_map (verdict_row_conditions seeds) mine.sets
 
--- with the verdicts, which are worked out anew, or without
+-- with the verdicts and the answers' tests, which are worked out anew, or without
 abbrev pub all_conditions : Bool → List (List ℕ) → ℕ → Content → List (Condition Finding)
 all_conditions true seeds u mine = account_conditions seeds u mine ++ verdict_conditions seeds mine
 all_conditions false seeds u mine = account_conditions seeds u mine

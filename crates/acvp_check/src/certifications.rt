@@ -2,7 +2,7 @@
 ghost use Rattle.std.specs.Prelude.{◌≡◌, option_map, true};
 ghost use Rattle.std.specs.List.{flat_map};
 ghost use Rattle.acvp_mac.specs.Conditions.{judged};
-ghost use Rattle.acvp_desk.specs.Certifications.{is_certifiable, is_last, is_last_of, is_rejected, may_be_certified};
+ghost use Rattle.acvp_desk.specs.Certifications.{is_certifiable, is_last, is_rejected, names_it};
 ghost use Rattle.acvp_tables.specs.Content.{request_at, session_at};
 ghost use Rattle.acvp_tables.specs.declared.rows.RequestRow.{RequestRow as RequestValue};
 ghost use Rattle.acvp_tables.specs.declared.rows.SessionRow.{SessionRow as SessionValue};
@@ -13,6 +13,7 @@ use crate::finding::{Finding, RowKey, Wrong};
 use crate::near::{first_of, numbers_rise};
 use crate::rows::Rows;
 use crate::walks::check;
+use acvp_desk::may_be_certified;
 use acvp_tables::{RequestBody, RequestRow, RequestStatus, SessionRow};
 
 /// Whether a request is rejected.
@@ -47,13 +48,6 @@ fn last_request_at(sessions: &[SessionRow], rising: bool, number: u64) -> Option
     }
 }
 
-/// Whether a session may be certified.
-fn may_be_certified(row: &SessionRow) -> bool
-    ensures { result ≡ may_be_certified row.now }
-{
-    !row.sample && !row.cancelled && row.live >= 1 && row.passed == row.live
-}
-
 /// Whether the request that a session names is there, and rejected unless the session may be certified.
 #[tactic(auto, using(crate::proofs::CertificationLemmas::by_status))]
 fn is_certifiable(requests: &[RequestRow], rising: bool, row: &SessionRow) -> bool
@@ -70,29 +64,26 @@ fn is_certifiable(requests: &[RequestRow], rising: bool, row: &SessionRow) -> bo
     }
 }
 
-/// Whether this is the request that the session of a number names.
+/// Whether the session of a number names this request as the last, or, where it is rejected, a later one.
 #[tactic(auto, using(crate::proofs::CertificationLemmas::by_last))]
-fn is_last_of(sessions: &[SessionRow], rising: bool, session: u64, request: u64) -> bool
+fn names_it(sessions: &[SessionRow], rising: bool, session: u64, row: &RequestRow) -> bool
     requires { rising ≡ true → Rise (λ (row : SessionValue). row.number) sessions.now }
-    ensures { result ≡ is_last_of request (session_at session sessions.now) }
+    ensures { result ≡ names_it row.now (session_at session sessions.now) }
 {
     match last_request_at(sessions, rising, session) {
-        Some(Some(last)) => last == request,
+        Some(Some(last)) => last == row.number || (is_rejected(row.status) && row.number < last),
         Some(None) | None => false,
     }
 }
 
-/// Whether a request is rejected, asks for no certification, or is the one that its session names.
+/// Whether a request asks for no certification, or is the one that its session names, or, rejected, an earlier one.
 fn is_last(sessions: &[SessionRow], rising: bool, row: &RequestRow) -> bool
     requires { rising ≡ true → Rise (λ (row : SessionValue). row.number) sessions.now }
     ensures { result ≡ is_last sessions.now row.now }
 {
-    if is_rejected(row.status) {
-        return true;
-    }
     match &row.body {
         RequestBody::Registration(_) => true,
-        RequestBody::Certification(it) => is_last_of(sessions, rising, it.session, row.number),
+        RequestBody::Certification(it) => names_it(sessions, rising, it.session, row),
     }
 }
 

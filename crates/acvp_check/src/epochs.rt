@@ -1,33 +1,54 @@
 //! The conditions on epochs: what every run keeps of them.
-ghost use Rattle.std.specs.Prelude.{◌≡◌, true};
-ghost use Rattle.std.specs.List.{list_all};
+ghost use Rattle.std.specs.Prelude.{◌≡◌, ◌≤◌, ◌<◌, ◌==◌, ◌&&◌, ℕ, length, nat_le, nat_lt, true};
+ghost use Rattle.std.specs.List.{slice_index_or};
 ghost use Rattle.acvp_mac.specs.Conditions.{judged};
 ghost use Rattle.acvp_desk.specs.Epochs.{is_in_its_epoch, is_no_earlier};
+ghost use Rattle.acvp_tables.specs.declared.rows.SetRow.{SetRow as SetValue};
 ghost use Rattle.acvp_check.specs.Conditions.{epoch_conditions, epoch_row_conditions};
+ghost use Rattle.acvp_check.specs.Near.{Ascend};
 
 use crate::finding::{Finding, RowKey, Wrong};
+use crate::near::ascend;
 use crate::owners::NUMBERS_OF_AN_ACCOUNT;
 use crate::rows::Rows;
 use crate::walks::{Judge, check, each};
 use acvp_tables::SetRow;
 
-/// Whether each vector set's epoch is that of the one before it, where that is of its session, and no earlier where
-/// that is of an earlier one; and none is of an earlier session than the one before it.
-fn epochs_rise(sets: &[SetRow]) -> bool
-    ensures { result ≡ true → list_all (is_in_its_epoch sets.now) sets.now ≡ true }
+/// Whether a vector set is of this session and epoch.
+fn is_of(set: &SetRow, session: u64, epoch: u64) -> bool
+    ensures { result ≡ ((set.now.session == session) && (set.now.epoch == epoch)) }
 {
+    set.session == session && set.epoch == epoch
+}
+
+/// Whether a vector set is of a later session, and no earlier epoch.
+fn is_later(set: &SetRow, session: u64, epoch: u64) -> bool
+    ensures { result ≡ (nat_lt session set.now.session && nat_le epoch set.now.epoch) }
+{
+    session < set.session && epoch <= set.epoch
+}
+
+/// How many vector sets stand before the first session whose epochs differ, or are earlier than the one before: none of
+/// these can be wrong, if all ascend by their sessions.
+fn rising(sets: &[SetRow]) -> usize
+    requires { Ascend (λ (set : SetValue). set.session) sets.now }
+    ensures bound { result ≤ length sets.now }
+    ensures held { (k : ℕ) (d : SetValue) → k < result
+        → is_in_its_epoch sets.now (slice_index_or sets.now k d) ≡ true }
+{
+    let mut start = 0;
     let mut session = 0;
     let mut epoch = 0;
-    for set in sets {
-        let same = set.session == session && set.epoch == epoch;
-        let later = session < set.session && epoch <= set.epoch;
-        if !same && !later {
-            return false;
+    for (i, set) in sets.iter().enumerate() {
+        if is_later(set, session, epoch) {
+            start = i;
+        } else if !is_of(set, session, epoch) {
+            return start;
         }
         session = set.session;
         epoch = set.epoch;
     }
-    true
+    sets.len()
 }
 
 /// Whether the second vector set is another account's, or of an earlier session, or its epoch is no earlier.
@@ -67,14 +88,20 @@ impl Judge<SetRow> for InAccount<'_> {
     }
 }
 
-/// What is wrong with the epochs of an account's vector sets. Where they rise from one to the next, none is compared
-/// with all others.
-#[tactic(auto, using(crate::proofs::EpochLemmas::rising_judged), unfolding(crate::specs::Conditions::epoch_conditions))]
+/// How many vector sets needn't be compared with all others.
+fn first_suspect(sets: &[SetRow]) -> usize
+    ensures bound { result ≤ length sets.now }
+    ensures held { (k : ℕ) (d : SetValue) → k < result
+        → is_in_its_epoch sets.now (slice_index_or sets.now k d) ≡ true }
+{
+    if ascend(sets) { rising(sets) } else { 0 }
+}
+
+/// What is wrong with the epochs of an account's vector sets. Those before the first session that can be wrong are
+/// compared with no others, so that the first that is wrong is near.
 pub(crate) fn epochs_wrong(mine: &Rows) -> Result<(), Finding>
     ensures { result ≡ judged (epoch_conditions mine.now) tt }
 {
-    if epochs_rise(&mine.sets) {
-        return Ok(());
-    }
-    each(&mine.sets, &InAccount { mine })
+    let (_, rest) = mine.sets.split_at(first_suspect(&mine.sets));
+    each(rest, &InAccount { mine })
 }

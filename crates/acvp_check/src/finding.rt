@@ -49,6 +49,8 @@ pub enum Wrong {
     Disposition,
     /// The verdicts aren't those on the answers.
     Verdicts,
+    /// An answer is to a test that the vector set doesn't have.
+    Answers,
     /// The body names what isn't there, or isn't one that is kept.
     Body,
     /// What its approval gave isn't there.
@@ -60,7 +62,7 @@ pub enum Wrong {
     /// The session may not be certified, and the request that it names isn't rejected: it hasn't passed, is a sample or
     /// is cancelled.
     NotCertifiable,
-    /// The certification isn't rejected, and its session names another, or none.
+    /// The certification's session names another, or none; if it is rejected, no later one.
     NotLast,
     /// The object that its approval registered isn't the one that it asks for.
     NotAsAsked,

@@ -31,7 +31,7 @@ pub fn whole_records_are_left()
 {}
 
 /// No run leaves records where a condition is broken: one on whose a row is, or one on an account's rows. Unless it is
-/// one on certifications, registrations or epochs, such records aren't kept either.
+/// one on certifications, registrations, epochs or answers' tests, such records aren't kept either.
 pub fn wrong_records_are_not_left()
     ensures owner { (seeds : List (List ℕ)) (c : Content) (found : FindingValue)
         → first_broken (owner_conditions c) ≡ Some found → ¬ IsKept seeds c }
@@ -59,7 +59,7 @@ pub fn numbers_select()
 /// Rows can be judged account by account, those with its numbers, in one pass: where each row has a number of an
 /// account and no condition on any account's is broken, the records are whole; and a condition that is broken on the
 /// rows with an account's numbers tells that no run leaves the records, and unless it is one on certifications,
-/// registrations or epochs, that they aren't kept.
+/// registrations, epochs or answers' tests, that they aren't kept.
 pub fn numbered_rows_tell()
     ensures whole { (grades : Bool) (seeds : List (List ℕ)) (c : Content) → AreNumbered c
         → ((u : ℕ) → is_account_number u ≡ true → first_broken (owner_conditions (rows_numbered u c)) ≡ None)

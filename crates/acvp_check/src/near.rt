@@ -1,69 +1,133 @@
 //! Rows that are found by their places, since an account's rows ascend by number: no walk over all of them is needed.
-ghost use Rattle.std.specs.Prelude.{◌≡◌, ◌≤◌, ◌<◌, ◌==◌, ◌&&◌, Bool, Some, ℕ, find, is_some, length, nat_lt, option_copied, true};
+ghost use Rattle.std.specs.Prelude.{◌≡◌, ◌≤◌, ◌<◌, ◌==◌, ◌&&◌, Bool, Some, ℕ, find, is_some, length, nat_le, nat_lt};
+ghost use Rattle.std.specs.Prelude.{option_copied, true};
 ghost use Rattle.std.specs.List.{list_any, slice_index_or};
 ghost use Rattle.acvp_tables.specs.Content.{session_at};
+ghost use Rattle.acvp_tables.specs.declared.rows.ReviewerRow.{ReviewerRow as ReviewerValue};
 ghost use Rattle.acvp_tables.specs.declared.rows.SetRow.{SetRow as SetValue};
-ghost use Rattle.acvp_check.specs.Near.{AreItsSets, Ascend, Rise};
+ghost use Rattle.acvp_check.specs.Conditions.{reviewers_at, reviewers_in};
+ghost use Rattle.acvp_check.specs.Near.{AreItsRows, AreItsSets, Ascend, Rise};
 
 use crate::sets::SessionIs;
 use crate::walks::found;
-use acvp_tables::{RequestRow, SessionRow, SetRow};
+use acvp_tables::{RequestRow, ReviewerRow, SessionRow, SetRow};
 
-/// Whether the sessions of vector sets don't fall from one to the next.
-pub(crate) fn ascend(sets: &[SetRow]) -> bool
-    ensures { result ≡ true → Ascend sets.now }
+// ---- the rows of a session
+
+/// A row that is of a session.
+pub(crate) trait OfSession {
+    ghost use Rattle.std.specs.Prelude.{ℕ};
+
+    ghost session: { Self → ℕ };
+
+    fn session(&self) -> u64
+        ensures { result ≡ session self.now };
+}
+
+impl OfSession for SetRow {
+    ghost session = { λ row. row.session };
+
+    fn session(&self) -> u64 {
+        self.session
+    }
+}
+
+impl OfSession for ReviewerRow {
+    ghost session = { λ row. row.session };
+
+    fn session(&self) -> u64 {
+        self.session
+    }
+}
+
+/// Whether the sessions of rows don't fall from one to the next.
+pub(crate) fn ascend<R: OfSession>(rows: &[R]) -> bool
+    ensures { result ≡ true → Ascend R.session rows.now }
 {
     let mut last = 0;
-    for set in sets {
-        if set.session < last {
+    for row in rows {
+        let session = row.session();
+        if session < last {
             return false;
         }
-        last = set.session;
+        last = session;
     }
     true
 }
 
-/// How many vector sets stand before those of a session, of those that ascend by their sessions.
-fn before(sets: &[SetRow], session: u64) -> usize
-    requires { Ascend sets.now }
-    ensures { (k : ℕ) (d : SetValue) → k < result → (slice_index_or sets.now k d).session < session }
+/// How many rows stand before those of a session, of those that ascend by their sessions.
+fn before<R: OfSession>(rows: &[R], session: u64) -> usize
+    requires { Ascend R.session rows.now }
+    ensures { (k : ℕ) (d : R) → k < result → R.session (slice_index_or rows.now k d) < session }
 {
-    sets.partition_point(|set| set.session < session)
+    rows.partition_point(
+        |row: &R| -> bool
+            ensures { result ≡ nat_lt (R.session row.now) session }
+        { row.session() < session },
+    )
 }
 
-/// How many vector sets stand before those of later sessions, of those that ascend by their sessions.
-fn through(sets: &[SetRow], session: u64) -> usize
-    requires { Ascend sets.now }
-    ensures bound { result ≤ length sets.now }
-    ensures later { (k : ℕ) (d : SetValue) → result ≤ k → k < length sets.now
-        → session < (slice_index_or sets.now k d).session }
+/// How many rows stand before those of later sessions, of those that ascend by their sessions.
+fn through<R: OfSession>(rows: &[R], session: u64) -> usize
+    requires { Ascend R.session rows.now }
+    ensures bound { result ≤ length rows.now }
+    ensures later { (k : ℕ) (d : R) → result ≤ k → k < length rows.now
+        → session < R.session (slice_index_or rows.now k d) }
 {
-    sets.partition_point(|set| set.session <= session)
+    rows.partition_point(
+        |row: &R| -> bool
+            ensures { result ≡ nat_le (R.session row.now) session }
+        { row.session() <= session },
+    )
 }
 
-/// The vector sets of a session, of those that ascend by their sessions.
-fn sets_by_place<'a>(sets: &'a [SetRow], row: &SessionRow) -> &'a [SetRow]
-    requires { Ascend sets.now }
-    ensures { AreItsSets row.now sets.now result.now }
+/// The rows of a session, of those that ascend by their sessions.
+fn rows_by_place<'a, R: OfSession>(rows: &'a [R], session: u64) -> &'a [R]
+    requires { Ascend R.session rows.now }
+    ensures { AreItsRows R.session session rows.now result.now }
 {
-    let end = through(sets, row.number);
-    let start = before(sets, row.number).min(end);
-    let (front, _) = sets.split_at(end);
+    let end = through(rows, session);
+    let start = before(rows, session).min(end);
+    let (front, _) = rows.split_at(end);
     let (_, its) = front.split_at(start);
     its
 }
 
-/// Vector sets among which a session's are all: no others, if all ascend by their sessions.
-pub(crate) fn sets_near<'a>(sets: &'a [SetRow], ascending: bool, row: &SessionRow) -> &'a [SetRow]
-    requires { ascending ≡ true → Ascend sets.now }
-    ensures { AreItsSets row.now sets.now result.now }
+/// Rows among which a session's are all: no others, if all ascend by their sessions.
+fn rows_near<'a, R: OfSession>(rows: &'a [R], ascending: bool, session: u64) -> &'a [R]
+    requires { ascending ≡ true → Ascend R.session rows.now }
+    ensures { AreItsRows R.session session rows.now result.now }
 {
     if ascending {
-        sets_by_place(sets, row)
+        rows_by_place(rows, session)
     } else {
-        sets
+        rows
     }
 }
+
+/// Vector sets among which a session's are all: no others, if all ascend by their sessions.
+pub(crate) fn sets_near<'a>(sets: &'a [SetRow], ascending: bool, row: &SessionRow) -> &'a [SetRow]
+    requires { ascending ≡ true → Ascend (λ (set : SetValue). set.session) sets.now }
+    ensures { AreItsSets row.now sets.now result.now }
+{
+    rows_near(sets, ascending, row.number)
+}
+
+/// Reviewers among which a session's are all: no others, if all ascend by their sessions.
+pub(crate) fn reviewers_near(
+    reviewers: &[ReviewerRow],
+    ascending: bool,
+    session: u64,
+) -> &[ReviewerRow]
+    requires { ascending ≡ true → Ascend (λ (row : ReviewerValue). row.session) reviewers.now }
+    ensures all { reviewers_in session reviewers.now ≡ reviewers_in session result.now }
+    ensures one { (account : ℕ)
+        → reviewers_at session account reviewers.now ≡ reviewers_at session account result.now }
+{
+    rows_near(reviewers, ascending, session)
+}
+
+// ---- the row of a number
 
 /// A row that has a number.
 pub(crate) trait Numbered {

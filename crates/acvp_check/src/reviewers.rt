@@ -1,15 +1,18 @@
 //! The conditions on reviewers.
-ghost use Rattle.std.specs.Prelude.{◌≡◌, ◌==◌, ◌&&◌, length, nat_le};
+ghost use Rattle.std.specs.Prelude.{◌≡◌, ◌==◌, ◌&&◌, length, nat_le, true};
+ghost use Rattle.std.specs.List.{flat_map};
 ghost use Rattle.acvp_mac.specs.Conditions.{judged};
+ghost use Rattle.acvp_tables.specs.declared.rows.ReviewerRow.{ReviewerRow as ReviewerValue};
 ghost use Rattle.acvp_check.specs.Conditions.{reviewer_conditions, reviewer_count_conditions};
 ghost use Rattle.acvp_check.specs.Conditions.{reviewer_own_conditions, reviewer_row_conditions};
 ghost use Rattle.acvp_check.specs.Conditions.{reviewers_at, reviewers_in};
+ghost use Rattle.acvp_check.specs.Near.{Ascend};
 
 use crate::finding::{Finding, RowKey, Wrong};
-use crate::near::has_session;
+use crate::near::{ascend, has_session, reviewers_near};
 use crate::numbers::is_account_number;
 use crate::rows::Rows;
-use crate::walks::{Judge, Predicate, check, count, each};
+use crate::walks::{Predicate, check, count};
 use acvp_tables::ReviewerRow;
 
 /// The most reviewers of a session.
@@ -70,32 +73,37 @@ fn is_once(reviewers: &[ReviewerRow], row: ReviewerRow) -> bool
     count(reviewers, &ReviewerIs { session, account }) <= 1
 }
 
-/// What is wrong with the number of a session's reviewers.
+/// What is wrong with the number of a session's reviewers, where all ascend by their sessions or don't.
 #[tactic(auto, unfolding(crate::specs::Conditions::reviewer_count_conditions))]
-fn reviewer_count_wrong(mine: &Rows, row: ReviewerRow) -> Result<(), Finding>
+fn reviewer_count_wrong(mine: &Rows, ascending: bool, row: ReviewerRow) -> Result<(), Finding>
+    requires { ascending ≡ true → Ascend (λ (row : ReviewerValue). row.session) mine.now.reviewers }
     ensures { result ≡ judged (reviewer_count_conditions mine.now row) tt }
 {
     let key = RowKey::Reviewer(row.session, row.account);
-    let few = are_few(&mine.reviewers, row.session);
-    check(few, key, Wrong::ManyReviewers)?;
-    check(is_once(&mine.reviewers, row), key, Wrong::Twice)
+    let its = reviewers_near(&mine.reviewers, ascending, row.session);
+    check(are_few(its, row.session), key, Wrong::ManyReviewers)?;
+    check(is_once(its, row), key, Wrong::Twice)
 }
 
-/// The conditions on a reviewer, among an account's rows.
-#[derive(Clone, Copy)]
-struct InAccount<'a> {
-    mine: &'a Rows,
+/// What is wrong with a reviewer, where all ascend by their sessions or don't.
+#[tactic(auto, using(crate::proofs::Joins::judged_joined))]
+fn reviewer_wrong(mine: &Rows, ascending: bool, row: ReviewerRow) -> Result<(), Finding>
+    requires { ascending ≡ true → Ascend (λ (row : ReviewerValue). row.session) mine.now.reviewers }
+    ensures { result ≡ judged (reviewer_row_conditions mine.now row) tt }
+{
+    reviewer_own_wrong(mine, row)?;
+    reviewer_count_wrong(mine, ascending, row)
 }
 
-impl Judge<ReviewerRow> for InAccount<'_> {
-    ghost conditions = { λ t row. reviewer_row_conditions t.mine.now row };
-
-    #[tactic(auto, using(crate::proofs::Joins::judged_joined))]
-    fn judge(&self, row: &ReviewerRow) -> Result<(), Finding> {
-        let mine = self.mine;
-        reviewer_own_wrong(mine, *row)?;
-        reviewer_count_wrong(mine, *row)
+/// What is wrong with the first of these reviewers that isn't right.
+fn reviewer_rows_wrong(mine: &Rows, rows: &[ReviewerRow]) -> Result<(), Finding>
+    ensures { result ≡ judged (flat_map (reviewer_row_conditions mine.now) rows.now) tt }
+{
+    let ascending = ascend(&mine.reviewers);
+    for row in rows {
+        reviewer_wrong(mine, ascending, *row)?;
     }
+    Ok(())
 }
 
 /// What is wrong with the reviewers of an account's sessions.
@@ -103,5 +111,5 @@ impl Judge<ReviewerRow> for InAccount<'_> {
 pub(crate) fn reviewers_wrong(mine: &Rows) -> Result<(), Finding>
     ensures { result ≡ judged (reviewer_conditions mine.now) tt }
 {
-    each(&mine.reviewers, &InAccount { mine })
+    reviewer_rows_wrong(mine, &mine.reviewers)
 }

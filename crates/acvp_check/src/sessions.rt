@@ -5,6 +5,7 @@ ghost use Rattle.acvp_mac.specs.Conditions.{judged};
 ghost use Rattle.acvp_tables.specs.Counted.{answers_passed, is_counted, is_passed_in};
 ghost use Rattle.acvp_tables.specs.Content.{is_live_in};
 ghost use Rattle.acvp_tables.specs.State.{certifies};
+ghost use Rattle.acvp_tables.specs.declared.rows.SetRow.{SetRow as SetValue};
 ghost use Rattle.acvp_check.specs.Conditions.{is_certified, session_conditions, session_count_conditions};
 ghost use Rattle.acvp_check.specs.Conditions.{session_counter_conditions, session_own_conditions};
 ghost use Rattle.acvp_check.specs.Conditions.{session_row_conditions, sets_of};
@@ -256,7 +257,7 @@ fn session_row_wrong(mine: &Rows, sets: &[SetRow], row: &SessionRow) -> Result<(
 
 /// What is wrong with a session, where vector sets ascend by their sessions or don't.
 fn session_wrong(mine: &Rows, ascending: bool, row: &SessionRow) -> Result<(), Finding>
-    requires { ascending ≡ true → Ascend mine.now.sets }
+    requires { ascending ≡ true → Ascend (λ (set : SetValue). set.session) mine.now.sets }
     ensures { result ≡ judged (session_row_conditions mine.now row.now) tt }
 {
     session_row_wrong(mine, sets_near(&mine.sets, ascending, row), row)

@@ -124,6 +124,7 @@ fn wrong_word(wrong: Wrong) -> &'static str
         Wrong::NoSeed => "noSeed",
         Wrong::Disposition => "disposition",
         Wrong::Verdicts => "verdicts",
+        Wrong::Answers => "answers",
         Wrong::Body => "body",
         Wrong::NotGiven => "notGiven",
         Wrong::NotAskedFor => "notAskedFor",

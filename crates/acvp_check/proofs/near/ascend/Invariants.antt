@@ -1,10 +1,9 @@
 use Rattle.std.specs.Prelude.{ℕ, ◌≤◌, ◌<◌}
 use Rattle.std.specs.List.{slice_index_or}
-use Rattle.acvp_tables.specs.declared.rows.SetRow.{SetRow as SetValue}
 use Rattle.acvp_check.proofs.near.ascend.Given as goal
 
-abbrev pub invariant-loop-set : goal.invariant-loop-set
-invariant-loop-set l =
-    ((k : ℕ) (d : SetValue) → k < l.set-index → (slice_index_or l.sets k d).session ≤ l.last)
-    × ((a b : ℕ) (d : SetValue) → a ≤ b → b < l.set-index
-    → (slice_index_or l.sets a d).session ≤ (slice_index_or l.sets b d).session)
+abbrev pub invariant-loop-row : goal.invariant-loop-row
+invariant-loop-row g l =
+    ((k : ℕ) (d : _) → k < l.row-index → g.R.OfSession.session (slice_index_or l.rows k d) ≤ l.last)
+    × ((a b : ℕ) (d : _) → a ≤ b → b < l.row-index
+    → g.R.OfSession.session (slice_index_or l.rows a d) ≤ g.R.OfSession.session (slice_index_or l.rows b d))

@@ -2,7 +2,7 @@ use Rattle.std.proofs.Common.{◌≡◌, drop}
 use Rattle.std.specs.List.{flat_map}
 use Rattle.acvp_mac.specs.Conditions.{first_broken}
 use Rattle.acvp_check.specs.Conditions.{verdict_row_conditions}
-use Rattle.acvp_check.proofs.verdicts.first_not_right.Given as goal
+use Rattle.acvp_check.proofs.verdicts.first_wrong.Given as goal
 
 abbrev pub invariant-loop-row : goal.invariant-loop-row
 invariant-loop-row l =
