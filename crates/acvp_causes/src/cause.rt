@@ -93,6 +93,9 @@ pub enum Cause {
     /// What was copied is damaged.
     Damaged,
 
+    /// The store opens nothing of it: its rows or pages break the rules of its own tables.
+    Broken,
+
     /// The copy is whole, and can't be put in its place.
     Unplaced,
 
@@ -215,6 +218,10 @@ impl fmt::Display for Cause {
             Cause::Copy =>
                 "it can't be copied: reading it, or writing the copy, fails (a full disk)",
             Cause::Damaged => "a page of it is damaged, or it can't be opened",
+            Cause::Broken => {
+                "nothing of it can be read, since a row breaks its table's rules (a type, a reference) or a page is \
+                 damaged: ask sqlite3 for PRAGMA integrity_check and foreign_key_check"
+            }
             Cause::Unplaced => "the copy is whole, and can't be put there",
             Cause::Good => "it can be read now",
             Cause::NoSeed => "a vector set names a seed that isn't in it",

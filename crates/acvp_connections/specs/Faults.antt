@@ -3,7 +3,7 @@ use Rattle.std.specs.declared.io.ErrorKind.{ErrorKind}
 use Rattle.std.specs.declared.io.ErrorKind.TheVariants as kind
 use Rattle.sqlite.specs.declared.error.Error.{Error}
 use Rattle.sqlite.specs.declared.error.Error.TheVariants.{SqliteFailure}
-use Rattle.sqlite.specs.declared.error.ErrorCode.TheVariants.{OutOfMemory}
+use Rattle.sqlite.specs.declared.error.ErrorCode.TheVariants.{DatabaseCorrupt, NotADatabase, OutOfMemory}
 use Rattle.sqlite_std_file.specs.declared.pair.OpenError.{OpenError}
 use Rattle.sqlite_std_file.specs.declared.pair.OpenError.TheVariants as files
 use Rattle.std.specs.IoError.{error_kind}
@@ -16,11 +16,14 @@ use Rattle.acvp_causes.specs.declared.cause.Cause.TheVariants as cause
 use Rattle.acvp_connections.specs.declared.connection.Unopened.{Unopened}
 use Rattle.acvp_connections.specs.declared.connection.Unopened.TheVariants.{Failed, Taken}
 use Rattle.acvp_connections.specs.declared.fault.FileFault.{FileFault}
-use Rattle.acvp_connections.specs.declared.fault.FileFault.TheVariants.{Memory, Schema, Unavailable}
+use Rattle.acvp_connections.specs.declared.fault.FileFault.TheVariants.{Broken, Memory, Schema, Unavailable}
 
--- a database that can't be opened, for whatever else, is unavailable
+-- a database whose rows or pages aren't those of its tables is broken; one that can't be opened, for whatever else, is
+-- unavailable
 abbrev pub fault_of_open : Error → FileFault
 fault_of_open (SqliteFailure OutOfMemory) = Memory
+fault_of_open (SqliteFailure NotADatabase) = Broken
+fault_of_open (SqliteFailure DatabaseCorrupt) = Broken
 fault_of_open _ = Unavailable
 
 -- only tables that are others are a fault of the schema

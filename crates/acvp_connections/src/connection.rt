@@ -7,9 +7,9 @@ ghost use Rattle.sqlite_std_file.specs.File.{IsFresh, file_is_usable};
 ghost use Rattle.sqlite_wal.specs.Files.{image_at};
 ghost use Rattle.sqlite_wal.specs.Reads.{AreClean};
 ghost use Rattle.acvp_connections.specs.Connections.{IsConnected};
-ghost use Rattle.acvp_connections.specs.Faults.{fault_of_open, why_unfound};
+ghost use Rattle.acvp_connections.specs.Faults.{why_unfound};
 
-use crate::fault::{FileFault, fault_of_cause, refused};
+use crate::fault::{FileFault, fault_of_cause, fault_of_error, refused};
 use crate::left::settle_names;
 use crate::number::{FileNumber, file_at};
 use crate::passing::Passing;
@@ -19,7 +19,7 @@ use acvp_causes::{
     cause_of_files, cause_of_path, has_log, is_companion, is_copy, is_foreign, is_left_alone,
     is_moved,
 };
-use sqlite::{Connection, Error, ErrorCode, FileFrom, FileStore, Files, Options, Start};
+use sqlite::{Connection, Error, FileFrom, FileStore, Files, Options, Start};
 use sqlite_disk::Disk;
 use sqlite_std_file::OpenError;
 use std::alloc::AllocGlobal;
@@ -30,16 +30,6 @@ use std::os::unix::fs::OpenOptionsExt;
 
 /// A connection to the database in a file, whose reads and writes are counted.
 pub type FileConnection<S> = Connection<FileStore<Watched<FileFrom<S>>>>;
-
-/// The fault of a database that can't be opened.
-fn fault_of_database(error: Error) -> FileFault
-    ensures { result ≡ fault_of_open error }
-{
-    match error {
-        Error::SqliteFailure(ErrorCode::OutOfMemory) => FileFault::Memory,
-        _ => FileFault::Unavailable,
-    }
-}
 
 /// Why there is no connection to a database.
 #[derive(Clone, Copy)]
@@ -116,7 +106,7 @@ fn connect<S: Start>(
             connection.set_clock(rt);
             Ok(connection)
         }
-        Err((error, _)) => Err(Unopened::Failed(fault_of_database(error))),
+        Err((error, _)) => Err(Unopened::Failed(fault_of_error(error))),
     }
 }
 

@@ -1,11 +1,12 @@
 //! Why a database isn't opened, or isn't copied.
 ghost use Rattle.std.specs.Prelude.{◌≡◌, IfErr, IfOk};
 ghost use Rattle.std.specs.IoError.{error_kind};
-ghost use Rattle.acvp_connections.specs.Faults.{fault_of_cause, fault_of_kind};
+ghost use Rattle.acvp_connections.specs.Faults.{fault_of_cause, fault_of_kind, fault_of_open};
 
 use acvp_causes::Cause;
 use acvp_store::AdoptFault;
 use acvp_tables::StoreFault;
+use sqlite::{Error, ErrorCode};
 use std::alloc::AllocError;
 use std::io;
 
@@ -17,6 +18,9 @@ pub enum FileFault {
 
     /// The database, or a file beside it, isn't there or can't be had, or isn't one.
     Unavailable,
+
+    /// Nothing of the database can be read: its rows or pages break the rules of its own tables.
+    Broken,
 
     /// Its tables aren't those of this version.
     Schema,
@@ -62,6 +66,19 @@ impl From<StoreFault> for FileFault {
             StoreFault::Refused => FileFault::Unavailable,
             StoreFault::Memory => FileFault::Memory,
         }
+    }
+}
+
+/// The fault of a database that can't be opened, or of a statement that isn't carried out.
+pub fn fault_of_error(error: Error) -> FileFault
+    ensures { result ≡ fault_of_open error }
+{
+    match error {
+        Error::SqliteFailure(ErrorCode::OutOfMemory) => FileFault::Memory,
+        Error::SqliteFailure(ErrorCode::NotADatabase | ErrorCode::DatabaseCorrupt) => {
+            FileFault::Broken
+        }
+        _ => FileFault::Unavailable,
     }
 }
 

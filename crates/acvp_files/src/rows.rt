@@ -1,20 +1,8 @@
 //! How many rows a database has, whatever its tables are.
-ghost use Rattle.std.specs.Prelude.{◌≡◌};
-ghost use Rattle.acvp_connections.specs.Faults.{fault_of_open};
 
-use acvp_connections::FileFault;
-use sqlite::{Alter, Connection, Error, ErrorCode};
+use acvp_connections::{FileFault, fault_of_error};
+use sqlite::{Alter, Connection};
 use std::alloc::{AllocError, Global};
-
-/// The fault of a statement that isn't carried out.
-pub(crate) fn fault_of_statement(error: Error) -> FileFault
-    ensures { result ≡ fault_of_open error }
-{
-    match error {
-        Error::SqliteFailure(ErrorCode::OutOfMemory) => FileFault::Memory,
-        _ => FileFault::Unavailable,
-    }
-}
 
 /// The statement that counts the rows of a table, whose name is quoted (SQLite's documentation, "SQLite Keywords").
 fn counting(alloc: Global, table: &str) -> Result<String, AllocError> {
@@ -53,11 +41,11 @@ fn counted<S: Alter + Drop>(
 ) -> Result<u64, FileFault> {
     let row = match connection.query_row(statement, &[]) {
         Ok(row) => row,
-        Err(error) => return Err(fault_of_statement(error)),
+        Err(error) => return Err(fault_of_error(error)),
     };
     match row.get(0) {
         Ok(count) => Ok(count),
-        Err(error) => Err(fault_of_statement(error)),
+        Err(error) => Err(fault_of_error(error)),
     }
 }
 

@@ -3,9 +3,9 @@
 use crate::copies::{connection_to_part, merge};
 use crate::parts::Part;
 use crate::progress::RowsCopied;
-use crate::rows::{count_rows, fault_of_statement};
+use crate::rows::count_rows;
 use acvp_causes::{has_sums, name_of};
-use acvp_connections::FileFault;
+use acvp_connections::{FileFault, fault_of_error};
 use acvp_store::create;
 use sqlite::{Alter, Connection, FileStore, Row, Rows, Transaction};
 use sqlite_disk::Disk;
@@ -63,7 +63,7 @@ fn values_of(alloc: Global, row: &Row) -> Result<Vec<ValueRef<'_>>, FileFault> {
     for place in 0..row.column_count() {
         let value = match row.get_ref(place) {
             Ok(value) => value,
-            Err(error) => return Err(fault_of_statement(error)),
+            Err(error) => return Err(fault_of_error(error)),
         };
         if values.push(value).is_err() {
             return Err(FileFault::Memory);
@@ -96,7 +96,7 @@ fn write_row<S: Alter + Drop>(
     let values = values_of(alloc, row)?;
     match batch.execute(write, values.as_slice()) {
         Ok(_) => Ok(bytes_of(values.as_slice())),
-        Err(error) => Err(fault_of_statement(error)),
+        Err(error) => Err(fault_of_error(error)),
     }
 }
 
@@ -116,7 +116,7 @@ fn write_next<S: Alter + Drop, T: Alter + Drop>(
         match rows.next() {
             Ok(Some(row)) => bytes = bytes.saturating_add(write_row(alloc, batch, write, row)?),
             Ok(None) => return Ok((count, false)),
-            Err(error) => return Err(fault_of_statement(error)),
+            Err(error) => return Err(fault_of_error(error)),
         }
     }
     Ok((u64::MAX, true))
@@ -136,7 +136,7 @@ fn copy_next<S: Alter + Drop, T: Alter + Drop>(
     let written = write_next(alloc, rows, &mut batch, write)?;
     match batch.commit() {
         Ok(()) => Ok(written),
-        Err(error) => Err(fault_of_statement(error)),
+        Err(error) => Err(fault_of_error(error)),
     }
 }
 
@@ -150,7 +150,7 @@ fn copy_table<S: Alter + Drop, T: Alter + Drop>(
 ) -> Result<(), FileFault> {
     let mut rows = match from.query(table.read, &[]) {
         Ok(rows) => rows,
-        Err(error) => return Err(fault_of_statement(error)),
+        Err(error) => return Err(fault_of_error(error)),
     };
     for _ in 0..u64::MAX {
         let (count, more) = copy_next(alloc, &mut rows, to, table.write)?;
@@ -177,7 +177,7 @@ fn with_new_tables<S: Alter + Drop>(
 fn take_version_out<S: Alter + Drop>(connection: &mut Connection<S>) -> Result<(), FileFault> {
     match connection.execute("DELETE FROM meta", &[]) {
         Ok(_) => Ok(()),
-        Err(error) => Err(fault_of_statement(error)),
+        Err(error) => Err(fault_of_error(error)),
     }
 }
 

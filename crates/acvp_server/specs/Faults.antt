@@ -7,10 +7,11 @@ use Rattle.acvp_connections.specs.declared.fault.FileFault.TheVariants as files
 use Rattle.acvp_view.specs.declared.fault.ViewFault.{ViewFault}
 use Rattle.acvp_view.specs.declared.fault.ViewFault.TheVariants as view
 
--- each fault of a database's files keeps its name
+-- each fault of a database's files keeps its name, but that a broken one is unavailable
 abbrev pub fault_of_files : FileFault → Fault
 fault_of_files files.Taken = Taken
 fault_of_files files.Unavailable = Unavailable
+fault_of_files files.Broken = Unavailable
 fault_of_files files.Schema = Schema
 fault_of_files files.Memory = Memory
 

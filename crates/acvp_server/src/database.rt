@@ -26,7 +26,7 @@ pub(crate) fn fault_of_files(fault: FileFault) -> Fault
 {
     match fault {
         FileFault::Taken => Fault::Taken,
-        FileFault::Unavailable => Fault::Unavailable,
+        FileFault::Unavailable | FileFault::Broken => Fault::Unavailable,
         FileFault::Schema => Fault::Schema,
         FileFault::Memory => Fault::Memory,
     }

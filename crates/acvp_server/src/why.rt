@@ -9,7 +9,8 @@ use acvp_causes::{
     keys_fault, name_of, secret_fault, text_at, why_unnamed,
 };
 use acvp_commands::{Deed, Fault, Invocation, Look, Making};
-use acvp_files::Step;
+use acvp_connections::FileFault;
+use acvp_files::{Step, schema_of_copy};
 use acvp_gen::Seeds;
 use acvp_keys::{bytes_of, read_keys};
 use acvp_port::has_server;
@@ -83,6 +84,14 @@ fn why_unmade(rt: &HostRuntime, db: &str) -> Cause {
     }
 }
 
+/// Why a database was unavailable of which nothing else can be seen: this, unless a copy of it can't be opened either.
+fn cause_inside(rt: &HostRuntime, path: &str, cause: Cause) -> Cause {
+    match schema_of_copy(rt, path) {
+        Err(FileFault::Broken) => Cause::Broken,
+        _ => cause,
+    }
+}
+
 /// Why a database was unavailable.
 fn why_unavailable(rt: &HostRuntime, db: &str, deed: Deed<'_>) -> Because {
     let is_new = matches!(deed, Deed::Init);
@@ -92,7 +101,7 @@ fn why_unavailable(rt: &HostRuntime, db: &str, deed: Deed<'_>) -> Because {
         }
         Some(because) => because,
         None if is_new && are_there(rt, db) => Because::of("--db", Cause::Tables),
-        None => Because::of("--db", Cause::Store(tables_of(deed))),
+        None => Because::of("--db", cause_inside(rt, db, Cause::Store(tables_of(deed)))),
     }
 }
 
@@ -249,7 +258,7 @@ fn why_at_source(rt: &HostRuntime, option: &'static str, path: &str, step: Step)
     };
     match (seen, step) {
         (Some(because), _) => because,
-        (None, Step::Content) => Because::of(option, Cause::Damaged),
+        (None, Step::Content) => Because::of(option, cause_inside(rt, path, Cause::Damaged)),
         (None, _) => Because::of(option, Cause::Copy),
     }
 }
@@ -283,7 +292,7 @@ fn why_not_shown(rt: &HostRuntime, db: &str, look: Look<'_>, fault: Fault) -> Op
         }
         (_, Fault::Unavailable) => match why_uncopied(rt, "--db", db) {
             Some(because) => Some(because),
-            None => Some(Because::of("--db", Cause::Store(""))),
+            None => Some(Because::of("--db", cause_inside(rt, db, Cause::Store("")))),
         },
         _ => None,
     }
