@@ -417,6 +417,8 @@ def foreign_files(lab):
 
 SERVED = "a server has it, and answers at its socket (-orders)"
 STORE = "the store refused a statement (a full disk, a folder that can't be written to), or met a damaged page or a malformed row"
+BROKEN = ("nothing of it can be read, since a row breaks its table's rules (a type, a reference) or a page is damaged: "
+          "ask sqlite3 for PRAGMA integrity_check and foreign_key_check")
 KEY = "ab" * 32
 
 
@@ -442,6 +444,40 @@ def changed(lab, name, *statements):
     with contextlib.closing(page_sums.connect(path)) as connection, connection:
         for statement in statements:
             connection.execute(statement)
+    return path
+
+
+def loosened(lab, name, table, statement):
+    """A copy of the database in which SQLite has carried a statement out on a table whose types it didn't enforce."""
+    path = lab.path(name)
+    shutil.copy(lab.db, path)
+    for before, after in ((") STRICT", ")"), (None, None), (")", ") STRICT")):
+        with contextlib.closing(page_sums.connect(path)) as connection, connection:
+            if before is None:
+                connection.execute(statement)
+                continue
+            connection.execute("PRAGMA writable_schema = ON")
+            (text,), = connection.execute("SELECT sql FROM sqlite_schema WHERE name = ?", (table,)).fetchall()
+            text = text.removesuffix(before) + after
+            connection.execute("UPDATE sqlite_schema SET sql = ? WHERE name = ?", (text, table))
+    return path
+
+
+def unsummed(lab, name, statement):
+    """A copy of the database in which SQLite has carried a statement out, and left the checksums as they were."""
+    path = lab.path(name)
+    shutil.copy(lab.path("backup.db"), path)
+    with contextlib.closing(sqlite3.connect(path)) as connection, connection:
+        connection.execute(statement)
+    return path
+
+
+def encoded(lab, name):
+    """The rows of the database in a file of SQLite whose texts are in UTF-16."""
+    path = lab.path(name)
+    with contextlib.closing(sqlite3.connect(path)) as connection, connection:
+        connection.execute("PRAGMA encoding = 'UTF-16le'")
+        connection.execute("CREATE TABLE account (account INTEGER PRIMARY KEY)")
     return path
 
 
@@ -550,9 +586,23 @@ def why_a_database_is_unavailable(lab):
     lab.write(lab.path("cut.db"), whole[:20000])
     because(lab, "unavailable", f"--from: {cut}", *restore(lab, "cut.db"))
     lab.write(lab.path("spoilt.db"), whole[:4096] + bytes(len(whole) - 4096))
-    because(lab, "unavailable", f"--db: {STORE} of account", *disable(lab.path("spoilt.db")), stays=False)
+    because(lab, "unavailable", f"--db: {BROKEN}", *disable(lab.path("spoilt.db")), stays=False)
     stray = changed(lab, "stray.db", "UPDATE account SET secret = X'00'")
     because(lab, "unavailable", f"--db: {STORE} of account", *disable(stray), stays=False)
+    # nothing of it is read: a type that a column doesn't have, and a reference to a row that isn't there
+    for name, path in (("type", loosened(lab, "type.db", "account", "UPDATE account SET enabled = 'x'")),
+                       ("reference", changed(lab, "reference.db", "INSERT INTO session VALUES (5000001, 5, 0, 0, 0, NULL, 1, 0)"))):
+        for command in (disable(path), ["accounts", "--db", path], ["requests", "--db", path], serving(lab, path),
+                        ["check", "--db", path, "--keys", lab.keys], backup(lab, "b.db", path)):
+            because(lab, "unavailable", f"--db: {BROKEN}", *command, what=f"of a file with a wrong {name}", stays=False)
+        because(lab, "unavailable", f"--from: {BROKEN}", *restore(lab, f"{name}.db"), stays=False)
+    # a bit of a page that has a checksum; a write without checksums; an encoding that isn't read
+    bytes_there = bytearray(bytes_of(lab.path("backup.db")))
+    bytes_there[4096 + 2000] ^= 1
+    for name, path in (("bit", lab.write(lab.path("bit.db"), bytes(bytes_there))),
+                       ("write", unsummed(lab, "unsummed.db", "UPDATE account SET enabled = 0")),
+                       ("encoding", encoded(lab, "encoded.db"))):
+        because(lab, "unavailable", f"--db: {BROKEN}", *disable(path), what=f"of a file with a wrong {name}", stays=False)
     # a statement that the system refuses
     full = {"preexec_fn": lambda: resource.setrlimit(resource.RLIMIT_FSIZE, (1000, 1000)), "restore_signals": False}
     because(lab, "unavailable", f"--db: {STORE} of account", *disable(lab.db), what="on a full disk",

@@ -176,8 +176,10 @@ def reviewers():
 
 
 def certifications():
-    """Certifications that aren't rejected, of sessions of which they aren't the last request, or that may not be certified."""
-    for session, request in ((CERTIFIED, 7000005), (WAITING, 7000007)):
+    """Certifications that aren't the last request of their session, nor rejected earlier ones, or of sessions that may not
+    be certified."""
+    # the second one was asked for twice
+    for session, request in ((CERTIFIED, 7000005), (WAITING, 7000006)):
         yield [update("session", "certify", None, session=session)], f"request {request} notLast"
         for column in ("cancelled", "sample"):
             yield [update("session", column, 1, session=session)], f"session {session} notCertifiable"
@@ -187,13 +189,21 @@ def certifications():
     yield [update("request", "status", 0, request=7000006)], "request 7000006 notLast"
     yield ([update("request", "status", 1, request=7000006), update("request", "approved", WAITING, request=7000006)],
            "request 7000006 notLast")
+    # the last one rejected, and the earlier one named in its place
+    rejected = [update("request", "status", 2, request=7000007), update("session", "certify", 7000006, session=WAITING)]
+    for status, approved in ((0, None), (1, WAITING), (2, None)):
+        yield ([*rejected, update("request", "status", status, request=7000006),
+                update("request", "approved", approved, request=7000006)], "request 7000007 notLast")
+    yield ([update("request", "status", 2, request=7000007), update("session", "certify", None, session=WAITING)],
+           "request 7000006 notLast")
     unanswered = [update("vset2", column, None, vs=CERTIFIED * 100 + 2) for column in ("answers", "verdicts", "disposition")]
     yield [*unanswered, update("session", "passed", 1, session=CERTIFIED)], f"session {CERTIFIED} notCertifiable"
     body = f'{{"moduleUrl":"/acvp/v1/modules/7000001","oeUrl":"/acvp/v1/oes/7000001","session":{SAMPLE}}}'
-    for status, approved in ((0, None), (1, SAMPLE)):
+    for status, approved in ((0, None), (1, SAMPLE), (2, None)):
         asked = insert("request", 7000012, 7, rows.CERTIFICATION, body, status, approved)
         yield [asked], "request 7000012 notLast"
-        yield [asked, update("session", "certify", 7000012, session=SAMPLE)], f"session {SAMPLE} notCertifiable"
+        if status != 2:
+            yield [asked, update("session", "certify", 7000012, session=SAMPLE)], f"session {SAMPLE} notCertifiable"
 
 
 def registrations():
@@ -273,6 +283,24 @@ def verdicts(connection):
         yield [update("vset2", "verdicts", other, vs=passed)], f"set {passed} verdicts"
 
 
+def foreign_answers(connection):
+    """Answers to tests that the vector set doesn't have: the tests of one are numbered from 1 on."""
+    for number in (OPEN * 100 + 1, OPEN * 100 + 2, CERTIFIED * 100 + 1):
+        (answers, verdicts_on), = connection.execute("SELECT answers, verdicts FROM vset2 WHERE vs = ?", (number,))
+        last = max(json.loads(answers))[0]
+        expect(f"the answers to vector set {number} are to its tests", last <= len(verdicts_on), True)
+        for test in (len(verdicts_on) + 1, 2**64 - 1):
+            yield ([update("vset2", "answers", f'{answers[:-1]},[{test},["00"]]]', vs=number)], f"set {number} answers")
+        yield [update("vset2", "answers", f'[[0,["00"]],{answers[1:]}', vs=number)], f"set {number} answers"
+    # the verdicts are told first, and the vector sets come in order
+    first, second = OPEN * 100 + 1, CERTIFIED * 100 + 1
+    more = [("UPDATE vset2 SET answers = '[[0,[\"00\"]],' || substr(answers, 2) WHERE vs = ?", (number,))
+            for number in (first, second)]
+    yield more, f"set {min(first, second)} answers"
+    (right,), = connection.execute("SELECT verdicts FROM vset2 WHERE vs = ?", (first,))
+    yield [more[0], update("vset2", "verdicts", right + "p", vs=first)], f"set {first} verdicts"
+
+
 # ---- what is shown
 
 
@@ -334,14 +362,14 @@ def damage(lab, whole, statements, name):
 
 
 def each_damage(lab, whole):
-    """Each in turn, as many side by side as there are processors. All but those of verdicts are found without the
-    verdicts, too: every other one is looked at so, and every third is told as JSON."""
+    """Each in turn, as many side by side as there are processors. All but those of verdicts and answers are found without
+    the verdicts, too: every other one is looked at so, and every third is told as JSON."""
     connection = rows.opened(whole)
     found = [each for group in GROUPS for each in group()]
     cases = [(statements, wrong_as(line) if place % 3 else wrong_as_json(line),
               (("--grades", "no") if place % 2 else ()) + (() if place % 3 else ("--json",))) for place, (statements, line)
              in enumerate(found)]
-    for statements, line in verdicts(connection):
+    for statements, line in (*verdicts(connection), *foreign_answers(connection)):
         cases.append((statements, wrong_as(line), ()))
         cases.append((statements, None, ("--grades", "no")))
     connection.close()
@@ -357,7 +385,7 @@ def each_damage(lab, whole):
     with concurrent.futures.ThreadPoolExecutor(os.cpu_count()) as pool:
         for place, (told, wanted) in enumerate(pool.map(outcome, range(len(cases)))):
             expect(f"check {cases[place][2]} after {cases[place][0]}", told, wanted)
-    print(f"{len(found)} damages of rows, {len(cases) - len(found)} looks at verdicts")
+    print(f"{len(found)} damages of rows, {len(cases) - len(found)} looks at verdicts and answers")
 
 
 def two_seeds(lab):
