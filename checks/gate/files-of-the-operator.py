@@ -417,8 +417,8 @@ def foreign_files(lab):
 
 SERVED = "a server has it, and answers at its socket (-orders)"
 STORE = "the store refused a statement (a full disk, a folder that can't be written to), or met a damaged page or a malformed row"
-BROKEN = ("nothing of it can be read, since a row breaks its table's rules (a type, a reference) or a page is damaged: "
-          "ask sqlite3 for PRAGMA integrity_check and foreign_key_check")
+BROKEN = ("nothing of it can be read: another program made or changed it, a row breaks its table's rules (a type, a reference), "
+          "or a page is damaged; restore the last backup that check calls whole")
 KEY = "ab" * 32
 
 

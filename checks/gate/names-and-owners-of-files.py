@@ -343,8 +343,8 @@ def blamed(lab):
     damaged = lab.path("damaged.db")
     whole = bytes_of(lab.path("kept.db"))
     lab.write(damaged, whole[:-40] + bytes(byte ^ 255 for byte in whole[-40:]))
-    page = ("nothing of it can be read, since a row breaks its table's rules (a type, a reference) or a page is damaged: "
-            "ask sqlite3 for PRAGMA integrity_check and foreign_key_check")
+    page = ("nothing of it can be read: another program made or changed it, a row breaks its table's rules (a type, a reference), "
+            "or a page is damaged; restore the last backup that check calls whole")
     refused(lab, f"--db: {page}", "backup", "--db", damaged, "--to", lab.path("b.db"))
     refused(lab, f"--from: {page}", "restore", "--from", damaged, "--db", lab.db)
     refused(lab, "--db: the copy is whole, and can't be put there", "restore", "--from", lab.path("kept.db"), "--db", damaged)

@@ -93,7 +93,8 @@ pub enum Cause {
     /// What was copied is damaged.
     Damaged,
 
-    /// The store opens nothing of it: its rows or pages break the rules of its own tables.
+    /// The store opens nothing of it: another program made or changed it, its rows break the rules of its tables, or a
+    /// page of it is damaged.
     Broken,
 
     /// The copy is whole, and can't be put in its place.
@@ -219,8 +220,8 @@ impl fmt::Display for Cause {
                 "it can't be copied: reading it, or writing the copy, fails (a full disk)",
             Cause::Damaged => "a page of it is damaged, or it can't be opened",
             Cause::Broken => {
-                "nothing of it can be read, since a row breaks its table's rules (a type, a reference) or a page is \
-                 damaged: ask sqlite3 for PRAGMA integrity_check and foreign_key_check"
+                "nothing of it can be read: another program made or changed it, a row breaks its table's rules (a \
+                 type, a reference), or a page is damaged; restore the last backup that check calls whole"
             }
             Cause::Unplaced => "the copy is whole, and can't be put there",
             Cause::Good => "it can be read now",

@@ -18,8 +18,8 @@ use Rattle.acvp_connections.specs.declared.connection.Unopened.TheVariants.{Fail
 use Rattle.acvp_connections.specs.declared.fault.FileFault.{FileFault}
 use Rattle.acvp_connections.specs.declared.fault.FileFault.TheVariants.{Broken, Memory, Schema, Unavailable}
 
--- a database whose rows or pages aren't those of its tables is broken; one that can't be opened, for whatever else, is
--- unavailable
+-- a database whose form the store doesn't read, or whose rows or pages aren't those of its tables, is broken; one that
+-- can't be opened, for whatever else, is unavailable
 abbrev pub fault_of_open : Error → FileFault
 fault_of_open (SqliteFailure OutOfMemory) = Memory
 fault_of_open (SqliteFailure NotADatabase) = Broken

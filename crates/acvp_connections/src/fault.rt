@@ -19,7 +19,8 @@ pub enum FileFault {
     /// The database, or a file beside it, isn't there or can't be had, or isn't one.
     Unavailable,
 
-    /// Nothing of the database can be read: its rows or pages break the rules of its own tables.
+    /// Nothing of the database can be read: another program made or changed it, its rows break the rules of its tables,
+    /// or a page of it is damaged.
     Broken,
 
     /// Its tables aren't those of this version.
