@@ -7,6 +7,7 @@ pub mod NextSession
 pub mod NextRequest
 pub mod AnswerParts
 pub mod ServeExits
+pub mod NamedLemmas
 pub mod OrderExits
 pub mod DecidedRequest
 pub mod ApprovedRequest

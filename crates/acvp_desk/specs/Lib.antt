@@ -12,6 +12,7 @@ pub mod Asked
 pub mod Replies
 pub mod OwnConditions
 pub mod Answer
+pub mod Named
 pub mod Kept
 pub mod Registrations
 pub mod Epochs

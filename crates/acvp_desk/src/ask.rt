@@ -7,7 +7,8 @@ ghost use Rattle.acvp_desk.specs.Request.{request_value};
 ghost use Rattle.acvp_desk.specs.Bodies.{rule_of, body_conditions};
 ghost use Rattle.acvp_desk.specs.Wish.{token_at};
 ghost use Rattle.acvp_desk.specs.Login.{login_ask_at, password_of, user_of, renewal_of};
-ghost use Rattle.acvp_desk.specs.Answer.{asker_of, first_conditions, action_of, end_of_moments};
+ghost use Rattle.acvp_desk.specs.Answer.{asker_of, first_conditions, action_of, end_of_moments, who};
+ghost use Rattle.acvp_desk.specs.Named.{verified_account};
 ghost use Rattle.acvp_desk.specs.Desk.{keys_of};
 
 use crate::body::login_body;
@@ -49,6 +50,26 @@ impl Asker {
         match self {
             Asker::Login(_) => Action::Login,
             Asker::Caller(caller) => caller.wish.action(),
+        }
+    }
+
+    /// The account of a caller's claims, which were verified. A login's isn't known before its code is.
+    pub fn verified_account(self) -> Option<u16>
+        ensures { result ≡ verified_account self }
+    {
+        match self {
+            Asker::Login(_) => None,
+            Asker::Caller(caller) => caller.account(),
+        }
+    }
+
+    /// The account that is looked up: the login's user, or that of a caller's claims.
+    pub fn who(self) -> Option<u16>
+        ensures { result ≡ who self }
+    {
+        match self {
+            Asker::Login(login) => login.user,
+            Asker::Caller(caller) => caller.account(),
         }
     }
 }

@@ -7,6 +7,7 @@ ghost use Rattle.acvp_desk.specs.Approvals.{IsExcused, IsSoundApproval};
 ghost use Rattle.acvp_desk.specs.Request.{request_value};
 ghost use Rattle.acvp_desk.specs.Desk.{HasSeeds, tables_of};
 ghost use Rattle.acvp_desk.specs.Isolation.{IsOrderedApart, IsServedApart, IsToldBySeen};
+ghost use Rattle.acvp_desk.specs.Named.{IsNamed};
 ghost use Rattle.acvp_desk.specs.Orders.{IsOrder, Orders};
 ghost use Rattle.acvp_desk.specs.Serves.{Looks, Serves, result_of, IfDenied};
 
@@ -18,7 +19,7 @@ use crate::keys::Keys;
 use crate::laws::effects_follow;
 use crate::order::{Order, OrderReply, order_on};
 use crate::request::TypedRequest;
-use crate::serve::{Served, serve};
+use crate::serve::{Ended, Served, serve};
 use acvp_policy::Rule;
 use acvp_tables::{StoreFault, Tables};
 use acvp_token::KeyRing;
@@ -35,11 +36,13 @@ pub enum DeskReply {
     Denied(Rule),
 }
 
-/// A reply, and whether a change was made of the records.
+/// A reply, whether a change was made of the records, and the account that asked, as far as it is known: a login's if
+/// it succeeds, and that of a token's claims if these were verified.
 #[derive(Drop)]
 pub struct Outcome {
     pub reply: DeskReply,
     pub changed: bool,
+    pub account: Option<u16>,
 }
 
 /// The keys of a server, the cache of what was computed last of vector sets, and the records.
@@ -138,6 +141,8 @@ impl<T: Tables> Desk<T> {
         ensures served { Serves T.meaning (result_of result.reply result.changed) self.old.tables self.new.tables
             self.old.keys moment (request_value request.now) }
         ensures denied { IfDenied result.reply (result.changed ≡ false) }
+        ensures named { IsNamed (result_of result.reply result.changed) self.old.tables self.new.tables self.old.keys
+            moment (request_value request.now) result.account }
         ensures apart { IsServedApart T.meaning result.reply self.old.tables self.new.tables self.old.keys moment
             (request_value request.now) }
         ensures seen { IsToldBySeen T.meaning result.reply self.old.tables self.new.tables self.old.keys moment
@@ -147,21 +152,24 @@ impl<T: Tables> Desk<T> {
         nobody_is_answered_alike();
         requests_are_apart();
         seen_rows_answer();
-        match serve(
+        let Ended { result, account } = serve(
             self.alloc,
             &self.ring,
             &mut self.cache,
             &mut self.tables,
             moment,
             request,
-        ) {
+        );
+        match result {
             Ok(Served { reply, changed }) => Outcome {
                 reply: DeskReply::Given(reply),
                 changed,
+                account,
             },
             Err(rule) => Outcome {
                 reply: DeskReply::Denied(rule),
                 changed: false,
+                account,
             },
         }
     }

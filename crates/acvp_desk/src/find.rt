@@ -46,19 +46,6 @@ use std::alloc::{AllocError, Global};
 /// The number of a vector set is its session's and two digits.
 const SETS_OF_A_SESSION: u64 = 100;
 
-/// The number of the account that acts, where there is one.
-fn who(ask: &Asker) -> Option<u16>
-    ensures { result ≡ who ask.now }
-{
-    match ask {
-        Asker::Login(login) => login.user,
-        Asker::Caller(caller) => match caller.token {
-            Token::Verified(claims) => Some(claims.account),
-            _ => None,
-        },
-    }
-}
-
 /// The number of the account that acts; 0 where the token names none.
 pub(crate) fn acting(token: &Token) -> u16
     ensures { result ≡ account_of_claims (claims_of token.now) }
@@ -679,7 +666,7 @@ pub(crate) fn find<T: Tables>(
         → first_broken (policy_conditions moment (found_of seeds body.now ask.now (state_of c))) ≡ Some rule))) }
     ensures looks { Looks T.meaning result tables.old tables.new }
 {
-    let Ok(account) = account(tables, who(ask)) else {
+    let Ok(account) = account(tables, ask.who()) else {
         return Err(Rule::Unavailable);
     };
     let Ok(reviewer) = reviewer(tables, ask) else {

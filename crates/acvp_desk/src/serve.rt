@@ -5,6 +5,7 @@ ghost use Rattle.acvp_mac.specs.Conditions.{first_broken};
 ghost use Rattle.acvp_desk.specs.Answer.{action_in, change_of, end_of_moments, later_conditions};
 ghost use Rattle.acvp_desk.specs.Answer.{reply_of, IsReply};
 ghost use Rattle.acvp_desk.specs.Desk.{keys_of};
+ghost use Rattle.acvp_desk.specs.Named.{IsNamed};
 ghost use Rattle.acvp_desk.specs.Private.Admitted.{IsAdmitted};
 ghost use Rattle.acvp_desk.specs.Request.{request_value};
 ghost use Rattle.acvp_desk.specs.Serves.{Serves};
@@ -77,6 +78,13 @@ pub(crate) struct Served {
     pub changed: bool,
 }
 
+/// What serving a request came to, and the account that asked, as far as it is known.
+#[derive(Drop)]
+pub(crate) struct Ended {
+    pub result: Result<Served, Rule>,
+    pub account: Option<u16>,
+}
+
 /// Serves a request.
 pub(crate) fn serve<T: Tables>(
     alloc: Global,
@@ -85,19 +93,31 @@ pub(crate) fn serve<T: Tables>(
     tables: &mut T,
     moment: u64,
     request: &TypedRequest<'_>,
-) -> Result<Served, Rule>
-    ensures served { Serves T.meaning result tables.old tables.new (keys_of ring.now cache.old.seeds) moment
+) -> Ended
+    ensures served { Serves T.meaning result.result tables.old tables.new (keys_of ring.now cache.old.seeds) moment
         (request_value request.now) }
+    ensures named { IsNamed result.result tables.old tables.new (keys_of ring.now cache.old.seeds) moment
+        (request_value request.now) result.account }
     ensures seeds { cache.new.seeds ≡ cache.old.seeds }
 {
     records_are_kept();
     let ask = match asker_for(alloc, ring, moment, request) {
         Ok(ask) => ask,
-        Err(rule) => return Err(rule),
+        Err(rule) => {
+            return Ended {
+                result: Err(rule),
+                account: None,
+            };
+        }
     };
     let found = match find(alloc, tables, moment, request.body, &ask) {
         Ok(found) => found,
-        Err(rule) => return Err(rule),
+        Err(rule) => {
+            return Ended {
+                result: Err(rule),
+                account: ask.verified_account(),
+            };
+        }
     };
     let action = ask.action();
     let Allowed { grant, draft } = match plan(
@@ -110,23 +130,37 @@ pub(crate) fn serve<T: Tables>(
         found,
     ) {
         Ok(allowed) => allowed,
-        Err(rule) => return Err(rule),
+        Err(rule) => {
+            return Ended {
+                result: Err(rule),
+                account: ask.verified_account(),
+            };
+        }
     };
     let Draft { reply, change } = draft;
     match change {
         None => {
             release(grant);
-            Ok(Served {
-                reply,
-                changed: false,
-            })
+            Ended {
+                result: Ok(Served {
+                    reply,
+                    changed: false,
+                }),
+                account: ask.who(),
+            }
         }
         Some(change) => match tables.apply(grant, &change) {
-            Ok(()) => Ok(Served {
-                reply,
-                changed: true,
-            }),
-            Err(_) => Err(Rule::Unavailable),
+            Ok(()) => Ended {
+                result: Ok(Served {
+                    reply,
+                    changed: true,
+                }),
+                account: ask.who(),
+            },
+            Err(_) => Ended {
+                result: Err(Rule::Unavailable),
+                account: ask.verified_account(),
+            },
         },
     }
 }

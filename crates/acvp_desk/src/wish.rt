@@ -1,6 +1,7 @@
 //! What a caller with a token asks.
 
-ghost use Rattle.std.specs.Prelude.{◌≡◌};
+ghost use Rattle.std.specs.Prelude.{◌≡◌, option_map};
+ghost use Rattle.acvp_policy.specs.Conditions.{claims_of};
 ghost use Rattle.acvp_desk.specs.Registries.{kind_of, list_action, new_action, read_action, action_on_registry};
 ghost use Rattle.acvp_desk.specs.Wish.{action_of_wish};
 
@@ -107,6 +108,18 @@ pub enum Wish {
 pub(crate) struct CallerAsk {
     pub token: Token,
     pub wish: Wish,
+}
+
+impl CallerAsk {
+    /// The account of its token's claims, where these were verified.
+    pub fn account(self) -> Option<u16>
+        ensures { result ≡ option_map (λ claims. claims.account) (claims_of self.token) }
+    {
+        match self.token {
+            Token::Verified(claims) => Some(claims.account),
+            _ => None,
+        }
+    }
 }
 
 impl Registry {

@@ -1,7 +1,8 @@
-use Rattle.std.proofs.Common.{sym, ◌∙◌}
+use Rattle.std.proofs.Common.{inl, sym, ◌∙◌}
 use Rattle.acvp_desk.specs.Desk.{keys_of}
 use Rattle.acvp_desk.specs.Request.{request_value}
 use Rattle.acvp_desk.proofs.ServeExits.{refused_at_once, refused_caller, refused, given_read, given_changed, failed}
+use Rattle.acvp_desk.proofs.NamedLemmas.{named_first, named_given, named_known}
 use Rattle.acvp_desk.proofs.serve.serve.Goals as goal
 
 pub returns-in-Err-clause-served : goal.returns-in-Err-clause-served
@@ -74,3 +75,33 @@ returns-in-Err-apply-clause-served g c =
     (sym c.in-Some.is ∙ c.in-Ok-plan.ensures.change) c.in-Ok-find.ensures.open c.in-Ok-find.ensures.named
     c.apply.new.self
     g.T.Tables.faults _ c.in-Err-apply.ensures
+
+pub returns-in-Err-clause-named : goal.returns-in-Err-clause-named
+returns-in-Err-clause-named g c =
+    named_first (keys_of c.args.ring.now c.args.cache.now.seeds) c.args.moment
+    (request_value c.args.request.now) c.args.tables.now c.in-Err.rule c.in-Err.ensures.err
+
+pub returns-in-Err-find-clause-named : goal.returns-in-Err-find-clause-named
+returns-in-Err-find-clause-named g c =
+    inl (c.verified_account.ensures ∙ named_known (keys_of c.args.ring.now c.args.cache.now.seeds) c.args.moment
+    (request_value c.args.request.now) c.in-Ok.ask (c.in-Ok.ensures.ok.1 c.args.cache.now.seeds))
+
+pub returns-in-Err-plan-clause-named : goal.returns-in-Err-plan-clause-named
+returns-in-Err-plan-clause-named g c =
+    inl (c.verified_account-in-Err-plan.ensures ∙ named_known (keys_of c.args.ring.now c.args.cache.now.seeds) c.args.moment
+    (request_value c.args.request.now) c.in-Ok.ask (c.in-Ok.ensures.ok.1 c.args.cache.now.seeds))
+
+pub returns-in-Err-apply-clause-named : goal.returns-in-Err-apply-clause-named
+returns-in-Err-apply-clause-named g c =
+    inl (c.verified_account-in-Err-apply.ensures ∙ named_known (keys_of c.args.ring.now c.args.cache.now.seeds) c.args.moment
+    (request_value c.args.request.now) c.in-Ok.ask (c.in-Ok.ensures.ok.1 c.args.cache.now.seeds))
+
+pub returns-in-None-clause-named : goal.returns-in-None-clause-named
+returns-in-None-clause-named g c =
+    c.who.ensures ∙ named_given (keys_of c.args.ring.now c.args.cache.now.seeds) c.args.moment
+    (request_value c.args.request.now) c.in-Ok.ask (c.in-Ok.ensures.ok.1 c.args.cache.now.seeds) c.in-Ok.ensures.ok.0
+
+pub returns-in-Ok-apply-clause-named : goal.returns-in-Ok-apply-clause-named
+returns-in-Ok-apply-clause-named g c =
+    c.who-in-Ok-apply.ensures ∙ named_given (keys_of c.args.ring.now c.args.cache.now.seeds) c.args.moment
+    (request_value c.args.request.now) c.in-Ok.ask (c.in-Ok.ensures.ok.1 c.args.cache.now.seeds) c.in-Ok.ensures.ok.0
