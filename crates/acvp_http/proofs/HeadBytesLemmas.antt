@@ -27,11 +27,11 @@ head_stops a b c text n fault limit taken long low first (stops, (more, took, fe
   ),
 )
 
--- and of a body
-pub body_stops : (a b c : InputStream) (part : List ℕ) (n wanted : ℕ) (fault : ReceiveFault) (limit : ℕ)
-    → Gives a b part → length part ≡ n → n < wanted
-    → StopsReceiving fault c limit × TakesFew 1 b c → StopsReceiving fault c limit × TakesFew wanted a c
-body_stops a b c part n wanted fault limit taken long low (stops, (more, took, few)) = (
+-- what was taken of a body before the stop, and then as many bytes at most as were left to take
+pub body_stops : (a b c : InputStream) (part : List ℕ) (left wanted : ℕ) (fault : ReceiveFault) (limit : ℕ)
+    → Gives a b part → length part + left ≡ wanted
+    → StopsReceiving fault c limit × TakesFew left b c → StopsReceiving fault c limit × TakesFew wanted a c
+body_stops a b c part left wanted fault limit taken all (stops, (more, took, few)) = (
   stops,
   (
     part ++ more,

@@ -20,7 +20,11 @@ const LONGEST_LINE: usize = 101;
 
 /// Reads some bytes, which are none only at the end or where there is no room. A read that is interrupted is tried
 /// again, until the reader was read as often as it may be.
-fn read_some<S: Source>(reader: &mut S, limit: u64, buf: &mut [u8]) -> Result<usize, ReadFault>
+pub(crate) fn read_some<S: Source>(
+    reader: &mut S,
+    limit: u64,
+    buf: &mut [u8],
+) -> Result<usize, ReadFault>
     requires { (S.stream reader.old).failed ≡ false }
     ensures { MatchResult result
         (λ count. (count ≤ length buf.new) × ((S.stream reader.new).failed ≡ false)

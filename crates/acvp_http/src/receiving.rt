@@ -6,13 +6,16 @@ ghost use Rattle.acvp_http.specs.Source.{Gives};
 ghost use Rattle.acvp_http.specs.Connection.{TakesWithin};
 ghost use Rattle.acvp_http.specs.declared.receiving.ReceiveFault.TheVariants.{Read};
 ghost use Rattle.acvp_http.specs.Private.Receiving.{TakesFew, TakesOfHead, StopsReceiving, TakesByte, IsHeadTaken};
-ghost use Rattle.acvp_http.specs.Private.Receiving.{IsBodyTaken};
+ghost use Rattle.acvp_http.specs.Private.Receiving.{TakesPiece, IsBodyTaken};
 
 use crate::head::{HEAD_BYTES, Head, ends_with_empty_line, headless, parse_block};
-use crate::reading::read_byte;
+use crate::reading::{read_byte, read_some};
 use crate::source::{ReadFault, Source};
 use acvp_policy::Rule;
 use std::alloc::Global;
+
+/// As many bytes of a body as are asked of the reader at once.
+const PIECE_BYTES: usize = 8192;
 
 /// Why a request isn't received.
 #[derive(Clone, Copy)]
@@ -74,6 +77,30 @@ fn read_head<S: Source>(alloc: Global, reader: &mut S, limit: u64) -> Result<Vec
     Ok(bytes)
 }
 
+/// Takes some of the bytes that are wanted, as many as a read gives, and says how many. They are none only at the end,
+/// or where none is wanted.
+fn take_piece<S: Source>(
+    reader: &mut S,
+    limit: u64,
+    wanted: usize,
+    bytes: &mut Vec<u8>,
+) -> Result<usize, ReceiveFault>
+    requires { (S.stream reader.old).failed ≡ false }
+    ensures { MatchResult result
+        (λ count. ((S.stream reader.new).failed ≡ false)
+        × TakesPiece wanted count (S.stream reader.old) (S.stream reader.new) bytes.old.items bytes.new.items)
+        (λ fault. StopsReceiving fault (S.stream reader.new) limit
+        × TakesFew wanted (S.stream reader.old) (S.stream reader.new)) }
+{
+    let mut piece = [0; PIECE_BYTES];
+    let room = wanted.min(PIECE_BYTES);
+    let count = read_some(reader, limit, &mut piece[..room])?;
+    match bytes.extend_from_slice(&piece[..count]) {
+        Ok(()) => Ok(count),
+        Err(_) => Err(ReceiveFault::Memory),
+    }
+}
+
 /// Takes so many bytes more, or as many as there are.
 fn read_body<S: Source>(
     reader: &mut S,
@@ -88,9 +115,11 @@ fn read_body<S: Source>(
         (λ fault. StopsReceiving fault (S.stream reader.new) limit
         × TakesFew wanted (S.stream reader.old) (S.stream reader.new)) }
 {
-    for _ in 0..wanted {
-        if !take_byte(reader, limit, bytes)? {
-            return Ok(());
+    let mut left = wanted;
+    while left > 0 {
+        match take_piece(reader, limit, left, bytes)? {
+            0 => return Ok(()),
+            count => left -= count,
         }
     }
     Ok(())

@@ -33,6 +33,12 @@ TakesByte more old new before after = MatchBool more
     ((byte : ℕ) × (after ≡ before ++ byte ∷ []) × Gives old new (byte ∷ []))
     ((after ≡ before) × Gives old new [] × IsAtEnd new.held)
 
+-- so many more bytes were taken, and no more than wanted; none only at the end, or where none is wanted
+abbrev pub TakesPiece : ℕ → ℕ → InputStream → InputStream → List ℕ → List ℕ → Type 0
+TakesPiece wanted count old new before after =
+    (part : List ℕ) × (after ≡ before ++ part) × Gives old new part × (length part ≡ count) × (count ≤ wanted)
+    × (count ≡ 0 → 0 < wanted → IsAtEnd new.held)
+
 -- The text is the block of a head, or there is no empty line in it and no more of it is to be taken; so much is left.
 pub record IsHeadTaken (left : Option (List ℕ)) (text : List ℕ) : Type 0 where
   pub few : length text ≤ head_limit
