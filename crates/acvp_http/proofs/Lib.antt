@@ -30,6 +30,8 @@ pub mod NeededLemmas
 pub mod HeadBytesLemmas
 pub mod HeadlineLemmas
 pub mod Isolated
+pub mod Denied
+pub mod ToldLemmas
 pub mod PromiseLemmas
 pub mod AnsweredApart
 pub mod OneRun

@@ -75,6 +75,11 @@ abbrev pub DeniedAlike : Type 0
 DeniedAlike = (keys : Keys) (moment : ℕ) (bytes reply : List ℕ) (one other : State) → HaveSameCallers one other
     → IsDeniedToCaller keys moment bytes one reply → IsDeniedToCaller keys moment bytes other reply
 
+-- Such a denial is how the request is served over these records: they stay, and this is its reply.
+abbrev pub DenialsAreServed : Type 0
+DenialsAreServed = (keys : Keys) (moment : ℕ) (bytes reply : List ℕ) (c : Content)
+    → IsDeniedToCaller keys moment bytes (state_of c) reply → ServesRequest keys moment bytes c c reply
+
 -- ---- the turns of some accounts alone
 
 abbrev pub is_order : Event → Bool
@@ -130,7 +135,7 @@ pub record LetsSee (keys : Keys) (u : ℕ) (these : ℕ → Bool) (state : State
   pub asked : All (λ turn. turn.unavailable ≡ false → AsksWithin keys u these turn.event) turns
 
 -- Records from which a run of these accounts alone may begin: kept, with the same rows of each of these accounts as the
--- others, and no other account has u as a reviewer there. So are the same records, without what others left in them, too.
+-- others, and no account but these has u as a reviewer there.
 pub record AreTheirs (keys : Keys) (u : ℕ) (these : ℕ → Bool) (old begun : Content) : Type 0 where
   pub kept : IsKept keys.seed begun
   pub owned : (w : ℕ) → these w ≡ true → own w (state_of old) ≡ own w (state_of begun)

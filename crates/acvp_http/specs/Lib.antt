@@ -15,6 +15,7 @@ pub mod Isolation
 pub mod Promise
 pub mod Needed
 pub mod Connection
+pub mod Told
 pub mod Private
 pub use Rattle.acvp_policy.specs.Rule
 pub use Rattle.acvp_desk.specs.Request

@@ -21,9 +21,10 @@ mod source;
 mod target;
 mod text;
 mod token;
+mod told;
 mod writing;
 
-pub use connection::{ServeFault, serve_one};
+pub use connection::{Ended, ServeFault, serve_one};
 pub use framing::BODY_BYTES;
 pub use head::HEAD_BYTES;
 pub use life::{lives_leave_records, orders_are_turns, runs_are_promised};
@@ -37,3 +38,4 @@ pub use running::{handle_order, run, turns_are_promised, turns_leave, turns_make
 pub use script::{ScriptFault, order_in};
 pub use serve::{events_are_served_one_way, handle_bytes};
 pub use source::{Flagged, Sink, Source};
+pub use told::Told;

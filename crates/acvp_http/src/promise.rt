@@ -1,6 +1,7 @@
 //! The promise of the server, in one place.
 ghost use Rattle.acvp_http.specs.Headline.{Headline, HeadlineLeft};
-ghost use Rattle.acvp_http.specs.Isolation.{DeniedAlike, Isolation, IsolationAlone, RequestIsolation};
+ghost use Rattle.acvp_http.specs.Isolation.{DenialsAreServed, DeniedAlike, Isolation, IsolationAlone};
+ghost use Rattle.acvp_http.specs.Isolation.{RequestIsolation};
 
 use acvp_desk::{
     accepted_requests_are_told, callers_are_denied_alike, changes_are_of_who_asks, effects_follow,
@@ -25,9 +26,10 @@ pub fn headline()
 
 /// Isolation. What an account is told over a whole run is what it is told where nobody acts but the operator, the
 /// account itself, and those that have it as a reviewer or ask to add it as one: its replies are byte for byte those of
-/// the run of their turns alone, from the same records or from any in which they have the same, and there is one such
-/// run. So what others left in a file before doesn't matter. An account that no other has as a reviewer, or asks to add
-/// as one, is told what it is told where the operator and it alone act.
+/// the run of their turns alone, from the same records, or from any consistent ones in which these accounts have the
+/// same and no other has it as a reviewer, and there is one such run. So what others left in a file before doesn't
+/// matter. An account that no other has as a reviewer, or asks to add as one, is told what it is told where the operator
+/// and it alone act.
 ///
 /// Events that were unavailable count for neither run.
 pub fn isolation()
@@ -58,11 +60,13 @@ pub fn request_isolation()
     seen_rows_answer();
 }
 
-/// Denials. A request that is denied since its token, the account of its claims or the session of its path doesn't do
-/// is denied byte for byte so over all records with the same accounts and reviewers, whatever sessions, vector sets and
-/// other rows are in them; and one that isn't denied so over some of them is denied so over none.
+/// Denials. A request that is refused for its token, for the account of its claims or for the session of its path is
+/// refused in the same bytes over all records with the same accounts and reviewers, whatever sessions, vector sets and
+/// other rows are in them; and one that isn't refused so over some of them is refused so over none. Such a refusal is
+/// how the request is served: nothing changes.
 pub fn denials_are_alike()
-    ensures { DeniedAlike }
+    ensures alike { DeniedAlike }
+    ensures served { DenialsAreServed }
 {
     callers_are_denied_alike();
 }

@@ -79,13 +79,6 @@ impl<T> Flagged<T> {
         self.failed
     }
 
-    /// What it stands around.
-    pub fn get_ref(&self) -> &T
-        ensures { result.now ≡ flagged_inner self.now }
-    {
-        &self.inner
-    }
-
     pub fn into_inner(self) -> T
         ensures { result ≡ flagged_inner self }
     {

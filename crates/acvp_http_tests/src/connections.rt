@@ -5,7 +5,7 @@ use crate::servers::{desk_of_seven, paths};
 use crate::streams::{FailsOnce, Interrupted, Narrow};
 use crate::texts::{ACCEPTED, LOGIN, LOST, NO_ROUTE, push};
 use acvp_desk::Desk;
-use acvp_http::{Flagged, ServeFault, serve_one};
+use acvp_http::{Ended, Flagged, ServeFault, serve_one};
 use acvp_tables::Tables;
 use std::alloc::Global;
 use std::io::{ErrorKind, Read, Write};
@@ -70,9 +70,9 @@ fn serve_over<T: Tables, R: Read + Drop, W: Write + Drop>(
     let routes = paths(rt, alloc);
     let mut reader = Flagged::new(reader);
     let mut writer = Flagged::new(writer);
-    let answer = serve_one(alloc, &routes, desk, &mut reader, &mut writer, moment);
+    let Ended { result, .. } = serve_one(alloc, &routes, desk, &mut reader, &mut writer, moment);
     Outcome {
-        answer,
+        answer: result,
         reader: reader.into_inner(),
         writer: writer.into_inner(),
     }

@@ -1,7 +1,8 @@
+use Rattle.acvp_http.proofs.Denied.{denial_served}
 use Rattle.acvp_http.proofs.promise.denials_are_alike.Goals as goal
 
-pub returns : goal.returns
-returns g = λ keys moment bytes reply one other same denied. (
+pub returns-clause-alike : goal.returns-clause-alike
+returns-clause-alike g = λ keys moment bytes reply one other same denied. (
   denied.0,
   denied.1,
   denied.2,
@@ -10,3 +11,6 @@ returns g = λ keys moment bytes reply one other same denied. (
   denied.5,
   denied.6,
 )
+
+pub returns-clause-served : goal.returns-clause-served
+returns-clause-served g = denial_served

@@ -6,8 +6,8 @@ use Rattle.acvp_http.proofs.serve.handle_bytes.Goals as goal
 pub returns-in-Some-clause-apart : goal.returns-in-Some-clause-apart
 returns-in-Some-clause-apart g c =
     taken_apart g.T.Tables.meaning c.request_isolation.ensures c.args.desk.now.keys c.args.moment c.args.bytes.now
-    c.answer.result
-    c.args.desk.now.tables c.answer.new.desk.tables c.answer.ensures.served
+    c.answer.result.reply
+    c.args.desk.now.tables c.answer.new.desk.tables c.answer.ensures.handled.served
 
 pub returns-in-None-clause-handled : goal.returns-in-None-clause-handled
 returns-in-None-clause-handled g c =
