@@ -20,7 +20,9 @@ use Rattle.acvp_http.specs.Promise.{GoesAsPromised}
 use Rattle.acvp_http.specs.Script.{IsWritten}
 use Rattle.acvp_http.specs.Serve.{GoesThrough, HandlesTurn}
 use Rattle.acvp_http.specs.Source.{Gets, GetsFront, Gives, InputStream, OutputStream}
+use Rattle.acvp_http.specs.Told.{TellsOne}
 use Rattle.acvp_http.specs.declared.connection.ServeFault.{ServeFault}
+use Rattle.acvp_http.specs.declared.told.Told.{Told}
 use Rattle.acvp_commands.specs.Lines.{outcome_of}
 use Rattle.acvp_commands.specs.declared.fault.Fault.{Fault}
 use Rattle.acvp_commands.specs.declared.fault.Fault.TheVariants.{Accept, Limit, Syntax, Unavailable as UnavailableFault}
@@ -37,8 +39,9 @@ pub record Listening (L I O A : Type 0) : Type 1 where
   pub takes : L → L → Arrival I O A → Type 0
   -- nothing could be taken
   pub stops : L → L → Type 0
-  -- both ends of a connection were handed back, and whether its whole reply was written
-  pub ends : L → L → I → O → Bool → Type 0
+  -- both ends of a connection were handed back, with whether its whole reply was written, and what is told of its
+  -- request
+  pub ends : L → L → I → O → Bool → Option Told → Type 0
   -- who gave an order was told what came of it
   pub tells : L → L → A → Result Message Fault → Type 0
 
@@ -148,6 +151,7 @@ module _ {T L I O A : Type 0} (meaning : Meaning T) (listening : Listening L I O
     pub input : I
     pub output : O
     pub result : Result Bool ServeFault
+    pub told : Option Told
     pub moment : ℕ
     pub takes : listening.takes before mid (arrival.Connection taken)
     pub clock : IsMomentOf taken.now moment
@@ -157,7 +161,10 @@ module _ {T L I O A : Type 0} (meaning : Meaning T) (listening : Listening L I O
     pub read : (held input).failed ≡ is_read_end result
     pub written : (sent output).failed ≡ is_write_end result
     pub turn : IsRequestOf moment (held taken.input) (held input) (sent taken.output) (sent output) came
-    pub ends : listening.ends mid after input output (is_ok result)
+    -- what is told is told of this request
+    pub tells : TellsOne meaning keys moment (held taken.input) (held input) (sent taken.output) (sent output)
+        old new result told
+    pub ends : listening.ends mid after input output (is_ok result) told
     pub looks : is_looked ≡ is_told result
 
   -- a line was taken, and who gave it was told what came of it

@@ -5,6 +5,7 @@ ghost use Rattle.acvp_desk.specs.declared.order.OrderReply.{OrderReply};
 ghost use Rattle.acvp_http.specs.Connection.{ServesOne, is_read_end, is_write_end};
 ghost use Rattle.acvp_http.specs.Event.{CanHappen, Turn, ordered};
 ghost use Rattle.acvp_http.specs.Serve.{GoesThrough, HandlesTurn};
+ghost use Rattle.acvp_http.specs.Told.{TellsOne};
 ghost use Rattle.acvp_http.specs.declared.connection.ServeFault.{ServeFault};
 ghost use Rattle.acvp_commands.specs.Listening.{Came, GoesOn, IsMomentOf, IsOrderOf, IsRequestOf, IsShutBehind, Look};
 ghost use Rattle.acvp_commands.specs.Listening.{ServesArrival, ServesUntil, ServesVisit, Visit, is_told, look_turn};
@@ -15,8 +16,8 @@ use crate::lines::Message;
 use crate::orders::outcome_of;
 use acvp_desk::{Desk, END_OF_MOMENTS, Order, OrderReply};
 use acvp_http::{
-    Routes, ServeFault, Sink, Source, handle_order, order_in, serve_one, turns_are_promised,
-    turns_leave,
+    Ended, Routes, ServeFault, Sink, Source, Told, handle_order, order_in, serve_one,
+    turns_are_promised, turns_leave,
 };
 use acvp_tables::Tables;
 use std::alloc::Global;
@@ -69,9 +70,10 @@ pub trait Listener {
             × IsClear Self.Input.stream Self.Output.stream arrival)
             (λ fault. (fault ≡ Accept) × listening.stops self.old self.new) };
 
-    /// Ends a connection, whose whole reply is sent or not.
-    fn end(&mut self, input: Self::Input, output: Self::Output, sent: bool)
-        ensures { listening.ends self.old self.new input output sent };
+    /// Ends a connection, whose whole reply is sent or not, with what is told of its request; nothing if it wasn't
+    /// handled.
+    fn end(&mut self, input: Self::Input, output: Self::Output, sent: bool, told: Option<Told>)
+        ensures { listening.ends self.old self.new input output sent told };
 
     /// Tells who gave an order what came of it.
     fn tell(&mut self, asker: Self::Asker, outcome: Result<Message, Fault>)
@@ -107,7 +109,7 @@ fn is_told(served: Result<bool, ServeFault>) -> bool
 }
 
 /// Serves the one request of a connection, at a moment: it is answered, or it comes to nothing. Says whether it was
-/// told that the server is unavailable.
+/// told that the server is unavailable, and what is told of it.
 fn serve_request<T: Tables, S: Source, K: Sink>(
     alloc: Global,
     routes: &Routes,
@@ -115,14 +117,16 @@ fn serve_request<T: Tables, S: Source, K: Sink>(
     input: &mut S,
     output: &mut K,
     moment: u64,
-) -> Result<bool, ServeFault>
+) -> Ended
     requires reader_clear { (S.stream input.old).failed ≡ false }
     requires writer_clear { (K.stream output.old).failed ≡ false }
     ensures keys { desk.new.keys ≡ desk.old.keys }
     ensures serves { ServesOne T.meaning desk.old.keys moment (S.stream input.old) (S.stream input.new)
-        (K.stream output.old) (K.stream output.new) desk.old.tables desk.new.tables result }
-    ensures read_fault { (S.stream input.new).failed ≡ is_read_end result }
-    ensures write_fault { (K.stream output.new).failed ≡ is_write_end result }
+        (K.stream output.old) (K.stream output.new) desk.old.tables desk.new.tables result.result }
+    ensures told { TellsOne T.meaning desk.old.keys moment (S.stream input.old) (S.stream input.new)
+        (K.stream output.old) (K.stream output.new) desk.old.tables desk.new.tables result.result result.told }
+    ensures read_fault { (S.stream input.new).failed ≡ is_read_end result.result }
+    ensures write_fault { (K.stream output.new).failed ≡ is_write_end result.result }
     ensures turn { (came : Came) × (came.is_connection ≡ true)
         × IsRequestOf moment (S.stream input.old) (S.stream input.new) (K.stream output.old) (K.stream output.new) came
         × GoesThrough T.meaning desk.old.keys came.turns came.answers desk.old.tables desk.new.tables
@@ -180,11 +184,18 @@ fn serve_arrival<T: Tables, L: Listener>(
                 now,
             } = taken;
             let moment = seconds_of(&now);
-            let served = serve_request(alloc, routes, desk, &mut input, &mut output, moment);
-            listener.end(input, output, served.is_ok());
+            let Ended { result, told } = serve_request(
+                alloc,
+                routes,
+                desk,
+                &mut input,
+                &mut output,
+                moment,
+            );
+            listener.end(input, output, result.is_ok(), told);
             Ok(Served {
                 connection: true,
-                look: is_told(served),
+                look: is_told(result),
             })
         }
         Arrival::Order(line, asker) => {

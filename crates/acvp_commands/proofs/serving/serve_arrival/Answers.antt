@@ -3,23 +3,25 @@ use Rattle.acvp_commands.proofs.serving.serve_arrival.Goals as goal
 
 pub returns-in-Connection-clause-next : goal.returns-in-Connection-clause-next
 returns-in-Connection-clause-next g c =
-    let (came, is_connection, turn, goes, happen) = c.serve_request-served.ensures.turn in (
+    let (came, is_connection, turn, goes, happen) = c.serve_request-result.ensures.turn in (
       came,
       is_connection,
       record {
         served = rw is_connection (record {
           taken = c.in-Connection.taken;
           mid = c.accept.new.self;
-          input = c.serve_request-served.new.input;
-          output = c.serve_request-served.new.output;
-          result = c.serve_request-served.result;
+          input = c.serve_request-result.new.input;
+          output = c.serve_request-result.new.output;
+          result = c.serve_request-result.result.result;
+          told = c.serve_request-result.result.told;
           moment = c.seconds_of-moment.result;
           takes = (rw c.in-Connection.is at c.in_ok-taken.ensures.taken).0;
           clock = c.seconds_of-moment.ensures;
-          serves = c.serve_request-served.ensures.serves;
-          read = c.serve_request-served.ensures.read_fault;
-          written = c.serve_request-served.ensures.write_fault;
+          serves = c.serve_request-result.ensures.serves;
+          read = c.serve_request-result.ensures.read_fault;
+          written = c.serve_request-result.ensures.write_fault;
           turn = turn;
+          tells = c.serve_request-result.ensures.told;
           ends = rw c.is_ok.ensures.value at c.end.ensures;
           looks = c.is_told.ensures;
         });

@@ -7,4 +7,4 @@ returns-clause-turn g c =
     (g.S.Source.stream c.serve_one.new.reader) (g.K.Sink.stream c.args.output.now)
     (g.K.Sink.stream c.serve_one.new.writer)
     c.args.desk.now.tables c.serve_one.new.desk.tables c.serve_one.ensures.was_open c.serve_one.ensures.was_clean
-    c.serve_one.ensures.shut c.serve_one.result c.serve_one.ensures.serves
+    c.serve_one.ensures.shut c.serve_one.result.result c.serve_one.ensures.serves
